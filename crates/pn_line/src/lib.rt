@@ -1,0 +1,2 @@
+//! Bounded lines from any buffered reader, and a write loop that says how much went out.
+#![tactic(auto)]
