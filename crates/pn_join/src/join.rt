@@ -1,0 +1,36 @@
+//! Values that copy themselves, and values that join with their equals.
+
+ghost use Rattle.std.specs.Prelude.{◌≡◌, IfOk, OnOk, OnErr};
+ghost use Rattle.pn_join.specs.Laws.{JoinLaws};
+
+use crate::NoMemory;
+
+/// A value that can be copied where there is memory.
+pub trait Dup: Sized + Drop {
+    /// An equal value.
+    fn dup(&self) -> Result<Self, NoMemory>
+        ensures { IfOk result (λ copy. copy ≡ self.now) };
+}
+
+/// A value that joins with others of its kind. The order in which values are joined, and how often
+/// each is, makes no difference to what the join means.
+pub trait Join: Dup {
+    /// What a value means.
+    ghost Meaning: { Type 0 };
+
+    ghost meaning: { Self → Meaning };
+
+    /// What the join of two values means.
+    ghost joined: { Meaning → Meaning → Meaning };
+
+    /// What holds of every value of the type, though its value in a contract does not show it.
+    ghost valid: { Self → Type 0 } = { λ _. Unit {0} };
+
+    /// Becomes the join of itself and the other. An error leaves it as it was.
+    fn join_from(&mut self, other: &Self) -> Result<(), NoMemory>
+        ensures ok { OnOk result (meaning self.new ≡ joined (meaning self.old) (meaning other.now)) }
+        ensures err { OnErr result (self.new ≡ self.old) }
+        ensures are_valid { valid self.old × valid other.now × valid self.new };
+
+    ghost laws: { JoinLaws joined };
+}
