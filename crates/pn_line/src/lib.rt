@@ -1,8 +1,10 @@
 //! Bounded lines from any buffered reader, and a write loop that says how much went out.
 #![tactic(auto)]
 
+mod line_buffer;
 mod outbox;
 mod writing;
 
+pub use line_buffer::{ENDLESS, LONGEST_LINE, LineBuffer, MOST_KEPT};
 pub use outbox::{OUTBOX_ROOM, Outbox};
 pub use writing::{WriteFault, write_all_of};
