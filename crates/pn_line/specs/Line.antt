@@ -1,5 +1,5 @@
 -- What is known of a line while it is read: its first bytes and its length.
-use Rattle.std.specs.Prelude.{ℕ, ◌+◌, List, ◌++◌, length, take}
+use Rattle.std.specs.Prelude.{ℕ, ◌+◌, ◌-◌, List, ◌++◌, length, take}
 
 -- how many bytes of a line are kept: one more than a line may have, so that a longer line shows
 unfoldable pub most_kept : ℕ
@@ -18,6 +18,6 @@ pub record LineSoFar : Type 0 where
 abbrev pub so_far : List ℕ → LineSoFar
 so_far line = record { front = kept line; count = length line }
 
--- the line goes on with these bytes
+-- the line goes on with these bytes, of which it keeps as many as there is room for
 abbrev pub longer : LineSoFar → List ℕ → LineSoFar
-longer line bs = record { front = kept (line.front ++ bs); count = line.count + length bs }
+longer line bs = record { front = line.front ++ take (most_kept - length line.front) bs; count = line.count + length bs }

@@ -3,8 +3,10 @@
 
 mod line_buffer;
 mod outbox;
+mod piece;
 mod writing;
 
 pub use line_buffer::{ENDLESS, LONGEST_LINE, LineBuffer, MOST_KEPT};
 pub use outbox::{OUTBOX_ROOM, Outbox};
+pub use piece::Piece;
 pub use writing::{WriteFault, write_all_of};

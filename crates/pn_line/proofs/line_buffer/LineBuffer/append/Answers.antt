@@ -7,4 +7,4 @@ pub returns : goal.returns
 unfolding most_kept
 returns c =
     let filled = rw c.unwrap.ensures at c.extend_from_slice.ensures.items in
-    rw (← c.self.view_is) (longer-filled _ _ _ c.min.result (omega arith) (omega arith) filled)
+    rw (← c.self.view_is) (longer-filled _ _ _ c.min.result (omega arith) filled)
