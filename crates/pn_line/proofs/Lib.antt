@@ -1,3 +1,4 @@
 pub mod LineLaws
 pub mod PieceLaws
+pub mod ReadLaws
 pub mod SentLaws

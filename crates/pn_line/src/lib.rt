@@ -5,6 +5,7 @@ mod in_memory;
 mod line_buffer;
 mod outbox;
 mod piece;
+mod reading;
 mod source;
 mod writing;
 
@@ -12,5 +13,6 @@ pub use in_memory::InMemory;
 pub use line_buffer::{ENDLESS, LONGEST_LINE, LineBuffer, MOST_KEPT};
 pub use outbox::{OUTBOX_ROOM, Outbox};
 pub use piece::Piece;
+pub use reading::{LineEnd, read_line};
 pub use source::Source;
 pub use writing::{WriteFault, write_all_of};

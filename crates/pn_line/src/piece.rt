@@ -1,5 +1,5 @@
 //! A piece of a line: what one look at a source's bytes gives of it.
-ghost use Rattle.std.specs.Prelude.{◌≡◌, ◌<◌, ◌≤◌, length, take};
+ghost use Rattle.std.specs.Prelude.{◌≡◌, ◌≢◌, ◌<◌, ◌≤◌, length, take};
 ghost use Rattle.pn_line.specs.Reads.{Splits, newline_after};
 
 use crate::line_buffer::{ENDLESS, LineBuffer};
@@ -25,6 +25,7 @@ pub(crate) fn take_piece(line: &mut LineBuffer, shown: &[u8]) -> (usize, Piece)
     ensures within { result.0 ≤ length shown.now }
     ensures splits { Splits line.old line.new (take result.0 shown.now) (newline_after result.1) }
     ensures part { result.1 ≡ Piece.Part → line.old.count < line.new.count }
+    ensures below { result.1 ≢ Piece.Part → line.new.count < ENDLESS }
     ensures none { result.1 ≡ Piece.NoMore → length shown.now ≡ 0 }
 {
     if shown.is_empty() {

@@ -1,6 +1,6 @@
 //! Where lines are read from: any buffered reader, whose reads may fail, or bytes in memory, whose
 //! reads do not.
-ghost use Rattle.std.specs.Prelude.{◌≡◌, ◌<◌, ℕ, List, IfOk, OnErr, OnSome, Option};
+ghost use Rattle.std.specs.Prelude.{◌≡◌, ◌≢◌, ◌<◌, ℕ, List, IfOk, OnErr, OnSome, Option};
 ghost use Rattle.std.specs.Io.KnownBytes.{Keeps, IsAtEnd};
 ghost use Rattle.pn_line.specs.Reads.{Takes, newline_after};
 
@@ -26,6 +26,7 @@ pub trait Source {
         ensures takes { IfOk result
             (λ piece. Takes line.old line.new (left self.old) (left self.new) (newline_after piece)) }
         ensures part { result ≡ Ok Piece.Part → line.old.count < line.new.count }
+        ensures below { result ≢ Ok Piece.Part → line.new.count < ENDLESS }
         ensures end { result ≡ Ok Piece.NoMore → OnSome (left self.old) (IsAtEnd (left self.new)) }
         ensures fault { OnErr result may_fail }
         ensures kept { OnErr result (Keeps (left self.old) (left self.new)) }
