@@ -1,1 +1,4 @@
 pub mod NameText
+pub mod PlaceSearch
+pub mod Places
+pub mod Rising

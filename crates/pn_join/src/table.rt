@@ -4,7 +4,7 @@ ghost use Rattle.std.specs.Prelude.{◌≡◌, ℕ, ◌∷◌, [], length, map, 
 ghost use Rattle.std.specs.Option.{option_copied};
 ghost use Rattle.std.specs.Ordering.{is_lt};
 ghost use Rattle.std.specs.FinMap.{find, put, is_sorted};
-ghost use Rattle.pn_join.specs.Tables.{contents_at, key_by_key};
+ghost use Rattle.pn_join.specs.Tables.{contents_at, key_by_key, IsTable};
 ghost use Rattle.pn_join.specs.Places.{place_of};
 
 use crate::{Dup, Join, NoMemory};
@@ -71,7 +71,8 @@ impl<K: Ord + Dup, C: Join> Table<K, C> {
         ensures { result ≡ count_by (λ e. is_lt (K.cmp e.0 key.now)) self.now }
     {
         match self.place_of(key) {
-            Ok(place) | Err(place) => place,
+            Ok(place) => place,
+            Err(place) => place,
         }
     }
 
@@ -83,7 +84,7 @@ impl<K: Ord + Dup, C: Join> Table<K, C> {
         requires { C.valid content }
         ensures ok { OnOk result (contents_at K.cmp C.meaning self.new
             ≡ key_by_key C.joined (contents_at K.cmp C.meaning self.old)
-                (contents_at K.cmp C.meaning ((key, content) ∷ []))) }
+            (contents_at K.cmp C.meaning ((key, content) ∷ []))) }
         ensures keys { OnOk result (map (λ e. e.0) self.new
             ≡ map (λ e. e.0) (put K.cmp key content self.old)) }
         ensures err { OnErr result (self.new ≡ self.old) }
@@ -95,10 +96,10 @@ impl<K: Ord + Dup, C: Join> Table<K, C> {
     }
 
     fn place_of(&self, key: &K) -> Result<usize, usize>
-        ensures { result ≡ place_of K.cmp key.now self.now }
+        ensures place { result ≡ place_of K.cmp key.now self.now }
+        ensures table { IsTable K.cmp C.valid self.now }
     {
-        self.entries
-            .binary_search_by(|(other, _)| other.cmp(key))
+        self.entries.binary_search_by(|(other, _)| other.cmp(key))
     }
 }
 
