@@ -2,3 +2,5 @@ pub mod LineLaws
 pub mod PieceLaws
 pub mod ReadLaws
 pub mod SentLaws
+pub mod TextLaws
+pub mod ToldLaws

@@ -1,5 +1,5 @@
 -- What stays known of a line as it grows.
-use Rattle.std.proofs.Common.{◌≡◌, ℕ, zero, suc, ◌+◌, ◌-◌, ◌≤◌, min, List, [], ◌∷◌, ◌++◌, length, take, refl, sym, ap, ◌∙◌, arith, append-nil, append_assoc, length-append}
+use Rattle.std.proofs.Common.{◌≡◌, ℕ, zero, suc, ◌+◌, ◌-◌, ◌<◌, ◌≤◌, min, List, [], ◌∷◌, ◌++◌, length, take, refl, sym, ap, ◌∙◌, arith, append-nil, append_assoc, length-append}
 use Rattle.std.proofs.lemmas.List.{take_min, take_all, take-take, length-take}
 use Rattle.pn_line.specs.Line.{LineSoFar, longer, so_far, kept, most_kept}
 
@@ -47,8 +47,14 @@ so_far-append line bs =
     (omega (arith, length-append line bs))
 
 -- a line that is not too long is kept whole
-pub kept-short : (line : List ℕ) → length line ≤ most_kept → kept line ≡ line
-kept-short line short = take_all most_kept line short
+pub kept-short : (line : List ℕ) → length line ≤ 65536 → kept line ≡ line
+unfolding most_kept
+kept-short line short = take_all 65537 line (omega arith)
+
+-- of a line that is too long more is kept than a line may have
+pub length-kept_long : (line : List ℕ) → 65536 < length line → length (kept line) ≡ 65537
+unfolding most_kept
+length-kept_long line long = length-take 65537 line ∙ omega arith
 
 -- what is kept of what is kept
 pub kept-kept : (line : List ℕ) → kept (kept line) ≡ kept line
