@@ -1,4 +1,5 @@
 pub mod NameText
 pub mod PlaceSearch
 pub mod Places
+pub mod Puts
 pub mod Rising
