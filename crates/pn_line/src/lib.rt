@@ -7,6 +7,8 @@ mod outbox;
 mod piece;
 mod reading;
 mod source;
+#[cfg(test)]
+mod tests;
 mod writing;
 
 pub use in_memory::InMemory;
