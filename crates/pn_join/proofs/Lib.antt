@@ -1,3 +1,4 @@
+pub mod JoinSteps
 pub mod NameText
 pub mod PlaceSearch
 pub mod Places

@@ -1,11 +1,7 @@
 -- What the place of a key says of the entries.
-use Rattle.std.proofs.Common.{◌≡◌, ℕ, zero, suc, ◌+◌, ◌<◌, ◌≤◌, Bool, true, false, cond, List, [], ◌∷◌, ◌++◌, length, get_or, take, drop, set, insert, Option, Some, None, Result, Ok, Err, MatchResult, Ordering, Less, Equal, Greater, is_eq, is_lt, count_by, HoldsAt, IsTrue, refl, sym, ap, ◌∙◌, subst, arith, zero-le, suc-le-suc, zero-add, one-add}
-use Rattle.std.specs.List.{AllByRecursion, AllWithin}
-use Rattle.std.specs.List.Sorted.{IsBinarySearchResult, IsSearchInRange, IsSortedBy}
-use Rattle.std.proofs.lemmas.List.Sorted.{searchable_from_sorted}
-use Rattle.std.specs.Ordering.{eq_by_cmp, ordering_reverse}
-use Rattle.std.specs.Cmp.{IsTotalOrder, tied_back, alike_right}
-use Rattle.std.specs.FinMap.{find, put, is_sorted}
+use Rattle.std.proofs.Common.{◌≡◌, ℕ, suc, ◌+◌, ◌<◌, ◌≤◌, cond, List, [], ◌∷◌, length, get_or, set, insert, Some, None, Result, Ok, Err, MatchResult, Ordering, Less, Equal, Greater, is_eq, is_lt, count_by, refl, sym, ap, ◌∙◌, zero-le, suc-le-suc, zero-add, one-add}
+use Rattle.std.specs.Cmp.{IsTotalOrder}
+use Rattle.std.specs.FinMap.{find, put}
 use Rattle.std.specs.FinMap.Entries.{by_order}
 use Rattle.std.proofs.lemmas.List.Sums.{sum_by-cons}
 use Rattle.std.proofs.lemmas.Result.{MatchResult-at_ok, MatchResult-at_err}

@@ -88,6 +88,7 @@ impl<K: Ord + Dup, C: Join> Table<K, C> {
         ensures keys { OnOk result (map (λ e. e.0) self.new
             ≡ map (λ e. e.0) (put K.cmp key content self.old)) }
         ensures err { OnErr result (self.new ≡ self.old) }
+        ensures table { IsTable K.cmp C.valid self.new }
     {
         match self.place_of(&key) {
             Ok(place) => self.entries[place].1.join_from(&content),
@@ -129,8 +130,9 @@ impl<K: Ord + Dup, C: Join> Join for Table<K, C> {
     ghost laws = { key_by_key-laws C.laws };
 
     fn join_from(&mut self, other: &Self) -> Result<(), NoMemory> {
+        let (_, others) = (&self.entries, &other.entries);
         let mut joined = self.dup()?;
-        for (key, content) in &other.entries {
+        for (key, content) in others {
             joined.join_entry(key.dup()?, content.dup()?)?;
         }
         *self = joined;

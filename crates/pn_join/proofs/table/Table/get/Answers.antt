@@ -1,4 +1,4 @@
-use Rattle.std.proofs.Common.{◌≡◌, ◌<◌, Some, None, get_or, subst, sym, ◌∙◌, ap, arith}
+use Rattle.std.proofs.Common.{subst, sym, arith}
 use Rattle.std.proofs.lemmas.List.Elements.{All-from_recursion}
 use Rattle.pn_join.proofs.Places.{tie_within, found_at_tie, found_at_gap}
 use Rattle.pn_join.proofs.Rising.{Rising-from_sorted}

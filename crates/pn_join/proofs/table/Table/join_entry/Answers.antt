@@ -1,7 +1,7 @@
-use Rattle.std.proofs.Common.{◌≡◌, ◌<◌, ◌≤◌, set, insert, Some, None, map, option_map, refl, sym, ap, ◌∙◌, arith}
+use Rattle.std.proofs.Common.{◌≡◌, set, insert, Some, map, option_map, sym, ap, ◌∙◌, arith}
 use Rattle.std.proofs.lemmas.Result.{on_ok_weaker}
-use Rattle.std.specs.FinMap.{find, put}
-use Rattle.pn_join.specs.Tables.{IsTable, contents_at, optional_joined}
+use Rattle.std.specs.FinMap.{put}
+use Rattle.pn_join.specs.Tables.{optional_joined}
 use Rattle.pn_join.proofs.Places.{tie_within, gap_within, put_at_tie, put_at_gap, found_at_tie, found_at_gap}
 use Rattle.pn_join.proofs.Puts.{keys_put, IsTable-put, contents_at-put}
 use Rattle.pn_join.proofs.Rising.{Rising-from_sorted}
@@ -60,3 +60,11 @@ returns-in_ok-insert-in-Err-clause-ok g c =
 
 pub returns-in_ok-insert-in-Err-clause-keys : goal.returns-in_ok-insert-in-Err-clause-keys
 returns-in_ok-insert-in-Err-clause-keys g c = ap (λ es. map (λ e. e.0) es) (inserted g c)
+
+pub returns-in-Ok-clause-table : goal.returns-in-Ok-clause-table
+returns-in-Ok-clause-table g c =
+    rw (written g c) (IsTable-put g.K.Ord.cmp g.met.K.Ord.total g.C.Join.valid c.args.key c.join_from.new.self c.args.self.now c.join_from.ensures.are_valid.2 c.in-Ok.ensures.table)
+
+pub returns-in_ok-insert-in-Err-clause-table : goal.returns-in_ok-insert-in-Err-clause-table
+returns-in_ok-insert-in-Err-clause-table g c =
+    rw (inserted g c) (IsTable-put g.K.Ord.cmp g.met.K.Ord.total g.C.Join.valid c.args.key c.args.content c.args.self.now c.requires c.in-Err.ensures.table)

@@ -1,5 +1,3 @@
-use Rattle.std.proofs.Common.{◌≡◌, sym}
-use Rattle.std.proofs.lemmas.Result.{MatchResult-at_ok, MatchResult-at_err}
 use Rattle.pn_join.proofs.Places.{count_at_place}
 use Rattle.pn_join.proofs.Rising.{Rising-from_sorted}
 use Rattle.pn_join.proofs.table.Table.lower_bound.Goals as goal

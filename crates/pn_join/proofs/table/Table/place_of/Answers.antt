@@ -1,4 +1,4 @@
-use Rattle.std.proofs.Common.{◌≡◌, ◌∙◌, rules}
+use Rattle.std.proofs.Common.{◌∙◌, rules}
 use Rattle.std.proofs.lemmas.Fn.{always_returns_same}
 use Rattle.pn_join.proofs.PlaceSearch.{place_from_search}
 use Rattle.pn_join.proofs.Rising.{Rising-from_sorted}
