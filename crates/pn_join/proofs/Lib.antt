@@ -1,6 +1,10 @@
+pub mod Each
+pub mod Gaps
 pub mod JoinSteps
+pub mod Merging
 pub mod NameText
 pub mod PlaceSearch
 pub mod Places
 pub mod Puts
 pub mod Rising
+pub mod WithContents

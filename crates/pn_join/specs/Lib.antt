@@ -1,3 +1,4 @@
+pub mod Changes
 pub mod Laws
 pub mod Naming
 pub mod Places

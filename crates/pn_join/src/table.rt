@@ -7,6 +7,8 @@ ghost use Rattle.std.specs.FinMap.{find, put, is_sorted};
 ghost use Rattle.pn_join.specs.Tables.{contents_at, key_by_key, IsTable};
 ghost use Rattle.pn_join.specs.Places.{place_of};
 
+mod changes;
+
 use crate::{Dup, Join, NoMemory};
 use std::alloc::Global;
 use std::marker::Model;
