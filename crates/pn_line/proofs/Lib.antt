@@ -1,4 +1,5 @@
 pub mod LineLaws
+pub mod LinesReadLaws
 pub mod PieceLaws
 pub mod ReadLaws
 pub mod SentLaws

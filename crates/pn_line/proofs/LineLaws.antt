@@ -51,6 +51,10 @@ pub kept-short : (line : List ℕ) → length line ≤ 65536 → kept line ≡ l
 unfolding most_kept
 kept-short line short = take_all 65537 line (omega arith)
 
+-- of no byte none is kept
+pub kept-nil : kept [] ≡ []
+kept-nil = take_all most_kept [] (omega arith)
+
 -- of a line that is too long more is kept than a line may have
 pub length-kept_long : (line : List ℕ) → 65536 < length line → length (kept line) ≡ 65537
 unfolding most_kept

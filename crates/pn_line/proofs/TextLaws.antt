@@ -1,6 +1,7 @@
 -- The first line of a text, and the lines after it.
-use Rattle.std.proofs.Common.{◌≡◌, ◌≢◌, ℕ, List, [], ◌∷◌, ◌++◌, All, refl, sym, ap, ◌∙◌, append_assoc, ne_eqb, if◌then◌else◌}
-use Rattle.std.proofs.lemmas.List.Elements.{All-head, All-tail}
+use Rattle.std.proofs.Common.{◌≡◌, ◌≢◌, ℕ, List, [], ◌∷◌, ◌++◌, All, refl, sym, ap, ◌∙◌, append_assoc, ne_eqb, ⊎_elim, if◌then◌else◌}
+use Rattle.std.proofs.lemmas.Bool.{cases_eq}
+use Rattle.std.proofs.lemmas.List.Elements.{All-head, All-tail, All-nil, All-cons}
 use Rattle.pn_line.specs.Reads.{IsUnbroken}
 use Rattle.pn_line.specs.Text.{lines_of, text_of, onto_first}
 
@@ -59,3 +60,20 @@ lines_of-text (line ∷ lines) rest unbroken =
     ap lines_of (append_assoc line (10 ∷ text_of lines) rest)
     ∙ lines_of-line line (text_of lines ++ rest) (All-head IsUnbroken line lines unbroken)
     ∙ ap (λ ls. line ∷ ls) (lines_of-text lines rest (All-tail IsUnbroken line lines unbroken))
+
+-- a byte before the first of some lines without newlines
+onto_first-unbroken : (b : ℕ) (lines : List (List ℕ)) → b ≢ 10 → All IsUnbroken lines → All IsUnbroken (onto_first b lines)
+onto_first-unbroken b [] other unbroken = All-cons IsUnbroken (b ∷ []) [] (All-cons (λ x. x ≢ 10) b [] other (All-nil (λ x. x ≢ 10))) (All-nil IsUnbroken)
+onto_first-unbroken b (line ∷ lines) other unbroken =
+    All-cons IsUnbroken (b ∷ line) lines
+    (All-cons (λ x. x ≢ 10) b line other (All-head IsUnbroken line lines unbroken))
+    (All-tail IsUnbroken line lines unbroken)
+
+-- no line of a text has a newline
+pub IsUnbroken-lines_of : (text : List ℕ) → All IsUnbroken (lines_of text)
+IsUnbroken-lines_of [] = rw lines_of-nil (All-nil IsUnbroken)
+IsUnbroken-lines_of (b ∷ text) =
+    ⊎_elim
+    (λ (is : b ≡ 10). rw (is, lines_of-newline) (All-cons IsUnbroken [] (lines_of text) (All-nil (λ x. x ≢ 10)) (IsUnbroken-lines_of text)))
+    (λ (other : b ≢ 10). let first = lines_of-byte b text other in rw first (onto_first-unbroken b (lines_of text) other (IsUnbroken-lines_of text)))
+    (cases_eq b 10)

@@ -32,8 +32,8 @@ pub enum LineEnd {
 pub fn read_line<S: Source>(line: &mut LineBuffer, source: &mut S) -> io::Result<LineEnd>
     ensures takes { IfOk result (λ end.
         Takes line.old line.new (S.left source.old) (S.left source.new) (newline_behind end)) }
-    ensures end { result ≡ Ok LineEnd.EndOfInput
-        → OnSome (S.left source.old) (IsAtEnd (S.left source.new)) }
+    ensures end { IfOk result (λ end. end ≡ LineEnd.EndOfInput
+        → OnSome (S.left source.old) (IsAtEnd (S.left source.new))) }
     ensures endless { IfOk result (λ end. (end ≡ LineEnd.Endless) ↔ (line.new.count ≡ ENDLESS)) }
     ensures fault { OnErr result S.may_fail }
     ensures kept { OnErr result
