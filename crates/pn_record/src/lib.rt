@@ -1,0 +1,12 @@
+//! Records: their keys, versions, contents, images and cells, and images as JSON.
+#![tactic(auto)]
+
+mod content;
+mod image;
+mod key;
+mod version;
+
+pub use content::{Body, Content, Value};
+pub use image::Image;
+pub use key::{Key, KeyFault};
+pub use version::Version;
