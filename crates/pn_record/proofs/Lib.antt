@@ -1,2 +1,5 @@
+pub mod CellLaws
+pub mod Contents
 pub mod Fields
+pub mod Orders
 pub mod Sorted

@@ -1,3 +1,5 @@
+pub mod Cells
 pub mod Limits
 pub mod Order
 pub mod Showing
+pub mod Totals

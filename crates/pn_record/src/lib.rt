@@ -4,6 +4,7 @@
 mod content;
 mod image;
 mod key;
+mod order;
 mod version;
 
 pub use content::{Body, Content, Value};

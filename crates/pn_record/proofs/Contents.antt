@@ -1,0 +1,76 @@
+-- Sets of contents: what is in a union.
+use Rattle.std.proofs.Common.{◌≡◌, Bool, true, false, cond, List, [], ◌∷◌, ◌++◌, map, Option, Some, None, refl, sym, ap, ◌∙◌, subst}
+use Rattle.std.specs.FinMap.{get, entries, from_entries, find, keys, get-from_entries, get-entries, same_map, entries_sorted, empty, get-empty}
+use Rattle.std.specs.Ordering.{eq_by_cmp}
+use Rattle.std.proofs.lemmas.List.{map-append}
+use Rattle.pn_record.specs.Limits.{Shown}
+use Rattle.pn_record.specs.Order.{content_cmp}
+use Rattle.pn_record.specs.Totals.{content_cmp_total, content_cmp-exact}
+use Rattle.pn_record.specs.Cells.{Contents, set_of, union}
+
+-- the first of two answers, where there is one
+abbrev pub either : Option (Unit {0}) → Option (Unit {0}) → Option (Unit {0})
+either None b = b
+either (Some a) b = Some a
+
+either-cond : (t : Bool) (a b : Option (Unit {0})) → cond t (Some tt) (either a b) ≡ either (cond t (Some tt) a) b
+either-cond true a b = refl
+either-cond false a b = refl
+
+pub find-append : (q : Shown) (es fs : List (Shown × Unit {0})) → find content_cmp q (es ++ fs) ≡ either (find content_cmp q es) (find content_cmp q fs)
+find-append q [] fs = refl
+find-append q (e ∷ es) fs = ap (cond (eq_by_cmp content_cmp q e.0) (Some tt)) (find-append q es fs) ∙ either-cond (eq_by_cmp content_cmp q e.0) _ _
+
+-- a union has what one of the two has
+pub get-union : (a b : Contents) (q : Shown) → get (union a b) q ≡ either (get a q) (get b q)
+get-union a b q = get-from_entries content_cmp_total _ q ∙ find-append q (entries a) (entries b) ∙ sym (λ i. either (get-entries a q i) (get-entries b q i))
+
+same : (a b : Contents) → ((q : Shown) → get a q ≡ get b q) → a ≡ b
+same a b is = same_map content_cmp_total content_cmp-exact a b is
+
+either-comm : (a b : Option (Unit {0})) → either a b ≡ either b a
+either-comm None None = refl
+either-comm None (Some b) = refl
+either-comm (Some a) None = refl
+either-comm (Some a) (Some b) = refl
+
+either-assoc : (a b c : Option (Unit {0})) → either (either a b) c ≡ either a (either b c)
+either-assoc None b c = refl
+either-assoc (Some a) b c = refl
+
+either-same : (a : Option (Unit {0})) → either a a ≡ a
+either-same None = refl
+either-same (Some a) = refl
+
+pub union-comm : (a b : Contents) → union a b ≡ union b a
+union-comm a b = same _ _ (λ q. get-union a b q ∙ either-comm (get a q) (get b q) ∙ sym (get-union b a q))
+
+pub union-assoc : (a b c : Contents) → union (union a b) c ≡ union a (union b c)
+union-assoc a b c = same _ _ (λ q.
+    get-union (union a b) c q ∙ ap (λ x. either x (get c q)) (get-union a b q) ∙ either-assoc (get a q) (get b q) (get c q)
+    ∙ sym (get-union a (union b c) q ∙ ap (either (get a q)) (get-union b c q)))
+
+pub union-same : (a : Contents) → union a a ≡ a
+union-same a = same _ _ (λ q. get-union a a q ∙ either-same (get a q))
+
+pub union-empty : (a : Contents) → union empty a ≡ a
+union-empty a = same _ _ (λ q. get-union empty a q ∙ ap (λ x. either x (get a q)) (get-empty content_cmp q))
+
+pub get-set_of : (xs : List Shown) (q : Shown) → get (set_of xs) q ≡ find content_cmp q (map (λ shown. (shown, tt)) xs)
+get-set_of xs q = get-from_entries content_cmp_total _ q
+
+-- the set of two lists, one after the other, is the union of their sets
+pub set_of-append : (xs ys : List Shown) → set_of (xs ++ ys) ≡ union (set_of xs) (set_of ys)
+set_of-append xs ys = same _ _ (λ q.
+    get-set_of (xs ++ ys) q
+    ∙ ap (find content_cmp q) (map-append (λ (shown : Shown). (shown, tt)) xs ys)
+    ∙ find-append q (map (λ shown. (shown, tt)) xs) (map (λ shown. (shown, tt)) ys)
+    ∙ sym (get-union (set_of xs) (set_of ys) q ∙ (λ i. either (get-set_of xs q i) (get-set_of ys q i))))
+
+-- a set is the set of its list
+pub set_of-keys : (a : Contents) → set_of (keys a) ≡ a
+set_of-keys a = same _ _ (λ q. get-set_of (keys a) q ∙ ap (find content_cmp q) (paired (entries a)) ∙ sym (get-entries a q))
+  where
+    paired : (es : List (Shown × Unit {0})) → map (λ shown. (shown, tt)) (map (λ (e : Shown × Unit {0}). e.0) es) ≡ es
+    paired [] = refl
+    paired (e ∷ es) = ap (λ rest. e ∷ rest) (paired es)
