@@ -8,7 +8,7 @@ use Rattle.std.proofs.lemmas.Cmp.{tied_itself}
 use Rattle.pn_join.specs.Laws.{JoinLaws}
 use Rattle.pn_record.specs.Order.{version_cmp}
 use Rattle.pn_record.specs.Totals.{version_cmp_total, version_cmp-exact}
-use Rattle.pn_record.specs.Cells.{Celled, Stamp, union, cell_joined}
+use Rattle.pn_record.specs.Sets.{Celled, Stamp, union, cell_joined}
 use Rattle.pn_record.proofs.Contents.{union-comm, union-assoc, union-same}
 
 pub joined-less : (a b : Celled) → version_cmp a.0 b.0 ≡ Less → cell_joined a b ≡ b

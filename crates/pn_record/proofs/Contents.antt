@@ -1,12 +1,13 @@
 -- Sets of contents: what is in a union.
-use Rattle.std.proofs.Common.{◌≡◌, Bool, true, false, cond, List, [], ◌∷◌, ◌++◌, map, Option, Some, None, refl, sym, ap, ◌∙◌, subst}
-use Rattle.std.specs.FinMap.{get, entries, from_entries, find, keys, get-from_entries, get-entries, same_map, entries_sorted, empty, get-empty}
+use Rattle.std.proofs.Common.{◌≡◌, ℕ, ◌<◌, length, IsTrue, lit<, Bool, true, false, cond, List, [], ◌∷◌, ◌++◌, map, Option, Some, None, refl, sym, ap, ◌∙◌, subst}
+use lib.Dec.{T}
+use Rattle.std.specs.FinMap.{get, entries, from_entries, find, keys, get-from_entries, get-entries, same_map, from_sorted, get-from_sorted, entries-from_sorted, is_sorted, empty, get-empty}
 use Rattle.std.specs.Ordering.{eq_by_cmp}
 use Rattle.std.proofs.lemmas.List.{map-append}
 use Rattle.pn_record.specs.Limits.{Shown}
 use Rattle.pn_record.specs.Order.{content_cmp}
 use Rattle.pn_record.specs.Totals.{content_cmp_total, content_cmp-exact}
-use Rattle.pn_record.specs.Cells.{Contents, set_of, union}
+use Rattle.pn_record.specs.Sets.{Contents, IsContents, as_entries, set_of, union}
 
 -- the first of two answers, where there is one
 abbrev pub either : Option (Unit {0}) → Option (Unit {0}) → Option (Unit {0})
@@ -74,3 +75,21 @@ set_of-keys a = same _ _ (λ q. get-set_of (keys a) q ∙ ap (find content_cmp q
     paired : (es : List (Shown × Unit {0})) → map (λ shown. (shown, tt)) (map (λ (e : Shown × Unit {0}). e.0) es) ≡ es
     paired [] = refl
     paired (e ∷ es) = ap (λ rest. e ∷ rest) (paired es)
+
+paired : (xs : List Shown) → map (λ (e : Shown × Unit {0}). e.0) (as_entries xs) ≡ xs
+paired [] = refl
+paired (x ∷ xs) = ap (λ rest. x ∷ rest) (paired xs)
+
+-- a list in content order is the list of its set
+pub keys-set_of : (xs : List Shown) → IsTrue (is_sorted content_cmp (as_entries xs)) → keys (set_of xs) ≡ xs
+keys-set_of xs rising =
+    let is : T (is_sorted content_cmp (as_entries xs)) = subst T (sym rising) tt in
+    let sorted : set_of xs ≡ from_sorted (as_entries xs) = same _ _ (λ q. get-set_of xs q ∙ sym (get-from_sorted content_cmp (as_entries xs) q is)) in
+    ap keys sorted ∙ ap (map (λ (e : Shown × Unit {0}). e.0)) (entries-from_sorted content_cmp (as_entries xs) is) ∙ paired xs
+
+-- it has contents where the list has
+pub some-set_of : (xs : List Shown) → IsContents xs → 0 < length (keys (set_of xs))
+some-set_of xs is = subst (λ (l : List Shown). 0 < length l) (sym (keys-set_of xs is.rising)) is.some
+
+pub set_of-one : (x : Shown) → IsContents (x ∷ [])
+set_of-one x = record { rising = refl; some = lit< tt }

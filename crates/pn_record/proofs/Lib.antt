@@ -1,4 +1,5 @@
 pub mod CellLaws
+pub mod CellLists
 pub mod Contents
 pub mod Fields
 pub mod Orders

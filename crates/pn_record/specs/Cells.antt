@@ -4,31 +4,12 @@ use Rattle.std.specs.List.{flat_map}
 use Rattle.std.specs.Option.{option_map_or}
 use Rattle.std.specs.Str.{bytes_eq}
 use Rattle.std.specs.Ordering.{is_gt, eq_by_cmp}
-use Rattle.std.specs.FinMap.{FinMap, find, from_entries, entries, keys}
+use Rattle.std.specs.FinMap.{find, keys}
 use Rattle.std.specs.FinMap.Entries.{by_order}
 use Rattle.pn_record.specs.declared.image.Image.{Image}
 use Rattle.pn_record.specs.Limits.{Shown}
-use Rattle.pn_record.specs.Order.{bytes_cmp, version_cmp, content_cmp}
-
--- a version
-abbrev pub Stamp : Type 0
-Stamp = ℕ × ℕ
-
--- a set of contents, in content order
-abbrev pub Contents : Type 0
-Contents = FinMap content_cmp (Unit {0})
-
--- what a cell is: a version, and the contents that have it
-abbrev pub Celled : Type 0
-Celled = Stamp × Contents
-
--- the set of the contents in a list
-abbrev pub set_of : List Shown → Contents
-set_of list = from_entries (map (λ shown. (shown, tt)) list)
-
--- the contents of both
-abbrev pub union : Contents → Contents → Contents
-union a b = from_entries (entries a ++ entries b)
+use Rattle.pn_record.specs.Order.{bytes_cmp, version_cmp}
+use Rattle.pn_record.specs.Sets.{Stamp, Contents, Celled, set_of, union}
 
 -- the version is that of one of the images, and no image has a greater one
 pub record IsTop (version : Stamp) (images : List Image) : Type 0 where
@@ -75,7 +56,3 @@ spell table = flat_map spell_cell table
 -- each image of one is in the other, however often and in whatever order
 abbrev pub SameImages : List Image → List Image → Type 0
 SameImages images others = (image : Image) → Contains images image ↔ Contains others image
-
--- the join of two cells: the one of the greater version, or at equal versions the contents of both
-abbrev pub cell_joined : Celled → Celled → Celled
-cell_joined a b = by_order (version_cmp a.0 b.0) b (a.0, union a.1 b.1) a

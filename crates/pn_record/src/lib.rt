@@ -1,12 +1,14 @@
 //! Records: their keys, versions, contents, images and cells, and images as JSON.
 #![tactic(auto)]
 
+mod cell;
 mod content;
 mod image;
 mod key;
 mod order;
 mod version;
 
+pub use cell::{Cell, CellState};
 pub use content::{Body, Content, Value};
 pub use image::Image;
 pub use key::{Key, KeyFault};
