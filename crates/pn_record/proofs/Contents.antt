@@ -26,7 +26,7 @@ find-append q (e ∷ es) fs = ap (cond (eq_by_cmp content_cmp q e.0) (Some tt)) 
 pub get-union : (a b : Contents) (q : Shown) → get (union a b) q ≡ either (get a q) (get b q)
 get-union a b q = get-from_entries content_cmp_total _ q ∙ find-append q (entries a) (entries b) ∙ sym (λ i. either (get-entries a q i) (get-entries b q i))
 
-same : (a b : Contents) → ((q : Shown) → get a q ≡ get b q) → a ≡ b
+pub same : (a b : Contents) → ((q : Shown) → get a q ≡ get b q) → a ≡ b
 same a b is = same_map content_cmp_total content_cmp-exact a b is
 
 either-comm : (a b : Option (Unit {0})) → either a b ≡ either b a

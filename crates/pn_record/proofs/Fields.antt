@@ -1,7 +1,7 @@
 -- Fields that a loop tests and counts one by one.
-use Rattle.std.proofs.Common.{◌≡◌, ℕ, ◌+◌, ◌*◌, ◌<◌, ◌≤◌, Bool, true, false, ◌&&◌, nat_le, List, length, get_or, take, map, refl, sym, ap, ◌∙◌, arith}
+use Rattle.std.proofs.Common.{◌≡◌, ℕ, ◌+◌, ◌*◌, ◌<◌, ◌≤◌, Bool, true, false, ◌&&◌, nat_le, List, [], ◌∷◌, ◌++◌, length, get_or, take, map, refl, sym, ap, ◌∙◌, arith}
 use Rattle.std.specs.List.{list_all, sum_by}
-use Rattle.std.proofs.lemmas.List.{get_or-map, length-map}
+use Rattle.std.proofs.lemmas.List.{get_or-map, length-map, map-append, take_more}
 use Rattle.std.proofs.lemmas.List.Folds.{list_all_more, list_all_at}
 use Rattle.std.proofs.lemmas.List.Sums.{sum_by_more}
 use Rattle.std.proofs.lemmas.Bool.Decides.{nat_tests}
@@ -30,3 +30,8 @@ module _ {Y : Type 0} (f : Y → Field) (ys : List Y) (i : ℕ) (y : Y) (here : 
 
   pub size_bound : is_field (f y) ≡ true → field_size (f y) ≤ 4160
   size_bound good = grind (arith, nat_tests)
+
+  -- a copy that shows the same, after one more
+  pub copied_more : (zs : List Y) (z : Y) → map f zs ≡ take i (map f ys) → f z ≡ f y → map f (zs ++ z ∷ []) ≡ take (i + 1) (map f ys)
+  copied_more zs z so_far one =
+      map-append f zs (z ∷ []) ∙ (λ j. so_far j ++ (one ∙ sym at_i) j ∷ []) ∙ sym (take_more (map f ys) i (f y) within)

@@ -3,6 +3,8 @@
 
 mod cell;
 mod content;
+mod copy;
+mod gather;
 mod image;
 mod key;
 mod order;
