@@ -1,5 +1,5 @@
 -- The cells of one list followed by another are the join of the cells of both.
-use Rattle.std.proofs.Common.{◌≡◌, ℕ, Bool, true, false, cond, List, [], ◌∷◌, ◌++◌, map, filter, Option, Some, None, refl, sym, ap, ◌∙◌, subst}
+use Rattle.std.proofs.Common.{◌≡◌, ℕ, zero, suc, ◌<◌, length, get_or, Contains, arith, Bool, true, false, cond, List, [], ◌∷◌, ◌++◌, map, filter, Option, Some, None, refl, sym, ap, ◌∙◌, subst}
 use Rattle.std.specs.declared.cmp.Ordering.{Ordering}
 use Rattle.std.specs.declared.cmp.Ordering.TheVariants.{Less, Equal, Greater}
 use Rattle.std.specs.Ordering.{eq_by_cmp, is_eq}
@@ -13,10 +13,10 @@ use Rattle.pn_record.specs.declared.image.Image.{Image}
 use Rattle.pn_record.specs.Limits.{Shown}
 use Rattle.pn_record.specs.Order.{version_cmp}
 use Rattle.pn_record.specs.Totals.{version_cmp_total, version_cmp-exact}
-use Rattle.pn_record.specs.Cells.{later, top, images_of, contents_with, cell_of, cells}
+use Rattle.pn_record.specs.Cells.{SameImages, later, top, images_of, contents_with, cell_of, cells}
 use Rattle.pn_record.specs.Sets.{Celled, Stamp, Contents, set_of, union, cell_joined}
-use Rattle.pn_record.proofs.Contents.{set_of-append}
-use Rattle.pn_record.proofs.CellLaws.{cell_joined-laws, joined-less, joined-equal, joined-greater, turned-less, turned-equal, turned-greater, greater-trans, by_versions}
+use Rattle.pn_record.specs.Unions.{set_of-append}
+use Rattle.pn_record.specs.JoinedCells.{cell_joined-laws, joined-less, joined-equal, joined-greater, turned-less, turned-equal, turned-greater, greater-trans, by_versions}
 
 later-less : (v w : Stamp) → version_cmp v w ≡ Less → later v w ≡ w
 later-less v w e = ap (λ r. by_order r w w v) e
@@ -107,3 +107,38 @@ cell_of-append (x ∷ images) others =
 pub cells-append : (images others : List Image) (key : List ℕ) → cells (images ++ others) key ≡ both (cells images key) (cells others key)
 cells-append images others key =
     ap cell_of (filter-append (λ (image : Image). bytes_eq image.key key) images others) ∙ cell_of-append (images_of key images) (images_of key others)
+
+-- an image that is there already adds nothing
+absorbed_at : (key : List ℕ) (image : Image) (images : List Image) (k : ℕ) → k < length images → get_or images k image ≡ image → both (cells (image ∷ []) key) (cells images key) ≡ cells images key
+absorbed_at key image [] k inside is = absurd (omega arith)
+absorbed_at key image (first ∷ images) zero inside is =
+    ap (both (cells (image ∷ []) key)) (cells-append (first ∷ []) images key)
+    ∙ ap (λ (i : Image). both (cells (image ∷ []) key) (both (cells (i ∷ []) key) (cells images key))) is
+    ∙ sym (both-assoc (cells (image ∷ []) key) (cells (image ∷ []) key) (cells images key))
+    ∙ ap (λ c. both c (cells images key)) (both-same (cells (image ∷ []) key))
+    ∙ ap (λ (i : Image). both (cells (i ∷ []) key) (cells images key)) (sym is)
+    ∙ sym (cells-append (first ∷ []) images key)
+absorbed_at key image (first ∷ images) (suc k) inside is =
+    let one = cells (image ∷ []) key in
+    let other = cells (first ∷ []) key in
+    let rest = cells images key in
+    ap (both one) (cells-append (first ∷ []) images key) ∙ sym (both-assoc one other rest) ∙ ap (λ c. both c rest) (both-comm one other) ∙ both-assoc other one rest
+    ∙ ap (both other) (absorbed_at key image images k (omega arith) is) ∙ sym (cells-append (first ∷ []) images key)
+
+pub absorbed : (key : List ℕ) (image : Image) (images : List Image) → Contains images image → both (cells (image ∷ []) key) (cells images key) ≡ cells images key
+absorbed key image images there = absorbed_at key image images there.0 there.1 there.2
+
+-- images that are all there already add nothing
+all_absorbed : (key : List ℕ) (more images : List Image) → ((image : Image) → Contains more image → Contains images image) → both (cells more key) (cells images key) ≡ cells images key
+all_absorbed key [] images there = refl
+all_absorbed key (first ∷ more) images there =
+    let one = cells (first ∷ []) key in
+    ap (λ c. both c (cells images key)) (cells-append (first ∷ []) more key) ∙ both-assoc one (cells more key) (cells images key)
+    ∙ ap (both one) (all_absorbed key more images (λ image here. there image (suc here.0, omega (arith, here.1), here.2)))
+    ∙ absorbed key first images (there first (0, omega arith, refl))
+
+-- the same images make the same cells, in whatever order and however often
+pub cells-same : (images others : List Image) → SameImages images others → (key : List ℕ) → cells images key ≡ cells others key
+cells-same images others same key =
+    sym (all_absorbed key others images (λ image. (same image).1)) ∙ both-comm (cells others key) (cells images key)
+    ∙ all_absorbed key images others (λ image. (same image).0)

@@ -1,8 +1,10 @@
 pub mod Cells
 pub mod Coding
+pub mod JoinedCells
 pub mod Limits
 pub mod Order
 pub mod Sets
 pub mod Showing
 pub mod States
 pub mod Totals
+pub mod Unions

@@ -3,12 +3,15 @@
 ghost use Rattle.std.specs.Prelude.{◌≡◌, ◌∷◌, [], ◌<◌, length, IsTrue, IfOk, OnOk, OnErr};
 ghost use Rattle.std.specs.FinMap.{keys};
 ghost use Rattle.std.specs.List.{list_all};
-ghost use Rattle.pn_record.specs.Sets.{set_of, HasContents};
+ghost use Rattle.pn_record.specs.Sets.{Celled, set_of, union, cell_joined, HasContents};
+ghost use Rattle.pn_record.specs.JoinedCells.{cell_joined-laws};
 ghost use Rattle.pn_record.specs.States.{state_of, is_deletion as deletes};
 
+use crate::gather::gathered;
 use crate::{Body, Content, Version};
-use pn_join::NoMemory;
+use pn_join::{Dup, Join, NoMemory};
 use std::alloc::Global;
+use std::cmp::Ordering;
 use std::marker::Model;
 use std::sync::Arc;
 
@@ -94,6 +97,12 @@ impl Cell {
     }
 }
 
+fn are_same(contents: &[Content], others: &[Content]) -> bool
+    ensures { IsTrue result → contents.now ≡ others.now }
+{
+    contents == others
+}
+
 fn are_deletions(contents: &[Content]) -> bool
     ensures { result ≡ list_all deletes contents.now }
 {
@@ -104,4 +113,58 @@ fn is_deletion(content: &Content) -> bool
     ensures { result ≡ deletes content.now }
 {
     matches!(content.body, Body::Deleted)
+}
+
+impl Dup for Cell {
+    /// Shares the contents, so that it costs no copy of them.
+    fn dup(&self) -> Result<Cell, NoMemory>
+        ensures { IfOk result (λ copy. copy ≡ self.now) }
+    {
+        Ok(Cell {
+            version: self.version,
+            contents: Arc::try_clone(&self.contents)?,
+            alloc: self.alloc,
+        })
+    }
+}
+
+impl Join for Cell {
+    ghost Meaning = { Celled };
+
+    ghost meaning = { λ cell. cell };
+
+    ghost joined = { cell_joined };
+
+    ghost valid = { HasContents };
+
+    ghost laws = { cell_joined-laws };
+
+    /// Keeps the cell of the greater version, and at equal versions the contents of both.
+    fn join_from(&mut self, other: &Cell) -> Result<(), NoMemory>
+        ensures ok { OnOk result (self.new ≡ cell_joined self.old other.now) }
+        ensures err { OnErr result (self.new ≡ self.old) }
+        ensures are_valid { HasContents self.old × HasContents other.now × HasContents self.new }
+    {
+        match self.version().cmp(&other.version()) {
+            Ordering::Less => *self = other.dup()?,
+            Ordering::Equal => self.gather(other)?,
+            Ordering::Greater => {}
+        }
+        Ok(())
+    }
+}
+
+impl Cell {
+    // Takes the contents of the other too, which has the same version.
+    fn gather(&mut self, other: &Cell) -> Result<(), NoMemory>
+        ensures ok { OnOk result (self.new ≡ (self.old.0, union self.old.1 other.now.1)) }
+        ensures err { OnErr result (self.new ≡ self.old) }
+        ensures some { HasContents self.old × HasContents other.now × HasContents self.new }
+    {
+        if !are_same(self.contents(), other.contents()) {
+            let contents = gathered(self.alloc, &self.contents, &other.contents)?;
+            self.contents = Arc::new(self.alloc, contents)?;
+        }
+        Ok(())
+    }
 }

@@ -3,7 +3,7 @@ use Rattle.std.proofs.Common.{◌≡◌, ◌<◌, List, length, sym, ap, ◌∙�
 use Rattle.std.specs.FinMap.{keys}
 use Rattle.pn_record.specs.Limits.{Shown}
 use Rattle.pn_record.specs.Sets.{Celled}
-use Rattle.pn_record.proofs.Contents.{keys-set_of}
+use Rattle.pn_record.specs.Unions.{keys-set_of}
 use Rattle.pn_record.proofs.cell.Cell.contents.Goals as goal
 
 pub returns-clause-contents : goal.returns-clause-contents

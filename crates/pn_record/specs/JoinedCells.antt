@@ -9,7 +9,7 @@ use Rattle.pn_join.specs.Laws.{JoinLaws}
 use Rattle.pn_record.specs.Order.{version_cmp}
 use Rattle.pn_record.specs.Totals.{version_cmp_total, version_cmp-exact}
 use Rattle.pn_record.specs.Sets.{Celled, Stamp, union, cell_joined}
-use Rattle.pn_record.proofs.Contents.{union-comm, union-assoc, union-same}
+use Rattle.pn_record.specs.Unions.{union-comm, union-assoc, union-same}
 
 pub joined-less : (a b : Celled) → version_cmp a.0 b.0 ≡ Less → cell_joined a b ≡ b
 joined-less a b e = ap (λ r. by_order r b (a.0, union a.1 b.1) a) e

@@ -1,13 +1,16 @@
 -- Sets of contents: what is in a union.
-use Rattle.std.proofs.Common.{◌≡◌, ℕ, ◌<◌, length, IsTrue, lit<, Bool, true, false, cond, List, [], ◌∷◌, ◌++◌, map, Option, Some, None, refl, sym, ap, ◌∙◌, subst}
+use Rattle.std.proofs.Common.{◌≡◌, ℕ, ◌<◌, length, IsTrue, lit<, Bool, true, false, ◌&&◌, cond, List, [], ◌∷◌, ◌++◌, map, Option, Some, None, refl, sym, ap, ◌∙◌, subst}
 use lib.Dec.{T}
 use Rattle.std.specs.FinMap.{get, entries, from_entries, find, keys, get-from_entries, get-entries, same_map, from_sorted, get-from_sorted, entries-from_sorted, is_sorted, empty, get-empty}
-use Rattle.std.specs.Ordering.{eq_by_cmp}
+use Rattle.std.specs.declared.cmp.Ordering.{Ordering}
+use Rattle.std.specs.declared.cmp.Ordering.TheVariants.{Less, Equal, Greater}
+use Rattle.std.specs.Ordering.{eq_by_cmp, is_eq}
+use Rattle.std.specs.Cmp.Lexicographic.{pointwise}
 use Rattle.std.proofs.lemmas.List.{map-append}
 use Rattle.pn_record.specs.Limits.{Shown}
 use Rattle.pn_record.specs.Order.{content_cmp}
 use Rattle.pn_record.specs.Totals.{content_cmp_total, content_cmp-exact}
-use Rattle.pn_record.specs.Sets.{Contents, IsContents, as_entries, set_of, union}
+use Rattle.pn_record.specs.Sets.{Celled, Contents, IsContents, as_entries, set_of, union}
 
 -- the first of two answers, where there is one
 abbrev pub either : Option (Unit {0}) → Option (Unit {0}) → Option (Unit {0})
@@ -93,3 +96,28 @@ some-set_of xs is = subst (λ (l : List Shown). 0 < length l) (sym (keys-set_of 
 
 pub set_of-one : (x : Shown) → IsContents (x ∷ [])
 set_of-one x = record { rising = refl; some = lit< tt }
+
+-- lists whose contents tie one by one are one list
+pub tied_lists : (xs ys : List Shown) → pointwise (eq_by_cmp content_cmp) xs ys ≡ true → xs ≡ ys
+tied_lists [] [] tied = refl
+tied_lists [] (y ∷ ys) tied = cc
+tied_lists (x ∷ xs) [] tied = cc
+tied_lists (x ∷ xs) (y ∷ ys) tied =
+    λ i. content_cmp-exact x y (is_equal (content_cmp x y) (first_so _ _ tied)) i ∷ tied_lists xs ys (second_so (eq_by_cmp content_cmp x y) _ tied) i
+  where
+    first_so : (a b : Bool) → (a && b) ≡ true → a ≡ true
+    first_so true b p = refl
+    first_so false b p = p
+    second_so : (a b : Bool) → (a && b) ≡ true → b ≡ true
+    second_so true b p = p
+    second_so false b p = cc
+    is_equal : (o : Ordering) → is_eq o ≡ true → o ≡ Equal
+    is_equal Less p = cc
+    is_equal Equal p = refl
+    is_equal Greater p = cc
+
+-- a cell whose contents are those of the other has gathered them
+pub same_contents : (cell other : Celled) → keys cell.1 ≡ keys other.1 → cell ≡ (cell.0, union cell.1 other.1)
+same_contents cell other same_keys =
+    let is : cell.1 ≡ other.1 = sym (set_of-keys cell.1) ∙ ap set_of same_keys ∙ set_of-keys other.1 in
+    ap (λ s. (cell.0, s)) (sym (union-same cell.1) ∙ ap (union cell.1) is)
