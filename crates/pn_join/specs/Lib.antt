@@ -1,3 +1,5 @@
 pub mod Laws
 pub mod Naming
+pub mod Places
+pub mod TableLaws
 pub mod Tables

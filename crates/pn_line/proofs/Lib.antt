@@ -1,1 +1,6 @@
+pub mod LineLaws
+pub mod PieceLaws
+pub mod ReadLaws
 pub mod SentLaws
+pub mod TextLaws
+pub mod ToldLaws
