@@ -1,5 +1,6 @@
 pub mod CellLists
 pub mod Fields
 pub mod Gathering
+pub mod HeldRecords
 pub mod Orders
 pub mod Sorted

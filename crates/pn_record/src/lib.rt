@@ -8,10 +8,12 @@ mod gather;
 mod image;
 mod key;
 mod order;
+mod records;
 mod version;
 
 pub use cell::{Cell, CellState};
 pub use content::{Body, Content, Value};
 pub use image::Image;
+pub use records::{Records, join_records, take_image};
 pub use key::{Key, KeyFault};
 pub use version::Version;
