@@ -6,6 +6,7 @@ mod content;
 mod copy;
 mod gather;
 mod image;
+pub mod laws;
 mod key;
 mod order;
 mod records;
