@@ -1,5 +1,5 @@
 pub mod CellLists
-pub mod Fields
+pub mod FieldSteps
 pub mod Gathering
 pub mod HeldRecords
 pub mod LawProofs

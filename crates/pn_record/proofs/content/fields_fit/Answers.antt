@@ -2,7 +2,7 @@
 use Rattle.std.proofs.Common.{◌≡◌, true, sym, ◌∙◌, arith}
 use Rattle.pn_record.specs.Limits.{is_field}
 use Rattle.pn_record.specs.Showing.{shown_field}
-use Rattle.pn_record.proofs.Fields.{unfit, fit_more, size_more, size_bound}
+use Rattle.pn_record.proofs.FieldSteps.{unfit, fit_more, size_more, size_bound}
 use Rattle.pn_record.proofs.content.fields_fit.Goals as goal
 
 pub returns-then-not-is_field : goal.returns-then-not-is_field
