@@ -1,3 +1,7 @@
 pub mod Limits
 pub mod Order
 pub mod Showing
+pub mod Words
+pub mod Checks
+pub mod Grammar
+pub mod Seen

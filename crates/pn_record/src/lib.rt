@@ -2,11 +2,15 @@
 #![tactic(auto)]
 
 mod content;
+mod fault;
 mod image;
 mod key;
+mod shape;
 mod version;
 
 pub use content::{Body, Content, Value};
+pub use fault::{ImageFault, Member};
 pub use image::Image;
 pub use key::{Key, KeyFault};
+pub use shape::numbers_of;
 pub use version::Version;
