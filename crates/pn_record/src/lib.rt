@@ -12,5 +12,5 @@ pub use content::{Body, Content, Value};
 pub use fault::{ImageFault, Member};
 pub use image::Image;
 pub use key::{Key, KeyFault};
-pub use shape::numbers_of;
+pub use shape::{Shape, numbers_of, shape_of};
 pub use version::Version;

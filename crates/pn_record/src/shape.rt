@@ -1,9 +1,13 @@
 //! The shapes and the ranges of an image's members, looked at in the parsed value.
 
-ghost use Rattle.std.specs.Prelude.{◌≡◌, ◌↔◌, option_map, option_and_then, IsTrue, IfOk, Ok};
+ghost use Rattle.std.specs.Prelude.{◌≡◌, ◌↔◌, option_map, option_and_then, is_some, IsTrue, IfOk, Ok};
+ghost use Rattle.std.specs.Option.{ok_or};
+ghost use Rattle.std.specs.List.{list_any};
+ghost use Rattle.std.specs.Str.{bytes_eq};
+ghost use Rattle.pn_record.specs.declared.fault.Member.TheVariants.{Version};
 ghost use Rattle.serde_json.specs.View.{view, items_view, members_view};
 ghost use Rattle.pn_record.specs.Grammar.{numbers_in as two_numbers_in, two_numbers, texts, only_named, image_members, deleted_in, fields_in, text_in, shape_in, ranges_in};
-ghost use Rattle.pn_record.specs.Seen.{seen, Shows};
+ghost use Rattle.pn_record.specs.Seen.{seen, seen_fields, all_texts, Shows};
 
 use crate::fault::Member;
 use serde_json::{Map, Value};
@@ -45,4 +49,97 @@ fn text_of<'v>(name: Member, value: Option<&'v Value>) -> Result<&'v str, Member
         None => Err(name),
         Some(value) => value.as_str().ok_or(name),
     }
+}
+
+/// The members of a value that has the shape of an image, borrowed from it: its fields (none for a
+/// deletion), key, master and version, whose ranges are still to be looked at.
+#[derive(Drop)]
+pub struct Shape<'v> {
+    fields: Option<&'v Map<String, Value>>,
+    key: &'v str,
+    master: &'v str,
+    version: (u64, u64),
+}
+
+impl<'v> Model for Shape<'v> {
+    ghost use Rattle.pn_record.specs.declared.image.Image.{Image};
+
+    ghost Value = { Image };
+
+    ghost use Rattle.std.specs.Prelude.{IsTrue};
+    ghost use Rattle.pn_record.specs.Seen.{seen_fields, all_texts};
+
+    ghost view = { λ s. record { key = s.key.now; version = s.version; content = (seen_fields s.fields, s.master.now) } };
+
+    ghost invariant = { λ s. IsTrue (all_texts s.fields) };
+}
+
+/// The image whose shape a value has; its texts stay in the value. Otherwise the first member of another
+/// shape. It takes no memory.
+#[tactic(auto, unfolding(crate::specs::Grammar::shape_in))]
+pub fn shape_of(value: &Value) -> Result<Shape<'_>, Member>
+    ensures { result ≡ shape_in (view value.now) }
+{
+    let members = value.as_object().ok_or(Member::Whole)?;
+    let is_deleted = deleted_of(value.get("deleted"))?;
+    let fields = fields_of(is_deleted, value.get("fields"))?;
+    let key = text_of(Member::Key, value.get("key"))?;
+    let master = text_of(Member::Master, value.get("master"))?;
+    let version = version_numbers(value.get("version"))?;
+    if !is_only_named(members) {
+        return Err(Member::Other);
+    }
+    Ok(Shape {
+        fields,
+        key,
+        master,
+        version,
+    })
+}
+
+fn fields_of<'v>(
+    is_deleted: bool,
+    value: Option<&'v Value>,
+) -> Result<Option<&'v Map<String, Value>>, Member>
+    ensures texts { Shows seen_fields result (fields_in is_deleted (seen value.entry)) }
+    ensures all { IfOk result (λ fields. IsTrue (all_texts fields)) }
+{
+    match (is_deleted, value) {
+        (true, None) => Ok(None),
+        (false, Some(value)) => match value.as_object() {
+            Some(members) => {
+                if has_texts_alone(members) {
+                    Ok(Some(members))
+                } else {
+                    Err(Member::Fields)
+                }
+            }
+            None => Err(Member::Fields),
+        },
+        _ => Err(Member::Fields),
+    }
+}
+
+fn version_numbers(value: Option<&Value>) -> Result<(u64, u64), Member>
+    ensures { result ≡ ok_or (option_and_then two_numbers_in (seen value.entry)) Version }
+{
+    value.and_then(numbers_of).ok_or(Member::Version)
+}
+
+fn has_texts_alone(members: &Map<String, Value>) -> bool
+    ensures { result ≡ is_some (texts (members_view members.now.entries)) }
+{
+    members.values().all(Value::is_string)
+}
+
+fn is_only_named(members: &Map<String, Value>) -> bool
+    ensures { result ≡ only_named image_members (members_view members.now.entries) }
+{
+    members.keys().all(|name| is_image_member(name.as_str()))
+}
+
+fn is_image_member(name: &str) -> bool
+    ensures { result ≡ list_any (bytes_eq name.now) image_members }
+{
+    matches!(name, "deleted" | "fields" | "key" | "master" | "version")
 }
