@@ -129,13 +129,23 @@ fn version_numbers(value: Option<&Value>) -> Result<(u64, u64), Member>
 fn has_texts_alone(members: &Map<String, Value>) -> bool
     ensures { result ≡ is_some (texts (members_view members.now.entries)) }
 {
-    members.values().all(Value::is_string)
+    for (_, value) in members.iter() {
+        if !value.is_string() {
+            return false;
+        }
+    }
+    true
 }
 
 fn is_only_named(members: &Map<String, Value>) -> bool
     ensures { result ≡ only_named image_members (members_view members.now.entries) }
 {
-    members.keys().all(|name| is_image_member(name.as_str()))
+    for (name, _) in members.iter() {
+        if !is_image_member(name.as_str()) {
+            return false;
+        }
+    }
+    true
 }
 
 fn is_image_member(name: &str) -> bool
