@@ -1,5 +1,5 @@
 -- The image that a JSON value is: the shapes of its members one after another, and then their ranges.
-use Rattle.std.specs.Prelude.{ℕ, Bool, true, false, not, ◌&&◌, if◌then◌else◌, List, [], ◌∷◌, codes, Option, Some, None, option_map, option_and_then, unwrap_or, Result, Ok, Err}
+use Rattle.std.specs.Prelude.{ℕ, Bool, true, false, not, ◌&&◌, if◌then◌else◌, List, [], ◌∷◌, codes, Option, Some, None, option_map, option_and_then, unwrap_or, is_some, Result, Ok, Err}
 use Rattle.std.specs.Option.{ok_or}
 use Rattle.std.specs.List.{list_any}
 use Rattle.std.specs.Str.{bytes_eq}
@@ -29,10 +29,15 @@ two_numbers (item a (item b (item c ds))) = None
 abbrev pub numbers_in : Data → Option (ℕ × ℕ)
 numbers_in d = option_and_then two_numbers (as_array d)
 
--- the fields of an object whose members are all texts
-abbrev pub texts : Members → Option (List Field)
-texts no_members = Some []
-texts (member name d ms) = option_and_then (λ text. option_map (λ fields. (name, text) ∷ fields) (texts ms)) (as_str d)
+-- each member is a text
+abbrev pub all_texts : Members → Bool
+all_texts no_members = true
+all_texts (member name d ms) = is_some (as_str d) && all_texts ms
+
+-- the names and the texts of members, which are all texts
+abbrev pub fields_of : Members → List Field
+fields_of no_members = []
+fields_of (member name d ms) = (name, unwrap_or (as_str d) []) ∷ fields_of ms
 
 -- each member has one of the names
 abbrev pub only_named : List (List ℕ) → Members → Bool
@@ -48,12 +53,17 @@ abbrev pub deleted_in : Option Data → Result Bool Member
 deleted_in None = Ok false
 deleted_in (Some d) = if unwrap_or (as_bool d) false then Ok true else Err Deleted
 
+-- the fields of an object whose members are all texts
+abbrev pub object_fields : Option Members → Result (Option (List Field)) Member
+object_fields None = Err Fields
+object_fields (Some ms) = if all_texts ms then Ok (Some (fields_of ms)) else Err Fields
+
 -- the fields, or none for a deletion, which has no `fields`
 abbrev pub fields_in : Bool → Option Data → Result (Option (List Field)) Member
 fields_in true None = Ok None
 fields_in true (Some d) = Err Fields
 fields_in false None = Err Fields
-fields_in false (Some d) = ok_or (option_map Some (option_and_then texts (as_object d))) Fields
+fields_in false (Some d) = object_fields (as_object d)
 
 -- the text of a member
 abbrev pub text_in : Member → Option Data → Result (List ℕ) Member

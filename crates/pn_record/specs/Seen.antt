@@ -1,5 +1,5 @@
 -- What borrowed values show.
-use Rattle.std.specs.Prelude.{◌≡◌, List, [], Bool, true, is_some, Option, Some, None, option_map, unwrap_or, Result, Ok, Err, String}
+use Rattle.std.specs.Prelude.{◌≡◌, List, Option, option_map, Result, Ok, Err, String}
 use Rattle.std.specs.Borrow.{Bor}
 use Rattle.std.specs.declared.alloc.Global.{Global}
 use Rattle.std.specs.BTreeMap.{BTreeMap}
@@ -7,7 +7,7 @@ use Rattle.serde_json.specs.Data.{Data}
 use Rattle.serde_json.specs.View.{view, members_view}
 use Rattle.serde_json.specs.declared.value.Value.{Value}
 use Rattle.pn_record.specs.Limits.{Field}
-use Rattle.pn_record.specs.Grammar.{texts}
+use Rattle.pn_record.specs.Grammar.{fields_of}
 
 -- the data of a value, where there is one
 abbrev pub seen : Option (Bor Value) → Option Data
@@ -17,15 +17,9 @@ seen value = option_map (λ v. view v.now) value
 abbrev pub Borrowed : Type 0
 Borrowed = Bor (BTreeMap (String Global) Value)
 
--- the texts of the members, where there are any
+-- the fields of the members, where there are any
 abbrev pub seen_fields : Option Borrowed → Option (List Field)
-seen_fields None = None
-seen_fields (Some members) = Some (unwrap_or (texts (members_view members.now.entries)) [])
-
--- the members are all texts
-abbrev pub all_texts : Option Borrowed → Bool
-all_texts None = true
-all_texts (Some members) = is_some (texts (members_view members.now.entries))
+seen_fields members = option_map (λ ms. fields_of (members_view ms.now.entries)) members
 
 -- the answer, as it shows, is the right one
 abbrev pub Shows : {A B E : Type 0} → (A → B) → Result A E → Result B E → Type 0
