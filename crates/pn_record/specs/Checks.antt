@@ -14,11 +14,27 @@ abbrev pub fault_as : {A E F : Type 0} → (E → F) → Result A E → Result A
 fault_as name (Ok value) = Ok value
 fault_as name (Err fault) = Err (name fault)
 
+-- the fault is the right one, or memory ran out
+abbrev pub Faults : {A : Type 0} → ImageFault → Result A ImageFault → Type 0
+Faults Memory right = Unit {0}
+Faults TooLong right = right ≡ Err TooLong
+Faults NotJson right = right ≡ Err NotJson
+Faults (BadShape member) right = right ≡ Err (BadShape member)
+Faults (OutOfRange member) right = right ≡ Err (OutOfRange member)
+
+-- the answer, as it shows, is the right one, unless memory ran out
+abbrev pub GivesAs : {A B : Type 0} → (A → B) → Result A ImageFault → Result B ImageFault → Type 0
+GivesAs show (Ok value) right = right ≡ Ok (show value)
+GivesAs show (Err fault) right = Faults fault right
+
 -- the answer is the right one, unless memory ran out
 abbrev pub Gives : {A : Type 0} → Result A ImageFault → Result A ImageFault → Type 0
-Gives (Ok value) right = right ≡ Ok value
-Gives (Err Memory) right = Unit {0}
-Gives (Err TooLong) right = right ≡ Err TooLong
-Gives (Err NotJson) right = right ≡ Err NotJson
-Gives (Err (BadShape member)) right = right ≡ Err (BadShape member)
-Gives (Err (OutOfRange member)) right = right ≡ Err (OutOfRange member)
+Gives answer right = GivesAs (λ value. value) answer right
+
+-- a fault of a value, and not of the line that it came in
+abbrev pub IsOfValue : ImageFault → Type 0
+IsOfValue Memory = Unit {0}
+IsOfValue (BadShape member) = Unit {0}
+IsOfValue (OutOfRange member) = Unit {0}
+IsOfValue TooLong = ⊥
+IsOfValue NotJson = ⊥

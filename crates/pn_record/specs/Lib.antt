@@ -5,3 +5,4 @@ pub mod Words
 pub mod Checks
 pub mod Grammar
 pub mod Seen
+pub mod Reading

@@ -5,6 +5,8 @@ mod content;
 mod fault;
 mod image;
 mod key;
+mod ranges;
+mod read;
 mod shape;
 mod version;
 
@@ -12,5 +14,6 @@ pub use content::{Body, Content, Value};
 pub use fault::{ImageFault, Member};
 pub use image::Image;
 pub use key::{Key, KeyFault};
+pub use read::{image_of, read_image, read_value, version_of};
 pub use shape::{Shape, numbers_of, shape_of};
 pub use version::Version;

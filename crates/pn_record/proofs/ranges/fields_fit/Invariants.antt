@@ -5,11 +5,11 @@ use Rattle.std.specs.List.{list_all}
 use Rattle.serde_json.specs.View.{members_view}
 use Rattle.pn_record.specs.Limits.{is_field, field_size}
 use Rattle.pn_record.specs.Grammar.{fields_of}
-use Rattle.pn_record.proofs.shape.fields_fit.Given as goal
+use Rattle.pn_record.proofs.ranges.fields_fit.Given as goal
 
 abbrev pub invariant-loop-name : goal.invariant-loop-name
 invariant-loop-name l = record {
   each : list_all is_field (fields_of (members_view l.name-iterator)) ≡ list_all is_field (fields_of (members_view l.members.entries));
   together : l.bytes + sum_by field_size (fields_of (members_view l.name-iterator)) ≡ sum_by field_size (fields_of (members_view l.members.entries));
-  few : l.bytes ≤ 8192
+  few : l.bytes ≤ 8192;
 }
