@@ -1,5 +1,6 @@
 -- The fields of an object's members.
-use Rattle.std.proofs.Common.{◌≡◌, List, [], ◌∷◌, length, suc, Bool, true, false, ◌&&◌, IsTrue, Less, string_bytes, string_cmp, nat_cmp, refl, ap, String, Global}
+use Rattle.std.proofs.Common.{◌≡◌, List, [], ◌∷◌, length, suc, IsTrue, Less, string_bytes, string_cmp, nat_cmp, refl, ap, String, Global}
+use Rattle.std.proofs.lemmas.Bool.{and_from}
 use Rattle.std.specs.Cmp.Lexicographic.{slice_cmp}
 use Rattle.std.specs.FinMap.Entries.{below_all}
 use Rattle.std.specs.List.{AllByRecursion}
@@ -15,10 +16,6 @@ pub fields_count : (entries : List (String Global × Value)) → length (fields_
 fields_count [] = refl
 fields_count (entry ∷ entries) = ap suc (fields_count entries)
 
-both : (a b : Bool) → IsTrue a → IsTrue b → IsTrue (a && b)
-both true b first second = second
-both false b first second = first
-
 below_names : (name : String Global) (entries : List (String Global × Value)) → AllByRecursion (λ other. string_cmp name other ≡ Less) (keys_of entries)
     → IsTrue (below_all (slice_cmp nat_cmp) (string_bytes name) (fields_of (members_view entries)))
 below_names name [] below = refl
@@ -28,4 +25,4 @@ below_names name (entry ∷ entries) below = rw below.0 (below_names name entrie
 pub fields_rise : (entries : List (String Global × Value)) → IsStrictlySortedBy string_cmp (keys_of entries) → IsTrue (names_rise (fields_of (members_view entries)))
 unfolding IsStrictlySortedBy
 fields_rise [] ordered = refl
-fields_rise (entry ∷ entries) ordered = both _ _ (below_names entry.0 entries ordered.0) (fields_rise entries ordered.1)
+fields_rise (entry ∷ entries) ordered = and_from _ _ (below_names entry.0 entries ordered.0) (fields_rise entries ordered.1)

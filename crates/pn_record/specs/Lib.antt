@@ -6,3 +6,4 @@ pub mod Checks
 pub mod Grammar
 pub mod Seen
 pub mod Reading
+pub mod Writing

@@ -9,6 +9,7 @@ mod ranges;
 mod read;
 mod shape;
 mod version;
+mod write;
 
 pub use content::{Body, Content, Value};
 pub use fault::{ImageFault, Member};
@@ -17,3 +18,4 @@ pub use key::{Key, KeyFault};
 pub use read::{image_of, read_image, read_value, version_of};
 pub use shape::{Shape, numbers_of, shape_of};
 pub use version::Version;
+pub use write::{content_value, version_value};
