@@ -7,3 +7,4 @@ pub mod Grammar
 pub mod Seen
 pub mod Reading
 pub mod Writing
+pub mod Canonical
