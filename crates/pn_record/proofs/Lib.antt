@@ -2,3 +2,5 @@ pub mod Fields
 pub mod Lines
 pub mod Members
 pub mod Inverses
+pub mod LookUps
+pub mod ShapeParts
