@@ -4,3 +4,5 @@ pub mod Members
 pub mod Inverses
 pub mod LookUps
 pub mod ShapeParts
+pub mod SameImage
+pub mod Limiting
