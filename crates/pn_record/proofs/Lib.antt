@@ -1,0 +1,15 @@
+pub mod CellLists
+pub mod FieldSteps
+pub mod Fields
+pub mod Gathering
+pub mod HeldRecords
+pub mod Inverses
+pub mod LawProofs
+pub mod Limiting
+pub mod Lines
+pub mod LookUps
+pub mod Members
+pub mod Orders
+pub mod SameImage
+pub mod ShapeParts
+pub mod Sorted

@@ -1,0 +1,92 @@
+-- A value that has the shape of an image is the JSON of that image, and that JSON has its shape.
+use Rattle.std.proofs.Common.{◌≡◌, ℕ, List, [], ◌∷◌, codes, Bool, true, false, ◌||◌, cond, Option, Some, None, Ok, IsTrue, bytes_eq, refl, sym, ap, ◌∙◌}
+use Rattle.std.proofs.lemmas.Bool.{and_parts}
+use Rattle.std.proofs.lemmas.Slice.Eq.{bytes_eq-Decides}
+use Rattle.std.specs.List.{list_any}
+use Rattle.serde_json.specs.Data.{Data, string, object, Members, no_members, member}
+use Rattle.serde_json.specs.Find.{get_member}
+use Rattle.pn_record.specs.Limits.{Field}
+use Rattle.pn_record.specs.Grammar.{image_members, only_named, all_texts, fields_of, shape_in, ranges_in, image_in}
+use Rattle.pn_record.specs.Writing.{version_data, fields_data, body_data, image_data}
+use Rattle.pn_record.specs.Canonical.{is_image}
+use Rattle.pn_record.specs.declared.image.Image.{Image}
+use Rattle.pn_record.proofs.LookUps.{Rise, get_member-member, get_member-unnamed, same_members}
+use Rattle.pn_record.proofs.ShapeParts.{Holds, holds, at_deleted, at_fields}
+
+-- the members of an image's JSON
+abbrev members_of : Image → Members
+members_of image =
+    body_data image.content.0 (member (codes "key") (string image.key) (member (codes "master") (string image.content.1) (member (codes "version") (version_data image.version) no_members)))
+
+deleted_there : (f : Option (List Field)) (rest : Members) → get_member (codes "deleted") rest ≡ None → get_member (codes "deleted") (body_data f rest) ≡ at_deleted f
+deleted_there None rest none = refl
+deleted_there (Some fields) rest none = none
+
+fields_there : (f : Option (List Field)) (rest : Members) → get_member (codes "fields") rest ≡ None → get_member (codes "fields") (body_data f rest) ≡ at_fields f
+fields_there None rest none = none
+fields_there (Some fields) rest none = refl
+
+-- at the three names behind the body
+behind : (q : List ℕ) (f : Option (List Field)) (rest : Members) → bytes_eq q (codes "deleted") ≡ false → bytes_eq q (codes "fields") ≡ false → get_member q (body_data f rest) ≡ get_member q rest
+behind q None rest deleted fields = get_member-member q (codes "deleted") _ rest ∙ rw deleted refl
+behind q (Some fs) rest deleted fields = get_member-member q (codes "fields") _ rest ∙ rw fields refl
+
+members_rise : (image : Image) (f : Option (List Field)) → Rise (body_data f (member (codes "key") (string image.key) (member (codes "master") (string image.content.1) (member (codes "version") (version_data image.version) no_members))))
+members_rise image None = tt
+members_rise image (Some fields) = tt
+
+no_others : (image : Image) (f : Option (List Field)) → only_named image_members (body_data f (member (codes "key") (string image.key) (member (codes "master") (string image.content.1) (member (codes "version") (version_data image.version) no_members)))) ≡ true
+no_others image None = refl
+no_others image (Some fields) = refl
+
+-- what the JSON of an image holds
+image_holds : (image : Image) → Holds (members_of image) image
+image_holds image = record {
+  deleted = deleted_there image.content.0 _ refl;
+  fields = fields_there image.content.0 _ refl;
+  key = behind (codes "key") image.content.0 _ refl refl;
+  master = behind (codes "master") image.content.0 _ refl refl;
+  version = behind (codes "version") image.content.0 _ refl refl;
+  others = no_others image image.content.0
+}
+
+at_name : (q name : List ℕ) (ms ns : Members) (o : Option Data) → get_member name ms ≡ o → get_member name ns ≡ o → bytes_eq q name ≡ true → get_member q ms ≡ get_member q ns
+at_name q name ms ns o one two is =
+    let same : q ≡ name = (bytes_eq-Decides q name).0 is in
+    ap (λ x. get_member x ms) same ∙ one ∙ sym two ∙ ap (λ x. get_member x ns) (sym same)
+
+split : {A : Type 0} (b : Bool) → (b ≡ true → A) → (b ≡ false → A) → A
+split true here there = here refl
+split false here there = there refl
+
+same_found : (ms ns : Members) (image : Image) → Holds ms image → Holds ns image → (q : List ℕ) → get_member q ms ≡ get_member q ns
+same_found ms ns image one two q =
+    split (bytes_eq q (codes "deleted")) (at_name q (codes "deleted") ms ns _ one.deleted two.deleted) (λ d.
+    split (bytes_eq q (codes "fields")) (at_name q (codes "fields") ms ns _ one.fields two.fields) (λ f.
+    split (bytes_eq q (codes "key")) (at_name q (codes "key") ms ns _ one.key two.key) (λ k.
+    split (bytes_eq q (codes "master")) (at_name q (codes "master") ms ns _ one.master two.master) (λ m.
+    split (bytes_eq q (codes "version")) (at_name q (codes "version") ms ns _ one.version two.version) (λ v.
+    let apart : list_any (bytes_eq q) image_members ≡ false = rw (d, f, k, m, v) refl in
+    get_member-unnamed image_members ms q one.others apart ∙ sym (get_member-unnamed image_members ns q two.others apart))))))
+
+-- a value of an image's shape, whose names rise, is the JSON of the image
+pub shape_found : (ms : Members) (image : Image) → Rise ms → shape_in (object ms) ≡ Ok image → object ms ≡ image_data image
+shape_found ms image rise is =
+    ap object (same_members ms (members_of image) rise (members_rise image image.content.0) (same_found ms (members_of image) image (holds ms image is) (image_holds image)))
+
+all_texts-fields_data : (fields : List Field) → all_texts (fields_data fields) ≡ true
+all_texts-fields_data [] = refl
+all_texts-fields_data (field ∷ fields) = all_texts-fields_data fields
+
+fields_of-fields_data : (fields : List Field) → fields_of (fields_data fields) ≡ fields
+fields_of-fields_data [] = refl
+fields_of-fields_data (field ∷ fields) = ap (λ fs. field ∷ fs) (fields_of-fields_data fields)
+
+shape_again_of : (key master : List ℕ) (version : ℕ × ℕ) (f : Option (List Field)) → let image : Image = record { key = key; version = version; content = (f, master) } in shape_in (image_data image) ≡ Ok image
+unfolding shape_in
+shape_again_of key master version None = refl
+shape_again_of key master version (Some fields) = rw (all_texts-fields_data fields, fields_of-fields_data fields) refl
+
+-- the JSON of an image has its shape
+pub shape_again : (image : Image) → shape_in (image_data image) ≡ Ok image
+shape_again image = shape_again_of image.key image.content.1 image.version image.content.0

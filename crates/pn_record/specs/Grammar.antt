@@ -1,0 +1,101 @@
+-- The image that a JSON value is: the shapes of its members one after another, and then their ranges.
+use Rattle.std.specs.Prelude.{ℕ, Bool, true, false, not, ◌&&◌, if◌then◌else◌, List, [], ◌∷◌, codes, Option, Some, None, option_map, option_and_then, unwrap_or, is_some, Result, Ok, Err}
+use Rattle.std.specs.Option.{ok_or}
+use Rattle.std.specs.List.{list_any}
+use Rattle.std.specs.Str.{bytes_eq}
+use Rattle.pn_join.specs.Naming.{is_name}
+use Rattle.serde_json.specs.Data.{Data, null, boolean, number, string, array, object, Items, no_items, item, Members, no_members, member}
+use Rattle.serde_json.specs.Find.{get, as_bool, as_number, as_u64, as_str, as_array, as_object}
+use Rattle.pn_record.specs.Limits.{Field, is_key, is_version, fields_fit}
+use Rattle.pn_record.specs.Checks.{◌>>=◌, fault_as}
+use Rattle.pn_record.specs.declared.image.Image.{Image}
+use Rattle.pn_record.specs.declared.fault.Member.{Member}
+use Rattle.pn_record.specs.declared.fault.Member.TheVariants.{Whole, Deleted, Fields, Key, Master, Version, Other}
+use Rattle.pn_record.specs.declared.fault.ImageFault.{ImageFault}
+use Rattle.pn_record.specs.declared.fault.ImageFault.TheVariants.{BadShape, OutOfRange}
+
+-- a whole number, below 2^64
+abbrev pub whole_number : Data → Option ℕ
+whole_number d = option_and_then as_u64 (as_number d)
+
+-- the two whole numbers of an array of two
+abbrev pub two_numbers : Items → Option (ℕ × ℕ)
+two_numbers no_items = None
+two_numbers (item a no_items) = None
+two_numbers (item a (item b no_items)) = option_and_then (λ m. option_map (λ n. (m, n)) (whole_number b)) (whole_number a)
+two_numbers (item a (item b (item c ds))) = None
+
+-- the version that an array of two whole numbers spells
+abbrev pub numbers_in : Data → Option (ℕ × ℕ)
+numbers_in d = option_and_then two_numbers (as_array d)
+
+-- each member is a text
+abbrev pub all_texts : Members → Bool
+all_texts no_members = true
+all_texts (member name d ms) = is_some (as_str d) && all_texts ms
+
+-- the names and the texts of members, which are all texts
+abbrev pub fields_of : Members → List Field
+fields_of no_members = []
+fields_of (member name d ms) = (name, unwrap_or (as_str d) []) ∷ fields_of ms
+
+-- each member has one of the names
+abbrev pub only_named : List (List ℕ) → Members → Bool
+only_named names no_members = true
+only_named names (member name d ms) = list_any (bytes_eq name) names && only_named names ms
+
+-- the names of an image's members
+abbrev pub image_members : List (List ℕ)
+image_members = codes "deleted" ∷ codes "fields" ∷ codes "key" ∷ codes "master" ∷ codes "version" ∷ []
+
+-- whether `deleted` is there, which is `true` then
+abbrev pub deleted_in : Option Data → Result Bool Member
+deleted_in None = Ok false
+deleted_in (Some d) = if unwrap_or (as_bool d) false then Ok true else Err Deleted
+
+-- the fields of an object whose members are all texts
+abbrev pub object_fields : Option Members → Result (Option (List Field)) Member
+object_fields None = Err Fields
+object_fields (Some ms) = if all_texts ms then Ok (Some (fields_of ms)) else Err Fields
+
+-- the fields, or none for a deletion, which has no `fields`
+abbrev pub fields_in : Bool → Option Data → Result (Option (List Field)) Member
+fields_in true None = Ok None
+fields_in true (Some d) = Err Fields
+fields_in false None = Err Fields
+fields_in false (Some d) = object_fields (as_object d)
+
+-- the text of a member
+abbrev pub text_in : Member → Option Data → Result (List ℕ) Member
+text_in name d = ok_or (option_and_then as_str d) name
+
+-- the image of which the value has the shape, or the first member of another shape
+unfoldable pub shape_in : Data → Result Image Member
+shape_in d = do
+  members ← ok_or (as_object d) Whole
+  deleted ← deleted_in (get (codes "deleted") d)
+  fields ← fields_in deleted (get (codes "fields") d)
+  key ← text_in Key (get (codes "key") d)
+  master ← text_in Master (get (codes "master") d)
+  version ← ok_or (option_and_then numbers_in (get (codes "version") d)) Version
+  if only_named image_members members then Ok (record { key = key; version = version; content = (fields, master) }) else Err Other
+
+-- the fields fit, where there are any
+abbrev pub body_fits : Option (List Field) → Bool
+body_fits None = true
+body_fits (Some fields) = fields_fit fields
+
+-- the first member that breaks a limit
+unfoldable pub ranges_in : Image → Result (Unit {0}) Member
+ranges_in image =
+    if not (body_fits image.content.0) then Err Fields else
+    (if not (is_key image.key) then Err Key else
+    (if not (is_name image.content.1) then Err Master else
+    (if not (is_version image.version) then Err Version else Ok tt)))
+
+-- the image that the value is, or its first fault: all shapes come before the ranges
+unfoldable pub image_in : Data → Result Image ImageFault
+image_in d = do
+  image ← fault_as BadShape (shape_in d)
+  fits ← fault_as OutOfRange (ranges_in image)
+  Ok image

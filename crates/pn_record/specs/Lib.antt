@@ -1,0 +1,17 @@
+pub mod Canonical
+pub mod Cells
+pub mod Checks
+pub mod Coding
+pub mod Grammar
+pub mod JoinedCells
+pub mod Limits
+pub mod Order
+pub mod Reading
+pub mod Seen
+pub mod Sets
+pub mod Showing
+pub mod States
+pub mod Totals
+pub mod Unions
+pub mod Words
+pub mod Writing

@@ -1,0 +1,27 @@
+-- The orders of versions and of contents.
+use Rattle.std.specs.Prelude.{ℕ, List, Option}
+use Rattle.std.specs.declared.cmp.Ordering.{Ordering}
+use Rattle.std.specs.Ordering.{nat_cmp, ordering_then}
+use Rattle.std.specs.Option.{option_cmp}
+use Rattle.std.specs.Cmp.Lexicographic.{slice_cmp}
+use Rattle.pn_record.specs.Limits.{Field, Shown}
+
+-- by generation, and then by number
+abbrev pub version_cmp : ℕ × ℕ → ℕ × ℕ → Ordering
+version_cmp a b = ordering_then (nat_cmp a.0 b.0) (nat_cmp a.1 b.1)
+
+-- by their bytes
+abbrev pub bytes_cmp : List ℕ → List ℕ → Ordering
+bytes_cmp = slice_cmp nat_cmp
+
+-- by name, and then by text
+abbrev pub field_cmp : Field → Field → Ordering
+field_cmp a b = ordering_then (bytes_cmp a.0 b.0) (bytes_cmp a.1 b.1)
+
+-- a deletion before fields, and fields as lists of name and text
+abbrev pub body_cmp : Option (List Field) → Option (List Field) → Ordering
+body_cmp = option_cmp (slice_cmp field_cmp)
+
+-- by body, and then by master
+abbrev pub content_cmp : Shown → Shown → Ordering
+content_cmp a b = ordering_then (body_cmp a.0 b.0) (bytes_cmp a.1 b.1)

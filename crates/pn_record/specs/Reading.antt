@@ -1,0 +1,31 @@
+-- What lines and values are read as.
+use Rattle.std.specs.Prelude.{ℕ, List, length, nat_lt, if◌then◌else◌, Option, None, Result, Ok, Err}
+use Rattle.std.specs.Option.{ok_or}
+use Rattle.std.specs.Str.{is_utf8}
+use Rattle.serde_json.specs.Data.{Data}
+use Rattle.serde_json.specs.Read.{read}
+use Rattle.pn_record.specs.Limits.{is_version}
+use Rattle.pn_record.specs.Checks.{◌>>=◌}
+use Rattle.pn_record.specs.Grammar.{numbers_in, image_in}
+use Rattle.pn_record.specs.declared.image.Image.{Image}
+use Rattle.pn_record.specs.declared.fault.Member.TheVariants.{Version}
+use Rattle.pn_record.specs.declared.fault.ImageFault.{ImageFault}
+use Rattle.pn_record.specs.declared.fault.ImageFault.TheVariants.{TooLong, NotJson, BadShape, OutOfRange}
+
+-- the version that a value spells
+abbrev pub version_in : Data → Result (ℕ × ℕ) ImageFault
+version_in d = do
+  version ← ok_or (numbers_in d) (BadShape Version)
+  if is_version version then Ok version else Err (OutOfRange Version)
+
+-- the value that `serde_json` reads the bytes as, if it reads them
+unfoldable pub reading : List ℕ → Option Data
+reading bytes = if is_utf8 bytes then read bytes else None
+
+-- the value of a line of at most 65,536 bytes
+unfoldable pub value_at : List ℕ → Result Data ImageFault
+value_at line = if nat_lt 65536 (length line) then Err TooLong else ok_or (reading line) NotJson
+
+-- the image of a line
+unfoldable pub image_at : List ℕ → Result Image ImageFault
+image_at line = value_at line >>= image_in

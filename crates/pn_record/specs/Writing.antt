@@ -1,0 +1,31 @@
+-- The JSON values of versions, contents and images.
+use Rattle.std.specs.Prelude.{ℕ, true, List, [], ◌∷◌, codes, Option, Some, None}
+use Rattle.serde_json.specs.Data.{Data, boolean, number, string, array, object, unsigned, no_items, item, Members, no_members, member}
+use Rattle.pn_record.specs.Limits.{Field, Shown}
+use Rattle.pn_record.specs.declared.image.Image.{Image}
+
+-- the two numbers
+abbrev pub version_data : ℕ × ℕ → Data
+version_data version = array (item (number (unsigned version.0)) (item (number (unsigned version.1)) no_items))
+
+-- a member for each field
+abbrev pub fields_data : List Field → Members
+fields_data [] = no_members
+fields_data (field ∷ fields) = member field.0 (string field.1) (fields_data fields)
+
+-- `fields`, or `deleted` for a deletion, before other members
+abbrev pub body_data : Option (List Field) → Members → Members
+body_data None rest = member (codes "deleted") (boolean true) rest
+body_data (Some fields) rest = member (codes "fields") (object (fields_data fields)) rest
+
+-- the body and the master
+abbrev pub content_data : Shown → Data
+content_data shown = object (body_data shown.0 (member (codes "master") (string shown.1) no_members))
+
+-- the body, the key, the master and the version
+abbrev pub image_data : Image → Data
+image_data image =
+    object (body_data image.content.0
+    (member (codes "key") (string image.key)
+    (member (codes "master") (string image.content.1)
+    (member (codes "version") (version_data image.version) no_members))))

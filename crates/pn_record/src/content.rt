@@ -1,0 +1,126 @@
+//! Contents of records: fields or a deletion, and the master.
+
+ghost use Rattle.std.specs.Prelude.{◌≡◌, IsTrue, ◌↔◌, IfSome, IsSome, IfOk, string_bytes, Option, Some, None};
+ghost use Rattle.std.specs.Prelude.{length, map};
+ghost use Rattle.std.specs.Ordering.{is_lt, nat_cmp};
+ghost use Rattle.std.specs.Cmp.Lexicographic.{slice_cmp};
+ghost use Rattle.pn_record.specs.Limits.{is_body, is_body as body_fits, fields_fit as all_fit, is_field as one_fits, names_rise as all_rise};
+ghost use Rattle.pn_record.specs.Showing.{shown_body, shown_field, shown_value};
+
+use pn_join::{Dup, Name, NoMemory};
+use std::marker::Model;
+
+/// The value of a field.
+#[derive(Debug, Drop)]
+pub enum Value {
+    /// At most 4,096 bytes.
+    Text(String),
+}
+
+/// What an image says of its record.
+#[derive(Debug, Drop)]
+pub enum Body {
+    /// The record's fields, by rising names.
+    Fields(Vec<(String, Value)>),
+    /// The record is deleted.
+    Deleted,
+}
+
+/// A body and the name of the record's master. Contents are ordered by body, a deletion before fields
+/// and fields by their list of name and value pairs, and then by master.
+#[derive(Debug, Drop)]
+pub struct Content {
+    pub body: Body,
+    pub master: Name,
+}
+
+impl Model for Content {
+    ghost use Rattle.std.specs.Prelude.{ℕ, List, IsTrue};
+    ghost use Rattle.pn_record.specs.Limits.{Shown, is_content};
+
+    ghost Value = { Shown };
+
+    ghost use Rattle.pn_record.specs.Showing.{shown_body};
+
+    ghost view = { λ content. (shown_body content.body, content.master) };
+
+    ghost invariant = { λ content. IsTrue (is_content (shown_body content.body, content.master)) };
+}
+
+/// The most fields, the longest name and text, and the most that all of them have together, in bytes.
+const MOST_FIELDS: usize = 64;
+const LONGEST_NAME: usize = 64;
+const LONGEST_TEXT: usize = 4_096;
+const MOST_BYTES: usize = 8_192;
+
+impl Content {
+    /// None exactly where a limit is broken, or where the names of the fields do not strictly rise. It takes no memory.
+    pub fn new(body: Body, master: Name) -> Option<Content>
+        ensures made { IfSome result (λ content. content ≡ (shown_body body, master)) }
+        ensures exactly { IsSome result ↔ IsTrue (is_body (shown_body body)) }
+    {
+        let _named = master.as_str();
+        if !is_body(&body) {
+            return None;
+        }
+        Some(Content { body, master })
+    }
+}
+
+fn is_body(body: &Body) -> bool
+    ensures { result ≡ body_fits (shown_body body.now) }
+{
+    match body {
+        Body::Deleted => true,
+        Body::Fields(fields) => fields_fit(fields) && names_rise(fields),
+    }
+}
+
+fn fields_fit(fields: &[(String, Value)]) -> bool
+    ensures { result ≡ all_fit (map shown_field fields.now) }
+{
+    if fields.len() > MOST_FIELDS {
+        return false;
+    }
+    let mut bytes = 0;
+    for field in fields {
+        if !is_field(field) {
+            return false;
+        }
+        bytes += field.0.len() + field.1.len();
+    }
+    bytes <= MOST_BYTES
+}
+
+fn is_field(field: &(String, Value)) -> bool
+    ensures { result ≡ one_fits (shown_field field.now) }
+{
+    1 <= field.0.len() && field.0.len() <= LONGEST_NAME && field.1.len() <= LONGEST_TEXT
+}
+
+fn names_rise(fields: &[(String, Value)]) -> bool
+    ensures { result ≡ all_rise (map shown_field fields.now) }
+{
+    for i in 1..fields.len() {
+        if !is_below(&fields[i - 1], &fields[i]) {
+            return false;
+        }
+    }
+    true
+}
+
+fn is_below(field: &(String, Value), next: &(String, Value)) -> bool
+    ensures { result ≡ is_lt (slice_cmp nat_cmp (shown_field field.now).0 (shown_field next.now).0) }
+{
+    field.0 < next.0
+}
+
+impl Value {
+    fn len(&self) -> usize
+        ensures { result ≡ length (shown_value self.now) }
+    {
+        match self {
+            Value::Text(text) => text.len(),
+        }
+    }
+}

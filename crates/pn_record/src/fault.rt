@@ -1,0 +1,94 @@
+//! Why a text or a value was not taken as an image.
+
+ghost use Rattle.std.specs.Prelude.{◌≡◌};
+ghost use Rattle.pn_record.specs.Words.{word_of};
+ghost use Rattle.pn_record.specs.declared.fault.ImageFault.TheVariants.{Memory};
+
+use pn_join::NoMemory;
+use std::alloc::{AllocError, AllocFailed};
+use std::fmt;
+use thiserror::Error;
+
+/// The part of a value that is at fault.
+#[derive(Clone, Copy, Debug, PartialEq, Eq)]
+pub enum Member {
+    /// The value itself, which is no object.
+    Whole,
+    Deleted,
+    Fields,
+    Key,
+    Master,
+    Version,
+    /// The position of a message.
+    At,
+    /// The image of a message.
+    Image,
+    /// A member by a name that has no meaning there.
+    Other,
+}
+
+/// Why an image was refused.
+#[derive(Clone, Copy, Debug, PartialEq, Eq, Error)]
+pub enum ImageFault {
+    #[error("the line has more than 65,536 bytes")]
+    TooLong,
+    #[error("the line is not JSON")]
+    NotJson,
+    #[error("out of memory")]
+    Memory,
+    /// A member is absent where it is wanted, or of another kind.
+    #[error("bad shape: {0}")]
+    BadShape(Member),
+    /// A member is of the right kind and breaks a limit.
+    #[error("out of range: {0}")]
+    OutOfRange(Member),
+}
+
+impl Member {
+    /// The member's name in lower case.
+    pub fn word(&self) -> &'static str
+        ensures { result.now ≡ word_of self.now }
+    {
+        match self {
+            Member::Whole => "whole",
+            Member::Deleted => "deleted",
+            Member::Fields => "fields",
+            Member::Key => "key",
+            Member::Master => "master",
+            Member::Version => "version",
+            Member::At => "at",
+            Member::Image => "image",
+            Member::Other => "other",
+        }
+    }
+}
+
+impl fmt::Display for Member {
+    fn fmt<W: fmt::Write>(&self, f: &mut fmt::Formatter<W>) -> fmt::Result {
+        f.write_str(self.word())
+    }
+}
+
+impl From<NoMemory> for ImageFault {
+    ghost from_gives = { λ _ fault. fault ≡ Memory };
+
+    fn from(_error: NoMemory) -> ImageFault {
+        ImageFault::Memory
+    }
+}
+
+impl From<AllocError> for ImageFault {
+    ghost from_gives = { λ _ fault. fault ≡ Memory };
+
+    fn from(_error: AllocError) -> ImageFault {
+        ImageFault::Memory
+    }
+}
+
+impl<T: Drop> From<AllocFailed<T>> for ImageFault {
+    ghost from_gives = { λ _ fault. fault ≡ Memory };
+
+    fn from(_error: AllocFailed<T>) -> ImageFault {
+        ImageFault::Memory
+    }
+}

@@ -1,0 +1,11 @@
+//! Images of records, as streams carry them.
+
+use crate::{Content, Key, Version};
+
+/// A full image of a record: what one update made of it.
+#[derive(Debug, Drop)]
+pub struct Image {
+    pub key: Key,
+    pub version: Version,
+    pub content: Content,
+}

@@ -1,0 +1,117 @@
+//! Keys of records.
+
+ghost use Rattle.std.specs.Prelude.{◌≡◌, false, IsTrue, ◌↔◌, IfOk, IsErrOf};
+ghost use Rattle.std.specs.Str.{bytes_eq};
+ghost use Rattle.std.specs.Ordering.{nat_cmp, as_partial_cmp};
+ghost use Rattle.std.specs.Cmp.{partial_order_from_own_ties};
+ghost use Rattle.std.specs.Cmp.Rules.{comparing};
+ghost use Rattle.std.specs.Cmp.Lexicographic.{slice_cmp};
+ghost use Rattle.std.proofs.Common.{rules};
+ghost use Rattle.pn_record.specs.Limits.{is_key};
+
+use pn_join::{Dup, NoMemory};
+use std::alloc::Global;
+use std::cmp::Ordering;
+use std::marker::Model;
+use thiserror::Error;
+
+/// The longest key, in bytes.
+const LONGEST: usize = 256;
+
+/// A record's key: text of 1 to 256 bytes. Keys are ordered by their bytes.
+#[derive(Debug, Drop)]
+pub struct Key {
+    text: String,
+}
+
+/// Why a text was not taken as a key.
+#[derive(Clone, Copy, Debug, PartialEq, Eq, Error)]
+pub enum KeyFault {
+    #[error("a key has 1 to 256 bytes")]
+    OutOfRange,
+    #[error("out of memory")]
+    Memory,
+}
+
+impl Model for Key {
+    ghost use Rattle.std.specs.Prelude.{ℕ, List, IsTrue, string_bytes};
+    ghost use Rattle.pn_record.specs.Limits.{is_key};
+
+    ghost Value = { List ℕ };
+
+    ghost view = { λ key. string_bytes key.text };
+
+    ghost invariant = { λ key. IsTrue (is_key (string_bytes key.text)) };
+}
+
+impl Key {
+    /// Copies the text. `OutOfRange` exactly where it has not 1 to 256 bytes.
+    pub fn of(alloc: Global, text: &str) -> Result<Key, KeyFault>
+        ensures copied { IfOk result (λ key. (key ≡ text.now) × IsTrue (is_key text.now)) }
+        ensures out_of_range { IsErrOf result KeyFault.OutOfRange ↔ (is_key text.now ≡ false) }
+    {
+        if text.is_empty() || text.len() > LONGEST {
+            return Err(KeyFault::OutOfRange);
+        }
+        match String::from_str(alloc, text) {
+            Ok(text) => Ok(Key { text }),
+            Err(_) => Err(KeyFault::Memory),
+        }
+    }
+
+    /// The key as text. It takes no memory.
+    pub fn as_str(&self) -> &str
+        ensures text { result.now ≡ self.now }
+        ensures is_key { IsTrue (is_key self.now) }
+    {
+        self.text.as_str()
+    }
+}
+
+impl Dup for Key {
+    fn dup(&self) -> Result<Key, NoMemory>
+        ensures { IfOk result (λ copy. copy ≡ self.now) }
+    {
+        Ok(Key {
+            text: self.text.clone()?,
+        })
+    }
+}
+
+impl PartialEq for Key {
+    ghost eq = { bytes_eq };
+
+    ghost laws = { Prim.search (comparing, rules) };
+
+    fn eq(&self, other: &Key) -> bool {
+        self.as_str() == other.as_str()
+    }
+}
+
+impl Eq for Key {
+    ghost laws = { Prim.search (comparing, rules) };
+}
+
+impl PartialOrd for Key {
+    ghost partial_cmp = { as_partial_cmp (slice_cmp nat_cmp) };
+
+    ghost laws = { partial_order_from_own_ties (Prim.search (comparing, rules)) (Prim.search (comparing, rules)) };
+
+    fn partial_cmp(&self, other: &Key) -> Option<Ordering> {
+        Some(self.cmp(other))
+    }
+}
+
+impl Ord for Key {
+    ghost cmp = { slice_cmp nat_cmp };
+
+    ghost total = { Prim.search (comparing, rules) };
+
+    ghost matches_partial_cmp = { Prim.search (comparing, rules) };
+
+    ghost matches_eq = { Prim.search (comparing, rules) };
+
+    fn cmp(&self, other: &Key) -> Ordering {
+        self.as_str().cmp(other.as_str())
+    }
+}

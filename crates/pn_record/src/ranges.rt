@@ -1,0 +1,91 @@
+//! The ranges of an image's members, looked at in the parsed value.
+
+ghost use Rattle.std.specs.Prelude.{◌≡◌, unwrap_or, []};
+ghost use Rattle.serde_json.specs.Find.{as_str};
+ghost use Rattle.serde_json.specs.View.{view, members_view};
+ghost use Rattle.pn_record.specs.Limits.{is_key as is_key_text, fields_fit as all_fit};
+ghost use Rattle.pn_record.specs.Grammar.{fields_of, body_fits as body_in_range, ranges_in};
+ghost use Rattle.pn_record.specs.Seen.{seen_fields};
+
+use crate::fault::Member;
+use crate::{Shape, Version};
+use pn_join::Name;
+use serde_json::{Map, Value};
+
+/// The longest key, and the longest name and text of a field, in bytes; the most fields, and the most
+/// bytes that their names and texts have together.
+const LONGEST_KEY: usize = 256;
+
+const LONGEST_NAME: usize = 64;
+
+const LONGEST_TEXT: usize = 4_096;
+
+const MOST_FIELDS: usize = 64;
+
+const MOST_BYTES: usize = 8_192;
+
+impl Shape<'_> {
+    /// The first member that breaks a limit, if one does: the fields, the key, the master, the version.
+    /// It takes no memory.
+    #[tactic(auto, unfolding(crate::specs::Grammar::ranges_in))]
+    pub fn check_ranges(&self) -> Result<(), Member>
+        ensures { result ≡ ranges_in self.now }
+    {
+        if !body_fits(self.fields) {
+            return Err(Member::Fields);
+        }
+        if !is_key(self.key) {
+            return Err(Member::Key);
+        }
+        if Name::read(self.master.as_bytes()).is_err() {
+            return Err(Member::Master);
+        }
+        let (generation, number) = self.version;
+        if Version::new(generation, number).is_none() {
+            return Err(Member::Version);
+        }
+        Ok(())
+    }
+}
+
+fn is_key(text: &str) -> bool
+    ensures { result ≡ is_key_text text.now }
+{
+    !text.is_empty() && text.len() <= LONGEST_KEY
+}
+
+fn body_fits(fields: Option<&Map<String, Value>>) -> bool
+    ensures { result ≡ body_in_range (seen_fields fields.entry) }
+{
+    match fields {
+        None => true,
+        Some(members) => fields_fit(members),
+    }
+}
+
+#[tactic(auto, using(crate::proofs::Fields::fields_count))]
+fn fields_fit(members: &Map<String, Value>) -> bool
+    ensures { result ≡ all_fit (fields_of (members_view members.now.entries)) }
+{
+    if members.len() > MOST_FIELDS {
+        return false;
+    }
+    let mut bytes = 0;
+    for (name, value) in members.iter() {
+        let text = field_text(value);
+        if name.is_empty() || name.len() > LONGEST_NAME || text.len() > LONGEST_TEXT {
+            return false;
+        }
+        bytes += name.len() + text.len();
+        if bytes > MOST_BYTES {
+            return false;
+        }
+    }
+    true
+}
+
+pub(crate) fn field_text(value: &Value) -> &str
+    ensures { result.now ≡ unwrap_or (as_str (view value.now)) [] }
+{
+    value.as_str().unwrap_or("")
+}

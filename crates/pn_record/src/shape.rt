@@ -1,0 +1,152 @@
+//! The shapes of an image's members, looked at in the parsed value.
+
+ghost use Rattle.std.specs.Prelude.{◌≡◌, ◌↔◌, option_map, option_and_then, unwrap_or, [], IsTrue, IfOk, Ok};
+ghost use Rattle.std.specs.Option.{ok_or};
+ghost use Rattle.std.specs.List.{list_any};
+ghost use Rattle.std.specs.Str.{bytes_eq};
+ghost use Rattle.serde_json.specs.Find.{as_str};
+ghost use Rattle.pn_record.specs.Limits.{is_key as is_key_text, fields_fit as all_fit};
+ghost use Rattle.serde_json.specs.View.{view, items_view, members_view};
+ghost use Rattle.pn_record.specs.Grammar.{numbers_in as two_numbers_in, two_numbers, all_texts, only_named, image_members, fields_of, body_fits as body_in_range, deleted_in, fields_in, text_in, shape_in, ranges_in};
+ghost use Rattle.pn_record.specs.Seen.{seen, seen_fields, Shows};
+
+use crate::fault::Member;
+use serde_json::{Map, Value};
+use std::marker::Model;
+
+/// The two whole numbers of an array of two, as a version is written. None where the value is anything else.
+pub fn numbers_of(value: &Value) -> Option<(u64, u64)>
+    ensures { result ≡ two_numbers_in (view value.now) }
+{
+    let items = value.as_array()?;
+    pair_of(items)
+}
+
+fn pair_of(items: &[Value]) -> Option<(u64, u64)>
+    ensures { result ≡ two_numbers (items_view items.now) }
+{
+    let [generation, number] = items else {
+        return None;
+    };
+    Some((generation.as_u64()?, number.as_u64()?))
+}
+
+fn deleted_of(value: Option<&Value>) -> Result<bool, Member>
+    ensures { result ≡ deleted_in (seen value.entry) }
+{
+    match value {
+        None => Ok(false),
+        Some(value) => match value.as_bool() {
+            Some(true) => Ok(true),
+            _ => Err(Member::Deleted),
+        },
+    }
+}
+
+fn text_of<'v>(name: Member, value: Option<&'v Value>) -> Result<&'v str, Member>
+    ensures { Shows (λ text. text.now) result (text_in name (seen value.entry)) }
+{
+    match value {
+        None => Err(name),
+        Some(value) => value.as_str().ok_or(name),
+    }
+}
+
+/// The members of a value that has the shape of an image, borrowed from it: its fields (none for a
+/// deletion), key, master and version, whose ranges are still to be looked at.
+#[derive(Drop)]
+pub struct Shape<'v> {
+    pub(crate) fields: Option<&'v Map<String, Value>>,
+    pub(crate) key: &'v str,
+    pub(crate) master: &'v str,
+    pub(crate) version: (u64, u64),
+}
+
+impl<'v> Model for Shape<'v> {
+    ghost use Rattle.pn_record.specs.declared.image.Image.{Image};
+
+    ghost Value = { Image };
+
+    ghost use Rattle.pn_record.specs.Seen.{seen_fields};
+
+    ghost view = { λ s. record { key = s.key.now; version = s.version; content = (seen_fields s.fields, s.master.now) } };
+}
+
+/// The image whose shape a value has; its texts stay in the value. Otherwise the first member of another
+/// shape. It takes no memory.
+#[tactic(auto, unfolding(crate::specs::Grammar::shape_in))]
+pub fn shape_of(value: &Value) -> Result<Shape<'_>, Member>
+    ensures { result ≡ shape_in (view value.now) }
+{
+    let members = value.as_object().ok_or(Member::Whole)?;
+    let is_deleted = deleted_of(value.get("deleted"))?;
+    let fields = fields_of(is_deleted, value.get("fields"))?;
+    let key = text_of(Member::Key, value.get("key"))?;
+    let master = text_of(Member::Master, value.get("master"))?;
+    let version = version_numbers(value.get("version"))?;
+    if !is_only_named(members) {
+        return Err(Member::Other);
+    }
+    Ok(Shape {
+        fields,
+        key,
+        master,
+        version,
+    })
+}
+
+fn fields_of<'v>(
+    is_deleted: bool,
+    value: Option<&'v Value>,
+) -> Result<Option<&'v Map<String, Value>>, Member>
+    ensures { Shows seen_fields result (fields_in is_deleted (seen value.entry)) }
+{
+    match (is_deleted, value) {
+        (true, None) => Ok(None),
+        (false, Some(value)) => match value.as_object() {
+            Some(members) => {
+                if has_texts_alone(members) {
+                    Ok(Some(members))
+                } else {
+                    Err(Member::Fields)
+                }
+            }
+            None => Err(Member::Fields),
+        },
+        _ => Err(Member::Fields),
+    }
+}
+
+fn version_numbers(value: Option<&Value>) -> Result<(u64, u64), Member>
+    ensures { result ≡ ok_or (option_and_then two_numbers_in (seen value.entry)) Member.Version }
+{
+    value.and_then(numbers_of).ok_or(Member::Version)
+}
+
+fn has_texts_alone(members: &Map<String, Value>) -> bool
+    ensures { result ≡ all_texts (members_view members.now.entries) }
+{
+    for (_, value) in members.iter() {
+        if !value.is_string() {
+            return false;
+        }
+    }
+    true
+}
+
+fn is_only_named(members: &Map<String, Value>) -> bool
+    ensures { result ≡ only_named image_members (members_view members.now.entries) }
+{
+    for (name, _) in members.iter() {
+        if !is_image_member(name.as_str()) {
+            return false;
+        }
+    }
+    true
+}
+
+fn is_image_member(name: &str) -> bool
+    ensures { result ≡ list_any (bytes_eq name.now) image_members }
+{
+    matches!(name, "deleted" | "fields" | "key" | "master" | "version")
+}

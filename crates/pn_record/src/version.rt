@@ -1,0 +1,45 @@
+//! Versions of records.
+
+ghost use Rattle.std.specs.Prelude.{◌≡◌, ◌≤◌, ◌^◌, IsTrue, ◌↔◌, IsSome, IfSome};
+ghost use Rattle.pn_record.specs.Limits.{is_version};
+
+use std::marker::Model;
+
+/// The greatest generation and the greatest number.
+pub const GREATEST: u64 = 1_000_000_000_000_000;
+
+/// Which image of a record this is: a generation, one for each new insert of the record, and a number
+/// within it. Versions are ordered by generation, and then by number.
+#[derive(Clone, Copy, Debug, PartialEq, Eq, PartialOrd, Ord)]
+pub struct Version {
+    /// From 1 to 10^15.
+    pub generation: u64,
+    /// From 0 to 10^15.
+    pub number: u64,
+}
+
+impl Model for Version {
+    ghost use Rattle.std.specs.Prelude.{ℕ, IsTrue};
+    ghost use Rattle.pn_record.specs.Limits.{is_version};
+
+    ghost Value = { ℕ × ℕ };
+
+    ghost view = { λ version. (version.generation, version.number) };
+
+    ghost invariant = { λ version. IsTrue (is_version (version.generation, version.number)) };
+
+    ghost inverse = { λ value. record { generation = value.0; number = value.1 } };
+}
+
+impl Version {
+    /// None where the generation is not from 1 to 10^15, or the number is above 10^15.
+    pub fn new(generation: u64, number: u64) -> Option<Version>
+        ensures made { IfSome result (λ version. version ≡ (generation, number)) }
+        ensures exactly { IsSome result ↔ IsTrue (is_version (generation, number)) }
+    {
+        if generation == 0 || generation > GREATEST || number > GREATEST {
+            return None;
+        }
+        Some(Version { generation, number })
+    }
+}
