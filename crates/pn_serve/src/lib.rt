@@ -1,0 +1,8 @@
+//! Scripts of lines to replies: the commands that lines are, what they do to the records, and their replies.
+#![tactic(auto)]
+
+mod command;
+mod refusal;
+
+pub use command::{Batch, Command};
+pub use refusal::{Part, Refusal};
