@@ -57,7 +57,7 @@ Holds-one image key =
     ]
 
 -- a key below all others is not found
-not_found : (key : List ℕ) (es : Entries) → below_all bytes_cmp key es ≡ true → find bytes_cmp key es ≡ None
+pub not_found : (key : List ℕ) (es : Entries) → below_all bytes_cmp key es ≡ true → find bytes_cmp key es ≡ None
 not_found key [] below = refl
 not_found key (e ∷ es) below =
     let less = is_less _ (first_true (is_lt (bytes_cmp key e.0)) (below_all bytes_cmp key es) below) in
@@ -99,7 +99,7 @@ chosen : (t : Bool) (cell : Celled) (rest : Option Celled) → (t ≡ true → r
 chosen true cell rest none = ap (both (Some cell)) (sym (none refl))
 chosen false cell rest none = refl
 
-tied_keys : (key other : List ℕ) → eq_by_cmp bytes_cmp key other ≡ true → key ≡ other
+pub tied_keys : (key other : List ℕ) → eq_by_cmp bytes_cmp key other ≡ true → key ≡ other
 tied_keys key other tied = exact_bytes key other (elim (bytes_cmp key other) as (λ r. is_eq r ≡ true → r ≡ Equal) [ Less ↦ λ e. cc | Equal ↦ λ e. refl | Greater ↦ λ e. cc ] tied)
 
 -- a table holds the images that spell it

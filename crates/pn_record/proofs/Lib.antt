@@ -1,4 +1,5 @@
 pub mod CellLists
+pub mod CellMaps
 pub mod FieldSteps
 pub mod Fields
 pub mod Gathering

@@ -1,4 +1,5 @@
 pub mod Canonical
+pub mod CellMap
 pub mod Cells
 pub mod Checks
 pub mod Coding
