@@ -1,8 +1,13 @@
 //! Records by key: a table of cells, and what it holds of a list of images.
 
-ghost use Rattle.std.specs.Prelude.{◌≡◌, ◌∷◌, [], ◌++◌, List, OnOk, OnErr};
+ghost use Rattle.std.specs.Prelude.{◌≡◌, ℕ, IsTrue, ◌∷◌, [], ◌++◌, List, OnOk, OnErr};
 ghost use Rattle.pn_record.specs.declared.image.Image.{Image};
 ghost use Rattle.pn_record.specs.Cells.{Holds, spell};
+ghost use Rattle.pn_record.specs.CellMap.{adds};
+ghost use Rattle.pn_record.specs.Order.{bytes_cmp};
+ghost use Rattle.pn_record.specs.Sets.{cell_joined};
+ghost use Rattle.pn_join.specs.Tables.{optional_joined};
+ghost use Rattle.std.specs.FinMap.{find, is_sorted};
 
 use crate::{Cell, Image, Key};
 use pn_join::{Join, NoMemory, Table};
@@ -29,6 +34,10 @@ pub fn take_image(alloc: Global, records: &mut Records, image: Image) -> Result<
 pub fn join_records(records: &mut Records, other: &Records) -> Result<(), NoMemory>
     ensures lists { OnOk result ((taken more : List Image) → Holds records.old taken → Holds other.now more → Holds records.new (taken ++ more)) }
     ensures spelled { OnOk result (Holds records.new (spell records.old ++ spell other.now)) }
+    ensures added { OnOk result ((more : List Image) → Holds other.now more → records.new ≡ adds records.old more) }
+    ensures joined { OnOk result ((key : List ℕ) → find bytes_cmp key records.new
+        ≡ optional_joined cell_joined (find bytes_cmp key records.old) (find bytes_cmp key other.now)) }
+    ensures rising { IsTrue (is_sorted bytes_cmp records.new) × IsTrue (is_sorted bytes_cmp other.now) }
     ensures err { OnErr result (records.new ≡ records.old) }
 {
     records.join_from(other)

@@ -3,6 +3,7 @@
 
 mod command;
 mod refusal;
+pub mod store;
 
 pub use command::{Batch, Command};
 pub use refusal::{Part, Refusal};
