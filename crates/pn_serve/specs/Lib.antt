@@ -1,2 +1,6 @@
-pub mod Asked
 pub mod Answering
+pub mod Asked
+pub mod Commands
+pub mod Ranges
+pub mod Shapes
+pub mod Words

@@ -2,7 +2,10 @@
 #![tactic(auto)]
 
 mod command;
+mod form;
+mod parts;
 mod refusal;
+mod shape;
 
 pub use command::{Batch, Command};
 pub use refusal::{Part, Refusal};
