@@ -1,5 +1,5 @@
 -- The command that a line is, or its first fault: its length, its reading, all shapes, and then the ranges.
-use Rattle.std.specs.Prelude.{ℕ, List, codes, Option, Some, None, option_and_then, Result, Ok, Err}
+use Rattle.std.specs.Prelude.{ℕ, Bool, true, false, if◌then◌else◌, List, codes, Option, Some, None, option_and_then, Result, Ok, Err}
 use Rattle.std.specs.Option.{ok_or}
 use Rattle.serde_json.specs.Data.{Data, object, Members, no_members, member}
 use Rattle.serde_json.specs.Find.{get, as_str, as_array, as_object}
@@ -28,14 +28,14 @@ deliver_in members d = do
   fit ← batches_fit batches
   Ok (deliver batches)
 
--- no members
-abbrev pub none_in : Members → Option (Unit {0})
-none_in no_members = Some tt
-none_in (member name d ms) = None
+-- there are no members
+abbrev pub is_empty : Members → Bool
+is_empty no_members = true
+is_empty (member name d ms) = false
 
 -- a query, which has no members as yet
 abbrev pub query_in : Data → Option (Unit {0})
-query_in d = option_and_then none_in (as_object d)
+query_in d = option_and_then (λ members. if is_empty members then Some tt else None) (as_object d)
 
 -- a `scan` command
 unfoldable pub scan_in : Members → Data → Result Asked Refusal
