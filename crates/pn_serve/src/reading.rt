@@ -68,7 +68,11 @@ fn word_of(value: Option<&Value>) -> Result<Word, Refusal>
 }
 
 #[tactic(auto, unfolding(crate::specs::Commands::deliver_in))]
-fn deliver_of(alloc: Global, members: &Map<String, Value>, value: &Value) -> Result<Command, Refusal>
+fn deliver_of(
+    alloc: Global,
+    members: &Map<String, Value>,
+    value: &Value,
+) -> Result<Command, Refusal>
     ensures { AnswersAs asked result (deliver_in (members_view members.now.entries) (view value.now)) }
 {
     let items = items_of(Part::Batches, value.get("batches"))?;
@@ -107,3 +111,6 @@ fn is_empty(members: &Map<String, Value>) -> bool
 {
     members.is_empty()
 }
+
+#[cfg(test)]
+mod tests;
