@@ -5,3 +5,7 @@ pub mod Commands
 pub mod Machine
 pub mod Replies
 pub mod Script
+pub mod Commands
+pub mod Ranges
+pub mod Shapes
+pub mod Words
