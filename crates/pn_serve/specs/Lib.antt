@@ -1,2 +1,5 @@
 pub mod Asked
 pub mod Answering
+pub mod Replies
+pub mod Rows
+pub mod Tokens
