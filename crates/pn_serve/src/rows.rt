@@ -1,14 +1,12 @@
 //! Records as rows of JSON, written straight into the text of a reply.
 
-ghost use Rattle.std.specs.Prelude.{◌≡◌, [], ◌∷◌, map, IsTrue, IfOk, OnOk, option_to_list, slice_get};
-ghost use Rattle.std.specs.FinMap.{keys};
-ghost use Rattle.serde_json.specs.Data.{string, object};
-ghost use Rattle.json.specs.Token.{begin_array};
-ghost use Rattle.pn_record.specs.States.{state_of};
-ghost use Rattle.pn_record.specs.Showing.{shown_field, shown_value};
-ghost use Rattle.pn_record.specs.Writing.{version_data, fields_data, content_data};
+ghost use Rattle.std.specs.Prelude.{◌≡◌, [], ◌∷◌, map, IfOk, OnOk, option_to_list, slice_get};
+ghost use Rattle.serde_json.specs.View.{items_of};
+ghost use Rattle.serde_json.specs.Data.{array, object};
+ghost use Rattle.pn_record.specs.Showing.{shown_field, shown_body};
+ghost use Rattle.pn_record.specs.Writing.{version_data, content_data, fields_data};
 ghost use Rattle.pn_serve.specs.Rows.{has_fields as with_fields, is_shown as shows, state_word as word_of_state, row_data, shown_rows, scan_data, line_of};
-ghost use Rattle.pn_serve.specs.Tokens.{Appends, field_tokens, value_tokens, values_tokens};
+ghost use Rattle.pn_serve.specs.Tokens.{Appends, body_tokens, field_tokens, value_tokens, values_tokens};
 
 use json::Writer;
 use pn_join::NoMemory;
@@ -37,30 +35,40 @@ fn write_scan(writer: &mut Writer, records: &Records) -> Result<(), NoMemory>
     writer.key("next")?;
     writer.null()?;
     writer.key("rows")?;
-    writer.begin_array()?;
     write_rows(writer, records)?;
-    writer.end_array()?;
     writer.end_object()?;
     Ok(())
 }
 
 fn write_rows(writer: &mut Writer, records: &Records) -> Result<(), NoMemory>
-    ensures { OnOk result (Appends writer.old writer.new (values_tokens (map row_data (shown_rows records.now)))) }
+    ensures { OnOk result (Appends writer.old writer.new
+        (value_tokens (array (items_of (map row_data (shown_rows records.now)))))) }
 {
+    writer.begin_array()?;
     for place in 0..records.len() {
         write_row_at(writer, records, place)?;
     }
+    writer.end_array()?;
     Ok(())
 }
 
+// Nothing where the entry is not shown, or there is none.
 fn write_row_at(writer: &mut Writer, records: &Records, place: usize) -> Result<(), NoMemory>
     ensures { OnOk result (Appends writer.old writer.new (values_tokens (map row_data
         (shown_rows (option_to_list (slice_get records.now place)))))) }
 {
-    if let Some((key, cell)) = records.entry_at(place) {
-        if is_shown(cell) {
-            write_row(writer, key, cell)?;
-        }
+    match records.entry_at(place) {
+        Some((key, cell)) => write_if_shown(writer, key, cell),
+        None => Ok(()),
+    }
+}
+
+fn write_if_shown(writer: &mut Writer, key: &Key, cell: &Cell) -> Result<(), NoMemory>
+    ensures { OnOk result (Appends writer.old writer.new (values_tokens (map row_data
+        (shown_rows ((key.now, cell.now) ∷ []))))) }
+{
+    if is_shown(cell) {
+        write_row(writer, key, cell)?;
     }
     Ok(())
 }
@@ -82,9 +90,7 @@ fn write_row(writer: &mut Writer, key: &Key, cell: &Cell) -> Result<(), NoMemory
 {
     writer.begin_object()?;
     writer.key("contents")?;
-    writer.begin_array()?;
     write_contents(writer, cell.contents())?;
-    writer.end_array()?;
     writer.key("key")?;
     writer.string(key.as_str())?;
     writer.key("state")?;
@@ -116,11 +122,14 @@ fn write_version(writer: &mut Writer, version: Version) -> Result<(), NoMemory>
 }
 
 fn write_contents(writer: &mut Writer, contents: &[Content]) -> Result<(), NoMemory>
-    ensures { OnOk result (Appends writer.old writer.new (values_tokens (map content_data contents.now))) }
+    ensures { OnOk result (Appends writer.old writer.new
+        (value_tokens (array (items_of (map content_data contents.now))))) }
 {
+    writer.begin_array()?;
     for content in contents {
         write_content(writer, content)?;
     }
+    writer.end_array()?;
     Ok(())
 }
 
@@ -128,7 +137,17 @@ fn write_content(writer: &mut Writer, content: &Content) -> Result<(), NoMemory>
     ensures { OnOk result (Appends writer.old writer.new (value_tokens (content_data content.now))) }
 {
     writer.begin_object()?;
-    match &content.body {
+    write_body(writer, &content.body)?;
+    writer.key("master")?;
+    writer.string(content.master.as_str())?;
+    writer.end_object()?;
+    Ok(())
+}
+
+fn write_body(writer: &mut Writer, body: &Body) -> Result<(), NoMemory>
+    ensures { OnOk result (Appends writer.old writer.new (body_tokens (shown_body body.now))) }
+{
+    match body {
         Body::Deleted => {
             writer.key("deleted")?;
             writer.boolean(true)?;
@@ -138,9 +157,6 @@ fn write_content(writer: &mut Writer, content: &Content) -> Result<(), NoMemory>
             write_fields(writer, fields)?;
         }
     }
-    writer.key("master")?;
-    writer.string(content.master.as_str())?;
-    writer.end_object()?;
     Ok(())
 }
 

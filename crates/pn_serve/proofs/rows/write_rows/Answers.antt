@@ -1,0 +1,16 @@
+-- The row of one entry more is written where it is shown, and at the end all.
+use Rattle.std.proofs.Common.{map, ap}
+use Rattle.std.proofs.lemmas.List.{take_all}
+use Rattle.pn_serve.specs.Rows.{row_data, shown_rows}
+use Rattle.pn_serve.specs.Tokens.{values_tokens}
+use Rattle.pn_serve.proofs.RowTokens.{appends_none, appends_token, appends_both, appends_as, whole_array, one_more_row}
+use Rattle.pn_serve.proofs.rows.write_rows.Goals as goal
+
+pub loop-place-init : goal.loop-place-init
+loop-place-init c = appends_none _
+
+pub loop-place-preserved : goal.loop-place-preserved
+loop-place-preserved c = appends_as (one_more_row c.args.records.now c.loop-place.place) (appends_both c.loop-place.invariant c.in_ok-write_row_at.ensures)
+
+pub returns : goal.returns
+returns c = ?
