@@ -27,7 +27,7 @@ appends_token w = record { before = w.room.0; tokens = w.ok }
 pub appends_both : {a b c : Written} {ts us : List Token} → Appends a b ts → Appends b c us → Appends a c (ts ++ us)
 appends_both {a} {b} {c} {ts} {us} first then = record {
   before = then.before ∙ first.before;
-  tokens = then.tokens ∙ ap (λ l. l ++ us) first.tokens ∙ append_assoc a.tokens ts us
+  tokens = then.tokens ∙ ap (λ l. l ++ us) first.tokens ∙ append_assoc a.tokens ts us;
 }
 
 pub appends_as : {a b : Written} {ts us : List Token} → ts ≡ us → Appends a b ts → Appends a b us

@@ -28,6 +28,7 @@ pub fn scan_reply(alloc: Global, records: &Records) -> Result<Vec<u8>, NoMemory>
     Ok(text)
 }
 
+#[tactic(auto, unfolding(crate::specs::Rows::scan_data))]
 fn write_scan(writer: &mut Writer, records: &Records) -> Result<(), NoMemory>
     ensures { OnOk result (Appends writer.old writer.new (value_tokens (scan_data records.now))) }
 {
@@ -91,10 +92,8 @@ fn write_row(writer: &mut Writer, key: &Key, cell: &Cell) -> Result<(), NoMemory
     writer.begin_object()?;
     writer.key("contents")?;
     write_contents(writer, cell.contents())?;
-    writer.key("key")?;
-    writer.string(key.as_str())?;
-    writer.key("state")?;
-    writer.string(state_word(cell.state()))?;
+    write_text(writer, "key", key.as_str())?;
+    write_text(writer, "state", state_word(cell.state()))?;
     writer.key("version")?;
     write_version(writer, cell.version())?;
     writer.end_object()?;
@@ -138,8 +137,7 @@ fn write_content(writer: &mut Writer, content: &Content) -> Result<(), NoMemory>
 {
     writer.begin_object()?;
     write_body(writer, &content.body)?;
-    writer.key("master")?;
-    writer.string(content.master.as_str())?;
+    write_text(writer, "master", content.master.as_str())?;
     writer.end_object()?;
     Ok(())
 }
@@ -174,10 +172,16 @@ fn write_fields(writer: &mut Writer, fields: &[(String, Value)]) -> Result<(), N
 fn write_field(writer: &mut Writer, field: &(String, Value)) -> Result<(), NoMemory>
     ensures { OnOk result (Appends writer.old writer.new (field_tokens (shown_field field.now))) }
 {
-    let (name, value) = field;
-    writer.key(name.as_str())?;
-    match value {
-        Value::Text(text) => writer.string(text.as_str())?,
+    match &field.1 {
+        Value::Text(text) => write_text(writer, field.0.as_str(), text.as_str()),
     }
+}
+
+// A member whose value is a text.
+fn write_text(writer: &mut Writer, name: &str, text: &str) -> Result<(), NoMemory>
+    ensures { OnOk result (Appends writer.old writer.new (field_tokens (name.now, text.now))) }
+{
+    writer.key(name)?;
+    writer.string(text)?;
     Ok(())
 }

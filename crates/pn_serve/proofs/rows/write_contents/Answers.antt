@@ -12,7 +12,7 @@ loop-content-init c = appends_none _
 pub loop-content-preserved : goal.loop-content-preserved
 loop-content-preserved c =
     appends_as (one_more content_data value_tokens c.args.contents.now c.loop-content.content-index c.content-item.result c.content-item.is c.loop-content-test.true)
-      (appends_both c.loop-content.invariant c.in_ok-write_content.ensures)
+    (appends_both c.loop-content.invariant c.in_ok-write_content.ensures)
 
 pub returns : goal.returns
 returns c =

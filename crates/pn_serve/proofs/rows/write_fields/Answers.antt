@@ -13,7 +13,7 @@ loop-field-init c = appends_none _
 pub loop-field-preserved : goal.loop-field-preserved
 loop-field-preserved c =
     appends_as (one_more shown_field field_tokens c.args.fields.now c.loop-field.field-index c.field-item.result c.field-item.is c.loop-field-test.true)
-      (appends_both c.loop-field.invariant c.in_ok-write_field.ensures)
+    (appends_both c.loop-field.invariant c.in_ok-write_field.ensures)
 
 pub returns : goal.returns
 returns c =
