@@ -5,8 +5,10 @@ mod command;
 mod refusal;
 mod replies;
 mod rows;
+mod scan;
+mod words;
 
 pub use command::{Batch, Command};
 pub use refusal::{Part, Refusal};
 pub use replies::{ShortReply, changed_reply, refusal_reply};
-pub use rows::scan_reply;
+pub use scan::scan_reply;

@@ -2,9 +2,9 @@
 
 ghost use Rattle.std.specs.Prelude.{◌≡◌, ◌+◌, ◌≤◌, [], ◌++◌, length};
 ghost use Rattle.pn_serve.specs.Rows.{line_of};
-ghost use Rattle.pn_serve.specs.Replies.{part_word, refusal_data, changed_data};
+ghost use Rattle.pn_serve.specs.Replies.{refusal_data, changed_data};
 
-use crate::{Part, Refusal};
+use crate::Refusal;
 use std::marker::Model;
 
 /// The most bytes of a short reply.
@@ -88,23 +88,4 @@ pub fn changed_reply(count: u64) -> ShortReply
     reply.push(itoa::Buffer::new().format(count));
     reply.push("}\n");
     reply
-}
-
-impl Part {
-    /// The part's name in lower case; of a part of an image, the name of its member.
-    pub fn word(&self) -> &'static str
-        ensures { result.now ≡ part_word self.now }
-    {
-        match self {
-            Part::Whole => "whole",
-            Part::Do => "do",
-            Part::Batches => "batches",
-            Part::First => "first",
-            Part::Images => "images",
-            Part::Stream => "stream",
-            Part::Query => "query",
-            Part::Other => "other",
-            Part::Image(member) => member.word(),
-        }
-    }
 }

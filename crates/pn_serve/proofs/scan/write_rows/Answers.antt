@@ -4,7 +4,7 @@ use Rattle.std.proofs.lemmas.List.{take_all}
 use Rattle.pn_serve.specs.Rows.{row_data, shown_rows}
 use Rattle.pn_serve.specs.Tokens.{values_tokens}
 use Rattle.pn_serve.proofs.RowTokens.{appends_none, appends_token, appends_both, appends_as, whole_array, one_more_row}
-use Rattle.pn_serve.proofs.rows.write_rows.Goals as goal
+use Rattle.pn_serve.proofs.scan.write_rows.Goals as goal
 
 pub loop-place-init : goal.loop-place-init
 loop-place-init c = appends_none _

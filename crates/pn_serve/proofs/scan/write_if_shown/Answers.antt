@@ -2,7 +2,7 @@
 use Rattle.std.proofs.Common.{◌≡◌, true, sym, ◌∙◌, append-nil}
 use Rattle.pn_serve.specs.Rows.{is_shown}
 use Rattle.pn_serve.proofs.RowTokens.{appends_as}
-use Rattle.pn_serve.proofs.rows.write_if_shown.Goals as goal
+use Rattle.pn_serve.proofs.scan.write_if_shown.Goals as goal
 
 pub returns-in_ok-write_row : goal.returns-in_ok-write_row
 returns-in_ok-write_row c =

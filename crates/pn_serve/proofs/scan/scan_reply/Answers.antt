@@ -4,7 +4,7 @@ use Rattle.json.specs.Print.{print}
 use Rattle.serde_json.proofs.Texts.{print-outline}
 use Rattle.pn_serve.specs.Rows.{scan_data, line_of}
 use Rattle.pn_serve.specs.Tokens.{value_tokens}
-use Rattle.pn_serve.proofs.rows.scan_reply.Goals as goal
+use Rattle.pn_serve.proofs.scan.scan_reply.Goals as goal
 
 pub returns : goal.returns
 unfolding line_of
