@@ -4,6 +4,8 @@
 mod command;
 mod refusal;
 mod replies;
+#[cfg(test)]
+mod reply_tests;
 mod rows;
 mod scan;
 mod words;
