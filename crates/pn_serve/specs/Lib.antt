@@ -9,3 +9,6 @@ pub mod Commands
 pub mod Ranges
 pub mod Shapes
 pub mod Words
+pub mod Replies
+pub mod Rows
+pub mod Tokens

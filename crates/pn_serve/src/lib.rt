@@ -10,7 +10,15 @@ mod reading;
 mod refusal;
 pub mod store;
 mod shape;
+mod replies;
+#[cfg(test)]
+mod reply_tests;
+mod rows;
+mod scan;
+mod words;
 
 pub use command::{Batch, Command};
 pub use reading::command_of;
 pub use refusal::{Part, Refusal};
+pub use replies::{ShortReply, changed_reply, refusal_reply};
+pub use scan::scan_reply;
