@@ -6,3 +6,4 @@ pub mod LookUps
 pub mod ShapeParts
 pub mod SameImage
 pub mod Limiting
+pub mod ImageLines
