@@ -53,7 +53,7 @@ image_holds image = record {
   key = behind (codes "key") image.content.0 _ refl refl;
   master = behind (codes "master") image.content.0 _ refl refl;
   version = behind (codes "version") image.content.0 _ refl refl;
-  others = no_others image image.content.0
+  others = no_others image image.content.0;
 }
 
 at_name : (q name : List ℕ) (ms ns : Members) (o : Option Data) → get_member name ms ≡ o → get_member name ns ≡ o → bytes_eq q name ≡ true → get_member q ms ≡ get_member q ns

@@ -79,5 +79,5 @@ holds ms image is =
       key = text_ok Key _ key.0 key.1;
       master = text_ok Master _ master.0 master.1;
       version = version_ok _ version.0 version.1;
-      others = whole.0
+      others = whole.0;
     })

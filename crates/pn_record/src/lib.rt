@@ -18,4 +18,4 @@ pub use key::{Key, KeyFault};
 pub use read::{image_of, read_image, read_value, version_of};
 pub use shape::{Shape, numbers_of, shape_of};
 pub use version::Version;
-pub use write::{content_value, version_value};
+pub use write::{content_value, image_value, version_value, write_image};
