@@ -7,3 +7,5 @@ pub mod ShapeParts
 pub mod SameImage
 pub mod Limiting
 pub mod ImageLines
+pub mod ImageText
+pub mod Written

@@ -1,13 +1,13 @@
 //! Versions, contents and images as JSON.
 
-ghost use Rattle.std.specs.Prelude.{◌≡◌, ◌<◌, length, codes, map, Ok, IfOk, IsTrue, string_bytes};
+ghost use Rattle.std.specs.Prelude.{◌≡◌, ◌<◌, length, codes, map, Ok, IfOk, OnOk, IsTrue, string_bytes};
 ghost use Rattle.serde_json.specs.Data.{object, string, member, no_members};
 ghost use Rattle.serde_json.specs.View.{view};
 ghost use Rattle.serde_json.specs.Written.{compact_text};
-ghost use Rattle.pn_record.specs.Limits.{names_rise};
+ghost use Rattle.pn_record.specs.Limits.{names_rise, is_version, is_content};
 ghost use Rattle.pn_record.specs.Showing.{shown_field, shown_value};
 ghost use Rattle.pn_record.specs.Reading.{image_at};
-ghost use Rattle.pn_record.specs.Canonical.{IsImageLine};
+ghost use Rattle.pn_record.specs.Canonical.{is_image, IsImageLine};
 ghost use Rattle.pn_record.specs.Writing.{version_data, fields_data, content_data, image_data};
 
 use crate::content::Value as FieldValue;
@@ -18,7 +18,8 @@ use std::alloc::Global;
 
 /// The version as JSON: `[generation,number]`.
 pub fn version_value(alloc: Global, version: Version) -> Result<Value, NoMemory>
-    ensures { IfOk result (λ value. view value ≡ version_data version) }
+    ensures value { IfOk result (λ value. view value ≡ version_data version) }
+    ensures limits { IsTrue (is_version version) }
 {
     Ok(json!(in alloc; [version.generation, version.number])?)
 }
@@ -40,7 +41,8 @@ pub fn content_value(alloc: Global, content: &Content) -> Result<Value, NoMemory
 /// The image as JSON: `{"fields":{..},"key":K,"master":N,"version":V}`, or `"deleted":true` in place of
 /// the fields.
 pub fn image_value(alloc: Global, image: &Image) -> Result<Value, NoMemory>
-    ensures { IfOk result (λ value. view value ≡ image_data image.now) }
+    ensures value { IfOk result (λ value. view value ≡ image_data image.now) }
+    ensures limits { OnOk result (IsTrue (is_image image.now)) }
 {
     members_value(alloc, image.key.as_str(), image.version, &image.content)
 }
@@ -51,8 +53,9 @@ fn members_value(
     version: Version,
     content: &Content,
 ) -> Result<Value, NoMemory>
-    ensures { IfOk result
+    ensures value { IfOk result
         (λ value. view value ≡ image_data (record { key = key.now; version = version; content = content.now })) }
+    ensures limits { OnOk result (IsTrue (is_version version) × IsTrue (is_content content.now)) }
 {
     let version = version_value(alloc, version)?;
     let master = content.master.as_str();
