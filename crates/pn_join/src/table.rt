@@ -9,6 +9,8 @@ ghost use Rattle.pn_join.specs.Places.{place_of};
 ghost use Rattle.pn_join.specs.Changes.{IsJoinOf};
 
 mod changes;
+#[cfg(test)]
+mod tests;
 
 use crate::{Dup, Join, NoMemory};
 use changes::{Changes, Placed, put_in};
@@ -161,6 +163,7 @@ impl<K: Ord + Dup, C: Join> Join for Table<K, C> {
     ghost laws = { key_by_key-laws C.laws };
 
     fn join_from(&mut self, other: &Self) -> Result<(), NoMemory> {
+        // Only a table that has been looked into is known to be one.
         let _ = &self.entries;
         if let [(key, content)] = other.entries.as_slice() {
             return self.join_entry(key.dup()?, content.dup()?);
