@@ -1,1 +1,12 @@
+pub mod ChangeSteps
+pub mod ChangesSoFar
+pub mod Each
+pub mod Gaps
+pub mod JoinSteps
+pub mod Merging
 pub mod NameText
+pub mod PlaceSearch
+pub mod Places
+pub mod Puts
+pub mod Rising
+pub mod WithContents

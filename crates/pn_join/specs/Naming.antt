@@ -1,5 +1,5 @@
 -- Which bytes are a name.
-use Rattle.std.specs.Prelude.{ℕ, ◌≤◌, Bool, ◌&&◌, ◌||◌, nat_le, ◌==◌, List, length, IsTrue}
+use Rattle.std.specs.Prelude.{ℕ, Bool, ◌&&◌, ◌||◌, nat_le, ◌==◌, List, length}
 use Rattle.std.specs.List.{list_all}
 
 -- `a` to `z`, `0` to `9`, or `-`

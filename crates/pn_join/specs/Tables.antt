@@ -1,5 +1,5 @@
 -- A table as the list of its entries, and what it has at each key.
-use Rattle.std.specs.Prelude.{◌≡◌, ℕ, List, ◌∷◌, [], Option, Some, None, option_map, IsTrue}
+use Rattle.std.specs.Prelude.{List, Option, Some, None, option_map, IsTrue}
 use Rattle.std.specs.declared.cmp.Ordering.{Ordering}
 use Rattle.std.specs.List.{AllByRecursion}
 use Rattle.std.specs.FinMap.{find, is_sorted}

@@ -1,7 +1,16 @@
--- What of some bytes went out to a writer.
+-- What of some bytes went out to a writer, and what of them waits.
 use Rattle.std.specs.Prelude.{◌≡◌, ℕ, List, ◌++◌, Option}
 use Rattle.std.specs.Io.KnownBytes.{Appends}
 
 -- a front of these bytes went out, and the writer took no other byte
-abbrev pub AppendsFront : Option (List ℕ) → Option (List ℕ) → List ℕ → Type 0
-AppendsFront old new bs = (sent : List ℕ) × (back : List ℕ) × Appends old new sent × (sent ++ back ≡ bs)
+pub record AppendsFront (old new : Option (List ℕ)) (bs : List ℕ) : Type 0 where
+  pub sent : List ℕ
+  pub back : List ℕ
+  pub appends : Appends old new sent
+  pub whole : sent ++ back ≡ bs
+
+-- of the bytes that waited and then these bytes a front went out, and the rest waits now
+pub record Sends (old new : Option (List ℕ)) (waited waits bs : List ℕ) : Type 0 where
+  pub sent : List ℕ
+  pub appends : Appends old new sent
+  pub whole : sent ++ waits ≡ waited ++ bs

@@ -1,6 +1,20 @@
 //! Bounded lines from any buffered reader, and a write loop that says how much went out.
 #![tactic(auto)]
 
+mod in_memory;
+mod line_buffer;
+mod outbox;
+mod piece;
+mod reading;
+mod source;
+#[cfg(test)]
+mod tests;
 mod writing;
 
+pub use in_memory::InMemory;
+pub use line_buffer::{ENDLESS, LONGEST_LINE, LineBuffer, MOST_KEPT};
+pub use outbox::{OUTBOX_ROOM, Outbox};
+pub use piece::Piece;
+pub use reading::{LineEnd, read_line};
+pub use source::Source;
 pub use writing::{WriteFault, write_all_of};

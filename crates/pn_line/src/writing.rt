@@ -1,5 +1,5 @@
 //! A write loop of our own, which says how much of the bytes went out where a write failed.
-ghost use Rattle.std.specs.Prelude.{OnOk, OnErr};
+ghost use Rattle.std.specs.Prelude.{◌≡◌, length, IsOk, OnOk, OnErr};
 ghost use Rattle.std.specs.Io.KnownBytes.{Appends};
 ghost use Rattle.pn_line.specs.Sent.{AppendsFront};
 
@@ -34,6 +34,7 @@ pub fn write_all_of<W: Write>(writer: &mut W, bytes: &[u8]) -> Result<(), WriteF
     ensures ok { OnOk result (Appends (W.contents writer.old) (W.contents writer.new) bytes.now) }
     ensures err { OnErr result
         (AppendsFront (W.contents writer.old) (W.contents writer.new) bytes.now) }
+    ensures nothing { length bytes.now ≡ 0 → IsOk result }
 {
     let mut rest = bytes;
     while !rest.is_empty() {

@@ -2,6 +2,8 @@
 
 ghost use Rattle.std.specs.Prelude.{◌≡◌, IsTrue, ◌↔◌, IfSome, IsSome, IfOk, string_bytes, Option, Some, None};
 ghost use Rattle.std.specs.Prelude.{length, map};
+ghost use Rattle.std.specs.Ordering.{is_lt, nat_cmp};
+ghost use Rattle.std.specs.Cmp.Lexicographic.{slice_cmp};
 ghost use Rattle.pn_record.specs.Limits.{is_body, is_body as body_fits, fields_fit as all_fit, is_field as one_fits, names_rise as all_rise};
 ghost use Rattle.pn_record.specs.Showing.{shown_body, shown_field, shown_value};
 
@@ -100,11 +102,17 @@ fn names_rise(fields: &[(String, Value)]) -> bool
     ensures { result ≡ all_rise (map shown_field fields.now) }
 {
     for i in 1..fields.len() {
-        if fields[i - 1].0 >= fields[i].0 {
+        if !is_below(&fields[i - 1], &fields[i]) {
             return false;
         }
     }
     true
+}
+
+fn is_below(field: &(String, Value), next: &(String, Value)) -> bool
+    ensures { result ≡ is_lt (slice_cmp nat_cmp (shown_field field.now).0 (shown_field next.now).0) }
+{
+    field.0 < next.0
 }
 
 impl Value {

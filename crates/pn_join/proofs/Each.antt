@@ -1,0 +1,31 @@
+-- What holds of each element of a list, by recursion on it.
+use Rattle.std.proofs.Common.{List, [], ◌∷◌, ◌++◌}
+use Rattle.std.specs.List.{AllByRecursion}
+
+module _ {A : Type 0} (P : A → Type 0) where
+  pub each_of : ((x : A) → P x) → (xs : List A) → AllByRecursion P xs
+  each_of h [] = tt
+  each_of h (x ∷ xs) = (h x, each_of h xs)
+
+  pub each_front : (xs ys : List A) → AllByRecursion P (xs ++ ys) → AllByRecursion P xs
+  each_front [] ys h = tt
+  each_front (x ∷ xs) ys h = (h.0, each_front xs ys h.1)
+
+  pub each_back : (xs ys : List A) → AllByRecursion P (xs ++ ys) → AllByRecursion P ys
+  each_back [] ys h = h
+  each_back (x ∷ xs) ys h = each_back xs ys h.1
+
+  pub each_append : (xs ys : List A) → AllByRecursion P xs → AllByRecursion P ys → AllByRecursion P (xs ++ ys)
+  each_append [] ys h g = g
+  each_append (x ∷ xs) ys h g = (h.0, each_append xs ys h.1 g)
+
+  pub each_weaker : (Q : A → Type 0) → ((x : A) → P x → Q x) → (xs : List A) → AllByRecursion P xs → AllByRecursion Q xs
+  each_weaker Q f [] h = tt
+  each_weaker Q f (x ∷ xs) h = (f x h.0, each_weaker Q f xs h.1)
+
+  pub each_by_both : (Q R : A → Type 0) → ((x : A) → P x → Q x → R x) → (xs : List A) → AllByRecursion P xs → AllByRecursion Q xs → AllByRecursion R xs
+  each_by_both Q R f [] h g = tt
+  each_by_both Q R f (x ∷ xs) h g = (f x h.0 g.0, each_by_both Q R f xs h.1 g.1)
+
+  pub each_last : (xs : List A) (y : A) → AllByRecursion P (xs ++ y ∷ []) → P y
+  each_last xs y h = (each_back xs (y ∷ []) h).0

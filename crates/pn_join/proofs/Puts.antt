@@ -1,0 +1,63 @@
+-- What a table has after an entry is put in.
+use Rattle.std.proofs.Common.{◌≡◌, Bool, true, false, cond, T, List, [], ◌∷◌, map, Option, Some, None, option_map, Ordering, Less, Equal, Greater, is_eq, refl, sym, ap, ◌∙◌, subst}
+use Rattle.std.specs.List.{AllByRecursion}
+use Rattle.std.specs.Ordering.{eq_by_cmp}
+use Rattle.std.specs.Cmp.{IsTotalOrder}
+use Rattle.std.specs.FinMap.{find, put}
+use Rattle.std.specs.FinMap.Entries.{by_order, find-put, find_tied, is_sorted-put}
+use Rattle.pn_join.specs.Changes.{with_entries}
+use Rattle.pn_join.specs.Tables.{IsTable, contents_at, optional_joined, key_by_key}
+
+is_so : (b : Bool) → T b → b ≡ true
+is_so true h = refl
+is_so false h = absurd h
+
+pub tie : (r : Ordering) → is_eq r ≡ true → r ≡ Equal
+tie Less p = cc
+tie Equal p = refl
+tie Greater p = cc
+
+module _ {K X : Type 0} (cmp : K → K → Ordering) where
+  pub keys_put : (key : K) (v w : X) (es : List (K × X)) → map (λ e. e.0) (put cmp key v es) ≡ map (λ e. e.0) (put cmp key w es)
+  keys_put key v w [] = refl
+  keys_put key v w (e ∷ es) =
+      elim (cmp key e.0) as (λ r. map (λ x. x.0) (by_order r ((key, v) ∷ e ∷ es) ((e.0, v) ∷ es) (e ∷ put cmp key v es)) ≡ map (λ x. x.0) (by_order r ((key, w) ∷ e ∷ es) ((e.0, w) ∷ es) (e ∷ put cmp key w es))) [
+        | Less ↦ refl
+        | Equal ↦ refl
+        | Greater ↦ ap (λ ks. e.0 ∷ ks) (keys_put key v w es)
+      ]
+
+  contents_put : (valid : X → Type 0) (key : K) (v : X) (es : List (K × X)) → valid v → AllByRecursion (λ e. valid e.1) es → AllByRecursion (λ e. valid e.1) (put cmp key v es)
+  contents_put valid key v [] is h = (is, tt)
+  contents_put valid key v (e ∷ es) is h =
+      elim (cmp key e.0) as (λ r. AllByRecursion (λ x. valid x.1) (by_order r ((key, v) ∷ e ∷ es) ((e.0, v) ∷ es) (e ∷ put cmp key v es))) [
+        | Less ↦ (is, h)
+        | Equal ↦ (is, h.1)
+        | Greater ↦ (h.0, contents_put valid key v es is h.1)
+      ]
+
+  module _ (o : IsTotalOrder cmp) where
+    pub IsTable-put : (valid : X → Type 0) (key : K) (v : X) (es : List (K × X)) → valid v → IsTable cmp valid es → IsTable cmp valid (put cmp key v es)
+    IsTable-put valid key v es is h = record {
+      rising = is_so _ (is_sorted-put cmp o key v es (subst T (sym h.rising) tt));
+      contents = contents_put valid key v es is h.contents;
+    }
+
+    pub IsTable-with_entries : (valid : X → Type 0) (added es : List (K × X)) → AllByRecursion (λ e. valid e.1) added → IsTable cmp valid es → IsTable cmp valid (with_entries cmp added es)
+    IsTable-with_entries valid [] es are h = h
+    IsTable-with_entries valid (a ∷ added) es are h = IsTable-put valid a.0 a.1 (with_entries cmp added es) are.0 (IsTable-with_entries valid added es are.1 h)
+
+    module _ {M : Type 0} (meaning : X → M) (joined : M → M → M) where
+      unchanged : (a : Option M) → a ≡ optional_joined joined a None
+      unchanged None = refl
+      unchanged (Some a) = refl
+
+      -- an entry joined in: v means the join of what is there and the content
+      pub contents_at-put : (key : K) (v content : X) (es : List (K × X)) → Some (meaning v) ≡ optional_joined joined (option_map meaning (find cmp key es)) (Some (meaning content)) → contents_at cmp meaning (put cmp key v es) ≡ key_by_key joined (contents_at cmp meaning es) (contents_at cmp meaning ((key, content) ∷ []))
+      contents_at-put key v content es means i q = at i where
+        at : option_map meaning (find cmp q (put cmp key v es)) ≡ optional_joined joined (option_map meaning (find cmp q es)) (option_map meaning (cond (eq_by_cmp cmp q key) (Some content) None))
+        at = ap (option_map meaning) (find-put cmp o q key v es)
+            ∙ elim (eq_by_cmp cmp q key) as (λ b. eq_by_cmp cmp q key ≡ b → option_map meaning (cond b (Some v) (find cmp q es)) ≡ optional_joined joined (option_map meaning (find cmp q es)) (option_map meaning (cond b (Some content) None))) [
+              | true ↦ λ p. means ∙ ap (λ x. optional_joined joined (option_map meaning x) (Some (meaning content))) (find_tied cmp o q key (tie _ p) es)
+              | false ↦ λ p. unchanged (option_map meaning (find cmp q es))
+            ] refl

@@ -1,0 +1,65 @@
+-- What stays known of a line as it grows.
+use Rattle.std.proofs.Common.{◌≡◌, ℕ, zero, suc, ◌+◌, ◌-◌, ◌<◌, ◌≤◌, min, List, [], ◌∷◌, ◌++◌, length, take, refl, sym, ap, ◌∙◌, arith, append-nil, append_assoc, length-append}
+use Rattle.std.proofs.lemmas.List.{take_min, take_all, take-take, length-take}
+use Rattle.pn_line.specs.Line.{LineSoFar, longer, so_far, kept, most_kept}
+
+-- two lines with the same front and as many bytes
+same_line : (f g : List ℕ) (m n : ℕ) → f ≡ g → m ≡ n → (let r : LineSoFar = record { front = f; count = m } in r) ≡ record { front = g; count = n }
+same_line f g m n fronts counts = cc
+
+-- a front that takes what it has room for
+pub longer-filled : (line : LineSoFar) (bs new : List ℕ) (m : ℕ) → m ≡ min (length bs) (most_kept - length line.front) → new ≡ line.front ++ take m bs
+    → record { front = new; count = line.count + length bs } ≡ longer line bs
+longer-filled line bs new m least filled =
+    let room = most_kept - length line.front in
+    let turned : min (length bs) room ≡ min room (length bs) = omega arith in
+    let taken : take m bs ≡ take room bs = ap (λ k. take k bs) (least ∙ turned) ∙ take_min room bs in
+    same_line _ _ _ _ (filled ∙ ap (λ l. line.front ++ l) taken) refl
+
+-- no byte more
+pub longer-nil : (line : LineSoFar) → longer line [] ≡ line
+longer-nil line = same_line _ _ _ _ (ap (λ l. line.front ++ l) (take_all (most_kept - length line.front) [] (omega arith)) ∙ append-nil line.front) (omega arith)
+
+-- the first bytes of two lists, one behind the other
+take-append_split : (n : ℕ) (a b : List ℕ) → take n (a ++ b) ≡ take n a ++ take (n - length a) b
+take-append_split zero a b = let none : zero - length a ≡ zero = omega arith in sym (ap (λ k. take k b) none)
+take-append_split (suc n) [] b = let all : suc n ≡ suc n - zero = omega arith in ap (λ k. take k b) all
+take-append_split (suc n) (x ∷ a) b =
+    let next : n - length a ≡ suc n - suc (length a) = omega arith in
+    ap (λ l. x ∷ l) (take-append_split n a b ∙ ap (λ k. take n a ++ take k b) next)
+
+-- some bytes and then others
+pub longer-append : (line : LineSoFar) (a b : List ℕ) → longer (longer line a) b ≡ longer line (a ++ b)
+longer-append line a b =
+    let room = most_kept - length line.front in
+    let left : most_kept - length (line.front ++ take room a) ≡ room - length a =
+    omega (arith, length-append line.front (take room a), length-take room a) in
+    same_line _ _ _ _
+    (append_assoc line.front (take room a) _ ∙ ap (λ k. line.front ++ (take room a ++ take k b)) left ∙ ap (λ l. line.front ++ l) (sym (take-append_split room a b)))
+    (omega (arith, length-append a b))
+
+-- a whole line that goes on
+pub so_far-append : (line bs : List ℕ) → longer (so_far line) bs ≡ so_far (line ++ bs)
+so_far-append line bs =
+    let left : most_kept - length (take most_kept line) ≡ most_kept - length line = omega (arith, length-take most_kept line) in
+    same_line _ _ _ _
+    (ap (λ k. take most_kept line ++ take k bs) left ∙ sym (take-append_split most_kept line bs))
+    (omega (arith, length-append line bs))
+
+-- a line that is not too long is kept whole
+pub kept-short : (line : List ℕ) → length line ≤ 65536 → kept line ≡ line
+unfolding most_kept
+kept-short line short = take_all 65537 line (omega arith)
+
+-- of no byte none is kept
+pub kept-nil : kept [] ≡ []
+kept-nil = take_all most_kept [] (omega arith)
+
+-- of a line that is too long more is kept than a line may have
+pub length-kept_long : (line : List ℕ) → 65536 < length line → length (kept line) ≡ 65537
+unfolding most_kept
+length-kept_long line long = length-take 65537 line ∙ omega arith
+
+-- what is kept of what is kept
+pub kept-kept : (line : List ℕ) → kept (kept line) ≡ kept line
+kept-kept line = take-take most_kept most_kept line (omega arith)

@@ -1,0 +1,11 @@
+use Rattle.pn_line.proofs.ReadLaws.{Takes-trans}
+use Rattle.pn_line.proofs.reading.read_line.Goals as goal
+
+pub pieces-preserved : goal.pieces-preserved
+pieces-preserved g c = Takes-trans c.pieces.invariant (rw c.in-Part.is at c.in_ok-take_some.ensures.takes)
+
+pub returns-in-Ended-clause-takes : goal.returns-in-Ended-clause-takes
+returns-in-Ended-clause-takes g c = Takes-trans c.pieces.invariant (rw c.in-Ended.is at c.in_ok-take_some.ensures.takes)
+
+pub returns-in-NoMore-clause-takes : goal.returns-in-NoMore-clause-takes
+returns-in-NoMore-clause-takes g c = Takes-trans c.pieces.invariant (rw c.in-NoMore.is at c.in_ok-take_some.ensures.takes)

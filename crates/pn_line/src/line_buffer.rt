@@ -1,0 +1,96 @@
+//! A line while it is read: its first bytes, in room that is taken once, and its length.
+ghost use Rattle.std.specs.Prelude.{◌≡◌, ◌+◌, ◌<◌, ◌≤◌, ◌↔◌, [], length, IfOk, IsTrue};
+ghost use Rattle.pn_line.specs.Line.{so_far, longer};
+
+use std::alloc::{AllocError, Global};
+use std::marker::Model;
+
+/// How many bytes a line may have without its newline.
+pub const LONGEST_LINE: usize = 65_536;
+
+/// How many bytes of a line are kept: one more than it may have, so that a longer line shows.
+pub const MOST_KEPT: usize = 65_537;
+
+/// A line that has not ended after this many bytes has no end.
+pub const ENDLESS: usize = 1_000_000_000;
+
+/// A line so far: its first bytes, at most `MOST_KEPT`, and how many bytes it has. It takes its room
+/// when it is made, and no memory after that.
+#[derive(Debug, Drop)]
+pub struct LineBuffer {
+    front: Vec<u8>,
+    count: usize,
+}
+
+impl Model for LineBuffer {
+    ghost use Rattle.std.specs.Prelude.{◌≡◌, vec_len, vec_capacity, min, ◌≤◌};
+    ghost use Rattle.pn_line.specs.declared.line_buffer.TheConstants.{MOST_KEPT, ENDLESS};
+    ghost use Rattle.pn_line.specs.Line.{LineSoFar};
+
+    ghost Value = { LineSoFar };
+
+    ghost view = { λ line. record { front = line.front.items; count = line.count } };
+
+    ghost invariant = { λ line. (vec_len line.front ≡ min line.count MOST_KEPT)
+        × (MOST_KEPT ≤ vec_capacity line.front) × (line.count ≤ ENDLESS) };
+}
+
+impl LineBuffer {
+    /// A line that has no byte yet.
+    pub fn new(alloc: Global) -> Result<LineBuffer, AllocError>
+        ensures { IfOk result (λ line. line ≡ so_far []) }
+    {
+        Ok(LineBuffer {
+            front: Vec::with_capacity(alloc, MOST_KEPT)?,
+            count: 0,
+        })
+    }
+
+    /// Begins a new line, that has no byte yet.
+    pub fn start(&mut self)
+        ensures { self.new ≡ so_far [] }
+    {
+        self.front.clear();
+        self.count = 0;
+    }
+
+    /// The first bytes of the line, all of them where it is not too long.
+    pub fn bytes(&self) -> &[u8]
+        ensures { result.now ≡ self.now.front }
+    {
+        &self.front
+    }
+
+    /// How many bytes the line has, those that are not kept too.
+    pub fn len(&self) -> usize
+        ensures count { result ≡ self.now.count }
+        ensures bounded { result ≤ ENDLESS }
+    {
+        self.count
+    }
+
+    /// Whether the line has no byte yet.
+    pub fn is_empty(&self) -> bool
+        ensures { IsTrue result ↔ (self.now.count ≡ 0) }
+    {
+        self.count == 0
+    }
+
+    /// Whether the line has more bytes than a line may have.
+    pub fn is_too_long(&self) -> bool
+        ensures { IsTrue result ↔ (LONGEST_LINE < self.now.count) }
+    {
+        self.count > LONGEST_LINE
+    }
+
+    /// Adds bytes behind the line. Those that are not kept are counted.
+    pub(crate) fn append(&mut self, bytes: &[u8])
+        requires { self.old.count + length bytes.now ≤ ENDLESS }
+        ensures { self.new ≡ longer self.old bytes.now }
+    {
+        let room = MOST_KEPT - self.front.len();
+        let kept = &bytes[..bytes.len().min(room)];
+        self.front.extend_from_slice(kept).unwrap();
+        self.count += bytes.len();
+    }
+}

@@ -1,0 +1,97 @@
+//! Bytes that wait to be written together, in room that is taken once.
+ghost use Rattle.std.specs.Prelude.{◌≡◌, ◌+◌, ◌≤◌, ◌++◌, [], length, IfOk, IsOk, OnOk, OnErr};
+ghost use Rattle.std.specs.Io.KnownBytes.{Appends, Keeps};
+ghost use Rattle.pn_line.specs.Sent.{AppendsFront, Sends};
+
+use crate::writing::{WriteFault, write_all_of};
+use std::alloc::{AllocError, Global};
+use std::io::Write;
+use std::marker::Model;
+
+/// How many bytes an outbox has room for.
+pub const OUTBOX_ROOM: usize = 65_536;
+
+/// Bytes that wait for a writer. It takes its room when it is made, and no memory after that.
+#[derive(Debug, Drop)]
+pub struct Outbox {
+    waiting: Vec<u8>,
+}
+
+impl Model for Outbox {
+    ghost use Rattle.std.specs.Prelude.{ℕ, List, vec_len, vec_capacity, ◌≤◌};
+    ghost use Rattle.pn_line.specs.declared.outbox.TheConstants.{OUTBOX_ROOM};
+
+    ghost Value = { List ℕ };
+
+    ghost view = { λ outbox. outbox.waiting.items };
+
+    ghost invariant = { λ outbox. (vec_len outbox.waiting ≤ OUTBOX_ROOM) × (OUTBOX_ROOM ≤ vec_capacity outbox.waiting) };
+}
+
+impl Outbox {
+    /// An outbox in which nothing waits.
+    pub fn new(alloc: Global) -> Result<Outbox, AllocError>
+        ensures { IfOk result (λ outbox. outbox ≡ []) }
+    {
+        Ok(Outbox {
+            waiting: Vec::with_capacity(alloc, OUTBOX_ROOM)?,
+        })
+    }
+
+    /// Adds bytes behind those that wait. Where there is no room for them, those that wait are
+    /// written first, and bytes that fit no outbox are written at once.
+    ///
+    /// After a fault nothing waits: what did not go out is given up.
+    pub fn push<W: Write>(&mut self, writer: &mut W, bytes: &[u8]) -> Result<(), WriteFault>
+        ensures ok { OnOk result
+            (Sends (W.contents writer.old) (W.contents writer.new) self.old self.new bytes.now) }
+        ensures err { OnErr result
+            (AppendsFront (W.contents writer.old) (W.contents writer.new) (self.old ++ bytes.now)) }
+        ensures given_up { OnErr result (self.new ≡ []) }
+
+        // Bytes that fit only wait.
+        ensures succeeds { length self.old + length bytes.now ≤ OUTBOX_ROOM → IsOk result }
+        ensures waits { length self.old + length bytes.now ≤ OUTBOX_ROOM
+            → self.new ≡ self.old ++ bytes.now }
+    {
+        if bytes.len() > OUTBOX_ROOM - self.waiting.len() {
+            self.send(writer)?;
+            if bytes.len() > OUTBOX_ROOM {
+                return write_all_of(writer, bytes);
+            }
+        }
+        self.keep(bytes);
+        Ok(())
+    }
+
+    /// Writes all that waits, and flushes the writer. After a fault nothing waits either.
+    pub fn flush<W: Write>(&mut self, writer: &mut W) -> Result<(), WriteFault>
+        ensures ok { OnOk result (Appends (W.contents writer.old) (W.contents writer.new) self.old) }
+        ensures err { OnErr result
+            (AppendsFront (W.contents writer.old) (W.contents writer.new) self.old) }
+        ensures empty { self.new ≡ [] }
+    {
+        self.send(writer)?;
+        writer.flush().map_err(WriteFault::Failed)
+    }
+
+    // Writes all that waits.
+    fn send<W: Write>(&mut self, writer: &mut W) -> Result<(), WriteFault>
+        ensures ok { OnOk result (Appends (W.contents writer.old) (W.contents writer.new) self.old) }
+        ensures err { OnErr result
+            (AppendsFront (W.contents writer.old) (W.contents writer.new) self.old) }
+        ensures empty { self.new ≡ [] }
+    {
+        let sent = write_all_of(writer, &self.waiting);
+        self.waiting.clear();
+        sent
+    }
+
+    // Adds bytes that fit.
+    fn keep(&mut self, bytes: &[u8])
+        requires { length self.old + length bytes.now ≤ OUTBOX_ROOM }
+        ensures { self.new ≡ self.old ++ bytes.now }
+    {
+        self.waiting.extend_from_slice(bytes).unwrap();
+    }
+}

@@ -1,0 +1,47 @@
+//! Where lines are read from: any buffered reader, whose reads may fail, or bytes in memory, whose
+//! reads do not.
+ghost use Rattle.std.specs.Prelude.{◌≡◌, ◌≢◌, ◌<◌, ℕ, List, IfOk, OnErr, OnSome, Option};
+ghost use Rattle.std.specs.Io.KnownBytes.{Keeps, IsAtEnd};
+ghost use Rattle.pn_line.specs.Reads.{Takes, newline_after};
+
+use crate::line_buffer::{ENDLESS, LineBuffer};
+use crate::piece::{Piece, take_piece};
+use std::io;
+use std::io::BufRead;
+
+/// A source of lines.
+pub trait Source {
+    // The bytes that are left, where the type tells them.
+    ghost left: { Self → Option (List ℕ) };
+
+    // What holds where a read can fail at all.
+    ghost may_fail: { Type 0 };
+
+    /// Looks at some of the bytes that are left, waits for them where it has to, and takes from them
+    /// what they have of the line.
+    ///
+    /// An error of the reader takes nothing, and the next call goes on where this one was.
+    fn take_some(&mut self, line: &mut LineBuffer) -> io::Result<Piece>
+        requires { line.old.count < ENDLESS }
+        ensures takes { IfOk result
+            (λ piece. Takes line.old line.new (left self.old) (left self.new) (newline_after piece)) }
+        ensures part { result ≡ Ok Piece.Part → line.old.count < line.new.count }
+        ensures below { result ≢ Ok Piece.Part → line.new.count < ENDLESS }
+        ensures end { result ≡ Ok Piece.NoMore → OnSome (left self.old) (IsAtEnd (left self.new)) }
+        ensures fault { OnErr result may_fail }
+        ensures kept { OnErr result (Keeps (left self.old) (left self.new)) }
+        ensures line_kept { OnErr result (line.new ≡ line.old) };
+}
+
+impl<R: BufRead> Source for R {
+    ghost left = { λ reader. R.remaining reader };
+
+    ghost may_fail = { Unit {0} };
+
+    fn take_some(&mut self, line: &mut LineBuffer) -> io::Result<Piece> {
+        let shown = self.fill_buf()?;
+        let (count, piece) = take_piece(line, shown);
+        self.consume(count);
+        Ok(piece)
+    }
+}

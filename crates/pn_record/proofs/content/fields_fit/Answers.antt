@@ -1,0 +1,23 @@
+-- One more field fits and is counted.
+use Rattle.std.proofs.Common.{◌≡◌, true, sym, ◌∙◌, arith}
+use Rattle.pn_record.specs.Limits.{is_field}
+use Rattle.pn_record.specs.Showing.{shown_field}
+use Rattle.pn_record.proofs.FieldSteps.{unfit, fit_more, size_more, size_bound}
+use Rattle.pn_record.proofs.content.fields_fit.Goals as goal
+
+pub returns-then-not-is_field : goal.returns-then-not-is_field
+returns-then-not-is_field c = sym (unfit shown_field c.args.fields.now c.loop-field.field-index c.field-item.result c.field-item.is c.loop-field-test.true (sym c.is_field.ensures ∙ c.if-not-is_field.true))
+
+pub loop-field-preserved : goal.loop-field-preserved
+loop-field-preserved c =
+    let fields = c.args.fields.now in
+    let i = c.loop-field.field-index in
+    let item = c.field-item.result in
+    let good : is_field (shown_field item) ≡ true = sym c.is_field.ensures ∙ c.if-not-is_field.false in
+    let more = size_more shown_field fields i item c.field-item.is c.loop-field-test.true in
+    let bound = size_bound shown_field fields i item c.field-item.is c.loop-field-test.true good in
+    record {
+      fit = fit_more shown_field fields i item c.field-item.is c.loop-field-test.true c.loop-field.invariant.fit good;
+      counted = omega arith;
+      bounded = omega arith;
+    }

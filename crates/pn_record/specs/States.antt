@@ -1,0 +1,19 @@
+-- What the contents of a cell say together.
+use Rattle.std.specs.Prelude.{List, length, if◌then◌else◌, ◌==◌, Bool, is_none}
+use Rattle.std.specs.List.{list_all}
+use Rattle.std.specs.FinMap.{keys}
+use Rattle.pn_record.specs.declared.cell.CellState.{CellState}
+use Rattle.pn_record.specs.declared.cell.CellState.TheVariants.{One, Deleted, Conflict}
+use Rattle.pn_record.specs.Limits.{Shown}
+use Rattle.pn_record.specs.Sets.{Celled}
+
+-- the content is a deletion
+abbrev pub is_deletion : Shown → Bool
+is_deletion shown = is_none shown.0
+
+-- deleted where all contents are deletions, one where there is one content, and else a conflict
+abbrev pub state_of_contents : List Shown → CellState
+state_of_contents contents = if list_all is_deletion contents then Deleted else (if length contents == 1 then One else Conflict)
+
+abbrev pub state_of : Celled → CellState
+state_of cell = state_of_contents (keys cell.1)

@@ -1,0 +1,170 @@
+//! Cells: what a replica keeps of a record.
+
+ghost use Rattle.std.specs.Prelude.{◌≡◌, ◌∷◌, [], ◌<◌, length, IsTrue, IfOk, OnOk, OnErr};
+ghost use Rattle.std.specs.FinMap.{keys};
+ghost use Rattle.std.specs.List.{list_all};
+ghost use Rattle.pn_record.specs.Sets.{Celled, set_of, union, cell_joined, HasContents};
+ghost use Rattle.pn_record.specs.JoinedCells.{cell_joined-laws};
+ghost use Rattle.pn_record.specs.States.{state_of, is_deletion as deletes};
+
+use crate::gather::gathered;
+use crate::{Body, Content, Version};
+use pn_join::{Dup, Join, NoMemory};
+use std::alloc::Global;
+use std::cmp::Ordering;
+use std::marker::Model;
+use std::sync::Arc;
+
+/// The greatest version seen of a record, with all different contents that came with it, in content
+/// order. Several are shown together and never chosen between. Copies share their contents.
+#[derive(Debug, Drop)]
+pub struct Cell {
+    version: Version,
+    contents: Arc<Vec<Content>>,
+    alloc: Global,
+}
+
+/// What a cell's contents say together.
+#[derive(Clone, Copy, Debug, PartialEq, Eq)]
+pub enum CellState {
+    /// One content, which has fields.
+    One,
+    /// All contents are deletions.
+    Deleted,
+    /// Several contents, of which at least one has fields.
+    Conflict,
+}
+
+impl Model for Cell {
+    ghost use Rattle.std.specs.Prelude.{ℕ};
+    ghost use Rattle.std.specs.Coded.{coded_ℕ, coded×};
+    ghost use Rattle.std.specs.FinMap as map;
+    ghost use base.Stored.{coded_unit};
+    ghost use Rattle.pn_record.specs.Coding.{shown_code};
+    ghost use Rattle.pn_record.specs.Sets.{Celled, set_of, IsContents};
+
+    ghost Value = { Celled };
+
+    ghost coded = { coded× (coded× coded_ℕ coded_ℕ) (map.code shown_code coded_unit) };
+
+    ghost view = { λ cell. (cell.version, set_of cell.contents.value.items) };
+
+    ghost invariant = { λ cell. IsContents cell.contents.value.items };
+}
+
+impl Cell {
+    /// The cell of one image.
+    pub fn of(alloc: Global, version: Version, content: Content) -> Result<Cell, NoMemory>
+        ensures { IfOk result (λ cell. (cell ≡ (version, set_of (content ∷ []))) × HasContents cell) }
+    {
+        let mut contents = Vec::with_capacity(alloc, 1)?;
+        contents.push(content)?;
+        Ok(Cell {
+            version,
+            contents: Arc::new(alloc, contents)?,
+            alloc,
+        })
+    }
+
+    /// The version of its contents. It takes no memory.
+    pub fn version(&self) -> Version
+        ensures version { result ≡ self.now.0 }
+        ensures some { HasContents self.now }
+    {
+        self.version
+    }
+
+    /// Its contents in content order, each once; there is at least one. It takes no memory.
+    pub fn contents(&self) -> &[Content]
+        ensures contents { result.now ≡ keys self.now.1 }
+        ensures some { 0 < length result.now }
+    {
+        &self.contents
+    }
+
+    /// What its contents say together. It takes no memory.
+    pub fn state(&self) -> CellState
+        ensures { result ≡ state_of self.now }
+    {
+        let contents = self.contents();
+        if are_deletions(contents) {
+            CellState::Deleted
+        } else if contents.len() == 1 {
+            CellState::One
+        } else {
+            CellState::Conflict
+        }
+    }
+}
+
+fn are_same(contents: &[Content], others: &[Content]) -> bool
+    ensures { IsTrue result → contents.now ≡ others.now }
+{
+    contents == others
+}
+
+fn are_deletions(contents: &[Content]) -> bool
+    ensures { result ≡ list_all deletes contents.now }
+{
+    contents.iter().all(|content| is_deletion(content))
+}
+
+fn is_deletion(content: &Content) -> bool
+    ensures { result ≡ deletes content.now }
+{
+    matches!(content.body, Body::Deleted)
+}
+
+impl Dup for Cell {
+    /// Shares the contents, so that it costs no copy of them.
+    fn dup(&self) -> Result<Cell, NoMemory>
+        ensures { IfOk result (λ copy. copy ≡ self.now) }
+    {
+        Ok(Cell {
+            version: self.version,
+            contents: Arc::try_clone(&self.contents)?,
+            alloc: self.alloc,
+        })
+    }
+}
+
+impl Join for Cell {
+    ghost Meaning = { Celled };
+
+    ghost meaning = { λ cell. cell };
+
+    ghost joined = { cell_joined };
+
+    ghost valid = { HasContents };
+
+    ghost laws = { cell_joined-laws };
+
+    /// Keeps the cell of the greater version, and at equal versions the contents of both.
+    fn join_from(&mut self, other: &Cell) -> Result<(), NoMemory>
+        ensures ok { OnOk result (self.new ≡ cell_joined self.old other.now) }
+        ensures err { OnErr result (self.new ≡ self.old) }
+        ensures are_valid { HasContents self.old × HasContents other.now × HasContents self.new }
+    {
+        match self.version().cmp(&other.version()) {
+            Ordering::Less => *self = other.dup()?,
+            Ordering::Equal => self.gather(other)?,
+            Ordering::Greater => {}
+        }
+        Ok(())
+    }
+}
+
+impl Cell {
+    // Takes the contents of the other too, which has the same version.
+    fn gather(&mut self, other: &Cell) -> Result<(), NoMemory>
+        ensures ok { OnOk result (self.new ≡ (self.old.0, union self.old.1 other.now.1)) }
+        ensures err { OnErr result (self.new ≡ self.old) }
+        ensures some { HasContents self.old × HasContents other.now × HasContents self.new }
+    {
+        if !are_same(self.contents(), other.contents()) {
+            let contents = gathered(self.alloc, &self.contents, &other.contents)?;
+            self.contents = Arc::new(self.alloc, contents)?;
+        }
+        Ok(())
+    }
+}

@@ -1,0 +1,35 @@
+//! Records by key: a table of cells, and what it holds of a list of images.
+
+ghost use Rattle.std.specs.Prelude.{◌≡◌, ◌∷◌, [], ◌++◌, List, OnOk, OnErr};
+ghost use Rattle.pn_record.specs.declared.image.Image.{Image};
+ghost use Rattle.pn_record.specs.Cells.{Holds, spell};
+
+use crate::{Cell, Image, Key};
+use pn_join::{Join, NoMemory, Table};
+use std::alloc::Global;
+
+/// Cells by key.
+pub type Records = Table<Key, Cell>;
+
+/// Takes an image: the records hold its list with this image more. An error leaves them as they were.
+pub fn take_image(alloc: Global, records: &mut Records, image: Image) -> Result<(), NoMemory>
+    ensures ok { OnOk result ((taken : List Image) → Holds records.old taken → Holds records.new (taken ++ image ∷ [])) }
+    ensures err { OnErr result (records.new ≡ records.old) }
+{
+    let Image {
+        key,
+        version,
+        content,
+    } = image;
+    records.join_entry(key, Cell::of(alloc, version, content)?)
+}
+
+/// Joins other records into these: what both held of their lists of images is held of the one list
+/// followed by the other. An error leaves them as they were.
+pub fn join_records(records: &mut Records, other: &Records) -> Result<(), NoMemory>
+    ensures lists { OnOk result ((taken more : List Image) → Holds records.old taken → Holds other.now more → Holds records.new (taken ++ more)) }
+    ensures spelled { OnOk result (Holds records.new (spell records.old ++ spell other.now)) }
+    ensures err { OnErr result (records.new ≡ records.old) }
+{
+    records.join_from(other)
+}
