@@ -1,9 +1,12 @@
 -- Lines of images: what is read is an image's line, and an image's line is read.
-use Rattle.std.proofs.Common.{◌≡◌, ℕ, ◌≤◌, List, length, Bool, true, false, cond, Option, Some, None, Result, Ok, Err, IfOk, refl, subst, sym, ap, ◌∙◌, ltb}
+use Rattle.std.proofs.Common.{◌≡◌, ℕ, ◌≤◌, List, length, Bool, true, false, cond, Result, Ok, Err, IfOk, refl, subst, sym, ap, ◌∙◌, ltb}
 use Rattle.std.proofs.lemmas.Bool.{le-ltb, ltb-false}
+use Rattle.std.proofs.lemmas.Str.{is_utf8-from_IsUtf8}
+use Rattle.std.specs.Str.{IsUtf8}
+use Rattle.json.specs.Lex.{tokens}
 use Rattle.std.specs.Option.{ok_or}
 use Rattle.serde_json.specs.Data.{Data}
-use Rattle.pn_record.specs.Checks.{◌>>=◌, Gives, Faults}
+use Rattle.pn_record.specs.Checks.{◌>>=◌, Gives}
 use Rattle.pn_record.specs.Grammar.{image_in, ranges_in}
 use Rattle.pn_record.specs.Reading.{reading, value_at, image_at}
 use Rattle.pn_record.specs.Writing.{image_data}
@@ -44,3 +47,20 @@ line_again line image is = rw (le-ltb 65536 (length line) is.short, is.read) (im
 pub answer_found : (line : List ℕ) (d : Data) (answer : Result Image ImageFault) → value_at line ≡ Ok d → IfOk answer (λ image. IsImage d image) → IfOk answer (λ image. IsImageLine line image)
 answer_found line d (Ok image) value is = line_found line d image value is
 answer_found line d (Err fault) value is = tt
+
+same_ok : (a b : Image) → ◌≡◌ {A = Result Image ImageFault} (Ok a) (Ok b) → a ≡ b
+same_ok a b is = cc
+
+-- no line is the line of two images
+pub line_unique : (line : List ℕ) (one other : Image) → IsImageLine line one → IsImageLine line other → one ≡ other
+line_unique line one other first second = same_ok one other (sym (line_again line one first) ∙ line_again line other second)
+
+pub image_at-value_at : (one other : List ℕ) → value_at one ≡ value_at other → image_at one ≡ image_at other
+unfolding image_at
+image_at-value_at one other same = ap (λ r. r >>= image_in) same
+
+-- lines of the same tokens have one value
+pub value_at-tokens : (one other : List ℕ) → length one ≤ 65536 → length other ≤ 65536 → IsUtf8 one → IsUtf8 other → tokens one ≡ tokens other → value_at one ≡ value_at other
+unfolding value_at reading
+value_at-tokens one other short_one short_other text_one text_other same =
+    rw (le-ltb 65536 (length one) short_one, le-ltb 65536 (length other) short_other, is_utf8-from_IsUtf8 one text_one, is_utf8-from_IsUtf8 other text_other, same) refl

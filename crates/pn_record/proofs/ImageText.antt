@@ -1,11 +1,11 @@
 -- The text of an image's JSON: it has no float, it is flat, and it is short.
-use Rattle.std.proofs.Common.{◌≡◌, ℕ, ◌+◌, ◌*◌, ◌^◌, ◌<◌, ◌≤◌, List, [], ◌∷◌, ◌++◌, length, codes, Bool, true, false, ◌&&◌, cond, Option, Some, None, decimal, leb, ltb, refl, sym, ap, ◌∙◌, arith, length-append}
+use Rattle.std.proofs.Common.{◌≡◌, ℕ, ◌+◌, ◌*◌, ◌^◌, ◌<◌, ◌≤◌, List, [], ◌∷◌, ◌++◌, length, codes, Bool, true, false, ◌&&◌, cond, Option, Some, None, decimal, leb, ltb, refl, arith, length-append}
 use Rattle.std.proofs.lemmas.Bool.{and_parts, leb-true}
 use Rattle.std.proofs.lemmas.List.Sums.{sum_by-cons}
 use Rattle.std.proofs.lemmas.Fmt.{length-decimal-le}
 use Rattle.std.specs.List.{sum_by, list_all}
 use Rattle.json.specs.Print.{escape_byte, escape_letter, escape, quoted}
-use Rattle.serde_json.specs.Data.{Data, string, object, Members, no_members, member, depth, members_depth}
+use Rattle.serde_json.specs.Data.{string, object, Members, no_members, member, depth, members_depth}
 use Rattle.serde_json.specs.Written.{has_float, members_have_float, compact_text, members_text, comma_if}
 use Rattle.pn_join.specs.Naming.{is_name, is_name_byte}
 use Rattle.pn_record.specs.Limits.{Field, field_size, is_field, is_key, is_version, is_body, is_content, fields_fit, names_rise}

@@ -7,6 +7,7 @@ mod copy;
 mod fault;
 mod gather;
 mod image;
+pub mod image_laws;
 mod key;
 pub mod laws;
 mod order;
