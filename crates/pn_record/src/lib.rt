@@ -8,6 +8,8 @@ mod fault;
 mod gather;
 mod image;
 pub mod image_laws;
+#[cfg(test)]
+mod image_tests;
 mod key;
 pub mod laws;
 mod order;
