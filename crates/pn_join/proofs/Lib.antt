@@ -1,3 +1,5 @@
+pub mod ChangeSteps
+pub mod ChangesSoFar
 pub mod Each
 pub mod Gaps
 pub mod JoinSteps
