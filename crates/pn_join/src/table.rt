@@ -139,7 +139,7 @@ impl<K: Ord + Dup, C: Join> Table<K, C> {
 
 impl<K: Ord + Dup, C: Join> Dup for Table<K, C> {
     fn dup(&self) -> Result<Self, NoMemory> {
-        let mut entries = Vec::with_capacity(*self.entries.allocator(), self.entries.len())?;
+        let mut entries = Vec::with_capacity(*self.entries.allocator(), self.len())?;
         for (key, content) in &self.entries {
             entries.push_reserved((key.dup()?, content.dup()?));
         }
