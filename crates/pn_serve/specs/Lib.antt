@@ -3,12 +3,11 @@ pub mod Asked
 pub mod Changes
 pub mod Commands
 pub mod Machine
-pub mod Replies
-pub mod Script
-pub mod Commands
 pub mod Ranges
-pub mod Shapes
-pub mod Words
 pub mod Replies
+pub mod Replying
 pub mod Rows
+pub mod Script
+pub mod Shapes
 pub mod Tokens
+pub mod Words

@@ -1,6 +1,7 @@
 //! Scripts of lines to replies: the commands that lines are, what they do to the records, and their replies.
 #![tactic(auto)]
 
+mod answering;
 mod build;
 mod command;
 mod form;
@@ -8,17 +9,19 @@ mod limits;
 mod parts;
 mod reading;
 mod refusal;
-pub mod store;
-mod shape;
 mod replies;
 #[cfg(test)]
 mod reply_tests;
 mod rows;
 mod scan;
+mod shape;
+mod store;
 mod words;
 
+pub use answering::{Reply, answer};
 pub use command::{Batch, Command};
 pub use reading::command_of;
 pub use refusal::{Part, Refusal};
 pub use replies::{ShortReply, changed_reply, refusal_reply};
 pub use scan::scan_reply;
+pub use store::deliver;
