@@ -1,3 +1,4 @@
+pub mod AnsweredLine
 pub mod Answering
 pub mod Asked
 pub mod Changes
@@ -7,6 +8,7 @@ pub mod Ranges
 pub mod Replies
 pub mod Replying
 pub mod Rows
+pub mod Runs
 pub mod Script
 pub mod Shapes
 pub mod Tokens

@@ -1,0 +1,186 @@
+//! Scripts: line after line is read, answered, and its reply written out.
+
+ghost use Rattle.std.specs.Prelude.{◌≡◌, ◌+◌, ◌<◌, ◌≤◌, [], ◌++◌, IfOk, IfSome, OnOk, OnErr, IsErrOf};
+ghost use Rattle.std.specs.Io.KnownBytes.{Keeps};
+ghost use Rattle.pn_line.specs.Sent.{Sends, AppendsFront};
+ghost use Rattle.pn_serve.specs.declared.run.RunFault.TheVariants.{Write, Memory};
+ghost use Rattle.pn_serve.specs.Runs.{Ended};
+ghost use Rattle.pn_serve.specs.AnsweredLine.{Answered};
+ghost use Rattle.pn_serve.specs.Script.{one_if};
+ghost use Rattle.pn_serve.specs.Replying.{reply_text, is_refusal};
+
+use crate::answering::{Reply, answer};
+use crate::replies::{changed_reply, refusal_reply};
+use pn_line::{LineBuffer, LineEnd, Outbox, Piece, Source, WriteFault, read_line};
+use pn_record::Records;
+use std::alloc::{AllocError, Global};
+use std::io::Write;
+use thiserror::Error;
+
+/// How many lines of a script are answered.
+pub const MOST_LINES: u64 = 1_000_000;
+
+/// How many lines a script had, and how many of its replies are refusals.
+#[derive(Clone, Copy, Debug, PartialEq, Eq)]
+pub struct Counts {
+    pub lines: u64,
+    pub refused: u64,
+}
+
+/// Why a script was not answered to its end.
+#[derive(Clone, Copy, Debug, PartialEq, Eq, Error)]
+pub enum RunFault {
+    /// The reader failed. The replies to all lines read whole were written.
+    #[error("the input could not be read")]
+    Read,
+    /// The writer failed or took no byte. A front of the replies was written.
+    #[error("the replies could not be written")]
+    Write,
+    /// A line came after the first 1,000,000, or did not end after 1,000,000,000 bytes. The replies to
+    /// all lines before it were written.
+    #[error("the input has too many lines, or a line without end")]
+    TooManyTurns,
+    /// There was no memory to begin with. Nothing was read or written.
+    #[error("out of memory")]
+    Memory,
+}
+
+impl From<WriteFault> for RunFault {
+    ghost from_gives = { λ _ fault. fault ≡ Write };
+
+    fn from(_fault: WriteFault) -> RunFault {
+        RunFault::Write
+    }
+}
+
+impl From<AllocError> for RunFault {
+    ghost from_gives = { λ _ fault. fault ≡ Memory };
+
+    fn from(_error: AllocError) -> RunFault {
+        RunFault::Memory
+    }
+}
+
+/// Answers the lines of a script until its end, each by one reply, and writes each reply before it waits
+/// for more input.
+pub fn run<S: Source, W: Write>(alloc: Global, input: &mut S, output: &mut W) -> Result<Counts, RunFault>
+    ensures ended { IfOk result (λ counts. IfSome (S.left input.old) (λ script.
+        Ended script (W.contents output.old) (W.contents output.new) counts.lines counts.refused)) }
+    ensures read { IsErrOf result RunFault.Read → S.may_fail }
+    ensures memory { IsErrOf result RunFault.Memory
+        → Keeps (S.left input.old) (S.left input.new) × Keeps (W.contents output.old) (W.contents output.new) }
+{
+    let mut line = LineBuffer::new(alloc)?;
+    let mut outbox = Outbox::new(alloc)?;
+    serve(alloc, &mut line, &mut outbox, input, output)
+}
+
+// Answers line after line.
+fn serve<S: Source, W: Write>(
+    alloc: Global,
+    line: &mut LineBuffer,
+    outbox: &mut Outbox,
+    input: &mut S,
+    output: &mut W,
+) -> Result<Counts, RunFault>
+    requires { outbox.old ≡ [] }
+    ensures ended { IfOk result (λ counts. IfSome (S.left input.old) (λ script.
+        Ended script (W.contents output.old) (W.contents output.new) counts.lines counts.refused)) }
+    ensures read { IsErrOf result RunFault.Read → S.may_fail }
+    ensures not_memory { IsErrOf result RunFault.Memory → ⊥ }
+{
+    let mut records = Records::new(alloc);
+    let mut counts = Counts {
+        lines: 0,
+        refused: 0,
+    };
+    'lines: for _turn in 0..MOST_LINES {
+        line.start();
+        let Ok(end) = read_line(line, input) else {
+            outbox.flush(output)?;
+            return Err(RunFault::Read);
+        };
+        match end {
+            LineEnd::Newline { more } => {
+                let bytes = line.bytes();
+                answer_line(alloc, &mut records, &mut counts, bytes, outbox, output)?;
+                if !more {
+                    outbox.flush(output)?;
+                }
+            }
+            LineEnd::EndOfInput => {
+                if line.is_empty() {
+                    outbox.flush(output)?;
+                    return Ok(counts);
+                }
+                let bytes = line.bytes();
+                answer_line(alloc, &mut records, &mut counts, bytes, outbox, output)?;
+                outbox.flush(output)?;
+                return Ok(counts);
+            }
+            LineEnd::Endless => {
+                outbox.flush(output)?;
+                return Err(RunFault::TooManyTurns);
+            }
+        }
+    }
+    outbox.flush(output)?;
+    end_of(line, input)?;
+    Ok(counts)
+}
+
+// Whether nothing is left of the input after the last line that may be answered.
+fn end_of<S: Source>(line: &mut LineBuffer, input: &mut S) -> Result<(), RunFault>
+    ensures end { OnOk result (IfSome (S.left input.old) (λ rest. rest ≡ [])) }
+    ensures read { IsErrOf result RunFault.Read → S.may_fail }
+    ensures not_memory { IsErrOf result RunFault.Memory → ⊥ }
+{
+    line.start();
+    match input.take_some(line) {
+        Ok(Piece::NoMore) if line.is_empty() => Ok(()),
+        Ok(_) => Err(RunFault::TooManyTurns),
+        Err(_) => Err(RunFault::Read),
+    }
+}
+
+// Answers one line: its reply waits or goes out, and is counted.
+fn answer_line<W: Write>(
+    alloc: Global,
+    records: &mut Records,
+    counts: &mut Counts,
+    line: &[u8],
+    outbox: &mut Outbox,
+    output: &mut W,
+) -> Result<(), WriteFault>
+    requires turns { counts.old.lines < MOST_LINES }
+    requires bounded { counts.old.refused ≤ counts.old.lines }
+    ensures ok { OnOk result (Answered records.old records.new line.now (W.contents output.old) (W.contents output.new) outbox.old outbox.new counts.old counts.new) }
+{
+    let reply = answer(alloc, records, line);
+    count(counts, &reply);
+    push_reply(&reply, outbox, output)
+}
+
+fn count(counts: &mut Counts, reply: &Reply)
+    requires turns { counts.old.lines < MOST_LINES }
+    requires bounded { counts.old.refused ≤ counts.old.lines }
+    ensures lines { counts.new.lines ≡ counts.old.lines + 1 }
+    ensures refused { counts.new.refused ≡ one_if (is_refusal reply.now) + counts.old.refused }
+{
+    counts.lines += 1;
+    if let Reply::Refused(_) = reply {
+        counts.refused += 1;
+    }
+}
+
+// The reply waits or goes out.
+fn push_reply<W: Write>(reply: &Reply, outbox: &mut Outbox, output: &mut W) -> Result<(), WriteFault>
+    ensures ok { OnOk result (Sends (W.contents output.old) (W.contents output.new) outbox.old outbox.new (reply_text reply.now)) }
+    ensures err { OnErr result (AppendsFront (W.contents output.old) (W.contents output.new) (outbox.old ++ reply_text reply.now)) }
+{
+    match reply {
+        Reply::Changed(count) => outbox.push(output, changed_reply(*count).as_bytes()),
+        Reply::Rows(text) => outbox.push(output, text),
+        Reply::Refused(refusal) => outbox.push(output, refusal_reply(refusal).as_bytes()),
+    }
+}
