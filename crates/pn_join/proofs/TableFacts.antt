@@ -1,5 +1,5 @@
 -- What layers above say of tables: tables with equal contents are equal, and a join absorbs what it had.
-use Rattle.std.proofs.Common.{◌≡◌, T, List, Option, Some, None, option_map, Ordering, Equal, IsTrue, refl, sym, ap, ◌∙◌, subst}
+use Rattle.std.proofs.Common.{◌≡◌, T, List, Option, Some, None, option_map, Ordering, IsTrue, refl, sym, ap, ◌∙◌, subst}
 use Rattle.std.specs.Cmp.{IsTotalOrder}
 use Rattle.std.specs.FinMap.{find, is_sorted, IsAntisymmetric}
 use Rattle.std.specs.FinMap.Entries.{same_entries}
