@@ -9,4 +9,5 @@ pub mod PlaceSearch
 pub mod Places
 pub mod Puts
 pub mod Rising
+pub mod TableFacts
 pub mod WithContents
