@@ -1,5 +1,5 @@
 -- The ranges of a line's parts, one after another.
-use Rattle.std.specs.Prelude.{◌≡◌, ℕ, ◌+◌, ◌^◌, Bool, ◌&&◌, not, nat_le, if◌then◌else◌, List, [], ◌∷◌, length, Result, Ok, Err}
+use Rattle.std.specs.Prelude.{◌≡◌, ℕ, ◌+◌, ◌^◌, Bool, ◌&&◌, nat_le, if◌then◌else◌, List, [], ◌∷◌, length, Result, Ok, Err}
 use Rattle.pn_join.specs.Naming.{is_name}
 use Rattle.pn_record.specs.Checks.{◌>>=◌, fault_as}
 use Rattle.pn_record.specs.Grammar.{ranges_in}

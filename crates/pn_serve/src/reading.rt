@@ -6,10 +6,11 @@ ghost use Rattle.serde_json.specs.View.{view, members_view};
 ghost use Rattle.pn_record.specs.Seen.{seen};
 ghost use Rattle.pn_serve.specs.Answering.{AnswersAs};
 ghost use Rattle.pn_serve.specs.Asked.{asked};
+ghost use Rattle.pn_serve.specs.Queries.{is_empty as no_members, query_in};
 ghost use Rattle.pn_serve.specs.Ranges.{IsInRanges};
 ghost use Rattle.pn_serve.specs.Shapes.{part_in};
 ghost use Rattle.pn_serve.specs.Words.{word_of as word_named};
-ghost use Rattle.pn_serve.specs.Commands.{refusal_of, is_empty as no_members, query_in, deliver_in, scan_in, command_in as command_seen, command_at};
+ghost use Rattle.pn_serve.specs.Commands.{refusal_of, deliver_in, scan_in, command_in as command_seen, command_at};
 ghost use Rattle.pn_serve.specs.declared.refusal.Part.TheVariants.{Do, Query};
 
 use crate::build::built_batches;
