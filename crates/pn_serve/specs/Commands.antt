@@ -45,7 +45,7 @@ command_as Scan members d = scan_in members d
 unfoldable pub command_in : Data → Result Asked Refusal
 command_in d = do
   members ← ok_or (as_object d) (BadShape Whole)
-  word ← part_in Do (λ text. option_and_then word_of (as_str text)) (get (codes "do") d)
+  word ← part_in Do (λ value. option_and_then word_of (as_str value)) (get (codes "do") d)
   command_as word members d
 
 -- the refusal of a line for what is at fault in an image
