@@ -2,10 +2,8 @@
 use Rattle.std.proofs.Common.{◌≡◌, ℕ, zero, suc, ◌<◌, List, [], ◌∷◌, length, get_or, Result, Ok, Err, IsOk, refl, ap, ◌∙◌, arith, rules}
 use Rattle.pn_record.specs.Checks.{◌>>=◌, fault_as}
 use Rattle.pn_record.specs.Grammar.{ranges_in}
-use Rattle.pn_record.specs.declared.fault.Member.{Member}
 use Rattle.pn_record.specs.declared.image.Image.{Image}
-use Rattle.pn_serve.specs.Asked.{Delivered}
-use Rattle.pn_serve.specs.Ranges.{each_fits, image_fits, batch_fits, batches_fit}
+use Rattle.pn_serve.specs.Ranges.{each_fits, image_fits}
 use Rattle.pn_serve.specs.declared.refusal.Refusal.{Refusal}
 
 -- both of two checks passed

@@ -2,7 +2,7 @@
 use Rattle.std.proofs.Common.{◌≡◌, ◌↔◌, List, [], ◌∷◌, length, Bool, true, false, IsTrue, refl, arith, String, Global}
 use Rattle.serde_json.specs.View.{members_view}
 use Rattle.serde_json.specs.declared.value.Value.{Value}
-use Rattle.pn_serve.specs.Commands.{is_empty}
+use Rattle.pn_serve.specs.Queries.{is_empty}
 use Rattle.pn_serve.proofs.reading.is_empty.Goals as goal
 
 told_by_length : (entries : List (String Global × Value)) (b : Bool) → (IsTrue b ↔ (length entries ≡ 0)) → b ≡ is_empty (members_view entries)
