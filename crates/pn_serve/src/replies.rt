@@ -11,7 +11,7 @@ use std::marker::Model;
 const ROOM: usize = 128;
 
 /// A reply of one line, held in place.
-#[derive(Drop)]
+#[derive(Debug, Drop)]
 pub struct ShortReply {
     bytes: [u8; ROOM],
     len: usize,
@@ -45,7 +45,7 @@ impl ShortReply {
     }
 
     fn push(&mut self, text: &str)
-        requires { length self.old + length text.now ≤ 128 }
+        requires { length self.old + length text.now ≤ ROOM }
         ensures { self.new ≡ self.old ++ text.now }
     {
         let end = self.len + text.len();

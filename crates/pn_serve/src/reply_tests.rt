@@ -1,5 +1,5 @@
 //! Replies against texts that were written down by hand.
-use crate::{Part, Refusal, changed_reply, refusal_reply, scan_reply};
+use crate::{Part, Refusal, ShortReply, changed_reply, refusal_reply, scan_reply};
 use pn_join::Table;
 use pn_record::{Member, read_image, take_image};
 use std::alloc::Global;
@@ -48,29 +48,31 @@ fn scan_shows_all_contents_of_a_conflict(rt: HostRuntime) -> Result<(), Fail> {
     assert_scan(&rt, rt.alloc(), &images, want)
 }
 
+fn assert_line(rt: &impl Abort, reply: &ShortReply, want: &str) {
+    assert_eq!(rt; reply.as_bytes(), want.as_bytes());
+}
+
 #[test]
 fn refusals_name_the_part(rt: HostRuntime) {
     let refusal = Refusal::OutOfRange(Part::Image(Member::Version));
-    assert_eq!(rt;
-        refusal_reply(&refusal).as_bytes(),
-        b"{\"error\":\"out-of-range\",\"member\":\"version\"}\n"
-    );
+    let want = "{\"error\":\"out-of-range\",\"member\":\"version\"}\n";
+    assert_line(&rt, &refusal_reply(&refusal), want);
     let refusal = Refusal::BadShape(Part::Do);
-    assert_eq!(rt;
-        refusal_reply(&refusal).as_bytes(),
-        b"{\"error\":\"bad-shape\",\"member\":\"do\"}\n"
-    );
-    assert_eq!(rt;
-        refusal_reply(&Refusal::Memory).as_bytes(),
-        b"{\"error\":\"memory\"}\n"
+    let want = "{\"error\":\"bad-shape\",\"member\":\"do\"}\n";
+    assert_line(&rt, &refusal_reply(&refusal), want);
+    assert_line(
+        &rt,
+        &refusal_reply(&Refusal::Memory),
+        "{\"error\":\"memory\"}\n",
     );
 }
 
 #[test]
 fn a_delivery_says_what_it_changed(rt: HostRuntime) {
-    assert_eq!(rt; changed_reply(0).as_bytes(), b"{\"changed\":0}\n");
-    assert_eq!(rt;
-        changed_reply(u64::MAX).as_bytes(),
-        b"{\"changed\":18446744073709551615}\n"
+    assert_line(&rt, &changed_reply(0), "{\"changed\":0}\n");
+    assert_line(
+        &rt,
+        &changed_reply(u64::MAX),
+        "{\"changed\":18446744073709551615}\n",
     );
 }
