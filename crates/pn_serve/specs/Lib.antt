@@ -3,5 +3,10 @@ pub mod Asked
 pub mod Changes
 pub mod Commands
 pub mod Machine
+pub mod Ranges
 pub mod Replies
+pub mod Rows
 pub mod Script
+pub mod Shapes
+pub mod Tokens
+pub mod Words

@@ -1,0 +1,69 @@
+-- The command that a line is, or its first fault: its length, its reading, all shapes, and then the ranges.
+use Rattle.std.specs.Prelude.{ℕ, Bool, true, false, if◌then◌else◌, List, codes, Option, Some, None, option_and_then, Result, Ok, Err}
+use Rattle.std.specs.Option.{ok_or}
+use Rattle.serde_json.specs.Data.{Data, object, Members, no_members, member}
+use Rattle.serde_json.specs.Find.{get, as_str, as_array, as_object}
+use Rattle.pn_record.specs.Checks.{◌>>=◌, fault_as}
+use Rattle.pn_record.specs.Reading.{value_at}
+use Rattle.pn_record.specs.declared.fault.ImageFault.{ImageFault}
+use Rattle.pn_record.specs.declared.fault.ImageFault.TheVariants as image
+use Rattle.pn_serve.specs.Asked.{Asked, deliver, scan}
+use Rattle.pn_serve.specs.Words.{word_of}
+use Rattle.pn_serve.specs.Shapes.{each_in, part_in, no_others, batch_shape}
+use Rattle.pn_serve.specs.Ranges.{batches_fit}
+use Rattle.pn_serve.specs.declared.form.Word.{Word}
+use Rattle.pn_serve.specs.declared.form.Word.TheVariants.{Deliver, Scan}
+use Rattle.pn_serve.specs.declared.form.Form.TheVariants.{Command}
+use Rattle.pn_serve.specs.declared.refusal.Part.TheVariants.{Whole, Do, Batches, Query}
+use Rattle.pn_serve.specs.declared.refusal.Part.TheVariants as part
+use Rattle.pn_serve.specs.declared.refusal.Refusal.{Refusal}
+use Rattle.pn_serve.specs.declared.refusal.Refusal.TheVariants.{TooLong, NotJson, BadShape, OutOfRange, Memory}
+
+-- the batches of a `deliver` command
+unfoldable pub deliver_in : Members → Data → Result Asked Refusal
+deliver_in members d = do
+  items ← part_in Batches as_array (get (codes "batches") d)
+  batches ← each_in batch_shape items
+  named ← no_others (Command Deliver) members
+  fit ← batches_fit batches
+  Ok (deliver batches)
+
+-- there are no members
+abbrev pub is_empty : Members → Bool
+is_empty no_members = true
+is_empty (member name d ms) = false
+
+-- a query, which has no members as yet
+abbrev pub query_in : Data → Option (Unit {0})
+query_in d = option_and_then (λ members. if is_empty members then Some tt else None) (as_object d)
+
+-- a `scan` command
+unfoldable pub scan_in : Members → Data → Result Asked Refusal
+scan_in members d = do
+  query ← part_in Query query_in (get (codes "query") d)
+  named ← no_others (Command Scan) members
+  Ok scan
+
+-- the command of a word
+abbrev pub command_as : Word → Members → Data → Result Asked Refusal
+command_as Deliver members d = deliver_in members d
+command_as Scan members d = scan_in members d
+
+-- the command that a value is
+unfoldable pub command_in : Data → Result Asked Refusal
+command_in d = do
+  members ← ok_or (as_object d) (BadShape Whole)
+  word ← part_in Do (λ text. option_and_then word_of (as_str text)) (get (codes "do") d)
+  command_as word members d
+
+-- the refusal of a line for what is at fault in an image
+abbrev pub refusal_of : ImageFault → Refusal
+refusal_of image.TooLong = TooLong
+refusal_of image.NotJson = NotJson
+refusal_of image.Memory = Memory
+refusal_of (image.BadShape at) = BadShape (part.Image at)
+refusal_of (image.OutOfRange at) = OutOfRange (part.Image at)
+
+-- the command that a line is
+unfoldable pub command_at : List ℕ → Result Asked Refusal
+command_at line = fault_as refusal_of (value_at line) >>= command_in

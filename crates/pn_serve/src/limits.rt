@@ -1,0 +1,68 @@
+//! The ranges of a line's parts, looked at in their shapes. It takes no memory.
+
+ghost use Rattle.std.specs.Prelude.{◌≡◌, length};
+ghost use Rattle.pn_serve.specs.Ranges.{each_fits, image_fits, positions_fit as all_fit, batch_fits, batches_fit};
+
+use crate::shape::BatchShape;
+use crate::{Part, Refusal};
+use pn_join::Name;
+use pn_record::Shape;
+
+/// The most batches of a command.
+const MOST_BATCHES: usize = 64;
+
+/// The last position of a stream.
+const LAST_POSITION: u64 = 1_000_000_000_000_000;
+
+/// Whether there are 1 to 64 batches, each in its ranges; otherwise the first fault.
+#[tactic(auto, unfolding(crate::specs::Ranges::batches_fit))]
+pub(crate) fn check_batches(batches: &[BatchShape<'_>]) -> Result<(), Refusal>
+    ensures { result ≡ batches_fit batches.now }
+{
+    if batches.is_empty() || batches.len() > MOST_BATCHES {
+        return Err(Refusal::OutOfRange(Part::Batches));
+    }
+    for batch in batches {
+        check_batch(batch)?;
+    }
+    Ok(())
+}
+
+#[tactic(auto, unfolding(crate::specs::Ranges::batch_fits))]
+fn check_batch(batch: &BatchShape<'_>) -> Result<(), Refusal>
+    ensures { result ≡ batch_fits batch.now }
+{
+    if !positions_fit(batch.first, batch.images.len()) {
+        return Err(Refusal::OutOfRange(Part::First));
+    }
+    check_images(&batch.images)?;
+    if Name::read(batch.stream.as_bytes()).is_err() {
+        return Err(Refusal::OutOfRange(Part::Stream));
+    }
+    Ok(())
+}
+
+/// Whether the positions of `count` images from `first` on are positions of a stream.
+fn positions_fit(first: u64, count: usize) -> bool
+    ensures { result ≡ all_fit first count }
+{
+    1 <= first && first <= LAST_POSITION && count as u64 <= LAST_POSITION + 1 - first
+}
+
+fn check_images(images: &[Shape<'_>]) -> Result<(), Refusal>
+    ensures { result ≡ each_fits image_fits images.now }
+{
+    for image in images {
+        check_image(image)?;
+    }
+    Ok(())
+}
+
+fn check_image(image: &Shape<'_>) -> Result<(), Refusal>
+    ensures { result ≡ image_fits image.now }
+{
+    match image.check_ranges() {
+        Ok(()) => Ok(()),
+        Err(member) => Err(Refusal::OutOfRange(Part::Image(member))),
+    }
+}

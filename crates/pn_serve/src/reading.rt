@@ -1,0 +1,109 @@
+//! The command that a line is.
+
+ghost use Rattle.std.specs.Prelude.{◌≡◌, ◌<◌, length, option_and_then, IsErrOf};
+ghost use Rattle.serde_json.specs.Find.{as_str};
+ghost use Rattle.serde_json.specs.View.{view, members_view};
+ghost use Rattle.pn_record.specs.Seen.{seen};
+ghost use Rattle.pn_serve.specs.Answering.{AnswersAs};
+ghost use Rattle.pn_serve.specs.Asked.{asked};
+ghost use Rattle.pn_serve.specs.Shapes.{part_in};
+ghost use Rattle.pn_serve.specs.Words.{word_of as word_named};
+ghost use Rattle.pn_serve.specs.Commands.{refusal_of, is_empty as no_members, query_in, deliver_in, scan_in, command_in as command_seen, command_at};
+ghost use Rattle.pn_serve.specs.declared.refusal.Part.TheVariants.{Do, Query};
+
+use crate::build::built_batches;
+use crate::form::{Form, Word};
+use crate::limits::check_batches;
+use crate::parts::{batches_of, check_names, items_of, text_of};
+use crate::{Command, Part, Refusal};
+use pn_record::{ImageFault, read_value};
+use serde_json::{Map, Value};
+use std::alloc::Global;
+
+impl From<ImageFault> for Refusal {
+    ghost from_gives = { λ fault refusal. refusal ≡ refusal_of fault };
+
+    fn from(fault: ImageFault) -> Refusal {
+        match fault {
+            ImageFault::TooLong => Refusal::TooLong,
+            ImageFault::NotJson => Refusal::NotJson,
+            ImageFault::Memory => Refusal::Memory,
+            ImageFault::BadShape(member) => Refusal::BadShape(Part::Image(member)),
+            ImageFault::OutOfRange(member) => Refusal::OutOfRange(Part::Image(member)),
+        }
+    }
+}
+
+/// The command that a line is, or its first fault. `TooLong` where it has more than 65,536 bytes;
+/// otherwise `NotJson` where `serde_json` reads no value in it; otherwise `BadShape` with the first
+/// part that is absent or of another kind; otherwise `OutOfRange` with the first that breaks a limit.
+/// `Memory` may stand in place of any of these but the first, where a growth was refused.
+#[tactic(auto, unfolding(crate::specs::Commands::command_at))]
+pub fn command_of(alloc: Global, line: &[u8]) -> Result<Command, Refusal>
+    ensures exact { AnswersAs asked result (command_at line.now) }
+    ensures too_long { 65536 < length line.now → IsErrOf result Refusal.TooLong }
+{
+    let value = read_value(alloc, line)?;
+    command_in(alloc, &value)
+}
+
+#[tactic(auto, unfolding(crate::specs::Commands::command_in))]
+fn command_in(alloc: Global, value: &Value) -> Result<Command, Refusal>
+    ensures { AnswersAs asked result (command_seen (view value.now)) }
+{
+    let members = value.as_object().ok_or(Refusal::BadShape(Part::Whole))?;
+    match word_of(value.get("do"))? {
+        Word::Deliver => deliver_of(alloc, members, value),
+        Word::Scan => scan_of(members, value),
+    }
+}
+
+fn word_of(value: Option<&Value>) -> Result<Word, Refusal>
+    ensures { result ≡ part_in Do (λ d. option_and_then word_named (as_str d)) (seen value.entry) }
+{
+    match value.and_then(Value::as_str) {
+        Some(text) => Word::read(text).ok_or(Refusal::BadShape(Part::Do)),
+        None => Err(Refusal::BadShape(Part::Do)),
+    }
+}
+
+#[tactic(auto, unfolding(crate::specs::Commands::deliver_in))]
+fn deliver_of(alloc: Global, members: &Map<String, Value>, value: &Value) -> Result<Command, Refusal>
+    ensures { AnswersAs asked result (deliver_in (members_view members.now.entries) (view value.now)) }
+{
+    let items = items_of(Part::Batches, value.get("batches"))?;
+    let shapes = batches_of(alloc, items)?;
+    check_names(Form::Command(Word::Deliver), members)?;
+    check_batches(&shapes)?;
+    Ok(Command::Deliver(built_batches(alloc, &shapes)?))
+}
+
+#[tactic(auto, unfolding(crate::specs::Commands::scan_in))]
+fn scan_of(members: &Map<String, Value>, value: &Value) -> Result<Command, Refusal>
+    ensures { AnswersAs asked result (scan_in (members_view members.now.entries) (view value.now)) }
+{
+    check_query(value.get("query"))?;
+    check_names(Form::Command(Word::Scan), members)?;
+    Ok(Command::Scan)
+}
+
+fn check_query(value: Option<&Value>) -> Result<(), Refusal>
+    ensures { result ≡ part_in Query query_in (seen value.entry) }
+{
+    match value.and_then(Value::as_object) {
+        Some(members) => {
+            if is_empty(members) {
+                Ok(())
+            } else {
+                Err(Refusal::BadShape(Part::Query))
+            }
+        }
+        None => Err(Refusal::BadShape(Part::Query)),
+    }
+}
+
+fn is_empty(members: &Map<String, Value>) -> bool
+    ensures { result ≡ no_members (members_view members.now.entries) }
+{
+    members.is_empty()
+}

@@ -1,0 +1,110 @@
+//! Replies of fixed texts, names and numbers, which take no memory.
+
+ghost use Rattle.std.specs.Prelude.{◌≡◌, ◌+◌, ◌≤◌, [], ◌++◌, length};
+ghost use Rattle.pn_serve.specs.Rows.{line_of};
+ghost use Rattle.pn_serve.specs.Replies.{part_word, refusal_data, changed_data};
+
+use crate::{Part, Refusal};
+use std::marker::Model;
+
+/// The most bytes of a short reply.
+const ROOM: usize = 128;
+
+/// A reply of one line, held in place.
+#[derive(Drop)]
+pub struct ShortReply {
+    bytes: [u8; ROOM],
+    len: usize,
+}
+
+impl Model for ShortReply {
+    ghost use Rattle.std.specs.Prelude.{ℕ, List, take, ◌≤◌};
+
+    ghost Value = { List ℕ };
+
+    ghost view = { λ reply. take reply.len reply.bytes };
+
+    ghost invariant = { λ reply. reply.len ≤ 128 };
+}
+
+impl ShortReply {
+    /// The whole line, with its newline.
+    pub fn as_bytes(&self) -> &[u8]
+        ensures { result.now ≡ self.now }
+    {
+        &self.bytes[..self.len]
+    }
+
+    fn new() -> ShortReply
+        ensures { result ≡ [] }
+    {
+        ShortReply {
+            bytes: [0; ROOM],
+            len: 0,
+        }
+    }
+
+    fn push(&mut self, text: &str)
+        requires { length self.old + length text.now ≤ 128 }
+        ensures { self.new ≡ self.old ++ text.now }
+    {
+        let end = self.len + text.len();
+        self.bytes[self.len..end].copy_from_slice(text.as_bytes());
+        self.len = end;
+    }
+}
+
+/// The reply to a line that was refused, as `{"error":"bad-shape","member":"key"}`.
+#[tactic(auto, unfolding(crate::specs::Replies::refusal_data, serde_json::proofs::OnLiterals::serde_json_on_literals))]
+pub fn refusal_reply(refusal: &Refusal) -> ShortReply
+    ensures { result ≡ line_of (refusal_data refusal.now) }
+{
+    let mut reply = ShortReply::new();
+    match refusal {
+        Refusal::TooLong => reply.push("{\"error\":\"too-long\"}\n"),
+        Refusal::NotJson => reply.push("{\"error\":\"not-json\"}\n"),
+        Refusal::BadShape(part) => {
+            reply.push("{\"error\":\"bad-shape\",\"member\":\"");
+            reply.push(part.word());
+            reply.push("\"}\n");
+        }
+        Refusal::OutOfRange(part) => {
+            reply.push("{\"error\":\"out-of-range\",\"member\":\"");
+            reply.push(part.word());
+            reply.push("\"}\n");
+        }
+        Refusal::Memory => reply.push("{\"error\":\"memory\"}\n"),
+    }
+    reply
+}
+
+/// The reply to a delivery, `{"changed":N}`: how many records it changed.
+#[tactic(auto, unfolding(crate::specs::Replies::changed_data, serde_json::proofs::OnLiterals::serde_json_on_literals))]
+pub fn changed_reply(count: u64) -> ShortReply
+    ensures { result ≡ line_of (changed_data count) }
+{
+    let mut reply = ShortReply::new();
+    reply.push("{\"changed\":");
+    reply.push(itoa::Buffer::new().format(count));
+    reply.push("}\n");
+    reply
+}
+
+impl Part {
+    /// The part's name in lower case; of a part of an image, the name of its member.
+    pub fn word(&self) -> &'static str
+        ensures { result.now ≡ part_word self.now }
+    {
+        match self {
+            Part::Whole => "whole",
+            Part::Do => "do",
+            Part::Batches => "batches",
+            Part::First => "first",
+            Part::Images => "images",
+            Part::Stream => "stream",
+            Part::Query => "query",
+            Part::Other => "other",
+            Part::Image(member) => member.word(),
+        }
+    }
+}
