@@ -36,8 +36,9 @@ fn joined_cuts_from_seeds_1_to_36_have_the_slow_rows(rt: HostRuntime) -> Result<
         let images = images_of(rt.alloc(), seed, COUNT)?;
         let wanted = slow::scan_of(rt.alloc(), &images)?;
         for cut in [0, 1, 7, COUNT] {
-            let mut front = records_of(rt.alloc(), images.iter().take(cut))?;
-            let mut back = records_of(rt.alloc(), images.iter().skip(cut))?;
+            let (front, back) = images.split_at(cut.min(images.len()));
+            let mut front = records_of(rt.alloc(), front)?;
+            let mut back = records_of(rt.alloc(), back)?;
             join_records(&mut back, &front)?;
             join_records(&mut front, &back)?;
             for records in [&front, &back] {
@@ -56,20 +57,18 @@ fn joined_cuts_from_seeds_1_to_36_have_the_slow_rows(rt: HostRuntime) -> Result<
 #[test]
 fn reversed_lists_from_seeds_1_to_36_have_the_slow_rows(rt: HostRuntime) -> Result<(), Fail> {
     for seed in 1..=36 {
-        let images = images_of(rt.alloc(), seed, COUNT)?;
-        let records = records_of(rt.alloc(), images.iter().rev())?;
-        let reply = scan_reply(rt.alloc(), &records)?;
+        let mut images = images_of(rt.alloc(), seed, COUNT)?;
         let wanted = slow::scan_of(rt.alloc(), &images)?;
+        images.reverse();
+        let records = records_of(rt.alloc(), &images)?;
+        let reply = scan_reply(rt.alloc(), &records)?;
         assert_eq!(rt; reply.as_slice(), wanted.as_bytes(), "seed {seed}");
     }
     Ok(())
 }
 
 // The records of images, each read from its line and taken in turn.
-fn records_of<'a, I: Iterator<Item = &'a PlainImage>>(
-    alloc: Global,
-    images: I,
-) -> Result<Records, Fail> {
+fn records_of(alloc: Global, images: &[PlainImage]) -> Result<Records, Fail> {
     let mut records = Records::new(alloc);
     for image in images {
         let line = line_of(alloc, *image)?;

@@ -104,25 +104,26 @@ fn push_delivery(
     script: &mut String,
     images: &[PlainImage],
 ) -> Result<(), AllocError> {
+    let (first, others) = images.split_at(images.len().min(1));
     script.push_str("{\"batches\":[{\"first\":1,\"images\":[")?;
-    push_images(alloc, script, images, 0, 1)?;
+    script.push_str(list_of(alloc, first)?.as_str())?;
     script.push_str("],\"stream\":\"east\"},{\"first\":1,\"images\":[")?;
-    push_images(alloc, script, images, 1, images.len())?;
+    script.push_str(list_of(alloc, others)?.as_str())?;
     script.push_str("],\"stream\":\"west\"}],\"do\":\"deliver\"}\n")
 }
 
-fn push_images(
-    alloc: Global,
-    script: &mut String,
-    images: &[PlainImage],
-    from: usize,
-    count: usize,
-) -> Result<(), AllocError> {
-    let mut comma = "";
-    for image in images.iter().skip(from).take(count) {
-        script.push_str(comma)?;
-        script.push_str(line_of(alloc, *image)?.as_str())?;
-        comma = ",";
+fn list_of(alloc: Global, images: &[PlainImage]) -> Result<String, AllocError> {
+    let mut list = String::new(alloc);
+    for image in images {
+        push_item(&mut list, line_of(alloc, *image)?.as_str())?;
     }
-    Ok(())
+    Ok(list)
+}
+
+/// Adds an item to a list, behind a comma where it is not the first.
+pub(crate) fn push_item(list: &mut String, item: &str) -> Result<(), AllocError> {
+    if !list.is_empty() {
+        list.push(',')?;
+    }
+    list.push_str(item)
 }

@@ -1,7 +1,7 @@
 //! A plain, slow program beside the fast one: it keeps all the images that it was given in one list, and
 //! finds each record by going through the whole list.
 
-use crate::images::{BODIES, KEYS, MASTERS, PlainImage, text_at};
+use crate::images::{BODIES, KEYS, MASTERS, PlainImage, push_item, text_at};
 use std::alloc::{AllocError, Global};
 
 /// What is known of a key: the greatest version, and the contents that came with it, in order, each once.
@@ -69,19 +69,15 @@ pub(crate) fn replies_of(
 
 /// The reply to a scan of the records of these images.
 pub(crate) fn scan_of(alloc: Global, images: &[PlainImage]) -> Result<String, AllocError> {
-    let mut reply = String::from_str(alloc, "{\"next\":null,\"rows\":[")?;
-    let mut comma = "";
+    let mut rows = String::new(alloc);
     for key in 0..KEYS.len() {
         if let Some(record) = record_of(alloc, images, key)? {
             if record.is_shown() {
-                reply.push_str(comma)?;
-                reply.push_str(record.row(alloc, key)?.as_str())?;
-                comma = ",";
+                push_item(&mut rows, record.row(alloc, key)?.as_str())?;
             }
         }
     }
-    reply.push_str("]}\n")?;
-    Ok(reply)
+    format!(in alloc; "{{\"next\":null,\"rows\":[{rows}]}}\n")
 }
 
 impl PlainRecord {
@@ -104,16 +100,13 @@ impl PlainRecord {
     }
 
     fn contents_text(&self, alloc: Global) -> Result<String, AllocError> {
-        let mut text = String::new(alloc);
-        let mut comma = "";
+        let mut contents = String::new(alloc);
         for (body, master) in &self.contents {
             let body = text_at(&BODIES, *body);
             let master = text_at(&MASTERS, *master);
-            text.push_str(format!(in alloc;
-                "{comma}{{{body},\"master\":\"{master}\"}}"
-            )?.as_str())?;
-            comma = ",";
+            let content = format!(in alloc; "{{{body},\"master\":\"{master}\"}}")?;
+            push_item(&mut contents, content.as_str())?;
         }
-        Ok(text)
+        Ok(contents)
     }
 }

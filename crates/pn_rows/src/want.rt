@@ -34,25 +34,26 @@ fn assert_repeats<R: Abort + AllocGlobal>(rt: &R, row: Row) -> Result<(), Fail> 
     let ended = run(rt.alloc(), &mut Twice::new(row.script), &mut output);
     let replies = str::from_utf8(output.as_bytes())?;
     if ended == Err(RunFault::Memory) {
-        assert_eq!(rt;
-            replies,
-            "",
-            "nothing is written where there is no memory to begin"
-        );
+        // There was none to begin with.
+        assert!(rt; replies.is_empty(), "{replies}");
         return Ok(());
     }
     assert!(rt; ended.is_ok());
-    let mut replies = replies.lines();
-    for wanted in row.replies.lines() {
-        let first = replies.next().unwrap_or("");
-        let second = replies.next().unwrap_or("");
-        assert!(rt;
-            is_answered(wanted, first, second),
-            "{first} and {second}, for {wanted}"
-        );
-    }
-    assert!(rt; replies.next().is_none());
+    assert!(rt; are_answers(row.replies, replies), "{replies}");
     Ok(())
+}
+
+fn are_answers(wanted: &str, replies: &str) -> bool {
+    let mut replies = replies.lines();
+    for wanted in wanted.lines() {
+        let (Some(first), Some(second)) = (replies.next(), replies.next()) else {
+            return false;
+        };
+        if !is_answered(wanted, first, second) {
+            return false;
+        }
+    }
+    replies.next().is_none()
 }
 
 // Whether two equal lines in turn may have these replies, where the first has the wanted one if no
