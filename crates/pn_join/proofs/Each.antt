@@ -1,5 +1,5 @@
 -- What holds of each element of a list, by recursion on it.
-use Rattle.std.proofs.Common.{List, [], ◌∷◌, ◌++◌, ◌≡◌}
+use Rattle.std.proofs.Common.{List, [], ◌∷◌, ◌++◌}
 use Rattle.std.specs.List.{AllByRecursion}
 
 module _ {A : Type 0} (P : A → Type 0) where

@@ -4,7 +4,6 @@ use Rattle.std.specs.Cmp.{IsTotalOrder}
 use Rattle.std.specs.FinMap.{put}
 use Rattle.std.specs.FinMap.Entries.{by_order}
 use Rattle.pn_join.specs.Places.{later, place_of}
-use Rattle.pn_join.proofs.Rising.{flipped}
 
 later_is_err : (r : Result ℕ ℕ) (i : ℕ) → Err (suc i) ≡ later r → Err i ≡ r
 later_is_err (Ok j) i is = cc

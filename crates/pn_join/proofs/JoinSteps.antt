@@ -36,7 +36,7 @@ module _ {K X : Type 0} (cmp : K → K → Ordering) (o : IsTotalOrder cmp) wher
   not_found_yet es h i e within at = not_found_before (take i es) e (drop (i + 1) es) (rw (split_at es i e within at) at h)
 
   module _ {M : Type 0} (meaning : X → M) (joined : M → M → M) where
-    contents_at_push : (es : List (K × X)) (e : K × X) → find cmp e.0 es ≡ None → contents_at cmp meaning (es ++ e ∷ []) ≡ key_by_key joined (contents_at cmp meaning es) (contents_at cmp meaning (e ∷ []))
+    pub contents_at_push : (es : List (K × X)) (e : K × X) → find cmp e.0 es ≡ None → contents_at cmp meaning (es ++ e ∷ []) ≡ key_by_key joined (contents_at cmp meaning es) (contents_at cmp meaning (e ∷ []))
     contents_at_push es e none =
         (λ i q. option_map meaning ((find-append cmp o es e.0 e.1 q none ∙ sym (find-put cmp o q e.0 e.1 es)) i))
         ∙ contents_at-put cmp o meaning joined e.0 e.1 e.1 es (ap (λ x. optional_joined joined (option_map meaning x) (Some (meaning e.1))) (sym none))

@@ -1,3 +1,5 @@
+pub mod ChangeSteps
+pub mod ChangesSoFar
 pub mod Each
 pub mod Gaps
 pub mod JoinSteps
@@ -7,4 +9,5 @@ pub mod PlaceSearch
 pub mod Places
 pub mod Puts
 pub mod Rising
+pub mod TableFacts
 pub mod WithContents

@@ -1,13 +1,14 @@
 -- One more entry put into its gap, as what follows it moves aside.
-use Rattle.std.proofs.Common.{◌≡◌, ℕ, ◌≤◌, List, [], ◌∷◌, ◌++◌, map, reverse, take, drop, length, Ordering, Less, refl, sym, ap, ◌∙◌, append_assoc, append-nil}
+use Rattle.std.proofs.Common.{◌≡◌, ℕ, ◌≤◌, List, [], ◌∷◌, ◌++◌, reverse, take, drop, length, Ordering, Less, refl, sym, ap, ◌∙◌, Err, le_refl}
 use Rattle.std.proofs.lemmas.List.{map_push, reverse-append, reverse-reverse}
 use Rattle.std.specs.List.{AllByRecursion}
 use Rattle.std.specs.Cmp.{IsTotalOrder}
 use Rattle.std.specs.FinMap.{put}
 use Rattle.pn_join.specs.declared.table.changes.Placed.{Placed}
-use Rattle.pn_join.specs.Changes.{items_of, with_entries}
-use Rattle.pn_join.proofs.Each.{each_front, each_back, each_weaker, each_by_both}
-use Rattle.pn_join.proofs.Gaps.{IsBelowFirst, IsGap, put_in_gap, IsGap-take}
+use Rattle.pn_join.specs.Changes.{first_place, items_of, with_entries}
+use Rattle.pn_join.specs.Places.{place_of}
+use Rattle.pn_join.proofs.Each.{each_front, each_back, each_by_both}
+use Rattle.pn_join.proofs.Gaps.{IsBelowFirst, IsGap, IsGap-from_place, gap_within, put_in_gap, IsGap-take, gap_before}
 use Rattle.pn_join.proofs.Rising.{Below, Rising, Rising-front}
 
 module _ {K X : Type 0} (cmp : K → K → Ordering) where
@@ -46,3 +47,21 @@ module _ {K X : Type 0} (cmp : K → K → Ordering) where
   pub below_front : (front : List (Placed (K × X))) (a : Placed (K × X)) (back aside : List (K × X)) → Rising cmp (items_of (front ++ a ∷ [])) → AllByRecursion (λ b. IsBelowFirst cmp b.item.0 (reverse ((aside ++ reverse back) ++ a.item ∷ []))) front
   below_front front a back aside rising =
       rw (reverse_aside aside back a.item) (less_than_last front a rising)
+
+  below_each : (k : K) (placed : List (Placed (K × X))) → Below cmp k (items_of placed) → AllByRecursion (λ b. cmp k b.item.0 ≡ Less) placed
+  below_each k [] h = tt
+  below_each k (b ∷ placed) h = (h.0, below_each k placed h.1)
+
+  -- no place is before the first
+  pub first_place-le : IsTotalOrder cmp → (placed : List (Placed (K × X))) (end : ℕ) (es : List (K × X)) → Rising cmp (items_of placed) → AllByRecursion (λ b. Err b.place ≡ place_of cmp b.item.0 es) placed → AllByRecursion (λ b. first_place placed end ≤ b.place) placed
+  first_place-le o [] end es rising gaps = tt
+  first_place-le o (a ∷ placed) end es rising gaps = (
+    le_refl a.place,
+    each_by_both (λ b. cmp a.item.0 b.item.0 ≡ Less) (λ b. Err b.place ≡ place_of cmp b.item.0 es) (λ b. a.place ≤ b.place)
+        (λ b less gap. gap_before cmp o a.item.0 b.item.0 less es a.place b.place (IsGap-from_place cmp a.item.0 es a.place gaps.0) (IsGap-from_place cmp b.item.0 es b.place gap))
+        placed (below_each a.item.0 placed rising.0) gaps.1,
+  )
+
+  pub first_place_within : (placed : List (Placed (K × X))) (es : List (K × X)) → AllByRecursion (λ b. Err b.place ≡ place_of cmp b.item.0 es) placed → first_place placed (length es) ≤ length es
+  first_place_within [] es gaps = le_refl (length es)
+  first_place_within (a ∷ placed) es gaps = gap_within cmp a.item.0 es a.place (IsGap-from_place cmp a.item.0 es a.place gaps.0)

@@ -1,5 +1,5 @@
 -- What stands in a table once contents are put at their places.
-use Rattle.std.proofs.Common.{◌≡◌, ℕ, zero, suc, List, [], ◌∷◌, ◌++◌, get_or, set, length, Result, Ok, Err, Ordering, Less, Equal, Greater, refl, sym, ap, ◌∙◌}
+use Rattle.std.proofs.Common.{◌≡◌, ℕ, zero, suc, List, [], ◌∷◌, ◌++◌, get_or, set, length, Result, Ok, Err, Ordering, Less, Equal, Greater, refl, ap, ◌∙◌}
 use Rattle.std.specs.FinMap.{put}
 use Rattle.std.specs.FinMap.Entries.{by_order}
 use Rattle.pn_join.specs.declared.table.changes.Placed.{Placed}

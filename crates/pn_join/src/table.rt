@@ -6,10 +6,14 @@ ghost use Rattle.std.specs.Ordering.{is_lt};
 ghost use Rattle.std.specs.FinMap.{find, put, is_sorted};
 ghost use Rattle.pn_join.specs.Tables.{contents_at, key_by_key, IsTable};
 ghost use Rattle.pn_join.specs.Places.{place_of};
+ghost use Rattle.pn_join.specs.Changes.{IsJoinOf};
 
 mod changes;
+#[cfg(test)]
+mod tests;
 
 use crate::{Dup, Join, NoMemory};
+use changes::{Changes, Placed, put_in};
 use std::alloc::Global;
 use std::marker::Model;
 
@@ -104,11 +108,38 @@ impl<K: Ord + Dup, C: Join> Table<K, C> {
     {
         self.entries.binary_search_by(|(other, _)| other.cmp(key))
     }
+
+    /// What a join with the other brings: a content for each of its keys that is here, and an entry
+    /// for each that is not.
+    fn changes_from(&self, other: &Self) -> Result<Changes<K, C>, NoMemory>
+        ensures { IfOk result (λ changes. IsJoinOf K.cmp C.meaning C.joined C.valid self.now other.now
+            changes.contents.items changes.added.items) }
+    {
+        let alloc = *self.entries.allocator();
+        let mut changes = Changes {
+            contents: Vec::new(alloc),
+            added: Vec::new(alloc),
+        };
+        for (key, content) in &other.entries {
+            match self.place_of(key) {
+                Ok(place) => {
+                    let mut item = self.entries[place].1.dup()?;
+                    item.join_from(content)?;
+                    changes.contents.push(Placed { place, item })?;
+                }
+                Err(place) => {
+                    let item = (key.dup()?, content.dup()?);
+                    changes.added.push(Placed { place, item })?;
+                }
+            }
+        }
+        Ok(changes)
+    }
 }
 
 impl<K: Ord + Dup, C: Join> Dup for Table<K, C> {
     fn dup(&self) -> Result<Self, NoMemory> {
-        let mut entries = Vec::with_capacity(*self.entries.allocator(), self.entries.len())?;
+        let mut entries = Vec::with_capacity(*self.entries.allocator(), self.len())?;
         for (key, content) in &self.entries {
             entries.push_reserved((key.dup()?, content.dup()?));
         }
@@ -132,12 +163,12 @@ impl<K: Ord + Dup, C: Join> Join for Table<K, C> {
     ghost laws = { key_by_key-laws C.laws };
 
     fn join_from(&mut self, other: &Self) -> Result<(), NoMemory> {
-        let (_, others) = (&self.entries, &other.entries);
-        let mut joined = self.dup()?;
-        for (key, content) in others {
-            joined.join_entry(key.dup()?, content.dup()?)?;
+        // Only a table that has been looked into is known to be one.
+        let _ = &self.entries;
+        if let [(key, content)] = other.entries.as_slice() {
+            return self.join_entry(key.dup()?, content.dup()?);
         }
-        *self = joined;
-        Ok(())
+        let changes = self.changes_from(other)?;
+        put_in(&mut self.entries, changes)
     }
 }

@@ -1,5 +1,5 @@
 -- The cells of one list followed by another are the join of the cells of both.
-use Rattle.std.proofs.Common.{◌≡◌, ℕ, zero, suc, ◌<◌, length, get_or, Contains, arith, Bool, true, false, cond, List, [], ◌∷◌, ◌++◌, map, filter, Option, Some, None, refl, sym, ap, ◌∙◌, subst}
+use Rattle.std.proofs.Common.{◌≡◌, ℕ, zero, suc, ◌<◌, length, get_or, Contains, arith, cond, List, [], ◌∷◌, ◌++◌, map, filter, Option, Some, None, refl, sym, ap, ◌∙◌, subst}
 use Rattle.std.specs.declared.cmp.Ordering.{Ordering}
 use Rattle.std.specs.declared.cmp.Ordering.TheVariants.{Less, Equal, Greater}
 use Rattle.std.specs.Ordering.{eq_by_cmp, is_eq}
@@ -10,13 +10,12 @@ use Rattle.std.proofs.lemmas.Cmp.{tied_itself}
 use Rattle.std.proofs.lemmas.List.Elements.{filter-append}
 use Rattle.pn_join.specs.Tables.{optional_joined}
 use Rattle.pn_record.specs.declared.image.Image.{Image}
-use Rattle.pn_record.specs.Limits.{Shown}
 use Rattle.pn_record.specs.Order.{version_cmp}
 use Rattle.pn_record.specs.Totals.{version_cmp_total, version_cmp-exact}
 use Rattle.pn_record.specs.Cells.{SameImages, later, top, images_of, contents_with, cell_of, cells}
-use Rattle.pn_record.specs.Sets.{Celled, Stamp, Contents, set_of, union, cell_joined}
+use Rattle.pn_record.specs.Sets.{Celled, Stamp, Contents, set_of, cell_joined}
 use Rattle.pn_record.specs.Unions.{set_of-append}
-use Rattle.pn_record.specs.JoinedCells.{cell_joined-laws, joined-less, joined-equal, joined-greater, turned-less, turned-equal, turned-greater, greater-trans, by_versions}
+use Rattle.pn_record.specs.JoinedCells.{cell_joined-laws, joined-less, joined-equal, joined-greater, turned-less, turned-greater, greater-trans, by_versions}
 
 later-less : (v w : Stamp) → version_cmp v w ≡ Less → later v w ≡ w
 later-less v w e = ap (λ r. by_order r w w v) e

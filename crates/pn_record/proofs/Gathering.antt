@@ -1,5 +1,5 @@
 -- Two lists in content order, gathered step by step.
-use Rattle.std.proofs.Common.{◌≡◌, ℕ, ◌+◌, ◌-◌, ◌<◌, ◌≤◌, Bool, true, ◌&&◌, List, [], ◌∷◌, ◌++◌, length, get_or, take, drop, arith, Option, Some, None, refl, sym, ap, ◌∙◌, append_assoc, subst}
+use Rattle.std.proofs.Common.{◌≡◌, ◌+◌, ◌<◌, true, List, [], ◌∷◌, ◌++◌, length, arith, Option, Some, None, refl, sym, ap, ◌∙◌, append_assoc, subst}
 use Rattle.std.specs.declared.cmp.Ordering.TheVariants.{Less, Equal, Greater}
 use Rattle.std.specs.Ordering.{is_lt, ordering_reverse}
 use Rattle.std.specs.FinMap.{get, is_sorted}
@@ -9,7 +9,7 @@ use Rattle.pn_record.specs.Limits.{Shown}
 use Rattle.pn_record.specs.Order.{content_cmp}
 use Rattle.pn_record.specs.Totals.{content_cmp_total, content_cmp-exact}
 use Rattle.pn_record.specs.Sets.{Contents, IsContents, as_entries, set_of, union}
-use Rattle.pn_record.proofs.Sorted.{both_true, first_true, second_true, is_less, below_lesser}
+use Rattle.pn_record.proofs.Sorted.{both_true, first_true, second_true, below_lesser}
 use Rattle.pn_record.specs.Unions.{either, get-union, same, set_of-append, union-empty, union-assoc}
 
 -- the contents are in content order, each once

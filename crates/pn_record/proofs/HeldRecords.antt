@@ -1,21 +1,21 @@
 -- What the entries of a table hold of lists of images.
-use Rattle.std.proofs.Common.{◌≡◌, ℕ, ◌<◌, Bool, true, false, ◌&&◌, cond, List, [], ◌∷◌, ◌++◌, map, filter, length, Option, Some, None, IsTrue, refl, sym, ap, ◌∙◌, subst, rules, arith}
+use Rattle.std.proofs.Common.{◌≡◌, ℕ, ◌<◌, Bool, true, false, cond, List, [], ◌∷◌, ◌++◌, map, length, Option, Some, None, refl, sym, ap, ◌∙◌, rules, arith}
 use Rattle.std.specs.declared.cmp.Ordering.TheVariants.{Less, Equal, Greater}
 use Rattle.std.specs.Ordering.{eq_by_cmp, is_lt, is_eq}
 use Rattle.std.specs.Option.{option_map}
 use Rattle.std.specs.Str.{bytes_eq}
 use Rattle.std.specs.Cmp.Rules.{comparing}
-use Rattle.std.specs.List.{AllByRecursion, flat_map}
+use Rattle.std.specs.List.{AllByRecursion}
 use Rattle.std.specs.FinMap.{find, is_sorted, keys}
 use Rattle.std.specs.FinMap.Entries.{below_all}
 use Rattle.std.proofs.lemmas.Cmp.{eq_by_cmp_equiv, tied_itself, nat_list_cmp_total}
 use Rattle.std.proofs.lemmas.Map.Lookups.{exact_bytes}
-use Rattle.pn_join.specs.Tables.{contents_at, key_by_key, IsTable, optional_joined}
+use Rattle.pn_join.specs.Tables.{contents_at, key_by_key}
 use Rattle.pn_record.specs.declared.image.Image.{Image}
 use Rattle.pn_record.specs.Limits.{Shown}
-use Rattle.pn_record.specs.Order.{bytes_cmp, version_cmp}
+use Rattle.pn_record.specs.Order.{bytes_cmp}
 use Rattle.pn_record.specs.Totals.{version_cmp_total}
-use Rattle.pn_record.specs.Sets.{Stamp, Celled, HasContents, set_of, union, cell_joined}
+use Rattle.pn_record.specs.Sets.{Stamp, Celled, HasContents, set_of, cell_joined}
 use Rattle.pn_record.specs.Unions.{set_of-append, set_of-keys}
 use Rattle.pn_record.specs.JoinedCells.{joined-equal}
 use Rattle.pn_record.specs.Cells.{Holds, cell_of, cells, images_of, spell, spell_cell}

@@ -1,9 +1,9 @@
 -- What a look into a value found, the value is.
-use Rattle.std.proofs.Common.{◌≡◌, ℕ, List, [], ◌∷◌, Bool, true, false, Option, Some, None, option_map, option_and_then, unwrap_or, is_some, Result, Ok, Err, refl, sym, ap, ◌∙◌}
+use Rattle.std.proofs.Common.{◌≡◌, ℕ, List, [], true, false, Option, Some, None, option_map, option_and_then, unwrap_or, is_some, Result, Ok, Err, refl, ap, ◌∙◌}
 use Rattle.std.proofs.lemmas.Bool.{and_parts}
 use Rattle.std.specs.Option.{ok_or}
 use Rattle.serde_json.specs.Data.{Num, unsigned, negative, float, Data, null, boolean, number, string, array, object, Items, no_items, item, Members, no_members, member}
-use Rattle.serde_json.specs.Find.{as_bool, as_number, as_u64, as_str, as_array, as_object}
+use Rattle.serde_json.specs.Find.{as_bool, as_u64, as_str, as_array, as_object}
 use Rattle.pn_record.specs.Checks.{◌>>=◌}
 use Rattle.pn_record.specs.Grammar.{whole_number, two_numbers, numbers_in, all_texts, fields_of}
 use Rattle.pn_record.specs.Writing.{version_data, fields_data}

@@ -1,11 +1,9 @@
 -- The laws of cells that `src/laws.rt` states.
-use Rattle.std.proofs.Common.{◌≡◌, ℕ, zero, suc, ◌<◌, Bool, true, false, List, [], ◌∷◌, map, length, get_or, Option, Some, None, IsTrue, Contains, All, MatchOption, refl, sym, ap, ◌∙◌, subst, ◌⊎◌, inl, inr, lit<, arith}
-use Rattle.std.specs.declared.cmp.Ordering.{Ordering}
-use Rattle.std.specs.declared.cmp.Ordering.TheVariants.{Less, Equal, Greater}
+use Rattle.std.proofs.Common.{◌≡◌, ℕ, suc, false, List, [], ◌∷◌, map, get_or, Some, None, IsTrue, Contains, MatchOption, refl, sym, ap, ◌∙◌, subst, ◌⊎◌, inl, inr, lit<, arith}
 use Rattle.std.specs.Ordering.{is_gt}
 use Rattle.std.specs.Option.{option_map_or}
 use Rattle.std.specs.List.{AllByRecursion}
-use Rattle.std.specs.FinMap.{find, is_sorted}
+use Rattle.std.specs.FinMap.{is_sorted}
 use Rattle.std.specs.FinMap.Entries.{same_entries, by_order}
 use lib.Dec.{T}
 use Rattle.std.proofs.lemmas.Cmp.{upto, tied_itself, nat_list_cmp_total}
@@ -13,8 +11,8 @@ use Rattle.std.proofs.lemmas.List.Elements.{All-from_recursion}
 use Rattle.std.proofs.lemmas.Map.Lookups.{exact_bytes}
 use Rattle.pn_record.specs.declared.image.Image.{Image}
 use Rattle.pn_record.specs.Order.{bytes_cmp, version_cmp}
-use Rattle.pn_record.specs.Totals.{version_cmp_total, version_cmp-exact}
-use Rattle.pn_record.specs.Sets.{Stamp, Celled, cell_joined}
+use Rattle.pn_record.specs.Totals.{version_cmp_total}
+use Rattle.pn_record.specs.Sets.{Stamp, Celled}
 use Rattle.pn_record.specs.JoinedCells.{by_versions, turned-greater}
 use Rattle.pn_record.specs.Cells.{IsTop, Holds, SameImages, later, top}
 use Rattle.pn_record.proofs.CellLists.{cells-same}

@@ -4,6 +4,8 @@ pub mod FieldSteps
 pub mod Fields
 pub mod Gathering
 pub mod HeldRecords
+pub mod ImageLines
+pub mod ImageText
 pub mod Inverses
 pub mod LawProofs
 pub mod Limiting
@@ -14,3 +16,4 @@ pub mod Orders
 pub mod SameImage
 pub mod ShapeParts
 pub mod Sorted
+pub mod Written

@@ -1,5 +1,5 @@
 -- The members of an image keep the limits exactly where no range is broken.
-use Rattle.std.proofs.Common.{◌≡◌, List, Bool, true, false, not, ◌&&◌, cond, Option, Some, None, Result, Ok, Err, IsTrue, refl}
+use Rattle.std.proofs.Common.{◌≡◌, List, Bool, true, false, not, ◌&&◌, cond, Option, Some, None, Result, Ok, Err, refl}
 use Rattle.std.proofs.lemmas.Bool.{and_parts, and_from}
 use Rattle.pn_join.specs.Naming.{is_name}
 use Rattle.pn_record.specs.Limits.{Field, is_key, is_version, is_body, is_content, fields_fit, names_rise}

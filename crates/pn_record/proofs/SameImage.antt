@@ -1,16 +1,21 @@
 -- A value that has the shape of an image is the JSON of that image, and that JSON has its shape.
-use Rattle.std.proofs.Common.{◌≡◌, ℕ, List, [], ◌∷◌, codes, Bool, true, false, ◌||◌, cond, Option, Some, None, Ok, IsTrue, bytes_eq, refl, sym, ap, ◌∙◌}
-use Rattle.std.proofs.lemmas.Bool.{and_parts}
+use Rattle.std.proofs.Common.{◌≡◌, ℕ, List, [], ◌∷◌, codes, Bool, true, false, Option, Some, None, Ok, String, Global, string_cmp, bytes_eq, refl, sym, ap, ◌∙◌}
 use Rattle.std.proofs.lemmas.Slice.Eq.{bytes_eq-Decides}
 use Rattle.std.specs.List.{list_any}
+use Rattle.std.specs.List.Sorted.{IsStrictlySortedBy}
+use Rattle.std.specs.Map.{keys_of}
 use Rattle.serde_json.specs.Data.{Data, string, object, Members, no_members, member}
-use Rattle.serde_json.specs.Find.{get_member}
+use Rattle.serde_json.specs.Find.{get_member, as_object}
+use Rattle.serde_json.specs.View.{members_view}
+use Rattle.serde_json.specs.declared.value.Value.{Value}
 use Rattle.pn_record.specs.Limits.{Field}
-use Rattle.pn_record.specs.Grammar.{image_members, only_named, all_texts, fields_of, shape_in, ranges_in, image_in}
+use Rattle.pn_record.specs.Grammar.{image_members, only_named, all_texts, fields_of, shape_in, image_in}
 use Rattle.pn_record.specs.Writing.{version_data, fields_data, body_data, image_data}
-use Rattle.pn_record.specs.Canonical.{is_image}
+use Rattle.pn_record.specs.Canonical.{IsImage}
 use Rattle.pn_record.specs.declared.image.Image.{Image}
-use Rattle.pn_record.proofs.LookUps.{Rise, get_member-member, get_member-unnamed, same_members}
+use Rattle.pn_record.proofs.LookUps.{Rise, Rise-map, get_member-member, get_member-unnamed, same_members}
+use Rattle.pn_record.proofs.Inverses.{object_from_as_object}
+use Rattle.pn_record.proofs.Limiting.{in_ranges}
 use Rattle.pn_record.proofs.ShapeParts.{Holds, holds, at_deleted, at_fields}
 
 -- the members of an image's JSON
@@ -47,7 +52,7 @@ image_holds image = record {
   key = behind (codes "key") image.content.0 _ refl refl;
   master = behind (codes "master") image.content.0 _ refl refl;
   version = behind (codes "version") image.content.0 _ refl refl;
-  others = no_others image image.content.0
+  others = no_others image image.content.0;
 }
 
 at_name : (q name : List ℕ) (ms ns : Members) (o : Option Data) → get_member name ms ≡ o → get_member name ns ≡ o → bytes_eq q name ≡ true → get_member q ms ≡ get_member q ns
@@ -90,3 +95,15 @@ shape_again_of key master version (Some fields) = rw (all_texts-fields_data fiel
 -- the JSON of an image has its shape
 pub shape_again : (image : Image) → shape_in (image_data image) ≡ Ok image
 shape_again image = shape_again_of image.key image.content.1 image.version image.content.0
+
+-- the same of a value that a map holds
+pub shape_found_in : (d : Data) (entries : List (String Global × Value)) (image : Image) → Some (members_view entries) ≡ as_object d → IsStrictlySortedBy string_cmp (keys_of entries) → shape_in d ≡ Ok image
+    → d ≡ image_data image
+shape_found_in d entries image members ordered is =
+    let object_is : d ≡ object (members_view entries) = object_from_as_object d (members_view entries) (sym members) in
+    object_is ∙ shape_found (members_view entries) image (Rise-map entries ordered) (ap shape_in (sym object_is) ∙ is)
+
+-- an image's value is read as the image
+pub image_again : (d : Data) (image : Image) → IsImage d image → image_in d ≡ Ok image
+unfolding image_in
+image_again d image is = rw (is.value, shape_again image, in_ranges image is.limits) refl

@@ -1,15 +1,14 @@
 -- What a value that has the shape of an image holds at each name.
-use Rattle.std.proofs.Common.{◌≡◌, ℕ, List, [], ◌∷◌, codes, Bool, true, false, cond, Option, Some, None, option_and_then, unwrap_or, Result, Ok, Err, refl, sym, ap, ◌∙◌}
+use Rattle.std.proofs.Common.{◌≡◌, ℕ, List, codes, Bool, true, false, cond, Option, Some, None, option_and_then, unwrap_or, Ok, Err, refl, sym, ap, ◌∙◌}
 use Rattle.std.specs.Option.{ok_or}
 use Rattle.serde_json.specs.Data.{Data, boolean, string, object, Members}
-use Rattle.serde_json.specs.Find.{get, get_member, as_bool, as_object, as_str}
-use Rattle.pn_record.specs.Checks.{◌>>=◌}
+use Rattle.serde_json.specs.Find.{get_member, as_bool, as_object, as_str}
 use Rattle.pn_record.specs.Limits.{Field}
 use Rattle.pn_record.specs.Grammar.{numbers_in, only_named, image_members, all_texts, fields_of, deleted_in, object_fields, fields_in, text_in, shape_in}
 use Rattle.pn_record.specs.Writing.{version_data, fields_data}
 use Rattle.pn_record.specs.declared.image.Image.{Image}
 use Rattle.pn_record.specs.declared.fault.Member.{Member}
-use Rattle.pn_record.specs.declared.fault.Member.TheVariants.{Whole, Fields, Key, Master, Version, Other}
+use Rattle.pn_record.specs.declared.fault.Member.TheVariants.{Fields, Key, Master, Version, Other}
 use Rattle.pn_record.proofs.Inverses.{bind_ok, ok_or_ok, and_then_some, true_from_as_bool, string_from_as_str, object_from_as_object, version_from_numbers, fields_data-fields_of}
 
 -- what stands at `deleted`, and at `fields`
@@ -79,5 +78,5 @@ holds ms image is =
       key = text_ok Key _ key.0 key.1;
       master = text_ok Master _ master.0 master.1;
       version = version_ok _ version.0 version.1;
-      others = whole.0
+      others = whole.0;
     })

@@ -7,6 +7,9 @@ mod copy;
 mod fault;
 mod gather;
 mod image;
+pub mod image_laws;
+#[cfg(test)]
+mod image_tests;
 mod key;
 pub mod laws;
 mod order;
@@ -26,4 +29,4 @@ pub use read::{image_of, read_image, read_value, version_of};
 pub use records::{Records, join_records, take_image};
 pub use shape::{Shape, numbers_of, shape_of};
 pub use version::Version;
-pub use write::{content_value, version_value};
+pub use write::{content_value, image_value, version_value, write_image};

@@ -9,6 +9,8 @@ ghost use Rattle.pn_record.specs.Seen.{seen_fields};
 ghost use Rattle.pn_record.specs.Checks.{Gives, GivesAs, IsOfValue};
 ghost use Rattle.pn_record.specs.Grammar.{fields_of, ranges_in, image_in};
 ghost use Rattle.pn_record.specs.Reading.{version_in, value_at, image_at};
+ghost use Rattle.pn_record.specs.Canonical.{IsImage, IsImageLine};
+ghost use Rattle.pn_record.specs.declared.image.Image.{Image as ImageRecord};
 
 use crate::content::Value as FieldValue;
 use crate::ranges::field_text;
@@ -56,8 +58,21 @@ pub fn version_of(value: &Value) -> Result<Version, ImageFault>
 
 /// The image that a value is. `BadShape` names the first member of a wrong shape, and `OutOfRange` the
 /// first that breaks a limit where all have their shapes. `Memory` comes only where the value is an image.
-#[tactic(auto, unfolding(crate::specs::Grammar::image_in))]
 pub fn image_of(alloc: Global, value: &Value) -> Result<Image, ImageFault>
+    ensures found { IfOk result (λ image. IsImage (view value.now) image) }
+    ensures only { (image : ImageRecord) → IsImage (view value.now) image → Gives result (Ok image) }
+
+    // Which fault it is.
+    ensures exact { Gives result (image_in (view value.now)) }
+    ensures memory { IsErrOf result ImageFault.Memory → IsOk (image_in (view value.now)) }
+    ensures faults { IfErr result IsOfValue }
+{
+    checked_image(alloc, value)
+}
+
+#[tactic(auto, unfolding(crate::specs::Grammar::image_in))]
+fn checked_image(alloc: Global, value: &Value) -> Result<Image, ImageFault>
+    ensures found { IfOk result (λ image. IsImage (view value.now) image) }
     ensures exact { Gives result (image_in (view value.now)) }
     ensures memory { IsErrOf result ImageFault.Memory → IsOk (image_in (view value.now)) }
     ensures faults { IfErr result IsOfValue }
@@ -69,8 +84,20 @@ pub fn image_of(alloc: Global, value: &Value) -> Result<Image, ImageFault>
 
 /// The image of a line. `TooLong` where it has more than 65,536 bytes; otherwise `NotJson` where
 /// `serde_json` reads no value in it; otherwise as `image_of` of its value.
-#[tactic(auto, unfolding(crate::specs::Reading::image_at))]
 pub fn read_image(alloc: Global, line: &[u8]) -> Result<Image, ImageFault>
+    ensures found { IfOk result (λ image. IsImageLine line.now image) }
+    ensures only { (image : ImageRecord) → IsImageLine line.now image → Gives result (Ok image) }
+
+    // Which fault it is.
+    ensures exact { Gives result (image_at line.now) }
+    ensures too_long { IsErrOf result ImageFault.TooLong ↔ (LONGEST_LINE < length line.now) }
+{
+    line_image(alloc, line)
+}
+
+#[tactic(auto, unfolding(crate::specs::Reading::image_at))]
+fn line_image(alloc: Global, line: &[u8]) -> Result<Image, ImageFault>
+    ensures found { IfOk result (λ image. IsImageLine line.now image) }
     ensures exact { Gives result (image_at line.now) }
     ensures too_long { IsErrOf result ImageFault.TooLong ↔ (LONGEST_LINE < length line.now) }
 {

@@ -1,14 +1,14 @@
 //! The shapes of an image's members, looked at in the parsed value.
 
-ghost use Rattle.std.specs.Prelude.{◌≡◌, ◌↔◌, option_map, option_and_then, unwrap_or, [], IsTrue, IfOk, Ok};
+ghost use Rattle.std.specs.Prelude.{◌≡◌, option_and_then, string_cmp, IsTrue, IfOk};
 ghost use Rattle.std.specs.Option.{ok_or};
 ghost use Rattle.std.specs.List.{list_any};
 ghost use Rattle.std.specs.Str.{bytes_eq};
-ghost use Rattle.serde_json.specs.Find.{as_str};
-ghost use Rattle.pn_record.specs.Limits.{is_key as is_key_text, fields_fit as all_fit};
+ghost use Rattle.std.specs.BTreeMap.{IsOrdered};
 ghost use Rattle.serde_json.specs.View.{view, items_view, members_view};
-ghost use Rattle.pn_record.specs.Grammar.{numbers_in as two_numbers_in, two_numbers, all_texts, only_named, image_members, fields_of, body_fits as body_in_range, deleted_in, fields_in, text_in, shape_in, ranges_in};
-ghost use Rattle.pn_record.specs.Seen.{seen, seen_fields, Shows};
+ghost use Rattle.pn_record.specs.Grammar.{numbers_in, two_numbers, all_texts, only_named, image_members, deleted_in, fields_in, text_in, shape_in};
+ghost use Rattle.pn_record.specs.Seen.{seen, seen_fields, body_rises, Shows};
+ghost use Rattle.pn_record.specs.Writing.{image_data};
 
 use crate::fault::Member;
 use serde_json::{Map, Value};
@@ -16,7 +16,7 @@ use std::marker::Model;
 
 /// The two whole numbers of an array of two, as a version is written. None where the value is anything else.
 pub fn numbers_of(value: &Value) -> Option<(u64, u64)>
-    ensures { result ≡ two_numbers_in (view value.now) }
+    ensures { result ≡ numbers_in (view value.now) }
 {
     let items = value.as_array()?;
     pair_of(items)
@@ -76,7 +76,9 @@ impl<'v> Model for Shape<'v> {
 /// shape. It takes no memory.
 #[tactic(auto, unfolding(crate::specs::Grammar::shape_in))]
 pub fn shape_of(value: &Value) -> Result<Shape<'_>, Member>
-    ensures { result ≡ shape_in (view value.now) }
+    ensures exact { result ≡ shape_in (view value.now) }
+    ensures found { IfOk result (λ shape. view value.now ≡ image_data shape) }
+    ensures rising { IfOk result (λ shape. IsTrue (body_rises shape.content.0)) }
 {
     let members = value.as_object().ok_or(Member::Whole)?;
     let is_deleted = deleted_of(value.get("deleted"))?;
@@ -99,7 +101,8 @@ fn fields_of<'v>(
     is_deleted: bool,
     value: Option<&'v Value>,
 ) -> Result<Option<&'v Map<String, Value>>, Member>
-    ensures { Shows seen_fields result (fields_in is_deleted (seen value.entry)) }
+    ensures texts { Shows seen_fields result (fields_in is_deleted (seen value.entry)) }
+    ensures rising { IfOk result (λ fields. IsTrue (body_rises (seen_fields fields))) }
 {
     match (is_deleted, value) {
         (true, None) => Ok(None),
@@ -118,13 +121,14 @@ fn fields_of<'v>(
 }
 
 fn version_numbers(value: Option<&Value>) -> Result<(u64, u64), Member>
-    ensures { result ≡ ok_or (option_and_then two_numbers_in (seen value.entry)) Member.Version }
+    ensures { result ≡ ok_or (option_and_then numbers_in (seen value.entry)) Member.Version }
 {
     value.and_then(numbers_of).ok_or(Member::Version)
 }
 
 fn has_texts_alone(members: &Map<String, Value>) -> bool
-    ensures { result ≡ all_texts (members_view members.now.entries) }
+    ensures texts { result ≡ all_texts (members_view members.now.entries) }
+    ensures ordered { IsOrdered string_cmp members.now }
 {
     for (_, value) in members.iter() {
         if !value.is_string() {
@@ -135,7 +139,8 @@ fn has_texts_alone(members: &Map<String, Value>) -> bool
 }
 
 fn is_only_named(members: &Map<String, Value>) -> bool
-    ensures { result ≡ only_named image_members (members_view members.now.entries) }
+    ensures named { result ≡ only_named image_members (members_view members.now.entries) }
+    ensures ordered { IsOrdered string_cmp members.now }
 {
     for (name, _) in members.iter() {
         if !is_image_member(name.as_str()) {

@@ -1,11 +1,13 @@
 //! Versions, contents and images as JSON.
 
-ghost use Rattle.std.specs.Prelude.{◌≡◌, map, IfOk, IsTrue, string_bytes};
-ghost use Rattle.serde_json.specs.Data.{object};
+ghost use Rattle.std.specs.Prelude.{◌≡◌, ◌<◌, length, codes, map, Ok, IfOk, OnOk, IsTrue, string_bytes};
+ghost use Rattle.serde_json.specs.Data.{object, string, member, no_members};
 ghost use Rattle.serde_json.specs.View.{view};
 ghost use Rattle.serde_json.specs.Written.{compact_text};
-ghost use Rattle.pn_record.specs.Limits.{names_rise};
+ghost use Rattle.pn_record.specs.Limits.{names_rise, is_version, is_content};
 ghost use Rattle.pn_record.specs.Showing.{shown_field, shown_value};
+ghost use Rattle.pn_record.specs.Reading.{image_at};
+ghost use Rattle.pn_record.specs.Canonical.{is_image, IsImageLine};
 ghost use Rattle.pn_record.specs.Writing.{version_data, fields_data, content_data, image_data};
 
 use crate::content::Value as FieldValue;
@@ -16,7 +18,8 @@ use std::alloc::Global;
 
 /// The version as JSON: `[generation,number]`.
 pub fn version_value(alloc: Global, version: Version) -> Result<Value, NoMemory>
-    ensures { IfOk result (λ value. view value ≡ version_data version) }
+    ensures value { IfOk result (λ value. view value ≡ version_data version) }
+    ensures limits { IsTrue (is_version version) }
 {
     Ok(json!(in alloc; [version.generation, version.number])?)
 }
@@ -33,6 +36,64 @@ pub fn content_value(alloc: Global, content: &Content) -> Result<Value, NoMemory
             Ok(json!(in alloc; {"fields": fields, "master": master})?)
         }
     }
+}
+
+/// The image as JSON: `{"fields":{..},"key":K,"master":N,"version":V}`, or `"deleted":true` in place of
+/// the fields.
+pub fn image_value(alloc: Global, image: &Image) -> Result<Value, NoMemory>
+    ensures value { IfOk result (λ value. view value ≡ image_data image.now) }
+    ensures limits { OnOk result (IsTrue (is_image image.now)) }
+{
+    members_value(alloc, image.key.as_str(), image.version, &image.content)
+}
+
+fn members_value(
+    alloc: Global,
+    key: &str,
+    version: Version,
+    content: &Content,
+) -> Result<Value, NoMemory>
+    ensures value { IfOk result
+        (λ value. view value ≡ image_data (record { key = key.now; version = version; content = content.now })) }
+    ensures limits { OnOk result (IsTrue (is_version version) × IsTrue (is_content content.now)) }
+{
+    let version = version_value(alloc, version)?;
+    let master = content.master.as_str();
+    let Body::Fields(fields) = &content.body else {
+        return Ok(
+            json!(in alloc; {"deleted": true, "key": key, "master": master, "version": version})?,
+        );
+    };
+    let fields = fields_value(alloc, fields)?;
+    with_fields(alloc, fields, key, master, version)
+}
+
+fn with_fields(
+    alloc: Global,
+    fields: Value,
+    key: &str,
+    master: &str,
+    version: Value,
+) -> Result<Value, NoMemory>
+    ensures { IfOk result (λ value. view value ≡ object
+        (member (codes "fields") (view fields)
+        (member (codes "key") (string key.now)
+        (member (codes "master") (string master.now)
+        (member (codes "version") (view version) no_members))))) }
+{
+    Ok(json!(in alloc; {"fields": fields, "key": key, "master": master, "version": version})?)
+}
+
+/// The image's line, without a newline: the compact text of its JSON. It always fits a line, and it is
+/// read as the same image.
+pub fn write_image(alloc: Global, image: &Image) -> Result<String, NoMemory>
+    ensures text { IfOk result (λ text. string_bytes text ≡ compact_text (image_data image.now)) }
+    ensures line { IfOk result (λ text. IsImageLine (string_bytes text) image.now) }
+    ensures reads_back { IfOk result (λ text. image_at (string_bytes text) ≡ Ok image.now) }
+    ensures short { IfOk result (λ text. length (string_bytes text) < 52000) }
+{
+    let value = image_value(alloc, image)?;
+    Ok(value.to_string(alloc)?)
 }
 
 fn fields_value(alloc: Global, fields: &[(String, FieldValue)]) -> Result<Value, NoMemory>

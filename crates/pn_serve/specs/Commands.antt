@@ -1,7 +1,7 @@
 -- The command that a line is, or its first fault: its length, its reading, all shapes, and then the ranges.
-use Rattle.std.specs.Prelude.{ℕ, Bool, true, false, if◌then◌else◌, List, codes, Option, Some, None, option_and_then, Result, Ok, Err}
+use Rattle.std.specs.Prelude.{ℕ, List, codes, option_and_then, Result, Ok}
 use Rattle.std.specs.Option.{ok_or}
-use Rattle.serde_json.specs.Data.{Data, object, Members, no_members, member}
+use Rattle.serde_json.specs.Data.{Data, Members}
 use Rattle.serde_json.specs.Find.{get, as_str, as_array, as_object}
 use Rattle.pn_record.specs.Checks.{◌>>=◌, fault_as}
 use Rattle.pn_record.specs.Reading.{value_at}
@@ -9,6 +9,7 @@ use Rattle.pn_record.specs.declared.fault.ImageFault.{ImageFault}
 use Rattle.pn_record.specs.declared.fault.ImageFault.TheVariants as image
 use Rattle.pn_serve.specs.Asked.{Asked, deliver, scan}
 use Rattle.pn_serve.specs.Words.{word_of}
+use Rattle.pn_serve.specs.Queries.{query_in}
 use Rattle.pn_serve.specs.Shapes.{each_in, part_in, no_others, batch_shape}
 use Rattle.pn_serve.specs.Ranges.{batches_fit}
 use Rattle.pn_serve.specs.declared.form.Word.{Word}
@@ -28,15 +29,6 @@ deliver_in members d = do
   fit ← batches_fit batches
   Ok (deliver batches)
 
--- there are no members
-abbrev pub is_empty : Members → Bool
-is_empty no_members = true
-is_empty (member name d ms) = false
-
--- a query, which has no members as yet
-abbrev pub query_in : Data → Option (Unit {0})
-query_in d = option_and_then (λ members. if is_empty members then Some tt else None) (as_object d)
-
 -- a `scan` command
 unfoldable pub scan_in : Members → Data → Result Asked Refusal
 scan_in members d = do
@@ -53,7 +45,7 @@ command_as Scan members d = scan_in members d
 unfoldable pub command_in : Data → Result Asked Refusal
 command_in d = do
   members ← ok_or (as_object d) (BadShape Whole)
-  word ← part_in Do (λ text. option_and_then word_of (as_str text)) (get (codes "do") d)
+  word ← part_in Do (λ value. option_and_then word_of (as_str value)) (get (codes "do") d)
   command_as word members d
 
 -- the refusal of a line for what is at fault in an image

@@ -1,11 +1,15 @@
+pub mod AnsweredLine
 pub mod Answering
 pub mod Asked
 pub mod Changes
 pub mod Commands
 pub mod Machine
+pub mod Queries
 pub mod Ranges
 pub mod Replies
+pub mod Replying
 pub mod Rows
+pub mod Runs
 pub mod Script
 pub mod Shapes
 pub mod Tokens

@@ -1,10 +1,10 @@
 -- The ranges of a line's parts, one after another.
-use Rattle.std.specs.Prelude.{ℕ, ◌+◌, ◌^◌, Bool, ◌&&◌, not, nat_le, if◌then◌else◌, List, [], ◌∷◌, length, Result, Ok, Err}
+use Rattle.std.specs.Prelude.{◌≡◌, ℕ, ◌+◌, ◌^◌, Bool, ◌&&◌, nat_le, if◌then◌else◌, List, [], ◌∷◌, length, Result, Ok, Err}
 use Rattle.pn_join.specs.Naming.{is_name}
 use Rattle.pn_record.specs.Checks.{◌>>=◌, fault_as}
 use Rattle.pn_record.specs.Grammar.{ranges_in}
 use Rattle.pn_record.specs.declared.image.Image.{Image}
-use Rattle.pn_serve.specs.Asked.{Delivered}
+use Rattle.pn_serve.specs.Asked.{Delivered, Asked, deliver, scan}
 use Rattle.pn_serve.specs.declared.refusal.Part.{Part}
 use Rattle.pn_serve.specs.declared.refusal.Part.TheVariants.{Batches, First, Stream}
 use Rattle.pn_serve.specs.declared.refusal.Part.TheVariants as part
@@ -42,3 +42,8 @@ unfoldable pub batches_fit : List Delivered → Result (Unit {0}) Refusal
 batches_fit batches = do
   count ← fits Batches (nat_le 1 (length batches) && nat_le (length batches) 64)
   each_fits batch_fits batches
+
+-- what a command delivers is in its ranges
+abbrev pub IsInRanges : Asked → Type 0
+IsInRanges (deliver batches) = batches_fit batches ≡ Ok tt
+IsInRanges scan = Unit {0}

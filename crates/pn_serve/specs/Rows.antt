@@ -27,7 +27,7 @@ state_word Deleted = codes "deleted"
 state_word Conflict = codes "conflict"
 
 -- a row: all contents in content order, the key, the state and the version
-abbrev pub row_data : List ℕ × Celled → Data
+unfoldable pub row_data : List ℕ × Celled → Data
 row_data entry =
     object (member (codes "contents") (array (items_of (map content_data (keys entry.1.1))))
     (member (codes "key") (string entry.0)
@@ -39,11 +39,11 @@ abbrev pub shown_rows : List (List ℕ × Celled) → List (List ℕ × Celled)
 shown_rows entries = filter (λ entry. is_shown entry.1) entries
 
 -- the reply to a scan of all records: their shown rows, and nothing that is still to come
-abbrev pub scan_data : List (List ℕ × Celled) → Data
+unfoldable pub scan_data : List (List ℕ × Celled) → Data
 scan_data entries =
     object (member (codes "next") null
     (member (codes "rows") (array (items_of (map row_data (shown_rows entries)))) no_members))
 
 -- a value as a line: its compact text, ended by a newline
-abbrev pub line_of : Data → List ℕ
+unfoldable pub line_of : Data → List ℕ
 line_of value = compact_text value ++ 10 ∷ []

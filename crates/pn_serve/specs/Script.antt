@@ -2,10 +2,11 @@
 use Rattle.std.specs.Prelude.{ℕ, ◌+◌, Bool, true, false, List, [], ◌∷◌, ◌++◌, Result, Ok, Err}
 use Rattle.pn_line.specs.Text.{lines_of}
 use Rattle.pn_record.specs.declared.image.Image.{Image}
+use Rattle.pn_record.specs.CellMap.{Entries}
 use Rattle.pn_serve.specs.declared.refusal.Refusal.{Refusal}
 use Rattle.pn_serve.specs.Asked.{Asked, deliver, scan, images_in}
 use Rattle.pn_serve.specs.Commands.{command_at}
-use Rattle.pn_serve.specs.Machine.{Outcome, done, line, call, round, Mode, idle, Machine, Turn, turn}
+use Rattle.pn_serve.specs.Machine.{Outcome, done, line, call, round, Machine, Turn, turn, serving}
 
 -- a line's outcome: lines beyond the list go as they say
 abbrev pub first_outcome : List Outcome → Outcome
@@ -38,13 +39,9 @@ refusals_from machine [] outcomes = 0
 refusals_from machine (text ∷ lines) outcomes =
     one_if (turn machine (first_outcome outcomes) text).refused + refusals_from (turn machine (first_outcome outcomes) text).machine lines (later_outcomes outcomes)
 
--- a machine that has taken nothing
-abbrev pub empty_machine : Machine
-empty_machine = record { mode = idle; records = [] }
-
 -- the replies to a script
 abbrev pub replies : List ℕ → List Outcome → List ℕ
-replies script outcomes = replies_from empty_machine (lines_of script) outcomes
+replies script outcomes = replies_from (serving []) (lines_of script) outcomes
 
 -- the images that a line delivers, where it goes as it says
 abbrev pub images_asked : Result Asked Refusal → List Image
@@ -67,3 +64,11 @@ taken_from (text ∷ lines) outcomes = images_taken (first_outcome outcomes) tex
 -- the images that the accepted deliveries of a script took
 abbrev pub taken : List ℕ → List Outcome → List Image
 taken script outcomes = taken_from (lines_of script) outcomes
+
+-- how many replies to a script are refusals
+abbrev pub refusals : List ℕ → List Outcome → ℕ
+refusals script outcomes = refusals_from (serving []) (lines_of script) outcomes
+
+-- the records after a script
+abbrev pub records_after : List ℕ → List Outcome → Entries
+records_after script outcomes = (machine_after (serving []) (lines_of script) outcomes).records

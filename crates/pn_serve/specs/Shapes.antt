@@ -1,12 +1,11 @@
 -- The shapes of a line's parts, one after another.
-use Rattle.std.specs.Prelude.{ℕ, List, [], ◌∷◌, codes, if◌then◌else◌, Option, None, option_and_then, Result, Ok, Err}
+use Rattle.std.specs.Prelude.{List, [], ◌∷◌, codes, if◌then◌else◌, Option, option_and_then, Result, Ok, Err}
 use Rattle.std.specs.Option.{ok_or}
 use Rattle.serde_json.specs.Data.{Data, Items, no_items, item, Members}
 use Rattle.serde_json.specs.Find.{get, as_str, as_array, as_object}
 use Rattle.pn_record.specs.Checks.{◌>>=◌, fault_as}
 use Rattle.pn_record.specs.Grammar.{whole_number, only_named, shape_in}
 use Rattle.pn_record.specs.declared.image.Image.{Image}
-use Rattle.pn_record.specs.declared.fault.Member.{Member}
 use Rattle.pn_serve.specs.Asked.{Delivered}
 use Rattle.pn_serve.specs.Words.{names_of}
 use Rattle.pn_serve.specs.declared.form.Form.{Form}

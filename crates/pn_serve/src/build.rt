@@ -12,7 +12,10 @@ use std::alloc::Global;
 
 /// The batches, with each text copied once.
 #[tactic(auto, unfolding(crate::specs::Ranges::batches_fit))]
-pub(crate) fn built_batches(alloc: Global, shapes: &[BatchShape<'_>]) -> Result<Vec<Batch>, NoMemory>
+pub(crate) fn built_batches(
+    alloc: Global,
+    shapes: &[BatchShape<'_>],
+) -> Result<Vec<Batch>, NoMemory>
     requires { batches_fit shapes.now ≡ Ok tt }
     ensures { IfOk result (λ batches. map delivered batches.items ≡ shapes.now) }
 {

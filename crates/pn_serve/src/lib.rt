@@ -1,7 +1,7 @@
 //! Scripts of lines to replies: the commands that lines are, what they do to the records, and their replies.
 #![tactic(auto)]
 
-mod answer;
+mod answering;
 mod build;
 mod command;
 mod form;
@@ -10,16 +10,20 @@ mod parts;
 mod reading;
 mod refusal;
 mod replies;
+#[cfg(test)]
+mod reply_tests;
 mod rows;
-mod run;
+pub mod run;
+mod scan;
 mod shape;
 mod store;
+mod words;
 
-pub use answer::{Reply, answer};
+pub use answering::{Reply, answer};
 pub use command::{Batch, Command};
 pub use reading::command_of;
 pub use refusal::{Part, Refusal};
 pub use replies::{ShortReply, changed_reply, refusal_reply};
-pub use rows::scan_reply;
-pub use run::{Counts, MOST_LINES, RunFault, run};
+pub use run::{Counts, MOST_LINES, RunFault};
+pub use scan::scan_reply;
 pub use store::deliver;

@@ -1,14 +1,16 @@
 //! The command that a line is.
 
-ghost use Rattle.std.specs.Prelude.{◌≡◌, ◌<◌, length, option_and_then, IsErrOf};
+ghost use Rattle.std.specs.Prelude.{◌≡◌, ◌<◌, length, option_and_then, IfOk, IsErrOf};
 ghost use Rattle.serde_json.specs.Find.{as_str};
 ghost use Rattle.serde_json.specs.View.{view, members_view};
 ghost use Rattle.pn_record.specs.Seen.{seen};
 ghost use Rattle.pn_serve.specs.Answering.{AnswersAs};
 ghost use Rattle.pn_serve.specs.Asked.{asked};
+ghost use Rattle.pn_serve.specs.Queries.{is_empty as no_members, query_in};
+ghost use Rattle.pn_serve.specs.Ranges.{IsInRanges};
 ghost use Rattle.pn_serve.specs.Shapes.{part_in};
 ghost use Rattle.pn_serve.specs.Words.{word_of as word_named};
-ghost use Rattle.pn_serve.specs.Commands.{refusal_of, is_empty as no_members, query_in, deliver_in, scan_in, command_in as command_seen, command_at};
+ghost use Rattle.pn_serve.specs.Commands.{refusal_of, deliver_in, scan_in, command_in as command_seen, command_at};
 ghost use Rattle.pn_serve.specs.declared.refusal.Part.TheVariants.{Do, Query};
 
 use crate::build::built_batches;
@@ -41,6 +43,7 @@ impl From<ImageFault> for Refusal {
 #[tactic(auto, unfolding(crate::specs::Commands::command_at))]
 pub fn command_of(alloc: Global, line: &[u8]) -> Result<Command, Refusal>
     ensures exact { AnswersAs asked result (command_at line.now) }
+    ensures in_ranges { IfOk result (λ command. IsInRanges (asked command)) }
     ensures too_long { 65536 < length line.now → IsErrOf result Refusal.TooLong }
 {
     let value = read_value(alloc, line)?;
@@ -49,7 +52,8 @@ pub fn command_of(alloc: Global, line: &[u8]) -> Result<Command, Refusal>
 
 #[tactic(auto, unfolding(crate::specs::Commands::command_in))]
 fn command_in(alloc: Global, value: &Value) -> Result<Command, Refusal>
-    ensures { AnswersAs asked result (command_seen (view value.now)) }
+    ensures exact { AnswersAs asked result (command_seen (view value.now)) }
+    ensures in_ranges { IfOk result (λ command. IsInRanges (asked command)) }
 {
     let members = value.as_object().ok_or(Refusal::BadShape(Part::Whole))?;
     match word_of(value.get("do"))? {
@@ -68,8 +72,13 @@ fn word_of(value: Option<&Value>) -> Result<Word, Refusal>
 }
 
 #[tactic(auto, unfolding(crate::specs::Commands::deliver_in))]
-fn deliver_of(alloc: Global, members: &Map<String, Value>, value: &Value) -> Result<Command, Refusal>
-    ensures { AnswersAs asked result (deliver_in (members_view members.now.entries) (view value.now)) }
+fn deliver_of(
+    alloc: Global,
+    members: &Map<String, Value>,
+    value: &Value,
+) -> Result<Command, Refusal>
+    ensures exact { AnswersAs asked result (deliver_in (members_view members.now.entries) (view value.now)) }
+    ensures in_ranges { IfOk result (λ command. IsInRanges (asked command)) }
 {
     let items = items_of(Part::Batches, value.get("batches"))?;
     let shapes = batches_of(alloc, items)?;
@@ -80,7 +89,8 @@ fn deliver_of(alloc: Global, members: &Map<String, Value>, value: &Value) -> Res
 
 #[tactic(auto, unfolding(crate::specs::Commands::scan_in))]
 fn scan_of(members: &Map<String, Value>, value: &Value) -> Result<Command, Refusal>
-    ensures { AnswersAs asked result (scan_in (members_view members.now.entries) (view value.now)) }
+    ensures exact { AnswersAs asked result (scan_in (members_view members.now.entries) (view value.now)) }
+    ensures in_ranges { IfOk result (λ command. IsInRanges (asked command)) }
 {
     check_query(value.get("query"))?;
     check_names(Form::Command(Word::Scan), members)?;
@@ -107,3 +117,6 @@ fn is_empty(members: &Map<String, Value>) -> bool
 {
     members.is_empty()
 }
+
+#[cfg(test)]
+mod tests;

@@ -7,8 +7,6 @@ use pn_join::NoMemory;
 use pn_record::Member;
 use std::alloc::{AllocError, AllocFailed};
 
-
-
 /// The part of a line that is at fault.
 #[derive(Clone, Copy, Debug, PartialEq, Eq)]
 pub enum Part {

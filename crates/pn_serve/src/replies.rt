@@ -2,16 +2,16 @@
 
 ghost use Rattle.std.specs.Prelude.{◌≡◌, ◌+◌, ◌≤◌, [], ◌++◌, length};
 ghost use Rattle.pn_serve.specs.Rows.{line_of};
-ghost use Rattle.pn_serve.specs.Replies.{part_word, refusal_data, changed_data};
+ghost use Rattle.pn_serve.specs.Replies.{refusal_data, changed_data};
 
-use crate::{Part, Refusal};
+use crate::Refusal;
 use std::marker::Model;
 
 /// The most bytes of a short reply.
 const ROOM: usize = 128;
 
 /// A reply of one line, held in place.
-#[derive(Drop)]
+#[derive(Debug, Drop)]
 pub struct ShortReply {
     bytes: [u8; ROOM],
     len: usize,
@@ -45,7 +45,7 @@ impl ShortReply {
     }
 
     fn push(&mut self, text: &str)
-        requires { length self.old + length text.now ≤ 128 }
+        requires { length self.old + length text.now ≤ ROOM }
         ensures { self.new ≡ self.old ++ text.now }
     {
         let end = self.len + text.len();
@@ -55,7 +55,7 @@ impl ShortReply {
 }
 
 /// The reply to a line that was refused, as `{"error":"bad-shape","member":"key"}`.
-#[tactic(auto, unfolding(crate::specs::Replies::refusal_data, serde_json::proofs::OnLiterals::serde_json_on_literals))]
+#[tactic(auto, unfolding(crate::specs::Rows::line_of, crate::specs::Replies::refusal_data, serde_json::proofs::OnLiterals::serde_json_on_literals))]
 pub fn refusal_reply(refusal: &Refusal) -> ShortReply
     ensures { result ≡ line_of (refusal_data refusal.now) }
 {
@@ -79,7 +79,7 @@ pub fn refusal_reply(refusal: &Refusal) -> ShortReply
 }
 
 /// The reply to a delivery, `{"changed":N}`: how many records it changed.
-#[tactic(auto, unfolding(crate::specs::Replies::changed_data, serde_json::proofs::OnLiterals::serde_json_on_literals))]
+#[tactic(auto, unfolding(crate::specs::Rows::line_of, crate::specs::Replies::changed_data, serde_json::proofs::OnLiterals::serde_json_on_literals))]
 pub fn changed_reply(count: u64) -> ShortReply
     ensures { result ≡ line_of (changed_data count) }
 {
@@ -88,23 +88,4 @@ pub fn changed_reply(count: u64) -> ShortReply
     reply.push(itoa::Buffer::new().format(count));
     reply.push("}\n");
     reply
-}
-
-impl Part {
-    /// The part's name in lower case; of a part of an image, the name of its member.
-    pub fn word(&self) -> &'static str
-        ensures { result.now ≡ part_word self.now }
-    {
-        match self {
-            Part::Whole => "whole",
-            Part::Do => "do",
-            Part::Batches => "batches",
-            Part::First => "first",
-            Part::Images => "images",
-            Part::Stream => "stream",
-            Part::Query => "query",
-            Part::Other => "other",
-            Part::Image(member) => member.word(),
-        }
-    }
 }

@@ -1,7 +1,16 @@
 //! Scripts: line after line is read, answered, and its reply written out.
 
-use crate::answer::{Reply, answer};
-use crate::{changed_reply, refusal_reply};
+ghost use Rattle.std.specs.Prelude.{◌≡◌, ◌+◌, ◌<◌, ◌≤◌, [], ◌++◌, IfOk, IfSome, OnOk, OnErr, IsErrOf};
+ghost use Rattle.std.specs.Io.KnownBytes.{Keeps};
+ghost use Rattle.pn_line.specs.Sent.{Sends, AppendsFront};
+ghost use Rattle.pn_serve.specs.declared.run.RunFault.TheVariants.{Write, Memory};
+ghost use Rattle.pn_serve.specs.Runs.{Ended};
+ghost use Rattle.pn_serve.specs.AnsweredLine.{Answered};
+ghost use Rattle.pn_serve.specs.Script.{one_if};
+ghost use Rattle.pn_serve.specs.Replying.{reply_text, is_refusal};
+
+use crate::answering::{Reply, answer};
+use crate::replies::{changed_reply, refusal_reply};
 use pn_line::{LineBuffer, LineEnd, Outbox, Piece, Source, WriteFault, read_line};
 use pn_record::Records;
 use std::alloc::{AllocError, Global};
@@ -37,82 +46,141 @@ pub enum RunFault {
 }
 
 impl From<WriteFault> for RunFault {
+    ghost from_gives = { λ _ fault. fault ≡ Write };
+
     fn from(_fault: WriteFault) -> RunFault {
         RunFault::Write
     }
 }
 
 impl From<AllocError> for RunFault {
+    ghost from_gives = { λ _ fault. fault ≡ Memory };
+
     fn from(_error: AllocError) -> RunFault {
         RunFault::Memory
     }
 }
 
-// What a run keeps from line to line.
-#[derive(Drop)]
-struct Server {
-    records: Records,
-    outbox: Outbox,
-    counts: Counts,
-}
-
 /// Answers the lines of a script until its end, each by one reply, and writes each reply before it waits
 /// for more input.
-pub fn run<S: Source, W: Write>(alloc: Global, input: &mut S, output: &mut W) -> Result<Counts, RunFault> {
+pub fn run<S: Source, W: Write>(alloc: Global, input: &mut S, output: &mut W) -> Result<Counts, RunFault>
+    ensures ended { IfOk result (λ counts. IfSome (S.left input.old) (λ script.
+        Ended script (W.contents output.old) (W.contents output.new) counts.lines counts.refused)) }
+    ensures read { IsErrOf result RunFault.Read → S.may_fail }
+    ensures memory { IsErrOf result RunFault.Memory
+        → Keeps (S.left input.old) (S.left input.new) × Keeps (W.contents output.old) (W.contents output.new) }
+{
     let mut line = LineBuffer::new(alloc)?;
-    let outbox = Outbox::new(alloc)?;
-    let mut server = Server {
-        records: Records::new(alloc),
-        outbox,
-        counts: Counts { lines: 0, refused: 0 },
+    let mut outbox = Outbox::new(alloc)?;
+    serve(alloc, &mut line, &mut outbox, input, output)
+}
+
+// Answers line after line.
+fn serve<S: Source, W: Write>(
+    alloc: Global,
+    line: &mut LineBuffer,
+    outbox: &mut Outbox,
+    input: &mut S,
+    output: &mut W,
+) -> Result<Counts, RunFault>
+    requires { outbox.old ≡ [] }
+    ensures ended { IfOk result (λ counts. IfSome (S.left input.old) (λ script.
+        Ended script (W.contents output.old) (W.contents output.new) counts.lines counts.refused)) }
+    ensures read { IsErrOf result RunFault.Read → S.may_fail }
+    ensures not_memory { IsErrOf result RunFault.Memory → ⊥ }
+{
+    let mut records = Records::new(alloc);
+    let mut counts = Counts {
+        lines: 0,
+        refused: 0,
     };
-    'lines: for _ in 0..MOST_LINES {
+    'lines: for _turn in 0..MOST_LINES {
         line.start();
-        let Ok(end) = read_line(&mut line, input) else {
-            server.outbox.flush(output)?;
+        let Ok(end) = read_line(line, input) else {
+            outbox.flush(output)?;
             return Err(RunFault::Read);
         };
         match end {
             LineEnd::Newline { more } => {
-                server.serve(alloc, line.bytes(), output)?;
+                let bytes = line.bytes();
+                answer_line(alloc, &mut records, &mut counts, bytes, outbox, output)?;
                 if !more {
-                    server.outbox.flush(output)?;
+                    outbox.flush(output)?;
                 }
             }
             LineEnd::EndOfInput => {
-                if !line.is_empty() {
-                    server.serve(alloc, line.bytes(), output)?;
+                if line.is_empty() {
+                    outbox.flush(output)?;
+                    return Ok(counts);
                 }
-                server.outbox.flush(output)?;
-                return Ok(server.counts);
+                let bytes = line.bytes();
+                answer_line(alloc, &mut records, &mut counts, bytes, outbox, output)?;
+                outbox.flush(output)?;
+                return Ok(counts);
             }
             LineEnd::Endless => {
-                server.outbox.flush(output)?;
+                outbox.flush(output)?;
                 return Err(RunFault::TooManyTurns);
             }
         }
     }
-    server.outbox.flush(output)?;
+    outbox.flush(output)?;
+    end_of(line, input)?;
+    Ok(counts)
+}
+
+// Whether nothing is left of the input after the last line that may be answered.
+fn end_of<S: Source>(line: &mut LineBuffer, input: &mut S) -> Result<(), RunFault>
+    ensures end { OnOk result (IfSome (S.left input.old) (λ rest. rest ≡ [])) }
+    ensures read { IsErrOf result RunFault.Read → S.may_fail }
+    ensures not_memory { IsErrOf result RunFault.Memory → ⊥ }
+{
     line.start();
-    match input.take_some(&mut line) {
-        Ok(Piece::NoMore) => Ok(server.counts),
+    match input.take_some(line) {
+        Ok(Piece::NoMore) if line.is_empty() => Ok(()),
         Ok(_) => Err(RunFault::TooManyTurns),
         Err(_) => Err(RunFault::Read),
     }
 }
 
-impl Server {
-    // Answers one line, whose reply then waits or went out.
-    fn serve<W: Write>(&mut self, alloc: Global, line: &[u8], output: &mut W) -> Result<(), WriteFault> {
-        let reply = answer(alloc, &mut self.records, line);
-        self.counts.lines = self.counts.lines.saturating_add(1);
-        match &reply {
-            Reply::Changed(count) => self.outbox.push(output, changed_reply(*count).as_bytes()),
-            Reply::Rows(text) => self.outbox.push(output, text),
-            Reply::Refused(refusal) => {
-                self.counts.refused = self.counts.refused.saturating_add(1);
-                self.outbox.push(output, refusal_reply(refusal).as_bytes())
-            }
-        }
+// Answers one line: its reply waits or goes out, and is counted.
+fn answer_line<W: Write>(
+    alloc: Global,
+    records: &mut Records,
+    counts: &mut Counts,
+    line: &[u8],
+    outbox: &mut Outbox,
+    output: &mut W,
+) -> Result<(), WriteFault>
+    requires turns { counts.old.lines < MOST_LINES }
+    requires bounded { counts.old.refused ≤ counts.old.lines }
+    ensures ok { OnOk result (Answered records.old records.new line.now (W.contents output.old) (W.contents output.new) outbox.old outbox.new counts.old counts.new) }
+{
+    let reply = answer(alloc, records, line);
+    count(counts, &reply);
+    push_reply(&reply, outbox, output)
+}
+
+fn count(counts: &mut Counts, reply: &Reply)
+    requires turns { counts.old.lines < MOST_LINES }
+    requires bounded { counts.old.refused ≤ counts.old.lines }
+    ensures lines { counts.new.lines ≡ counts.old.lines + 1 }
+    ensures refused { counts.new.refused ≡ one_if (is_refusal reply.now) + counts.old.refused }
+{
+    counts.lines += 1;
+    if let Reply::Refused(_) = reply {
+        counts.refused += 1;
+    }
+}
+
+// The reply waits or goes out.
+fn push_reply<W: Write>(reply: &Reply, outbox: &mut Outbox, output: &mut W) -> Result<(), WriteFault>
+    ensures ok { OnOk result (Sends (W.contents output.old) (W.contents output.new) outbox.old outbox.new (reply_text reply.now)) }
+    ensures err { OnErr result (AppendsFront (W.contents output.old) (W.contents output.new) (outbox.old ++ reply_text reply.now)) }
+{
+    match reply {
+        Reply::Changed(count) => outbox.push(output, changed_reply(*count).as_bytes()),
+        Reply::Rows(text) => outbox.push(output, text),
+        Reply::Refused(refusal) => outbox.push(output, refusal_reply(refusal).as_bytes()),
     }
 }

@@ -54,10 +54,11 @@ fn count_changes(records: &Records, more: &Records) -> Result<u64, NoMemory>
 {
     let mut count = 0;
     for place in 0..more.len() {
-        if let Some((key, cell)) = more.entry_at(place) {
-            if changes(records.get(key), cell)? {
-                count += 1;
-            }
+        let Some((key, cell)) = more.entry_at(place) else {
+            unreachable!()
+        };
+        if changes(records.get(key), cell)? {
+            count += 1;
         }
     }
     Ok(count)

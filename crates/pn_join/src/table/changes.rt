@@ -1,10 +1,12 @@
 //! What a join brings to a table's entries: worked out first, then put in by steps that cannot fail.
 
-ghost use Rattle.std.specs.Prelude.{◌≡◌, ℕ, ◌+◌, ◌-◌, ◌<◌, ◌≤◌, [], ◌++◌, length, reverse, take, drop, vec_len, vec_capacity, Err, IsTrue};
+ghost use Rattle.std.specs.Prelude.{◌≡◌, ℕ, ◌+◌, ◌-◌, ◌<◌, ◌≤◌, [], ◌++◌, length, reverse, take, drop, vec_len, vec_capacity, Err, IsTrue, OnOk, OnErr};
 ghost use Rattle.std.specs.List.{AllByRecursion};
 ghost use Rattle.std.specs.FinMap.{is_sorted};
 ghost use Rattle.pn_join.specs.Places.{place_of};
-ghost use Rattle.pn_join.specs.Changes.{items_of, with_contents, with_entries};
+ghost use Rattle.pn_join.specs.Changes.{first_place, items_of, with_contents, with_entries};
+
+use crate::NoMemory;
 
 /// Something for a place among a table's entries.
 #[derive(Drop)]
@@ -20,10 +22,45 @@ pub struct Changes<K, C> {
     pub added: Vec<Placed<(K, C)>>,
 }
 
+/// Puts changes in. An error leaves the entries as they were.
+pub fn put_in<K: Ord + Drop, C: Drop>(
+    entries: &mut Vec<(K, C)>,
+    changes: Changes<K, C>,
+) -> Result<(), NoMemory>
+    requires within { AllByRecursion (λ c. c.place < vec_len entries.old) changes.contents.items }
+    requires gaps { AllByRecursion
+        (λ a. Err a.place ≡ place_of K.cmp a.item.0 entries.old.items) changes.added.items }
+    requires rising { IsTrue (is_sorted K.cmp (items_of changes.added.items)) }
+    ensures ok { OnOk result (entries.new.items
+        ≡ with_entries K.cmp (items_of changes.added.items)
+        (with_contents changes.contents.items entries.old.items)) }
+    ensures err { OnErr result (entries.new.items ≡ entries.old.items) }
+{
+    let Changes { contents, added } = changes;
+    let untouched = first_place(&added, entries.len());
+    entries.reserve(added.len())?;
+    let moved = entries.len() - untouched + added.len();
+    let aside = Vec::with_capacity(*entries.allocator(), moved)?;
+    put_contents(entries, contents);
+    put_entries(entries, untouched, added, aside);
+    Ok(())
+}
+
+/// The place of the first, or the end where there is none.
+fn first_place<T>(placed: &[Placed<T>], end: usize) -> usize
+    ensures { result ≡ first_place placed.now end }
+{
+    match placed.first() {
+        Some(first) => first.place,
+        None => end,
+    }
+}
+
 /// Puts each content at its place, over the one that is there.
-pub fn put_contents<K, C: Drop>(entries: &mut Vec<(K, C)>, contents: Vec<Placed<C>>)
+fn put_contents<K, C: Drop>(entries: &mut Vec<(K, C)>, contents: Vec<Placed<C>>)
     requires { AllByRecursion (λ c. c.place < vec_len entries.old) contents.items }
     ensures items { entries.new.items ≡ with_contents contents.items entries.old.items }
+    ensures len { vec_len entries.new ≡ vec_len entries.old }
     ensures capacity { vec_capacity entries.new ≡ vec_capacity entries.old }
 {
     for Placed { place, item } in contents {
@@ -33,7 +70,7 @@ pub fn put_contents<K, C: Drop>(entries: &mut Vec<(K, C)>, contents: Vec<Placed<
 
 /// Puts each entry into its gap. The entries before the first gap, those that are untouched, stay
 /// where they are, and the others move aside and back, once each.
-pub fn put_entries<K: Ord + Drop, C: Drop>(
+fn put_entries<K: Ord + Drop, C: Drop>(
     entries: &mut Vec<(K, C)>,
     untouched: usize,
     mut added: Vec<Placed<(K, C)>>,

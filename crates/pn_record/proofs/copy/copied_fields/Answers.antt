@@ -1,5 +1,5 @@
 -- One more field is copied.
-use Rattle.std.proofs.Common.{◌≡◌, map, ap, ◌∙◌}
+use Rattle.std.proofs.Common.{map, ap, ◌∙◌}
 use Rattle.pn_record.specs.Showing.{shown_field}
 use Rattle.pn_record.proofs.FieldSteps.{copied_more}
 use Rattle.pn_record.proofs.copy.copied_fields.Goals as goal

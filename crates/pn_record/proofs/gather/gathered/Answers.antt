@@ -1,5 +1,5 @@
 -- Each step gathers the lesser of the two firsts.
-use Rattle.std.proofs.Common.{◌≡◌, List, ◌++◌, sym, ap, ◌∙◌, subst}
+use Rattle.std.proofs.Common.{List, ◌++◌, sym, ap, ◌∙◌, subst}
 use Rattle.pn_record.specs.Limits.{Shown}
 use Rattle.pn_record.specs.Sets.{set_of}
 use Rattle.pn_record.proofs.Gathering.{Progress, begun, loop_less, loop_equal, loop_greater, ended}

@@ -8,7 +8,7 @@ invariant-loop-others g l = record {
   room : vec_len l.others + (vec_len l.items - l.place) ≤ vec_capacity l.others;
   lens : vec_len l.others + vec_len l.items ≡ vec_len l.initial.others + vec_len l.initial.items;
   capacity : vec_capacity l.items ≡ vec_capacity l.initial.items;
-  others_capacity : vec_capacity l.others ≡ vec_capacity l.initial.others
+  others_capacity : vec_capacity l.others ≡ vec_capacity l.initial.others;
 }
 
 abbrev pub decreases-loop-others : goal.decreases-loop-others

@@ -1,7 +1,5 @@
-use Rattle.std.proofs.Common.{◌≡◌, ◌+◌, ◌-◌, ◌<◌, ◌≤◌, List, [], ◌∷◌, ◌++◌, map, reverse, take, drop, length, ap, sym, ◌∙◌, arith, append-nil}
-use Rattle.std.specs.List.{AllByRecursion}
+use Rattle.std.proofs.Common.{◌≡◌, ◌≤◌, [], ◌∷◌, ◌++◌, reverse, drop, length, ap, sym, ◌∙◌, arith, append-nil}
 use Rattle.pn_join.specs.Changes.{items_of, with_entries}
-use Rattle.pn_join.specs.Places.{place_of}
 use Rattle.pn_join.proofs.Each.{each_of, each_front, each_last, each_weaker}
 use Rattle.pn_join.proofs.Gaps.{IsGap, IsBelowFirst, IsGap-from_place, gap_within}
 use Rattle.pn_join.proofs.Merging.{whole_more, rising_front, gaps_front, below_front}
@@ -54,7 +52,7 @@ loop-place-preserved g c =
     let within = gap_within cmp a.item.0 es a.place gap in
     record {
       whole = rw (c.move_from.ensures.front, put_aside)
-        (whole_more cmp front a es aside gap (each_last (λ b. IsBelowFirst cmp b.item.0 (reverse aside)) front a below)
+          (whole_more cmp front a es aside gap (each_last (λ b. IsBelowFirst cmp b.item.0 (reverse aside)) front a below)
           ∙ ap (λ ps. with_entries cmp (items_of ps) (es ++ reverse aside)) (sym items)
           ∙ c.loop-place.invariant.whole);
       gaps = rw c.move_from.ensures.front (gaps_front cmp g.met.K.Ord.total front a es rising gaps);

@@ -1,4 +1,4 @@
-use Rattle.std.proofs.Common.{◌≡◌, ◌+◌, ◌-◌, ◌≤◌, ◌++◌, Err, reverse, vec_len, vec_capacity}
+use Rattle.std.proofs.Common.{◌≡◌, ◌+◌, ◌-◌, ◌≤◌, ◌++◌, reverse, vec_len, vec_capacity}
 use Rattle.std.specs.List.{AllByRecursion}
 use Rattle.pn_join.specs.Changes.{items_of, with_entries}
 use Rattle.pn_join.proofs.Gaps.{IsGap, IsBelowFirst}
@@ -13,7 +13,7 @@ invariant-loop-place g l = record {
   below : AllByRecursion (λ a. IsBelowFirst g.K.Ord.cmp a.item.0 (reverse l.aside.items)) l.added.items;
   stay : AllByRecursion (λ a. l.untouched ≤ a.place) l.added.items;
   room : vec_len l.entries + vec_len l.added + vec_len l.aside ≤ vec_capacity l.entries;
-  room_aside : vec_len l.aside + (vec_len l.entries - l.untouched) + vec_len l.added ≤ vec_capacity l.aside
+  room_aside : vec_len l.aside + (vec_len l.entries - l.untouched) + vec_len l.added ≤ vec_capacity l.aside;
 }
 
 abbrev pub decreases-loop-place : goal.decreases-loop-place

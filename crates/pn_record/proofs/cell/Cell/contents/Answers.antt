@@ -1,7 +1,6 @@
 -- The list of a cell's contents is in content order.
-use Rattle.std.proofs.Common.{◌≡◌, ◌<◌, List, length, sym, ap, ◌∙◌, subst}
+use Rattle.std.proofs.Common.{sym, ap, ◌∙◌}
 use Rattle.std.specs.FinMap.{keys}
-use Rattle.pn_record.specs.Limits.{Shown}
 use Rattle.pn_record.specs.Sets.{Celled}
 use Rattle.pn_record.specs.Unions.{keys-set_of}
 use Rattle.pn_record.proofs.cell.Cell.contents.Goals as goal

@@ -1,5 +1,5 @@
 -- What is gathered is some, and where the contents are the same nothing is to be gathered.
-use Rattle.std.proofs.Common.{◌≡◌, ◌<◌, List, length, sym, ap, ◌∙◌, subst}
+use Rattle.std.proofs.Common.{◌<◌, List, length, sym, ◌∙◌, subst}
 use Rattle.pn_record.specs.Limits.{Shown}
 use Rattle.pn_record.specs.Sets.{IsContents}
 use Rattle.pn_record.specs.Unions.{some-set_of, same_contents}

@@ -1,7 +1,12 @@
 //! What one line does: the records after it, and its reply.
 
+ghost use Rattle.std.specs.Prelude.{Ok};
+ghost use Rattle.pn_serve.specs.Asked.{asked};
+ghost use Rattle.pn_serve.specs.Commands.{command_at};
+ghost use Rattle.pn_serve.specs.Replying.{Turned};
+
 use crate::store::deliver;
-use crate::{Command, Refusal, ShortReply, changed_reply, command_of, refusal_reply, scan_reply};
+use crate::{Command, Refusal, command_of, scan_reply};
 use pn_record::Records;
 use std::alloc::Global;
 
@@ -10,21 +15,24 @@ use std::alloc::Global;
 pub enum Reply {
     /// How many keys' cells a delivery changed.
     Changed(u64),
-    /// The text of the rows of a scan.
+    /// The text of a scan's reply.
     Rows(Vec<u8>),
     Refused(Refusal),
 }
 
-/// Answers one line of which the bytes that are kept are given, and does what it asks for. A refusal
-/// leaves the records as they were.
-pub fn answer(alloc: Global, records: &mut Records, line: &[u8]) -> Reply {
+/// Answers one line and does what it asks for. A refusal leaves the records as they were.
+pub fn answer(alloc: Global, records: &mut Records, line: &[u8]) -> Reply
+    ensures { Turned records.old (command_at line.now) records.new result }
+{
     match command_of(alloc, line) {
         Ok(command) => obey(alloc, records, command),
         Err(refusal) => Reply::Refused(refusal),
     }
 }
 
-fn obey(alloc: Global, records: &mut Records, command: Command) -> Reply {
+fn obey(alloc: Global, records: &mut Records, command: Command) -> Reply
+    ensures { Turned records.old (Ok (asked command)) records.new result }
+{
     match command {
         Command::Deliver(batches) => match deliver(alloc, records, batches) {
             Ok(count) => Reply::Changed(count),

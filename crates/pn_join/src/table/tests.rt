@@ -1,0 +1,124 @@
+//! Tables of counts that join to the greater of two, at values worked out by hand.
+
+ghost use Rattle.std.specs.Prelude.{◌≡◌, ℕ, max, IfOk, OnOk, OnErr};
+ghost use Rattle.std.proofs.Common.{arith};
+
+use super::Table;
+use crate::{Dup, Join, Name, NoMemory};
+use std::alloc::Global;
+use std::test::Fail;
+
+/// The greatest count seen.
+#[derive(Debug, PartialEq, Drop)]
+struct Greatest {
+    count: u64,
+}
+
+impl Dup for Greatest {
+    fn dup(&self) -> Result<Greatest, NoMemory> {
+        Ok(Greatest { count: self.count })
+    }
+}
+
+impl Join for Greatest {
+    ghost Meaning = { ℕ };
+
+    ghost meaning = { λ greatest. greatest.count };
+
+    ghost joined = { max };
+
+    ghost laws = { record {
+      commutes = λ a b. Prim.omega arith;
+      associates = λ a b c. Prim.omega arith;
+      repeats = λ a. Prim.omega arith;
+    } };
+
+    fn join_from(&mut self, other: &Greatest) -> Result<(), NoMemory> {
+        if self.count < other.count {
+            self.count = other.count;
+        }
+        Ok(())
+    }
+}
+
+fn name(text: &str) -> Result<Name, Fail> {
+    Ok(Name::read(text.as_bytes())?)
+}
+
+fn table(alloc: Global, entries: &[(&str, u64)]) -> Result<Table<Name, Greatest>, Fail> {
+    let mut table = Table::new(alloc);
+    for (text, count) in entries {
+        table.join_entry(name(text)?, Greatest { count: *count })?;
+    }
+    Ok(table)
+}
+
+fn holds(table: &Table<Name, Greatest>, entries: &[(&str, u64)]) -> bool {
+    for (place, (text, count)) in entries.iter().enumerate() {
+        match table.entry_at(place) {
+            Some((key, content)) => {
+                if key.as_str() != *text || content.count != *count {
+                    return false;
+                }
+            }
+            None => return false,
+        }
+    }
+    table.len() == entries.len()
+}
+
+#[test]
+fn entries_stand_in_key_order(rt: HostRuntime) -> Result<(), Fail> {
+    let table = table(rt.alloc(), &[("b", 3), ("a", 5), ("b", 7), ("b", 4)])?;
+    assert!(rt; holds(&table, &[("a", 5), ("b", 7)]));
+    assert_eq!(rt; table.get(&name("b")?), Some(&Greatest { count: 7 }));
+    assert_eq!(rt; table.get(&name("c")?), None);
+    assert_eq!(rt; table.lower_bound(&name("b")?), 1);
+    assert_eq!(rt; table.lower_bound(&name("aa")?), 1);
+    assert_eq!(rt; table.lower_bound(&name("c")?), 2);
+    assert!(rt; table.entry_at(2).is_none());
+    Ok(())
+}
+
+#[test]
+fn a_copy_has_the_same_entries(rt: HostRuntime) -> Result<(), Fail> {
+    let copy = table(rt.alloc(), &[("a", 1), ("c", 3)])?.dup()?;
+    assert!(rt; holds(&copy, &[("a", 1), ("c", 3)]));
+    Ok(())
+}
+
+#[test]
+fn tables_join_key_by_key(rt: HostRuntime) -> Result<(), Fail> {
+    let mut own = table(rt.alloc(), &[("a", 1), ("c", 3), ("e", 5)])?;
+    own.join_from(&table(rt.alloc(), &[("b", 2), ("c", 9), ("d", 4), ("e", 2)])?)?;
+    assert!(rt; holds(&own, &[("a", 1), ("b", 2), ("c", 9), ("d", 4), ("e", 5)]));
+    own.join_from(&table(rt.alloc(), &[])?)?;
+    own.join_from(&table(rt.alloc(), &[("f", 6)])?)?;
+    own.join_from(&table(rt.alloc(), &[("a", 2), ("g", 7)])?)?;
+    assert!(rt;
+        holds(
+            &own,
+            &[
+                ("a", 2),
+                ("b", 2),
+                ("c", 9),
+                ("d", 4),
+                ("e", 5),
+                ("f", 6),
+                ("g", 7)
+            ]
+        )
+    );
+    Ok(())
+}
+
+#[test]
+fn a_join_that_fails_changes_nothing(rt: HostRuntime) -> Result<(), Fail> {
+    let mut own = table(rt.alloc(), &[("a", 1), ("c", 3)])?;
+    let other = table(rt.alloc(), &[("a", 2), ("b", 2), ("d", 4)])?;
+    match own.join_from(&other) {
+        Ok(()) => assert!(rt; holds(&own, &[("a", 2), ("b", 2), ("c", 3), ("d", 4)])),
+        Err(NoMemory) => assert!(rt; holds(&own, &[("a", 1), ("c", 3)])),
+    }
+    Ok(())
+}

@@ -1,0 +1,116 @@
+-- The text of an image's JSON: it has no float, it is flat, and it is short.
+use Rattle.std.proofs.Common.{◌≡◌, ℕ, ◌+◌, ◌*◌, ◌^◌, ◌<◌, ◌≤◌, List, [], ◌∷◌, ◌++◌, length, codes, Bool, true, false, ◌&&◌, cond, Option, Some, None, decimal, leb, ltb, refl, arith, length-append}
+use Rattle.std.proofs.lemmas.Bool.{and_parts, leb-true}
+use Rattle.std.proofs.lemmas.List.Sums.{sum_by-cons}
+use Rattle.std.proofs.lemmas.Fmt.{length-decimal-le}
+use Rattle.std.specs.List.{sum_by, list_all}
+use Rattle.json.specs.Print.{escape_byte, escape_letter, escape, quoted}
+use Rattle.serde_json.specs.Data.{string, object, Members, no_members, member, depth, members_depth}
+use Rattle.serde_json.specs.Written.{has_float, members_have_float, compact_text, members_text, comma_if}
+use Rattle.pn_join.specs.Naming.{is_name, is_name_byte}
+use Rattle.pn_record.specs.Limits.{Field, field_size, is_field, is_key, is_version, is_body, is_content, fields_fit, names_rise}
+use Rattle.pn_record.specs.Writing.{version_data, fields_data, body_data, image_data}
+use Rattle.pn_record.specs.Canonical.{is_image}
+use Rattle.pn_record.specs.declared.image.Image.{Image}
+
+fields_have_no_float : (fields : List Field) → members_have_float (fields_data fields) ≡ false
+fields_have_no_float [] = refl
+fields_have_no_float (field ∷ fields) = fields_have_no_float fields
+
+body_has_no_float : (f : Option (List Field)) (rest : Members) → members_have_float rest ≡ false → members_have_float (body_data f rest) ≡ false
+body_has_no_float None rest none = none
+body_has_no_float (Some fields) rest none = rw (fields_have_no_float fields) none
+
+pub has_float-image_data : (image : Image) → has_float (image_data image) ≡ false
+has_float-image_data image = body_has_no_float image.content.0 _ refl
+
+fields_depth : (fields : List Field) → members_depth (fields_data fields) ≤ 0
+fields_depth [] = omega arith
+fields_depth (field ∷ fields) = omega (arith, fields_depth fields)
+
+body_depth : (f : Option (List Field)) (rest : Members) → members_depth rest ≤ 1 → members_depth (body_data f rest) ≤ 1
+body_depth None rest flat = omega arith
+body_depth (Some fields) rest flat = omega (arith, fields_depth fields)
+
+pub depth-image_data : (image : Image) → depth (image_data image) ≤ 127
+depth-image_data image = omega (arith, body_depth image.content.0 (member (codes "key") (string image.key) (member (codes "master") (string image.content.1) (member (codes "version") (version_data image.version) no_members))) (omega arith))
+
+either_short : (b : Bool) (xs ys : List ℕ) (n : ℕ) → length xs ≤ n → length ys ≤ n → length (cond b xs ys) ≤ n
+either_short true xs ys n one two = one
+either_short false xs ys n one two = two
+
+length-escape_byte : (x : ℕ) → length (escape_byte x) ≤ 6
+unfolding escape_byte
+length-escape_byte x =
+    either_short _ (92 ∷ escape_letter x ∷ []) _ 6 (omega arith) (either_short (ltb x 32) _ (x ∷ []) 6 (omega arith) (omega arith))
+
+length-escape : (s : List ℕ) → length (escape s) ≤ 6 * length s
+length-escape [] = omega arith
+length-escape (x ∷ s) = omega (arith, length-append (escape_byte x) (escape s), length-escape_byte x, length-escape s)
+
+length-quoted : (s : List ℕ) → length (quoted s) ≤ 6 * length s + 2
+length-quoted s = omega (arith, length-append (escape s) (34 ∷ []), length-escape s)
+
+length-comma_if : (later : Bool) → length (comma_if later) ≤ 1
+length-comma_if true = omega arith
+length-comma_if false = omega arith
+
+-- a member whose value is a text, before other text
+length_member : (later : Bool) (name text rest : List ℕ) → length (comma_if later ++ (quoted name ++ 58 ∷ (quoted text ++ rest))) ≤ 6 * length name + 6 * length text + 6 + length rest
+length_member later name text rest =
+    omega (arith, length-append (comma_if later) (quoted name ++ 58 ∷ (quoted text ++ rest)), length-append (quoted name) (58 ∷ (quoted text ++ rest)), length-append (quoted text) rest, length-comma_if later, length-quoted name, length-quoted text)
+
+length_fields : (later : Bool) (fields : List Field) → length (members_text later (fields_data fields)) ≤ 6 * sum_by field_size fields + 6 * length fields + 1
+length_fields true [] = omega arith
+length_fields false [] = omega arith
+length_fields later (field ∷ fields) =
+    omega (arith, length_member later field.0 field.1 (members_text true (fields_data fields)), length_fields true fields, sum_by-cons field_size field fields)
+
+-- a member whose value is an array of two, at the end of an object
+length_pair : (name a b : List ℕ) → length (44 ∷ (quoted name ++ 58 ∷ ((91 ∷ (a ++ 44 ∷ (b ++ 93 ∷ []))) ++ 125 ∷ []))) ≤ 6 * length name + 8 + length a + length b
+length_pair name a b =
+    let inner = a ++ 44 ∷ (b ++ 93 ∷ []) in
+    omega (arith, length-append (quoted name) (58 ∷ ((91 ∷ inner) ++ 125 ∷ [])), length-append inner (125 ∷ []), length-append a (44 ∷ (b ++ 93 ∷ [])), length-append b (93 ∷ []), length-quoted name)
+
+length_number : (n : ℕ) → n ≤ 10 ^ 15 → length (decimal n) ≤ 16
+length_number n small = length-decimal-le 16 n (omega arith) (omega arith) (omega arith)
+
+length_version : (v : ℕ × ℕ) → is_version v ≡ true → length (members_text true (member (codes "version") (version_data v) no_members)) ≤ 82
+length_version v is =
+    let parts = and_parts _ (leb v.1 (10 ^ 15)) is in
+    let first = and_parts (leb 1 v.0) (leb v.0 (10 ^ 15)) parts.0 in
+    omega (arith, length_pair (codes "version") (decimal v.0) (decimal v.1), length_number v.0 (leb-true _ _ first.1), length_number v.1 (leb-true _ _ parts.1))
+
+rest_of : Image → Members
+rest_of image = member (codes "key") (string image.key) (member (codes "master") (string image.content.1) (member (codes "version") (version_data image.version) no_members))
+
+length_rest : (image : Image) → is_key image.key ≡ true → is_name image.content.1 ≡ true → is_version image.version ≡ true → length (members_text true (rest_of image)) ≤ 1900
+unfolding rest_of
+length_rest image key master version =
+    let last = members_text true (member (codes "version") (version_data image.version) no_members) in
+    let middle = members_text true (member (codes "master") (string image.content.1) (member (codes "version") (version_data image.version) no_members)) in
+    let long_key = and_parts (leb 1 (length image.key)) (leb (length image.key) 256) key in
+    let long_name = and_parts (leb 1 (length image.content.1) && leb (length image.content.1) 32) (list_all is_name_byte image.content.1) master in
+    let long_master = and_parts (leb 1 (length image.content.1)) (leb (length image.content.1) 32) long_name.0 in
+    omega (arith, length_member true (codes "key") image.key middle, length_member true (codes "master") image.content.1 last, length_version image.version version, leb-true _ _ long_key.1, leb-true _ _ long_master.1)
+
+length_body : (f : Option (List Field)) (rest : Members) → is_body f ≡ true → length (members_text true rest) ≤ 1900 → length (compact_text (object (body_data f rest))) < 52000
+length_body None rest is short =
+    let after = members_text true rest in
+    omega (arith, length-append (quoted (codes "deleted")) (58 ∷ (116 ∷ 114 ∷ 117 ∷ 101 ∷ after)), length-quoted (codes "deleted"))
+length_body (Some fields) rest is short =
+    let after = members_text true rest in
+    let inside = members_text false (fields_data fields) in
+    let fits = and_parts (fields_fit fields) (names_rise fields) is in
+    let together = and_parts (leb (length fields) 64 && list_all is_field fields) (leb (sum_by field_size fields) 8192) fits.0 in
+    let few = and_parts (leb (length fields) 64) (list_all is_field fields) together.0 in
+    omega (arith, length-append (quoted (codes "fields")) (58 ∷ ((123 ∷ inside) ++ after)), length-append inside after, length-quoted (codes "fields"), length_fields false fields, leb-true _ _ few.0, leb-true _ _ together.1)
+
+-- the text of an image's JSON is short
+pub length-image_data : (image : Image) → is_image image ≡ true → length (compact_text (image_data image)) < 52000
+unfolding rest_of
+length-image_data image is =
+    let parts = and_parts (is_key image.key && is_version image.version) (is_content image.content) is in
+    let one = and_parts (is_key image.key) (is_version image.version) parts.0 in
+    let two = and_parts (is_body image.content.0) (is_name image.content.1) parts.1 in
+    length_body image.content.0 (rest_of image) two.0 (length_rest image one.0 two.1 one.1)

@@ -1,0 +1,23 @@
+//! The laws of lines of images, as contracts. A call does nothing.
+
+ghost use Rattle.std.specs.Prelude.{◌≡◌, ◌≤◌, ℕ, List, length, IsUtf8};
+ghost use Rattle.json.specs.Lex.{tokens};
+ghost use Rattle.pn_record.specs.Canonical.{IsImageLine};
+ghost use Rattle.pn_record.specs.Reading.{value_at, image_at};
+ghost use Rattle.pn_record.specs.declared.image.Image.{Image};
+
+/// No line is read as two images.
+pub fn a_line_is_one_image()
+    ensures { (line : List ℕ) (one other : Image) → IsImageLine line one → IsImageLine line other → one ≡ other }
+{}
+
+/// Lines of one value are read alike.
+pub fn the_value_decides()
+    ensures { (one other : List ℕ) → value_at one ≡ value_at other → image_at one ≡ image_at other }
+{}
+
+/// White space between the tokens changes nothing, so long as the lines are not too long.
+pub fn white_space_changes_nothing()
+    ensures { (one other : List ℕ) → length one ≤ 65536 → length other ≤ 65536 → IsUtf8 one → IsUtf8 other
+        → tokens one ≡ tokens other → image_at one ≡ image_at other }
+{}

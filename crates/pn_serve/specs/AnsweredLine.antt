@@ -1,0 +1,17 @@
+-- What answering one line leaves.
+use Rattle.std.specs.Prelude.{◌≡◌, ℕ, ◌+◌, List, Option}
+use Rattle.pn_line.specs.Sent.{Sends}
+use Rattle.pn_record.specs.CellMap.{Entries}
+use Rattle.pn_serve.specs.declared.answering.Reply.{Reply}
+use Rattle.pn_serve.specs.declared.run.Counts.{Counts}
+use Rattle.pn_serve.specs.Commands.{command_at}
+use Rattle.pn_serve.specs.Script.{one_if}
+use Rattle.pn_serve.specs.Replying.{Turned, reply_text, is_refusal}
+
+-- the line took its turn, its reply went out or waits, and it is counted
+pub record Answered (old new : Entries) (text : List ℕ) (before after : Option (List ℕ)) (waited waits : List ℕ) (had has : Counts) : Type 0 where
+  pub reply : Reply
+  pub turned : Turned old (command_at text) new reply
+  pub sends : Sends before after waited waits (reply_text reply)
+  pub lines : has.lines ≡ had.lines + 1
+  pub refused : has.refused ≡ one_if (is_refusal reply) + had.refused

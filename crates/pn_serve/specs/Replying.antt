@@ -1,0 +1,29 @@
+-- What the program answered to a line, beside what the line does.
+use Rattle.std.specs.Prelude.{◌≡◌, ℕ, Bool, true, false, List, Result}
+use Rattle.pn_record.specs.CellMap.{Entries}
+use Rattle.pn_serve.specs.declared.answering.Reply.{Reply}
+use Rattle.pn_serve.specs.declared.answering.Reply.TheVariants.{Changed, Rows, Refused}
+use Rattle.pn_serve.specs.declared.refusal.Refusal.{Refusal}
+use Rattle.pn_serve.specs.Asked.{Asked}
+use Rattle.pn_serve.specs.Rows.{line_of}
+use Rattle.pn_serve.specs.Replies.{refusal_data, changed_data}
+use Rattle.pn_serve.specs.Machine.{Outcome, Turn, turn_of, serving}
+
+-- the bytes of a reply
+abbrev pub reply_text : Reply → List ℕ
+reply_text (Changed count) = line_of (changed_data count)
+reply_text (Rows text) = text.items
+reply_text (Refused refusal) = line_of (refusal_data refusal)
+
+-- whether a reply is a refusal
+abbrev pub is_refusal : Reply → Bool
+is_refusal (Changed count) = false
+is_refusal (Rows text) = false
+is_refusal (Refused refusal) = true
+
+-- the new records and the reply are what a line that says this does, by one outcome
+pub record Turned (old : Entries) (said : Result Asked Refusal) (new : Entries) (reply : Reply) : Type 0 where
+  pub outcome : Outcome
+  pub machine : (turn_of (serving old) outcome said).machine ≡ serving new
+  pub replied : (turn_of (serving old) outcome said).reply ≡ reply_text reply
+  pub refused : (turn_of (serving old) outcome said).refused ≡ is_refusal reply

@@ -1,0 +1,78 @@
+//! Replies against texts that were written down by hand.
+use crate::{Part, Refusal, ShortReply, changed_reply, refusal_reply, scan_reply};
+use pn_join::Table;
+use pn_record::{Member, read_image, take_image};
+use std::alloc::Global;
+use std::process::Abort;
+use std::test::Fail;
+
+// The reply to a scan of what these images leave.
+fn scanned(alloc: Global, images: &[&str]) -> Result<Vec<u8>, Fail> {
+    let mut records = Table::new(alloc);
+    for image in images {
+        take_image(alloc, &mut records, read_image(alloc, image.as_bytes())?)?;
+    }
+    Ok(scan_reply(alloc, &records)?)
+}
+
+fn assert_scan(rt: &impl Abort, alloc: Global, images: &[&str], want: &str) -> Result<(), Fail> {
+    let reply = scanned(alloc, images)?;
+    assert_eq!(rt; reply.as_slice(), want.as_bytes());
+    Ok(())
+}
+
+#[test]
+fn scan_shows_rows_in_key_order(rt: HostRuntime) -> Result<(), Fail> {
+    assert_scan(&rt, rt.alloc(), &[], "{\"next\":null,\"rows\":[]}\n")?;
+    let images = [
+        "{\"fields\":{\"v\":\"x\\n\\\"\"},\"key\":\"k\",\"master\":\"w\",\"version\":[1,0]}",
+        "{\"fields\":{\"a\":\"\",\"b\":\"2\"},\"key\":\"j\",\"master\":\"w\",\"version\":[1000000000000000,7]}",
+        "{\"deleted\":true,\"key\":\"d\",\"master\":\"w\",\"version\":[1,3]}",
+    ];
+    let want = "{\"next\":null,\"rows\":[\
+        {\"contents\":[{\"fields\":{\"a\":\"\",\"b\":\"2\"},\"master\":\"w\"}],\"key\":\"j\",\"state\":\"one\",\"version\":[1000000000000000,7]},\
+        {\"contents\":[{\"fields\":{\"v\":\"x\\n\\\"\"},\"master\":\"w\"}],\"key\":\"k\",\"state\":\"one\",\"version\":[1,0]}]}\n";
+    assert_scan(&rt, rt.alloc(), &images, want)
+}
+
+#[test]
+fn scan_shows_all_contents_of_a_conflict(rt: HostRuntime) -> Result<(), Fail> {
+    let images = [
+        "{\"fields\":{\"v\":\"x\"},\"key\":\"k\",\"master\":\"w\",\"version\":[1,5]}",
+        "{\"fields\":{\"v\":\"x\"},\"key\":\"k\",\"master\":\"u\",\"version\":[1,5]}",
+        "{\"deleted\":true,\"key\":\"k\",\"master\":\"w\",\"version\":[1,5]}",
+    ];
+    let want = "{\"next\":null,\"rows\":[{\"contents\":[{\"deleted\":true,\"master\":\"w\"},\
+        {\"fields\":{\"v\":\"x\"},\"master\":\"u\"},{\"fields\":{\"v\":\"x\"},\"master\":\"w\"}],\
+        \"key\":\"k\",\"state\":\"conflict\",\"version\":[1,5]}]}\n";
+    assert_scan(&rt, rt.alloc(), &images, want)
+}
+
+fn assert_line(rt: &impl Abort, reply: &ShortReply, want: &str) {
+    assert_eq!(rt; reply.as_bytes(), want.as_bytes());
+}
+
+#[test]
+fn refusals_name_the_part(rt: HostRuntime) {
+    let refusal = Refusal::OutOfRange(Part::Image(Member::Version));
+    let want = "{\"error\":\"out-of-range\",\"member\":\"version\"}\n";
+    assert_line(&rt, &refusal_reply(&refusal), want);
+    let refusal = Refusal::BadShape(Part::Do);
+    let want = "{\"error\":\"bad-shape\",\"member\":\"do\"}\n";
+    assert_line(&rt, &refusal_reply(&refusal), want);
+    assert_line(
+        &rt,
+        &refusal_reply(&Refusal::Memory),
+        "{\"error\":\"memory\"}\n",
+    );
+}
+
+#[test]
+fn a_delivery_says_what_it_changed(rt: HostRuntime) {
+    assert_line(&rt, &changed_reply(0), "{\"changed\":0}\n");
+    assert_line(
+        &rt,
+        &changed_reply(u64::MAX),
+        "{\"changed\":18446744073709551615}\n",
+    );
+}
