@@ -1,0 +1,45 @@
+# The front of the repository: what there is to run, test, build and measure.
+
+SHELL := /bin/bash
+.SHELLFLAGS := -euo pipefail -c
+MAKEFLAGS += --no-print-directory
+
+# What `make run` answers.
+SCRIPT ?= crates/pnuts/stdin
+
+# The proved, optimised program that `make build` leaves.
+PROGRAM := crates/pnuts/out/pnuts
+
+# Worked rows that are kept outside the repository, and which of them `make rows` runs.
+ROWS ?= ../shared/rows
+STAGE ?= first-path
+
+.PHONY: run test build bench rows toolchain
+
+# Shows the program at work: the replies to the script on standard output. It proves nothing.
+run: toolchain
+	@(cd crates/pnuts && rt try) < "$(SCRIPT)"
+
+# The gate: every proof from nothing, the edits that must fail, the program and the tests.
+test: toolchain
+	@rt ci
+
+# Proves the program, and leaves it built with optimisation.
+build: toolchain
+	@cd crates/pnuts && rt run < /dev/null
+	@echo "the proved, optimised program: $(PROGRAM)"
+
+# Measures the built program, and prints a table.
+bench: build
+	@bench/run "$(PROGRAM)"
+
+# Runs the worked rows through the built program, where they are at hand.
+rows:
+	@if [[ -x "$(ROWS)/check" ]]; then \
+		$(MAKE) build && "$(ROWS)/check" "$(PROGRAM)" "$(STAGE)"; \
+	else \
+		echo "make rows: skipped, for there is no $(ROWS)/check"; \
+	fi
+
+toolchain:
+	@command -v rt > /dev/null || { echo "make: the toolchain is missing: there is no command rt on the PATH" >&2; exit 1; }

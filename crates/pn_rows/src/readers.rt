@@ -1,0 +1,154 @@
+//! Readers that show little at a time, fail, repeat their lines, or never come to an end.
+
+use std::io;
+use std::io::{BufRead, ErrorKind, Read};
+
+/// Shows at most `size` bytes at a time, and fails at look number `fails_at`, counted from 1.
+#[derive(Drop)]
+pub(crate) struct Pieces<'a> {
+    rest: &'a [u8],
+    size: usize,
+    looks: usize,
+    fails_at: usize,
+}
+
+impl<'a> Pieces<'a> {
+    /// A reader that does not fail.
+    pub(crate) fn new(text: &'a str, size: usize) -> Pieces<'a> {
+        Pieces::failing(text, size, 0)
+    }
+
+    pub(crate) fn failing(text: &'a str, size: usize, fails_at: usize) -> Pieces<'a> {
+        Pieces {
+            rest: text.as_bytes(),
+            size,
+            looks: 0,
+            fails_at,
+        }
+    }
+}
+
+impl Read for Pieces<'_> {
+    fn read(&mut self, _buf: &mut [u8]) -> io::Result<usize> {
+        Err(io::Error::from(ErrorKind::Unsupported))
+    }
+}
+
+impl BufRead for Pieces<'_> {
+    fn fill_buf(&mut self) -> io::Result<&[u8]> {
+        self.looks = self.looks.wrapping_add(1);
+        if self.looks == self.fails_at {
+            return Err(io::Error::from(ErrorKind::ConnectionReset));
+        }
+        Ok(&self.rest[..self.size.min(self.rest.len())])
+    }
+
+    fn consume(&mut self, amount: usize) {
+        self.rest = &self.rest[amount.min(self.rest.len())..];
+    }
+}
+
+/// Shows each line of a text twice, one after the other.
+#[derive(Drop)]
+pub(crate) struct Twice<'a> {
+    rest: &'a [u8],
+    is_second: bool,
+}
+
+impl<'a> Twice<'a> {
+    /// Each line of the text has to end in a newline.
+    pub(crate) fn new(text: &'a str) -> Twice<'a> {
+        Twice {
+            rest: text.as_bytes(),
+            is_second: false,
+        }
+    }
+}
+
+impl Read for Twice<'_> {
+    fn read(&mut self, _buf: &mut [u8]) -> io::Result<usize> {
+        Err(io::Error::from(ErrorKind::Unsupported))
+    }
+}
+
+impl BufRead for Twice<'_> {
+    fn fill_buf(&mut self) -> io::Result<&[u8]> {
+        Ok(self.rest)
+    }
+
+    fn consume(&mut self, amount: usize) {
+        if self.is_second {
+            self.rest = &self.rest[amount.min(self.rest.len())..];
+        }
+        self.is_second = !self.is_second;
+    }
+}
+
+/// Shows so many lines of two bytes and a newline.
+#[derive(Drop)]
+pub(crate) struct EmptyObjects {
+    left: usize,
+}
+
+/// Lines that are shown together.
+const OBJECTS: &[u8] = b"{}\n{}\n{}\n{}\n{}\n{}\n{}\n{}\n{}\n{}\n{}\n{}\n";
+
+impl EmptyObjects {
+    pub(crate) fn new(lines: usize) -> EmptyObjects {
+        EmptyObjects {
+            left: lines.saturating_mul(3),
+        }
+    }
+}
+
+impl Read for EmptyObjects {
+    fn read(&mut self, _buf: &mut [u8]) -> io::Result<usize> {
+        Err(io::Error::from(ErrorKind::Unsupported))
+    }
+}
+
+impl BufRead for EmptyObjects {
+    fn fill_buf(&mut self) -> io::Result<&[u8]> {
+        Ok(&OBJECTS[..self.left.min(OBJECTS.len())])
+    }
+
+    fn consume(&mut self, amount: usize) {
+        self.left = self.left.saturating_sub(amount);
+    }
+}
+
+/// Shows a text, and then the same bytes over and over.
+#[derive(Drop)]
+pub(crate) struct Endless<'a> {
+    text: &'a [u8],
+    block: &'a [u8],
+}
+
+impl<'a> Endless<'a> {
+    pub(crate) fn new(text: &'a str, block: &'a [u8]) -> Endless<'a> {
+        Endless {
+            text: text.as_bytes(),
+            block,
+        }
+    }
+}
+
+impl Read for Endless<'_> {
+    fn read(&mut self, _buf: &mut [u8]) -> io::Result<usize> {
+        Err(io::Error::from(ErrorKind::Unsupported))
+    }
+}
+
+impl BufRead for Endless<'_> {
+    fn fill_buf(&mut self) -> io::Result<&[u8]> {
+        if self.text.is_empty() {
+            Ok(self.block)
+        } else {
+            Ok(self.text)
+        }
+    }
+
+    fn consume(&mut self, amount: usize) {
+        self.text = &self.text[amount.min(self.text.len())..];
+    }
+}
