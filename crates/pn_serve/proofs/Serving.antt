@@ -27,7 +27,7 @@ use Rattle.pn_serve.specs.Machine.{Outcome, Machine, turn, turn_of, serving}
 use Rattle.pn_serve.specs.Script.{replies, replies_from, machine_after, refusals_from, one_if}
 use Rattle.pn_serve.specs.Replying.{Turned, reply_text, is_refusal}
 use Rattle.pn_serve.specs.Runs.{Ended}
-use Rattle.pn_serve.specs.declared.run.Counts.{Counts}
+use Rattle.pn_serve.specs.declared.running.Counts.{Counts}
 use Rattle.pn_serve.specs.AnsweredLine.{Answered}
 
 -- a line is the command that its kept bytes are

@@ -3,7 +3,7 @@ use Rattle.std.specs.Prelude.{◌≡◌, ℕ, ◌+◌, List, Option}
 use Rattle.pn_line.specs.Sent.{Sends}
 use Rattle.pn_record.specs.CellMap.{Entries}
 use Rattle.pn_serve.specs.declared.answering.Reply.{Reply}
-use Rattle.pn_serve.specs.declared.run.Counts.{Counts}
+use Rattle.pn_serve.specs.declared.running.Counts.{Counts}
 use Rattle.pn_serve.specs.Commands.{command_at}
 use Rattle.pn_serve.specs.Script.{one_if}
 use Rattle.pn_serve.specs.Replying.{Turned, reply_text, is_refusal}

@@ -13,7 +13,7 @@ mod replies;
 #[cfg(test)]
 mod reply_tests;
 mod rows;
-pub mod run;
+mod running;
 mod scan;
 mod shape;
 mod store;
@@ -24,6 +24,6 @@ pub use command::{Batch, Command};
 pub use reading::command_of;
 pub use refusal::{Part, Refusal};
 pub use replies::{ShortReply, changed_reply, refusal_reply};
-pub use run::{Counts, MOST_LINES, RunFault};
+pub use running::{Counts, MOST_LINES, RunFault, run};
 pub use scan::scan_reply;
 pub use store::deliver;

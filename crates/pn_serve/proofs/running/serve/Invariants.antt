@@ -1,7 +1,7 @@
 -- The replies to the lines so far went out or wait.
 use Rattle.std.proofs.Common.{◌≡◌, ◌≤◌, IfSome}
 use Rattle.pn_serve.proofs.Serving.{Served}
-use Rattle.pn_serve.proofs.run.serve.Given as goal
+use Rattle.pn_serve.proofs.running.serve.Given as goal
 
 abbrev pub invariant-lines : goal.invariant-lines
 invariant-lines g l = record {

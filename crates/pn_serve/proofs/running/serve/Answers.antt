@@ -1,8 +1,8 @@
 -- Each line read and answered goes on from what was served.
 use Rattle.std.proofs.Common.{◌+◌, refl, ap, ◌∙◌, arith}
 use Rattle.pn_serve.proofs.Serving.{Begins, OnTold, Goes_on, Last, Served-end, Served-flush, Ends, refused_within}
-use Rattle.pn_serve.proofs.run.serve.Goals.{then-not-more+in_ok-flush-in-Newline, else-not-more}
-use Rattle.pn_serve.proofs.run.serve.Goals as goal
+use Rattle.pn_serve.proofs.running.serve.Goals.{then-not-more+in_ok-flush-in-Newline, else-not-more}
+use Rattle.pn_serve.proofs.running.serve.Goals as goal
 
 pub lines-init : goal.lines-init
 lines-init g c = record { turns = refl; bounded = omega arith; served = Begins _ _ c.args.outbox.now c.new-records.result c.requires c.new-records.ensures }

@@ -3,7 +3,7 @@
 ghost use Rattle.std.specs.Prelude.{◌≡◌, ◌+◌, ◌<◌, ◌≤◌, [], ◌++◌, IfOk, IfSome, OnOk, OnErr, IsErrOf};
 ghost use Rattle.std.specs.Io.KnownBytes.{Keeps};
 ghost use Rattle.pn_line.specs.Sent.{Sends, AppendsFront};
-ghost use Rattle.pn_serve.specs.declared.run.RunFault.TheVariants.{Write, Memory};
+ghost use Rattle.pn_serve.specs.declared.running.RunFault.TheVariants.{Write, Memory};
 ghost use Rattle.pn_serve.specs.Runs.{Ended};
 ghost use Rattle.pn_serve.specs.AnsweredLine.{Answered};
 ghost use Rattle.pn_serve.specs.Script.{one_if};
