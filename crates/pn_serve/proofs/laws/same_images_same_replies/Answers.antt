@@ -1,0 +1,9 @@
+-- The laws are lemmas.
+use Rattle.pn_serve.proofs.ScriptLaws.{same_records, same_replies}
+use Rattle.pn_serve.proofs.laws.same_images_same_replies.Goals as goal
+
+pub returns-clause-records : goal.returns-clause-records
+returns-clause-records c = same_records
+
+pub returns-clause-replies : goal.returns-clause-replies
+returns-clause-replies c = same_replies

@@ -1,0 +1,11 @@
+-- Records that are not older than before.
+use Rattle.std.specs.Prelude.{◌≡◌, false, Option, None, Some}
+use Rattle.std.specs.Ordering.{is_gt}
+use Rattle.pn_record.specs.Order.{version_cmp}
+use Rattle.pn_record.specs.Sets.{Celled}
+
+-- where there was a record there is one still, and its version is not below the one it had
+abbrev pub NotOlder : Option Celled → Option Celled → Type 0
+NotOlder None now = Unit {0}
+NotOlder (Some was) None = ⊥
+NotOlder (Some was) (Some now) = is_gt (version_cmp was.0 now.0) ≡ false
