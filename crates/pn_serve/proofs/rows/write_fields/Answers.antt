@@ -1,5 +1,5 @@
 -- One field more is written, and at the end all.
-use Rattle.std.proofs.Common.{map, ap, subst}
+use Rattle.std.proofs.Common.{map, ap}
 use Rattle.std.specs.List.{flat_map}
 use Rattle.std.proofs.lemmas.List.{take_all}
 use Rattle.pn_record.specs.Showing.{shown_field}
