@@ -61,18 +61,18 @@ kept v x images r e = ap (λ r. set_of (map (λ image. image.content) (cond (is_
 onto : (x : Image) (images : List Image) (o : Option Stamp) → top images ≡ o → option_map (λ v. (v, contents_with v (x ∷ images))) (Some (option_map_or (later x.version) o x.version)) ≡ optional_joined cell_joined (Some (alone x)) (option_map (λ v. (v, contents_with v images)) o)
 onto x images None none =
     ap (λ (s : Contents). Some (x.version, s))
-      (kept x.version x images Equal (tied_itself version_cmp_total x.version)
-      ∙ ap (λ rest. set_of (x.content ∷ map (λ (image : Image). image.content) rest)) (none_above x.version images (subst (IsAbove x.version) (sym none) tt)))
+    (kept x.version x images Equal (tied_itself version_cmp_total x.version)
+    ∙ ap (λ rest. set_of (x.content ∷ map (λ (image : Image). image.content) rest)) (none_above x.version images (subst (IsAbove x.version) (sym none) tt)))
 onto x images (Some w) is = ap Some (by_versions x.version w
     (λ e. (λ i. (later-less x.version w e i, contents_with (later-less x.version w e i) (x ∷ images)))
-      ∙ ap (λ s. (w, s)) (kept w x images Less e) ∙ sym (joined-less (alone x) (w, contents_with w images) e))
+    ∙ ap (λ s. (w, s)) (kept w x images Less e) ∙ sym (joined-less (alone x) (w, contents_with w images) e))
     (λ e. (λ i. (later-equal x.version w e i, contents_with (later-equal x.version w e i) (x ∷ images)))
-      ∙ (λ i. (sym (version_cmp-exact x.version w e) i, (kept w x images Equal e ∙ set_of-append (x.content ∷ []) (map (λ image. image.content) (filter (λ image. eq_by_cmp version_cmp image.version w) images))) i))
-      ∙ sym (joined-equal (alone x) (w, contents_with w images) e))
+    ∙ (λ i. (sym (version_cmp-exact x.version w e) i, (kept w x images Equal e ∙ set_of-append (x.content ∷ []) (map (λ image. image.content) (filter (λ image. eq_by_cmp version_cmp image.version w) images))) i))
+    ∙ sym (joined-equal (alone x) (w, contents_with w images) e))
     (λ e. (λ i. (later-greater x.version w e i, contents_with (later-greater x.version w e i) (x ∷ images)))
-      ∙ ap (λ s. (x.version, s)) (kept x.version x images Equal (tied_itself version_cmp_total x.version)
-        ∙ ap (λ rest. set_of (x.content ∷ map (λ (image : Image). image.content) rest)) (none_above x.version images (subst (IsAbove x.version) (sym is) e)))
-      ∙ sym (joined-greater (alone x) (w, contents_with w images) e)))
+    ∙ ap (λ s. (x.version, s)) (kept x.version x images Equal (tied_itself version_cmp_total x.version)
+    ∙ ap (λ rest. set_of (x.content ∷ map (λ (image : Image). image.content) rest)) (none_above x.version images (subst (IsAbove x.version) (sym is) e)))
+    ∙ sym (joined-greater (alone x) (w, contents_with w images) e)))
 
 pub cell_of-cons : (x : Image) (images : List Image) → cell_of (x ∷ images) ≡ optional_joined cell_joined (Some (alone x)) (cell_of images)
 cell_of-cons x images = onto x images (top images) refl

@@ -74,6 +74,7 @@ without key (image ∷ images) none =
     neither_first : (a b : Bool) → (a || b) ≡ false → a ≡ false
     neither_first true b e = e
     neither_first false b e = refl
+
     neither_second : (a b : Bool) → (a || b) ≡ false → b ≡ false
     neither_second true b e = cc
     neither_second false b e = e
@@ -103,7 +104,7 @@ rising-table_of images = true_from _ (entries_sorted (cells_map images))
 pub held_table : (table : Entries) (images : List Image) → IsTrue (is_sorted bytes_cmp table) → Holds table images → table ≡ table_of images
 held_table table images rising held =
     same_entries bytes_cmp nat_list_cmp_total exact_bytes table (table_of images) (subst T (sym rising) tt) (subst T (sym (rising-table_of images)) tt)
-      (λ key. held key ∙ sym (Holds-table_of images key))
+    (λ key. held key ∙ sym (Holds-table_of images key))
 
 some_from_find : (es : List (Shown × Unit {0})) (q : Shown) → find content_cmp q es ≡ Some tt → 0 < length (map (λ (e : Shown × Unit {0}). e.0) es)
 some_from_find [] q there = cc
@@ -145,12 +146,13 @@ any-cell_of (image ∷ images) =
 all_have : (es : Entries) → is_sorted bytes_cmp es ≡ true → ((key : List ℕ) → AnyHas (find bytes_cmp key es)) → AllByRecursion (λ (e : List ℕ × Celled). HasContents e.1) es
 all_have [] rising any = tt
 all_have (e ∷ es) rising any = (
-    subst AnyHas (ap (λ r. cond (is_eq r) (Some e.1) (find bytes_cmp e.0 es)) (tied_itself nat_list_cmp_total e.0)) (any e.0),
-    all_have es (second_true (below_all bytes_cmp e.0 es) _ rising) (λ key. rest key (eq_by_cmp bytes_cmp key e.0) refl),
-  )
+  subst AnyHas (ap (λ r. cond (is_eq r) (Some e.1) (find bytes_cmp e.0 es)) (tied_itself nat_list_cmp_total e.0)) (any e.0),
+  all_have es (second_true (below_all bytes_cmp e.0 es) _ rising) (λ key. rest key (eq_by_cmp bytes_cmp key e.0) refl),
+)
   where
     below : below_all bytes_cmp e.0 es ≡ true
     below = first_true (below_all bytes_cmp e.0 es) (is_sorted bytes_cmp es) rising
+
     rest : (key : List ℕ) (t : Bool) → eq_by_cmp bytes_cmp key e.0 ≡ t → AnyHas (find bytes_cmp key es)
     rest key true tied = subst AnyHas (sym (ap (λ k. find bytes_cmp k es) (tied_keys key e.0 tied) ∙ not_found e.0 es below)) tt
     rest key false apart = subst AnyHas (ap (λ t. cond t (Some e.1) (find bytes_cmp key es)) apart) (any key)
@@ -169,7 +171,7 @@ adds-table_of images more =
     let table = table_of images in
     let spelled = Holds-spell table (rising-table_of images) (have-table_of images) in
     same_cells_table (spell table ++ more) (images ++ more) (λ key.
-      cells-append (spell table) more key ∙ ap (λ c. both c (cells more key)) (sym (spelled key) ∙ Holds-table_of images key) ∙ sym (cells-append images more key))
+    cells-append (spell table) more key ∙ ap (λ c. both c (cells more key)) (sym (spelled key) ∙ Holds-table_of images key) ∙ sym (cells-append images more key))
 
 -- a table that joins what holds the images has taken them
 pub held_adds : (old new : Entries) (images : List Image) → IsTrue (is_sorted bytes_cmp new) → Holds new (spell old ++ images) → new ≡ adds old images

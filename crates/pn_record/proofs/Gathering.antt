@@ -20,7 +20,7 @@ below_between : (a : Shown) (before : List Shown) (x y : Shown) (xs ys : List Sh
 below_between a [] x y xs ys p q = both_true _ _ (first_true _ (below_all content_cmp a (as_entries xs)) p) q
 below_between a (b ∷ before) x y xs ys p q =
     both_true _ _ (first_true _ (below_all content_cmp a (as_entries (before ++ x ∷ xs))) p)
-      (below_between a before x y xs ys (second_true (is_lt (content_cmp a b)) _ p) (second_true (is_lt (content_cmp a b)) _ q))
+    (below_between a before x y xs ys (second_true (is_lt (content_cmp a b)) _ p) (second_true (is_lt (content_cmp a b)) _ q))
 
 -- the lesser of two firsts may come first
 pub between : (before : List Shown) (x y : Shown) (xs ys : List Shown) → Rises (before ++ x ∷ xs) → Rises (before ++ y ∷ ys) → content_cmp x y ≡ Less → Rises (before ++ x ∷ y ∷ ys)
@@ -28,8 +28,8 @@ between [] x y xs ys p q less =
     both_true _ _ (both_true _ _ (ap is_lt less) (below_lesser content_cmp_total x y (as_entries ys) less (first_true _ (is_sorted content_cmp (as_entries ys)) q))) q
 between (a ∷ before) x y xs ys p q less =
     both_true _ _
-      (below_between a before x y xs ys (first_true _ (is_sorted content_cmp (as_entries (before ++ x ∷ xs))) p) (first_true _ (is_sorted content_cmp (as_entries (before ++ y ∷ ys))) q))
-      (between before x y xs ys (second_true (below_all content_cmp a (as_entries (before ++ x ∷ xs))) _ p) (second_true (below_all content_cmp a (as_entries (before ++ y ∷ ys))) _ q) less)
+    (below_between a before x y xs ys (first_true _ (is_sorted content_cmp (as_entries (before ++ x ∷ xs))) p) (first_true _ (is_sorted content_cmp (as_entries (before ++ y ∷ ys))) q))
+    (between before x y xs ys (second_true (below_all content_cmp a (as_entries (before ++ x ∷ xs))) _ p) (second_true (below_all content_cmp a (as_entries (before ++ y ∷ ys))) _ q) less)
 
 pub regrouped : (before : List Shown) (x : Shown) (xs : List Shown) → (before ++ x ∷ []) ++ xs ≡ before ++ x ∷ xs
 regrouped before x xs = append_assoc before (x ∷ []) xs
@@ -151,12 +151,12 @@ module _ (all left right ours theirs : List Shown) (x y : Shown) (xs ys : List S
   pub loop_less : copy ≡ x → content_cmp x y ≡ Less → Progress new xs right ours theirs
   loop_less same less =
       subst (λ (n : List Shown). Progress n xs right ours theirs) (grown x same)
-        (subst (λ (r : List Shown). Progress (all ++ x ∷ []) xs r ours theirs) (sym rights) (step_less all ours theirs x y xs ys apart less))
+      (subst (λ (r : List Shown). Progress (all ++ x ∷ []) xs r ours theirs) (sym rights) (step_less all ours theirs x y xs ys apart less))
 
   pub loop_greater : copy ≡ y → content_cmp x y ≡ Greater → Progress new left ys ours theirs
   loop_greater same greater =
       subst (λ (n : List Shown). Progress n left ys ours theirs) (grown y same)
-        (subst (λ (l : List Shown). Progress (all ++ y ∷ []) l ys ours theirs) (sym lefts) (step_greater all ours theirs x y xs ys apart greater))
+      (subst (λ (l : List Shown). Progress (all ++ y ∷ []) l ys ours theirs) (sym lefts) (step_greater all ours theirs x y xs ys apart greater))
 
   pub loop_equal : copy ≡ x → content_cmp x y ≡ Equal → Progress new xs ys ours theirs
   loop_equal same equal = subst (λ (n : List Shown). Progress n xs ys ours theirs) (grown x same) (step_equal all ours theirs x y xs ys apart equal)

@@ -62,17 +62,17 @@ alone image = record { there = (0, lit< tt, refl); greatest = (not_above_itself 
 top_of : (images : List Image) → MatchOption (top images) (images ≡ []) (λ v. TopOf v images)
 top_of [] = refl
 top_of (image ∷ images) = elim (top images) as (λ o. MatchOption o (images ≡ []) (λ v. TopOf v images) → TopOf (option_map_or (later image.version) o image.version) (image ∷ images)) [
-    | None ↦ λ none. subst (λ (rest : List Image). TopOf image.version (image ∷ rest)) (sym none) (alone image)
-    | Some w ↦ λ is. one_more image images w is
-  ] (top_of images)
+  | None ↦ λ none. subst (λ (rest : List Image). TopOf image.version (image ∷ rest)) (sym none) (alone image)
+  | Some w ↦ λ is. one_more image images w is
+] (top_of images)
 
 pub top_greatest : (images : List Image) → MatchOption (top images) (images ≡ []) (λ v. IsTop v images)
 top_greatest images = elim (top images) as (λ o. MatchOption o (images ≡ []) (λ v. TopOf v images) → MatchOption o (images ≡ []) (λ v. IsTop v images)) [
-    | None ↦ λ none. none
-    | Some v ↦ λ is. record { there = is.there; greatest = All-from_recursion (λ (image : Image). NotAbove image.version v) images is.greatest }
-  ] (top_of images)
+  | None ↦ λ none. none
+  | Some v ↦ λ is. record { there = is.there; greatest = All-from_recursion (λ (image : Image). NotAbove image.version v) images is.greatest }
+] (top_of images)
 
 pub same_tables : (table other : List (List ℕ × Celled)) (images others : List Image) → IsTrue (is_sorted bytes_cmp table) → IsTrue (is_sorted bytes_cmp other) → Holds table images → Holds other others → SameImages images others → table ≡ other
 same_tables table other images others rising rises held held_too same =
     same_entries bytes_cmp nat_list_cmp_total exact_bytes table other (subst T (sym rising) tt) (subst T (sym rises) tt)
-      (λ key. held key ∙ cells-same images others same key ∙ sym (held_too key))
+    (λ key. held key ∙ cells-same images others same key ∙ sym (held_too key))

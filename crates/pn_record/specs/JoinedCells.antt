@@ -49,20 +49,20 @@ repeats a = joined-equal a a (tied_itself version_cmp_total a.0) ∙ ap (λ s. (
 associates : (a b c : Celled) → cell_joined (cell_joined a b) c ≡ cell_joined a (cell_joined b c)
 associates a b c = by_versions a.0 b.0
     (λ ab. ap (λ x. cell_joined x c) (joined-less a b ab) ∙ by_versions b.0 c.0
-      (λ bc. joined-less b c bc ∙ sym (ap (cell_joined a) (joined-less b c bc) ∙ joined-less a c (version_cmp_total.trans a.0 b.0 c.0 ab bc)))
-      (λ bc. joined-equal b c bc ∙ sym (ap (cell_joined a) (joined-equal b c bc) ∙ joined-less a (b.0, union b.1 c.1) ab))
-      (λ bc. joined-greater b c bc ∙ sym (ap (cell_joined a) (joined-greater b c bc) ∙ joined-less a b ab)))
+    (λ bc. joined-less b c bc ∙ sym (ap (cell_joined a) (joined-less b c bc) ∙ joined-less a c (version_cmp_total.trans a.0 b.0 c.0 ab bc)))
+    (λ bc. joined-equal b c bc ∙ sym (ap (cell_joined a) (joined-equal b c bc) ∙ joined-less a (b.0, union b.1 c.1) ab))
+    (λ bc. joined-greater b c bc ∙ sym (ap (cell_joined a) (joined-greater b c bc) ∙ joined-less a b ab)))
     (λ ab. ap (λ x. cell_joined x c) (joined-equal a b ab) ∙ by_versions b.0 c.0
-      (λ bc. joined-less (a.0, union a.1 b.1) c (version_cmp_total.congr a.0 b.0 c.0 ab ∙ bc)
-        ∙ sym (ap (cell_joined a) (joined-less b c bc) ∙ joined-less a c (version_cmp_total.congr a.0 b.0 c.0 ab ∙ bc)))
-      (λ bc. joined-equal (a.0, union a.1 b.1) c (version_cmp_total.congr a.0 b.0 c.0 ab ∙ bc) ∙ ap (λ s. (a.0, s)) (union-assoc a.1 b.1 c.1)
-        ∙ sym (ap (cell_joined a) (joined-equal b c bc) ∙ joined-equal a (b.0, union b.1 c.1) ab))
-      (λ bc. joined-greater (a.0, union a.1 b.1) c (version_cmp_total.congr a.0 b.0 c.0 ab ∙ bc)
-        ∙ sym (ap (cell_joined a) (joined-greater b c bc) ∙ joined-equal a b ab)))
+    (λ bc. joined-less (a.0, union a.1 b.1) c (version_cmp_total.congr a.0 b.0 c.0 ab ∙ bc)
+    ∙ sym (ap (cell_joined a) (joined-less b c bc) ∙ joined-less a c (version_cmp_total.congr a.0 b.0 c.0 ab ∙ bc)))
+    (λ bc. joined-equal (a.0, union a.1 b.1) c (version_cmp_total.congr a.0 b.0 c.0 ab ∙ bc) ∙ ap (λ s. (a.0, s)) (union-assoc a.1 b.1 c.1)
+    ∙ sym (ap (cell_joined a) (joined-equal b c bc) ∙ joined-equal a (b.0, union b.1 c.1) ab))
+    (λ bc. joined-greater (a.0, union a.1 b.1) c (version_cmp_total.congr a.0 b.0 c.0 ab ∙ bc)
+    ∙ sym (ap (cell_joined a) (joined-greater b c bc) ∙ joined-equal a b ab)))
     (λ ab. ap (λ x. cell_joined x c) (joined-greater a b ab) ∙ by_versions b.0 c.0
-      (λ bc. sym (ap (cell_joined a) (joined-less b c bc)))
-      (λ bc. joined-greater a c (subst (λ v. version_cmp a.0 v ≡ Greater) (version_cmp-exact b.0 c.0 bc) ab) ∙ sym (ap (cell_joined a) (joined-equal b c bc) ∙ joined-greater a (b.0, union b.1 c.1) ab))
-      (λ bc. joined-greater a c (greater-trans a.0 b.0 c.0 ab bc) ∙ sym (ap (cell_joined a) (joined-greater b c bc) ∙ joined-greater a b ab)))
+    (λ bc. sym (ap (cell_joined a) (joined-less b c bc)))
+    (λ bc. joined-greater a c (subst (λ v. version_cmp a.0 v ≡ Greater) (version_cmp-exact b.0 c.0 bc) ab) ∙ sym (ap (cell_joined a) (joined-equal b c bc) ∙ joined-greater a (b.0, union b.1 c.1) ab))
+    (λ bc. joined-greater a c (greater-trans a.0 b.0 c.0 ab bc) ∙ sym (ap (cell_joined a) (joined-greater b c bc) ∙ joined-greater a b ab)))
 
 pub cell_joined-laws : JoinLaws cell_joined
 cell_joined-laws = record { commutes = commutes; associates = associates; repeats = repeats }

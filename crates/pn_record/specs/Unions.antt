@@ -108,9 +108,11 @@ tied_lists (x ∷ xs) (y ∷ ys) tied =
     first_so : (a b : Bool) → (a && b) ≡ true → a ≡ true
     first_so true b p = refl
     first_so false b p = p
+
     second_so : (a b : Bool) → (a && b) ≡ true → b ≡ true
     second_so true b p = p
     second_so false b p = cc
+
     is_equal : (o : Ordering) → is_eq o ≡ true → o ≡ Equal
     is_equal Less p = cc
     is_equal Equal p = refl

@@ -49,8 +49,11 @@ impl Model for Content {
 
 /// The most fields, the longest name and text, and the most that all of them have together, in bytes.
 const MOST_FIELDS: usize = 64;
+
 const LONGEST_NAME: usize = 64;
+
 const LONGEST_TEXT: usize = 4_096;
+
 const MOST_BYTES: usize = 8_192;
 
 impl Content {

@@ -27,7 +27,10 @@ fn copied_body(body: &Body) -> Result<Body, NoMemory>
     }
 }
 
-fn copied_fields(alloc: Global, fields: &[(String, Value)]) -> Result<Vec<(String, Value)>, NoMemory>
+fn copied_fields(
+    alloc: Global,
+    fields: &[(String, Value)],
+) -> Result<Vec<(String, Value)>, NoMemory>
     ensures { IfOk result (λ copy. map shown_field copy.items ≡ map shown_field fields.now) }
 {
     let mut copy = Vec::with_capacity(alloc, fields.len())?;

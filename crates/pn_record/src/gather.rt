@@ -9,7 +9,11 @@ use std::alloc::Global;
 use std::cmp::Ordering;
 
 /// The contents of both in content order, each once.
-pub fn gathered(alloc: Global, ours: &[Content], theirs: &[Content]) -> Result<Vec<Content>, NoMemory>
+pub fn gathered(
+    alloc: Global,
+    ours: &[Content],
+    theirs: &[Content],
+) -> Result<Vec<Content>, NoMemory>
     requires our_contents { IsContents ours.now }
     requires their_contents { IsContents theirs.now }
     ensures contents { IfOk result (λ all. IsContents all.items) }

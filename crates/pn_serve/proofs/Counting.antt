@@ -23,7 +23,7 @@ use Rattle.pn_serve.specs.Changes.{same_cell, same_at, changed, changes_by}
 same_cell-itself : (a : Celled) → same_cell a a ≡ true
 same_cell-itself a =
     both_true (eq_by_cmp version_cmp a.0 a.0) (pointwise (eq_by_cmp content_cmp) (keys a.1) (keys a.1))
-      ((eq_by_cmp_equiv version_cmp_total).refl a.0) ((lists_equiv (eq_by_cmp_equiv content_cmp_total)).refl (keys a.1))
+    ((eq_by_cmp_equiv version_cmp_total).refl a.0) ((lists_equiv (eq_by_cmp_equiv content_cmp_total)).refl (keys a.1))
 
 same_at-itself : (o : Option Celled) → same_at o o ≡ true
 same_at-itself None = refl
@@ -40,17 +40,17 @@ apart k q less = (eq_by_cmp_equiv nat_list_cmp_total).symm q k ∙ ap is_eq less
 lifted : (e : List ℕ × Celled) (table es : Entries) → below_all bytes_cmp e.0 es ≡ true → AllByRecursion (IsAt table) es → AllByRecursion (IsAt (e ∷ table)) es
 lifted e table [] below at = tt
 lifted e table (f ∷ es) below at = (
-    ap (λ t. cond t (Some e.1) (find bytes_cmp f.0 table)) (apart e.0 f.0 (is_less _ (first_true (is_lt (bytes_cmp e.0 f.0)) (below_all bytes_cmp e.0 es) below))) ∙ at.0,
-    lifted e table es (second_true (is_lt (bytes_cmp e.0 f.0)) _ below) at.1,
-  )
+  ap (λ t. cond t (Some e.1) (find bytes_cmp f.0 table)) (apart e.0 f.0 (is_less _ (first_true (is_lt (bytes_cmp e.0 f.0)) (below_all bytes_cmp e.0 es) below))) ∙ at.0,
+  lifted e table es (second_true (is_lt (bytes_cmp e.0 f.0)) _ below) at.1,
+)
 
 -- each entry of a table is what the table has at its key
 each_at : (table : Entries) → is_sorted bytes_cmp table ≡ true → AllByRecursion (IsAt table) table
 each_at [] rising = tt
 each_at (e ∷ es) rising = (
-    ap (λ r. cond (is_eq r) (Some e.1) (find bytes_cmp e.0 es)) (tied_itself nat_list_cmp_total e.0),
-    lifted e es es (first_true (below_all bytes_cmp e.0 es) (is_sorted bytes_cmp es) rising) (each_at es (second_true (below_all bytes_cmp e.0 es) _ rising)),
-  )
+  ap (λ r. cond (is_eq r) (Some e.1) (find bytes_cmp e.0 es)) (tied_itself nat_list_cmp_total e.0),
+  lifted e es es (first_true (below_all bytes_cmp e.0 es) (is_sorted bytes_cmp es) rising) (each_at es (second_true (below_all bytes_cmp e.0 es) _ rising)),
+)
 
 -- tests that agree at each entry count the same
 kept_alike : (table es : Entries) (p q : List ℕ × Celled → Bool) → AllByRecursion (IsAt table) es → ((e : List ℕ × Celled) → IsAt table e → p e ≡ q e) → filter p es ≡ filter q es
@@ -139,10 +139,10 @@ module _ (old more new : Entries) (rising : is_sorted bytes_cmp new ≡ true) (r
   unfolding differs
   counted =
       agree more more (λ e. changes_by (find bytes_cmp e.0 old) e.1) (λ e. differs e.0) (each_at more rises)
-        (λ e at. ap (λ o. not (same_at (find bytes_cmp e.0 old) o)) (ap (optional_joined cell_joined (find bytes_cmp e.0 old)) (sym at) ∙ sym (joined e.0)))
+      (λ e at. ap (λ o. not (same_at (find bytes_cmp e.0 old) o)) (ap (optional_joined cell_joined (find bytes_cmp e.0 old)) (sym at) ∙ sym (joined e.0)))
       ∙ count-chosen more ∙ ap length (sym same_chosen) ∙ sym (count-chosen new)
       ∙ agree new new (λ e. differs e.0) (λ e. not (same_at (find bytes_cmp e.0 old) (Some e.1))) (each_at new rising)
-        (λ e at. ap (λ o. not (same_at (find bytes_cmp e.0 old) o)) at)
+      (λ e at. ap (λ o. not (same_at (find bytes_cmp e.0 old) o)) at)
 
 at_place : (es : Entries) (i : ℕ) (e : List ℕ × Celled) → Some e ≡ slice_get es i → get_or es i e ≡ e
 at_place [] i e there = cc

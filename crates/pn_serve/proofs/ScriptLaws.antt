@@ -84,13 +84,13 @@ joined_not_older (Some a) (Some b) = not_above a b
 held_not_older : (images more : List Image) (key : List ℕ) → NotOlder (find bytes_cmp key (table_of images)) (find bytes_cmp key (table_of (images ++ more)))
 held_not_older images more key =
     subst (λ (o : Option Celled). NotOlder o (find bytes_cmp key (table_of (images ++ more)))) (sym (Holds-table_of images key))
-      (subst (NotOlder (cells images key)) (sym (Holds-table_of (images ++ more) key ∙ cells-append images more key)) (joined_not_older (cells images key) (cells more key)))
+    (subst (NotOlder (cells images key)) (sym (Holds-table_of (images ++ more) key ∙ cells-append images more key)) (joined_not_older (cells images key) (cells more key)))
 
 pub not_older : (lines : List (List ℕ)) (outcomes : List Outcome) (outcome : Outcome) (text key : List ℕ)
     → NotOlder (find bytes_cmp key (machine_after (serving []) lines outcomes).records)
-        (find bytes_cmp key (turn (machine_after (serving []) lines outcomes) outcome text).machine.records)
+    (find bytes_cmp key (turn (machine_after (serving []) lines outcomes) outcome text).machine.records)
 not_older lines outcomes outcome text key =
     let images = taken_from lines outcomes in
     subst (λ (m : Machine). NotOlder (find bytes_cmp key m.records) (find bytes_cmp key (turn m outcome text).machine.records)) (sym (served_is lines outcomes))
-      (subst (λ (m : Machine). NotOlder (find bytes_cmp key (table_of images)) (find bytes_cmp key m.records)) (sym (turn_is images outcome text))
-        (held_not_older images (images_taken outcome text) key))
+    (subst (λ (m : Machine). NotOlder (find bytes_cmp key (table_of images)) (find bytes_cmp key m.records)) (sym (turn_is images outcome text))
+    (held_not_older images (images_taken outcome text) key))

@@ -39,9 +39,9 @@ too_long line long =
 
 command_at-kept : (line : List ℕ) → command_at (kept line) ≡ command_at line
 command_at-kept line = elim (cases_lt 65536 (length line)) [
-    | inl long ↦ too_long (kept line) (omega (arith, length-kept_long line long)) ∙ sym (too_long line long)
-    | inr short ↦ ap command_at (kept-short line short)
-  ]
+  | inl long ↦ too_long (kept line) (omega (arith, length-kept_long line long)) ∙ sym (too_long line long)
+  | inr short ↦ ap command_at (kept-short line short)
+]
 
 -- one more line
 replies_from-push : (machine : Machine) (texts : List (List ℕ)) (outcomes : List Outcome) (text : List ℕ) (outcome : Outcome) → length outcomes ≡ length texts → replies_from machine (texts ++ text ∷ []) (outcomes ++ outcome ∷ []) ≡ replies_from machine texts outcomes ++ (turn (machine_after machine texts outcomes) outcome text).reply
@@ -84,13 +84,13 @@ Answers-line texts a b c waits now old new lines refused text reply is turned se
     let outcomes = is.outcomes in
     let at : machine_after (serving []) texts outcomes ≡ serving old = is.machine in
     let said : replies_from (serving []) (texts ++ text ∷ []) (outcomes ++ turned.outcome ∷ []) ≡ replies_from (serving []) texts outcomes ++ reply_text reply =
-      replies_from-push (serving []) texts outcomes text turned.outcome is.paired
-      ∙ ap (λ (m : Machine). replies_from (serving []) texts outcomes ++ (turn m turned.outcome text).reply) at
-      ∙ ap (λ (r : List ℕ). replies_from (serving []) texts outcomes ++ r) turned.replied in
+    replies_from-push (serving []) texts outcomes text turned.outcome is.paired
+    ∙ ap (λ (m : Machine). replies_from (serving []) texts outcomes ++ (turn m turned.outcome text).reply) at
+    ∙ ap (λ (r : List ℕ). replies_from (serving []) texts outcomes ++ r) turned.replied in
     let counts : refusals_from (serving []) (texts ++ text ∷ []) (outcomes ++ turned.outcome ∷ []) ≡ refusals_from (serving []) texts outcomes + one_if (is_refusal reply) =
-      refusals_from-push (serving []) texts outcomes text turned.outcome is.paired
-      ∙ ap (λ (m : Machine). refusals_from (serving []) texts outcomes + one_if (turn m turned.outcome text).refused) at
-      ∙ ap (λ (r : Bool). refusals_from (serving []) texts outcomes + one_if r) turned.refused in
+    refusals_from-push (serving []) texts outcomes text turned.outcome is.paired
+    ∙ ap (λ (m : Machine). refusals_from (serving []) texts outcomes + one_if (turn m turned.outcome text).refused) at
+    ∙ ap (λ (r : Bool). refusals_from (serving []) texts outcomes + one_if r) turned.refused in
     record {
       outcomes = outcomes ++ turned.outcome ∷ [];
       paired = omega (arith, is.paired, length_push outcomes turned.outcome, length_push texts text);
@@ -168,15 +168,15 @@ Served-last text left leaves a b c d waits now old new lines refused line reply 
     let (taken, is, all) = LinesRead-end leaves served.read takes end in
     let full : length taken ≢ 0 = λ none. some (ap (λ (l : LineSoFar). l.count) is ∙ none) in
     Answers-end text (served.texts ++ taken ∷ []) a c d now new (lines + 1) (one_if (is_refusal reply) + refused) (all ∙ ap (λ (l : List (List ℕ)). served.texts ++ l) (one_line taken full))
-      (Answers-line served.texts a b c waits now old new lines refused taken reply served.answers (turned_kept old new line taken reply is turned) sends) sent
+    (Answers-line served.texts a b c waits now old new lines refused taken reply served.answers (turned_kept old new line taken reply is turned) sends) sent
 
 -- nothing was left behind the lines that were answered
 pub Served-all : (text rest : List ℕ) (a b c : Option (List ℕ)) (waits : List ℕ) (records : Entries) (lines refused : ℕ) → Served text (Some rest) a b waits records lines refused → rest ≡ [] → Appends b c waits → Ended text a c lines refused
 Served-all text rest a b c waits records lines refused served none sent =
     let left : served.read.rest ≡ [] = some_same served.read.rest rest (sym served.read.left_is) ∙ none in
     Answers-end text served.texts a b c waits records lines refused
-      (ap lines_of served.read.text_is ∙ lines_of-text served.texts served.read.rest served.read.unbroken ∙ ap (λ (r : List ℕ). served.texts ++ lines_of r) left ∙ ap (λ (l : List (List ℕ)). served.texts ++ l) lines_of-nil ∙ append-nil served.texts)
-      served.answers sent
+    (ap lines_of served.read.text_is ∙ lines_of-text served.texts served.read.rest served.read.unbroken ∙ ap (λ (r : List ℕ). served.texts ++ lines_of r) left ∙ ap (λ (l : List (List ℕ)). served.texts ++ l) lines_of-nil ∙ append-nil served.texts)
+    served.answers sent
   where
     some_same : (x y : List ℕ) → Some x ≡ Some y → x ≡ y
     some_same x y e = cc

@@ -13,8 +13,7 @@ ghost use Rattle.pn_serve.specs.Script.{machine_after, records_after, replies_fr
 pub fn records_are_what_was_taken()
     ensures rising { (script : List ℕ) (outcomes : List Outcome) → IsTrue (is_sorted bytes_cmp (records_after script outcomes)) }
     ensures exact { (script : List ℕ) (outcomes : List Outcome) → Holds (records_after script outcomes) (taken script outcomes) }
-{
-}
+{}
 
 /// Two scripts that took the same images, in whatever order, however cut and repeated, leave the same records, and every
 /// further line has the same reply after both where it goes alike.
@@ -24,14 +23,12 @@ pub fn same_images_same_replies()
     ensures replies { (one other : List ℕ) (went goes : List Outcome) → SameImages (taken one went) (taken other goes)
         → (lines : List (List ℕ)) (outcomes : List Outcome)
         → replies_from (machine_after (serving []) (lines_of one) went) lines outcomes
-          ≡ replies_from (machine_after (serving []) (lines_of other) goes) lines outcomes }
-{
-}
+        ≡ replies_from (machine_after (serving []) (lines_of other) goes) lines outcomes }
+{}
 
 /// No line takes a record away, or leaves it at an older version, whatever lines came before.
 pub fn no_line_makes_a_record_older()
     ensures { (lines : List (List ℕ)) (outcomes : List Outcome) (outcome : Outcome) (text key : List ℕ)
         → NotOlder (find bytes_cmp key (machine_after (serving []) lines outcomes).records)
-            (find bytes_cmp key (turn (machine_after (serving []) lines outcomes) outcome text).machine.records) }
-{
-}
+        (find bytes_cmp key (turn (machine_after (serving []) lines outcomes) outcome text).machine.records) }
+{}

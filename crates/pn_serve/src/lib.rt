@@ -22,7 +22,9 @@ mod words;
 
 pub use answering::{Reply, answer};
 pub use command::{Batch, Command};
-pub use laws::{no_line_makes_a_record_older, records_are_what_was_taken, same_images_same_replies};
+pub use laws::{
+    no_line_makes_a_record_older, records_are_what_was_taken, same_images_same_replies,
+};
 pub use reading::command_of;
 pub use refusal::{Part, Refusal};
 pub use replies::{ShortReply, changed_reply, refusal_reply};

@@ -63,7 +63,11 @@ impl From<AllocError> for RunFault {
 
 /// Answers the lines of a script until its end, each by one reply, and writes each reply before it waits
 /// for more input.
-pub fn run<S: Source, W: Write>(alloc: Global, input: &mut S, output: &mut W) -> Result<Counts, RunFault>
+pub fn run<S: Source, W: Write>(
+    alloc: Global,
+    input: &mut S,
+    output: &mut W,
+) -> Result<Counts, RunFault>
     ensures ended { IfOk result (λ counts. IfSome (S.left input.old) (λ script.
         Ended script (W.contents output.old) (W.contents output.new) counts.lines counts.refused)) }
     ensures read { IsErrOf result RunFault.Read → S.may_fail }
@@ -174,7 +178,11 @@ fn count(counts: &mut Counts, reply: &Reply)
 }
 
 // The reply waits or goes out.
-fn push_reply<W: Write>(reply: &Reply, outbox: &mut Outbox, output: &mut W) -> Result<(), WriteFault>
+fn push_reply<W: Write>(
+    reply: &Reply,
+    outbox: &mut Outbox,
+    output: &mut W,
+) -> Result<(), WriteFault>
     ensures ok { OnOk result (Sends (W.contents output.old) (W.contents output.new) outbox.old outbox.new (reply_text reply.now)) }
     ensures err { OnErr result (AppendsFront (W.contents output.old) (W.contents output.new) (outbox.old ++ reply_text reply.now)) }
 {

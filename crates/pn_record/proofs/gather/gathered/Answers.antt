@@ -8,22 +8,22 @@ use Rattle.pn_record.proofs.gather.gathered.Goals as goal
 pub loop-x-init : goal.loop-x-init
 loop-x-init c =
     subst (λ (all : List Shown). Progress all c.args.ours.now c.args.theirs.now c.args.ours.now c.args.theirs.now) (sym c.new-all.ensures.items)
-      (begun c.args.ours.now c.args.theirs.now c.requires.our_contents c.requires.their_contents)
+    (begun c.args.ours.now c.args.theirs.now c.requires.our_contents c.requires.their_contents)
 
 pub loop-x-preserved-in_ok-push-in-Less : goal.loop-x-preserved-in_ok-push-in-Less
 loop-x-preserved-in_ok-push-in-Less c =
     loop_less c.loop-x.all.items c.loop-x.left.now c.loop-x.right.now c.args.ours.now c.args.theirs.now c.in-Some-Some.x.now c.in-Some-Some.y.now c.in-Some-Some.xs.now c.in-Some-Some.ys.now c.in-Some-Some.ensures.cases.0 c.in-Some-Some.ensures'.cases.0 c.loop-x.invariant
-      c.push.new.self.items c.in_ok-dup-in-Less.field-0 c.in_ok-push-in-Less.ensures.items c.in_ok-dup-in-Less.ensures (sym c.in-Less.ensures)
+    c.push.new.self.items c.in_ok-dup-in-Less.field-0 c.in_ok-push-in-Less.ensures.items c.in_ok-dup-in-Less.ensures (sym c.in-Less.ensures)
 
 pub loop-x-preserved-in_ok-push-in-Equal : goal.loop-x-preserved-in_ok-push-in-Equal
 loop-x-preserved-in_ok-push-in-Equal c =
     loop_equal c.loop-x.all.items c.loop-x.left.now c.loop-x.right.now c.args.ours.now c.args.theirs.now c.in-Some-Some.x.now c.in-Some-Some.y.now c.in-Some-Some.xs.now c.in-Some-Some.ys.now c.in-Some-Some.ensures.cases.0 c.in-Some-Some.ensures'.cases.0 c.loop-x.invariant
-      c.push-in-Equal.new.self.items c.in_ok-dup-in-Equal.field-0 c.in_ok-push-in-Equal.ensures.items c.in_ok-dup-in-Equal.ensures (sym c.in-Equal.ensures)
+    c.push-in-Equal.new.self.items c.in_ok-dup-in-Equal.field-0 c.in_ok-push-in-Equal.ensures.items c.in_ok-dup-in-Equal.ensures (sym c.in-Equal.ensures)
 
 pub loop-x-preserved : goal.loop-x-preserved
 loop-x-preserved c =
     loop_greater c.loop-x.all.items c.loop-x.left.now c.loop-x.right.now c.args.ours.now c.args.theirs.now c.in-Some-Some.x.now c.in-Some-Some.y.now c.in-Some-Some.xs.now c.in-Some-Some.ys.now c.in-Some-Some.ensures.cases.0 c.in-Some-Some.ensures'.cases.0 c.loop-x.invariant
-      c.push-in-Greater.new.self.items c.in_ok-dup-in-Greater.field-0 c.in_ok-push-in-Greater.ensures.items c.in_ok-dup-in-Greater.ensures (sym c.in-Greater.ensures)
+    c.push-in-Greater.new.self.items c.in_ok-dup-in-Greater.field-0 c.in_ok-push-in-Greater.ensures.items c.in_ok-dup-in-Greater.ensures (sym c.in-Greater.ensures)
 
 pub returns-clause-both : goal.returns-clause-both
 returns-clause-both c =

@@ -7,12 +7,12 @@ use Rattle.pn_record.proofs.cell.Cell.gather.Goals as goal
 
 pub returns-in_ok-self-inside-clause-some : goal.returns-in_ok-self-inside-clause-some
 returns-in_ok-self-inside-clause-some c = (
-    subst (λ (l : List Shown). 0 < length l) c.contents.ensures.contents c.contents.ensures.some,
-    subst (λ (l : List Shown). 0 < length l) c.contents-2.ensures.contents c.contents-2.ensures.some,
-    some-set_of _ (subst (λ v. IsContents v.items) (sym c.in_ok-self-inside.ensures.ok) c.in_ok-contents.ensures.contents),
-  )
+  subst (λ (l : List Shown). 0 < length l) c.contents.ensures.contents c.contents.ensures.some,
+  subst (λ (l : List Shown). 0 < length l) c.contents-2.ensures.contents c.contents-2.ensures.some,
+  some-set_of _ (subst (λ v. IsContents v.items) (sym c.in_ok-self-inside.ensures.ok) c.in_ok-contents.ensures.contents),
+)
 
 pub returns-else-not-are_same-clause-ok : goal.returns-else-not-are_same-clause-ok
 returns-else-not-are_same-clause-ok c =
     same_contents c.args.self.now c.args.other.now
-      (sym c.contents.ensures.contents ∙ c.are_same.ensures c.if-not-are_same.false ∙ c.contents-2.ensures.contents)
+    (sym c.contents.ensures.contents ∙ c.are_same.ensures c.if-not-are_same.false ∙ c.contents-2.ensures.contents)
