@@ -5,7 +5,8 @@ use crate::row::first_lines;
 use crate::rows::FIRST_RUN;
 use crate::writers::{Stop, Stopping};
 use pn_line::InMemory;
-use pn_serve::{RunFault, run};
+use pn_serve::RunFault;
+use pn_serve::run::run;
 use std::test::Fail;
 
 #[test]

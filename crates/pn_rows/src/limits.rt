@@ -4,7 +4,8 @@ use crate::readers::{EmptyObjects, Endless};
 use crate::row::replies_of;
 use crate::writers::Tally;
 use pn_line::InMemory;
-use pn_serve::{Counts, RunFault, run};
+use pn_serve::run::run;
+use pn_serve::{Counts, RunFault};
 use std::test::Fail;
 
 const SCAN: &str = r#"{"do":"scan","query":{}}

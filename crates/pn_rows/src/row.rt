@@ -2,7 +2,8 @@
 
 use crate::readers::Pieces;
 use pn_line::{InMemory, Source};
-use pn_serve::{RunFault, run};
+use pn_serve::RunFault;
+use pn_serve::run::run;
 use std::alloc::{AllocError, Global};
 use std::process::Abort;
 use std::test::Fail;

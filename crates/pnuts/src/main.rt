@@ -1,7 +1,8 @@
 //! `pnuts`: a script on standard input becomes replies on standard output.
 #![tactic(auto)]
 
-use pn_serve::{Counts, RunFault, run};
+use pn_serve::run::run;
+use pn_serve::{Counts, RunFault};
 use std::io;
 use std::io::BufReader;
 use std::process::ExitCode;
