@@ -36,7 +36,7 @@ bench: build
 # Runs the worked rows through the built program, where they are at hand.
 rows:
 	@if [[ -x "$(ROWS)/check" ]]; then \
-		$(MAKE) build && "$(ROWS)/check" "$(PROGRAM)" "$(STAGE)"; \
+		$(MAKE) build && "$(ROWS)/check" "$(PROGRAM)" "$(STAGE)" --bare; \
 	else \
 		echo "make rows: skipped, for there is no $(ROWS)/check"; \
 	fi
