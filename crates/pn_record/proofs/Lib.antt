@@ -17,3 +17,4 @@ pub mod SameImage
 pub mod ShapeParts
 pub mod Sorted
 pub mod Written
+pub mod Reordering

@@ -16,3 +16,4 @@ pub mod Totals
 pub mod Unions
 pub mod Words
 pub mod Writing
+pub mod Reordered

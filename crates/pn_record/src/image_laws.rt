@@ -1,9 +1,11 @@
 //! The laws of lines of images, as contracts. A call does nothing.
 
 ghost use Rattle.std.specs.Prelude.{◌≡◌, ◌≤◌, ℕ, List, length, IsUtf8};
+ghost use Rattle.json.specs.Json.{Json};
 ghost use Rattle.json.specs.Lex.{tokens};
 ghost use Rattle.pn_record.specs.Canonical.{IsImageLine};
 ghost use Rattle.pn_record.specs.Reading.{value_at, image_at};
+ghost use Rattle.pn_record.specs.Reordered.{Spells, IsReordered};
 ghost use Rattle.pn_record.specs.declared.image.Image.{Image};
 
 /// No line is read as two images.
@@ -21,3 +23,10 @@ pub fn white_space_changes_nothing()
     ensures { (one other : List ℕ) → length one ≤ 65536 → length other ≤ 65536 → IsUtf8 one → IsUtf8 other
         → tokens one ≡ tokens other → image_at one ≡ image_at other }
 {}
+
+/// Nor does the order of the members, of the image's own or of its fields'.
+pub fn the_order_of_members_changes_nothing()
+    ensures { (one other : List ℕ) (value moved : Json) → Spells one value → Spells other moved
+        → IsReordered value moved → image_at one ≡ image_at other }
+{
+}
