@@ -7,14 +7,15 @@ MAKEFLAGS += --no-print-directory
 # What `make run` answers.
 SCRIPT ?= crates/pnuts/stdin
 
-# The proved, optimised program that `make build` leaves.
+# The proved, optimised program that `make build` leaves, and the one whose steps the benches count.
 PROGRAM := crates/pnuts/out/pnuts
+STEPS := crates/pn_bench/out/pn_bench
 
 # Worked rows that are kept outside the repository, and which of them `make rows` runs.
 ROWS ?= ../shared/rows
 STAGE ?= first-path
 
-.PHONY: run test build bench rows toolchain
+.PHONY: run test build bench want rows toolchain
 
 # Shows the program at work: the replies to the script on standard output. It proves nothing.
 run: toolchain
@@ -31,7 +32,12 @@ build: toolchain
 
 # Measures the built program, and prints a table.
 bench: build
-	@bench/run "$(PROGRAM)"
+	@cd crates/pn_bench && rt run < stdin > /dev/null
+	@bench/run "$(PROGRAM)" "$(STEPS)"
+
+# Refuses each allocation of the built program in turn.
+want: build
+	@checks/want-of-memory "$(PROGRAM)"
 
 # Runs the worked rows through the built program, where they are at hand.
 rows:

@@ -18,6 +18,8 @@ mod rows;
 #[cfg(test)]
 mod slow;
 #[cfg(test)]
+mod talk;
+#[cfg(test)]
 mod want;
 #[cfg(test)]
 mod writers;

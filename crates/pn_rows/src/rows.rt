@@ -48,7 +48,7 @@ pub(crate) const EQUAL_VERSIONS_CONFLICT: Row = Row {
 };
 
 // A deletion hides its record from older images, until a newer one comes.
-const DELETION_HIDES_AND_STAYS: Row = Row {
+pub(crate) const DELETION_HIDES_AND_STAYS: Row = Row {
     script: r#"{"batches":[{"first":1,"images":[{"deleted":true,"key":"k","master":"w","version":[1,3]}],"stream":"east"}],"do":"deliver"}
 {"batches":[{"first":2,"images":[{"fields":{"v":"x"},"key":"k","master":"w","version":[1,2]}],"stream":"east"}],"do":"deliver"}
 {"do":"scan","query":{}}

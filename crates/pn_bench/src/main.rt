@@ -1,0 +1,122 @@
+//! What the benches count the steps of: lines read as JSON alone or as images, and rows written by a scan
+//! or as JSON alone.
+//!
+//! Its words are a way and how often rows are written. It prints how many lines were read well, and how
+//! many bytes were written.
+#![tactic(auto)]
+
+use pn_join::NoMemory;
+use pn_line::{LineBuffer, LineEnd, Source, read_line};
+use pn_record::{Records, read_image, take_image};
+use pn_serve::scan_reply;
+use serde_json::Value;
+use std::alloc::Global;
+use std::io::BufReader;
+use std::{env, io};
+
+/// How many bytes of input are read at a time.
+const INPUT_ROOM: usize = 65_536;
+
+/// What is done with the lines.
+#[derive(Clone, Copy)]
+enum Way {
+    /// Nothing but to find their ends.
+    Lines,
+    /// Each is read as JSON.
+    Values,
+    /// Each is read as an image.
+    Images,
+    /// Each is an image that is taken, and then all records are scanned.
+    Scans,
+    /// The same, and then what a scan shows is written as JSON.
+    Writes,
+}
+
+impl Way {
+    fn read(word: &str) -> Option<Way> {
+        match word {
+            "lines" => Some(Way::Lines),
+            "values" => Some(Way::Values),
+            "images" => Some(Way::Images),
+            "scans" => Some(Way::Scans),
+            "writes" => Some(Way::Writes),
+            _ => None,
+        }
+    }
+}
+
+fn main(rt: HostRuntime) -> io::Result<()> {
+    let mut words = env::args(&rt)?;
+    let way = words.nth(1).and_then(|word| Way::read(word.as_str()));
+    let times = words
+        .next()
+        .and_then(|word| word.as_str().parse::<u32>().ok());
+    let way = way.unwrap_or(Way::Lines);
+    let mut input = BufReader::with_capacity(rt.alloc(), INPUT_ROOM, rt.reader())?;
+    let mut records = Records::new(rt.alloc());
+    let lines = take_lines(rt.alloc(), way, &mut records, &mut input)?;
+    let bytes = write_rows(rt.alloc(), way, &records, times.unwrap_or(0)).unwrap_or(0);
+    println!(rt; "{lines} lines, {bytes} bytes")
+}
+
+// How many lines were read well.
+fn take_lines<S: Source>(
+    alloc: Global,
+    way: Way,
+    records: &mut Records,
+    input: &mut S,
+) -> io::Result<u64> {
+    let mut line = LineBuffer::new(alloc)?;
+    let mut count = 0u64;
+    for _ in 0..u64::MAX {
+        line.start();
+        let LineEnd::Newline { .. } = read_line(&mut line, input)? else {
+            break;
+        };
+        if is_taken(alloc, way, records, line.bytes()) {
+            count = count.saturating_add(1);
+        }
+    }
+    Ok(count)
+}
+
+fn is_taken(alloc: Global, way: Way, records: &mut Records, line: &[u8]) -> bool {
+    match way {
+        Way::Lines => true,
+        Way::Values => Value::from_slice(alloc, line).is_ok(),
+        Way::Images => read_image(alloc, line).is_ok(),
+        Way::Scans | Way::Writes => match read_image(alloc, line) {
+            Ok(image) => take_image(alloc, records, image).is_ok(),
+            Err(_) => false,
+        },
+    }
+}
+
+// How many bytes of rows were written.
+fn write_rows(alloc: Global, way: Way, records: &Records, times: u32) -> Result<usize, NoMemory> {
+    match way {
+        Way::Scans => write_scans(alloc, records, times),
+        Way::Writes => write_values(alloc, records, times),
+        Way::Lines | Way::Values | Way::Images => Ok(0),
+    }
+}
+
+fn write_scans(alloc: Global, records: &Records, times: u32) -> Result<usize, NoMemory> {
+    let mut bytes = 0usize;
+    for _ in 0..times {
+        bytes = bytes.saturating_add(scan_reply(alloc, records)?.len());
+    }
+    Ok(bytes)
+}
+
+fn write_values(alloc: Global, records: &Records, times: u32) -> Result<usize, NoMemory> {
+    let reply = scan_reply(alloc, records)?;
+    let Ok(value) = Value::from_slice(alloc, &reply) else {
+        return Ok(0);
+    };
+    let mut bytes = 0usize;
+    for _ in 0..times {
+        bytes = bytes.saturating_add(value.to_string(alloc)?.len());
+    }
+    Ok(bytes)
+}
