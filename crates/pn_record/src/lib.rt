@@ -2,6 +2,8 @@
 #![tactic(auto)]
 
 mod cell;
+#[cfg(test)]
+mod cell_tests;
 mod content;
 mod copy;
 mod fault;
