@@ -15,7 +15,7 @@ STEPS := crates/pn_bench/out/pn_bench
 ROWS ?= ../shared/rows
 STAGE ?= first-path
 
-.PHONY: run test build bench want rows toolchain
+.PHONY: run test build bench checks rows toolchain
 
 # Shows the program at work: the replies to the script on standard output. It proves nothing.
 run: toolchain
@@ -35,8 +35,9 @@ bench: build
 	@cd crates/pn_bench && rt run < stdin > /dev/null
 	@bench/run "$(PROGRAM)" "$(STEPS)"
 
-# Refuses each allocation of the built program in turn.
-want: build
+# Brings the built program to each of its ends, and refuses each of its allocations in turn.
+checks: build
+	@checks/exit-statuses "$(PROGRAM)"
 	@checks/want-of-memory "$(PROGRAM)"
 
 # Runs the worked rows through the built program, where they are at hand.

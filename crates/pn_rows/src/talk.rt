@@ -1,7 +1,7 @@
 //! A script that is a talk: each line comes only once the replies to those before it are out.
 
 use crate::rows::{DELETION_HIDES_AND_STAYS, FIRST_RUN};
-use pn_serve::run::run;
+use pn_serve::run;
 use std::cell::Cell;
 use std::io;
 use std::io::{BufRead, ErrorKind, Read, Write};
