@@ -28,5 +28,4 @@ pub fn white_space_changes_nothing()
 pub fn the_order_of_members_changes_nothing()
     ensures { (one other : List ℕ) (value moved : Json) → Spells one value → Spells other moved
         → IsReordered value moved → image_at one ≡ image_at other }
-{
-}
+{}
