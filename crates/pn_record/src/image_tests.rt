@@ -309,3 +309,18 @@ fn faults_are_printed(rt: HostRuntime) -> Result<(), Fail> {
     }
     Ok(())
 }
+
+// Run with each allocation refused in turn: an answer never changes in place of `Memory`.
+#[test]
+fn want_of_memory_is_said_as_such(rt: HostRuntime) {
+    let line =
+        "{\"fields\":{\"a\":\"1\",\"b\":\"2\"},\"key\":\"k\",\"master\":\"w\",\"version\":[1,0]}";
+    match read_image(rt.alloc(), line.as_bytes()) {
+        Ok(image) => if let Ok(text) = write_image(rt.alloc(), &image) {
+            assert!(rt; text.as_str() == line);
+        },
+        Err(fault) => assert_eq!(rt; fault, ImageFault::Memory),
+    }
+    let fault = fault_of(rt.alloc(), "{\"fields\":{\"a\":1}}");
+    assert!(rt; fault == Some(BadShape(Member::Fields)) || fault == Some(ImageFault::Memory));
+}
