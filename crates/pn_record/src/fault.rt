@@ -1,6 +1,6 @@
 //! Why a text or a value was not taken as an image.
 
-ghost use Rattle.std.specs.Prelude.{◌≡◌};
+ghost use Rattle.std.specs.Prelude.{◌≡◌, Some};
 ghost use Rattle.pn_record.specs.Words.{word_of};
 ghost use Rattle.pn_record.specs.declared.fault.ImageFault.TheVariants.{Memory};
 
@@ -64,6 +64,8 @@ impl Member {
 }
 
 impl fmt::Display for Member {
+    ghost output = { λ member. Some (word_of member) };
+
     fn fmt<W: fmt::Write>(&self, f: &mut fmt::Formatter<W>) -> fmt::Result {
         f.write_str(self.word())
     }
