@@ -1,5 +1,5 @@
 -- The first line of a text, and the lines after it.
-use Rattle.std.proofs.Common.{◌≡◌, ◌≢◌, ℕ, List, [], ◌∷◌, ◌++◌, All, refl, sym, ap, ◌∙◌, append_assoc, ne_eqb, ⊎_elim, if◌then◌else◌}
+use Rattle.std.proofs.Common.{◌≡◌, ◌≢◌, ℕ, List, [], ◌∷◌, ◌++◌, length, ◌≤◌, All, refl, sym, ap, ◌∙◌, append_assoc, ne_eqb, arith, ⊎_elim, if◌then◌else◌}
 use Rattle.std.proofs.lemmas.Bool.{cases_eq}
 use Rattle.std.proofs.lemmas.List.Elements.{All-head, All-tail, All-nil, All-cons}
 use Rattle.pn_line.specs.Reads.{IsUnbroken}
@@ -15,7 +15,7 @@ unfolding lines_of
 lines_of-newline rest = refl
 
 -- another byte first begins the first line
-lines_of-byte : (b : ℕ) (rest : List ℕ) → b ≢ 10 → lines_of (b ∷ rest) ≡ onto_first b (lines_of rest)
+pub lines_of-byte : (b : ℕ) (rest : List ℕ) → b ≢ 10 → lines_of (b ∷ rest) ≡ onto_first b (lines_of rest)
 unfolding lines_of
 lines_of-byte b rest other = ap (λ test. if test then [] ∷ lines_of rest else onto_first b (lines_of rest)) (ne_eqb b 10 other)
 
@@ -77,3 +77,14 @@ IsUnbroken-lines_of (b ∷ text) =
     (λ (is : b ≡ 10). rw (is, lines_of-newline) (All-cons IsUnbroken [] (lines_of text) (All-nil (λ x. x ≢ 10)) (IsUnbroken-lines_of text)))
     (λ (other : b ≢ 10). let first = lines_of-byte b text other in rw first (onto_first-unbroken b (lines_of text) other (IsUnbroken-lines_of text)))
     (cases_eq b 10)
+
+-- the first line of a text begins with the bytes before its first newline
+pub lines_of-begun : (b : ℕ) (part rest : List ℕ) → IsUnbroken (b ∷ part) → (line : List ℕ) × (more : List (List ℕ)) × (lines_of ((b ∷ part) ++ rest) ≡ line ∷ more) × (length (b ∷ part) ≤ length line)
+lines_of-begun b [] rest unbroken = begun (lines_of rest) (lines_of-byte b rest (All-head (λ x. x ≢ 10) b [] unbroken))
+  where
+    begun : (lines : List (List ℕ)) → lines_of (b ∷ rest) ≡ onto_first b lines → (line : List ℕ) × (more : List (List ℕ)) × (lines_of (b ∷ rest) ≡ line ∷ more) × (1 ≤ length line)
+    begun [] is = (b ∷ [], [], is, omega arith)
+    begun (line ∷ lines) is = (b ∷ line, lines, is, omega arith)
+lines_of-begun b (c ∷ part) rest unbroken =
+    let (line, more, is, long) = lines_of-begun c part rest (All-tail (λ x. x ≢ 10) b (c ∷ part) unbroken) in
+    (b ∷ line, more, lines_of-byte b ((c ∷ part) ++ rest) (All-head (λ x. x ≢ 10) b (c ∷ part) unbroken) ∙ ap (onto_first b) is, omega (arith, long))

@@ -6,6 +6,7 @@ mod line_buffer;
 mod outbox;
 mod piece;
 mod reading;
+mod sink;
 mod source;
 #[cfg(test)]
 mod tests;
@@ -16,5 +17,6 @@ pub use line_buffer::{ENDLESS, LONGEST_LINE, LineBuffer, MOST_KEPT};
 pub use outbox::{OUTBOX_ROOM, Outbox};
 pub use piece::Piece;
 pub use reading::{LineEnd, read_line};
+pub use sink::{Discard, Sink};
 pub use source::Source;
 pub use writing::{WriteFault, write_all_of};

@@ -3,9 +3,9 @@ ghost use Rattle.std.specs.Prelude.{◌≡◌, ◌+◌, ◌≤◌, ◌++◌, [],
 ghost use Rattle.std.specs.Io.KnownBytes.{Appends, Keeps};
 ghost use Rattle.pn_line.specs.Sent.{AppendsFront, Sends};
 
+use crate::sink::Sink;
 use crate::writing::{WriteFault, write_all_of};
 use std::alloc::{AllocError, Global};
-use std::io::Write;
 use std::marker::Model;
 
 /// How many bytes an outbox has room for.
@@ -42,11 +42,12 @@ impl Outbox {
     /// written first, and bytes that fit no outbox are written at once.
     ///
     /// After a fault nothing waits: what did not go out is given up.
-    pub fn push<W: Write>(&mut self, writer: &mut W, bytes: &[u8]) -> Result<(), WriteFault>
+    pub fn push<W: Sink>(&mut self, writer: &mut W, bytes: &[u8]) -> Result<(), WriteFault>
         ensures ok { OnOk result
             (Sends (W.contents writer.old) (W.contents writer.new) self.old self.new bytes.now) }
         ensures err { OnErr result
             (AppendsFront (W.contents writer.old) (W.contents writer.new) (self.old ++ bytes.now)) }
+        ensures fault { OnErr result W.may_fail }
         ensures given_up { OnErr result (self.new ≡ []) }
 
         // Bytes that fit only wait.
@@ -65,21 +66,23 @@ impl Outbox {
     }
 
     /// Writes all that waits, and flushes the writer. After a fault nothing waits either.
-    pub fn flush<W: Write>(&mut self, writer: &mut W) -> Result<(), WriteFault>
+    pub fn flush<W: Sink>(&mut self, writer: &mut W) -> Result<(), WriteFault>
         ensures ok { OnOk result (Appends (W.contents writer.old) (W.contents writer.new) self.old) }
         ensures err { OnErr result
             (AppendsFront (W.contents writer.old) (W.contents writer.new) self.old) }
+        ensures fault { OnErr result W.may_fail }
         ensures empty { self.new ≡ [] }
     {
         self.send(writer)?;
-        writer.flush().map_err(WriteFault::Failed)
+        writer.hand_on()
     }
 
     // Writes all that waits.
-    fn send<W: Write>(&mut self, writer: &mut W) -> Result<(), WriteFault>
+    fn send<W: Sink>(&mut self, writer: &mut W) -> Result<(), WriteFault>
         ensures ok { OnOk result (Appends (W.contents writer.old) (W.contents writer.new) self.old) }
         ensures err { OnErr result
             (AppendsFront (W.contents writer.old) (W.contents writer.new) self.old) }
+        ensures fault { OnErr result W.may_fail }
         ensures empty { self.new ≡ [] }
     {
         let sent = write_all_of(writer, &self.waiting);

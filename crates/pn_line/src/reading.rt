@@ -1,5 +1,5 @@
 //! One line read from a source: on from what is there of it until its newline, or no further.
-ghost use Rattle.std.specs.Prelude.{◌≡◌, ◌↔◌, [], IfOk, OnErr, OnSome};
+ghost use Rattle.std.specs.Prelude.{◌≡◌, ◌≢◌, ◌<◌, ◌↔◌, [], IfOk, OnErr, OnSome};
 ghost use Rattle.std.specs.Io.KnownBytes.{IsAtEnd};
 ghost use Rattle.pn_line.specs.Reads.{Takes};
 ghost use Rattle.pn_line.specs.LineEnd.{newline_behind};
@@ -35,6 +35,7 @@ pub fn read_line<S: Source>(line: &mut LineBuffer, source: &mut S) -> io::Result
     ensures end { IfOk result (λ end. end ≡ LineEnd.EndOfInput
         → OnSome (S.left source.old) (IsAtEnd (S.left source.new))) }
     ensures endless { IfOk result (λ end. (end ≡ LineEnd.Endless) ↔ (line.new.count ≡ ENDLESS)) }
+    ensures below { IfOk result (λ end. end ≢ LineEnd.Endless → line.new.count < ENDLESS) }
     ensures fault { OnErr result S.may_fail }
     ensures kept { OnErr result
         (Takes line.old line.new (S.left source.old) (S.left source.new) []) }

@@ -272,3 +272,12 @@ fn an_outbox_gives_up_what_did_not_go_out(rt: HostRuntime) -> Result<(), Fail> {
     }
     Ok(())
 }
+
+#[test]
+fn a_sink_that_discards_takes_all_bytes(rt: HostRuntime) -> Result<(), Fail> {
+    let long = vec![in rt.alloc(); b'y'; 70_000]?;
+    assert_eq!(rt; Discard.write_some(&long)?, 70_000);
+    write_all_of(&mut Discard, &long)?;
+    Discard.hand_on()?;
+    Ok(())
+}

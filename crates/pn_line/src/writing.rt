@@ -3,8 +3,8 @@ ghost use Rattle.std.specs.Prelude.{◌≡◌, length, IsOk, OnOk, OnErr};
 ghost use Rattle.std.specs.Io.KnownBytes.{Appends};
 ghost use Rattle.pn_line.specs.Sent.{AppendsFront};
 
+use crate::sink::Sink;
 use std::error::Error;
-use std::io::Write;
 use std::{fmt, io};
 
 /// Why bytes did not go out whole.
@@ -27,22 +27,20 @@ impl fmt::Display for WriteFault {
 
 impl Error for WriteFault {}
 
-/// Writes all the bytes by calls of `write`, and does not flush the writer.
+/// Writes all the bytes, and does not flush the writer.
 ///
 /// Each error of the writer ends it, `Interrupted` too: to try again forever would not be known to end.
-pub fn write_all_of<W: Write>(writer: &mut W, bytes: &[u8]) -> Result<(), WriteFault>
+pub fn write_all_of<W: Sink>(writer: &mut W, bytes: &[u8]) -> Result<(), WriteFault>
     ensures ok { OnOk result (Appends (W.contents writer.old) (W.contents writer.new) bytes.now) }
     ensures err { OnErr result
         (AppendsFront (W.contents writer.old) (W.contents writer.new) bytes.now) }
+    ensures fault { OnErr result W.may_fail }
     ensures nothing { length bytes.now ≡ 0 → IsOk result }
 {
     let mut rest = bytes;
     while !rest.is_empty() {
-        match writer.write(rest) {
-            Ok(0) => return Err(WriteFault::TookNothing),
-            Ok(count) => rest = &rest[count..],
-            Err(error) => return Err(WriteFault::Failed(error)),
-        }
+        let count = writer.write_some(rest)?;
+        rest = &rest[count..];
     }
     Ok(())
 }

@@ -1,7 +1,8 @@
 -- The replies to the lines read so far went out or wait, and the records are those after these lines.
-use Rattle.std.proofs.Common.{◌≡◌, ℕ, zero, suc, ◌+◌, ◌<◌, ◌≤◌, ◌≢◌, Bool, true, false, cond, Option, None, Some, List, [], ◌∷◌, ◌++◌, length, nat_lt, inl, inr, IfSome, OnSome, refl, sym, ap, ◌∙◌, subst, arith, append-nil, append_assoc, Result, Ok, Err}
+use Rattle.std.proofs.Common.{◌≡◌, ℕ, zero, suc, ◌+◌, ◌<◌, ◌≤◌, ◌≢◌, Bool, true, false, cond, Option, None, Some, List, [], ◌∷◌, ◌++◌, length, All, nat_lt, inl, inr, IfSome, OnSome, refl, sym, ap, ◌∙◌, subst, arith, append-nil, append_assoc, Result, Ok, Err}
 use Rattle.std.specs.Io.KnownBytes.{Appends, IsAtEnd}
 use Rattle.std.proofs.lemmas.List.{length_push}
+use Rattle.std.proofs.lemmas.List.Elements.{All-nil, All-cons, All-append}
 use Rattle.std.proofs.lemmas.Bool.{cases_lt}
 use Rattle.std.proofs.lemmas.Bool.Decides.{nat_tests}
 use Rattle.std.specs.Option.{ok_or}
@@ -26,7 +27,8 @@ use Rattle.pn_serve.specs.Commands.{command_at, command_in, refusal_of}
 use Rattle.pn_serve.specs.Machine.{Outcome, Machine, turn, turn_of, serving}
 use Rattle.pn_serve.specs.Script.{replies, replies_from, machine_after, refusals_from, one_if}
 use Rattle.pn_serve.specs.Replying.{Turned, reply_text, is_refusal}
-use Rattle.pn_serve.specs.Runs.{Ended}
+use Rattle.pn_serve.specs.Runs.{Ended, lines_within}
+use Rattle.pn_serve.proofs.Within.{IsShort, within-all}
 use Rattle.pn_serve.specs.declared.running.Counts.{Counts}
 use Rattle.pn_serve.specs.AnsweredLine.{Answered}
 
@@ -44,7 +46,7 @@ command_at-kept line = elim (cases_lt 65536 (length line)) [
 ]
 
 -- one more line
-replies_from-push : (machine : Machine) (texts : List (List ℕ)) (outcomes : List Outcome) (text : List ℕ) (outcome : Outcome) → length outcomes ≡ length texts → replies_from machine (texts ++ text ∷ []) (outcomes ++ outcome ∷ []) ≡ replies_from machine texts outcomes ++ (turn (machine_after machine texts outcomes) outcome text).reply
+pub replies_from-push : (machine : Machine) (texts : List (List ℕ)) (outcomes : List Outcome) (text : List ℕ) (outcome : Outcome) → length outcomes ≡ length texts → replies_from machine (texts ++ text ∷ []) (outcomes ++ outcome ∷ []) ≡ replies_from machine texts outcomes ++ (turn (machine_after machine texts outcomes) outcome text).reply
 replies_from-push machine [] [] text outcome same = append-nil (turn machine outcome text).reply
 replies_from-push machine [] (o ∷ outcomes) text outcome same = absurd (omega arith)
 replies_from-push machine (t ∷ texts) [] text outcome same = absurd (omega arith)
@@ -111,30 +113,39 @@ Answers-flush texts a b c waits now records lines refused is sent none = record 
 }
 
 -- all lines were answered, and what waited went out
-pub Answers-end : (text : List ℕ) (texts : List (List ℕ)) (a b c : Option (List ℕ)) (waits : List ℕ) (records : Entries) (lines refused : ℕ) → lines_of text ≡ texts → Answers texts a b waits records lines refused → Appends b c waits → Ended text a c lines refused
-Answers-end text texts a b c waits records lines refused all is sent = record {
+pub Answers-end : (text : List ℕ) (texts : List (List ℕ)) (a b c : Option (List ℕ)) (waits : List ℕ) (records : Entries) (lines refused : ℕ) → lines_of text ≡ texts → lines_within text ≡ lines_of text → Answers texts a b waits records lines refused → Appends b c waits → Ended text a c lines refused
+Answers-end text texts a b c waits records lines refused all within is sent = record {
+  within = within;
   outcomes = is.outcomes;
   wrote = subst (λ (l : List (List ℕ)). Appends a c (replies_from (serving []) l is.outcomes)) (sym all) (Sends-flushed c is.sends sent);
   counted = is.counted ∙ ap length (sym all);
   refused_are = is.refusals ∙ ap (λ (l : List (List ℕ)). refusals_from (serving []) l is.outcomes) (sym all);
 }
 
+-- one more short line
+pub are_short : (texts : List (List ℕ)) (line : LineSoFar) (taken : List ℕ) → All IsShort texts → line ≡ so_far taken → line.count < 1000000000 → All IsShort (texts ++ taken ∷ [])
+are_short texts line taken short is ends =
+    let test : nat_lt (length taken) 1000000000 ≡ true = grind (arith, nat_tests, ap (λ (l : LineSoFar). l.count) is, ends) in
+    All-append IsShort texts (taken ∷ []) short (All-cons IsShort taken [] test (All-nil IsShort))
+
 -- of this text these lines were read and answered
 pub record Served (text : List ℕ) (left a b : Option (List ℕ)) (waits : List ℕ) (records : Entries) (lines refused : ℕ) : Type 0 where
   pub texts : List (List ℕ)
   pub read : LinesRead text left texts
+  pub short : All IsShort texts
   pub answers : Answers texts a b waits records lines refused
 
-turned_kept : (old new : Entries) (line : LineSoFar) (taken : List ℕ) (reply : Reply) → line ≡ so_far taken → Turned old (command_at line.front) new reply → Turned old (command_at taken) new reply
+pub turned_kept : (old new : Entries) (line : LineSoFar) (taken : List ℕ) (reply : Reply) → line ≡ so_far taken → Turned old (command_at line.front) new reply → Turned old (command_at taken) new reply
 turned_kept old new line taken reply is turned =
     subst (λ (said : Result Asked Refusal). Turned old said new reply) (ap (λ (l : LineSoFar). command_at l.front) is ∙ command_at-kept taken) turned
 
 pub Served-line : (text : List ℕ) (left leaves a b c : Option (List ℕ)) (waits now : List ℕ) (old new : Entries) (lines refused : ℕ) (line : LineSoFar) (reply : Reply) → Served text left a b waits old lines refused
-    → Takes (so_far []) line left leaves (10 ∷ []) → Turned old (command_at line.front) new reply → Sends b c waits now (reply_text reply) → Served text leaves a c now new (lines + 1) (one_if (is_refusal reply) + refused)
-Served-line text left leaves a b c waits now old new lines refused line reply served takes turned sends =
+    → Takes (so_far []) line left leaves (10 ∷ []) → line.count < 1000000000 → Turned old (command_at line.front) new reply → Sends b c waits now (reply_text reply) → Served text leaves a c now new (lines + 1) (one_if (is_refusal reply) + refused)
+Served-line text left leaves a b c waits now old new lines refused line reply served takes ends turned sends =
     let (taken, is, read) = LinesRead-line served.read takes in record {
       texts = served.texts ++ taken ∷ [];
       read = read;
+      short = are_short served.texts line taken served.short is ends;
       answers = Answers-line served.texts a b c waits now old new lines refused taken reply served.answers (turned_kept old new line taken reply is turned) sends;
     }
 
@@ -142,6 +153,7 @@ pub Served-flush : (text : List ℕ) (left a b c : Option (List ℕ)) (waits now
 Served-flush text left a b c waits now records lines refused served sent none = record {
   texts = served.texts;
   read = served.read;
+  short = served.short;
   answers = Answers-flush served.texts a b c waits now records lines refused served.answers sent none;
 }
 
@@ -149,56 +161,62 @@ no_line : (taken : List ℕ) → length taken ≡ 0 → last_line taken ≡ []
 no_line [] none = refl
 no_line (b ∷ taken) none = absurd (omega arith)
 
-one_line : (taken : List ℕ) → length taken ≢ 0 → last_line taken ≡ taken ∷ []
+pub one_line : (taken : List ℕ) → length taken ≢ 0 → last_line taken ≡ taken ∷ []
 one_line [] some = absurd (some refl)
 one_line (b ∷ taken) some = refl
 
 -- the input ended behind a newline
 pub Served-end : (text : List ℕ) (left leaves a b c : Option (List ℕ)) (waits : List ℕ) (records : Entries) (lines refused : ℕ) (line : LineSoFar) → Served text left a b waits records lines refused
-    → Takes (so_far []) line left leaves [] → OnSome left (IsAtEnd leaves) → line.count ≡ 0 → Appends b c waits → Ended text a c lines refused
-Served-end text left leaves a b c waits records lines refused line served takes end none sent =
+    → Takes (so_far []) line left leaves [] → OnSome left (IsAtEnd leaves) → line.count ≡ 0 → lines ≤ 1000000 → Appends b c waits → Ended text a c lines refused
+Served-end text left leaves a b c waits records lines refused line served takes end none few sent =
     let (taken, is, all) = LinesRead-end leaves served.read takes end in
     let empty : length taken ≡ 0 = ap (λ (l : LineSoFar). l.count) (sym is) ∙ none in
-    Answers-end text served.texts a b c waits records lines refused (all ∙ ap (λ (l : List (List ℕ)). served.texts ++ l) (no_line taken empty) ∙ append-nil served.texts) served.answers sent
+    let whole : lines_of text ≡ served.texts = all ∙ ap (λ (l : List (List ℕ)). served.texts ++ l) (no_line taken empty) ∙ append-nil served.texts in
+    Answers-end text served.texts a b c waits records lines refused whole (within-all text served.texts whole served.short (omega (arith, few, served.answers.counted))) served.answers sent
 
 -- the input ended in a last line
 pub Served-last : (text : List ℕ) (left leaves a b c d : Option (List ℕ)) (waits now : List ℕ) (old new : Entries) (lines refused : ℕ) (line : LineSoFar) (reply : Reply) → Served text left a b waits old lines refused
-    → Takes (so_far []) line left leaves [] → OnSome left (IsAtEnd leaves) → line.count ≢ 0 → Turned old (command_at line.front) new reply → Sends b c waits now (reply_text reply) → Appends c d now → Ended text a d (lines + 1) (one_if (is_refusal reply) + refused)
-Served-last text left leaves a b c d waits now old new lines refused line reply served takes end some turned sends sent =
+    → Takes (so_far []) line left leaves [] → OnSome left (IsAtEnd leaves) → line.count ≢ 0 → line.count < 1000000000 → lines < 1000000 → Turned old (command_at line.front) new reply → Sends b c waits now (reply_text reply) → Appends c d now → Ended text a d (lines + 1) (one_if (is_refusal reply) + refused)
+Served-last text left leaves a b c d waits now old new lines refused line reply served takes end some ends few turned sends sent =
     let (taken, is, all) = LinesRead-end leaves served.read takes end in
     let full : length taken ≢ 0 = λ none. some (ap (λ (l : LineSoFar). l.count) is ∙ none) in
-    Answers-end text (served.texts ++ taken ∷ []) a c d now new (lines + 1) (one_if (is_refusal reply) + refused) (all ∙ ap (λ (l : List (List ℕ)). served.texts ++ l) (one_line taken full))
+    let whole : lines_of text ≡ served.texts ++ taken ∷ [] = all ∙ ap (λ (l : List (List ℕ)). served.texts ++ l) (one_line taken full) in
+    let within = within-all text (served.texts ++ taken ∷ []) whole (are_short served.texts line taken served.short is ends) (omega (arith, few, served.answers.counted, length_push served.texts taken)) in
+    Answers-end text (served.texts ++ taken ∷ []) a c d now new (lines + 1) (one_if (is_refusal reply) + refused) whole within
     (Answers-line served.texts a b c waits now old new lines refused taken reply served.answers (turned_kept old new line taken reply is turned) sends) sent
 
+pub some_same : (x y : List ℕ) → Some x ≡ Some y → x ≡ y
+some_same x y e = cc
+
+-- the lines of a text are those that were read, and those of the rest
+pub lines_left : {text : List ℕ} {left : Option (List ℕ)} {texts : List (List ℕ)} → (read : LinesRead text left texts) → lines_of text ≡ texts ++ lines_of read.rest
+lines_left {texts = texts} read = ap lines_of read.text_is ∙ lines_of-text texts read.rest read.unbroken
+
 -- nothing was left behind the lines that were answered
-pub Served-all : (text rest : List ℕ) (a b c : Option (List ℕ)) (waits : List ℕ) (records : Entries) (lines refused : ℕ) → Served text (Some rest) a b waits records lines refused → rest ≡ [] → Appends b c waits → Ended text a c lines refused
-Served-all text rest a b c waits records lines refused served none sent =
+pub Served-all : (text rest : List ℕ) (a b c : Option (List ℕ)) (waits : List ℕ) (records : Entries) (lines refused : ℕ) → Served text (Some rest) a b waits records lines refused → rest ≡ [] → lines ≤ 1000000 → Appends b c waits → Ended text a c lines refused
+Served-all text rest a b c waits records lines refused served none few sent =
     let left : served.read.rest ≡ [] = some_same served.read.rest rest (sym served.read.left_is) ∙ none in
-    Answers-end text served.texts a b c waits records lines refused
-    (ap lines_of served.read.text_is ∙ lines_of-text served.texts served.read.rest served.read.unbroken ∙ ap (λ (r : List ℕ). served.texts ++ lines_of r) left ∙ ap (λ (l : List (List ℕ)). served.texts ++ l) lines_of-nil ∙ append-nil served.texts)
-    served.answers sent
-  where
-    some_same : (x y : List ℕ) → Some x ≡ Some y → x ≡ y
-    some_same x y e = cc
+    let whole : lines_of text ≡ served.texts = lines_left served.read ∙ ap (λ (r : List ℕ). served.texts ++ lines_of r) left ∙ ap (λ (l : List (List ℕ)). served.texts ++ l) lines_of-nil ∙ append-nil served.texts in
+    Answers-end text served.texts a b c waits records lines refused whole (within-all text served.texts whole served.short (omega (arith, few, served.answers.counted))) served.answers sent
 
 pub Begins : (left a : Option (List ℕ)) (waits : List ℕ) (records : Entries) → waits ≡ [] → records ≡ [] → IfSome left (λ text. Served text left a a waits records 0 0)
 Begins left a waits records none empty = subst (λ (r : Entries). IfSome left (λ text. Served text left a a waits r 0 0)) (sym empty) (begins left a waits none)
   where
     begins : (left a : Option (List ℕ)) (waits : List ℕ) → waits ≡ [] → IfSome left (λ text. Served text left a a waits [] 0 0)
     begins None a waits none = tt
-    begins (Some text) a waits none = record { texts = []; read = LinesRead-none text; answers = Answers-none a waits none }
+    begins (Some text) a waits none = record { texts = []; read = LinesRead-none text; short = All-nil IsShort; answers = Answers-none a waits none }
 
 -- a line was read and answered
 pub Goes_on : (text : List ℕ) (left leaves a b c : Option (List ℕ)) (waits now : List ℕ) (old new : Entries) (had has : Counts) (line : LineSoFar) → Served text left a b waits old had.lines had.refused
-    → Takes (so_far []) line left leaves (10 ∷ []) → Answered old new line.front b c waits now had has → Served text leaves a c now new has.lines has.refused
-Goes_on text left leaves a b c waits now old new had has line served takes is =
-    rw (is.lines, is.refused) (Served-line text left leaves a b c waits now old new had.lines had.refused line is.reply served takes is.turned is.sends)
+    → Takes (so_far []) line left leaves (10 ∷ []) → line.count < 1000000000 → Answered old new line.front b c waits now had has → Served text leaves a c now new has.lines has.refused
+Goes_on text left leaves a b c waits now old new had has line served takes ends is =
+    rw (is.lines, is.refused) (Served-line text left leaves a b c waits now old new had.lines had.refused line is.reply served takes ends is.turned is.sends)
 
 -- the last line was read and answered
 pub Last : (text : List ℕ) (left leaves a b c d : Option (List ℕ)) (waits now : List ℕ) (old new : Entries) (had has : Counts) (line : LineSoFar) → Served text left a b waits old had.lines had.refused
-    → Takes (so_far []) line left leaves [] → OnSome left (IsAtEnd leaves) → line.count ≢ 0 → Answered old new line.front b c waits now had has → Appends c d now → Ended text a d has.lines has.refused
-Last text left leaves a b c d waits now old new had has line served takes end some is sent =
-    rw (is.lines, is.refused) (Served-last text left leaves a b c d waits now old new had.lines had.refused line is.reply served takes end some is.turned is.sends sent)
+    → Takes (so_far []) line left leaves [] → OnSome left (IsAtEnd leaves) → line.count ≢ 0 → line.count < 1000000000 → had.lines < 1000000 → Answered old new line.front b c waits now had has → Appends c d now → Ended text a d has.lines has.refused
+Last text left leaves a b c d waits now old new had has line served takes end some ends few is sent =
+    rw (is.lines, is.refused) (Served-last text left leaves a b c d waits now old new had.lines had.refused line is.reply served takes end some ends few is.turned is.sends sent)
 
 -- nothing was left where nothing was taken and nothing is left
 pub none_left : (left leaves : Option (List ℕ)) (line : LineSoFar) → Takes (so_far []) line left leaves [] → OnSome left (IsAtEnd leaves) → line.count ≡ 0 → IfSome left (λ rest. rest ≡ [])
@@ -225,10 +243,10 @@ pub refused_within : (old new : Entries) (text : List ℕ) (a b : Option (List �
 refused_within old new text a b waits now had has is within = omega (arith, is.lines, is.refused, one_if-le (is_refusal is.reply))
 
 -- nothing was left behind the lines that were answered, by cases on what is told
-pub Ends : (first left a b c : Option (List ℕ)) (waits : List ℕ) (records : Entries) (lines refused : ℕ) → IfSome first (λ text. Served text left a b waits records lines refused) → IfSome left (λ rest. rest ≡ []) → Appends b c waits → IfSome first (λ text. Ended text a c lines refused)
-Ends None left a b c waits records lines refused served none sent = tt
-Ends (Some text) (Some rest) a b c waits records lines refused served none sent = Served-all text rest a b c waits records lines refused served none sent
-Ends (Some text) None a b c waits records lines refused served none sent = absurd (untold served.read.rest served.read.left_is)
+pub Ends : (first left a b c : Option (List ℕ)) (waits : List ℕ) (records : Entries) (lines refused : ℕ) → IfSome first (λ text. Served text left a b waits records lines refused) → IfSome left (λ rest. rest ≡ []) → lines ≤ 1000000 → Appends b c waits → IfSome first (λ text. Ended text a c lines refused)
+Ends None left a b c waits records lines refused served none few sent = tt
+Ends (Some text) (Some rest) a b c waits records lines refused served none few sent = Served-all text rest a b c waits records lines refused served none few sent
+Ends (Some text) None a b c waits records lines refused served none few sent = absurd (untold served.read.rest served.read.left_is)
   where
     untold : (rest : List ℕ) → None ≡ Some rest → ⊥
     untold rest is = cc

@@ -1,6 +1,6 @@
 -- What answering one line leaves.
-use Rattle.std.specs.Prelude.{◌≡◌, ℕ, ◌+◌, List, Option}
-use Rattle.pn_line.specs.Sent.{Sends}
+use Rattle.std.specs.Prelude.{◌≡◌, ℕ, ◌+◌, List, ◌++◌, Option}
+use Rattle.pn_line.specs.Sent.{Sends, AppendsFront}
 use Rattle.pn_record.specs.CellMap.{Entries}
 use Rattle.pn_serve.specs.declared.answering.Reply.{Reply}
 use Rattle.pn_serve.specs.declared.running.Counts.{Counts}
@@ -15,3 +15,9 @@ pub record Answered (old new : Entries) (text : List ℕ) (before after : Option
   pub sends : Sends before after waited waits (reply_text reply)
   pub lines : has.lines ≡ had.lines + 1
   pub refused : has.refused ≡ one_if (is_refusal reply) + had.refused
+
+-- the line took its turn, and of what waited and its reply a front went out
+pub record AnsweredInPart (old new : Entries) (text : List ℕ) (before after : Option (List ℕ)) (waited : List ℕ) : Type 0 where
+  pub reply : Reply
+  pub turned : Turned old (command_at text) new reply
+  pub front : AppendsFront before after (waited ++ reply_text reply)

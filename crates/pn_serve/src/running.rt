@@ -1,20 +1,19 @@
 //! Scripts: line after line is read, answered, and its reply written out.
 
-ghost use Rattle.std.specs.Prelude.{◌≡◌, ◌+◌, ◌<◌, ◌≤◌, [], ◌++◌, IfOk, IfSome, OnOk, OnErr, IsErrOf};
+ghost use Rattle.std.specs.Prelude.{◌≡◌, ◌≢◌, ◌+◌, ◌<◌, ◌≤◌, [], ◌++◌, IfOk, IfSome, OnOk, OnErr, IsErrOf};
 ghost use Rattle.std.specs.Io.KnownBytes.{Keeps};
 ghost use Rattle.pn_line.specs.Sent.{Sends, AppendsFront};
 ghost use Rattle.pn_serve.specs.declared.running.RunFault.TheVariants.{Write, Memory};
-ghost use Rattle.pn_serve.specs.Runs.{Ended};
-ghost use Rattle.pn_serve.specs.AnsweredLine.{Answered};
+ghost use Rattle.pn_serve.specs.Runs.{Ended, Broken, Cut, Exceeded};
+ghost use Rattle.pn_serve.specs.AnsweredLine.{Answered, AnsweredInPart};
 ghost use Rattle.pn_serve.specs.Script.{one_if};
 ghost use Rattle.pn_serve.specs.Replying.{reply_text, is_refusal};
 
 use crate::answering::{Reply, answer};
 use crate::replies::{changed_reply, refusal_reply};
-use pn_line::{LineBuffer, LineEnd, Outbox, Piece, Source, WriteFault, read_line};
+use pn_line::{LineBuffer, LineEnd, Outbox, Piece, Sink, Source, WriteFault, read_line};
 use pn_record::Records;
 use std::alloc::{AllocError, Global};
-use std::io::Write;
 use thiserror::Error;
 
 /// How many lines of a script are answered.
@@ -63,7 +62,7 @@ impl From<AllocError> for RunFault {
 
 /// Answers the lines of a script until its end, each by one reply, and writes each reply before it waits
 /// for more input.
-pub fn run<S: Source, W: Write>(
+pub fn run<S: Source, W: Sink>(
     alloc: Global,
     input: &mut S,
     output: &mut W,
@@ -71,6 +70,13 @@ pub fn run<S: Source, W: Write>(
     ensures ended { IfOk result (λ counts. IfSome (S.left input.old) (λ script.
         Ended script (W.contents output.old) (W.contents output.new) counts.lines counts.refused)) }
     ensures read { IsErrOf result RunFault.Read → S.may_fail }
+    ensures broken { IsErrOf result RunFault.Read → IfSome (S.left input.old) (λ script.
+        Broken script (S.left input.new) (W.contents output.old) (W.contents output.new)) }
+    ensures write { IsErrOf result RunFault.Write → W.may_fail }
+    ensures cut { IsErrOf result RunFault.Write → IfSome (S.left input.old) (λ script.
+        Cut script (W.contents output.old) (W.contents output.new)) }
+    ensures exceeded { IsErrOf result RunFault.TooManyTurns → IfSome (S.left input.old) (λ script.
+        Exceeded script (W.contents output.old) (W.contents output.new)) }
     ensures memory { IsErrOf result RunFault.Memory
         → Keeps (S.left input.old) (S.left input.new) × Keeps (W.contents output.old) (W.contents output.new) }
 {
@@ -80,7 +86,7 @@ pub fn run<S: Source, W: Write>(
 }
 
 // Answers line after line.
-fn serve<S: Source, W: Write>(
+fn serve<S: Source, W: Sink>(
     alloc: Global,
     line: &mut LineBuffer,
     outbox: &mut Outbox,
@@ -91,6 +97,13 @@ fn serve<S: Source, W: Write>(
     ensures ended { IfOk result (λ counts. IfSome (S.left input.old) (λ script.
         Ended script (W.contents output.old) (W.contents output.new) counts.lines counts.refused)) }
     ensures read { IsErrOf result RunFault.Read → S.may_fail }
+    ensures broken { IsErrOf result RunFault.Read → IfSome (S.left input.old) (λ script.
+        Broken script (S.left input.new) (W.contents output.old) (W.contents output.new)) }
+    ensures write { IsErrOf result RunFault.Write → W.may_fail }
+    ensures cut { IsErrOf result RunFault.Write → IfSome (S.left input.old) (λ script.
+        Cut script (W.contents output.old) (W.contents output.new)) }
+    ensures exceeded { IsErrOf result RunFault.TooManyTurns → IfSome (S.left input.old) (λ script.
+        Exceeded script (W.contents output.old) (W.contents output.new)) }
     ensures not_memory { IsErrOf result RunFault.Memory → ⊥ }
 {
     let mut records = Records::new(alloc);
@@ -136,7 +149,10 @@ fn serve<S: Source, W: Write>(
 // Whether nothing is left of the input after the last line that may be answered.
 fn end_of<S: Source>(line: &mut LineBuffer, input: &mut S) -> Result<(), RunFault>
     ensures end { OnOk result (IfSome (S.left input.old) (λ rest. rest ≡ [])) }
+    ensures more { IsErrOf result RunFault.TooManyTurns → IfSome (S.left input.old) (λ rest. rest ≢ []) }
     ensures read { IsErrOf result RunFault.Read → S.may_fail }
+    ensures kept { IsErrOf result RunFault.Read → Keeps (S.left input.old) (S.left input.new) }
+    ensures not_write { IsErrOf result RunFault.Write → ⊥ }
     ensures not_memory { IsErrOf result RunFault.Memory → ⊥ }
 {
     line.start();
@@ -148,7 +164,7 @@ fn end_of<S: Source>(line: &mut LineBuffer, input: &mut S) -> Result<(), RunFaul
 }
 
 // Answers one line: its reply waits or goes out, and is counted.
-fn answer_line<W: Write>(
+fn answer_line<W: Sink>(
     alloc: Global,
     records: &mut Records,
     counts: &mut Counts,
@@ -159,6 +175,8 @@ fn answer_line<W: Write>(
     requires turns { counts.old.lines < MOST_LINES }
     requires bounded { counts.old.refused ≤ counts.old.lines }
     ensures ok { OnOk result (Answered records.old records.new line.now (W.contents output.old) (W.contents output.new) outbox.old outbox.new counts.old counts.new) }
+    ensures err { OnErr result (AnsweredInPart records.old records.new line.now (W.contents output.old) (W.contents output.new) outbox.old) }
+    ensures fault { OnErr result W.may_fail }
 {
     let reply = answer(alloc, records, line);
     count(counts, &reply);
@@ -178,13 +196,10 @@ fn count(counts: &mut Counts, reply: &Reply)
 }
 
 // The reply waits or goes out.
-fn push_reply<W: Write>(
-    reply: &Reply,
-    outbox: &mut Outbox,
-    output: &mut W,
-) -> Result<(), WriteFault>
+fn push_reply<W: Sink>(reply: &Reply, outbox: &mut Outbox, output: &mut W) -> Result<(), WriteFault>
     ensures ok { OnOk result (Sends (W.contents output.old) (W.contents output.new) outbox.old outbox.new (reply_text reply.now)) }
     ensures err { OnErr result (AppendsFront (W.contents output.old) (W.contents output.new) (outbox.old ++ reply_text reply.now)) }
+    ensures fault { OnErr result W.may_fail }
 {
     match reply {
         Reply::Changed(count) => outbox.push(output, changed_reply(*count).as_bytes()),

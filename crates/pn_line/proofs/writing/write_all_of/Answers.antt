@@ -4,4 +4,4 @@ use Rattle.pn_line.proofs.writing.write_all_of.Goals as goal
 pub loop-rest-preserved : goal.loop-rest-preserved
 loop-rest-preserved g c =
     let (done, sent, whole) = c.loop-rest.invariant in
-    goes_on _ _ _ _ done _ _ sent whole c.in-Ok.ensures.bytes
+    goes_on _ _ _ _ done _ _ sent whole c.in_ok-count.ensures.written

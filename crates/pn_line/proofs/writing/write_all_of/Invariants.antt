@@ -4,7 +4,7 @@ use Rattle.std.specs.Io.KnownBytes.{Appends}
 use Rattle.pn_line.proofs.writing.write_all_of.Given as goal
 
 abbrev pub invariant-loop-rest : goal.invariant-loop-rest
-invariant-loop-rest g l = (done : List ℕ) × Appends (g.W.Write.contents l.initial.writer) (g.W.Write.contents l.writer) done × (done ++ l.rest ≡ l.bytes)
+invariant-loop-rest g l = (done : List ℕ) × Appends (g.W.Sink.contents l.initial.writer) (g.W.Sink.contents l.writer) done × (done ++ l.rest ≡ l.bytes)
 
 abbrev pub decreases-loop-rest : goal.decreases-loop-rest
 decreases-loop-rest g l = length l.rest

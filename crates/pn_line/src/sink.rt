@@ -1,0 +1,69 @@
+//! Where bytes are written to: any writer, whose writes may fail, or nowhere, where none does.
+ghost use Rattle.std.specs.Prelude.{◌<◌, ◌≤◌, ℕ, List, Option, length, take, IfOk, OnErr};
+ghost use Rattle.std.specs.Io.KnownBytes.{Appends, Keeps};
+
+use crate::writing::WriteFault;
+use std::io::Write;
+
+/// What bytes are written to.
+pub trait Sink {
+    // The bytes that were written, where the type tells them.
+    ghost contents: { Self → Option (List ℕ) };
+
+    // What holds where a write can fail at all.
+    ghost may_fail: { Type 0 };
+
+    /// Writes a front of the bytes, at least one where there is one, and answers how many it wrote.
+    ///
+    /// A fault is an error of the writer, `Interrupted` too, or that it takes no byte. It writes nothing.
+    fn write_some(&mut self, bytes: &[u8]) -> Result<usize, WriteFault>
+        ensures within { IfOk result (λ count. count ≤ length bytes.now) }
+        ensures some { IfOk result (λ count. 0 < length bytes.now → 0 < count) }
+        ensures written { IfOk result
+            (λ count. Appends (contents self.old) (contents self.new) (take count bytes.now)) }
+        ensures fault { OnErr result may_fail }
+        ensures kept { OnErr result (Keeps (contents self.old) (contents self.new)) };
+
+    /// Hands on what the writer holds back.
+    fn hand_on(&mut self) -> Result<(), WriteFault>
+        ensures fault { OnErr result may_fail }
+        ensures kept { Keeps (contents self.old) (contents self.new) };
+}
+
+impl<W: Write> Sink for W {
+    ghost contents = { λ writer. W.contents writer };
+
+    ghost may_fail = { Unit {0} };
+
+    fn write_some(&mut self, bytes: &[u8]) -> Result<usize, WriteFault> {
+        match self.write(bytes) {
+            Ok(0) if !bytes.is_empty() => Err(WriteFault::TookNothing),
+            Ok(count) => Ok(count),
+            Err(error) => Err(WriteFault::Failed(error)),
+        }
+    }
+
+    fn hand_on(&mut self) -> Result<(), WriteFault> {
+        self.flush().map_err(WriteFault::Failed)
+    }
+}
+
+/// A sink that takes all bytes, keeps none and never fails.
+#[derive(Clone, Copy, Debug)]
+pub struct Discard;
+
+impl Sink for Discard {
+    ghost use Rattle.std.specs.Prelude.{None};
+
+    ghost contents = { λ _. None };
+
+    ghost may_fail = { ⊥ };
+
+    fn write_some(&mut self, bytes: &[u8]) -> Result<usize, WriteFault> {
+        Ok(bytes.len())
+    }
+
+    fn hand_on(&mut self) -> Result<(), WriteFault> {
+        Ok(())
+    }
+}
