@@ -1,5 +1,6 @@
 pub mod CellLists
 pub mod CellMaps
+pub mod Differing
 pub mod FieldSteps
 pub mod Fields
 pub mod Gathering

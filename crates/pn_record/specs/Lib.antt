@@ -9,6 +9,7 @@ pub mod Limits
 pub mod Order
 pub mod Reading
 pub mod Seen
+pub mod SameCells
 pub mod Sets
 pub mod Showing
 pub mod States
