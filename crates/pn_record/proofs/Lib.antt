@@ -13,6 +13,7 @@ pub mod Limiting
 pub mod Lines
 pub mod LookUps
 pub mod Members
+pub mod NeverOlder
 pub mod Orders
 pub mod SameImage
 pub mod ShapeParts

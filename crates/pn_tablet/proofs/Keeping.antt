@@ -1,5 +1,5 @@
 -- What operations keep of every tablet.
-use Rattle.std.proofs.Common.{◌≡◌, ℕ, Bool, true, false, cond, List, [], ◌∷◌, ◌++◌, Option, Some, None, refl, sym, ap, ◌∙◌, subst, append-nil}
+use Rattle.std.proofs.Common.{◌≡◌, ℕ, Bool, true, false, cond, List, [], ◌∷◌, ◌++◌, Option, Some, None, refl, sym, ap, ◌∙◌, subst}
 use Rattle.std.specs.Ordering.{eq_by_cmp}
 use Rattle.std.specs.List.{AllByRecursion}
 use Rattle.std.specs.FinMap.{find}
@@ -12,18 +12,12 @@ use Rattle.pn_record.specs.Cells.{spell}
 use Rattle.pn_record.specs.CellMap.{Entries, table_of, adds}
 use Rattle.pn_record.proofs.Sorted.{both_true, first_true, second_true}
 use Rattle.pn_record.proofs.HeldRecords.{tied_keys}
-use Rattle.pn_record.proofs.CellMaps.{adds-table_of, table_of-nil}
+use Rattle.pn_record.proofs.CellMaps.{spelled_table, table_of-nil}
 use Rattle.pn_record.proofs.Differing.{IsAt, each_at}
 use Rattle.pn_tablet.specs.Ranges.{Ends, in_range}
 use Rattle.pn_tablet.specs.Tablets.{lie_in, HasNeed, IsTablet, Joins}
 use Rattle.pn_tablet.specs.declared.state.Status.{Status}
 use Rattle.pn_tablet.specs.declared.state.Status.TheVariants.{Recovering}
-
--- the table of a list is spelled by the images that spell it
-pub spelled_table : (images : List Image) → table_of images ≡ table_of (spell (table_of images))
-unfolding adds
-spelled_table images =
-    ap table_of (sym (append-nil images)) ∙ sym (adds-table_of images []) ∙ ap table_of (append-nil (spell (table_of images)))
 
 pub spelled_adds : (old : Entries) (images : List Image) → adds old images ≡ table_of (spell (adds old images))
 unfolding adds

@@ -2,6 +2,7 @@ pub mod Changes
 pub mod Coding
 pub mod Copies
 pub mod Copying
+pub mod Laws
 pub mod Needs
 pub mod Ranges
 pub mod Steps

@@ -5,6 +5,7 @@ mod change;
 mod copy;
 mod fault;
 mod inside;
+pub mod laws;
 mod needs;
 mod op;
 mod range;
