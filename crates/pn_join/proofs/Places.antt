@@ -34,7 +34,8 @@ module _ {K X : Type 0} (cmp : K → K → Ordering) (key : K) where
   abbrev IsFound : List (K × X) → Result ℕ ℕ → Type 0
   IsFound es r = MatchResult r (λ i. (x : K × X) → x ≡ get_or es i x → find cmp key es ≡ Some x.1) (λ i. find cmp key es ≡ None)
 
-  not_found_below : (es : List (K × X)) → Below cmp key es → find cmp key es ≡ None
+  -- a key below those of all entries is at none of them
+  pub not_found_below : (es : List (K × X)) → Below cmp key es → find cmp key es ≡ None
   not_found_below [] h = refl
   not_found_below (e ∷ es) h = ap (λ r. cond (is_eq r) (Some e.1) (find cmp key es)) h.0 ∙ not_found_below es h.1
 

@@ -1,5 +1,6 @@
 pub mod Changes
 pub mod Laws
+pub mod Marks
 pub mod Naming
 pub mod Places
 pub mod TableLaws

@@ -2,11 +2,14 @@
 #![tactic(auto)]
 
 mod join;
+pub mod laws;
+mod marks;
 mod memory;
 mod name;
 mod table;
 
 pub use join::{Dup, Join};
+pub use marks::{Highest, Marks, raise};
 pub use memory::NoMemory;
 pub use name::{BadName, Name, StreamName};
 pub use table::Table;

@@ -72,6 +72,13 @@ impl<K: Ord + Dup, C: Join> Table<K, C> {
         Some((key, content))
     }
 
+    pub(crate) fn entries(&self) -> &[(K, C)]
+        ensures entries { result.now ≡ self.now }
+        ensures table { IsTable K.cmp C.valid self.now }
+    {
+        &self.entries
+    }
+
     /// How many keys are less than this one: the place of the first that is not.
     pub fn lower_bound(&self, key: &K) -> usize
         ensures { result ≡ count_by (λ e. is_lt (K.cmp e.0 key.now)) self.now }

@@ -128,7 +128,7 @@ pub absorbed : (key : List ℕ) (image : Image) (images : List Image) → Contai
 absorbed key image images there = absorbed_at key image images there.0 there.1 there.2
 
 -- images that are all there already add nothing
-all_absorbed : (key : List ℕ) (more images : List Image) → ((image : Image) → Contains more image → Contains images image) → both (cells more key) (cells images key) ≡ cells images key
+pub all_absorbed : (key : List ℕ) (more images : List Image) → ((image : Image) → Contains more image → Contains images image) → both (cells more key) (cells images key) ≡ cells images key
 all_absorbed key [] images there = refl
 all_absorbed key (first ∷ more) images there =
     let one = cells (first ∷ []) key in

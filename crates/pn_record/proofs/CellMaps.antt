@@ -180,3 +180,12 @@ held_adds old new images rising held = held_table new (spell old ++ images) risi
 
 pub table_of-nil : table_of [] ≡ []
 table_of-nil = sym (held_table [] [] refl (λ key. refl))
+
+-- the images that spell the table of a list have the cells of the list
+pub cells-spelled : (images : List Image) (key : List ℕ) → cells (spell (table_of images)) key ≡ cells images key
+cells-spelled images key =
+    sym (Holds-spell (table_of images) (rising-table_of images) (have-table_of images) key) ∙ Holds-table_of images key
+
+-- the table of a list is the table of the images that spell it
+pub spelled_table : (images : List Image) → table_of images ≡ table_of (spell (table_of images))
+spelled_table images = same_cells_table images (spell (table_of images)) (λ key. sym (cells-spelled images key))

@@ -1,5 +1,6 @@
 pub mod CellLists
 pub mod CellMaps
+pub mod Differing
 pub mod FieldSteps
 pub mod Fields
 pub mod Gathering
@@ -12,6 +13,7 @@ pub mod Limiting
 pub mod Lines
 pub mod LookUps
 pub mod Members
+pub mod NeverOlder
 pub mod Orders
 pub mod SameImage
 pub mod ShapeParts

@@ -6,9 +6,11 @@ pub mod Coding
 pub mod Grammar
 pub mod JoinedCells
 pub mod Limits
+pub mod Older
 pub mod Order
 pub mod Reading
 pub mod Seen
+pub mod SameCells
 pub mod Sets
 pub mod Showing
 pub mod States

@@ -1,23 +1,19 @@
 -- The laws of scripts that `src/laws.rt` states.
-use Rattle.std.proofs.Common.{◌≡◌, ℕ, false, List, [], ◌∷◌, ◌++◌, Option, None, Some, Result, Ok, Err, IsTrue, refl, sym, ap, ◌∙◌, subst, append-nil, append_assoc}
-use Rattle.std.specs.Ordering.{is_gt}
+use Rattle.std.proofs.Common.{◌≡◌, ℕ, List, [], ◌∷◌, ◌++◌, Result, Ok, Err, IsTrue, sym, ap, ◌∙◌, subst, append-nil, append_assoc}
 use Rattle.std.specs.FinMap.{find, is_sorted}
-use Rattle.std.proofs.lemmas.Cmp.{tied_itself}
 use Rattle.pn_line.specs.Text.{lines_of}
 use Rattle.pn_record.specs.declared.image.Image.{Image}
-use Rattle.pn_record.specs.Order.{bytes_cmp, version_cmp}
-use Rattle.pn_record.specs.Totals.{version_cmp_total}
-use Rattle.pn_record.specs.Sets.{Celled, cell_joined}
-use Rattle.pn_record.specs.JoinedCells.{by_versions, joined-less, joined-equal, joined-greater}
-use Rattle.pn_record.specs.Cells.{Holds, SameImages, cells}
+use Rattle.pn_record.specs.Order.{bytes_cmp}
+use Rattle.pn_record.specs.Cells.{Holds, SameImages}
 use Rattle.pn_record.specs.CellMap.{table_of}
-use Rattle.pn_record.proofs.CellLists.{both, cells-append, cells-same}
+use Rattle.pn_record.proofs.CellLists.{cells-same}
 use Rattle.pn_record.proofs.CellMaps.{Holds-table_of, rising-table_of, adds-table_of, same_cells_table, table_of-nil}
+use Rattle.pn_record.proofs.NeverOlder.{held_not_older}
 use Rattle.pn_serve.specs.declared.refusal.Refusal.{Refusal}
 use Rattle.pn_serve.specs.Asked.{Asked, deliver, scan, images_in}
 use Rattle.pn_serve.specs.Commands.{command_at}
 use Rattle.pn_serve.specs.Machine.{Outcome, done, line, call, round, Machine, saying, turn, serving}
-use Rattle.pn_serve.specs.Older.{NotOlder}
+use Rattle.pn_record.specs.Older.{NotOlder}
 use Rattle.pn_serve.specs.Script.{first_outcome, later_outcomes, images_asked, images_taken, taken_from, taken, machine_after, records_after, replies_from}
 
 -- the machine that serves the cells of images
@@ -69,22 +65,6 @@ pub same_replies : (one other : List ℕ) (went goes : List Outcome) → SameIma
     → (lines : List (List ℕ)) (outcomes : List Outcome)
     → replies_from (machine_after (serving []) (lines_of one) went) lines outcomes ≡ replies_from (machine_after (serving []) (lines_of other) goes) lines outcomes
 same_replies one other went goes same lines outcomes = ap (λ (m : Machine). replies_from m lines outcomes) (same_machine one other went goes same)
-
-not_above : (a b : Celled) → is_gt (version_cmp a.0 (cell_joined a b).0) ≡ false
-not_above a b = by_versions a.0 b.0
-    (λ e. ap (λ (c : Celled). is_gt (version_cmp a.0 c.0)) (joined-less a b e) ∙ ap is_gt e)
-    (λ e. ap (λ (c : Celled). is_gt (version_cmp a.0 c.0)) (joined-equal a b e) ∙ ap is_gt (tied_itself version_cmp_total a.0))
-    (λ e. ap (λ (c : Celled). is_gt (version_cmp a.0 c.0)) (joined-greater a b e) ∙ ap is_gt (tied_itself version_cmp_total a.0))
-
-joined_not_older : (was more : Option Celled) → NotOlder was (both was more)
-joined_not_older None more = tt
-joined_not_older (Some a) None = ap is_gt (tied_itself version_cmp_total a.0)
-joined_not_older (Some a) (Some b) = not_above a b
-
-held_not_older : (images more : List Image) (key : List ℕ) → NotOlder (find bytes_cmp key (table_of images)) (find bytes_cmp key (table_of (images ++ more)))
-held_not_older images more key =
-    subst (λ (o : Option Celled). NotOlder o (find bytes_cmp key (table_of (images ++ more)))) (sym (Holds-table_of images key))
-    (subst (NotOlder (cells images key)) (sym (Holds-table_of (images ++ more) key ∙ cells-append images more key)) (joined_not_older (cells images key) (cells more key)))
 
 pub not_older : (lines : List (List ℕ)) (outcomes : List Outcome) (outcome : Outcome) (text key : List ℕ)
     → NotOlder (find bytes_cmp key (machine_after (serving []) lines outcomes).records)

@@ -1,5 +1,5 @@
 -- The replies to the lines read so far went out or wait, and the records are those after these lines.
-use Rattle.std.proofs.Common.{◌≡◌, ℕ, zero, suc, ◌+◌, ◌<◌, ◌≤◌, ◌≢◌, Bool, true, false, cond, Option, None, Some, List, [], ◌∷◌, ◌++◌, length, All, nat_lt, inl, inr, IfSome, OnSome, refl, sym, ap, ◌∙◌, subst, arith, append-nil, append_assoc, Result, Ok, Err}
+use Rattle.std.proofs.Common.{◌≡◌, ℕ, ◌+◌, ◌<◌, ◌≤◌, ◌≢◌, Bool, true, false, cond, Option, None, Some, List, [], ◌∷◌, ◌++◌, length, All, nat_lt, inl, inr, IfSome, OnSome, refl, sym, ap, ◌∙◌, subst, arith, append-nil, append_assoc, Result, Err}
 use Rattle.std.specs.Io.KnownBytes.{Appends, IsAtEnd}
 use Rattle.std.proofs.lemmas.List.{length_push}
 use Rattle.std.proofs.lemmas.List.Elements.{All-nil, All-cons, All-append}
@@ -10,7 +10,7 @@ use Rattle.pn_line.specs.Line.{LineSoFar, so_far, kept}
 use Rattle.pn_line.specs.LinesRead.{LinesRead}
 use Rattle.pn_line.specs.Reads.{Takes}
 use Rattle.pn_line.specs.Sent.{Sends}
-use Rattle.pn_line.specs.Text.{lines_of, last_line, text_of}
+use Rattle.pn_line.specs.Text.{lines_of, last_line}
 use Rattle.pn_line.proofs.LineLaws.{kept-short, length-kept_long}
 use Rattle.pn_line.proofs.LinesReadLaws.{LinesRead-none, LinesRead-line, LinesRead-end}
 use Rattle.pn_line.proofs.SentLaws.{Sends-none, Sends-trans, Sends-all, Sends-flushed}
@@ -24,8 +24,8 @@ use Rattle.pn_serve.specs.Asked.{Asked}
 use Rattle.pn_serve.specs.declared.refusal.Refusal.{Refusal}
 use Rattle.pn_serve.specs.declared.refusal.Refusal.TheVariants.{TooLong}
 use Rattle.pn_serve.specs.Commands.{command_at, command_in, refusal_of}
-use Rattle.pn_serve.specs.Machine.{Outcome, Machine, turn, turn_of, serving}
-use Rattle.pn_serve.specs.Script.{replies, replies_from, machine_after, refusals_from, one_if}
+use Rattle.pn_serve.specs.Machine.{Outcome, Machine, turn, serving}
+use Rattle.pn_serve.specs.Script.{replies_from, machine_after, refusals_from, one_if}
 use Rattle.pn_serve.specs.Replying.{Turned, reply_text, is_refusal}
 use Rattle.pn_serve.specs.Runs.{Ended, lines_within}
 use Rattle.pn_serve.proofs.Within.{IsShort, within-all}

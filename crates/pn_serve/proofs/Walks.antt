@@ -1,5 +1,5 @@
 -- Going through the items of an array, of which the first fault stands.
-use Rattle.std.proofs.Common.{List, ◌++◌, Result, Ok, Err}
+use Rattle.std.proofs.Common.{List, ◌++◌, Result, Ok}
 use Rattle.pn_record.specs.Checks.{◌>>=◌}
 use Rattle.pn_serve.specs.declared.refusal.Refusal.{Refusal}
 

@@ -4,7 +4,6 @@ pub mod Asked
 pub mod Changes
 pub mod Commands
 pub mod Machine
-pub mod Older
 pub mod Queries
 pub mod Ranges
 pub mod Replies

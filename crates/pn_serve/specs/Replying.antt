@@ -7,7 +7,7 @@ use Rattle.pn_serve.specs.declared.refusal.Refusal.{Refusal}
 use Rattle.pn_serve.specs.Asked.{Asked}
 use Rattle.pn_serve.specs.Rows.{line_of}
 use Rattle.pn_serve.specs.Replies.{refusal_data, changed_data}
-use Rattle.pn_serve.specs.Machine.{Outcome, Turn, turn_of, serving}
+use Rattle.pn_serve.specs.Machine.{Outcome, turn_of, serving}
 
 -- the bytes of a reply
 abbrev pub reply_text : Reply → List ℕ

@@ -6,7 +6,7 @@ use Rattle.pn_record.specs.CellMap.{Entries}
 use Rattle.pn_serve.specs.declared.refusal.Refusal.{Refusal}
 use Rattle.pn_serve.specs.Asked.{Asked, deliver, scan, images_in}
 use Rattle.pn_serve.specs.Commands.{command_at}
-use Rattle.pn_serve.specs.Machine.{Outcome, done, line, call, round, Machine, Turn, turn, serving}
+use Rattle.pn_serve.specs.Machine.{Outcome, done, line, call, round, Machine, turn, serving}
 
 -- a line's outcome: lines beyond the list go as they say
 abbrev pub first_outcome : List Outcome → Outcome

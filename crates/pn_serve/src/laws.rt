@@ -6,7 +6,7 @@ ghost use Rattle.pn_line.specs.Text.{lines_of};
 ghost use Rattle.pn_record.specs.Cells.{Holds, SameImages};
 ghost use Rattle.pn_record.specs.Order.{bytes_cmp};
 ghost use Rattle.pn_serve.specs.Machine.{Outcome, serving, turn};
-ghost use Rattle.pn_serve.specs.Older.{NotOlder};
+ghost use Rattle.pn_record.specs.Older.{NotOlder};
 ghost use Rattle.pn_serve.specs.Script.{machine_after, records_after, replies_from, taken};
 
 /// After a script the records hold, in the order of their keys, exactly the cells of the images that its accepted deliveries took.

@@ -1,5 +1,5 @@
 -- One more entry is counted where its cell changes.
-use Rattle.std.proofs.Common.{◌≡◌, ℕ, ◌+◌, Bool, true, false, List, Option, sym, ap, ◌∙◌, arith}
+use Rattle.std.proofs.Common.{ℕ, true, false, List, Option, sym, ap, ◌∙◌, arith}
 use Rattle.std.specs.FinMap.{find}
 use Rattle.pn_record.specs.Order.{bytes_cmp}
 use Rattle.pn_record.specs.Sets.{Celled}

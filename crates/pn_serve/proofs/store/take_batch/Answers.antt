@@ -1,6 +1,5 @@
 -- One more image is held.
-use Rattle.std.proofs.Common.{◌++◌, [], ◌∷◌, List, subst, append_assoc}
-use Rattle.pn_record.specs.declared.image.Image.{Image}
+use Rattle.std.proofs.Common.{◌++◌, [], ◌∷◌, subst, append_assoc}
 use Rattle.pn_record.specs.Cells.{Holds}
 use Rattle.pn_serve.proofs.store.take_batch.Goals as goal
 

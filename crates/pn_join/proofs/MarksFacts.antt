@@ -1,0 +1,134 @@
+-- What marks reach, and what they are once raised.
+use Rattle.std.proofs.Common.{◌≡◌, ℕ, ◌≤◌, max, Bool, true, false, cond, T, List, [], ◌∷◌, Option, Some, None, option_map, unwrap_or, nat_lt, is_eq, IsTrue, refl, sym, ap, ◌∙◌, subst, arith, zero-le}
+use Rattle.std.proofs.lemmas.Bool.{or_parts}
+use Rattle.std.proofs.lemmas.Bool.Decides.{nat_tests}
+use Rattle.std.proofs.lemmas.Cmp.{nat_list_cmp_total, tied_itself}
+use Rattle.std.proofs.lemmas.Map.Lookups.{exact_bytes}
+use Rattle.std.specs.List.{list_any}
+use Rattle.std.specs.Ordering.{eq_by_cmp}
+use Rattle.std.specs.FinMap.{find, is_sorted}
+use Rattle.std.specs.FinMap.Entries.{find-put, find_tied, is_sorted-put, same_entries}
+use Rattle.pn_join.specs.Marks.{Positions, name_cmp, position_of, Reaches, falls_short, raised}
+use Rattle.pn_join.specs.Tables.{contents_at, optional_joined, key_by_key}
+use Rattle.pn_join.proofs.Places.{not_found_below}
+use Rattle.pn_join.proofs.Puts.{tie}
+use Rattle.pn_join.proofs.Rising.{Below, Rising}
+
+is_so : (b : Bool) → T b → b ≡ true
+is_so true h = refl
+is_so false h = absurd h
+
+greater : (o : Option ℕ) (n : ℕ) → Some (max (unwrap_or o 0) n) ≡ optional_joined max o (Some n)
+greater None n = ap Some (omega arith)
+greater (Some m) n = refl
+
+unchanged : (o : Option ℕ) → o ≡ optional_joined max o None
+unchanged None = refl
+unchanged (Some m) = refl
+
+joined_position : (a b : Option ℕ) → unwrap_or (optional_joined max a b) 0 ≡ max (unwrap_or a 0) (unwrap_or b 0)
+joined_position None None = refl
+joined_position None (Some n) = omega arith
+joined_position (Some m) None = omega arith
+joined_position (Some m) (Some n) = refl
+
+joined_commutes : (a b : Option ℕ) → optional_joined max a b ≡ optional_joined max b a
+joined_commutes None None = refl
+joined_commutes None (Some n) = refl
+joined_commutes (Some m) None = refl
+joined_commutes (Some m) (Some n) = ap Some (omega arith)
+
+joined_associates : (a b c : Option ℕ) → optional_joined max (optional_joined max a b) c ≡ optional_joined max a (optional_joined max b c)
+joined_associates None b c = refl
+joined_associates (Some m) None c = refl
+joined_associates (Some m) (Some n) None = refl
+joined_associates (Some m) (Some n) (Some k) = ap Some (omega arith)
+
+joined_repeats : (a : Option ℕ) → optional_joined max a a ≡ a
+joined_repeats None = refl
+joined_repeats (Some m) = ap Some (omega arith)
+
+-- what raised marks have at a name
+pub find-raised : (a b : Positions) (name : List ℕ) → find name_cmp name (raised a b) ≡ optional_joined max (find name_cmp name a) (find name_cmp name b)
+find-raised a [] name = unchanged (find name_cmp name a)
+find-raised a (e ∷ es) name =
+    find-put name_cmp nat_list_cmp_total name e.0 (max (position_of a e.0) e.1) (raised a es)
+    ∙ elim (eq_by_cmp name_cmp name e.0) as (λ b. eq_by_cmp name_cmp name e.0 ≡ b → cond b (Some (max (position_of a e.0) e.1)) (find name_cmp name (raised a es)) ≡ optional_joined max (find name_cmp name a) (cond b (Some e.1) (find name_cmp name es))) [
+      | true ↦ λ p. greater (find name_cmp e.0 a) e.1 ∙ ap (λ o. optional_joined max o (Some e.1)) (find_tied name_cmp nat_list_cmp_total name e.0 (tie _ p) a)
+      | false ↦ λ p. find-raised a es name
+    ] refl
+
+-- each position is the greater of the two
+pub position_of-raised : (a b : Positions) (name : List ℕ) → position_of (raised a b) name ≡ max (position_of a name) (position_of b name)
+position_of-raised a b name =
+    ap (λ o. unwrap_or o 0) (find-raised a b name) ∙ joined_position (find name_cmp name a) (find name_cmp name b)
+
+-- names still rise
+pub is_sorted-raised : (a b : Positions) → IsTrue (is_sorted name_cmp a) → IsTrue (is_sorted name_cmp (raised a b))
+is_sorted-raised a [] rising = rising
+is_sorted-raised a (e ∷ es) rising =
+    is_so _ (is_sorted-put name_cmp nat_list_cmp_total e.0 (max (position_of a e.0) e.1) (raised a es) (subst T (sym (is_sorted-raised a es rising)) tt))
+
+-- marks with the same positions are the same
+pub same_marks : (a b : Positions) → IsTrue (is_sorted name_cmp a) → IsTrue (is_sorted name_cmp b) → ((name : List ℕ) → find name_cmp name a ≡ find name_cmp name b) → a ≡ b
+same_marks a b g h same =
+    same_entries name_cmp nat_list_cmp_total (λ x y tied. exact_bytes x y tied) a b (subst T (sym g) tt) (subst T (sym h) tt) same
+
+pub raised-commutes : (a b : Positions) → IsTrue (is_sorted name_cmp a) → IsTrue (is_sorted name_cmp b) → raised a b ≡ raised b a
+raised-commutes a b g h =
+    same_marks (raised a b) (raised b a) (is_sorted-raised a b g) (is_sorted-raised b a h)
+    (λ name. find-raised a b name ∙ joined_commutes (find name_cmp name a) (find name_cmp name b) ∙ sym (find-raised b a name))
+
+pub raised-associates : (a b c : Positions) → IsTrue (is_sorted name_cmp a) → raised (raised a b) c ≡ raised a (raised b c)
+raised-associates a b c g =
+    same_marks (raised (raised a b) c) (raised a (raised b c)) (is_sorted-raised (raised a b) c (is_sorted-raised a b g)) (is_sorted-raised a (raised b c) g)
+    (λ name. find-raised (raised a b) c name
+    ∙ ap (λ o. optional_joined max o (find name_cmp name c)) (find-raised a b name)
+    ∙ joined_associates (find name_cmp name a) (find name_cmp name b) (find name_cmp name c)
+    ∙ sym (find-raised a (raised b c) name ∙ ap (λ o. optional_joined max (find name_cmp name a) o) (find-raised b c name)))
+
+pub raised-repeats : (a : Positions) → IsTrue (is_sorted name_cmp a) → raised a a ≡ a
+raised-repeats a g =
+    same_marks (raised a a) a (is_sorted-raised a a g) g
+    (λ name. find-raised a a name ∙ joined_repeats (find name_cmp name a))
+
+option_map-same : (o : Option ℕ) → option_map (λ position. position) o ≡ o
+option_map-same None = refl
+option_map-same (Some n) = refl
+
+-- a join of marks raises them
+pub raised_from_joined : (old other new : Positions) → IsTrue (is_sorted name_cmp old) → IsTrue (is_sorted name_cmp new) → contents_at name_cmp (λ position. position) new ≡ key_by_key max (contents_at name_cmp (λ position. position) old) (contents_at name_cmp (λ position. position) other) → new ≡ raised old other
+raised_from_joined old other new g h is =
+    same_marks new (raised old other) h (is_sorted-raised old other g)
+    (λ name. sym (option_map-same (find name_cmp name new)) ∙ (λ i. is i name)
+    ∙ (λ i. optional_joined max (option_map-same (find name_cmp name old) i) (option_map-same (find name_cmp name other) i))
+    ∙ sym (find-raised old other name))
+
+-- where no entry of the need falls short, all of it is reached
+pub reached : (marks need : Positions) → list_any (falls_short marks) need ≡ false → Reaches marks need
+reached marks [] none name = omega arith
+reached marks (e ∷ es) none name =
+    elim (eq_by_cmp name_cmp name e.0) as (λ b. eq_by_cmp name_cmp name e.0 ≡ b → unwrap_or (cond b (Some e.1) (find name_cmp name es)) 0 ≤ position_of marks name) [
+      | true ↦ λ p.
+          let same : position_of marks e.0 ≡ position_of marks name = ap (λ o. unwrap_or o 0) (find_tied name_cmp nat_list_cmp_total name e.0 (tie _ p) marks) in
+          let here : nat_lt (position_of marks e.0) e.1 ≡ false = (or_parts _ _ none).0 in
+          grind (arith, nat_tests)
+      | false ↦ λ p. reached marks es (or_parts _ _ none).1 name
+    ] refl
+
+reached_rest : (marks : Positions) (e : List ℕ × ℕ) (es : Positions) → Below name_cmp e.0 es → Reaches marks (e ∷ es) → Reaches marks es
+reached_rest marks e es below reach name =
+    elim (eq_by_cmp name_cmp name e.0) as (λ b. eq_by_cmp name_cmp name e.0 ≡ b → unwrap_or (find name_cmp name es) 0 ≤ position_of marks name) [
+      | true ↦ λ p.
+          let absent : find name_cmp name es ≡ None = sym (find_tied name_cmp nat_list_cmp_total name e.0 (tie _ p) es) ∙ not_found_below name_cmp e.0 es below in
+          subst (λ o. unwrap_or o 0 ≤ position_of marks name) (sym absent) zero-le
+      | false ↦ λ p. subst (λ b. unwrap_or (cond b (Some e.1) (find name_cmp name es)) 0 ≤ position_of marks name) p (reach name)
+    ] refl
+
+-- and the other way round
+pub none_short : (marks need : Positions) → Rising name_cmp need → Reaches marks need → list_any (falls_short marks) need ≡ false
+none_short marks [] rising reach = refl
+none_short marks (e ∷ es) rising reach =
+    let here : e.1 ≤ position_of marks e.0 = subst (λ b. unwrap_or (cond b (Some e.1) (find name_cmp e.0 es)) 0 ≤ position_of marks e.0) (ap is_eq (tied_itself nat_list_cmp_total e.0)) (reach e.0) in
+    let fits : nat_lt (position_of marks e.0) e.1 ≡ false = grind (arith, nat_tests) in
+    rw fits (none_short marks es rising.1 (reached_rest marks e es rising.0 reach))

@@ -1,0 +1,36 @@
+-- Marks: positions of streams by their names, where an absent name counts as 0.
+use Rattle.std.specs.Prelude.{ℕ, ◌≤◌, max, Bool, nat_lt, List, [], ◌∷◌, Option, unwrap_or}
+use Rattle.std.specs.declared.cmp.Ordering.{Ordering}
+use Rattle.std.specs.Ordering.{nat_cmp}
+use Rattle.std.specs.Cmp.Lexicographic.{slice_cmp}
+use Rattle.std.specs.List.{position}
+use Rattle.std.specs.FinMap.{find, put}
+
+-- names and their positions, in byte order of names
+abbrev pub Positions : Type 0
+Positions = List (List ℕ × ℕ)
+
+-- names are ordered by their bytes
+abbrev pub name_cmp : List ℕ → List ℕ → Ordering
+name_cmp = slice_cmp nat_cmp
+
+-- the position of a name, 0 where it is absent
+abbrev pub position_of : Positions → List ℕ → ℕ
+position_of marks name = unwrap_or (find name_cmp name marks) 0
+
+-- no position of the need is greater
+abbrev pub Reaches : Positions → Positions → Type 0
+Reaches marks need = (name : List ℕ) → position_of need name ≤ position_of marks name
+
+-- the marks have a lesser position at this name
+abbrev pub falls_short : Positions → List ℕ × ℕ → Bool
+falls_short marks wanted = nat_lt (position_of marks wanted.0) wanted.1
+
+-- the place in the need of the first name at which the marks fall short
+abbrev pub shortfall : Positions → Positions → Option ℕ
+shortfall marks need = position (falls_short marks) need
+
+-- both together: at each name of either the greater position
+abbrev pub raised : Positions → Positions → Positions
+raised marks [] = marks
+raised marks (other ∷ others) = put name_cmp other.0 (max (position_of marks other.0) other.1) (raised marks others)

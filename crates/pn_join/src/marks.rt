@@ -1,0 +1,182 @@
+//! Marks: how far streams were taken, by their names.
+
+ghost use Rattle.std.specs.Prelude.{◌≡◌, ℕ, max, IsTrue, ◌↔◌, IfOk, IsOk, OnOk, OnErr};
+ghost use Rattle.std.specs.List.{list_any};
+ghost use Rattle.std.specs.FinMap.{is_sorted};
+ghost use Rattle.std.proofs.Common.{arith};
+ghost use Rattle.pn_join.specs.Marks.{name_cmp, position_of, Reaches, falls_short, shortfall, raised};
+
+use crate::{Dup, Join, NoMemory, StreamName, Table};
+use std::marker::Model;
+
+/// A position that only rises: the join of two is the greater one.
+#[derive(Clone, Copy, Debug, PartialEq, Eq, PartialOrd, Ord)]
+pub struct Highest(pub u64);
+
+impl Model for Highest {
+    ghost use Rattle.std.specs.Prelude.{ℕ};
+
+    ghost Value = { ℕ };
+
+    ghost view = { λ highest. highest.0 };
+
+    ghost inverse = { λ position. record { 0 = position } };
+}
+
+impl Dup for Highest {
+    /// Always succeeds, and takes no memory.
+    fn dup(&self) -> Result<Highest, NoMemory>
+        ensures equal { IfOk result (λ copy. copy ≡ self.now) }
+        ensures always { IsOk result }
+    {
+        Ok(*self)
+    }
+}
+
+impl Join for Highest {
+    ghost Meaning = { ℕ };
+
+    ghost meaning = { λ highest. highest };
+
+    ghost joined = { max };
+
+    ghost laws = { record {
+      commutes = λ a b. Prim.omega arith;
+      associates = λ a b c. Prim.omega arith;
+      repeats = λ a. Prim.omega arith;
+    } };
+
+    /// Becomes the greater of the two. It always succeeds, and takes no memory.
+    fn join_from(&mut self, other: &Highest) -> Result<(), NoMemory>
+        ensures ok { OnOk result (self.new ≡ max self.old other.now) }
+        ensures err { OnErr result (self.new ≡ self.old) }
+        ensures always { IsOk result }
+    {
+        self.0 = self.0.max(other.0);
+        Ok(())
+    }
+}
+
+/// How far each stream was taken: its name and its last position. A name that is absent counts as 0.
+pub type Marks = Table<StreamName, Highest>;
+
+impl Table<StreamName, Highest> {
+    /// Whether no position of the need is greater. It takes no memory.
+    pub fn reaches(&self, need: &Marks) -> bool
+        ensures { IsTrue result ↔ Reaches self.now need.now }
+    {
+        !self.falls_short_of(need)
+    }
+
+    /// The place in the need of the first name, in byte order, at which these marks have a lesser position.
+    /// It takes no memory.
+    pub fn shortfall(&self, need: &Marks) -> Option<usize>
+        ensures { result ≡ shortfall self.now need.now }
+    {
+        need.entries()
+            .iter()
+            .position(|wanted| self.falls_short(wanted))
+    }
+
+    fn falls_short_of(&self, need: &Marks) -> bool
+        ensures short { result ≡ list_any (falls_short self.now) need.now }
+        ensures rising { IsTrue (is_sorted name_cmp need.now) }
+    {
+        need.entries().iter().any(|wanted| self.falls_short(wanted))
+    }
+
+    fn falls_short(&self, wanted: &(StreamName, Highest)) -> bool
+        ensures { result ≡ falls_short self.now wanted.now }
+    {
+        let (name, position) = wanted;
+        self.position(name) < position.0
+    }
+
+    fn position(&self, name: &StreamName) -> u64
+        ensures { result ≡ position_of self.now name.now }
+    {
+        match self.get(name) {
+            Some(highest) => highest.0,
+            None => 0,
+        }
+    }
+}
+
+/// Raises marks by others: at each name of either they have the greater position then. An error leaves
+/// them as they were.
+pub fn raise(marks: &mut Marks, others: &Marks) -> Result<(), NoMemory>
+    ensures ok { OnOk result (marks.new ≡ raised marks.old others.now) }
+    ensures err { OnErr result (marks.new ≡ marks.old) }
+    ensures rising { IsTrue (is_sorted name_cmp marks.new) × IsTrue (is_sorted name_cmp others.now) }
+{
+    marks.join_from(others)
+}
+
+#[cfg(test)]
+mod tests {
+    use super::*;
+    use crate::Name;
+    use std::alloc::Global;
+    use std::test::Fail;
+
+    fn marks(alloc: Global, entries: &[(&str, u64)]) -> Result<Marks, Fail> {
+        let mut marks = Table::new(alloc);
+        for (name, position) in entries {
+            marks.join_entry(Name::read(name.as_bytes())?, Highest(*position))?;
+        }
+        Ok(marks)
+    }
+
+    #[test]
+    fn the_greater_position_stays(rt: HostRuntime) -> Result<(), Fail> {
+        let mut highest = Highest(3);
+        highest.join_from(&Highest(5))?;
+        assert_eq!(rt; highest, Highest(5));
+        highest.join_from(&Highest(4))?;
+        assert_eq!(rt; highest.dup()?, Highest(5));
+        Ok(())
+    }
+
+    #[test]
+    fn an_absent_name_counts_as_nought(rt: HostRuntime) -> Result<(), Fail> {
+        let alloc = rt.alloc();
+        let marks = marks(alloc, &[("east", 5), ("west", 2)])?;
+        assert!(rt; marks.reaches(&self::marks(alloc, &[])?));
+        assert!(rt; marks.reaches(&self::marks(alloc, &[("east", 5), ("north", 0)])?));
+        assert!(rt; !marks.reaches(&self::marks(alloc, &[("north", 1)])?));
+        assert!(rt; !marks.reaches(&self::marks(alloc, &[("east", 1), ("west", 3)])?));
+        Ok(())
+    }
+
+    #[test]
+    fn the_first_name_that_falls_short_is_told(rt: HostRuntime) -> Result<(), Fail> {
+        let alloc = rt.alloc();
+        let marks = marks(alloc, &[("east", 5), ("west", 2)])?;
+        assert_eq!(rt;
+            marks.shortfall(&self::marks(alloc, &[("east", 5), ("west", 1)])?),
+            None
+        );
+        assert_eq!(rt;
+            marks.shortfall(&self::marks(alloc, &[("east", 6), ("west", 9)])?),
+            Some(0)
+        );
+        let need = self::marks(alloc, &[("east", 5), ("north", 1), ("west", 3)])?;
+        assert_eq!(rt; marks.shortfall(&need), Some(1));
+        Ok(())
+    }
+
+    #[test]
+    fn raised_marks_have_the_greater_positions(rt: HostRuntime) -> Result<(), Fail> {
+        let alloc = rt.alloc();
+        let mut marks = marks(alloc, &[("east", 5), ("west", 2)])?;
+        raise(
+            &mut marks,
+            &self::marks(alloc, &[("east", 4), ("north", 1), ("west", 7)])?,
+        )?;
+        assert_eq!(rt; marks.len(), 3);
+        assert_eq!(rt; marks.get(&Name::read(b"east")?), Some(&Highest(5)));
+        assert_eq!(rt; marks.get(&Name::read(b"north")?), Some(&Highest(1)));
+        assert_eq!(rt; marks.get(&Name::read(b"west")?), Some(&Highest(7)));
+        Ok(())
+    }
+}

@@ -1,0 +1,6 @@
+-- The law is a lemma.
+use Rattle.pn_tablet.proofs.Recovery.{adoption_brings_back}
+use Rattle.pn_tablet.proofs.laws.an_adoption_brings_back_what_was_lost.Goals as goal
+
+pub returns : goal.returns
+returns c = adoption_brings_back

@@ -1,0 +1,38 @@
+-- Cells that are joined.
+use Rattle.std.proofs.Common.{sym, ap, ◌∙◌}
+use Rattle.pn_record.specs.Cells.{spell}
+use Rattle.pn_record.proofs.CellMaps.{held_adds}
+use Rattle.pn_tablet.specs.Tablets.{Tablet}
+use Rattle.pn_tablet.specs.Changes.{changes}
+use Rattle.pn_tablet.specs.Steps.{step}
+use Rattle.pn_tablet.specs.declared.op.TabletOp.TheVariants.{Join}
+use Rattle.pn_tablet.proofs.Changed.{joined_changes}
+use Rattle.pn_tablet.proofs.Keeping.{kept}
+use Rattle.pn_tablet.proofs.Stepping.{join_step}
+use Rattle.pn_tablet.proofs.state.TabletState.join.Goals as goal
+
+pub invariant_of-self-2 : goal.invariant_of-self-2
+invariant_of-self-2 c =
+    let joins = c.in_ok-join_records.ensures in
+    kept c.self.invariant
+    (sym c.lie_in.ensures ∙ c.if-not-lie_in.false)
+    (record { rises = joins.rising.1; rising = joins.rising.0; joined = joins.joined })
+    (held_adds c.self.inside.cells c.join_records.new.records (spell c.args.cells.now) joins.rising.0 joins.spelled)
+    (c.in_ok-cover.ensures.1 ∙ sym c.in_ok-cover.ensures.0)
+
+pub returns-clause-ok : goal.returns-clause-ok
+returns-clause-ok c =
+    let joins = c.in_ok-join_records.ensures in
+    let tablet : Tablet = record { range = c.self.inside.range; map = c.self.inside.cells; cover = c.self.inside.cover; status = c.self.inside.status } in
+    ap (λ (t : Tablet). step t (Join c.args.cells.now c.args.marks.now)) (sym c.self.view_is)
+    ∙ join_step tablet c.args.cells.now c.join_records.new.records c.args.marks.now c.in_ok-cover.cover
+    (sym c.lie_in.ensures ∙ c.if-not-lie_in.false)
+    (held_adds c.self.inside.cells c.join_records.new.records (spell c.args.cells.now) joins.rising.0 joins.spelled)
+    c.in_ok-cover.ensures.0
+
+pub returns-clause-changes : goal.returns-clause-changes
+returns-clause-changes c =
+    let joins = c.in_ok-join_records.ensures in
+    c.in_ok-changes.ensures
+    ∙ joined_changes c.self.inside.cells c.args.cells.now c.join_records.new.records (record { rises = joins.rising.1; rising = joins.rising.0; joined = joins.joined })
+    ∙ ap (λ (t : Tablet). changes t.map c.join_records.new.records) c.self.view_is

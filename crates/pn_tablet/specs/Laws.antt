@@ -1,0 +1,32 @@
+-- The words of the laws of tablets.
+use Rattle.std.specs.Prelude.{◌≡◌, List, [], ◌∷◌, Contains, IsTrue}
+use Rattle.std.specs.FinMap.{is_sorted}
+use Rattle.pn_join.specs.Marks.{Positions, Reaches, name_cmp}
+use Rattle.pn_record.specs.declared.image.Image.{Image}
+use Rattle.pn_record.specs.Cells.{spell}
+use Rattle.pn_record.specs.CellMap.{Entries, table_of}
+use Rattle.pn_tablet.specs.declared.op.TabletOp.{TabletOp}
+use Rattle.pn_tablet.specs.declared.op.TabletOp.TheVariants.{Join, Lose, Adopt}
+
+-- the map is the table of the images that spell it, as every tablet's is
+abbrev pub IsSpelled : Entries → Type 0
+IsSpelled map = map ≡ table_of (spell map)
+
+-- the names rise, as in all marks
+abbrev pub Rise : Positions → Type 0
+Rise marks = IsTrue (is_sorted name_cmp marks)
+
+-- the operation is a join
+abbrev pub IsJoin : TabletOp → Type 0
+IsJoin (Join cells marks) = Unit {0}
+IsJoin Lose = ⊥
+IsJoin (Adopt copy) = ⊥
+
+-- all are joins
+abbrev pub AreJoins : List TabletOp → Type 0
+AreJoins [] = Unit {0}
+AreJoins (op ∷ ops) = IsJoin op × AreJoins ops
+
+-- the images up to marks: marks that reach others have all images that those have
+abbrev pub Grows : (Positions → List Image) → Type 0
+Grows upto = (marks others : Positions) → Rise marks → Rise others → Reaches marks others → (image : Image) → Contains (upto others) image → Contains (upto marks) image

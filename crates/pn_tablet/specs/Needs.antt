@@ -1,0 +1,16 @@
+-- What marks lack of a need.
+use Rattle.std.specs.Prelude.{Option, None, option_map, slice_get}
+use Rattle.std.specs.Option.{option_and_then}
+use Rattle.pn_join.specs.Marks.{Positions, position_of, shortfall}
+use Rattle.pn_tablet.specs.declared.state.Status.{Status}
+use Rattle.pn_tablet.specs.declared.state.Status.TheVariants.{Serving, Recovering}
+use Rattle.pn_tablet.specs.declared.needs.Short.{Short}
+
+-- the first stream, in byte order, at which marks fall short of the need: what they have of it, and what is needed
+abbrev pub first_short : Positions → Positions → Option Short
+first_short marks need = option_map (λ wanted. record { stream = wanted.0; has = position_of marks wanted.0; wanted = wanted.1 }) (option_and_then (slice_get need) (shortfall marks need))
+
+-- what marks lack of what a tablet needs: nothing where it serves
+abbrev pub lacking : Status → Positions → Option Short
+lacking Serving marks = None
+lacking (Recovering need) marks = first_short marks need

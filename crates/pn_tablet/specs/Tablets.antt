@@ -1,0 +1,51 @@
+-- The state of a tablet.
+use Rattle.std.specs.Prelude.{ℕ, Bool, ◌&&◌, ◌≡◌, IsTrue, List, [], Option, None, Some}
+use Rattle.std.specs.Option.{option_eq}
+use Rattle.std.specs.Str.{bytes_eq}
+use Rattle.std.specs.List.{list_all}
+use Rattle.std.specs.FinMap.{find, is_sorted}
+use Rattle.pn_join.specs.Tables.{optional_joined}
+use Rattle.pn_record.specs.Order.{bytes_cmp}
+use Rattle.pn_record.specs.Sets.{cell_joined}
+use Rattle.pn_join.specs.Marks.{Positions}
+use Rattle.pn_record.specs.Cells.{spell}
+use Rattle.pn_record.specs.CellMap.{Entries, table_of}
+use Rattle.pn_tablet.specs.Ranges.{Ends, in_range}
+use Rattle.pn_tablet.specs.declared.state.Status.{Status}
+use Rattle.pn_tablet.specs.declared.state.Status.TheVariants.{Serving, Recovering}
+
+-- a range, the cells of its keys, how far streams were taken, and whether it serves
+pub record Tablet : Type 0 where
+  pub range : Ends
+  pub map : Entries
+  pub cover : Positions
+  pub status : Status
+
+-- a tablet that serves and has taken nothing
+abbrev pub empty_tablet : Ends → Tablet
+empty_tablet range = record { range = range; map = []; cover = []; status = Serving }
+
+-- all keys lie in the range
+abbrev pub lie_in : Ends → Entries → Bool
+lie_in range map = list_all (λ entry. in_range range entry.0) map
+
+-- both ranges have the same ends
+abbrev pub same_range : Ends → Ends → Bool
+same_range a b = option_eq bytes_eq a.0 b.0 && option_eq bytes_eq a.1 b.1
+
+-- a further loss finds its need: a copy of the cover, or the need that the last loss left
+abbrev pub HasNeed : Option Positions → Positions → Status → Type 0
+HasNeed (Some spare) cover status = spare ≡ cover
+HasNeed None cover status = status ≡ Recovering cover
+
+-- what holds of every tablet's fields
+pub record IsTablet (range : Ends) (map : Entries) (cover : Positions) (status : Status) (spare : Option Positions) : Type 0 where
+  pub inside : IsTrue (lie_in range map)
+  pub spelled : map ≡ table_of (spell map)
+  pub has_need : HasNeed spare cover status
+
+-- two maps in key order, and their join key by key
+pub record Joins (old more new : Entries) : Type 0 where
+  pub rises : IsTrue (is_sorted bytes_cmp more)
+  pub rising : IsTrue (is_sorted bytes_cmp new)
+  pub joined : (key : List ℕ) → find bytes_cmp key new ≡ optional_joined cell_joined (find bytes_cmp key old) (find bytes_cmp key more)

@@ -1,0 +1,19 @@
+//! Tablets: ranges of keys, the state of one range of records, and what operations make of it.
+#![tactic(auto)]
+
+mod change;
+mod copy;
+mod fault;
+mod inside;
+pub mod laws;
+mod needs;
+mod op;
+mod range;
+mod state;
+
+pub use change::Change;
+pub use copy::TabletCopy;
+pub use fault::{CopyFault, OpFault};
+pub use op::TabletOp;
+pub use range::Range;
+pub use state::{Status, TabletState};

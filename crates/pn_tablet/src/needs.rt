@@ -1,0 +1,41 @@
+//! What marks lack of a need.
+
+ghost use Rattle.std.specs.Prelude.{◌≡◌};
+ghost use Rattle.pn_join.specs.Marks.{position_of};
+ghost use Rattle.pn_tablet.specs.Needs.{first_short as the_first_short};
+
+use pn_join::{Dup, Marks, StreamName};
+
+/// A stream at which marks fall short of a need: the position that they have of it, 0 for none, and the
+/// one that is wanted.
+#[derive(Drop)]
+pub struct Short {
+    pub stream: StreamName,
+    pub has: u64,
+    pub wanted: u64,
+}
+
+/// The first stream, in byte order, at which marks fall short of a need. It takes no memory.
+pub fn first_short(marks: &Marks, need: &Marks) -> Option<Short>
+    ensures { result ≡ the_first_short marks.now need.now }
+{
+    let place = marks.shortfall(need)?;
+    let (stream, wanted) = need.entry_at(place)?;
+    let Ok(name) = stream.dup() else {
+        unreachable!()
+    };
+    Some(Short {
+        stream: name,
+        has: position(marks, stream),
+        wanted: wanted.0,
+    })
+}
+
+fn position(marks: &Marks, stream: &StreamName) -> u64
+    ensures { result ≡ position_of marks.now stream.now }
+{
+    match marks.get(stream) {
+        Some(highest) => highest.0,
+        None => 0,
+    }
+}

@@ -1,0 +1,229 @@
+//! The state of a tablet, and the operations on it.
+
+ghost use Rattle.std.specs.Prelude.{◌≡◌, Ok, Err, [], IsTrue, IsOk, IfOk, IfErr, OnOk, OnErr};
+ghost use Rattle.pn_join.specs.Marks.{raised};
+ghost use Rattle.pn_record.specs.Cells.{spell};
+ghost use Rattle.pn_record.specs.CellMap.{table_of};
+ghost use Rattle.pn_tablet.specs.Tablets.{empty_tablet, lie_in as all_lie_in, same_range, Joins};
+ghost use Rattle.pn_tablet.specs.Needs.{lacking as all_lacking};
+ghost use Rattle.pn_tablet.specs.Steps.{step, taking, lost, Refuses};
+ghost use Rattle.pn_tablet.specs.Changes.{answer, changes};
+ghost use Rattle.pn_tablet.specs.declared.op.TabletOp.TheVariants.{Join, Lose, Adopt};
+
+use crate::change::changes_of;
+use crate::inside::{are_same, lie_in};
+use crate::needs::{Short, first_short};
+use crate::{Change, OpFault, Range, TabletCopy, TabletOp};
+use pn_join::{Dup, Marks, NoMemory, raise};
+use pn_record::{Records, join_records};
+use std::alloc::Global;
+use std::marker::Model;
+
+/// Whether a tablet serves, or waits for a copy that reaches what it needs.
+#[derive(Drop)]
+pub enum Status {
+    Serving,
+    Recovering { need: Marks },
+}
+
+/// A tablet: a range of keys, the cells of its records, how far streams were taken into them, and
+/// whether it serves.
+#[derive(Drop)]
+pub struct TabletState {
+    range: Range,
+    cells: Records,
+    cover: Marks,
+    status: Status,
+    spare: Option<Marks>,
+    alloc: Global,
+}
+
+impl Model for TabletState {
+    ghost use Rattle.pn_tablet.specs.Tablets.{Tablet};
+
+    ghost Value = { Tablet };
+
+    ghost use Rattle.pn_tablet.specs.Coding.{tablet_code};
+
+    ghost coded = { tablet_code };
+
+    ghost use Rattle.pn_tablet.specs.Tablets.{IsTablet};
+
+    ghost view = { λ state. record { range = state.range; map = state.cells; cover = state.cover; status = state.status } };
+
+    ghost invariant = { λ state. IsTablet state.range state.cells state.cover state.status state.spare };
+}
+
+impl TabletState {
+    /// An empty tablet that serves, whose later growth is taken from the allocator. It takes no memory.
+    pub fn new(alloc: Global, range: Range) -> TabletState
+        ensures { result ≡ empty_tablet range }
+    {
+        TabletState {
+            range,
+            cells: Records::new(alloc),
+            cover: Marks::new(alloc),
+            status: Status::Serving,
+            spare: Some(Marks::new(alloc)),
+            alloc,
+        }
+    }
+
+    /// The range that its keys lie in.
+    pub fn range(&self) -> &Range
+        ensures range { result.now ≡ self.now.range }
+        ensures inside { IsTrue (all_lie_in self.now.range self.now.map) }
+    {
+        &self.range
+    }
+
+    /// The cells of its records, by key.
+    pub fn cells(&self) -> &Records
+        ensures cells { result.now ≡ self.now.map }
+        ensures spelled { self.now.map ≡ table_of (spell self.now.map) }
+    {
+        &self.cells
+    }
+
+    /// How far each stream was taken into it.
+    pub fn cover(&self) -> &Marks
+        ensures { result.now ≡ self.now.cover }
+    {
+        &self.cover
+    }
+
+    /// Whether it serves.
+    pub fn status(&self) -> &Status
+        ensures { result.now ≡ self.now.status }
+    {
+        &self.status
+    }
+
+    /// Takes one operation.
+    ///
+    /// A join is taken also while the tablet recovers, and answers the keys whose cells changed. A loss
+    /// empties the tablet, which then needs a copy that reaches its cover; it takes no memory and is never
+    /// refused. An adoption joins a copy, and the tablet serves from then on. A loss and an adoption answer
+    /// no changes.
+    ///
+    /// `WrongRange` comes exactly where a key of a join lies outside the range or a copy is of another
+    /// range, and else `TooOld` exactly where the tablet is recovering and the copy does not reach the
+    /// need. An error leaves the tablet as it was.
+    pub fn apply(&mut self, op: &TabletOp) -> Result<Vec<Change>, OpFault>
+        ensures ok { OnOk result (step self.old op.now ≡ Ok self.new) }
+        ensures changes { IfOk result (λ list. list.items ≡ answer op.now self.old self.new) }
+        ensures refused { IfErr result (λ fault. Refuses fault (step self.old op.now)) }
+        ensures err { OnErr result (self.new ≡ self.old) }
+        ensures lose { op.now ≡ Lose → IsOk result }
+    {
+        match op {
+            TabletOp::Join { cells, marks } => self.join(cells, marks),
+            TabletOp::Lose => {
+                self.lose();
+                Ok(Vec::new(self.alloc))
+            }
+            TabletOp::Adopt(copy) => {
+                self.adopt(copy)?;
+                Ok(Vec::new(self.alloc))
+            }
+        }
+    }
+}
+
+impl TabletState {
+    fn join(&mut self, cells: &Records, marks: &Marks) -> Result<Vec<Change>, OpFault>
+        ensures ok { OnOk result (step self.old (Join cells.now marks.now) ≡ Ok self.new) }
+        ensures changes { IfOk result (λ list. list.items ≡ changes self.old.map self.new.map) }
+        ensures refused { IfErr result (λ fault. Refuses fault (step self.old (Join cells.now marks.now))) }
+        ensures err { OnErr result (self.new ≡ self.old) }
+    {
+        if !lie_in(&self.range, cells) {
+            return Err(OpFault::WrongRange);
+        }
+        let changes = changes_of(self.alloc, &self.cells, cells)?;
+        let (cover, spare) = raised_by(&self.cover, marks)?;
+        join_records(&mut self.cells, cells)?;
+        self.cover = cover;
+        self.spare = Some(spare);
+        Ok(changes)
+    }
+
+    fn lose(&mut self)
+        ensures { self.new ≡ lost self.old }
+    {
+        self.cells = Records::new(self.alloc);
+        if let Some(need) = self.spare.take() {
+            self.status = Status::Recovering { need };
+        }
+    }
+
+    fn adopt(&mut self, copy: &TabletCopy) -> Result<(), OpFault>
+        ensures ok { OnOk result (step self.old (Adopt copy.now) ≡ Ok self.new) }
+        ensures refused { IfErr result (λ fault. Refuses fault (step self.old (Adopt copy.now))) }
+        ensures err { OnErr result (self.new ≡ self.old) }
+    {
+        if !are_same(&self.range, &copy.range) {
+            return Err(OpFault::WrongRange);
+        }
+        if let Some(short) = self.lacking(&copy.marks) {
+            return Err(OpFault::TooOld {
+                stream: short.stream,
+                has: short.has,
+                needs: short.wanted,
+            });
+        }
+        let (cover, spare) = raised_by(&self.cover, &copy.marks)?;
+        join_records(&mut self.cells, &copy.cells)?;
+        self.cover = cover;
+        self.spare = Some(spare);
+        self.status = Status::Serving;
+        Ok(())
+    }
+
+    // What the marks lack of what the tablet needs.
+    fn lacking(&self, marks: &Marks) -> Option<Short>
+        ensures { result ≡ all_lacking self.now.status marks.now }
+    {
+        match &self.status {
+            Status::Serving => None,
+            Status::Recovering { need } => first_short(marks, need),
+        }
+    }
+}
+
+// The cover raised by the marks, and a copy of it that a later loss takes as the need.
+fn raised_by(cover: &Marks, marks: &Marks) -> Result<(Marks, Marks), NoMemory>
+    ensures { IfOk result (λ covers. (covers.0 ≡ raised cover.now marks.now) × (covers.1 ≡ raised cover.now marks.now)) }
+{
+    let mut higher = cover.dup()?;
+    raise(&mut higher, marks)?;
+    let spare = higher.dup()?;
+    Ok((higher, spare))
+}
+
+impl Dup for TabletState {
+    /// Copies the keys, and shares the contents.
+    fn dup(&self) -> Result<TabletState, NoMemory>
+        ensures { IfOk result (λ copy. copy ≡ self.now) }
+    {
+        Ok(TabletState {
+            range: self.range.dup()?,
+            cells: self.cells.dup()?,
+            cover: self.cover.dup()?,
+            status: self.status.dup()?,
+            spare: Some(self.cover.dup()?),
+            alloc: self.alloc,
+        })
+    }
+}
+
+impl Dup for Status {
+    fn dup(&self) -> Result<Status, NoMemory>
+        ensures { IfOk result (λ copy. copy ≡ self.now) }
+    {
+        match self {
+            Status::Serving => Ok(Status::Serving),
+            Status::Recovering { need } => Ok(Status::Recovering { need: need.dup()? }),
+        }
+    }
+}
