@@ -16,7 +16,7 @@ pub use in_memory::InMemory;
 pub use line_buffer::{ENDLESS, LONGEST_LINE, LineBuffer, MOST_KEPT};
 pub use outbox::{OUTBOX_ROOM, Outbox};
 pub use piece::Piece;
-pub use reading::{LineEnd, read_line};
+pub use reading::{BoundedEnd, LineEnd, read_bounded_line, read_line};
 pub use sink::{Discard, Sink};
 pub use source::Source;
 pub use writing::{WriteFault, write_all_of};

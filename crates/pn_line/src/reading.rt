@@ -2,7 +2,7 @@
 ghost use Rattle.std.specs.Prelude.{◌≡◌, ◌≢◌, ◌<◌, ◌↔◌, [], IfOk, OnErr, OnSome};
 ghost use Rattle.std.specs.Io.KnownBytes.{IsAtEnd};
 ghost use Rattle.pn_line.specs.Reads.{Takes};
-ghost use Rattle.pn_line.specs.LineEnd.{newline_behind};
+ghost use Rattle.pn_line.specs.LineEnd.{newline_behind, ReadsTo};
 
 use crate::line_buffer::{ENDLESS, LineBuffer};
 use crate::piece::Piece;
@@ -48,4 +48,45 @@ pub fn read_line<S: Source>(line: &mut LineBuffer, source: &mut S) -> io::Result
         }
     }
     Ok(LineEnd::Endless)
+}
+
+/// How reading a line that may not be too long came to its end.
+#[derive(Clone, Copy, Debug, PartialEq, Eq)]
+pub enum BoundedEnd {
+    /// At the line's newline, which was taken and stands in no line.
+    Newline,
+    /// At the end of the input, before a newline. The line may go on if more input comes.
+    EndOfInput,
+    /// More than `LONGEST_LINE` bytes came, with no newline among them.
+    TooLong,
+}
+
+/// Reads on with a line as `read_line` does, but no further once it is too long, whether or not its
+/// newline was taken then. Takes no memory.
+///
+/// After an error of the reader the line has what was taken, and a later call goes on with it.
+pub fn read_bounded_line<S: Source>(line: &mut LineBuffer, source: &mut S) -> io::Result<BoundedEnd>
+    ensures takes { IfOk result (λ end. ReadsTo end line.old line.new (S.left source.old) (S.left source.new)) }
+    ensures fault { OnErr result S.may_fail }
+    ensures kept { OnErr result
+        (Takes line.old line.new (S.left source.old) (S.left source.new) []) }
+{
+    'pieces: while !line.is_too_long() {
+        match source.take_some(line)? {
+            Piece::Part => {}
+            Piece::Ended { .. } => {
+                if line.is_too_long() {
+                    return Ok(BoundedEnd::TooLong);
+                }
+                return Ok(BoundedEnd::Newline);
+            }
+            Piece::NoMore => {
+                if line.is_too_long() {
+                    return Ok(BoundedEnd::TooLong);
+                }
+                return Ok(BoundedEnd::EndOfInput);
+            }
+        }
+    }
+    Ok(BoundedEnd::TooLong)
 }

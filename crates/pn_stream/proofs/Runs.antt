@@ -1,0 +1,109 @@
+-- How runs of messages grow, one line after another.
+use Rattle.std.proofs.Common.{◌≡◌, ℕ, ◌+◌, ◌<◌, List, [], ◌∷◌, ◌++◌, length, Option, None, Some, Result, Ok, Err, IfErr, IsErrAnd, IfSome, inl, inr, refl, sym, ap, ◌∙◌, subst, arith, append_assoc}
+use Rattle.pn_line.specs.Reads.{IsUnbroken}
+use Rattle.pn_line.specs.Text.{text_of}
+use Rattle.pn_line.proofs.TextLaws.{text_of-nil, text_of-push}
+use Rattle.pn_record.specs.declared.image.Image.{Image}
+use Rattle.pn_stream.specs.MessageLines.{IsMessageLine}
+use Rattle.pn_stream.specs.Streams.{InStep, Run, FirstLine, NoLine, IsLeft}
+use Rattle.pn_stream.specs.Faults.{Stands}
+use Rattle.pn_stream.specs.Batches.{SoFar, Batch, IsNext}
+use Rattle.pn_stream.specs.declared.fault.StreamFault.{StreamFault}
+use Rattle.pn_stream.specs.declared.fault.StreamFault.TheVariants.{Memory}
+
+-- one message more at the end
+InStep-push : (position : ℕ) (lines : List (List ℕ)) (images : List Image) (line : List ℕ) (image : Image) (wanted : ℕ) → wanted ≡ position + length images + 1
+    → InStep position lines images → IsUnbroken line → IsMessageLine line (wanted, image) → InStep position (lines ++ line ∷ []) (images ++ image ∷ [])
+InStep-push position [] [] line image wanted is run unbroken said =
+    let here : wanted ≡ position + 1 = omega (arith, is) in
+    (unbroken, subst (λ (n : ℕ). IsMessageLine line (n, image)) here said, tt)
+InStep-push position [] (shown ∷ images) line image wanted is run unbroken said = absurd run
+InStep-push position (first ∷ lines) [] line image wanted is run unbroken said = absurd run
+InStep-push position (first ∷ lines) (shown ∷ images) line image wanted is run unbroken said =
+    (run.0, run.1, InStep-push (position + 1) lines images line image wanted (omega (arith, is)) run.2 unbroken said)
+
+-- one line more
+Run-push : (position : ℕ) (text : List ℕ) (images : List Image) (rest line more : List ℕ) (image : Image) (wanted : ℕ) → wanted ≡ position + length images + 1
+    → Run position text images rest → FirstLine rest line more → IsMessageLine line (wanted, image) → Run position text (images ++ image ∷ []) more
+Run-push position text images rest line more image wanted is run first said = record {
+  lines = run.lines ++ line ∷ [];
+  in_step = InStep-push position run.lines images line image wanted is run.in_step first.unbroken said;
+  text_is = run.text_is ∙ ap (λ t. text_of run.lines ++ t) first.text_is
+      ∙ ap (λ t. text_of run.lines ++ t) (sym (append_assoc line (10 ∷ []) more))
+      ∙ sym (append_assoc (text_of run.lines) (line ++ 10 ∷ []) more)
+      ∙ ap (λ t. t ++ more) (sym (text_of-push run.lines line));
+}
+
+-- before the first line
+Run-none : (position : ℕ) (text : List ℕ) → Run position text [] text
+Run-none position text = record { lines = []; in_step = tt; text_is = ap (λ t. t ++ text) (sym text_of-nil) }
+
+-- what a search for messages starts with
+pub SoFar-none : (position : ℕ) (part : List ℕ) (images : List Image) (left : Option (List ℕ)) → images ≡ [] → IfSome left (λ text. SoFar position (part ++ text) images part left)
+SoFar-none position part images None none = tt
+SoFar-none position part images (Some text) none = rw none (record { rest = part ++ text; run = Run-none position (part ++ text); is_left = (text, refl, refl) })
+
+-- what is told of what is left, told of the rest of the text
+on_rest : (rest part : List ℕ) (left : Option (List ℕ)) (P : List ℕ → Type 0) → IsLeft rest part left → IfSome left (λ text. P (part ++ text)) → P rest
+on_rest rest part left P is told =
+    let at : IfSome (Some is.0) (λ text. P (part ++ text)) = subst (λ (l : Option (List ℕ)). IfSome l (λ text. P (part ++ text))) is.1 told in
+    subst P (sym is.2) at
+
+-- one message more
+pub SoFar-push : (position wanted : ℕ) (front part now : List ℕ) (images : List Image) (image : Image) (first left leaves : Option (List ℕ)) → wanted ≡ position + length images + 1
+    → IfSome first (λ text. SoFar position (front ++ text) images part left) → IfSome left (λ text. IsNext wanted (part ++ text) (Some image) now leaves)
+    → IfSome first (λ text. SoFar position (front ++ text) (images ++ image ∷ []) now leaves)
+SoFar-push position wanted front part now images image None left leaves is so next = tt
+SoFar-push position wanted front part now images image (Some text) left leaves is so next =
+    let (line, more, at, said, is_left) = on_rest so.rest part left (λ (t : List ℕ). IsNext wanted t (Some image) now leaves) so.is_left next in
+    record { rest = more; run = Run-push position (front ++ text) images so.rest line more image wanted is so.run at said; is_left = is_left }
+
+-- no whole line is left
+pub Batch-end : (max position wanted : ℕ) (front part now : List ℕ) (images : List Image) (first left leaves : Option (List ℕ))
+    → IfSome first (λ text. SoFar position (front ++ text) images part left) → IfSome left (λ text. IsNext wanted (part ++ text) None now leaves)
+    → IfSome first (λ text. Batch max position (front ++ text) images None now leaves)
+Batch-end max position wanted front part now images None left leaves so next = tt
+Batch-end max position wanted front part now images (Some text) left leaves so next =
+    let (none, is_left) = on_rest so.rest part left (λ (t : List ℕ). NoLine t × IsLeft t now leaves) so.is_left next in
+    record { rest = so.rest; run = so.run; ends = (inr none, is_left) }
+
+-- the batch is full
+pub Batch-full : (max position : ℕ) (front part : List ℕ) (images : List Image) (first left : Option (List ℕ)) → length images ≡ max
+    → IfSome first (λ text. SoFar position (front ++ text) images part left) → IfSome first (λ text. Batch max position (front ++ text) images None part left)
+Batch-full max position front part images None left full so = tt
+Batch-full max position front part images (Some text) left full so = record { rest = so.rest; run = so.run; ends = (inl full, so.is_left) }
+
+-- a fault stands next
+pub Batch-fault : (max position wanted : ℕ) (front part now : List ℕ) (images : List Image) (fault : StreamFault) (first left leaves : Option (List ℕ)) → wanted ≡ position + length images + 1 → length images < max
+    → IfSome first (λ text. SoFar position (front ++ text) images part left) → IfSome left (λ text. Stands wanted (part ++ text) fault)
+    → IfSome first (λ text. Batch max position (front ++ text) images (Some fault) now leaves)
+Batch-fault max position wanted front part now images fault None left leaves is few so stands = tt
+Batch-fault max position wanted front part now images fault (Some text) left leaves is few so stands =
+    let at : Stands wanted so.rest fault = on_rest so.rest part left (λ (t : List ℕ). Stands wanted t fault) so.is_left stands in
+    record { rest = so.rest; run = so.run; ends = (few, subst (λ (n : ℕ). Stands n so.rest fault) is at) }
+
+-- memory ran out
+pub Batch-memory : (max position : ℕ) (front part now : List ℕ) (images : List Image) (first left leaves : Option (List ℕ)) → length images < max
+    → IfSome first (λ text. SoFar position (front ++ text) images part left)
+    → IfSome first (λ text. Batch max position (front ++ text) images (Some Memory) now leaves)
+Batch-memory max position front part now images None left leaves few so = tt
+Batch-memory max position front part now images (Some text) left leaves few so = record { rest = so.rest; run = so.run; ends = (few, tt) }
+
+in_step_none : (position : ℕ) (lines : List (List ℕ)) (images : List Image) → length images ≡ 0 → InStep position lines images → text_of lines ≡ []
+in_step_none position [] [] none run = text_of-nil
+in_step_none position (line ∷ lines) [] none run = absurd run
+in_step_none position lines (image ∷ images) none run = absurd (omega (arith, none))
+
+-- a fault with no message before it stands at the front of the text
+pub Stands-first : (max position : ℕ) (part : List ℕ) (images : List Image) (fault : StreamFault) (now : List ℕ) (left leaves : Option (List ℕ)) → length images ≡ 0
+    → IfSome left (λ text. Batch max position (part ++ text) images (Some fault) now leaves) → IfSome left (λ text. Stands (position + 1) (part ++ text) fault)
+Stands-first max position part images fault now None leaves none batch = tt
+Stands-first max position part images fault now (Some text) leaves none batch =
+    let all : part ++ text ≡ batch.rest = batch.run.text_is ∙ ap (λ t. t ++ batch.rest) (in_step_none position batch.run.lines images none batch.run.in_step) in
+    let at : position + length images + 1 ≡ position + 1 = omega (arith, none) in
+    subst (λ (t : List ℕ). Stands (position + 1) t fault) (sym all) (subst (λ (n : ℕ). Stands n batch.rest fault) at batch.ends.1)
+
+-- what holds of the fault that a call handed on
+pub handed_on : {T E : Type 0} (answer : Result T E) (fault : E) (P : E → Type 0) → IsErrAnd answer (λ other. other ≡ fault) → P fault → IfErr answer P
+handed_on (Ok value) fault P is holds = tt
+handed_on (Err other) fault P is holds = subst P (sym is) holds

@@ -1,0 +1,119 @@
+-- A value that has the shape of a message is the JSON of that message, and that JSON has its shape.
+use Rattle.std.proofs.Common.{◌≡◌, ℕ, List, codes, length, Bool, true, false, cond, not, Some, option_and_then, Result, Ok, Err, IfOk, String, Global, string_cmp, bytes_eq, refl, sym, ap, ◌∙◌, subst, ltb}
+use Rattle.std.proofs.lemmas.Bool.{le-ltb, ltb-false}
+use Rattle.std.proofs.lemmas.Slice.Eq.{bytes_eq-Decides}
+use Rattle.std.specs.List.{list_any}
+use Rattle.std.specs.List.Sorted.{IsStrictlySortedBy}
+use Rattle.std.specs.Map.{keys_of}
+use Rattle.std.specs.Option.{ok_or}
+use Rattle.serde_json.specs.Data.{Data, number, unsigned, object, Members, no_members, member}
+use Rattle.serde_json.specs.Find.{get, get_member, as_object}
+use Rattle.serde_json.specs.View.{members_view}
+use Rattle.serde_json.specs.declared.value.Value.{Value}
+use Rattle.pn_record.specs.Checks.{Gives}
+use Rattle.pn_record.specs.Canonical.{is_image}
+use Rattle.pn_record.specs.Grammar.{whole_number, only_named, ranges_in as image_ranges_in}
+use Rattle.pn_record.specs.Reading.{reading, value_at}
+use Rattle.pn_record.specs.Seen.{body_rises}
+use Rattle.pn_record.specs.Writing.{image_data}
+use Rattle.pn_record.specs.declared.fault.ImageFault.{ImageFault}
+use Rattle.pn_record.specs.declared.fault.ImageFault.TheVariants.{TooLong, NotJson}
+use Rattle.pn_record.proofs.Inverses.{and_then_some, ok_or_ok, object_from_as_object, number_from_whole}
+use Rattle.pn_record.proofs.Limiting.{in_ranges, image_from_ranges}
+use Rattle.pn_record.proofs.LookUps.{Rise, Rise-map, get_member-unnamed, same_members}
+use Rattle.pn_record.proofs.SameImage.{shape_again}
+use Rattle.pn_stream.specs.Messages.{Message, message_members, shape_in, ranges_in, message_in, message_at}
+use Rattle.pn_stream.specs.MessageLines.{message_data, IsMessage, IsMessageLine}
+use Rattle.pn_stream.specs.Positions.{is_position}
+
+-- the members of a message's JSON
+abbrev members_of : Data → Data → Members
+members_of at image = member (codes "at") at (member (codes "image") image no_members)
+
+at_name : (q name : List ℕ) (ms ns : Members) (d : Data) → get_member name ms ≡ Some d → get_member name ns ≡ Some d → bytes_eq q name ≡ true → get_member q ms ≡ get_member q ns
+at_name q name ms ns d one two is =
+    let same : q ≡ name = (bytes_eq-Decides q name).0 is in
+    ap (λ x. get_member x ms) same ∙ one ∙ sym two ∙ ap (λ x. get_member x ns) (sym same)
+
+split : {A : Type 0} (b : Bool) → (b ≡ true → A) → (b ≡ false → A) → A
+split true here there = here refl
+split false here there = there refl
+
+-- members of these two names alone, that rise, are the two
+two_members : (ms : Members) (at image : Data) → Rise ms → only_named message_members ms ≡ true → get_member (codes "at") ms ≡ Some at → get_member (codes "image") ms ≡ Some image → ms ≡ members_of at image
+two_members ms at image rise named is_at is_image =
+    same_members ms (members_of at image) rise tt (λ q.
+    split (bytes_eq q (codes "at")) (at_name q (codes "at") ms (members_of at image) at is_at refl) (λ a.
+    split (bytes_eq q (codes "image")) (at_name q (codes "image") ms (members_of at image) image is_image refl) (λ i.
+    let apart : list_any (bytes_eq q) message_members ≡ false = rw (a, i) refl in
+    get_member-unnamed message_members ms q named apart ∙ sym (get_member-unnamed message_members (members_of at image) q refl apart))))
+
+-- a value whose members are these is the JSON of the message
+pub message_found : (d : Data) (entries : List (String Global × Value)) (value : Data) (message : Message) → Some (members_view entries) ≡ as_object d → IsStrictlySortedBy string_cmp (keys_of entries)
+    → only_named message_members (members_view entries) ≡ true → option_and_then whole_number (get (codes "at") d) ≡ Some message.0
+    → get (codes "image") d ≡ Some value → value ≡ image_data message.1 → d ≡ message_data message
+message_found d entries value message members ordered named at image is =
+    let ms = members_view entries in
+    let whole : d ≡ object ms = object_from_as_object d ms (sym members) in
+    let found = and_then_some (get (codes "at") d) whole_number message.0 at in
+    let is_at : get_member (codes "at") ms ≡ Some (number (unsigned message.0)) = ap (get (codes "at")) (sym whole) ∙ found.1 ∙ ap Some (number_from_whole found.0 message.0 found.2) in
+    let is_image : get_member (codes "image") ms ≡ Some (image_data message.1) = ap (get (codes "image")) (sym whole) ∙ image ∙ ap Some is in
+    whole ∙ ap object (two_members ms (number (unsigned message.0)) (image_data message.1) (Rise-map entries ordered) named is_at is_image)
+
+-- the JSON of a message has its shape
+shape_again_of : (at : ℕ) (message : Message) → shape_in (message_data message) ≡ Ok message
+unfolding shape_in
+shape_again_of at message = rw (shape_again message.1) refl
+
+passed : {A E : Type 0} (b : Bool) (e : E) (next : Result A E) (a : A) → cond (not b) (Err e) next ≡ Ok a → (b ≡ true) × (next ≡ Ok a)
+passed true e next a is = (refl, is)
+passed false e next a is = absurd (cc)
+
+-- a message whose shape breaks no range
+pub message_fits : (d : Data) (message : Message) → d ≡ message_data message → body_rises message.1.content.0 ≡ true → ranges_in message ≡ Ok tt → IsMessage d message
+unfolding ranges_in
+message_fits d message is rise fits =
+    let parts = passed (is_position message.0) _ _ tt fits in
+    record { value = is; position = parts.0; limits = image_from_ranges message.1 parts.1 rise }
+
+-- nor does its image
+pub image_fits : (message : Message) → ranges_in message ≡ Ok tt → image_ranges_in message.1 ≡ Ok tt
+unfolding ranges_in
+image_fits message fits = (passed (is_position message.0) _ _ tt fits).1
+
+-- a message's value is read as the message
+pub message_again : (d : Data) (message : Message) → IsMessage d message → message_in d ≡ Ok message
+unfolding message_in ranges_in
+message_again d message is = rw (is.value, shape_again_of message.0 message, is.position, in_ranges message.1 is.limits) refl
+
+-- what is answered is right where the right answer is this one
+pub gives_same : (answer right : Result Message ImageFault) (message : Message) → Gives answer right → right ≡ Ok message → Gives answer (Ok message)
+gives_same answer right message gives is = subst (λ (r : Result Message ImageFault). Gives answer r) is gives
+
+short_ok : (b : Bool) (r : Result Data ImageFault) (d : Data) → cond b (Err TooLong) r ≡ Ok d → (b ≡ false) × (r ≡ Ok d)
+short_ok true r d is = absurd (cc)
+short_ok false r d is = (refl, is)
+
+-- a line whose value is the message's
+line_found : (line : List ℕ) (d : Data) (message : Message) → value_at line ≡ Ok d → IsMessage d message → IsMessageLine line message
+unfolding value_at
+line_found line d message value is =
+    let parts = short_ok (ltb 65536 (length line)) (ok_or (reading line) NotJson) d value in
+    record { short = ltb-false _ _ parts.0; value = d; read = ok_or_ok (reading line) NotJson d parts.1; spelled = is }
+
+-- a message's line is read as the message
+pub line_again : (line : List ℕ) (message : Message) → IsMessageLine line message → message_at line ≡ Ok message
+unfolding value_at message_at
+line_again line message is = rw (le-ltb 65536 (length line) is.short, is.read) (message_again is.value message is.spelled)
+
+-- the same of what was answered
+pub answer_found : (line : List ℕ) (d : Data) (answer : Result Message ImageFault) → value_at line ≡ Ok d → IfOk answer (λ message. IsMessage d message) → IfOk answer (λ message. IsMessageLine line message)
+answer_found line d (Ok message) value is = line_found line d message value is
+answer_found line d (Err fault) value is = tt
+
+same_ok : (a b : Message) → ◌≡◌ {A = Result Message ImageFault} (Ok a) (Ok b) → a ≡ b
+same_ok a b is = cc
+
+-- no line is the line of two messages
+pub line_unique : (line : List ℕ) (one other : Message) → IsMessageLine line one → IsMessageLine line other → one ≡ other
+line_unique line one other first second = same_ok one other (sym (line_again line one first) ∙ line_again line other second)

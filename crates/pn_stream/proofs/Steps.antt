@@ -1,0 +1,119 @@
+-- What reading to the end of a line says of the text that is left of a stream.
+use Rattle.std.proofs.Common.{◌≡◌, ◌≢◌, ℕ, ◌≤◌, ◌^◌, List, [], ◌∷◌, ◌++◌, length, Option, None, Some, IfSome, nat_le, sym, ap, ◌∙◌, subst, arith, append_assoc}
+use Rattle.std.proofs.lemmas.Bool.{and_parts}
+use Rattle.std.proofs.lemmas.List.Elements.{All-nil, All-append}
+use Rattle.pn_line.specs.Line.{LineSoFar, longer, so_far}
+use Rattle.pn_line.specs.LineEnd.{ReadsTo}
+use Rattle.pn_line.specs.Reads.{IsUnbroken, Takes}
+use Rattle.pn_line.specs.declared.reading.BoundedEnd.TheVariants.{Newline, EndOfInput, TooLong}
+use Rattle.pn_line.proofs.LineLaws.{kept-short, kept-nil, so_far-append}
+use Rattle.pn_line.proofs.ToldLaws.{ReadsPart-from_takes, text_of-read_end}
+use Rattle.pn_record.specs.declared.image.Image.{Image}
+use Rattle.pn_stream.specs.MessageLines.{IsMessageLine}
+use Rattle.pn_stream.specs.Streams.{FirstLine, NoLine}
+use Rattle.pn_stream.specs.Faults.{Refuses, Stands}
+use Rattle.pn_stream.specs.Batches.{IsPart, IsNext}
+use Rattle.pn_stream.specs.declared.fault.StreamFault.{StreamFault}
+use Rattle.pn_stream.specs.declared.fault.StreamFault.TheVariants.{Read, LineTooLong, BadMessage, OutOfStep, Memory, Failed}
+
+-- a line that holds a part, by its bytes
+held : (line new : LineSoFar) (left leaves : Option (List ℕ)) (behind : List ℕ) → IsPart line → Takes line new left leaves behind → Takes (so_far line.front) new left leaves behind
+held line new left leaves behind is takes = subst (λ (l : LineSoFar). Takes l new left leaves behind) is.line_is takes
+
+-- a line that is not too long is kept whole
+whole : (new : LineSoFar) (bytes : List ℕ) → new ≡ so_far bytes → new.count ≤ 65536 → (new.front ≡ bytes) × (length bytes ≤ 65536)
+whole new bytes is short =
+    let count : new.count ≡ length bytes = ap (λ (l : LineSoFar). l.count) is in
+    let fits : length bytes ≤ 65536 = omega (arith, count, short) in
+    (ap (λ (l : LineSoFar). l.front) is ∙ kept-short bytes fits, fits)
+
+-- a line with these bytes, none of them a newline, is a part of one
+part_from : (new : LineSoFar) (bytes : List ℕ) → new ≡ so_far bytes → new.count ≤ 65536 → IsUnbroken bytes → IsPart new
+part_from new bytes is short unbroken =
+    let (front, fits) = whole new bytes is short in
+    record { line_is = is ∙ ap so_far (sym front); part = rw front (record { unbroken = unbroken; short = fits }) }
+
+-- what a part grows to is a part
+pub IsPart-more : (line new : LineSoFar) (left leaves : Option (List ℕ)) → IsPart line → Takes line new left leaves [] → new.count ≤ 65536 → IsPart new
+IsPart-more line new left leaves is takes short =
+    let grown : new ≡ so_far (line.front ++ takes.taken) = takes.line ∙ ap (λ (l : LineSoFar). longer l takes.taken) is.line_is ∙ so_far-append line.front takes.taken in
+    part_from new (line.front ++ takes.taken) grown short (All-append (λ b. b ≢ 10) line.front takes.taken is.part.unbroken takes.unbroken)
+
+-- before its first byte a line is a part
+pub IsPart-none : (line : LineSoFar) → line ≡ so_far [] → IsPart line
+IsPart-none line is = part_from line [] is (rw is (omega arith)) (All-nil (λ b. b ≢ 10))
+
+-- and holds nothing
+pub part-none : (line : LineSoFar) → line ≡ so_far [] → line.front ≡ []
+part-none line is = ap (λ (l : LineSoFar). l.front) is ∙ kept-nil
+
+-- at the end of the input no whole line is left
+pub next_end : (wanted : ℕ) (line new : LineSoFar) (left leaves : Option (List ℕ)) → IsPart line → ReadsTo EndOfInput line new left leaves → IfSome left (λ text. IsNext wanted (line.front ++ text) None new.front leaves)
+next_end wanted line new None leaves is reads = tt
+next_end wanted line new (Some text) leaves is reads =
+    let read = ReadsPart-from_takes line.front text is.part.unbroken (held line new (Some text) leaves [] is reads.0) in
+    let (front, fits) = whole new (line.front ++ read.taken) read.line reads.2 in
+    let all : text ≡ read.taken = text_of-read_end line.front text leaves read reads.1 in
+    let rest : line.front ++ text ≡ new.front ++ read.rest =
+    ap (λ t. line.front ++ t) read.text_is ∙ sym (append_assoc line.front read.taken read.rest) ∙ ap (λ t. t ++ read.rest) (sym front) in (
+      subst (λ (t : List ℕ). NoLine (line.front ++ t)) (sym all) (record { unbroken = read.unbroken; short = fits }),
+      (read.rest, read.leaves_is, rest),
+    )
+
+-- a line that is too long stands next
+pub next_long : (wanted : ℕ) (line new : LineSoFar) (left leaves : Option (List ℕ)) → IsPart line → ReadsTo TooLong line new left leaves → IfSome left (λ text. Stands wanted (line.front ++ text) LineTooLong)
+next_long wanted line new None leaves is reads = tt
+next_long wanted line new (Some text) leaves is reads =
+    let (behind, takes) = reads.0 in
+    let read = ReadsPart-from_takes line.front text is.part.unbroken (held line new (Some text) leaves behind is takes) in
+    let count : new.count ≡ length (line.front ++ read.taken) = ap (λ (l : LineSoFar). l.count) read.line in
+    record {
+      front = line.front ++ read.taken;
+      rest = behind ++ read.rest;
+      unbroken = read.unbroken;
+      long = omega (arith, count, reads.1);
+      text_is = ap (λ t. line.front ++ t) read.text_is ∙ sym (append_assoc line.front read.taken (behind ++ read.rest));
+    }
+
+-- the text's first line was taken, and is not too long
+pub record TakesLine (text line : List ℕ) (leaves : Option (List ℕ)) : Type 0 where
+  pub rest : List ℕ
+  pub first : FirstLine text line rest
+  pub leaves_is : leaves ≡ Some rest
+  pub short : length line ≤ 65536
+
+-- the line that was read to its newline
+pub next_line : (line new : LineSoFar) (left leaves : Option (List ℕ)) → IsPart line → ReadsTo Newline line new left leaves → IfSome left (λ text. TakesLine (line.front ++ text) new.front leaves)
+next_line line new None leaves is reads = tt
+next_line line new (Some text) leaves is reads =
+    let read = ReadsPart-from_takes line.front text is.part.unbroken (held line new (Some text) leaves (10 ∷ []) is reads.0) in
+    let (front, fits) = whole new (line.front ++ read.taken) read.line reads.1 in
+    let whole_text : line.front ++ text ≡ (line.front ++ read.taken) ++ 10 ∷ read.rest =
+    ap (λ t. line.front ++ t) read.text_is ∙ sym (append_assoc line.front read.taken (10 ∷ read.rest)) in
+    rw front (record {
+      rest = read.rest;
+      first = record { unbroken = read.unbroken; text_is = whole_text };
+      leaves_is = read.leaves_is;
+      short = fits;
+    })
+
+-- a line that is the message wanted
+pub next_ok : (wanted : ℕ) (part line now : List ℕ) (image : Image) (left leaves : Option (List ℕ)) → IfSome left (λ text. TakesLine (part ++ text) line leaves) → IsMessageLine line (wanted, image) → now ≡ []
+    → IfSome left (λ text. IsNext wanted (part ++ text) (Some image) now leaves)
+next_ok wanted part line now image None leaves takes said none = tt
+next_ok wanted part line now image (Some text) leaves takes said none =
+    (line, takes.rest, takes.first, said, (takes.rest, takes.leaves_is, ap (λ t. t ++ takes.rest) (sym none)))
+
+-- a line that is refused
+pub next_err : (wanted : ℕ) (part line : List ℕ) (fault : StreamFault) (left leaves : Option (List ℕ)) → IfSome left (λ text. TakesLine (part ++ text) line leaves) → Refuses wanted line fault → IfSome left (λ text. Stands wanted (part ++ text) fault)
+next_err wanted part line fault None leaves takes refused = tt
+next_err wanted part line Read (Some text) leaves takes refused = tt
+next_err wanted part line Memory (Some text) leaves takes refused = tt
+next_err wanted part line LineTooLong (Some text) leaves takes refused = absurd refused
+next_err wanted part line Failed (Some text) leaves takes refused = absurd refused
+next_err wanted part line (BadMessage at fault) (Some text) leaves takes refused = record { line = line; rest = takes.rest; first = takes.first; short = takes.short; refused = refused }
+next_err wanted part line (OutOfStep named got) (Some text) leaves takes refused = record { line = line; rest = takes.rest; first = takes.first; short = takes.short; refused = refused }
+
+-- the position of a message is one of a stream
+pub position_within : (line : List ℕ) (wanted : ℕ) (image : Image) → IsMessageLine line (wanted, image) → wanted ≤ 10 ^ 15
+position_within line wanted image said = grind (arith, (and_parts (nat_le 1 wanted) (nat_le wanted (10 ^ 15)) said.spelled.position).1)

@@ -1,0 +1,15 @@
+-- The images so far are a run, and the line holds the part of the next one that was taken.
+use Rattle.std.proofs.Common.{◌-◌, ◌+◌, ◌≤◌, ◌^◌, ◌++◌, length, IfSome}
+use Rattle.pn_stream.specs.Batches.{SoFar, IsPart}
+use Rattle.pn_stream.proofs.next.gather.Given as goal
+
+abbrev pub invariant-images : goal.invariant-images
+invariant-images g l = record {
+  within : length l.images.items ≤ l.max;
+  positions : l.position + length l.images.items ≤ 10 ^ 15;
+  part : IsPart l.line;
+  so_far : IfSome (g.S.Source.left l.initial.source) (λ text. SoFar l.position (l.initial.line.front ++ text) l.images.items l.line.front (g.S.Source.left l.source));
+}
+
+abbrev pub decreases-images : goal.decreases-images
+decreases-images g l = l.max - length l.images.items

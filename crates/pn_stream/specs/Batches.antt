@@ -1,0 +1,50 @@
+-- What a call for the next messages of a stream gives.
+use Rattle.std.specs.Prelude.{◌≡◌, ℕ, ◌+◌, ◌<◌, List, [], length, Option, Some, None, ◌⊎◌}
+use Rattle.pn_line.specs.Line.{LineSoFar, so_far}
+use Rattle.pn_record.specs.declared.image.Image.{Image}
+use Rattle.pn_stream.specs.MessageLines.{IsMessageLine}
+use Rattle.pn_stream.specs.Streams.{Run, FirstLine, NoLine, IsLeft}
+use Rattle.pn_stream.specs.Faults.{Stands}
+use Rattle.pn_stream.specs.declared.fault.StreamFault.{StreamFault}
+
+-- what a reader of a stream shows: the stream's name, the last position given, the part of a line that was
+-- taken, the fault that the next call answers if one waits, and the source
+pub record Stream (S : Type 0) : Type 0 where
+  pub name : List ℕ
+  pub position : ℕ
+  pub part : List ℕ
+  pub fault : Option StreamFault
+  pub source : S
+
+-- the part that a line holds, if there is a line
+abbrev pub part_of : Option LineSoFar → List ℕ
+part_of None = []
+part_of (Some line) = line.front
+
+-- a batch of so many images ends before this text: it is full, or no whole line is left; or this fault stands next
+abbrev pub Ends : ℕ → ℕ → ℕ → List ℕ → Option StreamFault → List ℕ → Option (List ℕ) → Type 0
+Ends max count position text None part left = ((count ≡ max) ⊎ NoLine text) × IsLeft text part left
+Ends max count position text (Some fault) part left = (count < max) × Stands (position + count + 1) text fault
+
+-- these images are the longest run, at most `max`, of messages in step from the front of the text
+pub record Batch (max position : ℕ) (text : List ℕ) (images : List Image) (fault : Option StreamFault) (part : List ℕ) (left : Option (List ℕ)) : Type 0 where
+  pub rest : List ℕ
+  pub run : Run position text images rest
+  pub ends : Ends max (length images) position rest fault part left
+
+-- so far these images are a run, and this is left
+pub record SoFar (position : ℕ) (text : List ℕ) (images : List Image) (part : List ℕ) (left : Option (List ℕ)) : Type 0 where
+  pub rest : List ℕ
+  pub run : Run position text images rest
+  pub is_left : IsLeft rest part left
+
+-- a line that is read holds this part of it, and is not too long
+pub record IsPart (line : LineSoFar) : Type 0 where
+  pub line_is : line ≡ so_far line.front
+  pub part : NoLine line.front
+
+-- the next message of the text, if a whole line is there, and what is left then
+abbrev pub IsNext : ℕ → List ℕ → Option Image → List ℕ → Option (List ℕ) → Type 0
+IsNext wanted text (Some image) part left =
+    (line : List ℕ) × (rest : List ℕ) × FirstLine text line rest × IsMessageLine line (wanted, image) × IsLeft rest part left
+IsNext wanted text None part left = NoLine text × IsLeft text part left

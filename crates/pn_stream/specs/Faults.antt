@@ -1,0 +1,44 @@
+-- The faults of a stream, and where each stands.
+use Rattle.std.specs.Prelude.{◌≡◌, ◌≢◌, ℕ, ◌<◌, ◌≤◌, List, ◌++◌, length, Err}
+use Rattle.pn_line.specs.Reads.{IsUnbroken}
+use Rattle.pn_record.specs.declared.image.Image.{Image}
+use Rattle.pn_stream.specs.Messages.{message_at}
+use Rattle.pn_stream.specs.MessageLines.{IsMessageLine}
+use Rattle.pn_stream.specs.Streams.{FirstLine}
+use Rattle.pn_stream.specs.declared.fault.StreamFault.{StreamFault}
+use Rattle.pn_stream.specs.declared.fault.StreamFault.TheVariants.{Read, LineTooLong, BadMessage, OutOfStep, Memory, Failed}
+
+-- a line is refused by this fault where the message at this position is wanted. Memory may run out at any line
+abbrev pub Refuses : ℕ → List ℕ → StreamFault → Type 0
+Refuses wanted line (BadMessage at fault) = (at ≡ wanted) × (message_at line ≡ Err fault)
+Refuses wanted line (OutOfStep named got) = (named ≡ wanted) × (got ≢ wanted) × ((image : Image) × IsMessageLine line (got, image))
+Refuses wanted line Memory = Unit {0}
+Refuses wanted line Read = ⊥
+Refuses wanted line LineTooLong = ⊥
+Refuses wanted line Failed = ⊥
+
+-- the first line is refused by this fault
+pub record RefusedLine (wanted : ℕ) (text : List ℕ) (fault : StreamFault) : Type 0 where
+  pub line : List ℕ
+  pub rest : List ℕ
+  pub first : FirstLine text line rest
+  pub short : length line ≤ 65536
+  pub refused : Refuses wanted line fault
+
+-- more than 65,536 bytes come before the first newline
+pub record LongLine (text : List ℕ) : Type 0 where
+  pub front : List ℕ
+  pub rest : List ℕ
+  pub unbroken : IsUnbroken front
+  pub long : 65536 < length front
+  pub text_is : text ≡ front ++ rest
+
+-- the fault stands next in the text where the message at this position is wanted. Of the text alone nobody
+-- knows where its reader fails, or where memory runs out
+abbrev pub Stands : ℕ → List ℕ → StreamFault → Type 0
+Stands wanted text (BadMessage at fault) = RefusedLine wanted text (BadMessage at fault)
+Stands wanted text (OutOfStep named got) = RefusedLine wanted text (OutOfStep named got)
+Stands wanted text LineTooLong = LongLine text
+Stands wanted text Read = Unit {0}
+Stands wanted text Memory = Unit {0}
+Stands wanted text Failed = ⊥

@@ -1,0 +1,6 @@
+pub mod Batches
+pub mod Faults
+pub mod MessageLines
+pub mod Messages
+pub mod Positions
+pub mod Streams

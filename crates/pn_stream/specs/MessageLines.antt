@@ -1,0 +1,26 @@
+-- The messages that values and lines are.
+use Rattle.std.specs.Prelude.{◌≡◌, ℕ, ◌≤◌, List, length, codes, IsTrue, Some}
+use Rattle.serde_json.specs.Data.{Data, number, object, unsigned, no_members, member}
+use Rattle.pn_record.specs.Canonical.{is_image}
+use Rattle.pn_record.specs.Reading.{reading}
+use Rattle.pn_record.specs.Writing.{image_data}
+use Rattle.pn_stream.specs.Messages.{Message}
+use Rattle.pn_stream.specs.Positions.{is_position}
+
+-- the JSON of a message: the position and the image
+abbrev pub message_data : Message → Data
+message_data message =
+    object (member (codes "at") (number (unsigned message.0)) (member (codes "image") (image_data message.1) no_members))
+
+-- the value is the JSON of the message, whose position and image keep the limits
+pub record IsMessage (d : Data) (message : Message) : Type 0 where
+  pub value : d ≡ message_data message
+  pub position : IsTrue (is_position message.0)
+  pub limits : IsTrue (is_image message.1)
+
+-- the line has at most 65,536 bytes, and `serde_json` reads it as the JSON of the message
+pub record IsMessageLine (line : List ℕ) (message : Message) : Type 0 where
+  pub short : length line ≤ 65536
+  pub value : Data
+  pub read : reading line ≡ Some value
+  pub spelled : IsMessage value message

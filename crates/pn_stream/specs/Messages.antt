@@ -1,0 +1,46 @@
+-- The message that a JSON value is: the shapes of its members one after another, and then their ranges.
+use Rattle.std.specs.Prelude.{ℕ, not, if◌then◌else◌, List, [], ◌∷◌, codes, option_and_then, Result, Ok, Err}
+use Rattle.std.specs.Option.{ok_or}
+use Rattle.serde_json.specs.Data.{Data}
+use Rattle.serde_json.specs.Find.{get, as_object}
+use Rattle.pn_record.specs.Checks.{◌>>=◌, fault_as}
+use Rattle.pn_record.specs.Grammar.{whole_number, only_named, shape_in as image_shape_in, ranges_in as image_ranges_in}
+use Rattle.pn_record.specs.Reading.{value_at}
+use Rattle.pn_record.specs.declared.image.Image.{Image}
+use Rattle.pn_record.specs.declared.fault.Member.{Member}
+use Rattle.pn_record.specs.declared.fault.Member.TheVariants as member
+use Rattle.pn_record.specs.declared.fault.ImageFault.{ImageFault}
+use Rattle.pn_record.specs.declared.fault.ImageFault.TheVariants.{BadShape, OutOfRange}
+use Rattle.pn_stream.specs.Positions.{is_position}
+
+-- a message: its position in the stream, and its image
+abbrev pub Message : Type 0
+Message = ℕ × Image
+
+-- the names of a message's members
+abbrev pub message_members : List (List ℕ)
+message_members = codes "at" ∷ codes "image" ∷ []
+
+-- the message of which the value has the shape, or the first member of another shape
+unfoldable pub shape_in : Data → Result Message Member
+shape_in d = do
+  members ← ok_or (as_object d) member.Whole
+  at ← ok_or (option_and_then whole_number (get (codes "at") d)) member.At
+  value ← ok_or (get (codes "image") d) member.Image
+  image ← image_shape_in value
+  if only_named message_members members then Ok (at, image) else Err member.Other
+
+-- the first member that breaks a limit
+unfoldable pub ranges_in : Message → Result (Unit {0}) Member
+ranges_in message = if not (is_position message.0) then Err member.At else image_ranges_in message.1
+
+-- the message that the value is, or its first fault: all shapes come before the ranges
+unfoldable pub message_in : Data → Result Message ImageFault
+message_in d = do
+  message ← fault_as BadShape (shape_in d)
+  fits ← fault_as OutOfRange (ranges_in message)
+  Ok message
+
+-- the message of a line
+unfoldable pub message_at : List ℕ → Result Message ImageFault
+message_at line = value_at line >>= message_in

@@ -1,0 +1,46 @@
+//! Why a stream gives no further message.
+
+ghost use Rattle.std.specs.Prelude.{◌≡◌};
+ghost use Rattle.pn_stream.specs.declared.fault.StreamFault.TheVariants.{Memory};
+
+use pn_record::ImageFault;
+use std::alloc::{AllocError, AllocFailed};
+use thiserror::Error;
+
+/// Why a stream gives no further message.
+#[derive(Clone, Copy, Debug, PartialEq, Eq, Error)]
+pub enum StreamFault {
+    /// The reader answered an error.
+    #[error("the stream could not be read")]
+    Read,
+    /// More than 65,536 bytes came without a newline.
+    #[error("a line of the stream is too long")]
+    LineTooLong,
+    /// The line is no message. `at` is the position that was wanted.
+    #[error("no message at {at}: {fault}")]
+    BadMessage { at: u64, fault: ImageFault },
+    /// The line is the message of another position. Behind the last position, 10^15, each is.
+    #[error("the message at {wanted} was wanted and that at {got} came")]
+    OutOfStep { wanted: u64, got: u64 },
+    #[error("out of memory")]
+    Memory,
+    /// A call before answered a fault.
+    #[error("the stream failed before")]
+    Failed,
+}
+
+impl From<AllocError> for StreamFault {
+    ghost from_gives = { λ _ fault. fault ≡ Memory };
+
+    fn from(_error: AllocError) -> StreamFault {
+        StreamFault::Memory
+    }
+}
+
+impl<T: Drop> From<AllocFailed<T>> for StreamFault {
+    ghost from_gives = { λ _ fault. fault ≡ Memory };
+
+    fn from(_error: AllocFailed<T>) -> StreamFault {
+        StreamFault::Memory
+    }
+}

@@ -1,0 +1,15 @@
+//! Streams of images: messages read from lines, in step with their positions.
+#![tactic(auto)]
+
+mod delivery;
+mod fault;
+mod message;
+mod next;
+mod reader;
+#[cfg(test)]
+mod tests;
+
+pub use delivery::{Delivery, LAST_POSITION};
+pub use fault::StreamFault;
+pub use message::read_message;
+pub use reader::StreamReader;
