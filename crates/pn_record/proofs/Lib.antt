@@ -11,6 +11,7 @@ pub mod LawProofs
 pub mod Limiting
 pub mod Lines
 pub mod LookUps
+pub mod MarksValues
 pub mod Members
 pub mod Orders
 pub mod SameImage
