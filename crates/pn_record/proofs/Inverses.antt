@@ -62,7 +62,7 @@ unsigned_from_as_u64 (unsigned k) m is = cc
 unsigned_from_as_u64 (negative z) m is = cc
 unsigned_from_as_u64 (float x) m is = cc
 
-number_from_whole : (d : Data) (m : ℕ) → whole_number d ≡ Some m → d ≡ number (unsigned m)
+pub number_from_whole : (d : Data) (m : ℕ) → whole_number d ≡ Some m → d ≡ number (unsigned m)
 number_from_whole null m is = cc
 number_from_whole (boolean b) m is = cc
 number_from_whole (number n) m is = ap number (unsigned_from_as_u64 n m is)
