@@ -1,9 +1,9 @@
 -- Marks: positions of streams by their names, where an absent name counts as 0.
-use Rattle.std.specs.Prelude.{ℕ, ◌≤◌, max, Bool, nat_lt, List, [], ◌∷◌, Option, unwrap_or}
+use Rattle.std.specs.Prelude.{ℕ, ◌≤◌, ◌^◌, max, Bool, ◌&&◌, nat_lt, nat_le, List, [], ◌∷◌, Option, unwrap_or}
 use Rattle.std.specs.declared.cmp.Ordering.{Ordering}
 use Rattle.std.specs.Ordering.{nat_cmp}
 use Rattle.std.specs.Cmp.Lexicographic.{slice_cmp}
-use Rattle.std.specs.List.{position}
+use Rattle.std.specs.List.{list_all, position}
 use Rattle.std.specs.FinMap.{find, put}
 
 -- names and their positions, in byte order of names
@@ -34,3 +34,11 @@ shortfall marks need = position (falls_short marks) need
 abbrev pub raised : Positions → Positions → Positions
 raised marks [] = marks
 raised marks (other ∷ others) = put name_cmp other.0 (max (position_of marks other.0) other.1) (raised marks others)
+
+-- a position of a message: 1 to 10^15
+abbrev pub is_position : ℕ → Bool
+is_position n = nat_le 1 n && nat_le n (10 ^ 15)
+
+-- each is the position of a message
+abbrev pub are_positions : Positions → Bool
+are_positions marks = list_all (λ mark. is_position mark.1) marks

@@ -24,8 +24,8 @@ pub image_found : (d : Data) (image : Image) → d ≡ image_data image → body
 image_found d image is rise fits = record { value = is; limits = image_from_ranges image fits rise }
 
 -- what is answered is right where the right answer is this one
-pub gives_same : (answer right : Result Image ImageFault) (image : Image) → Gives answer right → right ≡ Ok image → Gives answer (Ok image)
-gives_same answer right image gives is = subst (λ (r : Result Image ImageFault). Gives answer r) is gives
+pub gives_same : {A : Type 0} (answer right : Result A ImageFault) (value : A) → Gives answer right → right ≡ Ok value → Gives answer (Ok value)
+gives_same {A = A} answer right value gives is = subst (λ (r : Result A ImageFault). Gives answer r) is gives
 
 short_ok : (b : Bool) (r : Result Data ImageFault) (d : Data) → cond b (Err TooLong) r ≡ Ok d → (b ≡ false) × (r ≡ Ok d)
 short_ok true r d is = absurd (cc)

@@ -12,6 +12,7 @@ pub mod LawProofs
 pub mod Limiting
 pub mod Lines
 pub mod LookUps
+pub mod MarksValues
 pub mod Members
 pub mod NeverOlder
 pub mod Orders

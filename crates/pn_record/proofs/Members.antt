@@ -4,10 +4,13 @@ use Rattle.std.proofs.lemmas.Bool.{and_parts}
 use Rattle.std.proofs.lemmas.Cmp.{nat_list_cmp_total}
 use Rattle.std.proofs.lemmas.List.{get_or-map, length-map}
 use Rattle.std.specs.Cmp.Lexicographic.{slice_cmp}
+use Rattle.std.specs.FinMap.{is_sorted}
 use Rattle.std.specs.FinMap.Entries.{below_all}
 use Rattle.std.specs.Ordering.{is_lt, ordering_reverse}
-use Rattle.serde_json.specs.Data.{member, no_members, string, put}
-use Rattle.pn_record.specs.Limits.{Field, names_rise}
+use Rattle.serde_json.specs.Data.{Data, Members, member, no_members, string, number, unsigned, put}
+use Rattle.pn_join.specs.Marks.{Positions, name_cmp}
+use Rattle.pn_record.specs.Limits.{names_rise}
+use Rattle.pn_record.specs.Marks.{positions_data}
 use Rattle.pn_record.specs.Showing.{shown_field, shown_value}
 use Rattle.pn_record.specs.Writing.{fields_data}
 use Rattle.pn_record.specs.declared.content.Value.{Value}
@@ -17,22 +20,27 @@ less Less h = refl
 less Equal h = cc
 less Greater h = cc
 
-below_at : (name : List ℕ) (fields : List Field) (i : ℕ) (field : Field) → i < length fields → field ≡ get_or fields i field → IsTrue (below_all (slice_cmp nat_cmp) name fields) → slice_cmp nat_cmp name field.0 ≡ Less
-below_at name [] i field within is below = absurd (omega arith)
-below_at name (first ∷ fields) zero field within is below =
-    ap (λ (f : Field). slice_cmp nat_cmp name f.0) is ∙ less _ (and_parts _ _ below).0
-below_at name (first ∷ fields) (suc i) field within is below =
-    below_at name fields i field (omega arith) is (and_parts _ _ below).1
+module _ {X : Type 0} where
+  below_at : (name : List ℕ) (entries : List (List ℕ × X)) (i : ℕ) (entry : List ℕ × X) → i < length entries → entry ≡ get_or entries i entry → IsTrue (below_all (slice_cmp nat_cmp) name entries) → slice_cmp nat_cmp name entry.0 ≡ Less
+  below_at name [] i entry within is below = absurd (omega arith)
+  below_at name (first ∷ entries) zero entry within is below =
+      ap (λ (e : List ℕ × X). slice_cmp nat_cmp name e.0) is ∙ less _ (and_parts _ _ below).0
+  below_at name (first ∷ entries) (suc i) entry within is below =
+      below_at name entries i entry (omega arith) is (and_parts _ _ below).1
 
--- a field that is put to those before it stands behind them
-put_next : (fields : List Field) (i : ℕ) (field : Field) → i < length fields → field ≡ get_or fields i field → IsTrue (names_rise fields) → put field.0 (string field.1) (fields_data (take i fields)) ≡ fields_data (take (suc i) fields)
-put_next [] i field within is rising = absurd (omega arith)
-put_next (first ∷ fields) zero field within is rising = ap (λ (f : Field). member f.0 (string f.1) no_members) is
-put_next (first ∷ fields) (suc i) field within is rising =
-    let parts = and_parts _ _ rising in
-    let below : slice_cmp nat_cmp first.0 field.0 ≡ Less = below_at first.0 fields i field (omega arith) is parts.0 in
-    let above : slice_cmp nat_cmp field.0 first.0 ≡ Greater = nat_list_cmp_total.antisymm field.0 first.0 ∙ ap ordering_reverse below in
-    rw above (ap (member first.0 (string first.1)) (put_next fields i field (omega arith) is parts.1))
+  -- an entry that is put to those before it stands behind them
+  pub put_next : (value : X → Data) (all : List (List ℕ × X) → Members) → all [] ≡ no_members → ((e : List ℕ × X) (es : List (List ℕ × X)) → all (e ∷ es) ≡ member e.0 (value e.1) (all es))
+      → (entries : List (List ℕ × X)) (i : ℕ) (entry : List ℕ × X) → i < length entries → entry ≡ get_or entries i entry → IsTrue (is_sorted (slice_cmp nat_cmp) entries) → put entry.0 (value entry.1) (all (take i entries)) ≡ all (take (suc i) entries)
+  put_next value all none more [] i entry within is rising = absurd (omega arith)
+  put_next value all none more (first ∷ entries) zero entry within is rising =
+      ap (put entry.0 (value entry.1)) none ∙ ap (λ (e : List ℕ × X). member e.0 (value e.1) no_members) is ∙ sym (more first [] ∙ ap (member first.0 (value first.1)) none)
+  put_next value all none more (first ∷ entries) (suc i) entry within is rising =
+      let parts = and_parts _ _ rising in
+      let below : slice_cmp nat_cmp first.0 entry.0 ≡ Less = below_at first.0 entries i entry (omega arith) is parts.0 in
+      let above : slice_cmp nat_cmp entry.0 first.0 ≡ Greater = nat_list_cmp_total.antisymm entry.0 first.0 ∙ ap ordering_reverse below in
+      ap (put entry.0 (value entry.1)) (more first (take i entries))
+      ∙ rw above (ap (member first.0 (value first.1)) (put_next value all none more entries i entry (omega arith) is parts.1))
+      ∙ sym (more first (take (suc i) entries))
 
 -- the same of the fields that a program holds
 pub put_next_shown : (fields : List (String Global × Value)) (i : ℕ) (field : String Global × Value) → i < length fields → field ≡ get_or fields i field → IsTrue (names_rise (map shown_field fields))
@@ -40,4 +48,10 @@ pub put_next_shown : (fields : List (String Global × Value)) (i : ℕ) (field :
 put_next_shown fields i field within is rising =
     let inside : i < length (map shown_field fields) = simp length-map within in
     let here : shown_field field ≡ get_or (map shown_field fields) i (shown_field field) = ap shown_field is ∙ sym (get_or-map shown_field fields i field (shown_field field) within) in
-    rw add-one (put_next (map shown_field fields) i (shown_field field) inside here rising)
+    rw add-one (put_next string fields_data refl (λ e es. refl) (map shown_field fields) i (shown_field field) inside here rising)
+
+-- the same of marks
+pub put_next_mark : (marks : Positions) (i : ℕ) (mark : List ℕ × ℕ) → i < length marks → mark ≡ get_or marks i mark → IsTrue (is_sorted name_cmp marks)
+    → put mark.0 (number (unsigned mark.1)) (positions_data (take i marks)) ≡ positions_data (take (i + 1) marks)
+put_next_mark marks i mark within is rising =
+    rw add-one (put_next (λ n. number (unsigned n)) positions_data refl (λ e es. refl) marks i mark within is rising)

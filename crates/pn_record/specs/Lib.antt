@@ -6,6 +6,7 @@ pub mod Coding
 pub mod Grammar
 pub mod JoinedCells
 pub mod Limits
+pub mod Marks
 pub mod Older
 pub mod Order
 pub mod Reading

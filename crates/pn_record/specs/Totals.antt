@@ -1,5 +1,5 @@
 -- The orders of versions, values and contents are total, and only equal ones tie.
-use Rattle.std.specs.Prelude.{◌≡◌, ℕ, Option, Some, None, refl}
+use Rattle.std.specs.Prelude.{ℕ, Some, None, refl}
 use Rattle.std.proofs.Common.{ap}
 use Rattle.std.specs.Ordering.{nat_cmp}
 use Rattle.std.specs.FinMap.{IsAntisymmetric, nat_cmp-IsAntisymmetric, slice_cmp-IsAntisymmetric}

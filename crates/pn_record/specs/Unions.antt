@@ -1,7 +1,7 @@
 -- Sets of contents: what is in a union.
-use Rattle.std.proofs.Common.{◌≡◌, ℕ, ◌<◌, length, IsTrue, lit<, Bool, true, false, ◌&&◌, cond, List, [], ◌∷◌, ◌++◌, map, Option, Some, None, refl, sym, ap, ◌∙◌, subst}
+use Rattle.std.proofs.Common.{◌≡◌, ◌<◌, length, IsTrue, lit<, Bool, true, false, ◌&&◌, cond, List, [], ◌∷◌, ◌++◌, map, Option, Some, None, refl, sym, ap, ◌∙◌, subst}
 use lib.Dec.{T}
-use Rattle.std.specs.FinMap.{get, entries, from_entries, find, keys, get-from_entries, get-entries, same_map, from_sorted, get-from_sorted, entries-from_sorted, is_sorted, empty, get-empty}
+use Rattle.std.specs.FinMap.{get, entries, find, keys, get-from_entries, get-entries, same_map, from_sorted, get-from_sorted, entries-from_sorted, is_sorted, empty, get-empty}
 use Rattle.std.specs.declared.cmp.Ordering.{Ordering}
 use Rattle.std.specs.declared.cmp.Ordering.TheVariants.{Less, Equal, Greater}
 use Rattle.std.specs.Ordering.{eq_by_cmp, is_eq}

@@ -1,22 +1,31 @@
--- Ranges of keys.
+-- Ranges of keys: from one end, which is included, to another, which is not. Without an end a range is open there.
 use Rattle.std.specs.Prelude.{ℕ, Bool, true, not, ◌&&◌, List, Option, Some, None}
 use Rattle.std.specs.Ordering.{is_lt}
 use Rattle.pn_record.specs.Order.{bytes_cmp}
 
--- the key where a range begins and the one that it ends before, where there are any
+-- the ends of a range
 abbrev pub Ends : Type 0
 Ends = Option (List ℕ) × Option (List ℕ)
 
--- the key is not below the first
+-- one key is less than the other by its bytes
+abbrev pub is_below : List ℕ → List ℕ → Bool
+is_below key other = is_lt (bytes_cmp key other)
+
+-- the key is not less than the end, if there is one
 abbrev pub is_from : Option (List ℕ) → List ℕ → Bool
 is_from None key = true
-is_from (Some from) key = not (is_lt (bytes_cmp key from))
+is_from (Some from) key = not (is_below key from)
 
--- the key is below the second
+-- the key is less than the end, if there is one
 abbrev pub is_before : Option (List ℕ) → List ℕ → Bool
 is_before None key = true
-is_before (Some to) key = is_lt (bytes_cmp key to)
+is_before (Some to) key = is_below key to
 
--- the key lies in the range
+-- the key is in the range of these ends
 abbrev pub in_range : Ends → List ℕ → Bool
-in_range range key = is_from range.0 key && is_before range.1 key
+in_range ends key = is_from ends.0 key && is_before ends.1 key
+
+-- the first end is less than the other, where both are there
+abbrev pub are_ends : Ends → Bool
+are_ends (None, to) = true
+are_ends (Some from, to) = is_before to from

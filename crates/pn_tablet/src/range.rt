@@ -1,39 +1,87 @@
 //! Ranges of keys.
 
-ghost use Rattle.std.specs.Prelude.{◌≡◌, IfOk, IfSome, option_map};
+ghost use Rattle.std.specs.Prelude.{◌≡◌, ◌↔◌, IsTrue, IsSome, IfSome, IfOk, option_map};
 ghost use Rattle.std.specs.Option.{option_copied};
-ghost use Rattle.pn_tablet.specs.Ranges.{in_range};
+ghost use Rattle.pn_tablet.specs.Ranges.{is_from, is_before, in_range, are_ends};
 
 use pn_join::{Dup, NoMemory};
 use pn_record::Key;
 use std::marker::Model;
 
-/// The keys from one, included, to another, excluded.
-#[derive(Drop)]
+/// The keys from one, which is in it, to another, which is not. Without an end it is open there; where
+/// both are there, the first is less.
+#[derive(Debug, PartialEq, Eq, Drop)]
 pub struct Range {
     from: Option<Key>,
     to: Option<Key>,
 }
 
 impl Model for Range {
-    ghost use Rattle.pn_tablet.specs.Ranges.{Ends};
+    ghost use Rattle.std.specs.Prelude.{IsTrue};
+    ghost use Rattle.pn_tablet.specs.Ranges.{Ends, are_ends};
 
     ghost Value = { Ends };
 
     ghost view = { λ range. (range.from, range.to) };
+
+    ghost invariant = { λ range. IsTrue (are_ends (range.from, range.to)) };
+
+    ghost inverse = { λ ends. record { from = ends.0; to = ends.1 } };
 }
 
 impl Range {
+    /// None where both ends are there and the first is not less. It takes no memory.
+    pub fn new(from: Option<Key>, to: Option<Key>) -> Option<Range>
+        ensures made { IfSome result (λ range. range ≡ (from, to)) }
+        ensures exactly { IsSome result ↔ IsTrue (are_ends (from, to)) }
+    {
+        if let Some(first) = &from {
+            if !is_before(to.as_ref(), first) {
+                return None;
+            }
+        }
+        Some(Range { from, to })
+    }
+
+    /// The least key in it, if it has one. It takes no memory.
     pub fn from(&self) -> Option<&Key>
-        ensures { option_copied result ≡ self.now.0 }
+        ensures from { option_copied result ≡ self.now.0 }
+        ensures order { IsTrue (are_ends self.now) }
     {
         self.from.as_ref()
     }
 
+    /// The least key past it, if it ends. It takes no memory.
     pub fn to(&self) -> Option<&Key>
-        ensures { option_copied result ≡ self.now.1 }
+        ensures to { option_copied result ≡ self.now.1 }
+        ensures order { IsTrue (are_ends self.now) }
     {
         self.to.as_ref()
+    }
+
+    /// Whether the key is in it. It takes no memory.
+    pub fn contains(&self, key: &Key) -> bool
+        ensures { result ≡ in_range self.now key.now }
+    {
+        is_from(self.from(), key) && is_before(self.to(), key)
+    }
+}
+
+fn is_from(from: Option<&Key>, key: &Key) -> bool
+    ensures { result ≡ is_from (option_copied from.entry) key.now }
+{
+    match from {
+        None => true,
+        Some(from) => key >= from,
+    }
+}
+
+fn is_before(to: Option<&Key>, key: &Key) -> bool
+    ensures { result ≡ is_before (option_copied to.entry) key.now }
+{
+    match to {
+        None => true,
+        Some(to) => key < to,
     }
 }
 
@@ -41,14 +89,18 @@ impl Dup for Range {
     fn dup(&self) -> Result<Range, NoMemory>
         ensures { IfOk result (λ copy. copy ≡ self.now) }
     {
-        let from = match &self.from {
-            Some(key) => Some(key.dup()?),
-            None => None,
-        };
-        let to = match &self.to {
-            Some(key) => Some(key.dup()?),
-            None => None,
-        };
-        Ok(Range { from, to })
+        Ok(Range {
+            from: copied(self.from())?,
+            to: copied(self.to())?,
+        })
+    }
+}
+
+fn copied(key: Option<&Key>) -> Result<Option<Key>, NoMemory>
+    ensures { IfOk result (λ copy. copy ≡ option_copied key.entry) }
+{
+    match key {
+        None => Ok(None),
+        Some(key) => Ok(Some(key.dup()?)),
     }
 }

@@ -1,14 +1,14 @@
 //! The state of a tablet, and the operations on it.
 
-ghost use Rattle.std.specs.Prelude.{◌≡◌, Ok, Err, [], IsTrue, IsOk, IfOk, IfErr, OnOk, OnErr};
+ghost use Rattle.std.specs.Prelude.{◌≡◌, Ok, IsOk, IfOk, IfErr, OnOk, OnErr};
 ghost use Rattle.pn_join.specs.Marks.{raised};
-ghost use Rattle.pn_record.specs.Cells.{spell};
-ghost use Rattle.pn_record.specs.CellMap.{table_of};
-ghost use Rattle.pn_tablet.specs.Tablets.{empty_tablet, lie_in as all_lie_in, same_range, Joins};
+ghost use Rattle.pn_tablet.specs.Tablets.{empty_tablet};
 ghost use Rattle.pn_tablet.specs.Needs.{lacking as all_lacking};
-ghost use Rattle.pn_tablet.specs.Steps.{step, taking, lost, Refuses};
+ghost use Rattle.pn_tablet.specs.Steps.{step, lost, Refuses};
 ghost use Rattle.pn_tablet.specs.Changes.{answer, changes};
 ghost use Rattle.pn_tablet.specs.declared.op.TabletOp.TheVariants.{Join, Lose, Adopt};
+
+mod parts;
 
 use crate::change::changes_of;
 use crate::inside::{are_same, lie_in};
@@ -67,36 +67,6 @@ impl TabletState {
             spare: Some(Marks::new(alloc)),
             alloc,
         }
-    }
-
-    /// The range that its keys lie in.
-    pub fn range(&self) -> &Range
-        ensures range { result.now ≡ self.now.range }
-        ensures inside { IsTrue (all_lie_in self.now.range self.now.map) }
-    {
-        &self.range
-    }
-
-    /// The cells of its records, by key.
-    pub fn cells(&self) -> &Records
-        ensures cells { result.now ≡ self.now.map }
-        ensures spelled { self.now.map ≡ table_of (spell self.now.map) }
-    {
-        &self.cells
-    }
-
-    /// How far each stream was taken into it.
-    pub fn cover(&self) -> &Marks
-        ensures { result.now ≡ self.now.cover }
-    {
-        &self.cover
-    }
-
-    /// Whether it serves.
-    pub fn status(&self) -> &Status
-        ensures { result.now ≡ self.now.status }
-    {
-        &self.status
     }
 
     /// Takes one operation.

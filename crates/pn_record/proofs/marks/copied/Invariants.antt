@@ -1,0 +1,9 @@
+-- The marks so far, and those of what is left, are the marks of all.
+use Rattle.std.proofs.Common.{◌≡◌, ◌++◌}
+use Rattle.serde_json.specs.View.{members_view}
+use Rattle.pn_record.specs.Marks.{positions_of}
+use Rattle.pn_record.proofs.marks.copied.Given as goal
+
+abbrev pub invariant-loop-name : goal.invariant-loop-name
+invariant-loop-name l =
+    l.marks ++ positions_of (members_view l.name-iterator) ≡ positions_of (members_view l.members.entries)

@@ -1,0 +1,43 @@
+//! What a tablet shows of itself.
+
+ghost use Rattle.std.specs.Prelude.{◌≡◌, IsTrue};
+ghost use Rattle.pn_record.specs.Cells.{spell};
+ghost use Rattle.pn_record.specs.CellMap.{table_of};
+ghost use Rattle.pn_tablet.specs.Tablets.{lie_in};
+
+use super::{Status, TabletState};
+use crate::Range;
+use pn_join::Marks;
+use pn_record::Records;
+
+impl TabletState {
+    /// The range that its keys lie in. It takes no memory, nor do the three below.
+    pub fn range(&self) -> &Range
+        ensures range { result.now ≡ self.now.range }
+        ensures inside { IsTrue (lie_in self.now.range self.now.map) }
+    {
+        &self.range
+    }
+
+    /// The cells of its records, by key.
+    pub fn cells(&self) -> &Records
+        ensures cells { result.now ≡ self.now.map }
+        ensures spelled { self.now.map ≡ table_of (spell self.now.map) }
+    {
+        &self.cells
+    }
+
+    /// How far each stream was taken into it.
+    pub fn cover(&self) -> &Marks
+        ensures { result.now ≡ self.now.cover }
+    {
+        &self.cover
+    }
+
+    /// Whether it serves.
+    pub fn status(&self) -> &Status
+        ensures { result.now ≡ self.now.status }
+    {
+        &self.status
+    }
+}
