@@ -1,0 +1,2 @@
+pub mod BoundSteps
+pub mod LayoutFacts
