@@ -6,3 +6,5 @@ pub mod Keeping
 pub mod Recovery
 pub mod Stepping
 pub mod TabletLaws
+pub mod BoundSteps
+pub mod LayoutFacts

@@ -1,4 +1,4 @@
-//! Tablets: ranges of keys, the state of one range of records, and what operations make of it.
+//! Tablets: layouts of all keys into ranges, the state of one range of records, and what operations make of it.
 #![tactic(auto)]
 
 mod change;
@@ -6,6 +6,7 @@ mod copy;
 mod fault;
 mod inside;
 pub mod laws;
+mod layout;
 mod needs;
 mod op;
 mod range;
@@ -16,6 +17,7 @@ mod tests;
 pub use change::Change;
 pub use copy::TabletCopy;
 pub use fault::{CopyFault, OpFault};
+pub use layout::{Layout, LayoutFault};
 pub use op::TabletOp;
 pub use range::Range;
 pub use state::{Status, TabletState};

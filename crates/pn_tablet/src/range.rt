@@ -1,7 +1,12 @@
 //! Ranges of keys.
 
-ghost use Rattle.std.specs.Prelude.{◌≡◌, ◌↔◌, IsTrue, IsSome, IfSome, IfOk, option_map};
-ghost use Rattle.std.specs.Option.{option_copied};
+ghost use Rattle.std.specs.Prelude.{◌≡◌, ◌&&◌, ◌↔◌, IsTrue, IsSome, IfSome, IfOk, option_map};
+ghost use Rattle.std.specs.Option.{option_copied, option_eq};
+ghost use Rattle.std.specs.Str.{bytes_eq};
+ghost use Rattle.std.specs.Ordering.{eq_of_both, on};
+ghost use Rattle.std.specs.Cmp.{partial_equiv_from_equiv};
+ghost use Rattle.std.specs.Cmp.Rules.{comparing};
+ghost use Rattle.std.proofs.Common.{rules};
 ghost use Rattle.pn_tablet.specs.Ranges.{is_from, is_before, in_range, are_ends};
 
 use pn_join::{Dup, NoMemory};
@@ -10,7 +15,7 @@ use std::marker::Model;
 
 /// The keys from one, which is in it, to another, which is not. Without an end it is open there; where
 /// both are there, the first is less.
-#[derive(Debug, PartialEq, Eq, Drop)]
+#[derive(Debug, Drop)]
 pub struct Range {
     from: Option<Key>,
     to: Option<Key>,
@@ -25,8 +30,6 @@ impl Model for Range {
     ghost view = { λ range. (range.from, range.to) };
 
     ghost invariant = { λ range. IsTrue (are_ends (range.from, range.to)) };
-
-    ghost inverse = { λ ends. record { from = ends.0; to = ends.1 } };
 }
 
 impl Range {
@@ -85,6 +88,24 @@ fn is_before(to: Option<&Key>, key: &Key) -> bool
     }
 }
 
+impl PartialEq for Range {
+    ghost eq = { eq_of_both (on (λ ends. ends.0) (option_eq bytes_eq)) (on (λ ends. ends.1) (option_eq bytes_eq)) };
+
+    ghost laws = { partial_equiv_from_equiv (Prim.search (comparing, rules)) };
+
+    /// Whether both have the same ends. It takes no memory.
+    fn eq(&self, other: &Range) -> bool
+        ensures compared { result ≡ (option_eq bytes_eq self.now.0 other.now.0 && option_eq bytes_eq self.now.1 other.now.1) }
+        ensures same { IsTrue result ↔ (self.now ≡ other.now) }
+    {
+        self.from == other.from && self.to == other.to
+    }
+}
+
+impl Eq for Range {
+    ghost laws = { Prim.search (comparing, rules) };
+}
+
 impl Dup for Range {
     fn dup(&self) -> Result<Range, NoMemory>
         ensures { IfOk result (λ copy. copy ≡ self.now) }
@@ -102,5 +123,51 @@ fn copied(key: Option<&Key>) -> Result<Option<Key>, NoMemory>
     match key {
         None => Ok(None),
         Some(key) => Ok(Some(key.dup()?)),
+    }
+}
+
+#[cfg(test)]
+mod tests {
+    use super::*;
+    use std::alloc::Global;
+    use std::test::Fail;
+
+    fn key(alloc: Global, text: &str) -> Result<Key, Fail> {
+        Ok(Key::of(alloc, text)?)
+    }
+
+    #[test]
+    fn ends_are_in_order(rt: HostRuntime) -> Result<(), Fail> {
+        let alloc = rt.alloc();
+        assert!(rt; Range::new(Some(key(alloc, "m")?), Some(key(alloc, "m")?)).is_none());
+        assert!(rt; Range::new(Some(key(alloc, "n")?), Some(key(alloc, "m")?)).is_none());
+        assert!(rt; Range::new(Some(key(alloc, "b")?), Some(key(alloc, "aa")?)).is_none());
+        assert!(rt; Range::new(Some(key(alloc, "m")?), None).is_some());
+        assert!(rt; Range::new(None, None).is_some());
+        Ok(())
+    }
+
+    #[test]
+    fn the_first_end_is_in_and_the_other_is_not(rt: HostRuntime) -> Result<(), Fail> {
+        let alloc = rt.alloc();
+        let range = Range::new(Some(key(alloc, "l")?), Some(key(alloc, "n")?));
+        let range = range.expect(&rt, "ends in order").dup()?;
+        assert!(rt; range.contains(&key(alloc, "l")?));
+        assert!(rt; range.contains(&key(alloc, "m")?));
+        assert!(rt; !range.contains(&key(alloc, "n")?));
+        assert!(rt; !range.contains(&key(alloc, "k")?));
+        assert_eq!(rt; range.from(), Some(&key(alloc, "l")?));
+        assert_eq!(rt; range.to(), Some(&key(alloc, "n")?));
+        Ok(())
+    }
+
+    #[test]
+    fn ranges_are_compared_by_both_ends(rt: HostRuntime) -> Result<(), Fail> {
+        let alloc = rt.alloc();
+        let range = Range::new(None, Some(key(alloc, "n")?)).expect(&rt, "a range");
+        assert!(rt; range == range.dup()?);
+        assert!(rt; Some(range.dup()?) != Range::new(None, None));
+        assert!(rt; Some(range) != Range::new(Some(key(alloc, "a")?), Some(key(alloc, "n")?)));
+        Ok(())
     }
 }

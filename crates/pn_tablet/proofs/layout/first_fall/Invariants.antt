@@ -1,0 +1,8 @@
+-- The first fall of all is the first that is left.
+use Rattle.std.proofs.Common.{◌≡◌, ◌-◌}
+use Rattle.pn_tablet.specs.Layouts.{first_fall}
+use Rattle.pn_tablet.proofs.BoundSteps.{fall_from}
+use Rattle.pn_tablet.proofs.layout.first_fall.Given as goal
+
+abbrev pub invariant-loop-place : goal.invariant-loop-place
+invariant-loop-place l = first_fall l.bounds ≡ fall_from (l.place - 1) l.bounds
