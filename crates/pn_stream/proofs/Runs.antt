@@ -1,8 +1,8 @@
 -- How runs of messages grow, one line after another.
-use Rattle.std.proofs.Common.{◌≡◌, ℕ, ◌+◌, ◌<◌, List, [], ◌∷◌, ◌++◌, length, Option, None, Some, Result, Ok, Err, IfErr, IsErrAnd, IfSome, inl, inr, refl, sym, ap, ◌∙◌, subst, arith, append_assoc}
+use Rattle.std.proofs.Common.{◌≡◌, ℕ, ◌+◌, ◌<◌, ◌≤◌, List, [], ◌∷◌, ◌++◌, length, Option, None, Some, Result, Ok, Err, IfErr, IsErrAnd, IfSome, inl, inr, refl, sym, ap, ◌∙◌, subst, arith, append_assoc}
 use Rattle.pn_line.specs.Reads.{IsUnbroken}
 use Rattle.pn_line.specs.Text.{text_of}
-use Rattle.pn_line.proofs.TextLaws.{text_of-nil, text_of-push}
+use Rattle.pn_line.proofs.TextLaws.{text_of-nil, text_of-append, text_of-push}
 use Rattle.pn_record.specs.declared.image.Image.{Image}
 use Rattle.pn_stream.specs.MessageLines.{IsMessageLine}
 use Rattle.pn_stream.specs.Streams.{InStep, Run, FirstLine, NoLine, IsLeft}
@@ -34,6 +34,24 @@ Run-push position text images rest line more image wanted is run first said = re
       ∙ ap (λ t. t ++ more) (sym (text_of-push run.lines line));
 }
 
+InStep-append : (position next : ℕ) (lines others : List (List ℕ)) (one other : List Image) → next ≡ position + length one → InStep position lines one → InStep next others other → InStep position (lines ++ others) (one ++ other)
+InStep-append position next [] others [] other is first second =
+    let here : next ≡ position = omega (arith, is) in subst (λ (n : ℕ). InStep n others other) here second
+InStep-append position next [] others (image ∷ one) other is first second = absurd first
+InStep-append position next (line ∷ lines) others [] other is first second = absurd first
+InStep-append position next (line ∷ lines) others (image ∷ one) other is first second =
+    (first.0, first.1, InStep-append (position + 1) next lines others one other (omega (arith, is)) first.2 second)
+
+-- a run and then another are a run
+pub Run-append : (position : ℕ) (text rest more : List ℕ) (one other : List Image) → Run position text one rest → Run (position + length one) rest other more → Run position text (one ++ other) more
+Run-append position text rest more one other first second = record {
+  lines = first.lines ++ second.lines;
+  in_step = InStep-append position (position + length one) first.lines second.lines one other refl first.in_step second.in_step;
+  text_is = first.text_is ∙ ap (λ t. text_of first.lines ++ t) second.text_is
+      ∙ sym (append_assoc (text_of first.lines) (text_of second.lines) more)
+      ∙ ap (λ t. t ++ more) (sym (text_of-append first.lines second.lines));
+}
+
 -- before the first line
 Run-none : (position : ℕ) (text : List ℕ) → Run position text [] text
 Run-none position text = record { lines = []; in_step = tt; text_is = ap (λ t. t ++ text) (sym text_of-nil) }
@@ -59,19 +77,19 @@ SoFar-push position wanted front part now images image (Some text) left leaves i
     record { rest = more; run = Run-push position (front ++ text) images so.rest line more image wanted is so.run at said; is_left = is_left }
 
 -- no whole line is left
-pub Batch-end : (max position wanted : ℕ) (front part now : List ℕ) (images : List Image) (first left leaves : Option (List ℕ))
+pub Batch-end : (max position wanted : ℕ) (front part now : List ℕ) (images : List Image) (first left leaves : Option (List ℕ)) → length images ≤ max
     → IfSome first (λ text. SoFar position (front ++ text) images part left) → IfSome left (λ text. IsNext wanted (part ++ text) None now leaves)
     → IfSome first (λ text. Batch max position (front ++ text) images None now leaves)
-Batch-end max position wanted front part now images None left leaves so next = tt
-Batch-end max position wanted front part now images (Some text) left leaves so next =
+Batch-end max position wanted front part now images None left leaves within so next = tt
+Batch-end max position wanted front part now images (Some text) left leaves within so next =
     let (none, is_left) = on_rest so.rest part left (λ (t : List ℕ). NoLine t × IsLeft t now leaves) so.is_left next in
-    record { rest = so.rest; run = so.run; ends = (inr none, is_left) }
+    record { rest = so.rest; within = within; run = so.run; ends = (inr none, is_left) }
 
 -- the batch is full
 pub Batch-full : (max position : ℕ) (front part : List ℕ) (images : List Image) (first left : Option (List ℕ)) → length images ≡ max
     → IfSome first (λ text. SoFar position (front ++ text) images part left) → IfSome first (λ text. Batch max position (front ++ text) images None part left)
 Batch-full max position front part images None left full so = tt
-Batch-full max position front part images (Some text) left full so = record { rest = so.rest; run = so.run; ends = (inl full, so.is_left) }
+Batch-full max position front part images (Some text) left full so = record { rest = so.rest; within = omega (arith, full); run = so.run; ends = (inl full, so.is_left) }
 
 -- a fault stands next
 pub Batch-fault : (max position wanted : ℕ) (front part now : List ℕ) (images : List Image) (fault : StreamFault) (first left leaves : Option (List ℕ)) → wanted ≡ position + length images + 1 → length images < max
@@ -80,14 +98,14 @@ pub Batch-fault : (max position wanted : ℕ) (front part now : List ℕ) (image
 Batch-fault max position wanted front part now images fault None left leaves is few so stands = tt
 Batch-fault max position wanted front part now images fault (Some text) left leaves is few so stands =
     let at : Stands wanted so.rest fault = on_rest so.rest part left (λ (t : List ℕ). Stands wanted t fault) so.is_left stands in
-    record { rest = so.rest; run = so.run; ends = (few, subst (λ (n : ℕ). Stands n so.rest fault) is at) }
+    record { rest = so.rest; within = omega (arith, few); run = so.run; ends = (few, subst (λ (n : ℕ). Stands n so.rest fault) is at) }
 
 -- memory ran out
 pub Batch-memory : (max position : ℕ) (front part now : List ℕ) (images : List Image) (first left leaves : Option (List ℕ)) → length images < max
     → IfSome first (λ text. SoFar position (front ++ text) images part left)
     → IfSome first (λ text. Batch max position (front ++ text) images (Some Memory) now leaves)
 Batch-memory max position front part now images None left leaves few so = tt
-Batch-memory max position front part now images (Some text) left leaves few so = record { rest = so.rest; run = so.run; ends = (few, tt) }
+Batch-memory max position front part now images (Some text) left leaves few so = record { rest = so.rest; within = omega (arith, few); run = so.run; ends = (few, tt) }
 
 in_step_none : (position : ℕ) (lines : List (List ℕ)) (images : List Image) → length images ≡ 0 → InStep position lines images → text_of lines ≡ []
 in_step_none position [] [] none run = text_of-nil

@@ -1,5 +1,5 @@
 -- What a call for the next messages of a stream gives.
-use Rattle.std.specs.Prelude.{◌≡◌, ℕ, ◌+◌, ◌<◌, List, [], length, Option, Some, None, ◌⊎◌}
+use Rattle.std.specs.Prelude.{◌≡◌, ℕ, ◌+◌, ◌<◌, ◌≤◌, List, [], length, Option, Some, None, ◌⊎◌}
 use Rattle.pn_line.specs.Line.{LineSoFar, so_far}
 use Rattle.pn_record.specs.declared.image.Image.{Image}
 use Rattle.pn_stream.specs.MessageLines.{IsMessageLine}
@@ -29,6 +29,7 @@ Ends max count position text (Some fault) part left = (count < max) × Stands (p
 -- these images are the longest run, at most `max`, of messages in step from the front of the text
 pub record Batch (max position : ℕ) (text : List ℕ) (images : List Image) (fault : Option StreamFault) (part : List ℕ) (left : Option (List ℕ)) : Type 0 where
   pub rest : List ℕ
+  pub within : length images ≤ max
   pub run : Run position text images rest
   pub ends : Ends max (length images) position rest fault part left
 

@@ -1,5 +1,5 @@
 -- The faults of a stream, and where each stands.
-use Rattle.std.specs.Prelude.{◌≡◌, ◌≢◌, ℕ, ◌<◌, ◌≤◌, List, ◌++◌, length, Err}
+use Rattle.std.specs.Prelude.{Option, Some, None, ◌≡◌, ◌≢◌, ℕ, ◌<◌, ◌≤◌, List, ◌++◌, length, Err}
 use Rattle.pn_line.specs.Reads.{IsUnbroken}
 use Rattle.pn_record.specs.declared.image.Image.{Image}
 use Rattle.pn_stream.specs.Messages.{message_at}
@@ -42,3 +42,13 @@ Stands wanted text LineTooLong = LongLine text
 Stands wanted text Read = Unit {0}
 Stands wanted text Memory = Unit {0}
 Stands wanted text Failed = ⊥
+
+-- the text alone tells that this fault comes next, or that none does
+abbrev pub IsOfText : Option StreamFault → Type 0
+IsOfText None = Unit {0}
+IsOfText (Some Read) = ⊥
+IsOfText (Some Memory) = ⊥
+IsOfText (Some LineTooLong) = Unit {0}
+IsOfText (Some (BadMessage at fault)) = Unit {0}
+IsOfText (Some (OutOfStep named got)) = Unit {0}
+IsOfText (Some Failed) = Unit {0}

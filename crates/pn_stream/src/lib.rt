@@ -3,6 +3,7 @@
 
 mod delivery;
 mod fault;
+pub mod laws;
 mod message;
 mod next;
 mod reader;

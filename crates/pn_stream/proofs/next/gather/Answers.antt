@@ -43,7 +43,7 @@ returns-in_err-push-in-Some-clause-err g c =
 
 pub returns-in-None-clause-ok : goal.returns-in-None-clause-ok
 returns-in-None-clause-ok g c =
-    Batch-end _ _ c.args.position _ _ _ _ _ _ _ c.images.invariant.so_far (rw c.in-None.is at c.in_ok-image.ensures.next)
+    Batch-end _ _ c.args.position _ _ _ _ _ _ _ c.images.invariant.within c.images.invariant.so_far (rw c.in-None.is at c.in_ok-image.ensures.next)
 
 pub returns-clause-ok : goal.returns-clause-ok
 returns-clause-ok g c =
