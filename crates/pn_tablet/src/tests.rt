@@ -1,6 +1,6 @@
 //! Tablets through losses and adoptions, at values worked out by hand.
 
-use crate::{Change, CopyFault, OpFault, Range, Status, TabletOp, TabletState};
+use crate::{Change, CopyFault, OpFault, Range, Status, TabletCopy, TabletOp, TabletState};
 use pn_join::{Dup, Highest, Marks, Name};
 use pn_record::{Body, Cell, Key, KeyFault, Records, Value, read_image, take_image};
 use std::alloc::Global;
@@ -111,22 +111,66 @@ const FIVE: &[Row] = &[
     ("e", 0, "x"),
 ];
 
+/// What a tablet holds that took all seven.
+const SIX: &[Row] = &[
+    ("a", 1, "y"),
+    ("b", 0, "x"),
+    ("c", 0, "x"),
+    ("d", 0, "x"),
+    ("e", 0, "x"),
+    ("f", 0, "x"),
+];
+
+// A tablet that took five messages, was lost, and took the sixth and the seventh since.
+fn recovering(alloc: Global) -> Result<TabletState, Fail> {
+    let mut state = tablet(alloc, None)?;
+    state.apply(&join(alloc, FIVE, 5)?)?;
+    state.apply(&TabletOp::Lose)?;
+    state.apply(&join(alloc, &[("a", 1, "y"), ("f", 0, "x")], 7)?)?;
+    Ok(state)
+}
+
+fn is_short(stream: &Name, has: u64, wanted: u64) -> bool {
+    stream.as_str() == "east" && has == 4 && wanted == 5
+}
+
+fn is_behind(answer: &Result<TabletCopy, CopyFault>) -> bool {
+    match answer {
+        Err(
+            CopyFault::Behind {
+                stream,
+                has,
+                wanted,
+            },
+        ) => is_short(stream, *has, *wanted),
+        _ => false,
+    }
+}
+
+fn is_too_old(answer: &Result<Vec<Change>, OpFault>) -> bool {
+    match answer {
+        Err(OpFault::TooOld { stream, has, needs }) => is_short(stream, *has, *needs),
+        _ => false,
+    }
+}
+
+#[test]
+fn a_join_tells_what_changed(rt: HostRuntime) -> Result<(), Fail> {
+    let mut state = tablet(rt.alloc(), None)?;
+    let changes = state.apply(&join(rt.alloc(), &FIVE[..2], 2)?)?;
+    assert!(rt; are(&changes, &[("a", None, 0), ("b", None, 0)]));
+    let changes = state.apply(&join(rt.alloc(), &[("a", 1, "y"), ("b", 0, "x")], 3)?)?;
+    assert!(rt; are(&changes, &[("a", Some(0), 1)]));
+    assert_eq!(rt; state.apply(&TabletOp::Lose)?.len(), 0);
+    assert!(rt; needs(&state, 3) && stands_at(state.cover(), 3) && has(state.cells(), &[]));
+    let changes = state.apply(&join(rt.alloc(), &[("a", 0, "x")], 1)?)?;
+    assert!(rt; are(&changes, &[("a", None, 0)]));
+    Ok(())
+}
+
 #[test]
 fn recovery_keeps_arrivals(rt: HostRuntime) -> Result<(), Fail> {
-    let mut state = tablet(rt.alloc(), None)?;
-    let changes = state.apply(&join(rt.alloc(), FIVE, 5)?)?;
-    let all = [
-        ("a", None, 0),
-        ("b", None, 0),
-        ("c", None, 0),
-        ("d", None, 0),
-        ("e", None, 0),
-    ];
-    assert!(rt; are(&changes, &all));
-    assert_eq!(rt; state.apply(&TabletOp::Lose)?.len(), 0);
-    assert!(rt; needs(&state, 5) && stands_at(state.cover(), 5) && has(state.cells(), &[]));
-    let changes = state.apply(&join(rt.alloc(), &[("a", 1, "y"), ("f", 0, "x")], 7)?)?;
-    assert!(rt; are(&changes, &[("a", None, 1), ("f", None, 0)]));
+    let mut state = recovering(rt.alloc())?;
     assert!(rt; needs(&state, 5) && stands_at(state.cover(), 7));
     assert!(rt;
         matches!(
@@ -136,54 +180,22 @@ fn recovery_keeps_arrivals(rt: HostRuntime) -> Result<(), Fail> {
     );
     let mut other = tablet(rt.alloc(), None)?;
     other.apply(&join(rt.alloc(), FIVE, 5)?)?;
-    let changes = other.apply(&join(rt.alloc(), &[("a", 1, "y")], 6)?)?;
-    assert!(rt; are(&changes, &[("a", Some(0), 1)]));
+    other.apply(&join(rt.alloc(), &[("a", 1, "y")], 6)?)?;
     let copy = other.copy(&marks(rt.alloc(), 5)?)?;
     assert!(rt; stands_at(&copy.marks, 6));
     assert_eq!(rt; state.apply(&TabletOp::Adopt(copy))?.len(), 0);
-    let rows = [
-        ("a", 1, "y"),
-        ("b", 0, "x"),
-        ("c", 0, "x"),
-        ("d", 0, "x"),
-        ("e", 0, "x"),
-        ("f", 0, "x"),
-    ];
-    assert!(rt; serves(&state) && stands_at(state.cover(), 7) && has(state.cells(), &rows));
+    assert!(rt; serves(&state) && stands_at(state.cover(), 7) && has(state.cells(), SIX));
     Ok(())
 }
 
 #[test]
 fn copy_too_old(rt: HostRuntime) -> Result<(), Fail> {
-    let mut state = tablet(rt.alloc(), None)?;
-    state.apply(&join(rt.alloc(), FIVE, 5)?)?;
-    state.apply(&TabletOp::Lose)?;
-    state.apply(&join(rt.alloc(), &[("a", 1, "y"), ("f", 0, "x")], 7)?)?;
+    let mut state = recovering(rt.alloc())?;
     let mut other = tablet(rt.alloc(), None)?;
     other.apply(&join(rt.alloc(), &FIVE[..4], 4)?)?;
-    match other.copy(&marks(rt.alloc(), 5)?) {
-        Err(
-            CopyFault::Behind {
-                stream,
-                has,
-                wanted,
-            },
-        ) => {
-            assert_eq!(rt; stream.as_str(), "east");
-            assert_eq!(rt; has, 4);
-            assert_eq!(rt; wanted, 5);
-        }
-        _ => assert!(rt; false),
-    }
+    assert!(rt; is_behind(&other.copy(&marks(rt.alloc(), 5)?)));
     let copy = other.copy(&Marks::new(rt.alloc()))?;
-    match state.apply(&TabletOp::Adopt(copy)) {
-        Err(OpFault::TooOld { stream, has, needs }) => {
-            assert_eq!(rt; stream.as_str(), "east");
-            assert_eq!(rt; has, 4);
-            assert_eq!(rt; needs, 5);
-        }
-        _ => assert!(rt; false),
-    }
+    assert!(rt; is_too_old(&state.apply(&TabletOp::Adopt(copy))));
     assert!(rt; needs(&state, 5) && stands_at(state.cover(), 7));
     assert!(rt; has(state.cells(), &[("a", 1, "y"), ("f", 0, "x")]));
     Ok(())
@@ -191,17 +203,15 @@ fn copy_too_old(rt: HostRuntime) -> Result<(), Fail> {
 
 #[test]
 fn a_second_loss_needs_what_came_since(rt: HostRuntime) -> Result<(), Fail> {
-    let mut state = tablet(rt.alloc(), None)?;
-    state.apply(&join(rt.alloc(), FIVE, 5)?)?;
-    state.apply(&TabletOp::Lose)?;
-    state.apply(&TabletOp::Lose)?;
-    assert!(rt; needs(&state, 5));
-    state.apply(&join(rt.alloc(), &[("f", 0, "x")], 6)?)?;
+    let mut state = recovering(rt.alloc())?;
     let mut copy = state.dup()?;
     assert!(rt; needs(&copy, 5));
     copy.apply(&TabletOp::Lose)?;
-    assert!(rt; needs(&copy, 6) && has(copy.cells(), &[]));
-    assert!(rt; needs(&state, 5) && has(state.cells(), &[("f", 0, "x")]));
+    assert!(rt; needs(&copy, 7) && has(copy.cells(), &[]));
+    copy.apply(&TabletOp::Lose)?;
+    assert!(rt; needs(&copy, 7) && needs(&state, 5));
+    state.apply(&TabletOp::Lose)?;
+    assert!(rt; needs(&state, 7));
     Ok(())
 }
 
