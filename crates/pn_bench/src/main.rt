@@ -1,14 +1,15 @@
-//! What the benches count the steps of: lines read as JSON alone or as images, and rows written by a scan
-//! or as JSON alone.
+//! What the benches count the steps of: lines read as JSON alone, as images or as the messages of a stream,
+//! and rows written by a scan or as JSON alone.
 //!
 //! Its words are a way and how often rows are written. It prints how many lines were read well, and how
 //! many bytes were written.
 #![tactic(auto)]
 
-use pn_join::NoMemory;
+use pn_join::{Name, NoMemory};
 use pn_line::{LineBuffer, LineEnd, Source, read_line};
 use pn_record::{Records, read_image, take_image};
 use pn_serve::scan_reply;
+use pn_stream::StreamReader;
 use serde_json::Value;
 use std::alloc::Global;
 use std::io::BufReader;
@@ -16,6 +17,9 @@ use std::{env, io};
 
 /// How many bytes of input are read at a time.
 const INPUT_ROOM: usize = 65_536;
+
+/// How many messages of a stream are read at a time.
+const MOST_MESSAGES: usize = 1_000;
 
 /// What is done with the lines.
 #[derive(Clone, Copy)]
@@ -26,6 +30,8 @@ enum Way {
     Values,
     /// Each is read as an image.
     Images,
+    /// Each is read as the next message of a stream.
+    Messages,
     /// Each is an image that is taken, and then all records are scanned.
     Scans,
     /// The same, and then what a scan shows is written as JSON.
@@ -38,6 +44,7 @@ impl Way {
             "lines" => Some(Way::Lines),
             "values" => Some(Way::Values),
             "images" => Some(Way::Images),
+            "messages" => Some(Way::Messages),
             "scans" => Some(Way::Scans),
             "writes" => Some(Way::Writes),
             _ => None,
@@ -54,7 +61,10 @@ fn main(rt: HostRuntime) -> io::Result<()> {
     let way = way.unwrap_or(Way::Lines);
     let mut input = BufReader::with_capacity(rt.alloc(), INPUT_ROOM, rt.reader())?;
     let mut records = Records::new(rt.alloc());
-    let lines = take_lines(rt.alloc(), way, &mut records, &mut input)?;
+    let lines = match way {
+        Way::Messages => take_messages(rt.alloc(), input),
+        _ => take_lines(rt.alloc(), way, &mut records, &mut input)?,
+    };
     let bytes = write_rows(rt.alloc(), way, &records, times.unwrap_or(0)).unwrap_or(0);
     println!(rt; "{lines} lines, {bytes} bytes")
 }
@@ -80,9 +90,24 @@ fn take_lines<S: Source>(
     Ok(count)
 }
 
+// How many messages of a stream were read.
+fn take_messages<S: Source + Drop>(alloc: Global, input: S) -> u64 {
+    let Ok(name) = Name::read(b"east") else {
+        return 0;
+    };
+    let mut reader = StreamReader::new(alloc, name, 0, input);
+    for _ in 0..u64::MAX {
+        match reader.next_batch(MOST_MESSAGES) {
+            Ok(batch) if !batch.images().is_empty() => {}
+            _ => break,
+        }
+    }
+    reader.position()
+}
+
 fn is_taken(alloc: Global, way: Way, records: &mut Records, line: &[u8]) -> bool {
     match way {
-        Way::Lines => true,
+        Way::Lines | Way::Messages => true,
         Way::Values => Value::from_slice(alloc, line).is_ok(),
         Way::Images => read_image(alloc, line).is_ok(),
         Way::Scans | Way::Writes => match read_image(alloc, line) {
@@ -97,7 +122,7 @@ fn write_rows(alloc: Global, way: Way, records: &Records, times: u32) -> Result<
     match way {
         Way::Scans => write_scans(alloc, records, times),
         Way::Writes => write_values(alloc, records, times),
-        Way::Lines | Way::Values | Way::Images => Ok(0),
+        Way::Lines | Way::Values | Way::Images | Way::Messages => Ok(0),
     }
 }
 
