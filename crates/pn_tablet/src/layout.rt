@@ -125,10 +125,11 @@ mod tests {
     }
 
     // So many bounds, which rise.
-    fn bounds(alloc: Global, count: u32) -> Result<Vec<Key>, Fail> {
+    fn bounds(alloc: Global, count: u8) -> Result<Vec<Key>, Fail> {
         let mut bounds = Vec::new(alloc);
-        for i in 100..100 + count {
-            bounds.push(Key::of(alloc, format!(in alloc; "{i}")?.as_str())?)?;
+        for i in 0..count {
+            let text = format!(in alloc; "{}", 100 + u32::from(i))?;
+            bounds.push(Key::of(alloc, text.as_str())?)?;
         }
         Ok(bounds)
     }
