@@ -9,7 +9,7 @@ use Rattle.pn_record.specs.Sets.{Celled, Stamp, cell_joined}
 use Rattle.pn_record.specs.CellMap.{Entries}
 use Rattle.pn_record.specs.SameCells.{same_at}
 use Rattle.pn_record.proofs.Differing.{IsAt, each_at, units, differs, same_chosen}
-use Rattle.pn_tablet.specs.Tablets.{Joins}
+use Rattle.pn_tablet.proofs.Joined.{Joins}
 use Rattle.pn_tablet.specs.Changes.{version_at, change_of, change_by, changes}
 use Rattle.pn_tablet.specs.declared.change.Change.{Change}
 

@@ -15,7 +15,8 @@ use Rattle.pn_record.proofs.HeldRecords.{tied_keys}
 use Rattle.pn_record.proofs.CellMaps.{spelled_table, table_of-nil}
 use Rattle.pn_record.proofs.Differing.{IsAt, each_at}
 use Rattle.pn_tablet.specs.Ranges.{Ends, in_range}
-use Rattle.pn_tablet.specs.Tablets.{lie_in, HasNeed, IsTablet, Joins}
+use Rattle.pn_tablet.specs.Tablets.{lie_in, HasNeed, IsTablet}
+use Rattle.pn_tablet.proofs.Joined.{Joins}
 use Rattle.pn_tablet.specs.declared.state.Status.{Status}
 use Rattle.pn_tablet.specs.declared.state.Status.TheVariants.{Recovering}
 

@@ -1,10 +1,11 @@
+pub mod BoundSteps
 pub mod Changed
 pub mod Counts
 pub mod Insides
 pub mod JoinLaws
+pub mod Joined
 pub mod Keeping
+pub mod LayoutFacts
 pub mod Recovery
 pub mod Stepping
 pub mod TabletLaws
-pub mod BoundSteps
-pub mod LayoutFacts

@@ -3,10 +3,6 @@ use Rattle.std.specs.Prelude.{ℕ, Bool, ◌&&◌, ◌≡◌, IsTrue, List, [], 
 use Rattle.std.specs.Option.{option_eq}
 use Rattle.std.specs.Str.{bytes_eq}
 use Rattle.std.specs.List.{list_all}
-use Rattle.std.specs.FinMap.{find, is_sorted}
-use Rattle.pn_join.specs.Tables.{optional_joined}
-use Rattle.pn_record.specs.Order.{bytes_cmp}
-use Rattle.pn_record.specs.Sets.{cell_joined}
 use Rattle.pn_join.specs.Marks.{Positions}
 use Rattle.pn_record.specs.Cells.{spell}
 use Rattle.pn_record.specs.CellMap.{Entries, table_of}
@@ -43,9 +39,3 @@ pub record IsTablet (range : Ends) (map : Entries) (cover : Positions) (status :
   pub inside : IsTrue (lie_in range map)
   pub spelled : map ≡ table_of (spell map)
   pub has_need : HasNeed spare cover status
-
--- two maps in key order, and their join key by key
-pub record Joins (old more new : Entries) : Type 0 where
-  pub rises : IsTrue (is_sorted bytes_cmp more)
-  pub rising : IsTrue (is_sorted bytes_cmp new)
-  pub joined : (key : List ℕ) → find bytes_cmp key new ≡ optional_joined cell_joined (find bytes_cmp key old) (find bytes_cmp key more)

@@ -1,6 +1,6 @@
-//! The laws of tablets and of layouts, as contracts. A call does nothing.
+//! The laws of tablets, as contracts. A call does nothing.
 
-ghost use Rattle.std.specs.Prelude.{◌≡◌, ℕ, ◌≤◌, List, length, IsTrue, Ok, fold};
+ghost use Rattle.std.specs.Prelude.{◌≡◌, ℕ, List, Ok, fold};
 ghost use Rattle.std.specs.FinMap.{find};
 ghost use Rattle.pn_join.specs.Marks.{Positions, Reaches};
 ghost use Rattle.pn_record.specs.declared.image.Image.{Image};
@@ -8,10 +8,8 @@ ghost use Rattle.pn_record.specs.Order.{bytes_cmp};
 ghost use Rattle.pn_record.specs.CellMap.{Entries, table_of};
 ghost use Rattle.pn_record.specs.Older.{NotOlder};
 ghost use Rattle.pn_tablet.specs.Copies.{Copied};
-ghost use Rattle.pn_tablet.specs.Layouts.{Bounds, IsLayout, tablet_of, tablet_ends};
 ghost use Rattle.pn_tablet.specs.Laws.{IsSpelled, Rise, AreJoins, Grows};
-ghost use Rattle.pn_tablet.specs.Ranges.{in_range};
-ghost use Rattle.pn_tablet.specs.Steps.{step, stepped, lost};
+ghost use Rattle.pn_tablet.specs.Steps.{step, stepped};
 ghost use Rattle.pn_tablet.specs.Tablets.{Tablet};
 ghost use Rattle.pn_tablet.specs.declared.op.TabletOp.{TabletOp};
 ghost use Rattle.pn_tablet.specs.declared.op.TabletOp.TheVariants.{Join, Lose, Adopt};
@@ -55,12 +53,4 @@ pub fn an_adoption_brings_back_what_was_lost()
         → tablet.map ≡ table_of (upto tablet.cover) → copy.map ≡ table_of (upto copy.marks)
         → step (fold stepped (stepped tablet Lose) joins) (Adopt copy) ≡ Ok after
         → (key : List ℕ) → NotOlder (find bytes_cmp key tablet.map) (find bytes_cmp key after.map) }
-{}
-
-/// Each key is in the range of exactly the tablet that `tablet_of` names.
-pub fn each_key_is_in_one_tablet()
-    ensures there { (bounds : Bounds) (key : List ℕ) → IsLayout bounds → IsTrue (in_range (tablet_ends bounds (tablet_of bounds key)) key) }
-    ensures within { (bounds : Bounds) (key : List ℕ) → tablet_of bounds key ≤ length bounds }
-    ensures nowhere_else { (bounds : Bounds) (key : List ℕ) (tablet : ℕ) → IsLayout bounds → tablet ≤ length bounds
-        → IsTrue (in_range (tablet_ends bounds tablet) key) → tablet ≡ tablet_of bounds key }
 {}

@@ -1,4 +1,5 @@
-//! Tablets: layouts of all keys into ranges, the state of one range of records, and what operations make of it.
+//! Tablets: ranges of keys and the layouts that divide all keys into them, the state of one tablet, and what operations
+//! make of it.
 #![tactic(auto)]
 
 mod change;
@@ -7,6 +8,7 @@ mod fault;
 mod inside;
 pub mod laws;
 mod layout;
+pub mod layout_laws;
 mod needs;
 mod op;
 mod range;

@@ -2,20 +2,50 @@
 
 use crate::{Change, CopyFault, OpFault, Range, Status, TabletCopy, TabletOp, TabletState};
 use pn_join::{Dup, Highest, Marks, Name};
-use pn_record::{Body, Cell, Key, KeyFault, Records, Value, read_image, take_image};
+use pn_record::{Body, Cell, Image, Key, KeyFault, Records, Value, read_image, take_image};
 use std::alloc::Global;
 use std::test::Fail;
 
 /// A key, the number of its version in generation 1, and the text of its one field.
 type Row = (&'static str, u64, &'static str);
 
+/// A key that changed, and the numbers of its versions before and after.
+type Told = (&'static str, Option<u64>, u64);
+
+/// The first five messages of the stream.
+const FIVE: &[Row] = &[
+    ("a", 0, "x"),
+    ("b", 0, "x"),
+    ("c", 0, "x"),
+    ("d", 0, "x"),
+    ("e", 0, "x"),
+];
+
+/// The sixth and the seventh.
+const ARRIVALS: &[Row] = &[("a", 1, "y"), ("f", 0, "x")];
+
+/// What a tablet holds that took all seven.
+const ALL: &[Row] = &[
+    ("a", 1, "y"),
+    ("b", 0, "x"),
+    ("c", 0, "x"),
+    ("d", 0, "x"),
+    ("e", 0, "x"),
+    ("f", 0, "x"),
+];
+
+fn image(alloc: Global, row: Row) -> Result<Image, Fail> {
+    let (key, number, text) = row;
+    let line = format!(in alloc;
+        "{{\"fields\":{{\"v\":\"{text}\"}},\"key\":\"{key}\",\"master\":\"w\",\"version\":[1,{number}]}}"
+    )?;
+    Ok(read_image(alloc, line.as_bytes())?)
+}
+
 fn records(alloc: Global, rows: &[Row]) -> Result<Records, Fail> {
     let mut records = Records::new(alloc);
-    for (key, number, text) in rows {
-        let line = format!(in alloc;
-            "{{\"fields\":{{\"v\":\"{text}\"}},\"key\":\"{key}\",\"master\":\"w\",\"version\":[1,{number}]}}"
-        )?;
-        take_image(alloc, &mut records, read_image(alloc, line.as_bytes())?)?;
+    for row in rows {
+        take_image(alloc, &mut records, image(alloc, *row)?)?;
     }
     Ok(records)
 }
@@ -27,10 +57,9 @@ fn marks(alloc: Global, position: u64) -> Result<Marks, Fail> {
 }
 
 fn join(alloc: Global, rows: &[Row], position: u64) -> Result<TabletOp, Fail> {
-    Ok(TabletOp::Join {
-        cells: records(alloc, rows)?,
-        marks: marks(alloc, position)?,
-    })
+    let marks = marks(alloc, position)?;
+    let cells = records(alloc, rows)?;
+    Ok(TabletOp::Join { cells, marks })
 }
 
 fn tablet(alloc: Global, from: Option<Key>) -> Result<TabletState, Fail> {
@@ -39,30 +68,29 @@ fn tablet(alloc: Global, from: Option<Key>) -> Result<TabletState, Fail> {
 }
 
 fn shows(cell: &Cell, number: u64, text: &str) -> bool {
-    let version = cell.version();
     let [content] = cell.contents() else {
         return false;
     };
-    match &content.body {
-        Body::Fields(fields) => match fields.first() {
-            Some((_, Value::Text(value))) => {
-                version.generation == 1 && version.number == number && value.as_str() == text
-            }
-            None => false,
-        },
-        Body::Deleted => false,
+    cell.version().number == number && says(&content.body, text)
+}
+
+fn says(body: &Body, text: &str) -> bool {
+    let Body::Fields(fields) = body else {
+        return false;
+    };
+    match fields.first() {
+        Some((_, Value::Text(value))) => value.as_str() == text,
+        None => false,
     }
 }
 
 fn has(cells: &Records, rows: &[Row]) -> bool {
     for (place, (key, number, text)) in rows.iter().enumerate() {
-        match cells.entry_at(place) {
-            Some((there, cell)) => {
-                if there.as_str() != *key || !shows(cell, *number, text) {
-                    return false;
-                }
-            }
-            None => return false,
+        let Some((there, cell)) = cells.entry_at(place) else {
+            return false;
+        };
+        if there.as_str() != *key || !shows(cell, *number, text) {
+            return false;
         }
     }
     cells.len() == rows.len()
@@ -70,204 +98,208 @@ fn has(cells: &Records, rows: &[Row]) -> bool {
 
 fn stands_at(marks: &Marks, position: u64) -> bool {
     match marks.entry_at(0) {
-        Some((name, highest)) => {
-            marks.len() == 1 && name.as_str() == "east" && highest.0 == position
-        }
+        Some((name, highest)) => name.as_str() == "east" && highest.0 == position,
         None => false,
     }
 }
 
-fn needs(state: &TabletState, position: u64) -> bool {
-    match state.status() {
-        Status::Serving => false,
-        Status::Recovering { need } => stands_at(need, position),
+fn needs(status: &Status, need: Option<u64>) -> bool {
+    match (status, need) {
+        (Status::Serving, None) => true,
+        (Status::Recovering { need }, Some(position)) => stands_at(need, position),
+        _ => false,
     }
 }
 
-fn serves(state: &TabletState) -> bool {
-    matches!(state.status(), Status::Serving)
+fn stands(state: &TabletState, need: Option<u64>, cover: u64, rows: &[Row]) -> bool {
+    needs(state.status(), need) && stands_at(state.cover(), cover) && has(state.cells(), rows)
 }
 
-// Whether these keys changed, from and to these numbers.
-fn are(changes: &[Change], want: &[(&str, Option<u64>, u64)]) -> bool {
-    for (place, (key, before, after)) in want.iter().enumerate() {
-        let Some(change) = changes.get(place) else {
-            return false;
-        };
-        let was = change.before.map(|version| version.number);
-        if change.key.as_str() != *key || was != *before || change.after.number != *after {
+fn tells(change: &Change, told: &Told) -> bool {
+    let before = change.before.map(|version| version.number);
+    change.key.as_str() == told.0 && before == told.1 && change.after.number == told.2
+}
+
+fn tell(changes: &[Change], want: &[Told]) -> bool {
+    for (change, told) in changes.iter().zip(want) {
+        if !tells(change, told) {
             return false;
         }
     }
     changes.len() == want.len()
 }
 
-/// The first five messages of the stream.
-const FIVE: &[Row] = &[
-    ("a", 0, "x"),
-    ("b", 0, "x"),
-    ("c", 0, "x"),
-    ("d", 0, "x"),
-    ("e", 0, "x"),
-];
+// Whether the join of these rows changes just that.
+fn changes(
+    state: &mut TabletState,
+    alloc: Global,
+    rows: &[Row],
+    position: u64,
+    want: &[Told],
+) -> Result<bool, Fail> {
+    let op = join(alloc, rows, position)?;
+    Ok(tell(&state.apply(&op)?, want))
+}
 
-/// What a tablet holds that took all seven.
-const SIX: &[Row] = &[
-    ("a", 1, "y"),
-    ("b", 0, "x"),
-    ("c", 0, "x"),
-    ("d", 0, "x"),
-    ("e", 0, "x"),
-    ("f", 0, "x"),
-];
-
-// A tablet that took five messages, was lost, and took the sixth and the seventh since.
-fn recovering(alloc: Global) -> Result<TabletState, Fail> {
-    let mut state = tablet(alloc, None)?;
-    state.apply(&join(alloc, FIVE, 5)?)?;
-    state.apply(&TabletOp::Lose)?;
-    state.apply(&join(alloc, &[("a", 1, "y"), ("f", 0, "x")], 7)?)?;
+fn joined(
+    mut state: TabletState,
+    alloc: Global,
+    rows: &[Row],
+    position: u64,
+) -> Result<TabletState, Fail> {
+    let op = join(alloc, rows, position)?;
+    state.apply(&op)?;
     Ok(state)
 }
 
-fn is_short(stream: &Name, has: u64, wanted: u64) -> bool {
-    stream.as_str() == "east" && has == 4 && wanted == 5
+fn lost(mut state: TabletState) -> Result<TabletState, Fail> {
+    state.apply(&TabletOp::Lose)?;
+    Ok(state)
 }
 
-fn is_behind(answer: &Result<TabletCopy, CopyFault>) -> bool {
-    match answer {
+// A tablet that took five messages, was lost, and took the sixth and the seventh since.
+fn recovering(alloc: Global) -> Result<TabletState, Fail> {
+    let five = joined(tablet(alloc, None)?, alloc, FIVE, 5)?;
+    joined(lost(five)?, alloc, ARRIVALS, 7)
+}
+
+// Whether the copy that is asked for is refused as behind, at 4 of 5.
+fn is_behind(state: &TabletState, need: &Marks) -> bool {
+    match state.copy(need) {
         Err(
             CopyFault::Behind {
                 stream,
                 has,
                 wanted,
             },
-        ) => is_short(stream, *has, *wanted),
+        ) => stream.as_str() == "east" && has == 4 && wanted == 5,
         _ => false,
     }
 }
 
-fn is_too_old(answer: &Result<Vec<Change>, OpFault>) -> bool {
-    match answer {
-        Err(OpFault::TooOld { stream, has, needs }) => is_short(stream, *has, *needs),
+// Whether the copy is refused as too old, at 4 of 5.
+fn is_too_old(state: &mut TabletState, copy: TabletCopy) -> bool {
+    match state.apply(&TabletOp::Adopt(copy)) {
+        Err(OpFault::TooOld { stream, has, needs }) => {
+            stream.as_str() == "east" && has == 4 && needs == 5
+        }
         _ => false,
     }
+}
+
+fn is_of_another_range(state: &mut TabletState, op: &TabletOp) -> bool {
+    matches!(state.apply(op), Err(OpFault::WrongRange))
 }
 
 #[test]
 fn a_join_tells_what_changed(rt: HostRuntime) -> Result<(), Fail> {
     let mut state = tablet(rt.alloc(), None)?;
-    let changes = state.apply(&join(rt.alloc(), &FIVE[..2], 2)?)?;
-    assert!(rt; are(&changes, &[("a", None, 0), ("b", None, 0)]));
-    let changes = state.apply(&join(rt.alloc(), &[("a", 1, "y"), ("b", 0, "x")], 3)?)?;
-    assert!(rt; are(&changes, &[("a", Some(0), 1)]));
-    assert_eq!(rt; state.apply(&TabletOp::Lose)?.len(), 0);
-    assert!(rt; needs(&state, 3) && stands_at(state.cover(), 3) && has(state.cells(), &[]));
-    let changes = state.apply(&join(rt.alloc(), &[("a", 0, "x")], 1)?)?;
-    assert!(rt; are(&changes, &[("a", None, 0)]));
+    let told = &[("a", None, 0), ("b", None, 0)];
+    assert!(rt; changes(&mut state, rt.alloc(), &FIVE[..2], 2, told)?);
+    let rows = &[("a", 1, "y"), ("b", 0, "x"), ("c", 0, "x")];
+    let told = &[("a", Some(0), 1), ("c", None, 0)];
+    assert!(rt; changes(&mut state, rt.alloc(), rows, 1, told)?);
+    assert!(rt; stands(&state, None, 2, rows));
+    Ok(())
+}
+
+#[test]
+fn changes_are_told_against_what_is_left(rt: HostRuntime) -> Result<(), Fail> {
+    let five = joined(tablet(rt.alloc(), None)?, rt.alloc(), FIVE, 5)?;
+    let mut state = lost(five)?;
+    assert!(rt; stands(&state, Some(5), 5, &[]));
+    let told = &[("a", None, 1), ("f", None, 0)];
+    assert!(rt; changes(&mut state, rt.alloc(), ARRIVALS, 7, told)?);
+    assert!(rt; stands(&state, Some(5), 7, ARRIVALS));
     Ok(())
 }
 
 #[test]
 fn recovery_keeps_arrivals(rt: HostRuntime) -> Result<(), Fail> {
+    let five = joined(tablet(rt.alloc(), None)?, rt.alloc(), FIVE, 5)?;
+    let other = joined(five, rt.alloc(), &ARRIVALS[..1], 6)?;
+    let copy = other.copy(&marks(rt.alloc(), 5)?)?;
+    assert!(rt; stands_at(&copy.marks, 6));
     let mut state = recovering(rt.alloc())?;
-    assert!(rt; needs(&state, 5) && stands_at(state.cover(), 7));
+    state.apply(&TabletOp::Adopt(copy))?;
+    assert!(rt; stands(&state, None, 7, ALL));
+    Ok(())
+}
+
+#[test]
+fn copy_too_old(rt: HostRuntime) -> Result<(), Fail> {
+    let other = joined(tablet(rt.alloc(), None)?, rt.alloc(), &FIVE[..4], 4)?;
+    assert!(rt; is_behind(&other, &marks(rt.alloc(), 5)?));
+    let copy = other.copy(&Marks::new(rt.alloc()))?;
+    let mut state = recovering(rt.alloc())?;
+    assert!(rt; is_too_old(&mut state, copy));
+    assert!(rt; stands(&state, Some(5), 7, ARRIVALS));
+    Ok(())
+}
+
+#[test]
+fn a_recovering_tablet_gives_no_copy(rt: HostRuntime) -> Result<(), Fail> {
+    let state = recovering(rt.alloc())?;
     assert!(rt;
         matches!(
             state.copy(&Marks::new(rt.alloc())),
             Err(CopyFault::Recovering)
         )
     );
-    let mut other = tablet(rt.alloc(), None)?;
-    other.apply(&join(rt.alloc(), FIVE, 5)?)?;
-    other.apply(&join(rt.alloc(), &[("a", 1, "y")], 6)?)?;
-    let copy = other.copy(&marks(rt.alloc(), 5)?)?;
-    assert!(rt; stands_at(&copy.marks, 6));
-    assert_eq!(rt; state.apply(&TabletOp::Adopt(copy))?.len(), 0);
-    assert!(rt; serves(&state) && stands_at(state.cover(), 7) && has(state.cells(), SIX));
-    Ok(())
-}
-
-#[test]
-fn copy_too_old(rt: HostRuntime) -> Result<(), Fail> {
-    let mut state = recovering(rt.alloc())?;
-    let mut other = tablet(rt.alloc(), None)?;
-    other.apply(&join(rt.alloc(), &FIVE[..4], 4)?)?;
-    assert!(rt; is_behind(&other.copy(&marks(rt.alloc(), 5)?)));
-    let copy = other.copy(&Marks::new(rt.alloc()))?;
-    assert!(rt; is_too_old(&state.apply(&TabletOp::Adopt(copy))));
-    assert!(rt; needs(&state, 5) && stands_at(state.cover(), 7));
-    assert!(rt; has(state.cells(), &[("a", 1, "y"), ("f", 0, "x")]));
     Ok(())
 }
 
 #[test]
 fn a_second_loss_needs_what_came_since(rt: HostRuntime) -> Result<(), Fail> {
-    let mut state = recovering(rt.alloc())?;
-    let mut copy = state.dup()?;
-    assert!(rt; needs(&copy, 5));
-    copy.apply(&TabletOp::Lose)?;
-    assert!(rt; needs(&copy, 7) && has(copy.cells(), &[]));
-    copy.apply(&TabletOp::Lose)?;
-    assert!(rt; needs(&copy, 7) && needs(&state, 5));
-    state.apply(&TabletOp::Lose)?;
-    assert!(rt; needs(&state, 7));
-    Ok(())
-}
-
-#[test]
-fn what_comes_again_changes_nothing(rt: HostRuntime) -> Result<(), Fail> {
-    let mut state = tablet(rt.alloc(), None)?;
-    state.apply(&join(rt.alloc(), &[("a", 1, "y"), ("b", 0, "x")], 2)?)?;
-    let rows = [("a", 0, "x"), ("b", 0, "x"), ("c", 0, "x")];
-    let changes = state.apply(&join(rt.alloc(), &rows, 1)?)?;
-    assert!(rt; are(&changes, &[("c", None, 0)]));
-    assert!(rt; stands_at(state.cover(), 2));
+    let state = recovering(rt.alloc())?;
+    let copy = lost(state.dup()?)?;
+    assert!(rt; stands(&copy, Some(7), 7, &[]));
+    assert!(rt; stands(&lost(copy)?, Some(7), 7, &[]));
+    assert!(rt; stands(&state, Some(5), 7, ARRIVALS));
     Ok(())
 }
 
 #[test]
 fn another_range_is_refused(rt: HostRuntime) -> Result<(), Fail> {
-    let mut state = tablet(rt.alloc(), Some(Key::of(rt.alloc(), "m")?))?;
-    state.apply(&join(rt.alloc(), &[("m", 0, "x")], 1)?)?;
-    let rows = [("l", 0, "x"), ("n", 0, "x")];
-    let refused = state.apply(&join(rt.alloc(), &rows, 2)?);
-    assert!(rt; matches!(refused, Err(OpFault::WrongRange)));
+    let mut state = tablet(rt.alloc(), Some(Key::of(rt.alloc(), "b")?))?;
+    let op = join(rt.alloc(), FIVE, 5)?;
+    assert!(rt; is_of_another_range(&mut state, &op));
     let copy = tablet(rt.alloc(), None)?.copy(&Marks::new(rt.alloc()))?;
-    let refused = state.apply(&TabletOp::Adopt(copy));
-    assert!(rt; matches!(refused, Err(OpFault::WrongRange)));
-    assert!(rt;
-        serves(&state) && stands_at(state.cover(), 1) && has(state.cells(), &[("m", 0, "x")])
+    assert!(rt; is_of_another_range(&mut state, &TabletOp::Adopt(copy)));
+    assert_eq!(rt; state.cells().len(), 0);
+    Ok(())
+}
+
+#[test]
+fn why_an_operation_is_refused_is_printed(rt: HostRuntime) -> Result<(), Fail> {
+    let fault = OpFault::TooOld {
+        stream: Name::read(b"east")?,
+        has: 4,
+        needs: 5,
+    };
+    let text = format!(in rt.alloc(); "{fault}, {}, {}", OpFault::WrongRange, OpFault::Memory)?;
+    assert_eq!(rt;
+        text.as_str(),
+        "too old: the copy has 4 of stream east, and 5 are needed, wrong range, out of memory"
     );
     Ok(())
 }
 
 #[test]
-fn faults_say_what_they_are(rt: HostRuntime) -> Result<(), Fail> {
-    let old = OpFault::TooOld {
-        stream: Name::read(b"east")?,
-        has: 4,
-        needs: 5,
-    };
-    let behind = CopyFault::Behind {
+fn why_no_copy_is_given_is_printed(rt: HostRuntime) -> Result<(), Fail> {
+    let fault = CopyFault::Behind {
         stream: Name::read(b"east")?,
         has: 4,
         wanted: 5,
     };
-    let old = format!(in rt.alloc(); "{old}, {}, {}", OpFault::WrongRange, OpFault::Memory)?;
-    let behind = format!(in rt.alloc();
-        "{behind}, {}, {}, {}",
+    let text = format!(in rt.alloc();
+        "{fault}, {}, {}",
         CopyFault::Recovering,
-        CopyFault::Memory,
         CopyFault::NoEntry
     )?;
     assert_eq!(rt;
-        old.as_str(),
-        "too old: the copy has 4 of stream east, and 5 are needed, wrong range, out of memory"
-    );
-    assert_eq!(rt;
-        behind.as_str(),
-        "behind: the tablet has 4 of stream east, and 5 are wanted, recovering, out of memory, no entry"
+        text.as_str(),
+        "behind: the tablet has 4 of stream east, and 5 are wanted, recovering, no entry"
     );
     Ok(())
 }
