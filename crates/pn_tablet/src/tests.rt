@@ -163,27 +163,39 @@ fn recovering(alloc: Global) -> Result<TabletState, Fail> {
     joined(lost(five)?, alloc, ARRIVALS, 7)
 }
 
-// Whether the copy that is asked for is refused as behind, at 4 of 5.
-fn is_behind(state: &TabletState, need: &Marks) -> bool {
-    match state.copy(need) {
-        Err(
-            CopyFault::Behind {
-                stream,
-                has,
-                wanted,
-            },
-        ) => stream.as_str() == "east" && has == 4 && wanted == 5,
+// Whether a copy that is asked for is refused as behind, at 4 of 5.
+fn is_behind(fault: &CopyFault) -> bool {
+    match fault {
+        CopyFault::Behind {
+            stream,
+            has,
+            wanted,
+        } => stream.as_str() == "east" && *has == 4 && *wanted == 5,
         _ => false,
     }
 }
 
-// Whether the copy is refused as too old, at 4 of 5.
-fn is_too_old(state: &mut TabletState, copy: TabletCopy) -> bool {
-    match state.apply(&TabletOp::Adopt(copy)) {
-        Err(OpFault::TooOld { stream, has, needs }) => {
-            stream.as_str() == "east" && has == 4 && needs == 5
+fn is_copied_behind(state: &TabletState, need: &Marks) -> bool {
+    match state.copy(need) {
+        Ok(_) => false,
+        Err(fault) => is_behind(&fault),
+    }
+}
+
+// Whether a copy is refused as too old, at 4 of 5.
+fn is_old(fault: &OpFault) -> bool {
+    match fault {
+        OpFault::TooOld { stream, has, needs } => {
+            stream.as_str() == "east" && *has == 4 && *needs == 5
         }
         _ => false,
+    }
+}
+
+fn is_too_old(state: &mut TabletState, op: &TabletOp) -> bool {
+    match state.apply(op) {
+        Ok(_) => false,
+        Err(fault) => is_old(&fault),
     }
 }
 
@@ -229,10 +241,10 @@ fn recovery_keeps_arrivals(rt: HostRuntime) -> Result<(), Fail> {
 #[test]
 fn copy_too_old(rt: HostRuntime) -> Result<(), Fail> {
     let other = joined(tablet(rt.alloc(), None)?, rt.alloc(), &FIVE[..4], 4)?;
-    assert!(rt; is_behind(&other, &marks(rt.alloc(), 5)?));
+    assert!(rt; is_copied_behind(&other, &marks(rt.alloc(), 5)?));
     let copy = other.copy(&Marks::new(rt.alloc()))?;
     let mut state = recovering(rt.alloc())?;
-    assert!(rt; is_too_old(&mut state, copy));
+    assert!(rt; is_too_old(&mut state, &TabletOp::Adopt(copy)));
     assert!(rt; stands(&state, Some(5), 7, ARRIVALS));
     Ok(())
 }
