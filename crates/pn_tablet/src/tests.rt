@@ -163,40 +163,22 @@ fn recovering(alloc: Global) -> Result<TabletState, Fail> {
     joined(lost(five)?, alloc, ARRIVALS, 7)
 }
 
-// Whether a copy that is asked for is refused as behind, at 4 of 5.
-fn is_behind(fault: &CopyFault) -> bool {
-    match fault {
-        CopyFault::Behind {
-            stream,
-            has,
-            wanted,
-        } => stream.as_str() == "east" && *has == 4 && *wanted == 5,
-        _ => false,
+// Why a copy is refused, in words; nothing where it is given.
+fn why_no_copy(alloc: Global, state: &TabletState, need: &Marks) -> Result<String, Fail> {
+    let mut words = String::new(alloc);
+    if let Some(fault) = state.copy(need).err() {
+        words = format!(in alloc; "{fault}")?;
     }
+    Ok(words)
 }
 
-fn is_copied_behind(state: &TabletState, need: &Marks) -> bool {
-    match state.copy(need) {
-        Ok(_) => false,
-        Err(fault) => is_behind(&fault),
+// Why an operation is refused, in words; nothing where it is taken.
+fn why_refused(alloc: Global, state: &mut TabletState, op: &TabletOp) -> Result<String, Fail> {
+    let mut words = String::new(alloc);
+    if let Some(fault) = state.apply(op).err() {
+        words = format!(in alloc; "{fault}")?;
     }
-}
-
-// Whether a copy is refused as too old, at 4 of 5.
-fn is_old(fault: &OpFault) -> bool {
-    match fault {
-        OpFault::TooOld { stream, has, needs } => {
-            stream.as_str() == "east" && *has == 4 && *needs == 5
-        }
-        _ => false,
-    }
-}
-
-fn is_too_old(state: &mut TabletState, op: &TabletOp) -> bool {
-    match state.apply(op) {
-        Ok(_) => false,
-        Err(fault) => is_old(&fault),
-    }
+    Ok(words)
 }
 
 fn is_of_another_range(state: &mut TabletState, op: &TabletOp) -> bool {
@@ -241,10 +223,17 @@ fn recovery_keeps_arrivals(rt: HostRuntime) -> Result<(), Fail> {
 #[test]
 fn copy_too_old(rt: HostRuntime) -> Result<(), Fail> {
     let other = joined(tablet(rt.alloc(), None)?, rt.alloc(), &FIVE[..4], 4)?;
-    assert!(rt; is_copied_behind(&other, &marks(rt.alloc(), 5)?));
+    let need = marks(rt.alloc(), 5)?;
+    assert_eq!(rt;
+        why_no_copy(rt.alloc(), &other, &need)?.as_str(),
+        "behind: the tablet has 4 of stream east, and 5 are wanted"
+    );
     let copy = other.copy(&Marks::new(rt.alloc()))?;
     let mut state = recovering(rt.alloc())?;
-    assert!(rt; is_too_old(&mut state, &TabletOp::Adopt(copy)));
+    assert_eq!(rt;
+        why_refused(rt.alloc(), &mut state, &TabletOp::Adopt(copy))?.as_str(),
+        "too old: the copy has 4 of stream east, and 5 are needed"
+    );
     assert!(rt; stands(&state, Some(5), 7, ARRIVALS));
     Ok(())
 }
