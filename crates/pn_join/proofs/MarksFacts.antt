@@ -1,14 +1,14 @@
 -- What marks reach, and what they are once raised.
-use Rattle.std.proofs.Common.{◌≡◌, ℕ, ◌≤◌, max, Bool, true, false, cond, T, List, [], ◌∷◌, Option, Some, None, option_map, unwrap_or, nat_lt, is_eq, IsTrue, refl, sym, ap, ◌∙◌, subst, arith, zero-le}
-use Rattle.std.proofs.lemmas.Bool.{or_parts}
+use Rattle.std.proofs.Common.{◌≡◌, ℕ, ◌≤◌, ◌^◌, max, Bool, true, false, cond, T, List, [], ◌∷◌, Option, Some, None, option_map, unwrap_or, nat_lt, Less, Equal, Greater, is_eq, IsTrue, refl, sym, ap, ◌∙◌, subst, arith, zero-le}
+use Rattle.std.proofs.lemmas.Bool.{and_parts, and_from, or_parts}
 use Rattle.std.proofs.lemmas.Bool.Decides.{nat_tests}
 use Rattle.std.proofs.lemmas.Cmp.{nat_list_cmp_total, tied_itself}
 use Rattle.std.proofs.lemmas.Map.Lookups.{exact_bytes}
 use Rattle.std.specs.List.{list_any}
 use Rattle.std.specs.Ordering.{eq_by_cmp}
-use Rattle.std.specs.FinMap.{find, is_sorted}
-use Rattle.std.specs.FinMap.Entries.{find-put, find_tied, is_sorted-put, same_entries}
-use Rattle.pn_join.specs.Marks.{Positions, name_cmp, position_of, Reaches, falls_short, raised}
+use Rattle.std.specs.FinMap.{find, put, is_sorted}
+use Rattle.std.specs.FinMap.Entries.{by_order, find-put, find_tied, is_sorted-put, same_entries}
+use Rattle.pn_join.specs.Marks.{Positions, is_position, are_positions, name_cmp, position_of, Reaches, falls_short, raised}
 use Rattle.pn_join.specs.Tables.{contents_at, optional_joined, key_by_key}
 use Rattle.pn_join.proofs.Places.{not_found_below}
 use Rattle.pn_join.proofs.Puts.{tie}
@@ -68,6 +68,35 @@ pub is_sorted-raised : (a b : Positions) → IsTrue (is_sorted name_cmp a) → I
 is_sorted-raised a [] rising = rising
 is_sorted-raised a (e ∷ es) rising =
     is_so _ (is_sorted-put name_cmp nat_list_cmp_total e.0 (max (position_of a e.0) e.1) (raised a es) (subst T (sym (is_sorted-raised a es rising)) tt))
+
+within_most : (marks : Positions) (name : List ℕ) → IsTrue (are_positions marks) → position_of marks name ≤ 10 ^ 15
+within_most [] name are = zero-le
+within_most (e ∷ es) name are =
+    let parts = and_parts (is_position e.1) (are_positions es) are in
+    let here : e.1 ≤ 10 ^ 15 = grind (arith, nat_tests) in
+    elim (eq_by_cmp name_cmp name e.0) as (λ b. unwrap_or (cond b (Some e.1) (find name_cmp name es)) 0 ≤ 10 ^ 15) [
+      | true ↦ here
+      | false ↦ within_most es name parts.1
+    ]
+
+put_position : (name : List ℕ) (n : ℕ) (es : Positions) → IsTrue (is_position n) → IsTrue (are_positions es) → IsTrue (are_positions (put name_cmp name n es))
+put_position name n [] is are = and_from _ _ is refl
+put_position name n (e ∷ es) is are =
+    let parts = and_parts (is_position e.1) (are_positions es) are in
+    elim (name_cmp name e.0) as (λ r. are_positions (by_order r ((name, n) ∷ e ∷ es) ((e.0, n) ∷ es) (e ∷ put name_cmp name n es)) ≡ true) [
+      | Less ↦ and_from _ _ is are
+      | Equal ↦ and_from _ _ is parts.1
+      | Greater ↦ and_from _ _ parts.0 (put_position name n es is parts.1)
+    ]
+
+-- positions that are raised are still positions
+pub are_positions-raised : (a b : Positions) → IsTrue (are_positions a) → IsTrue (are_positions b) → IsTrue (are_positions (raised a b))
+are_positions-raised a [] are other = are
+are_positions-raised a (e ∷ es) are others =
+    let parts = and_parts (is_position e.1) (are_positions es) others in
+    let most : position_of a e.0 ≤ 10 ^ 15 = within_most a e.0 are in
+    let greater : IsTrue (is_position (max (position_of a e.0) e.1)) = grind (arith, nat_tests) in
+    put_position e.0 (max (position_of a e.0) e.1) (raised a es) greater (are_positions-raised a es are parts.1)
 
 -- marks with the same positions are the same
 pub same_marks : (a b : Positions) → IsTrue (is_sorted name_cmp a) → IsTrue (is_sorted name_cmp b) → ((name : List ℕ) → find name_cmp name a ≡ find name_cmp name b) → a ≡ b

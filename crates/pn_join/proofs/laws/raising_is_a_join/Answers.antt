@@ -1,5 +1,5 @@
 -- The laws are lemmas.
-use Rattle.pn_join.proofs.MarksFacts.{raised-commutes, raised-associates, raised-repeats, is_sorted-raised}
+use Rattle.pn_join.proofs.MarksFacts.{raised-commutes, raised-associates, raised-repeats, is_sorted-raised, are_positions-raised}
 use Rattle.pn_join.proofs.laws.raising_is_a_join.Goals as goal
 
 pub returns-clause-commutes : goal.returns-clause-commutes
@@ -13,3 +13,6 @@ returns-clause-repeats c = raised-repeats
 
 pub returns-clause-rising : goal.returns-clause-rising
 returns-clause-rising c = is_sorted-raised
+
+pub returns-clause-positions : goal.returns-clause-positions
+returns-clause-positions c = are_positions-raised
