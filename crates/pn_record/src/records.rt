@@ -19,6 +19,7 @@ pub type Records = Table<Key, Cell>;
 /// Takes an image: the records hold its list with this image more. An error leaves them as they were.
 pub fn take_image(alloc: Global, records: &mut Records, image: Image) -> Result<(), NoMemory>
     ensures ok { OnOk result ((taken : List Image) → Holds records.old taken → Holds records.new (taken ++ image ∷ [])) }
+    ensures rising { OnOk result (IsTrue (is_sorted bytes_cmp records.new)) }
     ensures err { OnErr result (records.new ≡ records.old) }
 {
     let Image {
