@@ -12,7 +12,7 @@ use Rattle.pn_record.specs.declared.image.Image.{Image}
 use Rattle.pn_stream.specs.MessageLines.{IsMessageLine}
 use Rattle.pn_stream.specs.Streams.{FirstLine, NoLine}
 use Rattle.pn_stream.specs.Faults.{Refuses, Stands}
-use Rattle.pn_stream.specs.Batches.{IsPart, IsNext}
+use Rattle.pn_stream.specs.Batches.{IsPart, IsNext, part_of}
 use Rattle.pn_stream.specs.declared.fault.StreamFault.{StreamFault}
 use Rattle.pn_stream.specs.declared.fault.StreamFault.TheVariants.{Read, LineTooLong, BadMessage, OutOfStep, Memory, Failed}
 
@@ -117,3 +117,8 @@ next_err wanted part line (OutOfStep named got) (Some text) leaves takes refused
 -- the position of a message is one of a stream
 pub position_within : (line : List ℕ) (wanted : ℕ) (image : Image) → IsMessageLine line (wanted, image) → wanted ≤ 10 ^ 15
 position_within line wanted image said = grind (arith, (and_parts (nat_le 1 wanted) (nat_le wanted (10 ^ 15)) said.spelled.position).1)
+
+-- a part that is held is not too long
+pub part_within : (line : Option LineSoFar) → IfSome line IsPart → length (part_of line) ≤ 65536
+part_within None is = omega arith
+part_within (Some line) is = is.part.short

@@ -4,8 +4,15 @@ ghost use Rattle.std.specs.Prelude.{◌≡◌, ℕ, ◌+◌, List, ◌++◌, len
 ghost use Rattle.pn_record.specs.declared.image.Image.{Image};
 ghost use Rattle.pn_stream.specs.Batches.{Batch};
 ghost use Rattle.pn_stream.specs.Faults.{IsOfText};
+ghost use Rattle.pn_stream.specs.MessageLines.{IsMessageLine};
+ghost use Rattle.pn_stream.specs.Messages.{Message};
 ghost use Rattle.pn_stream.specs.Streams.{Run};
 ghost use Rattle.pn_stream.specs.declared.fault.StreamFault.{StreamFault};
+
+/// No line is read as two messages.
+pub fn a_line_is_one_message()
+    ensures { (line : List ℕ) (one other : Message) → IsMessageLine line one → IsMessageLine line other → one ≡ other }
+{}
 
 /// Of one text there is one batch: however its bytes come, the same images are given, and the same fault
 /// comes next or none does, where memory does not run out and the reader does not fail.

@@ -37,6 +37,7 @@ impl<S: Drop> Model for StreamReader<S> {
     ghost invariant = { λ r. (r.position ≤ 10 ^ 15) × IfSome r.line IsPart };
 }
 
+#[tactic(auto, using(crate::proofs::Steps::part_within))]
 impl<S: Source + Drop> StreamReader<S> {
     /// A reader of the stream `name`, from the message after the position `after` on, which is at most
     /// 10^15. It takes no memory; later calls take theirs from `alloc`.
@@ -101,6 +102,7 @@ impl<S: Source + Drop> StreamReader<S> {
         ensures stays { OnErr result (self.new.position ≡ self.old.position) }
         ensures failed { OnErr result (self.new.fault ≡ Some StreamFault.Failed) }
         ensures name { self.new.name ≡ self.old.name }
+        ensures part { length self.new.part ≤ 65536 }
     {
         if let Some(fault) = self.waiting() {
             return Err(self.fail(fault));
@@ -112,7 +114,8 @@ impl<S: Source + Drop> StreamReader<S> {
 
     // The fault that the next call answers.
     fn waiting(&self) -> Option<StreamFault>
-        ensures { result ≡ self.now.fault }
+        ensures fault { result ≡ self.now.fault }
+        ensures part { length self.now.part ≤ 65536 }
     {
         self.fault
     }
@@ -138,6 +141,7 @@ impl<S: Source + Drop> StreamReader<S> {
         ensures name { self.new.name ≡ self.old.name }
         ensures position { self.new.position ≡ self.old.position }
         ensures fault { self.new.fault ≡ self.old.fault }
+        ensures part { length self.new.part ≤ 65536 }
     {
         let mut images = Vec::new(self.alloc);
         let ended = next_images(
