@@ -1,0 +1,143 @@
+-- Images shared out by tablet are those in the tablets' ranges.
+use Rattle.std.proofs.Common.{◌≡◌, ℕ, zero, suc, ◌+◌, ◌<◌, ◌≤◌, Bool, true, false, cond, eqb, List, [], ◌∷◌, ◌++◌, map, filter, length, take, set, get_or, refl, sym, ap, ◌∙◌, subst, arith, append-nil}
+use Rattle.std.specs.Prelude.{Vec}
+use Rattle.std.specs.Borrow.{Bor}
+use Rattle.std.specs.declared.alloc.Global.{Global}
+use Rattle.std.specs.List.{range_with_len}
+use Rattle.std.proofs.lemmas.Bool.{eq-eqb, eqb-true, eqb-false}
+use Rattle.std.proofs.lemmas.Grind.{flat_map-append}
+use Rattle.std.proofs.lemmas.List.{map-append, map-set, length-set, length-map, get_or-set_same, get_or-set_other, take_more, append_assoc}
+use Rattle.std.proofs.lemmas.List.Elements.{filter-append}
+use Rattle.std.proofs.lemmas.List.FromFn.{length-map-range_with_len, get_or-map-range_with_len, map-range_with_len_more, fill_by_all}
+use Rattle.pn_join.specs.Marks.{Positions}
+use Rattle.pn_record.specs.declared.image.Image.{Image}
+use Rattle.pn_record.specs.CellMap.{Entries, table_of}
+use Rattle.pn_stream.specs.Positions.{Delivered}
+use Rattle.pn_tablet.specs.Ranges.{Ends, in_range}
+use Rattle.pn_tablet.specs.Layouts.{Bounds, IsLayout, tablet_of, tablet_ends}
+use Rattle.pn_tablet.specs.declared.op.TabletOp.{TabletOp}
+use Rattle.pn_tablet.specs.declared.op.TabletOp.TheVariants.{Join}
+use Rattle.pn_tablet.proofs.LayoutFacts.{key_in_tablet, tablet_of_key, tablet_of_within}
+use Rattle.pn_apply.specs.Reducing.{all_images, images_in, ranges, joins_of}
+use Rattle.pn_apply.specs.Shares.{lent, images_at, by_tablet}
+use Rattle.pn_apply.proofs.Fronts.{mapped_at}
+
+abbrev pub Share : Type 0
+Share = Vec (Bor Image) Global
+
+bool_same : (a b : Bool) → (a ≡ true → b ≡ true) → (b ≡ true → a ≡ true) → a ≡ b
+bool_same true b there back = sym (there refl)
+bool_same false true there back = back refl
+bool_same false false there back = refl
+
+-- a key is in a tablet's range where the tablet is the key's
+named : (bounds : Bounds) (tablet : ℕ) (key : List ℕ) → IsLayout bounds → tablet ≤ length bounds → eqb (tablet_of bounds key) tablet ≡ in_range (tablet_ends bounds tablet) key
+named bounds tablet key lawful within =
+    bool_same (eqb (tablet_of bounds key) tablet) (in_range (tablet_ends bounds tablet) key)
+    (λ is. subst (λ (t : ℕ). in_range (tablet_ends bounds t) key ≡ true) (eqb-true (tablet_of bounds key) tablet is) (key_in_tablet bounds key lawful.rising))
+    (λ lies. eq-eqb (tablet_of bounds key) tablet (sym (tablet_of_key bounds key tablet lawful.rising within lies)))
+
+same_over : {A : Type 0} (f g : ℕ → A) (a n : ℕ) → ((t : ℕ) → t < a + n → f t ≡ g t) → map f (range_with_len a n) ≡ map g (range_with_len a n)
+same_over f g a zero alike = refl
+same_over f g a (suc n) alike = λ i. alike a (omega arith) i ∷ same_over f g (a + 1) n (λ t within. alike t (omega (arith, within))) i
+
+pub map_twice : {A B C : Type 0} (f : B → C) (g : A → B) (xs : List A) → map f (map g xs) ≡ map (λ x. f (g x)) xs
+map_twice f g [] = refl
+map_twice f g (x ∷ xs) = ap (λ rest. f (g x) ∷ rest) (map_twice f g xs)
+
+-- shared out by the numbers of tablets, images are shared out by their ranges
+pub by_ranges : (bounds : Bounds) (images : List Image) → IsLayout bounds → by_tablet bounds images ≡ map (λ (range : Ends). images_in range images) (ranges bounds)
+by_ranges bounds images lawful =
+    same_over (images_at bounds images) (λ t. images_in (tablet_ends bounds t) images) 0 (length bounds + 1)
+    (λ t within. ap (λ (test : List ℕ → Bool). filter (λ (image : Image). test image.key) images) (λ i key. named bounds t key lawful (omega (arith, within)) i))
+    ∙ sym (map_twice (λ (range : Ends). images_in range images) (tablet_ends bounds) (range_with_len 0 (length bounds + 1)))
+
+length-by_tablet : (bounds : Bounds) (images : List Image) → length (by_tablet bounds images) ≡ length bounds + 1
+length-by_tablet bounds images = length-map-range_with_len (images_at bounds images) 0 (length bounds + 1)
+
+-- there are as many shares as tablets
+pub counted : (bounds : Bounds) (images : List Image) (shares : List Share) → map lent shares ≡ by_tablet bounds images → length shares ≡ length bounds + 1
+counted bounds images shares is = sym (length-map shares lent) ∙ ap length is ∙ length-by_tablet bounds images
+
+module _ (bounds : Bounds) (taken : List Image) (image : Image) where
+  abbrev at : ℕ
+  at = tablet_of bounds image.key
+
+  abbrev grown : List Image
+  grown = images_at bounds taken at ++ image ∷ []
+
+  at_within : at < length bounds + 1
+  at_within = omega (arith, tablet_of_within bounds image.key)
+
+  placed : (k : ℕ) (b : Bool) → eqb at k ≡ b → k < length bounds + 1 → get_or (set (by_tablet bounds taken) at grown) k [] ≡ images_at bounds taken k ++ cond b (image ∷ []) []
+  placed k true is within =
+      subst (λ (m : ℕ). get_or (set (by_tablet bounds taken) at grown) m [] ≡ images_at bounds taken m ++ image ∷ []) (eqb-true at k is)
+      (get_or-set_same (by_tablet bounds taken) at grown [] (omega (arith, at_within, length-by_tablet bounds taken)))
+  placed k false is within =
+      get_or-set_other (by_tablet bounds taken) at k grown [] (λ same. eqb-false at k is (sym same))
+      ∙ get_or-map-range_with_len (images_at bounds taken) 0 (length bounds + 1) k k [] within (omega arith)
+      ∙ sym (append-nil (images_at bounds taken k))
+
+  more_at : (k : ℕ) → images_at bounds (taken ++ image ∷ []) k ≡ images_at bounds taken k ++ cond (eqb at k) (image ∷ []) []
+  more_at k = filter-append (λ (x : Image). eqb (tablet_of bounds x.key) k) taken (image ∷ [])
+
+  more_by_tablet : set (by_tablet bounds taken) at grown ≡ by_tablet bounds (taken ++ image ∷ [])
+  more_by_tablet =
+      fill_by_all (images_at bounds (taken ++ image ∷ [])) (set (by_tablet bounds taken) at grown) (length bounds + 1) []
+      (length-set (by_tablet bounds taken) at grown ∙ length-by_tablet bounds taken)
+      (λ k within. placed k (eqb at k) refl within ∙ sym (more_at k))
+
+-- one more image goes to its tablet's share
+pub share_more : (bounds : Bounds) (taken : List Image) (image : Image) (shares : List Share) (old new : Share) → map lent shares ≡ by_tablet bounds taken
+    → old ≡ get_or shares (tablet_of bounds image.key) old → lent new ≡ lent old ++ image ∷ []
+    → map lent (set shares (tablet_of bounds image.key) new) ≡ by_tablet bounds (taken ++ image ∷ [])
+share_more bounds taken image shares old new is was pushed =
+    let at = tablet_of bounds image.key in
+    let within : at < length shares = omega (arith, tablet_of_within bounds image.key, counted bounds taken shares is) in
+    let before : lent old ≡ images_at bounds taken at =
+    ap lent was ∙ sym (mapped_at lent shares at old (lent old) within) ∙ ap (λ (all : List (List Image)). get_or all at (lent old)) is
+    ∙ get_or-map-range_with_len (images_at bounds taken) 0 (length bounds + 1) at at (lent old) (omega (arith, tablet_of_within bounds image.key)) (omega arith) in
+    map-set lent shares at new
+    ∙ ap (λ (x : List Image). set (map lent shares) at x) (pushed ∙ ap (λ (x : List Image). x ++ image ∷ []) before)
+    ∙ ap (λ (all : List (List Image)). set all at (images_at bounds taken at ++ image ∷ [])) is
+    ∙ more_by_tablet bounds taken image
+
+-- one more image of a list
+pub taken_more : (taken images : List Image) (i : ℕ) (d : Image) → i < length images → (taken ++ take i images) ++ get_or images i d ∷ [] ≡ taken ++ take (i + 1) images
+taken_more taken images i d within = append_assoc taken (take i images) (get_or images i d ∷ []) ∙ ap (λ (xs : List Image). taken ++ xs) (sym (take_more images i d within))
+
+-- one more delivery
+pub delivered_more : (deliveries : List Delivered) (i : ℕ) (d : Delivered) → i < length deliveries → all_images (take i deliveries) ++ (get_or deliveries i d).images ≡ all_images (take (i + 1) deliveries)
+delivered_more deliveries i d within =
+    ap (λ (xs : List Image). all_images (take i deliveries) ++ xs) (sym (append-nil (get_or deliveries i d).images))
+    ∙ sym (ap all_images (take_more deliveries i d within) ∙ flat_map-append (λ (x : Delivered). x.images) (take i deliveries) (get_or deliveries i d ∷ []))
+
+-- the joins of the shares are the joins in the ranges
+pub joins_by_share : (bounds : Bounds) (marks : Positions) (images : List Image) (shares : List Share) → map lent shares ≡ map (λ (range : Ends). images_in range images) (ranges bounds)
+    → map (λ (share : Share). Join (table_of (lent share)) marks) shares ≡ joins_of bounds marks images
+joins_by_share bounds marks images shares is =
+    let join : List Image → TabletOp = λ own. Join (table_of own) marks in
+    sym (map_twice join lent shares) ∙ ap (map join) is ∙ map_twice join (λ (range : Ends). images_in range images) (ranges bounds)
+
+-- one more share without images
+pub empty_more : (bounds : Bounds) (n : ℕ) (shares new : List Share) (share : Share) → map lent shares ≡ map (images_at bounds []) (range_with_len 0 n) → share.items ≡ [] → new ≡ shares ++ share ∷ []
+    → map lent new ≡ map (images_at bounds []) (range_with_len 0 (n + 1))
+empty_more bounds n shares new share is none grown =
+    ap (map lent) grown ∙ map-append lent shares (share ∷ [])
+    ∙ (λ i. is i ++ map (λ (image : Bor Image). image.now) (none i) ∷ [])
+    ∙ sym (map-range_with_len_more (images_at bounds []) 0 n n (omega arith))
+
+-- one more share is joined
+pub joined_more : (marks own : Positions) (cells : Entries) (shares : List Share) (n : ℕ) (share : Share) (operations new : List TabletOp) → n < length shares → share ≡ get_or shares n share
+    → operations ≡ map (λ (each : Share). Join (table_of (lent each)) marks) (take n shares) → cells ≡ table_of (lent share) → own ≡ marks → new ≡ operations ++ Join cells own ∷ []
+    → new ≡ map (λ (each : Share). Join (table_of (lent each)) marks) (take (n + 1) shares)
+joined_more marks own cells shares n share operations new within read before cut same grown =
+    let join : Share → TabletOp = λ each. Join (table_of (lent each)) marks in
+    grown
+    ∙ (λ i. before i ++ Join ((cut ∙ ap (λ (s : Share). table_of (lent s)) read) i) (same i) ∷ [])
+    ∙ sym (map-append join (take n shares) (get_or shares n share ∷ []))
+    ∙ ap (map join) (sym (take_more shares n share within))
+
+-- an image that is pushed is lent behind the others
+pub pushed_share : (old new : Share) (image : Bor Image) → new.items ≡ old.items ++ image ∷ [] → lent new ≡ lent old ++ image.now ∷ []
+pushed_share old new image grown = ap (map (λ (each : Bor Image). each.now)) grown ∙ map-append (λ (each : Bor Image). each.now) old.items (image ∷ [])

@@ -1,0 +1,3 @@
+pub mod Applying
+pub mod Reducing
+pub mod Shares

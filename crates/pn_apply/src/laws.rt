@@ -1,0 +1,42 @@
+//! The laws of what deliveries bring to tablets, as contracts. A call does nothing.
+
+ghost use Rattle.std.specs.Prelude.{◌≡◌, List, ◌++◌, map};
+ghost use Rattle.std.specs.List.{flat_map};
+ghost use Rattle.pn_join.specs.Marks.{Positions};
+ghost use Rattle.pn_record.specs.declared.image.Image.{Image};
+ghost use Rattle.pn_record.specs.Cells.{SameImages, spell};
+ghost use Rattle.pn_record.specs.CellMap.{table_of, adds};
+ghost use Rattle.pn_stream.specs.Positions.{Delivered};
+ghost use Rattle.pn_tablet.specs.Layouts.{Bounds, IsLayout};
+ghost use Rattle.pn_tablet.specs.Ranges.{Ends};
+ghost use Rattle.pn_tablet.specs.Tablets.{Tablet};
+ghost use Rattle.pn_apply.specs.Applying.{AreJoinsIn};
+ghost use Rattle.pn_apply.specs.Reducing.{all_images, images_in, ranges, joins_of, joined_cells};
+
+/// Cut into the ranges of any layout, the cells of all tablets one after another are those of all images.
+pub fn cutting_loses_nothing()
+    ensures cells { (bounds : Bounds) (images : List Image) → IsLayout bounds
+        → flat_map (λ range. table_of (images_in range images)) (ranges bounds) ≡ table_of images }
+    ensures operations { (bounds : Bounds) (marks : Positions) (images : List Image) → IsLayout bounds
+        → flat_map joined_cells (joins_of bounds marks images) ≡ table_of images }
+{}
+
+/// A range that joins the cells of more images in it has the cells of both lists in it.
+pub fn ranges_join_alone()
+    ensures { (range : Ends) (images more : List Image)
+        → adds (table_of (images_in range images)) (spell (table_of (images_in range more)))
+        ≡ table_of (images_in range (images ++ more)) }
+{}
+
+/// Deliveries of the same images bring the same, whatever their order, repeats and cuts.
+pub fn the_same_images_bring_the_same()
+    ensures { (bounds : Bounds) (marks : Positions) (deliveries others : List Delivered)
+        → SameImages (all_images deliveries) (all_images others)
+        → joins_of bounds marks (all_images deliveries) ≡ joins_of bounds marks (all_images others) }
+{}
+
+/// What images bring to the tablets of a layout can be applied to them.
+pub fn joins_lie_in_their_ranges()
+    ensures { (bounds : Bounds) (marks : Positions) (images : List Image) (tablets : List Tablet)
+        → map (λ tablet. tablet.range) tablets ≡ ranges bounds → AreJoinsIn tablets (joins_of bounds marks images) }
+{}

@@ -1,0 +1,17 @@
+//! Operations on the tablets of a layout, shared out by tablet: what deliveries bring to each, and each
+//! applied to its own.
+#![tactic(auto)]
+
+mod apply;
+mod gate;
+pub mod laws;
+mod reducing;
+mod share;
+mod slot;
+#[cfg(test)]
+mod tests;
+
+pub use apply::apply_all;
+pub use gate::{Gate, Open};
+pub use reducing::reduce;
+pub use slot::Slot;

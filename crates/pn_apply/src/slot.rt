@@ -1,0 +1,32 @@
+//! Slots, which take the operations of one tablet.
+
+ghost use Rattle.std.specs.Prelude.{◌≡◌, Ok, IsOk, IfOk, IfErr, OnOk, OnErr};
+ghost use Rattle.pn_tablet.specs.Tablets.{Tablet};
+ghost use Rattle.pn_tablet.specs.Steps.{step, Refuses};
+ghost use Rattle.pn_tablet.specs.Changes.{answer};
+ghost use Rattle.pn_tablet.specs.declared.op.TabletOp.TheVariants.{Lose};
+
+use pn_tablet::{Change, OpFault, TabletOp, TabletState};
+
+/// What takes operations as a tablet's state does: the state itself, or what stands for it.
+pub trait Slot {
+    /// The tablet that the slot is.
+    ghost tablet: { Self → Tablet };
+
+    /// Takes one operation. The answers and refusals are those of [`TabletState::apply`], and an error
+    /// leaves the slot's tablet as it was.
+    fn apply(&mut self, op: &TabletOp) -> Result<Vec<Change>, OpFault>
+        ensures ok { OnOk result (step (tablet self.old) op.now ≡ Ok (tablet self.new)) }
+        ensures changes { IfOk result (λ list. list.items ≡ answer op.now (tablet self.old) (tablet self.new)) }
+        ensures refused { IfErr result (λ fault. Refuses fault (step (tablet self.old) op.now)) }
+        ensures err { OnErr result (tablet self.new ≡ tablet self.old) }
+        ensures lose { op.now ≡ Lose → IsOk result };
+}
+
+impl Slot for TabletState {
+    ghost tablet = { λ state. state };
+
+    fn apply(&mut self, op: &TabletOp) -> Result<Vec<Change>, OpFault> {
+        TabletState::apply(self, op)
+    }
+}

@@ -1,0 +1,191 @@
+//! Deliveries over two tablets, with some numbers of workers, and gates that count.
+ghost use Rattle.std.specs.Prelude.{◌≡◌, map, IfOk};
+ghost use Rattle.std.specs.Option.{option_copied};
+ghost use Rattle.pn_apply.specs.Reducing.{ranges};
+
+use super::*;
+use pn_join::{Dup, Highest, Marks, Name};
+use pn_record::{Key, KeyFault, read_image};
+use pn_stream::Delivery;
+use pn_tablet::{Change, Layout, Range, TabletOp, TabletState};
+use std::alloc::Global;
+use std::cell::Cell;
+use std::test::Fail;
+
+// One delivery of an image at each of these keys, all of one version.
+fn delivery(alloc: Global, keys: &[&str]) -> Result<Delivery, Fail> {
+    let mut images = Vec::with_capacity(alloc, keys.len())?;
+    for key in keys {
+        let line = format!(in alloc;
+            "{{\"fields\":{{\"v\":\"x\"}},\"key\":\"{key}\",\"master\":\"w\",\"version\":[1,0]}}"
+        )?;
+        images.push(read_image(alloc, line.as_bytes())?)?;
+    }
+    Ok(Delivery::new(Name::read(b"east")?, 1, images).ok_or(KeyFault::OutOfRange)?)
+}
+
+fn marks(alloc: Global) -> Result<Marks, Fail> {
+    let mut marks = Marks::new(alloc);
+    marks.join_entry(Name::read(b"east")?, Highest(3))?;
+    Ok(marks)
+}
+
+fn layout(alloc: Global, bounds: &[&str]) -> Result<Layout, Fail> {
+    let mut keys = Vec::with_capacity(alloc, bounds.len())?;
+    for bound in bounds {
+        keys.push(Key::of(alloc, bound)?)?;
+    }
+    Ok(Layout::new(keys)?)
+}
+
+fn copied(key: Option<&Key>) -> Result<Option<Key>, Fail>
+    ensures { IfOk result (λ copy. copy ≡ option_copied key.entry) }
+{
+    match key {
+        Some(key) => Ok(Some(key.dup()?)),
+        None => Ok(None),
+    }
+}
+
+// The range of these ends.
+fn range_of(from: Option<&Key>, to: Option<&Key>) -> Result<Range, Fail>
+    ensures { IfOk result (λ range. range ≡ (option_copied from.entry, option_copied to.entry)) }
+{
+    Ok(Range::new(copied(from)?, copied(to)?).ok_or(KeyFault::OutOfRange)?)
+}
+
+// The layout's tablets, which have taken nothing.
+fn tablets_of(alloc: Global, layout: &Layout) -> Result<Vec<TabletState>, Fail>
+    ensures { IfOk result (λ tablets. map (λ tablet. tablet.range) tablets.items ≡ ranges layout.now) }
+{
+    let mut tablets = Vec::new(alloc);
+    for tablet in 0..layout.count() {
+        let (from, to) = layout.range(tablet);
+        tablets.push(TabletState::new(alloc, range_of(from, to)?))?;
+    }
+    Ok(tablets)
+}
+
+// The keys that an operation joins, each with its versions.
+fn joined(alloc: Global, operation: &TabletOp) -> Result<String, Fail> {
+    let mut text = String::new(alloc);
+    if let TabletOp::Join { cells, marks } = operation {
+        for place in 0..cells.len() {
+            if let Some((key, cell)) = cells.entry_at(place) {
+                let generation = cell.version().generation;
+                text.push_str(format!(in alloc; "{}@{generation} ", key.as_str())?.as_str())?;
+            }
+        }
+        for place in 0..marks.len() {
+            if let Some((stream, position)) = marks.entry_at(place) {
+                let position = position.0;
+                text.push_str(format!(in alloc; "{}:{position}", stream.as_str())?.as_str())?;
+            }
+        }
+    }
+    Ok(text)
+}
+
+// What changed, key by key.
+fn told(alloc: Global, changes: &[Change]) -> Result<String, Fail> {
+    let mut text = String::new(alloc);
+    for change in changes {
+        let is_new = change.before.is_none();
+        text.push_str(format!(in alloc; "{} {is_new} ", change.key.as_str())?.as_str())?;
+    }
+    Ok(text)
+}
+
+// Counts the tablets that are entered in rising order from 0.
+#[derive(Drop)]
+struct Counts {
+    next: Cell<usize>,
+    other: Cell<usize>,
+}
+
+impl Gate for Counts {
+    fn enter(&self, tablet: usize) {
+        if tablet == self.next.get() {
+            self.next.set(tablet.wrapping_add(1));
+        } else {
+            self.other.set(self.other.get().wrapping_add(1));
+        }
+    }
+}
+
+// Nobody has come yet.
+fn nobody() -> Counts {
+    Counts {
+        next: Cell::new(0),
+        other: Cell::new(0),
+    }
+}
+
+#[test]
+fn two_tablets_get_their_images_with_any_number_of_workers(rt: HostRuntime) -> Result<(), Fail> {
+    let alloc = rt.alloc();
+    let layout = layout(alloc, &["m"])?;
+    let marks = marks(alloc)?;
+    let deliveries = [delivery(alloc, &["n", "l", "m"])?];
+    for workers in [1, 2, 16] {
+        let operations = reduce(alloc, &deliveries, &layout, &marks, workers, &Open)?;
+        assert_eq!(rt; operations.len(), 2);
+        for (operation, want) in operations.iter().zip(["l@1 east:3", "m@1 n@1 east:3"]) {
+            assert_eq!(rt; joined(alloc, operation)?.as_str(), want);
+        }
+    }
+    Ok(())
+}
+
+// The deliveries taken into new tablets, with a gate for each of the two steps.
+fn taken(
+    alloc: Global,
+    deliveries: &[Delivery],
+    layout: &Layout,
+    first: &Counts,
+    second: &Counts,
+) -> Result<Vec<Vec<Change>>, Fail> {
+    let marks = marks(alloc)?;
+    let operations = reduce(alloc, deliveries, layout, &marks, 2, first)?;
+    let mut tablets = tablets_of(alloc, layout)?;
+    Ok(apply_all(alloc, tablets.as_mut_slice(), &operations, 2, second)?)
+}
+
+#[test]
+fn changes_come_in_the_order_of_the_tablets(rt: HostRuntime) -> Result<(), Fail> {
+    let alloc = rt.alloc();
+    let layout = layout(alloc, &["m"])?;
+    let deliveries = [delivery(alloc, &["n", "l"])?, delivery(alloc, &["m", "n"])?];
+    let changes = taken(alloc, &deliveries, &layout, &nobody(), &nobody())?;
+    assert_eq!(rt; changes.len(), 2);
+    for (list, want) in changes.iter().zip(["l true ", "m true n true "]) {
+        assert_eq!(rt; told(alloc, list)?.as_str(), want);
+    }
+    Ok(())
+}
+
+#[test]
+fn each_tablet_is_entered_once_in_each_call_in_rising_order(rt: HostRuntime) -> Result<(), Fail> {
+    let alloc = rt.alloc();
+    let layout = layout(alloc, &["c", "m", "x"])?;
+    let deliveries = [delivery(alloc, &["m", "z"])?];
+    let (first, second) = (nobody(), nobody());
+    assert_eq!(rt;
+        taken(alloc, &deliveries, &layout, &first, &second)?.len(),
+        4
+    );
+    for gate in [&first, &second] {
+        assert_eq!(rt; gate.next.get(), 4);
+        assert_eq!(rt; gate.other.get(), 0);
+    }
+    Ok(())
+}
+
+#[test]
+fn two_empty_lists_have_no_changes(rt: HostRuntime) -> Result<(), Fail> {
+    let mut slots = Vec::<TabletState>::new(rt.alloc());
+    let operations = Vec::new(rt.alloc());
+    let changes = apply_all(rt.alloc(), slots.as_mut_slice(), &operations, 1, &Open)?;
+    assert!(rt; changes.is_empty());
+    Ok(())
+}
