@@ -6,8 +6,8 @@ use Rattle.pn_apply.proofs.apply.work_share.Given as goal
 
 abbrev pub invariant-loop-place : goal.invariant-loop-place
 invariant-loop-place g l = record {
-  slots : map g.S.Slot.tablet l.slots ≡ front_stepped l.place (map g.S.Slot.tablet l.fn.slots) l.operations;
-  results : map (λ list. list.items) l.results.items ≡ take l.place (all_changes (map g.S.Slot.tablet l.fn.slots) l.operations);
+  slots : map g.S.Slot.tablet l.slots ≡ front_stepped l.place (map g.S.Slot.tablet l.fn.slots) l.fn.operations;
+  results : map (λ list. list.items) l.results.items ≡ take l.place (all_changes (map g.S.Slot.tablet l.fn.slots) l.fn.operations);
   count : length l.results.items ≡ l.place;
-  room : vec_capacity l.results ≡ length l.operations;
+  room : vec_capacity l.results ≡ length l.fn.operations;
 }
