@@ -9,7 +9,7 @@ mod name;
 mod table;
 
 pub use join::{Dup, Join};
-pub use marks::{Highest, Marks, raise};
+pub use marks::{Highest, Marks, raise, raise_at};
 pub use memory::NoMemory;
 pub use name::{BadName, Name, StreamName};
 pub use table::Table;

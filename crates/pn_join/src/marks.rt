@@ -1,6 +1,6 @@
 //! Marks: how far streams were taken, by their names.
 
-ghost use Rattle.std.specs.Prelude.{◌≡◌, ℕ, max, IsTrue, ◌↔◌, IfOk, IsOk, OnOk, OnErr};
+ghost use Rattle.std.specs.Prelude.{◌≡◌, ℕ, max, ◌∷◌, [], IsTrue, ◌↔◌, IfOk, IsOk, OnOk, OnErr};
 ghost use Rattle.std.specs.List.{list_any};
 ghost use Rattle.std.specs.FinMap.{is_sorted};
 ghost use Rattle.std.proofs.Common.{arith};
@@ -92,7 +92,8 @@ impl Table<StreamName, Highest> {
         self.position(name) < position.0
     }
 
-    fn position(&self, name: &StreamName) -> u64
+    /// The position at a name, 0 where it is absent. It takes no memory.
+    pub fn position(&self, name: &StreamName) -> u64
         ensures { result ≡ position_of self.now name.now }
     {
         match self.get(name) {
@@ -110,6 +111,16 @@ pub fn raise(marks: &mut Marks, others: &Marks) -> Result<(), NoMemory>
     ensures rising { IsTrue (is_sorted name_cmp marks.new) × IsTrue (is_sorted name_cmp others.now) }
 {
     marks.join_from(others)
+}
+
+/// Raises the position at one name. An error leaves the marks as they were.
+pub fn raise_at(marks: &mut Marks, name: StreamName, position: u64) -> Result<(), NoMemory>
+    ensures ok { OnOk result (marks.new ≡ raised marks.old ((name, position) ∷ [])) }
+    ensures err { OnErr result (marks.new ≡ marks.old) }
+{
+    // Only a table that has been looked into is known to be one.
+    let _ = marks.entries();
+    marks.join_entry(name, Highest(position))
 }
 
 #[cfg(test)]

@@ -1,0 +1,13 @@
+-- The tablets so far are empty.
+use Rattle.std.proofs.Common.{◌≡◌, ◌+◌, map, length, vec_capacity}
+use Rattle.std.specs.List.{range_with_len}
+use Rattle.pn_tablet.specs.Layouts.{tablet_ends}
+use Rattle.pn_tablet.specs.Tablets.{empty_tablet}
+use Rattle.pn_region.proofs.region.empty_tablets.Given as goal
+
+abbrev pub invariant-loop-tablet : goal.invariant-loop-tablet
+invariant-loop-tablet l = record {
+  empty : l.tablets.items ≡ map empty_tablet (map (tablet_ends l.layout) (range_with_len 0 l.tablet));
+  count : length l.tablets.items ≡ l.tablet;
+  room : vec_capacity l.tablets ≡ length l.layout + 1;
+}

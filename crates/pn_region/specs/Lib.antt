@@ -1,0 +1,4 @@
+pub mod Coding
+pub mod Marking
+pub mod Regions
+pub mod Rounds

@@ -1,0 +1,43 @@
+-- The state of a region.
+use Rattle.std.specs.Prelude.{◌≡◌, IsTrue, List, [], ◌∷◌, map}
+use Rattle.std.specs.List.{flat_map}
+use Rattle.pn_join.specs.Marks.{Positions, Reaches}
+use Rattle.pn_record.specs.CellMap.{Entries}
+use Rattle.pn_tablet.specs.Layouts.{Bounds, IsLayout}
+use Rattle.pn_tablet.specs.Laws.{IsSpelled}
+use Rattle.pn_tablet.specs.Ranges.{Ends}
+use Rattle.pn_tablet.specs.Tablets.{Tablet, empty_tablet, lie_in}
+use Rattle.pn_apply.specs.Reducing.{ranges}
+
+-- a layout, the tablets of its ranges, and how far streams were taken
+pub record RegionState : Type 0 where
+  pub layout : Bounds
+  pub tablets : List Tablet
+  pub marks : Positions
+
+-- a tablet of the range: its keys lie there, its map is one of images, and its cover reaches the marks
+pub record IsTabletOf (marks : Positions) (ends : Ends) (tablet : Tablet) : Type 0 where
+  pub range : tablet.range ≡ ends
+  pub inside : IsTrue (lie_in ends tablet.map)
+  pub spelled : IsSpelled tablet.map
+  pub covered : Reaches tablet.cover marks
+
+-- each range has its own tablet, in their order
+abbrev pub AreTabletsOf : Positions → List Ends → List Tablet → Type 0
+AreTabletsOf marks [] [] = Unit {0}
+AreTabletsOf marks [] (tablet ∷ tablets) = ⊥
+AreTabletsOf marks (range ∷ others) [] = ⊥
+AreTabletsOf marks (range ∷ others) (tablet ∷ tablets) = IsTabletOf marks range tablet × AreTabletsOf marks others tablets
+
+-- a lawful layout, and a tablet for each of its ranges whose cover reaches the marks
+pub record IsRegion (region : RegionState) : Type 0 where
+  pub lawful : IsLayout region.layout
+  pub tablets : AreTabletsOf region.marks (ranges region.layout) region.tablets
+
+-- a region that has taken nothing
+abbrev pub new_region : Bounds → RegionState
+new_region bounds = record { layout = bounds; tablets = map empty_tablet (ranges bounds); marks = [] }
+
+-- the cells of all tablets together
+abbrev pub all_cells : RegionState → Entries
+all_cells region = flat_map (λ tablet. tablet.map) region.tablets

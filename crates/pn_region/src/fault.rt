@@ -1,0 +1,34 @@
+//! Why a round was refused.
+
+ghost use Rattle.std.specs.Prelude.{◌≡◌};
+ghost use Rattle.pn_region.specs.declared.fault.RoundFault.TheVariants.{Memory as no_memory};
+
+use pn_join::{NoMemory, StreamName};
+use thiserror::Error;
+
+/// Why a round was refused.
+#[derive(Debug, Drop, Error)]
+pub enum RoundFault {
+    /// A delivery begins past the position that its stream wants next. Nothing was changed.
+    #[error("a gap in stream {name}: position {wanted} was wanted, and {got} came", name = .stream.as_str())]
+    Gap {
+        stream: StreamName,
+        wanted: u64,
+        got: u64,
+    },
+    /// There would be more than 16 streams. Nothing was changed.
+    #[error("more than 16 streams")]
+    TooManyStreams,
+    /// Each tablet is as it was, or has taken its part of the round. The marks are as they were, and the
+    /// round can be given again.
+    #[error("out of memory")]
+    Memory,
+}
+
+impl From<NoMemory> for RoundFault {
+    ghost from_gives = { λ _ fault. fault ≡ no_memory };
+
+    fn from(_error: NoMemory) -> RoundFault {
+        RoundFault::Memory
+    }
+}

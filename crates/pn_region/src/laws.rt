@@ -1,0 +1,1 @@
+//! The laws of rounds, as contracts. A call does nothing.

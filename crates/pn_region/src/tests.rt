@@ -1,0 +1,1 @@
+//! Rounds over two tablets.
