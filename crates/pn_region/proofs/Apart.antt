@@ -1,8 +1,8 @@
 -- The ranges of a layout have no key in common.
-use Rattle.std.proofs.Common.{◌≡◌, ℕ, zero, suc, ◌+◌, ◌<◌, ◌≤◌, Bool, true, false, List, [], ◌∷◌, length, map, refl, sym, arith}
+use Rattle.std.proofs.Common.{◌≡◌, ℕ, zero, suc, ◌+◌, ◌<◌, ◌≤◌, true, false, List, [], ◌∷◌, length, map, refl, arith}
 use Rattle.std.specs.List.{range_with_len}
 use Rattle.pn_tablet.specs.Ranges.{Ends, in_range}
-use Rattle.pn_tablet.specs.Layouts.{Bounds, IsLayout, tablet_of, tablet_ends}
+use Rattle.pn_tablet.specs.Layouts.{Bounds, IsLayout, tablet_ends}
 use Rattle.pn_tablet.proofs.LayoutFacts.{tablet_of_key}
 use Rattle.pn_apply.specs.Reducing.{ranges}
 

@@ -1,7 +1,10 @@
 pub mod Apart
+pub mod HalfRounds
 pub mod MarkSteps
 pub mod NewRegion
 pub mod Pieces
 pub mod RoundEnds
 pub mod RoundSteps
 pub mod Spelled
+pub mod TakenImages
+pub mod Together

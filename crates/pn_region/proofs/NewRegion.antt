@@ -1,6 +1,6 @@
 -- Regions that have taken nothing.
-use Rattle.std.proofs.Common.{◌≡◌, ℕ, zero, suc, ◌+◌, ◌≤◌, ◌<◌, List, [], ◌∷◌, ◌++◌, map, length, get_or, refl, sym, ap, ◌∙◌, subst, arith}
-use Rattle.std.specs.Prelude.{Option, Some, None, slice_get}
+use Rattle.std.proofs.Common.{◌≡◌, ℕ, zero, suc, ◌+◌, ◌<◌, List, [], ◌∷◌, ◌++◌, map, length, get_or, refl, sym, ap, ◌∙◌, subst, arith}
+use Rattle.std.specs.Prelude.{Some, slice_get}
 use Rattle.std.specs.List.{range_with_len}
 use Rattle.std.proofs.lemmas.List.{length-map, map-append}
 use Rattle.std.proofs.lemmas.List.FromFn.{length-map-range_with_len, map-range_with_len_more}
@@ -10,7 +10,7 @@ use Rattle.pn_tablet.specs.Ranges.{Ends}
 use Rattle.pn_tablet.specs.Tablets.{Tablet, empty_tablet}
 use Rattle.pn_tablet.proofs.Keeping.{spelled_nil}
 use Rattle.pn_apply.specs.Reducing.{ranges}
-use Rattle.pn_region.specs.Regions.{RegionState, IsTabletOf, AreTabletsOf, IsRegion}
+use Rattle.pn_region.specs.Regions.{AreTabletsOf, IsRegion}
 use Rattle.pn_region.proofs.RoundSteps.{own_ranges}
 
 pub empty_ones : (rs : List Ends) → AreTabletsOf [] rs (map empty_tablet rs)

@@ -15,7 +15,7 @@ use Rattle.pn_tablet.specs.Ranges.{Ends, in_range}
 use Rattle.pn_tablet.specs.Tablets.{Tablet, lie_in}
 use Rattle.pn_tablet.specs.Changes.{changes, change_of}
 use Rattle.pn_tablet.specs.declared.change.Change.{Change}
-use Rattle.pn_region.specs.Regions.{IsTabletOf, AreTabletsOf}
+use Rattle.pn_region.specs.Regions.{AreTabletsOf}
 use Rattle.pn_region.proofs.Apart.{Outside, Apart}
 
 -- the cells of tablets together

@@ -1,5 +1,5 @@
 -- What a round leaves, by how it ended.
-use Rattle.std.proofs.Common.{◌≡◌, ℕ, List, [], ◌∷◌, length, map, refl, sym, ap, ◌∙◌, subst, arith}
+use Rattle.std.proofs.Common.{◌≡◌, List, [], ◌∷◌, length, map, refl, sym, ap, ◌∙◌, subst, arith}
 use Rattle.std.specs.Prelude.{Result, Ok, Err, MatchResult, IfErr, IsErrAnd}
 use Rattle.pn_join.specs.Marks.{Positions}
 use Rattle.pn_stream.specs.Positions.{Delivered}
@@ -11,7 +11,7 @@ use Rattle.std.specs.List.{flat_map}
 use Rattle.std.specs.Result.{result_map_both}
 use Rattle.pn_apply.specs.Applying.{AreJoinsIn, all_stepped, all_changes, AreOldOrStepped}
 use Rattle.pn_apply.specs.Reducing.{all_images, ranges}
-use Rattle.pn_apply.proofs.Fronts.{old_or_stepped, stepped_whole, same_length}
+use Rattle.pn_apply.proofs.Fronts.{old_or_stepped, stepped_whole}
 use Rattle.pn_apply.proofs.ReduceLaws.{joins_fit}
 use Rattle.pn_region.specs.Marking.{new_marks}
 use Rattle.pn_region.specs.Regions.{RegionState, AreTabletsOf, IsRegion, all_cells}

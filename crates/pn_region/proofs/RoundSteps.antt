@@ -1,19 +1,18 @@
 -- What a round makes of tablets.
-use Rattle.std.proofs.Common.{◌≡◌, ℕ, ◌≤◌, max, Bool, true, List, [], ◌∷◌, ◌++◌, map, if◌then◌else◌, Ok, Err, refl, sym, ap, ◌∙◌, subst, arith, ◌⊎◌, inl, inr}
+use Rattle.std.proofs.Common.{◌≡◌, Bool, true, List, [], ◌∷◌, ◌++◌, map, if◌then◌else◌, Ok, Err, refl, sym, ap, ◌∙◌, subst, arith, ◌⊎◌, inl, inr}
 use Rattle.std.specs.Prelude.{zip}
 use Rattle.std.specs.List.{flat_map}
-use Rattle.pn_join.specs.Marks.{Positions, Reaches, position_of, raised}
+use Rattle.pn_join.specs.Marks.{Positions, Reaches, raised}
 use Rattle.pn_join.proofs.MarksFacts.{position_of-raised}
 use Rattle.pn_record.specs.declared.image.Image.{Image}
 use Rattle.pn_record.specs.Cells.{spell}
-use Rattle.pn_record.specs.CellMap.{Entries, table_of, adds}
+use Rattle.pn_record.specs.CellMap.{Entries, table_of}
 use Rattle.pn_tablet.specs.Ranges.{Ends, in_range}
 use Rattle.pn_tablet.specs.Tablets.{Tablet, lie_in}
 use Rattle.pn_tablet.specs.Steps.{taking, after_step, stepped}
-use Rattle.pn_tablet.specs.Changes.{changes, answer}
+use Rattle.pn_tablet.specs.Changes.{changes}
 use Rattle.pn_tablet.specs.declared.change.Change.{Change}
 use Rattle.pn_tablet.specs.declared.op.TabletOp.{TabletOp}
-use Rattle.pn_tablet.specs.declared.op.TabletOp.TheVariants.{Join}
 use Rattle.pn_tablet.specs.declared.fault.OpFault.TheVariants.{WrongRange}
 use Rattle.pn_tablet.proofs.Keeping.{spelled_adds}
 use Rattle.pn_apply.specs.Applying.{all_stepped, all_changes, AreOldOrStepped}

@@ -1,11 +1,10 @@
 -- The images that spell a map whose keys lie in a range.
-use Rattle.std.proofs.Common.{◌≡◌, ℕ, Bool, true, false, cond, List, [], ◌∷◌, ◌++◌, map, filter, refl, sym, ap, ◌∙◌}
+use Rattle.std.proofs.Common.{◌≡◌, ℕ, Bool, true, cond, List, [], ◌∷◌, ◌++◌, map, refl, sym, ap, ◌∙◌}
 use Rattle.std.specs.FinMap.{keys}
-use Rattle.std.specs.List.{flat_map}
 use Rattle.std.proofs.lemmas.List.Elements.{filter-append}
 use Rattle.pn_record.specs.declared.image.Image.{Image}
 use Rattle.pn_record.specs.Limits.{Shown}
-use Rattle.pn_record.specs.Sets.{Celled, Stamp}
+use Rattle.pn_record.specs.Sets.{Stamp}
 use Rattle.pn_record.specs.Cells.{spell, spell_cell}
 use Rattle.pn_record.specs.CellMap.{Entries, table_of, adds}
 use Rattle.pn_record.proofs.Sorted.{first_true, second_true}

@@ -1,4 +1,5 @@
 pub mod Coding
+pub mod Laws
 pub mod Marking
 pub mod Regions
 pub mod Rounds

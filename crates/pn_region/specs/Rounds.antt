@@ -1,5 +1,5 @@
 -- What a round makes of a region.
-use Rattle.std.specs.Prelude.{◌≡◌, ℕ, List, length, Result, Ok, Err, MatchResult}
+use Rattle.std.specs.Prelude.{◌≡◌, ℕ, List, length, Result, MatchResult}
 use Rattle.std.specs.Result.{result_map_both}
 use Rattle.pn_join.specs.Marks.{Positions}
 use Rattle.pn_stream.specs.Positions.{Delivered}

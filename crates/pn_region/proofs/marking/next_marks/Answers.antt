@@ -1,9 +1,8 @@
 -- One delivery more is followed, or the first gap is met.
-use Rattle.std.proofs.Common.{◌≡◌, ◌∷◌, [], get_or, ap, ◌∙◌, subst}
+use Rattle.std.proofs.Common.{◌≡◌, ◌∷◌, [], subst}
 use Rattle.std.specs.Prelude.{Ok}
 use Rattle.pn_stream.specs.Positions.{Delivered}
 use Rattle.pn_region.specs.Marking.{bringing, marks_after, Refuses}
-use Rattle.pn_region.specs.declared.fault.RoundFault.{RoundFault}
 use Rattle.pn_region.proofs.MarkSteps.{marks_more, refusal_met}
 use Rattle.pn_region.proofs.RoundEnds.{handed_on}
 use Rattle.pn_region.proofs.marking.next_marks.Goals as goal

@@ -1,12 +1,12 @@
 -- Each tablet takes its join, and changes are told in order.
-use Rattle.std.proofs.Common.{◌≡◌, Vec, List, map, sym, ap, ◌∙◌, subst}
+use Rattle.std.proofs.Common.{Vec, List, sym, ap, ◌∙◌, subst}
 use Rattle.std.specs.declared.alloc.Global.{Global}
 use Rattle.std.specs.List.{flat_map}
 use Rattle.std.proofs.lemmas.Result.{IfOk-weaker}
 use Rattle.std.proofs.lemmas.List.Folds.{flat_map-map}
 use Rattle.pn_tablet.specs.Tablets.{Tablet}
 use Rattle.pn_tablet.specs.declared.change.Change.{Change}
-use Rattle.pn_apply.specs.Applying.{AreJoinsIn, all_stepped, all_changes, AreOldOrStepped}
+use Rattle.pn_apply.specs.Applying.{AreJoinsIn, all_stepped, all_changes}
 use Rattle.pn_apply.proofs.Fronts.{on_err}
 use Rattle.pn_region.proofs.RoundEnds.{same_list, each_taken}
 use Rattle.pn_region.proofs.region.take_joins.Goals as goal

@@ -1,7 +1,7 @@
 -- There is a tablet of each number.
-use Rattle.std.proofs.Common.{◌≡◌, ◌+◌, length, ap, ◌∙◌, subst, arith}
+use Rattle.std.proofs.Common.{◌≡◌, length, ap, subst, arith}
 use Rattle.std.specs.Prelude.{slice_get, Some}
-use Rattle.pn_region.specs.Regions.{RegionState, IsRegion}
+use Rattle.pn_region.specs.Regions.{RegionState}
 use Rattle.pn_region.proofs.NewRegion.{tablet_count, tablet_at}
 use Rattle.pn_region.proofs.region.Region.tablet.Goals as goal
 

@@ -1,0 +1,143 @@
+-- The images that the tablets of a region have: none at first, and those of each round.
+use Rattle.std.proofs.Common.{◌≡◌, List, [], ◌∷◌, ◌++◌, map, refl, sym, ap, ◌∙◌, ◌⊎◌, inl, inr, Contains}
+use Rattle.std.proofs.lemmas.List.Elements.{Contains-append_left, Contains-append_right, Contains-append_cases}
+use Rattle.pn_join.specs.Marks.{Positions}
+use Rattle.pn_stream.specs.Positions.{Delivered}
+use Rattle.pn_record.specs.declared.image.Image.{Image}
+use Rattle.pn_record.specs.Cells.{spell}
+use Rattle.pn_record.specs.CellMap.{Entries, table_of, adds}
+use Rattle.pn_record.proofs.CellMaps.{table_of-nil}
+use Rattle.pn_tablet.specs.Layouts.{Bounds}
+use Rattle.pn_tablet.specs.Ranges.{Ends}
+use Rattle.pn_tablet.specs.Steps.{stepped}
+use Rattle.pn_tablet.specs.Tablets.{Tablet, empty_tablet}
+use Rattle.pn_apply.specs.Applying.{all_stepped, AreOldOrStepped}
+use Rattle.pn_apply.specs.Reducing.{all_images, images_in, join_in, ranges}
+use Rattle.pn_apply.proofs.ReduceLaws.{range_joins}
+use Rattle.pn_region.specs.Laws.{HasImages, AreIn, IsBetween, HoldsBetween, HoldBetween, HasBetween}
+use Rattle.pn_region.specs.Regions.{RegionState, IsTabletOf, AreTabletsOf, IsRegion, new_region}
+use Rattle.pn_region.specs.Rounds.{taking, IsHalfTaken}
+use Rattle.pn_region.proofs.HalfRounds.{half_so, left_as}
+use Rattle.pn_region.proofs.RoundSteps.{is_taken}
+
+-- the cells of each tablet
+abbrev pub maps_of : List Tablet → List Entries
+maps_of tablets = map (λ tablet. tablet.map) tablets
+
+-- the cells of images in each range
+abbrev pub pieces_of : List Image → List Ends → List Entries
+pieces_of images ranges = map (λ range. table_of (images_in range images)) ranges
+
+none_at_first : (rs : List Ends) → maps_of (map empty_tablet rs) ≡ pieces_of [] rs
+none_at_first [] = refl
+none_at_first (r ∷ rs) = λ i. sym table_of-nil i ∷ none_at_first rs i
+
+-- a new region has the cells of no image
+pub new_has : (bounds : Bounds) → HasImages (new_region bounds) []
+new_has bounds = none_at_first (ranges bounds)
+
+none_between : (rs : List Ends) → HoldBetween [] [] rs (map empty_tablet rs)
+none_between [] = tt
+none_between (r ∷ rs) = (([], record { all = λ image there. there; no_others = λ image there. there }, sym table_of-nil), none_between rs)
+
+pub new_between : (bounds : Bounds) → HasBetween [] [] (new_region bounds)
+new_between bounds = none_between (ranges bounds)
+
+pub heads : {A : Type 0} (x y : A) (xs ys : List A) → x ∷ xs ≡ y ∷ ys → x ≡ y
+heads x y xs ys is = cc
+
+pub tails : {A : Type 0} (x y : A) (xs ys : List A) → x ∷ xs ≡ y ∷ ys → xs ≡ ys
+tails x y xs ys is = cc
+
+either_one : {A B P : Type 0} → (A → P) → (B → P) → A ⊎ B → P
+either_one first second (inl one) = first one
+either_one first second (inr other) = second other
+
+-- what is in one list or in the other
+by_part : {P : Type 0} (xs ys : List Image) (image : Image) → (Contains xs image → P) → (Contains ys image → P) → Contains (xs ++ ys) image → P
+by_part xs ys image first second there = either_one first second (Contains-append_cases xs ys image there)
+
+module _ (sure maybe images more : List Image) (between : IsBetween sure maybe images) where
+  sure_more : IsBetween (sure ++ more) maybe (images ++ more)
+  sure_more = record {
+    all = λ image.
+        by_part sure more image (λ there. Contains-append_left images more image (between.all image there)) (Contains-append_right images more image);
+    no_others = λ image.
+        by_part images more image
+        (λ there. by_part sure maybe image
+        (λ one. Contains-append_left (sure ++ more) maybe image (Contains-append_left sure more image one))
+        (Contains-append_right (sure ++ more) maybe image) (between.no_others image there))
+        (λ there. Contains-append_left (sure ++ more) maybe image (Contains-append_right sure more image there));
+  }
+
+  wider : AreIn images (sure ++ (maybe ++ more))
+  wider image there =
+      by_part sure maybe image (Contains-append_left sure (maybe ++ more) image)
+      (λ one. Contains-append_right sure (maybe ++ more) image (Contains-append_left maybe more image one)) (between.no_others image there)
+
+  maybe_none : IsBetween sure (maybe ++ more) images
+  maybe_none = record { all = between.all; no_others = wider }
+
+  maybe_all : IsBetween sure (maybe ++ more) (images ++ more)
+  maybe_all = record {
+    all = λ image there. Contains-append_left images more image (between.all image there);
+    no_others = λ image.
+        by_part images more image (wider image) (λ there. Contains-append_right sure (maybe ++ more) image (Contains-append_right maybe more image there));
+  }
+
+module _ (marks old : Positions) (images : List Image) where
+  -- a tablet that has the cells of images in its range takes those of more
+  one_takes : (taken : List Image) (r : Ends) (t : Tablet) → IsTabletOf old r t → t.map ≡ table_of (images_in r taken) → (stepped t (join_in marks images r)).map ≡ table_of (images_in r (taken ++ images))
+  one_takes taken r t is has =
+      ap (λ (after : Tablet). after.map) (is_taken marks images old r t is)
+      ∙ ap (λ (cells : Entries). adds cells (spell (table_of (images_in r images)))) has ∙ range_joins r taken images
+
+  all_take : (taken : List Image) (rs : List Ends) (ts : List Tablet) → AreTabletsOf old rs ts → maps_of ts ≡ pieces_of taken rs → maps_of (all_stepped ts (map (join_in marks images) rs)) ≡ pieces_of (taken ++ images) rs
+  all_take taken [] [] are has = refl
+  all_take taken [] (t ∷ ts) are has = absurd are
+  all_take taken (r ∷ rs) [] are has = absurd are
+  all_take taken (r ∷ rs) (t ∷ ts) are has =
+      let here = heads t.map (table_of (images_in r taken)) (maps_of ts) (pieces_of taken rs) has in
+      let later = tails t.map (table_of (images_in r taken)) (maps_of ts) (pieces_of taken rs) has in
+      λ i. one_takes taken r t are.0 here i ∷ all_take taken rs ts are.1 later i
+
+  all_surely : (sure maybe : List Image) (rs : List Ends) (ts : List Tablet) → AreTabletsOf old rs ts → HoldBetween sure maybe rs ts → HoldBetween (sure ++ images) maybe rs (all_stepped ts (map (join_in marks images) rs))
+  all_surely sure maybe [] [] are has = tt
+  all_surely sure maybe [] (t ∷ ts) are has = absurd are
+  all_surely sure maybe (r ∷ rs) [] are has = absurd are
+  all_surely sure maybe (r ∷ rs) (t ∷ ts) are has =
+      ((has.0.0 ++ images, sure_more sure maybe has.0.0 images has.0.1, one_takes has.0.0 r t are.0 has.0.2), all_surely sure maybe rs ts are.1 has.1)
+
+  one_perhaps : (sure maybe : List Image) (r : Ends) (t u : Tablet) → IsTabletOf old r t → HoldsBetween sure maybe r t.map → (u ≡ t) ⊎ (u ≡ stepped t (join_in marks images r)) → HoldsBetween sure (maybe ++ images) r u.map
+  one_perhaps sure maybe r t u is has (inl same) = (has.0, maybe_none sure maybe has.0 images has.1, ap (λ (after : Tablet). after.map) same ∙ has.2)
+  one_perhaps sure maybe r t u is has (inr took) =
+      (has.0 ++ images, maybe_all sure maybe has.0 images has.1, ap (λ (after : Tablet). after.map) took ∙ one_takes has.0 r t is has.2)
+
+  all_perhaps : (sure maybe : List Image) (rs : List Ends) (ts us : List Tablet) → AreTabletsOf old rs ts → HoldBetween sure maybe rs ts → AreOldOrStepped ts (map (join_in marks images) rs) us → HoldBetween sure (maybe ++ images) rs us
+  all_perhaps sure maybe [] [] [] are has half = tt
+  all_perhaps sure maybe [] [] (u ∷ us) are has half = absurd half
+  all_perhaps sure maybe [] (t ∷ ts) us are has half = absurd are
+  all_perhaps sure maybe (r ∷ rs) [] us are has half = absurd are
+  all_perhaps sure maybe (r ∷ rs) (t ∷ ts) [] are has half = absurd half
+  all_perhaps sure maybe (r ∷ rs) (t ∷ ts) (u ∷ us) are has half = (one_perhaps sure maybe r t u are.0 has.0 half.0, all_perhaps sure maybe rs ts us are.1 has.1 half.1)
+
+none_perhaps : (sure maybe more : List Image) (rs : List Ends) (ts : List Tablet) → HoldBetween sure maybe rs ts → HoldBetween sure (maybe ++ more) rs ts
+none_perhaps sure maybe more [] [] has = tt
+none_perhaps sure maybe more [] (t ∷ ts) has = absurd has
+none_perhaps sure maybe more (r ∷ rs) [] has = absurd has
+none_perhaps sure maybe more (r ∷ rs) (t ∷ ts) has = ((has.0.0, maybe_none sure maybe has.0.0 more has.0.1, has.0.2), none_perhaps sure maybe more rs ts has.1)
+
+-- a round takes its images
+pub round_takes : (region : RegionState) (deliveries : List Delivered) (marks : Positions) (taken : List Image) → IsRegion region → HasImages region taken → HasImages (taking region deliveries marks) (taken ++ all_images deliveries)
+round_takes region deliveries marks taken is has = all_take marks region.marks (all_images deliveries) taken (ranges region.layout) region.tablets is.tablets has
+
+pub round_surely_takes : (region : RegionState) (deliveries : List Delivered) (marks : Positions) (sure maybe : List Image) → IsRegion region → HasBetween sure maybe region → HasBetween (sure ++ all_images deliveries) maybe (taking region deliveries marks)
+round_surely_takes region deliveries marks sure maybe is has = all_surely marks region.marks (all_images deliveries) sure maybe (ranges region.layout) region.tablets is.tablets has
+
+-- a round that ended without memory may have taken them
+pub round_may_take : (old new : RegionState) (deliveries : List Delivered) (sure maybe : List Image) → IsRegion old → HasBetween sure maybe old → IsHalfTaken old deliveries new → HasBetween sure (maybe ++ all_images deliveries) new
+round_may_take old new deliveries sure maybe is has left =
+    left_as old new deliveries (HasBetween sure (maybe ++ all_images deliveries)) left
+    (half_so old new deliveries (HoldBetween sure (maybe ++ all_images deliveries) (ranges old.layout))
+    (none_perhaps sure maybe (all_images deliveries) (ranges old.layout) old.tablets has)
+    (λ marks half. all_perhaps marks old.marks (all_images deliveries) sure maybe (ranges old.layout) old.tablets new.tablets is.tablets has half) left)

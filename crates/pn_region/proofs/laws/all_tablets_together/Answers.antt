@@ -1,0 +1,9 @@
+-- The laws are lemmas.
+use Rattle.pn_region.proofs.Together.{together, surely_together}
+use Rattle.pn_region.proofs.laws.all_tablets_together.Goals as goal
+
+pub returns-clause-images : goal.returns-clause-images
+returns-clause-images c = together
+
+pub returns-clause-surely : goal.returns-clause-surely
+returns-clause-surely c = surely_together

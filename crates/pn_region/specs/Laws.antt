@@ -1,0 +1,36 @@
+-- The words of the laws of regions.
+use Rattle.std.specs.Prelude.{◌≡◌, List, [], ◌∷◌, ◌++◌, map, Contains}
+use Rattle.pn_record.specs.declared.image.Image.{Image}
+use Rattle.pn_record.specs.CellMap.{Entries, table_of}
+use Rattle.pn_tablet.specs.Ranges.{Ends}
+use Rattle.pn_tablet.specs.Tablets.{Tablet}
+use Rattle.pn_apply.specs.Reducing.{images_in, ranges}
+use Rattle.pn_region.specs.Regions.{RegionState}
+
+-- each tablet has the cells of the images that lie in its range
+abbrev pub HasImages : RegionState → List Image → Type 0
+HasImages region images = map (λ tablet. tablet.map) region.tablets ≡ map (λ range. table_of (images_in range images)) (ranges region.layout)
+
+-- each image of one list is in the other
+abbrev pub AreIn : List Image → List Image → Type 0
+AreIn images others = (image : Image) → Contains images image → Contains others image
+
+-- the images have all of the sure ones, and none but the sure ones and those that may be there
+pub record IsBetween (sure maybe images : List Image) : Type 0 where
+  pub all : AreIn sure images
+  pub no_others : AreIn images (sure ++ maybe)
+
+-- the cells are those, in the range, of images that have all of the sure ones and none but both
+abbrev pub HoldsBetween : List Image → List Image → Ends → Entries → Type 0
+HoldsBetween sure maybe range cells = (images : List Image) × IsBetween sure maybe images × (cells ≡ table_of (images_in range images))
+
+-- so are the cells of each tablet in its own range
+abbrev pub HoldBetween : List Image → List Image → List Ends → List Tablet → Type 0
+HoldBetween sure maybe [] [] = Unit {0}
+HoldBetween sure maybe [] (tablet ∷ tablets) = ⊥
+HoldBetween sure maybe (range ∷ others) [] = ⊥
+HoldBetween sure maybe (range ∷ others) (tablet ∷ tablets) = HoldsBetween sure maybe range tablet.map × HoldBetween sure maybe others tablets
+
+-- each tablet has the cells, in its range, of a list of images that has all of the first and none but those of both
+abbrev pub HasBetween : List Image → List Image → RegionState → Type 0
+HasBetween sure maybe region = HoldBetween sure maybe (ranges region.layout) region.tablets
