@@ -1,6 +1,9 @@
 pub mod Apart
 pub mod HalfRounds
+pub mod KeyTablets
+pub mod MarkLaws
 pub mod MarkSteps
+pub mod NeverBack
 pub mod NewRegion
 pub mod Pieces
 pub mod RoundEnds

@@ -1,7 +1,8 @@
 -- The words of the laws of regions.
-use Rattle.std.specs.Prelude.{◌≡◌, List, [], ◌∷◌, ◌++◌, map, Contains}
+use Rattle.std.specs.Prelude.{◌≡◌, ℕ, ◌+◌, ◌≤◌, ◌<◌, length, List, [], ◌∷◌, ◌++◌, map, Contains}
 use Rattle.pn_record.specs.declared.image.Image.{Image}
 use Rattle.pn_record.specs.CellMap.{Entries, table_of}
+use Rattle.pn_stream.specs.Positions.{Delivered}
 use Rattle.pn_tablet.specs.Ranges.{Ends}
 use Rattle.pn_tablet.specs.Tablets.{Tablet}
 use Rattle.pn_apply.specs.Reducing.{images_in, ranges}
@@ -34,3 +35,11 @@ HoldBetween sure maybe (range ∷ others) (tablet ∷ tablets) = HoldsBetween su
 -- each tablet has the cells, in its range, of a list of images that has all of the first and none but those of both
 abbrev pub HasBetween : List Image → List Image → RegionState → Type 0
 HasBetween sure maybe region = HoldBetween sure maybe (ranges region.layout) region.tablets
+
+-- one of the deliveries has the position of the stream
+pub record HasPosition (deliveries : List Delivered) (name : List ℕ) (position : ℕ) : Type 0 where
+  pub delivery : Delivered
+  pub there : Contains deliveries delivery
+  pub stream : delivery.stream ≡ name
+  pub from : delivery.first ≤ position
+  pub before : position < delivery.first + length delivery.images

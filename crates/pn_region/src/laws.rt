@@ -1,13 +1,18 @@
 //! The laws of rounds, as contracts. A call does nothing.
 
-ghost use Rattle.std.specs.Prelude.{◌≡◌, List, [], ◌++◌};
-ghost use Rattle.pn_join.specs.Marks.{Positions};
+ghost use Rattle.std.specs.Prelude.{◌≡◌, ℕ, ◌≤◌, ◌<◌, List, [], ◌++◌, length, Contains, Ok, Some, IsSome, slice_get};
+ghost use Rattle.std.specs.FinMap.{find};
+ghost use Rattle.pn_join.specs.Marks.{Positions, Reaches, position_of};
 ghost use Rattle.pn_record.specs.declared.image.Image.{Image};
+ghost use Rattle.pn_record.specs.Order.{bytes_cmp};
 ghost use Rattle.pn_record.specs.CellMap.{table_of};
+ghost use Rattle.pn_record.specs.Older.{NotOlder};
 ghost use Rattle.pn_stream.specs.Positions.{Delivered};
-ghost use Rattle.pn_tablet.specs.Layouts.{Bounds, IsLayout};
+ghost use Rattle.pn_tablet.specs.Layouts.{Bounds, IsLayout, tablet_of};
+ghost use Rattle.pn_tablet.specs.Tablets.{Tablet};
 ghost use Rattle.pn_apply.specs.Reducing.{all_images};
-ghost use Rattle.pn_region.specs.Laws.{AreIn, HasImages, HasBetween};
+ghost use Rattle.pn_region.specs.Laws.{AreIn, HasImages, HasBetween, HasPosition};
+ghost use Rattle.pn_region.specs.Marking.{last_position, new_marks};
 ghost use Rattle.pn_region.specs.Regions.{RegionState, IsRegion, new_region, all_cells};
 ghost use Rattle.pn_region.specs.Rounds.{taking, IsHalfTaken};
 
@@ -48,4 +53,40 @@ pub fn all_tablets_together()
     ensures surely { (region : RegionState) (sure maybe : List Image)
         → IsLayout region.layout → HasBetween sure maybe region → AreIn maybe sure
         → all_cells region ≡ table_of sure }
+{}
+
+/// No round takes a record away or leaves it at an older version, nor does one that ends without memory.
+pub fn a_round_never_goes_back()
+    ensures taken { (region : RegionState) (deliveries : List Delivered) (marks : Positions)
+        → IsRegion region → (key : List ℕ)
+        → NotOlder (find bytes_cmp key (all_cells region)) (find bytes_cmp key (all_cells (taking region deliveries marks))) }
+    ensures half_taken { (old new : RegionState) (deliveries : List Delivered)
+        → IsRegion old → IsHalfTaken old deliveries new → (key : List ℕ)
+        → NotOlder (find bytes_cmp key (all_cells old)) (find bytes_cmp key (all_cells new)) }
+{}
+
+/// The tablet that the layout names for a key is there, and what it has at the key is what all tablets have.
+pub fn the_tablet_of_a_key_has_its_cell()
+    ensures there { (region : RegionState) (key : List ℕ)
+        → IsRegion region → IsSome (slice_get region.tablets (tablet_of region.layout key)) }
+    ensures cell { (region : RegionState) (key : List ℕ) (tablet : Tablet)
+        → IsRegion region → slice_get region.tablets (tablet_of region.layout key) ≡ Some tablet
+        → find bytes_cmp key tablet.map ≡ find bytes_cmp key (all_cells region) }
+{}
+
+/// Each position that the marks go past stands in one of the deliveries.
+pub fn no_position_is_skipped()
+    ensures { (marks next : Positions) (deliveries : List Delivered) (name : List ℕ) (position : ℕ)
+        → new_marks marks deliveries ≡ Ok next
+        → position_of marks name < position → position ≤ position_of next name
+        → HasPosition deliveries name position }
+{}
+
+/// New marks are nowhere below those before, nor below the last position of any delivery that has images.
+pub fn marks_take_the_greatest()
+    ensures before { (marks next : Positions) (deliveries : List Delivered)
+        → new_marks marks deliveries ≡ Ok next → Reaches next marks }
+    ensures delivered { (marks next : Positions) (deliveries : List Delivered) (delivery : Delivered)
+        → new_marks marks deliveries ≡ Ok next → Contains deliveries delivery → 0 < length delivery.images
+        → last_position delivery ≤ position_of next delivery.stream }
 {}
