@@ -1,1 +1,151 @@
-//! Rounds over two tablets.
+//! Rounds over two tablets, and the marks of deliveries.
+
+use super::*;
+use pn_apply::Open;
+use pn_join::{Highest, Marks, Name};
+use pn_record::{Key, KeyFault, read_image};
+use pn_stream::Delivery;
+use pn_tablet::Layout;
+use std::alloc::Global;
+use std::test::Fail;
+
+// A delivery from this position on of an image at each of these keys, all of one version.
+fn delivery(alloc: Global, stream: &str, first: u64, keys: &[&str]) -> Result<Delivery, Fail> {
+    let mut images = Vec::with_capacity(alloc, keys.len())?;
+    for key in keys {
+        let line = format!(in alloc;
+            "{{\"fields\":{{\"v\":\"x\"}},\"key\":\"{key}\",\"master\":\"w\",\"version\":[1,0]}}"
+        )?;
+        images.push(read_image(alloc, line.as_bytes())?)?;
+    }
+    Ok(Delivery::new(Name::read(stream.as_bytes())?, first, images).ok_or(KeyFault::OutOfRange)?)
+}
+
+// Marks of the streams, each with its first three positions taken.
+fn marks(alloc: Global, streams: &[&str]) -> Result<Marks, Fail> {
+    let mut marks = Marks::new(alloc);
+    for stream in streams {
+        marks.join_entry(Name::read(stream.as_bytes())?, Highest(3))?;
+    }
+    Ok(marks)
+}
+
+// Each stream with its position.
+fn text_of(alloc: Global, marks: &Marks) -> Result<String, Fail> {
+    let mut text = String::new(alloc);
+    for place in 0..marks.len() {
+        if let Some((stream, position)) = marks.entry_at(place) {
+            let position = position.0;
+            text.push_str(format!(in alloc; "{}:{position} ", stream.as_str())?.as_str())?;
+        }
+    }
+    Ok(text)
+}
+
+// The marks after one delivery, or why it was refused.
+fn told(alloc: Global, marks: &Marks, delivery: Delivery) -> Result<String, Fail> {
+    match next_marks(marks, &[delivery]) {
+        Ok(next) => text_of(alloc, &next),
+        Err(fault) => Ok(format!(in alloc; "{fault}")?),
+    }
+}
+
+#[test]
+fn an_overlap_takes_its_stream_to_its_last_position(rt: HostRuntime) -> Result<(), Fail> {
+    let alloc = rt.alloc();
+    let told = told(
+        alloc,
+        &marks(alloc, &["east"])?,
+        delivery(alloc, "east", 2, &["a", "b", "c"])?,
+    )?;
+    assert_eq!(rt; told.as_str(), "east:4 ");
+    Ok(())
+}
+
+#[test]
+fn a_gap_names_the_position_that_was_wanted(rt: HostRuntime) -> Result<(), Fail> {
+    let alloc = rt.alloc();
+    let told = told(
+        alloc,
+        &marks(alloc, &["east"])?,
+        delivery(alloc, "east", 6, &["a"])?,
+    )?;
+    assert_eq!(rt;
+        told.as_str(),
+        "a gap in stream east: position 4 was wanted, and 6 came"
+    );
+    Ok(())
+}
+
+#[test]
+fn a_delivery_without_images_names_no_stream(rt: HostRuntime) -> Result<(), Fail> {
+    let alloc = rt.alloc();
+    let told = told(
+        alloc,
+        &marks(alloc, &["east"])?,
+        delivery(alloc, "west", 9, &[])?,
+    )?;
+    assert_eq!(rt; told.as_str(), "east:3 ");
+    Ok(())
+}
+
+const SIXTEEN: &[&str] = &[
+    "a", "b", "c", "d", "e", "f", "g", "h", "i", "j", "k", "l", "m", "n", "o", "p",
+];
+
+#[test]
+fn a_seventeenth_stream_is_refused(rt: HostRuntime) -> Result<(), Fail> {
+    let alloc = rt.alloc();
+    let told = told(
+        alloc,
+        &marks(alloc, SIXTEEN)?,
+        delivery(alloc, "q", 1, &["a"])?,
+    )?;
+    assert_eq!(rt; told.as_str(), "more than 16 streams");
+    Ok(())
+}
+
+// A new region of two tablets.
+fn region(alloc: Global) -> Result<Region, Fail> {
+    let mut bounds = Vec::new(alloc);
+    bounds.push(Key::of(alloc, "m")?)?;
+    Ok(Region::new(alloc, Layout::new(bounds)?)?)
+}
+
+// How many records a round of one delivery from the start of a stream changes.
+fn changed(alloc: Global, region: &mut Region, keys: &[&str]) -> Result<u64, Fail> {
+    let mut deliveries = Vec::new(alloc);
+    deliveries.push(delivery(alloc, "east", 1, keys)?)?;
+    Ok(region.round(deliveries, 2, &Open)?.changed)
+}
+
+#[test]
+fn a_round_that_comes_again_changes_nothing(rt: HostRuntime) -> Result<(), Fail> {
+    let alloc = rt.alloc();
+    let mut region = region(alloc)?;
+    assert_eq!(rt; changed(alloc, &mut region, &["l", "m"])?, 2);
+    assert_eq!(rt; changed(alloc, &mut region, &["l", "m"])?, 0);
+    assert_eq!(rt; text_of(alloc, region.marks())?.as_str(), "east:2 ");
+    Ok(())
+}
+
+#[test]
+fn the_new_tail_of_an_overlap_is_taken(rt: HostRuntime) -> Result<(), Fail> {
+    let alloc = rt.alloc();
+    let mut region = region(alloc)?;
+    assert_eq!(rt; changed(alloc, &mut region, &["m"])?, 1);
+    assert_eq!(rt; changed(alloc, &mut region, &["m", "l", "n"])?, 2);
+    assert_eq!(rt; text_of(alloc, region.marks())?.as_str(), "east:3 ");
+    Ok(())
+}
+
+#[test]
+fn each_tablet_has_the_records_of_its_range(rt: HostRuntime) -> Result<(), Fail> {
+    let alloc = rt.alloc();
+    let mut region = region(alloc)?;
+    assert_eq!(rt; changed(alloc, &mut region, &["l", "m", "n"])?, 3);
+    assert!(rt; region.layout().count() == 2);
+    assert_eq!(rt; region.tablet(0).cells().len(), 1);
+    assert_eq!(rt; region.tablet(1).cells().len(), 2);
+    Ok(())
+}
