@@ -129,45 +129,100 @@ fn copied(key: Option<&Key>) -> Result<Option<Key>, NoMemory>
 #[cfg(test)]
 mod tests {
     use super::*;
+    use pn_record::KeyFault;
     use std::alloc::Global;
     use std::test::Fail;
 
-    fn key(alloc: Global, text: &str) -> Result<Key, Fail> {
-        Ok(Key::of(alloc, text)?)
+    /// The texts of both ends, where they are there.
+    type Ends = (Option<&'static str>, Option<&'static str>);
+
+    const FROM_L_TO_N: Ends = (Some("l"), Some("n"));
+
+    fn key(alloc: Global, text: Option<&str>) -> Result<Option<Key>, Fail> {
+        match text {
+            Some(text) => Ok(Some(Key::of(alloc, text)?)),
+            None => Ok(None),
+        }
+    }
+
+    fn made(alloc: Global, ends: Ends) -> Result<Option<Range>, Fail> {
+        let from = key(alloc, ends.0)?;
+        let to = key(alloc, ends.1)?;
+        Ok(Range::new(from, to))
+    }
+
+    fn is_made(alloc: Global, ends: Ends) -> Result<bool, Fail> {
+        Ok(made(alloc, ends)?.is_some())
+    }
+
+    fn range_of(alloc: Global, ends: Ends) -> Result<Range, Fail> {
+        Ok(made(alloc, ends)?.ok_or(KeyFault::OutOfRange)?)
+    }
+
+    fn has(alloc: Global, range: &Range, text: &str) -> Result<bool, Fail> {
+        let key = Key::of(alloc, text)?;
+        Ok(range.contains(&key))
+    }
+
+    fn is(end: Option<&Key>, text: &str) -> bool {
+        match end {
+            Some(key) => key.as_str() == text,
+            None => false,
+        }
+    }
+
+    fn are_equal(alloc: Global, ends: Ends, others: Ends) -> Result<bool, Fail> {
+        let range = range_of(alloc, ends)?;
+        let other = range_of(alloc, others)?;
+        Ok(range == other)
+    }
+
+    fn copy_of(alloc: Global, ends: Ends) -> Result<Range, Fail> {
+        let range = range_of(alloc, ends)?;
+        Ok(range.dup()?)
+    }
+
+    fn equals_its_copy(range: &Range) -> Result<bool, Fail> {
+        let copy = range.dup()?;
+        Ok(*range == copy)
     }
 
     #[test]
     fn ends_are_in_order(rt: HostRuntime) -> Result<(), Fail> {
         let alloc = rt.alloc();
-        assert!(rt; Range::new(Some(key(alloc, "m")?), Some(key(alloc, "m")?)).is_none());
-        assert!(rt; Range::new(Some(key(alloc, "n")?), Some(key(alloc, "m")?)).is_none());
-        assert!(rt; Range::new(Some(key(alloc, "b")?), Some(key(alloc, "aa")?)).is_none());
-        assert!(rt; Range::new(Some(key(alloc, "m")?), None).is_some());
-        assert!(rt; Range::new(None, None).is_some());
+        assert!(rt; !is_made(alloc, (Some("m"), Some("m")))?);
+        assert!(rt; !is_made(alloc, (Some("n"), Some("m")))?);
+        assert!(rt; !is_made(alloc, (Some("b"), Some("aa")))?);
+        assert!(rt; is_made(alloc, (Some("m"), None))?);
+        assert!(rt; is_made(alloc, (None, None))?);
         Ok(())
     }
 
     #[test]
     fn the_first_end_is_in_and_the_other_is_not(rt: HostRuntime) -> Result<(), Fail> {
-        let alloc = rt.alloc();
-        let range = Range::new(Some(key(alloc, "l")?), Some(key(alloc, "n")?));
-        let range = range.expect(&rt, "ends in order").dup()?;
-        assert!(rt; range.contains(&key(alloc, "l")?));
-        assert!(rt; range.contains(&key(alloc, "m")?));
-        assert!(rt; !range.contains(&key(alloc, "n")?));
-        assert!(rt; !range.contains(&key(alloc, "k")?));
-        assert_eq!(rt; range.from(), Some(&key(alloc, "l")?));
-        assert_eq!(rt; range.to(), Some(&key(alloc, "n")?));
+        let range = copy_of(rt.alloc(), FROM_L_TO_N)?;
+        assert!(rt; has(rt.alloc(), &range, "l")?);
+        assert!(rt; has(rt.alloc(), &range, "m")?);
+        assert!(rt; !has(rt.alloc(), &range, "n")?);
+        assert!(rt; !has(rt.alloc(), &range, "k")?);
+        Ok(())
+    }
+
+    #[test]
+    fn a_copy_has_both_ends(rt: HostRuntime) -> Result<(), Fail> {
+        let copy = copy_of(rt.alloc(), FROM_L_TO_N)?;
+        assert!(rt; is(copy.from(), "l"));
+        assert!(rt; is(copy.to(), "n"));
         Ok(())
     }
 
     #[test]
     fn ranges_are_compared_by_both_ends(rt: HostRuntime) -> Result<(), Fail> {
         let alloc = rt.alloc();
-        let range = Range::new(None, Some(key(alloc, "n")?)).expect(&rt, "a range");
-        assert!(rt; range == range.dup()?);
-        assert!(rt; Some(range.dup()?) != Range::new(None, None));
-        assert!(rt; Some(range) != Range::new(Some(key(alloc, "a")?), Some(key(alloc, "n")?)));
+        let range = range_of(alloc, (None, Some("n")))?;
+        assert!(rt; equals_its_copy(&range)?);
+        assert!(rt; !are_equal(alloc, (None, Some("n")), (None, None))?);
+        assert!(rt; !are_equal(alloc, (None, Some("n")), (Some("a"), Some("n")))?);
         Ok(())
     }
 }
