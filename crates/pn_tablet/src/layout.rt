@@ -124,6 +124,37 @@ mod tests {
         Ok(keys)
     }
 
+    fn layout_of(alloc: Global, texts: &[&str]) -> Result<Layout, Fail> {
+        let keys = keys(alloc, texts)?;
+        Ok(Layout::new(keys)?)
+    }
+
+    fn fault_of(alloc: Global, texts: &[&str]) -> Result<Option<LayoutFault>, Fail> {
+        let keys = keys(alloc, texts)?;
+        Ok(Layout::new(keys).err())
+    }
+
+    fn tablet_at(alloc: Global, layout: &Layout, text: &str) -> Result<usize, Fail> {
+        let key = Key::of(alloc, text)?;
+        Ok(layout.tablet_of(&key))
+    }
+
+    fn is(end: Option<&Key>, text: Option<&str>) -> bool {
+        match (end, text) {
+            (Some(key), Some(text)) => key.as_str() == text,
+            (None, None) => true,
+            _ => false,
+        }
+    }
+
+    fn has_ends(layout: &Layout, tablet: usize, from: Option<&str>, to: Option<&str>) -> bool {
+        if tablet >= layout.count() {
+            return false;
+        }
+        let ends = layout.range(tablet);
+        is(ends.0, from) && is(ends.1, to)
+    }
+
     // So many bounds, which rise.
     fn bounds(alloc: Global, count: u8) -> Result<Vec<Key>, Fail> {
         let mut bounds = Vec::new(alloc);
@@ -137,11 +168,9 @@ mod tests {
     #[test]
     fn faulty_bounds_are_refused(rt: HostRuntime) -> Result<(), Fail> {
         let alloc = rt.alloc();
-        assert_eq!(rt;
-            Layout::new(keys(alloc, &["m", "m"])?).err(),
-            Some(LayoutFault::NotRising(1))
-        );
-        let fault = Layout::new(keys(alloc, &["a", "b", "d", "c", "a"])?).err();
+        let fault = fault_of(alloc, &["m", "m"])?;
+        assert_eq!(rt; fault, Some(LayoutFault::NotRising(1)));
+        let fault = fault_of(alloc, &["a", "b", "d", "c", "a"])?;
         assert_eq!(rt; fault, Some(LayoutFault::NotRising(3)));
         assert_eq!(rt;
             Layout::new(bounds(alloc, 64)?).err(),
@@ -164,32 +193,35 @@ mod tests {
     #[test]
     fn keys_have_their_tablets(rt: HostRuntime) -> Result<(), Fail> {
         let alloc = rt.alloc();
-        let layout = Layout::new(keys(alloc, &["m", "t"])?)?.dup()?;
+        let layout = layout_of(alloc, &["m", "t"])?.dup()?;
         assert_eq!(rt; layout.count(), 3);
         for (text, tablet) in [("a", 0), ("lz", 0), ("m", 1), ("s", 1), ("t", 2), ("z", 2)] {
-            assert_eq!(rt; layout.tablet_of(&Key::of(alloc, text)?), tablet);
+            assert_eq!(rt; tablet_at(alloc, &layout, text)?, tablet);
         }
         Ok(())
     }
 
     #[test]
     fn tablets_have_their_ends(rt: HostRuntime) -> Result<(), Fail> {
-        let alloc = rt.alloc();
-        let layout = Layout::new(keys(alloc, &["m", "t"])?)?;
-        let (m, t) = (Key::of(alloc, "m")?, Key::of(alloc, "t")?);
-        assert_eq!(rt; layout.range(0), (None, Some(&m)));
-        assert_eq!(rt; layout.range(1), (Some(&m), Some(&t)));
-        assert_eq!(rt; layout.range(2), (Some(&t), None));
-        let whole = Layout::new(Vec::new(alloc))?;
+        let layout = layout_of(rt.alloc(), &["m", "t"])?;
+        assert!(rt; has_ends(&layout, 0, None, Some("m")));
+        assert!(rt; has_ends(&layout, 1, Some("m"), Some("t")));
+        assert!(rt; has_ends(&layout, 2, Some("t"), None));
+        Ok(())
+    }
+
+    #[test]
+    fn one_tablet_has_no_ends(rt: HostRuntime) -> Result<(), Fail> {
+        let whole = Layout::new(Vec::new(rt.alloc()))?;
         assert_eq!(rt; whole.count(), 1);
-        assert_eq!(rt; whole.range(0), (None, None));
+        assert!(rt; has_ends(&whole, 0, None, None));
         Ok(())
     }
 
     #[test]
     fn a_first_tablet_may_hold_no_key(rt: HostRuntime) -> Result<(), Fail> {
-        let layout = Layout::new(keys(rt.alloc(), &["\0"])?)?;
-        assert_eq!(rt; layout.tablet_of(&Key::of(rt.alloc(), "\0")?), 1);
+        let layout = layout_of(rt.alloc(), &["\0"])?;
+        assert_eq!(rt; tablet_at(rt.alloc(), &layout, "\0")?, 1);
         Ok(())
     }
 }
