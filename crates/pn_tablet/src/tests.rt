@@ -21,6 +21,12 @@ const FIVE: &[Row] = &[
     ("e", 0, "x"),
 ];
 
+/// The first four of them.
+const FOUR: &[Row] = &[("a", 0, "x"), ("b", 0, "x"), ("c", 0, "x"), ("d", 0, "x")];
+
+/// The sixth.
+const SIXTH: &[Row] = &[("a", 1, "y")];
+
 /// The sixth and the seventh.
 const ARRIVALS: &[Row] = &[("a", 1, "y"), ("f", 0, "x")];
 
@@ -33,6 +39,23 @@ const ALL: &[Row] = &[
     ("e", 0, "x"),
     ("f", 0, "x"),
 ];
+
+/// What a tablet is put through.
+#[derive(Clone, Copy)]
+enum Step {
+    /// The join of the rows, which came up to the position.
+    Join(&'static [Row], u64),
+    Lose,
+}
+
+/// Five messages are taken and lost, and the sixth and the seventh come since.
+const RECOVERING: &[Step] = &[Step::Join(FIVE, 5), Step::Lose, Step::Join(ARRIVALS, 7)];
+
+/// The sixth message comes by itself.
+const SIX_TAKEN: &[Step] = &[Step::Join(FIVE, 5), Step::Join(SIXTH, 6)];
+
+/// Four of the five messages come.
+const FOUR_TAKEN: &[Step] = &[Step::Join(FOUR, 4)];
 
 fn image(alloc: Global, row: Row) -> Result<Image, Fail> {
     let (key, number, text) = row;
@@ -129,6 +152,33 @@ fn tell(changes: &[Change], want: &[Told]) -> bool {
     changes.len() == want.len()
 }
 
+fn take(state: &mut TabletState, alloc: Global, step: Step) -> Result<(), Fail> {
+    let op = operation(alloc, step)?;
+    state.apply(&op)?;
+    Ok(())
+}
+
+fn operation(alloc: Global, step: Step) -> Result<TabletOp, Fail> {
+    match step {
+        Step::Join(rows, position) => join(alloc, rows, position),
+        Step::Lose => Ok(TabletOp::Lose),
+    }
+}
+
+fn take_all(state: &mut TabletState, alloc: Global, steps: &[Step]) -> Result<(), Fail> {
+    for step in steps {
+        take(state, alloc, *step)?;
+    }
+    Ok(())
+}
+
+// A tablet of all keys after these steps.
+fn after(alloc: Global, steps: &[Step]) -> Result<TabletState, Fail> {
+    let mut state = tablet(alloc, None)?;
+    take_all(&mut state, alloc, steps)?;
+    Ok(state)
+}
+
 // Whether the join of these rows changes just that.
 fn changes(
     state: &mut TabletState,
@@ -138,51 +188,75 @@ fn changes(
     want: &[Told],
 ) -> Result<bool, Fail> {
     let op = join(alloc, rows, position)?;
-    Ok(tell(&state.apply(&op)?, want))
+    let changes = state.apply(&op)?;
+    Ok(tell(&changes, want))
 }
 
-fn joined(
-    mut state: TabletState,
-    alloc: Global,
-    rows: &[Row],
-    position: u64,
-) -> Result<TabletState, Fail> {
-    let op = join(alloc, rows, position)?;
+// What a copy is to reach: nothing, or a position of the one stream.
+fn need_of(alloc: Global, position: Option<u64>) -> Result<Marks, Fail> {
+    match position {
+        Some(position) => marks(alloc, position),
+        None => Ok(Marks::new(alloc)),
+    }
+}
+
+fn copied(state: &TabletState, alloc: Global, need: Option<u64>) -> Result<TabletCopy, Fail> {
+    let need = need_of(alloc, need)?;
+    Ok(state.copy(&need)?)
+}
+
+// The copy that reaches the need, of a tablet after these steps.
+fn copy_after(alloc: Global, steps: &[Step], need: Option<u64>) -> Result<TabletCopy, Fail> {
+    let state = after(alloc, steps)?;
+    copied(&state, alloc, need)
+}
+
+// How such a copy is adopted.
+fn adoption(alloc: Global, steps: &[Step], need: Option<u64>) -> Result<TabletOp, Fail> {
+    Ok(TabletOp::Adopt(copy_after(alloc, steps, need)?))
+}
+
+fn adopt(state: &mut TabletState, alloc: Global, steps: &[Step], need: u64) -> Result<(), Fail> {
+    let op = adoption(alloc, steps, Some(need))?;
     state.apply(&op)?;
-    Ok(state)
-}
-
-fn lost(mut state: TabletState) -> Result<TabletState, Fail> {
-    state.apply(&TabletOp::Lose)?;
-    Ok(state)
-}
-
-// A tablet that took five messages, was lost, and took the sixth and the seventh since.
-fn recovering(alloc: Global) -> Result<TabletState, Fail> {
-    let five = joined(tablet(alloc, None)?, alloc, FIVE, 5)?;
-    joined(lost(five)?, alloc, ARRIVALS, 7)
+    Ok(())
 }
 
 // Why a copy is refused, in words; nothing where it is given.
-fn why_no_copy(alloc: Global, state: &TabletState, need: &Marks) -> Result<String, Fail> {
-    let mut words = String::new(alloc);
-    if let Some(fault) = state.copy(need).err() {
-        words = format!(in alloc; "{fault}")?;
+fn why_no_copy(state: &TabletState, alloc: Global, need: Option<u64>) -> Result<String, Fail> {
+    let need = need_of(alloc, need)?;
+    match state.copy(&need).err() {
+        Some(fault) => copy_fault_in_words(alloc, &fault),
+        None => Ok(String::new(alloc)),
     }
-    Ok(words)
+}
+
+fn copy_fault_in_words(alloc: Global, fault: &CopyFault) -> Result<String, Fail> {
+    Ok(format!(in alloc; "{fault}")?)
 }
 
 // Why an operation is refused, in words; nothing where it is taken.
-fn why_refused(alloc: Global, state: &mut TabletState, op: &TabletOp) -> Result<String, Fail> {
-    let mut words = String::new(alloc);
-    if let Some(fault) = state.apply(op).err() {
-        words = format!(in alloc; "{fault}")?;
+fn why_refused(state: &mut TabletState, alloc: Global, op: &TabletOp) -> Result<String, Fail> {
+    match state.apply(op).err() {
+        Some(fault) => fault_in_words(alloc, &fault),
+        None => Ok(String::new(alloc)),
     }
-    Ok(words)
 }
 
-fn is_of_another_range(state: &mut TabletState, op: &TabletOp) -> bool {
-    matches!(state.apply(op), Err(OpFault::WrongRange))
+fn fault_in_words(alloc: Global, fault: &OpFault) -> Result<String, Fail> {
+    Ok(format!(in alloc; "{fault}")?)
+}
+
+// Why a copy of a tablet after these steps is not adopted, in words.
+fn why_not_adopted(state: &mut TabletState, alloc: Global, steps: &[Step]) -> Result<String, Fail> {
+    let op = adoption(alloc, steps, None)?;
+    why_refused(state, alloc, &op)
+}
+
+// Why a step is not taken, in words.
+fn why_not_taken(state: &mut TabletState, alloc: Global, step: Step) -> Result<String, Fail> {
+    let op = operation(alloc, step)?;
+    why_refused(state, alloc, &op)
 }
 
 #[test]
@@ -199,8 +273,7 @@ fn a_join_tells_what_changed(rt: HostRuntime) -> Result<(), Fail> {
 
 #[test]
 fn changes_are_told_against_what_is_left(rt: HostRuntime) -> Result<(), Fail> {
-    let five = joined(tablet(rt.alloc(), None)?, rt.alloc(), FIVE, 5)?;
-    let mut state = lost(five)?;
+    let mut state = after(rt.alloc(), &[Step::Join(FIVE, 5), Step::Lose])?;
     assert!(rt; stands(&state, Some(5), 5, &[]));
     let told = &[("a", None, 1), ("f", None, 0)];
     assert!(rt; changes(&mut state, rt.alloc(), ARRIVALS, 7, told)?);
@@ -209,29 +282,37 @@ fn changes_are_told_against_what_is_left(rt: HostRuntime) -> Result<(), Fail> {
 }
 
 #[test]
-fn recovery_keeps_arrivals(rt: HostRuntime) -> Result<(), Fail> {
-    let five = joined(tablet(rt.alloc(), None)?, rt.alloc(), FIVE, 5)?;
-    let other = joined(five, rt.alloc(), &ARRIVALS[..1], 6)?;
-    let copy = other.copy(&marks(rt.alloc(), 5)?)?;
+fn a_copy_reaches_what_its_tablet_took(rt: HostRuntime) -> Result<(), Fail> {
+    let copy = copy_after(rt.alloc(), SIX_TAKEN, Some(5))?;
     assert!(rt; stands_at(&copy.marks, 6));
-    let mut state = recovering(rt.alloc())?;
-    state.apply(&TabletOp::Adopt(copy))?;
+    Ok(())
+}
+
+#[test]
+fn recovery_keeps_arrivals(rt: HostRuntime) -> Result<(), Fail> {
+    let mut state = after(rt.alloc(), RECOVERING)?;
+    adopt(&mut state, rt.alloc(), SIX_TAKEN, 5)?;
     assert!(rt; stands(&state, None, 7, ALL));
     Ok(())
 }
 
 #[test]
-fn copy_too_old(rt: HostRuntime) -> Result<(), Fail> {
-    let other = joined(tablet(rt.alloc(), None)?, rt.alloc(), &FIVE[..4], 4)?;
-    let need = marks(rt.alloc(), 5)?;
+fn a_copy_is_not_given_below_the_need(rt: HostRuntime) -> Result<(), Fail> {
+    let state = after(rt.alloc(), FOUR_TAKEN)?;
+    let why = why_no_copy(&state, rt.alloc(), Some(5))?;
     assert_eq!(rt;
-        why_no_copy(rt.alloc(), &other, &need)?.as_str(),
+        why.as_str(),
         "behind: the tablet has 4 of stream east, and 5 are wanted"
     );
-    let copy = other.copy(&Marks::new(rt.alloc()))?;
-    let mut state = recovering(rt.alloc())?;
+    Ok(())
+}
+
+#[test]
+fn copy_too_old(rt: HostRuntime) -> Result<(), Fail> {
+    let mut state = after(rt.alloc(), RECOVERING)?;
+    let why = why_not_adopted(&mut state, rt.alloc(), FOUR_TAKEN)?;
     assert_eq!(rt;
-        why_refused(rt.alloc(), &mut state, &TabletOp::Adopt(copy))?.as_str(),
+        why.as_str(),
         "too old: the copy has 4 of stream east, and 5 are needed"
     );
     assert!(rt; stands(&state, Some(5), 7, ARRIVALS));
@@ -240,33 +321,55 @@ fn copy_too_old(rt: HostRuntime) -> Result<(), Fail> {
 
 #[test]
 fn a_recovering_tablet_gives_no_copy(rt: HostRuntime) -> Result<(), Fail> {
-    let state = recovering(rt.alloc())?;
-    assert!(rt;
-        matches!(
-            state.copy(&Marks::new(rt.alloc())),
-            Err(CopyFault::Recovering)
-        )
+    let state = after(rt.alloc(), RECOVERING)?;
+    assert_eq!(rt;
+        why_no_copy(&state, rt.alloc(), None)?.as_str(),
+        "recovering"
     );
     Ok(())
 }
 
+// How a copy of a tablet, and not the tablet, stands after so many losses.
+fn copy_stands_after(
+    state: &TabletState,
+    alloc: Global,
+    losses: &[Step],
+    need: u64,
+) -> Result<bool, Fail> {
+    let mut copy = state.dup()?;
+    take_all(&mut copy, alloc, losses)?;
+    Ok(stands(&copy, Some(need), need, &[]))
+}
+
 #[test]
 fn a_second_loss_needs_what_came_since(rt: HostRuntime) -> Result<(), Fail> {
-    let state = recovering(rt.alloc())?;
-    let copy = lost(state.dup()?)?;
-    assert!(rt; stands(&copy, Some(7), 7, &[]));
-    assert!(rt; stands(&lost(copy)?, Some(7), 7, &[]));
+    let state = after(rt.alloc(), RECOVERING)?;
+    assert!(rt; copy_stands_after(&state, rt.alloc(), &[Step::Lose], 7)?);
+    assert!(rt; copy_stands_after(&state, rt.alloc(), &[Step::Lose, Step::Lose], 7)?);
     assert!(rt; stands(&state, Some(5), 7, ARRIVALS));
     Ok(())
 }
 
+// A tablet of the keys from b on.
+fn tablet_from_b(alloc: Global) -> Result<TabletState, Fail> {
+    let from = Key::of(alloc, "b")?;
+    tablet(alloc, Some(from))
+}
+
 #[test]
-fn another_range_is_refused(rt: HostRuntime) -> Result<(), Fail> {
-    let mut state = tablet(rt.alloc(), Some(Key::of(rt.alloc(), "b")?))?;
-    let op = join(rt.alloc(), FIVE, 5)?;
-    assert!(rt; is_of_another_range(&mut state, &op));
-    let copy = tablet(rt.alloc(), None)?.copy(&Marks::new(rt.alloc()))?;
-    assert!(rt; is_of_another_range(&mut state, &TabletOp::Adopt(copy)));
+fn a_join_of_another_range_is_refused(rt: HostRuntime) -> Result<(), Fail> {
+    let mut state = tablet_from_b(rt.alloc())?;
+    let why = why_not_taken(&mut state, rt.alloc(), Step::Join(FIVE, 5))?;
+    assert_eq!(rt; why.as_str(), "wrong range");
+    assert_eq!(rt; state.cells().len(), 0);
+    Ok(())
+}
+
+#[test]
+fn a_copy_of_another_range_is_refused(rt: HostRuntime) -> Result<(), Fail> {
+    let mut state = tablet_from_b(rt.alloc())?;
+    let why = why_not_adopted(&mut state, rt.alloc(), &[])?;
+    assert_eq!(rt; why.as_str(), "wrong range");
     assert_eq!(rt; state.cells().len(), 0);
     Ok(())
 }
