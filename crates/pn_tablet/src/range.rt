@@ -159,11 +159,6 @@ mod tests {
         Ok(made(alloc, ends)?.ok_or(KeyFault::OutOfRange)?)
     }
 
-    fn has(alloc: Global, range: &Range, text: &str) -> Result<bool, Fail> {
-        let key = Key::of(alloc, text)?;
-        Ok(range.contains(&key))
-    }
-
     fn is(end: Option<&Key>, text: &str) -> bool {
         match end {
             Some(key) => key.as_str() == text,
@@ -182,9 +177,17 @@ mod tests {
         Ok(range.dup()?)
     }
 
-    fn equals_its_copy(range: &Range) -> Result<bool, Fail> {
+    // Whether a copy of the range from l to n has the key.
+    fn has(alloc: Global, text: &str) -> Result<bool, Fail> {
+        let copy = copy_of(alloc, FROM_L_TO_N)?;
+        let key = Key::of(alloc, text)?;
+        Ok(copy.contains(&key))
+    }
+
+    fn equals_its_copy(alloc: Global, ends: Ends) -> Result<bool, Fail> {
+        let range = range_of(alloc, ends)?;
         let copy = range.dup()?;
-        Ok(*range == copy)
+        Ok(range == copy)
     }
 
     #[test]
@@ -200,11 +203,11 @@ mod tests {
 
     #[test]
     fn the_first_end_is_in_and_the_other_is_not(rt: HostRuntime) -> Result<(), Fail> {
-        let range = copy_of(rt.alloc(), FROM_L_TO_N)?;
-        assert!(rt; has(rt.alloc(), &range, "l")?);
-        assert!(rt; has(rt.alloc(), &range, "m")?);
-        assert!(rt; !has(rt.alloc(), &range, "n")?);
-        assert!(rt; !has(rt.alloc(), &range, "k")?);
+        let alloc = rt.alloc();
+        assert!(rt; has(alloc, "l")?);
+        assert!(rt; has(alloc, "m")?);
+        assert!(rt; !has(alloc, "n")?);
+        assert!(rt; !has(alloc, "k")?);
         Ok(())
     }
 
@@ -219,8 +222,7 @@ mod tests {
     #[test]
     fn ranges_are_compared_by_both_ends(rt: HostRuntime) -> Result<(), Fail> {
         let alloc = rt.alloc();
-        let range = range_of(alloc, (None, Some("n")))?;
-        assert!(rt; equals_its_copy(&range)?);
+        assert!(rt; equals_its_copy(alloc, (None, Some("n")))?);
         assert!(rt; !are_equal(alloc, (None, Some("n")), (None, None))?);
         assert!(rt; !are_equal(alloc, (None, Some("n")), (Some("a"), Some("n")))?);
         Ok(())
