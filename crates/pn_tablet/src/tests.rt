@@ -21,6 +21,12 @@ const FIVE: &[Row] = &[
     ("e", 0, "x"),
 ];
 
+/// The first two of them.
+const TWO: &[Row] = &[("a", 0, "x"), ("b", 0, "x")];
+
+/// The same keys, one of them newer, and one key more.
+const NEWER: &[Row] = &[("a", 1, "y"), ("b", 0, "x"), ("c", 0, "x")];
+
 /// The first four of them.
 const FOUR: &[Row] = &[("a", 0, "x"), ("b", 0, "x"), ("c", 0, "x"), ("d", 0, "x")];
 
@@ -40,6 +46,12 @@ const ALL: &[Row] = &[
     ("f", 0, "x"),
 ];
 
+/// Rows that are joined, and the position that they came up to.
+type Taken = (&'static [Row], u64);
+
+/// What a tablet needs where it recovers, how far streams were taken into it, and the rows that it holds.
+type Standing = (Option<u64>, u64, &'static [Row]);
+
 /// What a tablet is put through.
 #[derive(Clone, Copy)]
 enum Step {
@@ -54,8 +66,17 @@ const RECOVERING: &[Step] = &[Step::Join(FIVE, 5), Step::Lose, Step::Join(ARRIVA
 /// The sixth message comes by itself.
 const SIX_TAKEN: &[Step] = &[Step::Join(FIVE, 5), Step::Join(SIXTH, 6)];
 
+/// Five messages are taken and lost.
+const FIVE_LOST: &[Step] = &[Step::Join(FIVE, 5), Step::Lose];
+
 /// Four of the five messages come.
 const FOUR_TAKEN: &[Step] = &[Step::Join(FOUR, 4)];
+
+/// Two messages come.
+const TWO_TAKEN: &[Step] = &[Step::Join(TWO, 2)];
+
+/// Two messages come, and then what a stream that lags behind has of three keys.
+const NEWER_TAKEN: &[Step] = &[Step::Join(TWO, 2), Step::Join(NEWER, 1)];
 
 fn image(alloc: Global, row: Row) -> Result<Image, Fail> {
     let (key, number, text) = row;
@@ -134,7 +155,8 @@ fn needs(status: &Status, need: Option<u64>) -> bool {
     }
 }
 
-fn stands(state: &TabletState, need: Option<u64>, cover: u64, rows: &[Row]) -> bool {
+fn stands(state: &TabletState, want: Standing) -> bool {
+    let (need, cover, rows) = want;
     needs(state.status(), need) && stands_at(state.cover(), cover) && has(state.cells(), rows)
 }
 
@@ -179,17 +201,27 @@ fn after(alloc: Global, steps: &[Step]) -> Result<TabletState, Fail> {
     Ok(state)
 }
 
-// Whether the join of these rows changes just that.
+// Whether the join changes just that.
 fn changes(
     state: &mut TabletState,
     alloc: Global,
-    rows: &[Row],
-    position: u64,
+    taken: Taken,
     want: &[Told],
 ) -> Result<bool, Fail> {
-    let op = join(alloc, rows, position)?;
+    let op = join(alloc, taken.0, taken.1)?;
     let changes = state.apply(&op)?;
     Ok(tell(&changes, want))
+}
+
+// Whether the join changes just that after these steps.
+fn tells_after(alloc: Global, steps: &[Step], taken: Taken, want: &[Told]) -> Result<bool, Fail> {
+    let mut state = after(alloc, steps)?;
+    changes(&mut state, alloc, taken, want)
+}
+
+fn stands_after(alloc: Global, steps: &[Step], want: Standing) -> Result<bool, Fail> {
+    let state = after(alloc, steps)?;
+    Ok(stands(&state, want))
 }
 
 // What a copy is to reach: nothing, or a position of the one stream.
@@ -235,6 +267,12 @@ fn copy_fault_in_words(alloc: Global, fault: &CopyFault) -> Result<String, Fail>
     Ok(format!(in alloc; "{fault}")?)
 }
 
+// Why a tablet gives no copy after these steps.
+fn why_no_copy_after(alloc: Global, steps: &[Step], need: Option<u64>) -> Result<String, Fail> {
+    let state = after(alloc, steps)?;
+    why_no_copy(&state, alloc, need)
+}
+
 // Why an operation is refused, in words; nothing where it is taken.
 fn why_refused(state: &mut TabletState, alloc: Global, op: &TabletOp) -> Result<String, Fail> {
     match state.apply(op).err() {
@@ -253,31 +291,38 @@ fn why_not_adopted(state: &mut TabletState, alloc: Global, steps: &[Step]) -> Re
     why_refused(state, alloc, &op)
 }
 
-// Why a step is not taken, in words.
-fn why_not_taken(state: &mut TabletState, alloc: Global, step: Step) -> Result<String, Fail> {
+fn is_of_another_range(state: &mut TabletState, op: &TabletOp) -> bool {
+    matches!(state.apply(op).err(), Some(OpFault::WrongRange))
+}
+
+fn refuses_join(state: &mut TabletState, alloc: Global, step: Step) -> Result<bool, Fail> {
     let op = operation(alloc, step)?;
-    why_refused(state, alloc, &op)
+    Ok(is_of_another_range(state, &op))
+}
+
+fn refuses_copy(state: &mut TabletState, alloc: Global, steps: &[Step]) -> Result<bool, Fail> {
+    let op = adoption(alloc, steps, None)?;
+    Ok(is_of_another_range(state, &op))
 }
 
 #[test]
 fn a_join_tells_what_changed(rt: HostRuntime) -> Result<(), Fail> {
-    let mut state = tablet(rt.alloc(), None)?;
+    let alloc = rt.alloc();
     let told = &[("a", None, 0), ("b", None, 0)];
-    assert!(rt; changes(&mut state, rt.alloc(), &FIVE[..2], 2, told)?);
-    let rows = &[("a", 1, "y"), ("b", 0, "x"), ("c", 0, "x")];
+    assert!(rt; tells_after(alloc, &[], (TWO, 2), told)?);
     let told = &[("a", Some(0), 1), ("c", None, 0)];
-    assert!(rt; changes(&mut state, rt.alloc(), rows, 1, told)?);
-    assert!(rt; stands(&state, None, 2, rows));
+    assert!(rt; tells_after(alloc, TWO_TAKEN, (NEWER, 1), told)?);
+    assert!(rt; stands_after(alloc, NEWER_TAKEN, (None, 2, NEWER))?);
     Ok(())
 }
 
 #[test]
 fn changes_are_told_against_what_is_left(rt: HostRuntime) -> Result<(), Fail> {
-    let mut state = after(rt.alloc(), &[Step::Join(FIVE, 5), Step::Lose])?;
-    assert!(rt; stands(&state, Some(5), 5, &[]));
+    let alloc = rt.alloc();
+    assert!(rt; stands_after(alloc, FIVE_LOST, (Some(5), 5, &[]))?);
     let told = &[("a", None, 1), ("f", None, 0)];
-    assert!(rt; changes(&mut state, rt.alloc(), ARRIVALS, 7, told)?);
-    assert!(rt; stands(&state, Some(5), 7, ARRIVALS));
+    assert!(rt; tells_after(alloc, FIVE_LOST, (ARRIVALS, 7), told)?);
+    assert!(rt; stands_after(alloc, RECOVERING, (Some(5), 7, ARRIVALS))?);
     Ok(())
 }
 
@@ -290,18 +335,17 @@ fn a_copy_reaches_what_its_tablet_took(rt: HostRuntime) -> Result<(), Fail> {
 
 #[test]
 fn recovery_keeps_arrivals(rt: HostRuntime) -> Result<(), Fail> {
-    let mut state = after(rt.alloc(), RECOVERING)?;
-    adopt(&mut state, rt.alloc(), SIX_TAKEN, 5)?;
-    assert!(rt; stands(&state, None, 7, ALL));
+    let alloc = rt.alloc();
+    let mut state = after(alloc, RECOVERING)?;
+    adopt(&mut state, alloc, SIX_TAKEN, 5)?;
+    assert!(rt; stands(&state, (None, 7, ALL)));
     Ok(())
 }
 
 #[test]
 fn a_copy_is_not_given_below_the_need(rt: HostRuntime) -> Result<(), Fail> {
-    let state = after(rt.alloc(), FOUR_TAKEN)?;
-    let why = why_no_copy(&state, rt.alloc(), Some(5))?;
     assert_eq!(rt;
-        why.as_str(),
+        why_no_copy_after(rt.alloc(), FOUR_TAKEN, Some(5))?.as_str(),
         "behind: the tablet has 4 of stream east, and 5 are wanted"
     );
     Ok(())
@@ -309,44 +353,44 @@ fn a_copy_is_not_given_below_the_need(rt: HostRuntime) -> Result<(), Fail> {
 
 #[test]
 fn copy_too_old(rt: HostRuntime) -> Result<(), Fail> {
-    let mut state = after(rt.alloc(), RECOVERING)?;
-    let why = why_not_adopted(&mut state, rt.alloc(), FOUR_TAKEN)?;
+    let alloc = rt.alloc();
+    let mut state = after(alloc, RECOVERING)?;
     assert_eq!(rt;
-        why.as_str(),
+        why_not_adopted(&mut state, alloc, FOUR_TAKEN)?.as_str(),
         "too old: the copy has 4 of stream east, and 5 are needed"
     );
-    assert!(rt; stands(&state, Some(5), 7, ARRIVALS));
+    assert!(rt; stands(&state, (Some(5), 7, ARRIVALS)));
     Ok(())
 }
 
 #[test]
 fn a_recovering_tablet_gives_no_copy(rt: HostRuntime) -> Result<(), Fail> {
-    let state = after(rt.alloc(), RECOVERING)?;
     assert_eq!(rt;
-        why_no_copy(&state, rt.alloc(), None)?.as_str(),
+        why_no_copy_after(rt.alloc(), RECOVERING, None)?.as_str(),
         "recovering"
     );
     Ok(())
 }
 
-// How a copy of a tablet, and not the tablet, stands after so many losses.
-fn copy_stands_after(
-    state: &TabletState,
-    alloc: Global,
-    losses: &[Step],
-    need: u64,
-) -> Result<bool, Fail> {
+// Whether a copy of the tablet needs all seven after these losses.
+fn copy_needs_seven(state: &TabletState, alloc: Global, losses: &[Step]) -> Result<bool, Fail> {
     let mut copy = state.dup()?;
     take_all(&mut copy, alloc, losses)?;
-    Ok(stands(&copy, Some(need), need, &[]))
+    Ok(stands(&copy, (Some(7), 7, &[])))
+}
+
+// The same, and whether the recovering tablet stays as it was.
+fn only_copy_needs_seven(alloc: Global, losses: &[Step]) -> Result<bool, Fail> {
+    let state = after(alloc, RECOVERING)?;
+    let needs = copy_needs_seven(&state, alloc, losses)?;
+    Ok(needs && stands(&state, (Some(5), 7, ARRIVALS)))
 }
 
 #[test]
 fn a_second_loss_needs_what_came_since(rt: HostRuntime) -> Result<(), Fail> {
-    let state = after(rt.alloc(), RECOVERING)?;
-    assert!(rt; copy_stands_after(&state, rt.alloc(), &[Step::Lose], 7)?);
-    assert!(rt; copy_stands_after(&state, rt.alloc(), &[Step::Lose, Step::Lose], 7)?);
-    assert!(rt; stands(&state, Some(5), 7, ARRIVALS));
+    let alloc = rt.alloc();
+    assert!(rt; only_copy_needs_seven(alloc, &[Step::Lose])?);
+    assert!(rt; only_copy_needs_seven(alloc, &[Step::Lose, Step::Lose])?);
     Ok(())
 }
 
@@ -357,19 +401,11 @@ fn tablet_from_b(alloc: Global) -> Result<TabletState, Fail> {
 }
 
 #[test]
-fn a_join_of_another_range_is_refused(rt: HostRuntime) -> Result<(), Fail> {
-    let mut state = tablet_from_b(rt.alloc())?;
-    let why = why_not_taken(&mut state, rt.alloc(), Step::Join(FIVE, 5))?;
-    assert_eq!(rt; why.as_str(), "wrong range");
-    assert_eq!(rt; state.cells().len(), 0);
-    Ok(())
-}
-
-#[test]
-fn a_copy_of_another_range_is_refused(rt: HostRuntime) -> Result<(), Fail> {
-    let mut state = tablet_from_b(rt.alloc())?;
-    let why = why_not_adopted(&mut state, rt.alloc(), &[])?;
-    assert_eq!(rt; why.as_str(), "wrong range");
+fn another_range_is_refused(rt: HostRuntime) -> Result<(), Fail> {
+    let alloc = rt.alloc();
+    let mut state = tablet_from_b(alloc)?;
+    assert!(rt; refuses_join(&mut state, alloc, Step::Join(FIVE, 5))?);
+    assert!(rt; refuses_copy(&mut state, alloc, &[])?);
     assert_eq!(rt; state.cells().len(), 0);
     Ok(())
 }
