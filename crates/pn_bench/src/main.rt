@@ -5,11 +5,14 @@
 //! many bytes were written.
 #![tactic(auto)]
 
+use pn_apply::Open;
 use pn_join::{Name, NoMemory};
 use pn_line::{LineBuffer, LineEnd, Source, read_line};
-use pn_record::{Records, read_image, take_image};
+use pn_record::{Image, read_image};
+use pn_region::Region;
 use pn_serve::scan_reply;
-use pn_stream::StreamReader;
+use pn_stream::{Delivery, StreamReader};
+use pn_tablet::Layout;
 use serde_json::Value;
 use std::alloc::Global;
 use std::io::BufReader;
@@ -60,12 +63,16 @@ fn main(rt: HostRuntime) -> io::Result<()> {
         .and_then(|word| word.as_str().parse::<u32>().ok());
     let way = way.unwrap_or(Way::Lines);
     let mut input = BufReader::with_capacity(rt.alloc(), INPUT_ROOM, rt.reader())?;
-    let mut records = Records::new(rt.alloc());
+    let mut images = Vec::new(rt.alloc());
     let lines = match way {
         Way::Messages => take_messages(rt.alloc(), input),
-        _ => take_lines(rt.alloc(), way, &mut records, &mut input)?,
+        _ => take_lines(rt.alloc(), way, &mut images, &mut input)?,
     };
-    let bytes = write_rows(rt.alloc(), way, &records, times.unwrap_or(0)).unwrap_or(0);
+    let region = region_of(rt.alloc(), images);
+    let bytes = match region {
+        Some(region) => write_rows(rt.alloc(), way, &region, times.unwrap_or(0)).unwrap_or(0),
+        None => 0,
+    };
     println!(rt; "{lines} lines, {bytes} bytes")
 }
 
@@ -73,7 +80,7 @@ fn main(rt: HostRuntime) -> io::Result<()> {
 fn take_lines<S: Source>(
     alloc: Global,
     way: Way,
-    records: &mut Records,
+    images: &mut Vec<Image>,
     input: &mut S,
 ) -> io::Result<u64> {
     let mut line = LineBuffer::new(alloc)?;
@@ -83,7 +90,7 @@ fn take_lines<S: Source>(
         let LineEnd::Newline { .. } = read_line(&mut line, input)? else {
             break;
         };
-        if is_taken(alloc, way, records, line.bytes()) {
+        if is_taken(alloc, way, images, line.bytes()) {
             count = count.saturating_add(1);
         }
     }
@@ -105,37 +112,48 @@ fn take_messages<S: Source + Drop>(alloc: Global, input: S) -> u64 {
     reader.position()
 }
 
-fn is_taken(alloc: Global, way: Way, records: &mut Records, line: &[u8]) -> bool {
+fn is_taken(alloc: Global, way: Way, images: &mut Vec<Image>, line: &[u8]) -> bool {
     match way {
         Way::Lines | Way::Messages => true,
         Way::Values => Value::from_slice(alloc, line).is_ok(),
         Way::Images => read_image(alloc, line).is_ok(),
         Way::Scans | Way::Writes => match read_image(alloc, line) {
-            Ok(image) => take_image(alloc, records, image).is_ok(),
+            Ok(image) => images.push(image).is_ok(),
             Err(_) => false,
         },
     }
 }
 
+// A region of one tablet that took the images in one round.
+fn region_of(alloc: Global, images: Vec<Image>) -> Option<Region> {
+    let layout = Layout::new(Vec::new(alloc)).ok()?;
+    let mut region = Region::new(alloc, layout).ok()?;
+    let delivery = Delivery::new(Name::read(b"east").ok()?, 1, images)?;
+    let mut deliveries = Vec::new(alloc);
+    deliveries.push(delivery).ok()?;
+    region.round(deliveries, 1, &Open).ok()?;
+    Some(region)
+}
+
 // How many bytes of rows were written.
-fn write_rows(alloc: Global, way: Way, records: &Records, times: u32) -> Result<usize, NoMemory> {
+fn write_rows(alloc: Global, way: Way, region: &Region, times: u32) -> Result<usize, NoMemory> {
     match way {
-        Way::Scans => write_scans(alloc, records, times),
-        Way::Writes => write_values(alloc, records, times),
+        Way::Scans => write_scans(alloc, region, times),
+        Way::Writes => write_values(alloc, region, times),
         Way::Lines | Way::Values | Way::Images | Way::Messages => Ok(0),
     }
 }
 
-fn write_scans(alloc: Global, records: &Records, times: u32) -> Result<usize, NoMemory> {
+fn write_scans(alloc: Global, region: &Region, times: u32) -> Result<usize, NoMemory> {
     let mut bytes = 0usize;
     for _ in 0..times {
-        bytes = bytes.saturating_add(scan_reply(alloc, records)?.len());
+        bytes = bytes.saturating_add(scan_reply(alloc, region)?.len());
     }
     Ok(bytes)
 }
 
-fn write_values(alloc: Global, records: &Records, times: u32) -> Result<usize, NoMemory> {
-    let reply = scan_reply(alloc, records)?;
+fn write_values(alloc: Global, region: &Region, times: u32) -> Result<usize, NoMemory> {
+    let reply = scan_reply(alloc, region)?;
     let Ok(value) = Value::from_slice(alloc, &reply) else {
         return Ok(0);
     };

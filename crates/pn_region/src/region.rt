@@ -8,7 +8,7 @@ ghost use Rattle.pn_tablet.specs.Tablets.{empty_tablet};
 ghost use Rattle.pn_apply.specs.Applying.{AreJoinsIn, all_stepped, all_changes, AreOldOrStepped};
 ghost use Rattle.pn_apply.specs.Reducing.{ranges};
 ghost use Rattle.pn_region.specs.Marking.{Refuses};
-ghost use Rattle.pn_region.specs.Regions.{new_region};
+ghost use Rattle.pn_region.specs.Regions.{IsRegion, new_region};
 ghost use Rattle.pn_region.specs.Rounds.{round, changed, Leaves};
 
 use crate::{RoundFault, next_marks};
@@ -73,7 +73,8 @@ impl Region {
 
     /// How the keys are divided into tablets.
     pub fn layout(&self) -> &Layout
-        ensures { result.now ≡ self.now.layout }
+        ensures layout { result.now ≡ self.now.layout }
+        ensures region { IsRegion self.now }
     {
         &self.layout
     }

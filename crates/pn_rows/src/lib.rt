@@ -18,6 +18,8 @@ mod rows;
 #[cfg(test)]
 mod slow;
 #[cfg(test)]
+mod tablets;
+#[cfg(test)]
 mod talk;
 #[cfg(test)]
 mod want;

@@ -84,32 +84,46 @@ impl BufRead for Twice<'_> {
     }
 }
 
-/// Shows so many lines of two bytes and a newline.
+/// Shows one line so many times.
 #[derive(Drop)]
-pub(crate) struct EmptyObjects {
+pub(crate) struct Repeated {
+    block: &'static [u8],
     left: usize,
 }
 
 /// Lines that are shown together.
 const OBJECTS: &[u8] = b"{}\n{}\n{}\n{}\n{}\n{}\n{}\n{}\n{}\n{}\n{}\n{}\n";
 
-impl EmptyObjects {
-    pub(crate) fn new(lines: usize) -> EmptyObjects {
-        EmptyObjects {
+const MARKS: &[u8] =
+    b"{\"do\":\"marks\"}\n{\"do\":\"marks\"}\n{\"do\":\"marks\"}\n{\"do\":\"marks\"}\n";
+
+impl Repeated {
+    /// So many lines of an object without members.
+    pub(crate) fn objects(lines: usize) -> Repeated {
+        Repeated {
+            block: OBJECTS,
             left: lines.saturating_mul(3),
+        }
+    }
+
+    /// So many lines that ask for the marks.
+    pub(crate) fn marks(lines: usize) -> Repeated {
+        Repeated {
+            block: MARKS,
+            left: lines.saturating_mul(15),
         }
     }
 }
 
-impl Read for EmptyObjects {
+impl Read for Repeated {
     fn read(&mut self, _buf: &mut [u8]) -> io::Result<usize> {
         Err(io::Error::from(ErrorKind::Unsupported))
     }
 }
 
-impl BufRead for EmptyObjects {
+impl BufRead for Repeated {
     fn fill_buf(&mut self) -> io::Result<&[u8]> {
-        Ok(&OBJECTS[..self.left.min(OBJECTS.len())])
+        Ok(&self.block[..self.left.min(self.block.len())])
     }
 
     fn consume(&mut self, amount: usize) {

@@ -2,7 +2,9 @@
 
 use crate::readers::Pieces;
 use pn_line::{InMemory, Source};
-use pn_serve::{RunFault, run};
+use pn_record::{Key, KeyFault};
+use pn_serve::{RunFault, Settings, run};
+use pn_tablet::Layout;
 use std::alloc::{AllocError, Global};
 use std::process::Abort;
 use std::test::Fail;
@@ -14,10 +16,45 @@ pub(crate) struct Row {
     pub(crate) replies: &'static str,
 }
 
-/// What `run` writes for a script that it answers to its end.
+/// One tablet for all keys, and one worker.
+pub(crate) fn one_tablet(alloc: Global) -> Settings {
+    let Ok(layout) = Layout::new(Vec::new(alloc)) else {
+        unreachable!()
+    };
+    let Some(settings) = Settings::new(layout, 1) else {
+        unreachable!()
+    };
+    settings
+}
+
+/// Tablets between these bounds.
+pub(crate) fn layout(alloc: Global, bounds: &[&str]) -> Result<Layout, Fail> {
+    let mut keys = Vec::with_capacity(alloc, bounds.len())?;
+    for bound in bounds {
+        keys.push(Key::of(alloc, bound)?)?;
+    }
+    Ok(Layout::new(keys)?)
+}
+
+/// Tablets between these bounds, and so many workers.
+pub(crate) fn settings(alloc: Global, bounds: &[&str], workers: usize) -> Result<Settings, Fail> {
+    let layout = layout(alloc, bounds)?;
+    Ok(Settings::new(layout, workers).ok_or(KeyFault::OutOfRange)?)
+}
+
+/// What `run` writes for a script that it answers to its end, over one tablet.
 pub(crate) fn replies_of<S: Source>(alloc: Global, input: &mut S) -> Result<Vec<u8>, RunFault> {
+    replies_with(alloc, input, one_tablet(alloc))
+}
+
+/// What `run` writes for a script that it answers to its end.
+pub(crate) fn replies_with<S: Source>(
+    alloc: Global,
+    input: &mut S,
+    settings: Settings,
+) -> Result<Vec<u8>, RunFault> {
     let mut output = Vec::new(alloc);
-    run(alloc, input, &mut output)?;
+    run(alloc, input, &mut output, settings)?;
     Ok(output)
 }
 

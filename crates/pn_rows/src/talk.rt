@@ -1,5 +1,6 @@
 //! A script that is a talk: each line comes only once the replies to those before it are out.
 
+use crate::row::one_tablet;
 use crate::rows::{DELETION_HIDES_AND_STAYS, FIRST_RUN};
 use pn_serve::run;
 use std::cell::Cell;
@@ -65,7 +66,7 @@ fn a_reply_is_out_before_the_next_line_is_waited_for(rt: HostRuntime) -> Result<
             heard: &heard,
         };
         let mut output = Hearing { heard: &heard };
-        let counts = run(rt.alloc(), &mut input, &mut output)?;
+        let counts = run(rt.alloc(), &mut input, &mut output, one_tablet(rt.alloc()))?;
         assert_eq!(rt; counts.lines, row.replies.lines().count() as u64);
         assert_eq!(rt; heard.get(), row.replies.lines().count());
     }

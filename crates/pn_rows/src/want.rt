@@ -1,12 +1,13 @@
-//! Scripts under want of memory: a refused line changes nothing, and is answered when it comes again.
+//! Scripts under want of memory: a refused line is answered when it comes again, and leaves what it would have left.
 //!
 //! These tests hold as they are, and hold too where one allocation of theirs is refused, whichever it is.
 
 use crate::readers::Twice;
-use crate::row::Row;
-use crate::rows::{EQUAL_VERSIONS_CONFLICT, FIRST_RUN};
+use crate::row::{Row, one_tablet, settings};
+use crate::rows::{EQUAL_VERSIONS_CONFLICT, FIRST_RUN, OVERLAP_TAKEN};
+use crate::tablets::{SPLIT_REPLIES, SPLIT_TABLETS};
 use crate::writers::Room;
-use pn_serve::{RunFault, run};
+use pn_serve::{RunFault, Settings, run};
 use std::process::Abort;
 use std::str;
 use std::test::Fail;
@@ -19,19 +20,42 @@ const NO_CHANGE: &str = r#"{"changed":0}"#;
 
 #[test]
 fn first_run_twice_over(rt: HostRuntime) -> Result<(), Fail> {
-    assert_repeats(&rt, FIRST_RUN)
+    assert_repeats(&rt, FIRST_RUN, one_tablet(rt.alloc()))
 }
 
 #[test]
 fn equal_versions_conflict_twice_over(rt: HostRuntime) -> Result<(), Fail> {
-    assert_repeats(&rt, EQUAL_VERSIONS_CONFLICT)
+    assert_repeats(&rt, EQUAL_VERSIONS_CONFLICT, one_tablet(rt.alloc()))
+}
+
+#[test]
+fn overlap_taken_twice_over(rt: HostRuntime) -> Result<(), Fail> {
+    assert_repeats(&rt, OVERLAP_TAKEN, one_tablet(rt.alloc()))
+}
+
+#[test]
+fn a_round_over_two_tablets_twice_over(rt: HostRuntime) -> Result<(), Fail> {
+    let row = Row {
+        script: SPLIT_TABLETS,
+        replies: SPLIT_REPLIES,
+    };
+    assert_repeats(&rt, row, settings(rt.alloc(), &["m"], 2)?)
 }
 
 // Gives each line of a row twice: the one has the row's reply and the other that of a line which comes
 // again, but a single line may be refused for want of memory.
-fn assert_repeats<R: Abort + AllocGlobal>(rt: &R, row: Row) -> Result<(), Fail> {
+fn assert_repeats<R: Abort + AllocGlobal>(
+    rt: &R,
+    row: Row,
+    settings: Settings,
+) -> Result<(), Fail> {
     let mut output = Room::new();
-    let ended = run(rt.alloc(), &mut Twice::new(row.script), &mut output);
+    let ended = run(
+        rt.alloc(),
+        &mut Twice::new(row.script),
+        &mut output,
+        settings,
+    );
     let replies = str::from_utf8(output.as_bytes())?;
     if ended == Err(RunFault::Memory) {
         // There was none to begin with.
@@ -56,16 +80,17 @@ fn are_answers(wanted: &str, replies: &str) -> bool {
     replies.next().is_none()
 }
 
+fn is_change(reply: &str) -> bool {
+    reply.starts_with(CHANGE)
+}
+
 // Whether two equal lines in turn may have these replies, where the first has the wanted one if no
 // memory is refused.
 fn is_answered(wanted: &str, first: &str, second: &str) -> bool {
-    let again = if wanted.starts_with(CHANGE) {
-        NO_CHANGE
-    } else {
-        wanted
-    };
+    let again = if is_change(wanted) { NO_CHANGE } else { wanted };
     match (first, second) {
-        (NO_MEMORY, second) => second == wanted,
+        // Of a round that ended without memory some tablets may have taken their part before.
+        (NO_MEMORY, second) => second == wanted || is_change(wanted) && is_change(second),
         (first, NO_MEMORY) => first == wanted,
         (first, second) => first == wanted && second == again,
     }

@@ -58,7 +58,7 @@ one_more {Y = Y} {X = X} f g ys i y here inside =
     let alone = append-nil (g (f (get_or ys i y))) ∙ ap (λ (z : Y). g (f z)) (sym here) in
     sym (step ∙ ap (λ l. flat_map g (map f (take i ys)) ++ l) alone)
 
-taken_next : {X : Type 0} (xs : List X) (i : ℕ) → take i xs ++ option_to_list (slice_get xs i) ≡ take (suc i) xs
+pub taken_next : {X : Type 0} (xs : List X) (i : ℕ) → take i xs ++ option_to_list (slice_get xs i) ≡ take (suc i) xs
 taken_next [] zero = refl
 taken_next [] (suc i) = refl
 taken_next (x ∷ xs) zero = refl

@@ -1,76 +1,270 @@
 -- The laws of scripts that `src/laws.rt` states.
-use Rattle.std.proofs.Common.{◌≡◌, ℕ, List, [], ◌∷◌, ◌++◌, Result, Ok, Err, IsTrue, sym, ap, ◌∙◌, subst, append-nil, append_assoc}
-use Rattle.std.specs.FinMap.{find, is_sorted}
+use Rattle.std.proofs.Common.{◌≡◌, ℕ, Bool, true, false, if◌then◌else◌, List, [], ◌∷◌, ◌++◌, Option, Some, None, option_and_then, slice_get, map, refl, sym, ap, ◌∙◌, subst, append-nil, append_assoc, ◌⊎◌, inl, inr}
+use Rattle.std.specs.Prelude.{Result, Ok, Err, MatchResult, IsSome}
+use Rattle.std.specs.FinMap.{find}
+use Rattle.std.specs.List.{list_any}
+use Rattle.std.specs.Result.{result_map_both}
 use Rattle.pn_line.specs.Text.{lines_of}
+use Rattle.pn_join.specs.Marks.{Positions}
 use Rattle.pn_record.specs.declared.image.Image.{Image}
 use Rattle.pn_record.specs.Order.{bytes_cmp}
-use Rattle.pn_record.specs.Cells.{Holds, SameImages}
-use Rattle.pn_record.specs.CellMap.{table_of}
-use Rattle.pn_record.proofs.CellLists.{cells-same}
-use Rattle.pn_record.proofs.CellMaps.{Holds-table_of, rising-table_of, adds-table_of, same_cells_table, table_of-nil}
-use Rattle.pn_record.proofs.NeverOlder.{held_not_older}
-use Rattle.pn_serve.specs.declared.refusal.Refusal.{Refusal}
-use Rattle.pn_serve.specs.Asked.{Asked, deliver, scan, images_in}
-use Rattle.pn_serve.specs.Commands.{command_at}
-use Rattle.pn_serve.specs.Machine.{Outcome, done, line, call, round, Machine, saying, turn, serving}
+use Rattle.pn_record.specs.Sets.{Celled}
+use Rattle.pn_record.specs.Cells.{SameImages}
+use Rattle.pn_record.specs.CellMap.{Entries, table_of}
 use Rattle.pn_record.specs.Older.{NotOlder}
-use Rattle.pn_serve.specs.Script.{first_outcome, later_outcomes, images_asked, images_taken, taken_from, taken, machine_after, records_after, replies_from}
+use Rattle.pn_record.proofs.CellLists.{cells-same}
+use Rattle.pn_record.proofs.CellMaps.{same_cells_table}
+use Rattle.pn_record.proofs.NeverOlder.{joined_not_older}
+use Rattle.pn_stream.specs.Positions.{Delivered}
+use Rattle.pn_tablet.specs.Layouts.{Bounds, IsLayout, tablet_of}
+use Rattle.pn_tablet.specs.Tablets.{Tablet, empty_tablet}
+use Rattle.pn_tablet.specs.Steps.{stepped}
+use Rattle.pn_tablet.specs.declared.op.TabletOp.{TabletOp}
+use Rattle.pn_apply.specs.Applying.{AreJoinsIn, AreOldOrStepped}
+use Rattle.pn_apply.specs.Reducing.{all_images, ranges}
+use Rattle.pn_region.specs.Laws.{HasBetween}
+use Rattle.pn_region.specs.Marking.{new_marks}
+use Rattle.pn_region.specs.Regions.{RegionState, IsRegion, new_region, all_cells}
+use Rattle.pn_region.specs.Rounds.{joins, taking, IsHalfTaken}
+use Rattle.pn_region.specs.declared.fault.RoundFault.{RoundFault}
+use Rattle.pn_region.proofs.HalfRounds.{half_taken_is}
+use Rattle.pn_region.proofs.KeyTablets.{has_tablet, has_its_cell}
+use Rattle.pn_region.proofs.NeverBack.{round_not_older, half_not_older}
+use Rattle.pn_region.proofs.NewRegion.{new_is}
+use Rattle.pn_region.proofs.RoundEnds.{fit, new_region_is}
+use Rattle.pn_region.proofs.TakenImages.{new_between, round_surely_takes, round_may_take}
+use Rattle.pn_region.proofs.Together.{surely_together}
+use Rattle.pn_serve.specs.declared.refusal.Refusal.{Refusal}
+use Rattle.pn_serve.specs.Asked.{Asked, deliver, marks, read, scan, tablets}
+use Rattle.pn_serve.specs.Commands.{command_at}
+use Rattle.pn_serve.specs.Looks.{IsLook}
+use Rattle.pn_serve.specs.Machine.{Outcome, done, line, call, round, Machine, saying, half_doing, some_stepped, half_by, half_taken, delivering, turn, serving}
+use Rattle.pn_serve.specs.Rows.{scan_data, line_of}
+use Rattle.pn_serve.specs.Script.{first_outcome, later_outcomes, deliveries_asked, accepted_images, images_brought, images_taken, images_left, taken_from, left_from, taken, machine_after, region_after, AreRepeated}
+use Rattle.pn_serve.specs.Shown.{cell_at, read_data}
 
--- the machine that serves the cells of images
-abbrev holding : List Image → Machine
-holding images = serving (table_of images)
+-- ---- regions of which some tablets took their part
 
-no_more : (images : List Image) → holding images ≡ holding (images ++ [])
-no_more images = ap holding (sym (append-nil images))
+some_or_none : (flags : List Bool) (ts : List Tablet) (ops : List TabletOp) → AreJoinsIn ts ops → AreOldOrStepped ts ops (some_stepped flags ts ops)
+some_or_none [] [] [] fits = tt
+some_or_none (flag ∷ flags) [] [] fits = tt
+some_or_none flags [] (op ∷ ops) fits = absurd fits
+some_or_none flags (t ∷ ts) [] fits = absurd fits
+some_or_none [] (t ∷ ts) (op ∷ ops) fits = (inl refl, some_or_none [] ts ops fits.1)
+some_or_none (true ∷ flags) (t ∷ ts) (op ∷ ops) fits = (inr refl, some_or_none flags ts ops fits.1)
+some_or_none (false ∷ flags) (t ∷ ts) (op ∷ ops) fits = (inl refl, some_or_none flags ts ops fits.1)
 
-said_is : (images : List Image) (said : Result Asked Refusal) → (saying (holding images) said).machine ≡ holding (images ++ images_asked said)
-said_is images (Ok (deliver batches)) = ap serving (adds-table_of images (images_in batches))
-said_is images (Ok scan) = no_more images
-said_is images (Err refusal) = no_more images
+none_stepped : (flags : List Bool) (ts : List Tablet) (ops : List TabletOp) → list_any (λ flag. flag) flags ≡ false → some_stepped flags ts ops ≡ ts
+none_stepped [] ts ops none = refl
+none_stepped (flag ∷ flags) [] ops none = refl
+none_stepped (flag ∷ flags) (t ∷ ts) [] none = refl
+none_stepped (true ∷ flags) (t ∷ ts) (op ∷ ops) none = cc
+none_stepped (false ∷ flags) (t ∷ ts) (op ∷ ops) none = ap (λ rest. t ∷ rest) (none_stepped flags ts ops none)
 
-turn_is : (images : List Image) (outcome : Outcome) (text : List ℕ) → (turn (holding images) outcome text).machine ≡ holding (images ++ images_taken outcome text)
-turn_is images done text = said_is images (command_at text)
-turn_is images line text = no_more images
-turn_is images call text = no_more images
-turn_is images (round tablets) text = said_is images (command_at text)
+half_layout : (region : RegionState) (deliveries : List Delivered) (flags : List Bool) (right : Result Positions RoundFault) → (half_by region deliveries flags right).layout ≡ region.layout
+half_layout region deliveries flags (Ok next) = refl
+half_layout region deliveries flags (Err fault) = refl
 
-after_is : (lines : List (List ℕ)) (outcomes : List Outcome) (images : List Image) → machine_after (holding images) lines outcomes ≡ holding (images ++ taken_from lines outcomes)
-after_is [] outcomes images = no_more images
-after_is (text ∷ lines) outcomes images =
-    let first = images_taken (first_outcome outcomes) text in
-    ap (λ (m : Machine). machine_after m lines (later_outcomes outcomes)) (turn_is images (first_outcome outcomes) text)
-    ∙ after_is lines (later_outcomes outcomes) (images ++ first)
-    ∙ ap holding (append_assoc images first (taken_from lines (later_outcomes outcomes)))
+half_marks : (region : RegionState) (deliveries : List Delivered) (flags : List Bool) (right : Result Positions RoundFault) → (half_by region deliveries flags right).marks ≡ region.marks
+half_marks region deliveries flags (Ok next) = refl
+half_marks region deliveries flags (Err fault) = refl
 
-served_is : (lines : List (List ℕ)) (outcomes : List Outcome) → machine_after (serving []) lines outcomes ≡ holding (taken_from lines outcomes)
-served_is lines outcomes = ap (λ t. machine_after (serving t) lines outcomes) (sym table_of-nil) ∙ after_is lines outcomes []
+half_tablets : (region : RegionState) (deliveries : List Delivered) (flags : List Bool) (right : Result Positions RoundFault) → IsRegion region
+    → MatchResult right (λ next. AreOldOrStepped region.tablets (joins region deliveries next) (half_by region deliveries flags right).tablets) (λ fault. (half_by region deliveries flags right).tablets ≡ region.tablets)
+half_tablets region deliveries flags (Ok next) is = some_or_none flags region.tablets (joins region deliveries next) (fit region deliveries is next)
+half_tablets region deliveries flags (Err fault) is = refl
 
-pub rising_records : (script : List ℕ) (outcomes : List Outcome) → IsTrue (is_sorted bytes_cmp (records_after script outcomes))
-rising_records script outcomes = subst (λ (m : Machine). IsTrue (is_sorted bytes_cmp m.records)) (sym (served_is (lines_of script) outcomes)) (rising-table_of (taken script outcomes))
+half_is : (region : RegionState) (deliveries : List Delivered) (flags : List Bool) → IsRegion region → IsHalfTaken region deliveries (half_taken region deliveries flags)
+half_is region deliveries flags is =
+    let right = new_marks region.marks deliveries in
+    (half_layout region deliveries flags right, half_marks region deliveries flags right, half_tablets region deliveries flags right is)
 
-pub held_records : (script : List ℕ) (outcomes : List Outcome) → Holds (records_after script outcomes) (taken script outcomes)
-held_records script outcomes = subst (λ (m : Machine). Holds m.records (taken script outcomes)) (sym (served_is (lines_of script) outcomes)) (Holds-table_of (taken script outcomes))
+half_none : (region : RegionState) (deliveries : List Delivered) (flags : List Bool) (right : Result Positions RoundFault) → list_any (λ flag. flag) flags ≡ false → half_by region deliveries flags right ≡ region
+half_none region deliveries flags (Ok next) none = λ i. record { layout = region.layout; tablets = none_stepped flags region.tablets (joins region deliveries next) none i; marks = region.marks }
+half_none region deliveries flags (Err fault) none = refl
 
-same_machine : (one other : List ℕ) (went goes : List Outcome) → SameImages (taken one went) (taken other goes)
-    → machine_after (serving []) (lines_of one) went ≡ machine_after (serving []) (lines_of other) goes
-same_machine one other went goes same =
-    served_is (lines_of one) went
-    ∙ ap serving (same_cells_table (taken one went) (taken other goes) (cells-same (taken one went) (taken other goes) same))
-    ∙ sym (served_is (lines_of other) goes)
+-- ---- what each line keeps
 
-pub same_records : (one other : List ℕ) (went goes : List Outcome) → SameImages (taken one went) (taken other goes) → records_after one went ≡ records_after other goes
-same_records one other went goes same = ap (λ (m : Machine). m.records) (same_machine one other went goes same)
+-- a region whose tablets have what was surely taken, and at most what was left beside it
+record Keeps (sure maybe : List Image) (region : RegionState) : Type 0 where
+  pub region_is : IsRegion region
+  pub between : HasBetween sure maybe region
 
-pub same_replies : (one other : List ℕ) (went goes : List Outcome) → SameImages (taken one went) (taken other goes)
-    → (lines : List (List ℕ)) (outcomes : List Outcome)
-    → replies_from (machine_after (serving []) (lines_of one) went) lines outcomes ≡ replies_from (machine_after (serving []) (lines_of other) goes) lines outcomes
-same_replies one other went goes same lines outcomes = ap (λ (m : Machine). replies_from m lines outcomes) (same_machine one other went goes same)
+as_before : (sure maybe : List Image) (region : RegionState) → Keeps sure maybe region → Keeps (sure ++ []) (maybe ++ []) region
+as_before sure maybe region keeps =
+    subst (λ (s : List Image). Keeps s (maybe ++ []) region) (sym (append-nil sure)) (subst (λ (m : List Image). Keeps sure m region) (sym (append-nil maybe)) keeps)
 
-pub not_older : (lines : List (List ℕ)) (outcomes : List Outcome) (outcome : Outcome) (text key : List ℕ)
-    → NotOlder (find bytes_cmp key (machine_after (serving []) lines outcomes).records)
-    (find bytes_cmp key (turn (machine_after (serving []) lines outcomes) outcome text).machine.records)
-not_older lines outcomes outcome text key =
-    let images = taken_from lines outcomes in
-    subst (λ (m : Machine). NotOlder (find bytes_cmp key m.records) (find bytes_cmp key (turn m outcome text).machine.records)) (sym (served_is lines outcomes))
-    (subst (λ (m : Machine). NotOlder (find bytes_cmp key (table_of images)) (find bytes_cmp key m.records)) (sym (turn_is images outcome text))
-    (held_not_older images (images_taken outcome text) key))
+none_accepted : (right : Result Positions RoundFault) → accepted_images [] right ≡ []
+none_accepted (Ok next) = refl
+none_accepted (Err fault) = refl
+
+delivered_keeps : (m : Machine) (deliveries : List Delivered) (right : Result Positions RoundFault) (sure maybe : List Image) → Keeps sure maybe m.region
+    → Keeps (sure ++ accepted_images deliveries right) (maybe ++ []) (delivering m (result_map_both (taking m.region deliveries) (λ fault. fault) right)).machine.region
+delivered_keeps m deliveries (Ok next) sure maybe keeps = record {
+  region_is = new_region_is m.region deliveries keeps.region_is next _ refl;
+  between = subst (λ (some : List Image). HasBetween (sure ++ all_images deliveries) some (taking m.region deliveries next)) (sym (append-nil maybe))
+      (round_surely_takes m.region deliveries next sure maybe keeps.region_is keeps.between);
+}
+delivered_keeps m deliveries (Err fault) sure maybe keeps = as_before sure maybe m.region keeps
+
+others_keep : (m : Machine) (sure maybe : List Image) → Keeps sure maybe m.region → Keeps (sure ++ accepted_images [] (new_marks m.region.marks [])) (maybe ++ []) m.region
+others_keep m sure maybe keeps =
+    subst (λ (some : List Image). Keeps (sure ++ some) (maybe ++ []) m.region) (sym (none_accepted (new_marks m.region.marks []))) (as_before sure maybe m.region keeps)
+
+said_keeps : (m : Machine) (said : Result Asked Refusal) (sure maybe : List Image) → Keeps sure maybe m.region
+    → Keeps (sure ++ accepted_images (deliveries_asked said) (new_marks m.region.marks (deliveries_asked said))) (maybe ++ []) (saying m said).machine.region
+said_keeps m (Ok (deliver deliveries)) sure maybe keeps = delivered_keeps m deliveries (new_marks m.region.marks deliveries) sure maybe keeps
+said_keeps m (Ok marks) sure maybe keeps = others_keep m sure maybe keeps
+said_keeps m (Ok (read key)) sure maybe keeps = others_keep m sure maybe keeps
+said_keeps m (Ok scan) sure maybe keeps = others_keep m sure maybe keeps
+said_keeps m (Ok tablets) sure maybe keeps = others_keep m sure maybe keeps
+said_keeps m (Err refusal) sure maybe keeps = others_keep m sure maybe keeps
+
+-- a round that ended without memory
+half_keeps : (region : RegionState) (deliveries : List Delivered) (flags : List Bool) (sure maybe : List Image) (some : Bool) (right : Result Positions RoundFault)
+    → list_any (λ flag. flag) flags ≡ some → new_marks region.marks deliveries ≡ right → Keeps sure maybe region
+    → Keeps (sure ++ []) (maybe ++ (if some then accepted_images deliveries right else [])) (half_by region deliveries flags right)
+half_keeps region deliveries flags sure maybe false right none found keeps =
+    subst (Keeps (sure ++ []) (maybe ++ [])) (sym (half_none region deliveries flags right none)) (as_before sure maybe region keeps)
+half_keeps region deliveries flags sure maybe true (Err fault) any found keeps = as_before sure maybe region keeps
+half_keeps region deliveries flags sure maybe true (Ok next) any found keeps =
+    let new = half_by region deliveries flags (Ok next) in
+    let half : IsHalfTaken region deliveries new = subst (λ (right : Result Positions RoundFault). IsHalfTaken region deliveries (half_by region deliveries flags right)) found (half_is region deliveries flags keeps.region_is) in record {
+      region_is = half_taken_is region new deliveries keeps.region_is half;
+      between = subst (λ (all : List Image). HasBetween all (maybe ++ all_images deliveries) new) (sym (append-nil sure)) (round_may_take region new deliveries sure maybe keeps.region_is keeps.between half);
+    }
+
+no_more : (some : Bool) (right : Result Positions RoundFault) → (if some then accepted_images [] right else []) ≡ []
+no_more true right = none_accepted right
+no_more false right = refl
+
+others_half : (m : Machine) (some : Bool) (sure maybe : List Image) → Keeps sure maybe m.region → Keeps (sure ++ []) (maybe ++ (if some then accepted_images [] (new_marks m.region.marks []) else [])) m.region
+others_half m some sure maybe keeps =
+    subst (λ (more : List Image). Keeps (sure ++ []) (maybe ++ more) m.region) (sym (no_more some (new_marks m.region.marks []))) (as_before sure maybe m.region keeps)
+
+half_said_keeps : (m : Machine) (flags : List Bool) (said : Result Asked Refusal) (sure maybe : List Image) → Keeps sure maybe m.region
+    → Keeps (sure ++ []) (maybe ++ (if list_any (λ flag. flag) flags then accepted_images (deliveries_asked said) (new_marks m.region.marks (deliveries_asked said)) else [])) (half_doing m flags said).machine.region
+half_said_keeps m flags (Ok (deliver deliveries)) sure maybe keeps = half_keeps m.region deliveries flags sure maybe (list_any (λ flag. flag) flags) (new_marks m.region.marks deliveries) refl refl keeps
+half_said_keeps m flags (Ok marks) sure maybe keeps = others_half m (list_any (λ flag. flag) flags) sure maybe keeps
+half_said_keeps m flags (Ok (read key)) sure maybe keeps = others_half m (list_any (λ flag. flag) flags) sure maybe keeps
+half_said_keeps m flags (Ok scan) sure maybe keeps = others_half m (list_any (λ flag. flag) flags) sure maybe keeps
+half_said_keeps m flags (Ok tablets) sure maybe keeps = others_half m (list_any (λ flag. flag) flags) sure maybe keeps
+half_said_keeps m flags (Err refusal) sure maybe keeps = others_half m (list_any (λ flag. flag) flags) sure maybe keeps
+
+turn_keeps : (m : Machine) (outcome : Outcome) (text : List ℕ) (sure maybe : List Image) → Keeps sure maybe m.region
+    → Keeps (sure ++ images_taken m outcome text) (maybe ++ images_left m outcome text) (turn m outcome text).machine.region
+turn_keeps m done text sure maybe keeps = said_keeps m (command_at text) sure maybe keeps
+turn_keeps m line text sure maybe keeps = as_before sure maybe m.region keeps
+turn_keeps m call text sure maybe keeps = as_before sure maybe m.region keeps
+turn_keeps m (round flags) text sure maybe keeps = half_said_keeps m flags (command_at text) sure maybe keeps
+
+after_keeps : (m : Machine) (lines : List (List ℕ)) (outcomes : List Outcome) (sure maybe : List Image) → Keeps sure maybe m.region
+    → Keeps (sure ++ taken_from m lines outcomes) (maybe ++ left_from m lines outcomes) (machine_after m lines outcomes).region
+after_keeps m [] outcomes sure maybe keeps = as_before sure maybe m.region keeps
+after_keeps m (text ∷ lines) outcomes sure maybe keeps =
+    let outcome = first_outcome outcomes in
+    let later = later_outcomes outcomes in
+    let next = (turn m outcome text).machine in
+    let took = images_taken m outcome text in
+    let left = images_left m outcome text in
+    subst (λ (s : List Image). Keeps s (maybe ++ (left ++ left_from next lines later)) (machine_after next lines later).region) (append_assoc sure took (taken_from next lines later))
+    (subst (λ (some : List Image). Keeps ((sure ++ took) ++ taken_from next lines later) some (machine_after next lines later).region) (append_assoc maybe left (left_from next lines later))
+    (after_keeps next lines later (sure ++ took) (maybe ++ left) (turn_keeps m outcome text sure maybe keeps)))
+
+new_keeps : (bounds : Bounds) → IsLayout bounds → Keeps [] [] (new_region bounds)
+new_keeps bounds lawful = record { region_is = new_is bounds (map empty_tablet (ranges bounds)) [] lawful refl refl; between = new_between bounds }
+
+-- what holds after lines from a new region on
+served_keeps : (bounds : Bounds) (lines : List (List ℕ)) (outcomes : List Outcome) → IsLayout bounds
+    → Keeps (taken_from (serving (new_region bounds)) lines outcomes) (left_from (serving (new_region bounds)) lines outcomes) (machine_after (serving (new_region bounds)) lines outcomes).region
+served_keeps bounds lines outcomes lawful = after_keeps (serving (new_region bounds)) lines outcomes [] [] (new_keeps bounds lawful)
+
+-- ---- the laws
+
+pub held_records : (bounds : Bounds) (script : List ℕ) (outcomes : List Outcome) → IsLayout bounds → AreRepeated (new_region bounds) script outcomes
+    → all_cells (region_after (new_region bounds) script outcomes) ≡ table_of (taken (new_region bounds) script outcomes)
+held_records bounds script outcomes lawful repeated =
+    let keeps = served_keeps bounds (lines_of script) outcomes lawful in
+    let start = serving (new_region bounds) in
+    surely_together (region_after (new_region bounds) script outcomes) (taken (new_region bounds) script outcomes) (left_from start (lines_of script) outcomes) keeps.region_is.lawful keeps.between repeated
+
+pub same_records : (bounds others : Bounds) (one other : List ℕ) (went goes : List Outcome) → IsLayout bounds → IsLayout others
+    → AreRepeated (new_region bounds) one went → AreRepeated (new_region others) other goes
+    → SameImages (taken (new_region bounds) one went) (taken (new_region others) other goes)
+    → all_cells (region_after (new_region bounds) one went) ≡ all_cells (region_after (new_region others) other goes)
+same_records bounds others one other went goes lawful lawful_too repeated repeats same =
+    let took = taken (new_region bounds) one went in
+    let takes = taken (new_region others) other goes in
+    held_records bounds one went lawful repeated ∙ same_cells_table took takes (cells-same took takes same) ∙ sym (held_records others other goes lawful_too repeats)
+
+cell_there : (region : RegionState) (key : List ℕ) (found : Option Tablet) → slice_get region.tablets (tablet_of region.layout key) ≡ found → IsRegion region → IsSome found
+    → option_and_then (λ (tablet : Tablet). find bytes_cmp key tablet.map) found ≡ find bytes_cmp key (all_cells region)
+cell_there region key None at is there = cc
+cell_there region key (Some tablet) at is there = has_its_cell region key tablet is at
+
+cell_is : (region : RegionState) (key : List ℕ) → IsRegion region → cell_at region key ≡ find bytes_cmp key (all_cells region)
+cell_is region key is = cell_there region key (slice_get region.tablets (tablet_of region.layout key)) refl is (has_tablet region key is)
+
+look_alike : (m n : Machine) (said : Result Asked Refusal) → IsLook said → IsRegion m.region → IsRegion n.region → all_cells m.region ≡ all_cells n.region → (saying m said).reply ≡ (saying n said).reply
+look_alike m n (Ok (deliver deliveries)) looks is too same = absurd looks
+look_alike m n (Ok marks) looks is too same = absurd looks
+look_alike m n (Ok (read key)) looks is too same =
+    ap (λ (cell : Option Celled). line_of (read_data key cell)) (cell_is m.region key is ∙ ap (find bytes_cmp key) same ∙ sym (cell_is n.region key too))
+look_alike m n (Ok scan) looks is too same = ap (λ (cells : Entries). line_of (scan_data cells)) same
+look_alike m n (Ok tablets) looks is too same = absurd looks
+look_alike m n (Err refusal) looks is too same = absurd looks
+
+pub same_replies : (bounds others : Bounds) (one other : List ℕ) (went goes : List Outcome) → IsLayout bounds → IsLayout others
+    → AreRepeated (new_region bounds) one went → AreRepeated (new_region others) other goes
+    → SameImages (taken (new_region bounds) one went) (taken (new_region others) other goes)
+    → (text : List ℕ) → IsLook (command_at text)
+    → (turn (machine_after (serving (new_region bounds)) (lines_of one) went) done text).reply
+    ≡ (turn (machine_after (serving (new_region others)) (lines_of other) goes) done text).reply
+same_replies bounds others one other went goes lawful lawful_too repeated repeats same text looks =
+    look_alike (machine_after (serving (new_region bounds)) (lines_of one) went) (machine_after (serving (new_region others)) (lines_of other) goes) (command_at text) looks
+    (served_keeps bounds (lines_of one) went lawful).region_is (served_keeps others (lines_of other) goes lawful_too).region_is
+    (same_records bounds others one other went goes lawful lawful_too repeated repeats same)
+
+itself_not_older : (o : Option Celled) → NotOlder o o
+itself_not_older None = tt
+itself_not_older (Some cell) = joined_not_older (Some cell) None
+
+-- no key of the region later is absent or older
+abbrev NeverOlder : RegionState → RegionState → Type 0
+NeverOlder old new = (key : List ℕ) → NotOlder (find bytes_cmp key (all_cells old)) (find bytes_cmp key (all_cells new))
+
+stays : (region : RegionState) → NeverOlder region region
+stays region key = itself_not_older (find bytes_cmp key (all_cells region))
+
+delivered_later : (m : Machine) (deliveries : List Delivered) (right : Result Positions RoundFault) → IsRegion m.region
+    → NeverOlder m.region (delivering m (result_map_both (taking m.region deliveries) (λ fault. fault) right)).machine.region
+delivered_later m deliveries (Ok next) is = round_not_older m.region deliveries next is
+delivered_later m deliveries (Err fault) is = stays m.region
+
+said_later : (m : Machine) (said : Result Asked Refusal) → IsRegion m.region → NeverOlder m.region (saying m said).machine.region
+said_later m (Ok (deliver deliveries)) is = delivered_later m deliveries (new_marks m.region.marks deliveries) is
+said_later m (Ok marks) is = stays m.region
+said_later m (Ok (read key)) is = stays m.region
+said_later m (Ok scan) is = stays m.region
+said_later m (Ok tablets) is = stays m.region
+said_later m (Err refusal) is = stays m.region
+
+half_later : (m : Machine) (flags : List Bool) (said : Result Asked Refusal) → IsRegion m.region → NeverOlder m.region (half_doing m flags said).machine.region
+half_later m flags (Ok (deliver deliveries)) is = half_not_older m.region (half_taken m.region deliveries flags) deliveries is (half_is m.region deliveries flags is)
+half_later m flags (Ok marks) is = stays m.region
+half_later m flags (Ok (read key)) is = stays m.region
+half_later m flags (Ok scan) is = stays m.region
+half_later m flags (Ok tablets) is = stays m.region
+half_later m flags (Err refusal) is = stays m.region
+
+turn_later : (m : Machine) (outcome : Outcome) (text : List ℕ) → IsRegion m.region → NeverOlder m.region (turn m outcome text).machine.region
+turn_later m done text is = said_later m (command_at text) is
+turn_later m line text is = stays m.region
+turn_later m call text is = stays m.region
+turn_later m (round flags) text is = half_later m flags (command_at text) is
+
+pub not_older : (bounds : Bounds) (lines : List (List ℕ)) (outcomes : List Outcome) (outcome : Outcome) (text key : List ℕ) → IsLayout bounds
+    → NotOlder (find bytes_cmp key (all_cells (machine_after (serving (new_region bounds)) lines outcomes).region))
+    (find bytes_cmp key (all_cells (turn (machine_after (serving (new_region bounds)) lines outcomes) outcome text).machine.region))
+not_older bounds lines outcomes outcome text key lawful =
+    turn_later (machine_after (serving (new_region bounds)) lines outcomes) outcome text (served_keeps bounds lines outcomes lawful).region_is key

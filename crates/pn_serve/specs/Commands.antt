@@ -7,15 +7,15 @@ use Rattle.pn_record.specs.Checks.{◌>>=◌, fault_as}
 use Rattle.pn_record.specs.Reading.{value_at}
 use Rattle.pn_record.specs.declared.fault.ImageFault.{ImageFault}
 use Rattle.pn_record.specs.declared.fault.ImageFault.TheVariants as image
-use Rattle.pn_serve.specs.Asked.{Asked, deliver, scan}
+use Rattle.pn_serve.specs.Asked.{Asked, deliver, marks, read, scan, tablets}
 use Rattle.pn_serve.specs.Words.{word_of}
 use Rattle.pn_serve.specs.Queries.{query_in}
 use Rattle.pn_serve.specs.Shapes.{each_in, part_in, no_others, batch_shape}
-use Rattle.pn_serve.specs.Ranges.{batches_fit}
+use Rattle.pn_serve.specs.Ranges.{batches_fit, fitting_key}
 use Rattle.pn_serve.specs.declared.form.Word.{Word}
-use Rattle.pn_serve.specs.declared.form.Word.TheVariants.{Deliver, Scan}
+use Rattle.pn_serve.specs.declared.form.Word.TheVariants.{Deliver, Marks, Read, Scan, Tablets}
 use Rattle.pn_serve.specs.declared.form.Form.TheVariants.{Command}
-use Rattle.pn_serve.specs.declared.refusal.Part.TheVariants.{Whole, Do, Batches, Query}
+use Rattle.pn_serve.specs.declared.refusal.Part.TheVariants.{Whole, Do, Batches, Key, Query}
 use Rattle.pn_serve.specs.declared.refusal.Part.TheVariants as part
 use Rattle.pn_serve.specs.declared.refusal.Refusal.{Refusal}
 use Rattle.pn_serve.specs.declared.refusal.Refusal.TheVariants.{TooLong, NotJson, BadShape, OutOfRange, Memory}
@@ -29,6 +29,20 @@ deliver_in members d = do
   fit ← batches_fit batches
   Ok (deliver batches)
 
+-- a `marks` command
+unfoldable pub marks_in : Members → Result Asked Refusal
+marks_in members = do
+  named ← no_others (Command Marks) members
+  Ok marks
+
+-- a `read` command
+unfoldable pub read_in : Members → Data → Result Asked Refusal
+read_in members d = do
+  text ← part_in Key as_str (get (codes "key") d)
+  named ← no_others (Command Read) members
+  key ← fitting_key text
+  Ok (read key)
+
 -- a `scan` command
 unfoldable pub scan_in : Members → Data → Result Asked Refusal
 scan_in members d = do
@@ -36,10 +50,19 @@ scan_in members d = do
   named ← no_others (Command Scan) members
   Ok scan
 
+-- a `tablets` command
+unfoldable pub tablets_in : Members → Result Asked Refusal
+tablets_in members = do
+  named ← no_others (Command Tablets) members
+  Ok tablets
+
 -- the command of a word
 abbrev pub command_as : Word → Members → Data → Result Asked Refusal
 command_as Deliver members d = deliver_in members d
+command_as Marks members d = marks_in members
+command_as Read members d = read_in members d
 command_as Scan members d = scan_in members d
+command_as Tablets members d = tablets_in members
 
 -- the command that a value is
 unfoldable pub command_in : Data → Result Asked Refusal

@@ -1,8 +1,8 @@
 pub mod AnsweredLine
 pub mod Answering
 pub mod Asked
-pub mod Changes
 pub mod Commands
+pub mod Looks
 pub mod Machine
 pub mod Queries
 pub mod Ranges
@@ -11,6 +11,8 @@ pub mod Replying
 pub mod Rows
 pub mod Runs
 pub mod Script
+pub mod Settings
 pub mod Shapes
+pub mod Shown
 pub mod Tokens
 pub mod Words

@@ -1,10 +1,16 @@
--- The replies to a script.
-use Rattle.std.specs.Prelude.{ℕ, ◌+◌, Bool, true, false, List, [], ◌∷◌, ◌++◌, Result, Ok, Err}
+-- The replies to a script, from a region on.
+use Rattle.std.specs.Prelude.{ℕ, ◌+◌, Bool, true, false, if◌then◌else◌, List, [], ◌∷◌, ◌++◌, Contains, Result, Ok, Err}
+use Rattle.std.specs.List.{list_any}
+use Rattle.pn_join.specs.Marks.{Positions}
 use Rattle.pn_line.specs.Text.{lines_of}
 use Rattle.pn_record.specs.declared.image.Image.{Image}
-use Rattle.pn_record.specs.CellMap.{Entries}
+use Rattle.pn_stream.specs.Positions.{Delivered}
+use Rattle.pn_apply.specs.Reducing.{all_images}
+use Rattle.pn_region.specs.Marking.{new_marks}
+use Rattle.pn_region.specs.Regions.{RegionState}
+use Rattle.pn_region.specs.declared.fault.RoundFault.{RoundFault}
 use Rattle.pn_serve.specs.declared.refusal.Refusal.{Refusal}
-use Rattle.pn_serve.specs.Asked.{Asked, deliver, scan, images_in}
+use Rattle.pn_serve.specs.Asked.{Asked, deliver, marks, read, scan, tablets}
 use Rattle.pn_serve.specs.Commands.{command_at}
 use Rattle.pn_serve.specs.Machine.{Outcome, done, line, call, round, Machine, turn, serving}
 
@@ -40,35 +46,66 @@ refusals_from machine (text ∷ lines) outcomes =
     one_if (turn machine (first_outcome outcomes) text).refused + refusals_from (turn machine (first_outcome outcomes) text).machine lines (later_outcomes outcomes)
 
 -- the replies to a script
-abbrev pub replies : List ℕ → List Outcome → List ℕ
-replies script outcomes = replies_from (serving []) (lines_of script) outcomes
-
--- the images that a line delivers, where it goes as it says
-abbrev pub images_asked : Result Asked Refusal → List Image
-images_asked (Ok (deliver batches)) = images_in batches
-images_asked (Ok scan) = []
-images_asked (Err refusal) = []
-
--- the images that a line took
-abbrev pub images_taken : Outcome → List ℕ → List Image
-images_taken done text = images_asked (command_at text)
-images_taken line text = []
-images_taken call text = []
-images_taken (round tablets) text = images_asked (command_at text)
-
--- the images that lines took, in order
-abbrev pub taken_from : List (List ℕ) → List Outcome → List Image
-taken_from [] outcomes = []
-taken_from (text ∷ lines) outcomes = images_taken (first_outcome outcomes) text ++ taken_from lines (later_outcomes outcomes)
-
--- the images that the accepted deliveries of a script took
-abbrev pub taken : List ℕ → List Outcome → List Image
-taken script outcomes = taken_from (lines_of script) outcomes
+abbrev pub replies : RegionState → List ℕ → List Outcome → List ℕ
+replies region script outcomes = replies_from (serving region) (lines_of script) outcomes
 
 -- how many replies to a script are refusals
-abbrev pub refusals : List ℕ → List Outcome → ℕ
-refusals script outcomes = refusals_from (serving []) (lines_of script) outcomes
+abbrev pub refusals : RegionState → List ℕ → List Outcome → ℕ
+refusals region script outcomes = refusals_from (serving region) (lines_of script) outcomes
 
--- the records after a script
-abbrev pub records_after : List ℕ → List Outcome → Entries
-records_after script outcomes = (machine_after (serving []) (lines_of script) outcomes).records
+-- the region after a script
+abbrev pub region_after : RegionState → List ℕ → List Outcome → RegionState
+region_after region script outcomes = (machine_after (serving region) (lines_of script) outcomes).region
+
+-- the deliveries that a line asks to take
+abbrev pub deliveries_asked : Result Asked Refusal → List Delivered
+deliveries_asked (Ok (deliver deliveries)) = deliveries
+deliveries_asked (Ok marks) = []
+deliveries_asked (Ok (read key)) = []
+deliveries_asked (Ok scan) = []
+deliveries_asked (Ok tablets) = []
+deliveries_asked (Err refusal) = []
+
+-- the images of a round that is not refused
+abbrev pub accepted_images : List Delivered → Result Positions RoundFault → List Image
+accepted_images deliveries (Ok next) = all_images deliveries
+accepted_images deliveries (Err fault) = []
+
+-- the images that a line brings to a machine, where its round is not refused
+abbrev pub images_brought : Machine → List ℕ → List Image
+images_brought machine text =
+    let deliveries = deliveries_asked (command_at text) in accepted_images deliveries (new_marks machine.region.marks deliveries)
+
+-- the images that a line took: those of an accepted round
+abbrev pub images_taken : Machine → Outcome → List ℕ → List Image
+images_taken machine done text = images_brought machine text
+images_taken machine line text = []
+images_taken machine call text = []
+images_taken machine (round which) text = []
+
+-- the images that a line left in some tablets, where its round ended without memory
+abbrev pub images_left : Machine → Outcome → List ℕ → List Image
+images_left machine done text = []
+images_left machine line text = []
+images_left machine call text = []
+images_left machine (round which) text = if list_any (λ flag. flag) which then images_brought machine text else []
+
+-- the images that lines took, in order
+abbrev pub taken_from : Machine → List (List ℕ) → List Outcome → List Image
+taken_from machine [] outcomes = []
+taken_from machine (text ∷ lines) outcomes =
+    images_taken machine (first_outcome outcomes) text ++ taken_from (turn machine (first_outcome outcomes) text).machine lines (later_outcomes outcomes)
+
+-- the images that lines left in some tablets, in order
+abbrev pub left_from : Machine → List (List ℕ) → List Outcome → List Image
+left_from machine [] outcomes = []
+left_from machine (text ∷ lines) outcomes =
+    images_left machine (first_outcome outcomes) text ++ left_from (turn machine (first_outcome outcomes) text).machine lines (later_outcomes outcomes)
+
+-- the images that the accepted deliveries of a script took
+abbrev pub taken : RegionState → List ℕ → List Outcome → List Image
+taken region script outcomes = taken_from (serving region) (lines_of script) outcomes
+
+-- what a round left in some tablets when it ended without memory is among what was taken: it was given again
+abbrev pub AreRepeated : RegionState → List ℕ → List Outcome → Type 0
+AreRepeated region script outcomes = (image : Image) → Contains (left_from (serving region) (lines_of script) outcomes) image → Contains (taken region script outcomes) image

@@ -6,7 +6,7 @@ use Rattle.serde_json.specs.Find.{get, as_str, as_array, as_object}
 use Rattle.pn_record.specs.Checks.{◌>>=◌, fault_as}
 use Rattle.pn_record.specs.Grammar.{whole_number, only_named, shape_in}
 use Rattle.pn_record.specs.declared.image.Image.{Image}
-use Rattle.pn_serve.specs.Asked.{Delivered}
+use Rattle.pn_stream.specs.Positions.{Delivered}
 use Rattle.pn_serve.specs.Words.{names_of}
 use Rattle.pn_serve.specs.declared.form.Form.{Form}
 use Rattle.pn_serve.specs.declared.form.Form.TheVariants.{Batch}
@@ -45,4 +45,4 @@ batch_shape d = do
   images ← each_in image_shape items
   stream ← part_in Stream as_str (get (codes "stream") d)
   named ← no_others Batch members
-  Ok (record { first = first; images = images; stream = stream })
+  Ok (record { stream = stream; first = first; images = images })

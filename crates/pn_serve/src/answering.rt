@@ -1,46 +1,80 @@
-//! What one line does: the records after it, and its reply.
+//! What one line does: the region after it, and its reply.
 
-ghost use Rattle.std.specs.Prelude.{Ok};
-ghost use Rattle.pn_serve.specs.Asked.{asked};
+ghost use Rattle.std.specs.Prelude.{◌≡◌, ◌≤◌, Ok, MatchResult};
+ghost use Rattle.pn_serve.specs.declared.answering.Reply.TheVariants.{Text, Refused};
+ghost use Rattle.pn_serve.specs.declared.refusal.Refusal.TheVariants.{Memory as no_memory};
+ghost use Rattle.pn_serve.specs.Asked.{asked, deliver as asking};
 ghost use Rattle.pn_serve.specs.Commands.{command_at};
 ghost use Rattle.pn_serve.specs.Replying.{Turned};
 
-use crate::store::deliver;
+use crate::faults::fault_reply;
+use crate::shown::{marks_reply, read_reply, tablets_reply};
 use crate::{Command, Refusal, command_of, scan_reply};
-use pn_record::Records;
+use pn_apply::Open;
+use pn_join::NoMemory;
+use pn_region::{Region, RoundFault};
+use pn_stream::Delivery;
 use std::alloc::Global;
 
 /// The reply to one line.
 #[derive(Drop)]
 pub enum Reply {
-    /// How many keys' cells a delivery changed.
+    /// How many records a round changed.
     Changed(u64),
-    /// The text of a scan's reply.
-    Rows(Vec<u8>),
+    /// A reply's text.
+    Text(Vec<u8>),
+    /// The line was refused.
     Refused(Refusal),
+    /// The text of why the round of its deliveries was refused.
+    NotTaken(Vec<u8>),
 }
 
-/// Answers one line and does what it asks for. A refusal leaves the records as they were.
-pub fn answer(alloc: Global, records: &mut Records, line: &[u8]) -> Reply
-    ensures { Turned records.old (command_at line.now) records.new result }
+/// Answers one line and does what it asks for, with 1 to 16 workers. A refusal leaves the region as it was;
+/// but after want of memory in a round, each tablet is as it was or has taken its part.
+pub fn answer(alloc: Global, region: &mut Region, workers: usize, line: &[u8]) -> Reply
+    requires workers { (1 ≤ workers) × (workers ≤ 16) }
+    ensures { Turned region.old (command_at line.now) region.new result }
 {
     match command_of(alloc, line) {
-        Ok(command) => obey(alloc, records, command),
+        Ok(command) => obey(alloc, region, workers, command),
         Err(refusal) => Reply::Refused(refusal),
     }
 }
 
-fn obey(alloc: Global, records: &mut Records, command: Command) -> Reply
-    ensures { Turned records.old (Ok (asked command)) records.new result }
+fn obey(alloc: Global, region: &mut Region, workers: usize, command: Command) -> Reply
+    requires workers { (1 ≤ workers) × (workers ≤ 16) }
+    ensures { Turned region.old (Ok (asked command)) region.new result }
 {
     match command {
-        Command::Deliver(batches) => match deliver(alloc, records, batches) {
-            Ok(count) => Reply::Changed(count),
+        Command::Deliver(deliveries) => deliver(alloc, region, workers, deliveries),
+        Command::Marks => shown(marks_reply(alloc, region.marks())),
+        Command::Read(key) => shown(read_reply(alloc, region, &key)),
+        Command::Scan => shown(scan_reply(alloc, region)),
+        Command::Tablets => shown(tablets_reply(alloc, region)),
+    }
+}
+
+// One round of the deliveries.
+fn deliver(alloc: Global, region: &mut Region, workers: usize, deliveries: Vec<Delivery>) -> Reply
+    requires workers { (1 ≤ workers) × (workers ≤ 16) }
+    ensures { Turned region.old (Ok (asking deliveries.items)) region.new result }
+{
+    match region.round(deliveries, workers, &Open) {
+        Ok(round) => Reply::Changed(round.changed),
+        Err(RoundFault::Memory) => Reply::Refused(Refusal::Memory),
+        Err(fault) => match fault_reply(alloc, &fault) {
+            Ok(text) => Reply::NotTaken(text),
             Err(_) => Reply::Refused(Refusal::Memory),
         },
-        Command::Scan => match scan_reply(alloc, records) {
-            Ok(text) => Reply::Rows(text),
-            Err(_) => Reply::Refused(Refusal::Memory),
-        },
+    }
+}
+
+// The reply of this text, where there was memory for it.
+fn shown(text: Result<Vec<u8>, NoMemory>) -> Reply
+    ensures { MatchResult text (λ text. result ≡ Text text) (λ _. result ≡ Refused no_memory) }
+{
+    match text {
+        Ok(text) => Reply::Text(text),
+        Err(_) => Reply::Refused(Refusal::Memory),
     }
 }

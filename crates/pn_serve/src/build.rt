@@ -1,45 +1,43 @@
-//! Batches in their ranges, copied out of the parsed value.
+//! Batches in their ranges, copied out of the parsed value as deliveries.
 
-ghost use Rattle.std.specs.Prelude.{◌≡◌, map, IfOk, Ok};
-ghost use Rattle.pn_serve.specs.Asked.{delivered};
+ghost use Rattle.std.specs.Prelude.{◌≡◌, IfOk, Ok};
 ghost use Rattle.pn_serve.specs.Ranges.{each_fits, image_fits, batch_fits, batches_fit};
 
-use crate::Batch;
 use crate::shape::BatchShape;
 use pn_join::{Name, NoMemory};
 use pn_record::{Image, Shape};
+use pn_stream::Delivery;
 use std::alloc::Global;
 
-/// The batches, with each text copied once.
+/// The deliveries of the batches, with each text copied once.
 #[tactic(auto, unfolding(crate::specs::Ranges::batches_fit))]
-pub(crate) fn built_batches(
+pub(crate) fn built_deliveries(
     alloc: Global,
     shapes: &[BatchShape<'_>],
-) -> Result<Vec<Batch>, NoMemory>
+) -> Result<Vec<Delivery>, NoMemory>
     requires { batches_fit shapes.now ≡ Ok tt }
-    ensures { IfOk result (λ batches. map delivered batches.items ≡ shapes.now) }
+    ensures { IfOk result (λ deliveries. deliveries.items ≡ shapes.now) }
 {
-    let mut batches = Vec::with_capacity(alloc, shapes.len())?;
+    let mut deliveries = Vec::with_capacity(alloc, shapes.len())?;
     for shape in shapes {
-        batches.push(built_batch(alloc, shape)?)?;
+        deliveries.push(built_delivery(alloc, shape)?)?;
     }
-    Ok(batches)
+    Ok(deliveries)
 }
 
 #[tactic(auto, unfolding(crate::specs::Ranges::batch_fits))]
-fn built_batch(alloc: Global, shape: &BatchShape<'_>) -> Result<Batch, NoMemory>
+fn built_delivery(alloc: Global, shape: &BatchShape<'_>) -> Result<Delivery, NoMemory>
     requires { batch_fits shape.now ≡ Ok tt }
-    ensures { IfOk result (λ batch. delivered batch ≡ shape.now) }
+    ensures { IfOk result (λ delivery. delivery ≡ shape.now) }
 {
     let images = built_images(alloc, &shape.images)?;
     let Ok(stream) = Name::read(shape.stream.as_bytes()) else {
         unreachable!()
     };
-    Ok(Batch {
-        first: shape.first,
-        images,
-        stream,
-    })
+    match Delivery::new(stream, shape.first, images) {
+        Some(delivery) => Ok(delivery),
+        None => unreachable!(),
+    }
 }
 
 fn built_images(alloc: Global, shapes: &[Shape<'_>]) -> Result<Vec<Image>, NoMemory>

@@ -1,22 +1,19 @@
 //! The commands that lines are.
 
-use pn_join::StreamName;
-use pn_record::Image;
-
-/// Images that stand in a stream at consecutive positions.
-#[derive(Debug, Drop)]
-pub struct Batch {
-    /// The position of the first image.
-    pub first: u64,
-    pub images: Vec<Image>,
-    pub stream: StreamName,
-}
+use pn_record::Key;
+use pn_stream::Delivery;
 
 /// What a line asks for.
 #[derive(Debug, Drop)]
 pub enum Command {
-    /// Take the images of these batches, in one step.
-    Deliver(Vec<Batch>),
+    /// Take these deliveries, in one round.
+    Deliver(Vec<Delivery>),
+    /// Show how far streams were taken.
+    Marks,
+    /// Show the record of a key.
+    Read(Key),
     /// Show all records that are not deleted.
     Scan,
+    /// Show the tablets.
+    Tablets,
 }

@@ -13,7 +13,10 @@ use serde_json::{Map, Value};
 #[derive(Clone, Copy)]
 pub(crate) enum Word {
     Deliver,
+    Marks,
+    Read,
     Scan,
+    Tablets,
 }
 
 /// An object of a line, which may have the members that go with it.
@@ -29,7 +32,10 @@ impl Word {
     {
         match text {
             "deliver" => Some(Word::Deliver),
+            "marks" => Some(Word::Marks),
+            "read" => Some(Word::Read),
             "scan" => Some(Word::Scan),
+            "tablets" => Some(Word::Tablets),
             _ => None,
         }
     }
@@ -42,6 +48,8 @@ impl Form {
         match self {
             Form::Batch => matches!(name, "first" | "images" | "stream"),
             Form::Command(Word::Deliver) => matches!(name, "batches" | "do"),
+            Form::Command(Word::Marks | Word::Tablets) => matches!(name, "do"),
+            Form::Command(Word::Read) => matches!(name, "do" | "key"),
             Form::Command(Word::Scan) => matches!(name, "do" | "query"),
         }
     }

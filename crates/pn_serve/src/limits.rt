@@ -1,18 +1,17 @@
 //! The ranges of a line's parts, looked at in their shapes. It takes no memory.
 
 ghost use Rattle.std.specs.Prelude.{◌≡◌, length};
-ghost use Rattle.pn_serve.specs.Ranges.{each_fits, image_fits, positions_fit as all_fit, batch_fits, batches_fit};
+ghost use Rattle.pn_stream.specs.Positions.{are_positions};
+ghost use Rattle.pn_serve.specs.Ranges.{each_fits, image_fits, batch_fits, batches_fit};
 
 use crate::shape::BatchShape;
 use crate::{Part, Refusal};
 use pn_join::Name;
 use pn_record::Shape;
+use pn_stream::LAST_POSITION;
 
 /// The most batches of a command.
 const MOST_BATCHES: usize = 64;
-
-/// The last position of a stream.
-const LAST_POSITION: u64 = 1_000_000_000_000_000;
 
 /// Whether there are 1 to 64 batches, each in its ranges; otherwise the first fault.
 #[tactic(auto, unfolding(crate::specs::Ranges::batches_fit))]
@@ -44,7 +43,7 @@ fn check_batch(batch: &BatchShape<'_>) -> Result<(), Refusal>
 
 /// Whether the positions of `count` images from `first` on are positions of a stream.
 fn positions_fit(first: u64, count: usize) -> bool
-    ensures { result ≡ all_fit first count }
+    ensures { result ≡ are_positions first count }
 {
     1 <= first && first <= LAST_POSITION && count as u64 <= LAST_POSITION + 1 - first
 }

@@ -1,24 +1,25 @@
 //! The command that a line is.
 
-ghost use Rattle.std.specs.Prelude.{◌≡◌, ◌<◌, length, option_and_then, IfOk, IsErrOf};
+ghost use Rattle.std.specs.Prelude.{◌≡◌, ◌<◌, length, option_and_then, IfOk, IsErrOf, IsTrue};
 ghost use Rattle.serde_json.specs.Find.{as_str};
 ghost use Rattle.serde_json.specs.View.{view, members_view};
 ghost use Rattle.pn_record.specs.Seen.{seen};
 ghost use Rattle.pn_serve.specs.Answering.{AnswersAs};
 ghost use Rattle.pn_serve.specs.Asked.{asked};
 ghost use Rattle.pn_serve.specs.Queries.{is_empty as no_members, query_in};
-ghost use Rattle.pn_serve.specs.Ranges.{IsInRanges};
+ghost use Rattle.pn_record.specs.Limits.{is_key};
+ghost use Rattle.pn_serve.specs.Ranges.{IsInRanges, fitting_key};
 ghost use Rattle.pn_serve.specs.Shapes.{part_in};
 ghost use Rattle.pn_serve.specs.Words.{word_of as word_named};
-ghost use Rattle.pn_serve.specs.Commands.{refusal_of, deliver_in, scan_in, command_in as command_seen, command_at};
+ghost use Rattle.pn_serve.specs.Commands.{refusal_of, deliver_in, marks_in, read_in, scan_in, tablets_in, command_in as command_seen, command_at};
 ghost use Rattle.pn_serve.specs.declared.refusal.Part.TheVariants.{Do, Query};
 
-use crate::build::built_batches;
+use crate::build::built_deliveries;
 use crate::form::{Form, Word};
 use crate::limits::check_batches;
 use crate::parts::{batches_of, check_names, items_of, text_of};
 use crate::{Command, Part, Refusal};
-use pn_record::{ImageFault, read_value};
+use pn_record::{ImageFault, Key, KeyFault, read_value};
 use serde_json::{Map, Value};
 use std::alloc::Global;
 
@@ -58,7 +59,10 @@ fn command_in(alloc: Global, value: &Value) -> Result<Command, Refusal>
     let members = value.as_object().ok_or(Refusal::BadShape(Part::Whole))?;
     match word_of(value.get("do"))? {
         Word::Deliver => deliver_of(alloc, members, value),
+        Word::Marks => marks_of(members),
+        Word::Read => read_of(alloc, members, value),
         Word::Scan => scan_of(members, value),
+        Word::Tablets => tablets_of(members),
     }
 }
 
@@ -84,7 +88,46 @@ fn deliver_of(
     let shapes = batches_of(alloc, items)?;
     check_names(Form::Command(Word::Deliver), members)?;
     check_batches(&shapes)?;
-    Ok(Command::Deliver(built_batches(alloc, &shapes)?))
+    Ok(Command::Deliver(built_deliveries(alloc, &shapes)?))
+}
+
+#[tactic(auto, unfolding(crate::specs::Commands::marks_in))]
+fn marks_of(members: &Map<String, Value>) -> Result<Command, Refusal>
+    ensures exact { AnswersAs asked result (marks_in (members_view members.now.entries)) }
+    ensures in_ranges { IfOk result (λ command. IsInRanges (asked command)) }
+{
+    check_names(Form::Command(Word::Marks), members)?;
+    Ok(Command::Marks)
+}
+
+#[tactic(auto, unfolding(crate::specs::Commands::read_in))]
+fn read_of(alloc: Global, members: &Map<String, Value>, value: &Value) -> Result<Command, Refusal>
+    ensures exact { AnswersAs asked result (read_in (members_view members.now.entries) (view value.now)) }
+    ensures in_ranges { IfOk result (λ command. IsInRanges (asked command)) }
+{
+    let text = text_of(Part::Key, value.get("key"))?;
+    check_names(Form::Command(Word::Read), members)?;
+    Ok(Command::Read(key_of(alloc, text)?))
+}
+
+fn key_of(alloc: Global, text: &str) -> Result<Key, Refusal>
+    ensures exact { AnswersAs (λ key. key) result (fitting_key text.now) }
+    ensures in_ranges { IfOk result (λ key. IsTrue (is_key key)) }
+{
+    match Key::of(alloc, text) {
+        Ok(key) => Ok(key),
+        Err(KeyFault::OutOfRange) => Err(Refusal::OutOfRange(Part::Key)),
+        Err(KeyFault::Memory) => Err(Refusal::Memory),
+    }
+}
+
+#[tactic(auto, unfolding(crate::specs::Commands::tablets_in))]
+fn tablets_of(members: &Map<String, Value>) -> Result<Command, Refusal>
+    ensures exact { AnswersAs asked result (tablets_in (members_view members.now.entries)) }
+    ensures in_ranges { IfOk result (λ command. IsInRanges (asked command)) }
+{
+    check_names(Form::Command(Word::Tablets), members)?;
+    Ok(Command::Tablets)
 }
 
 #[tactic(auto, unfolding(crate::specs::Commands::scan_in))]

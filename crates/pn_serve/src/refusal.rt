@@ -16,6 +16,7 @@ pub enum Part {
     Batches,
     First,
     Images,
+    Key,
     Stream,
     Query,
     /// A member by a name that has no meaning there.

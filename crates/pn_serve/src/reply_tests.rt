@@ -1,18 +1,29 @@
 //! Replies against texts that were written down by hand.
-use crate::{Part, Refusal, ShortReply, changed_reply, refusal_reply, scan_reply};
-use pn_join::Table;
-use pn_record::{Member, read_image, take_image};
+use crate::{Part, Refusal, ShortReply, changed_reply, fault_reply, refusal_reply, scan_reply};
+use pn_apply::Open;
+use pn_join::Name;
+use pn_record::{KeyFault, Member, read_image};
+use pn_region::{Region, RoundFault};
+use pn_stream::Delivery;
+use pn_tablet::Layout;
 use std::alloc::Global;
 use std::process::Abort;
 use std::test::Fail;
 
+// These images as one delivery.
+fn delivery(alloc: Global, images: &[&str]) -> Result<Delivery, Fail> {
+    let mut list = Vec::with_capacity(alloc, images.len())?;
+    for image in images {
+        list.push(read_image(alloc, image.as_bytes())?)?;
+    }
+    Ok(Delivery::new(Name::read(b"east")?, 1, list).ok_or(KeyFault::OutOfRange)?)
+}
+
 // The reply to a scan of what these images leave.
 fn scanned(alloc: Global, images: &[&str]) -> Result<Vec<u8>, Fail> {
-    let mut records = Table::new(alloc);
-    for image in images {
-        take_image(alloc, &mut records, read_image(alloc, image.as_bytes())?)?;
-    }
-    Ok(scan_reply(alloc, &records)?)
+    let mut region = Region::new(alloc, Layout::new(Vec::new(alloc))?)?;
+    region.round(vec![in alloc; delivery(alloc, images)?]?, 1, &Open)?;
+    Ok(scan_reply(alloc, &region)?)
 }
 
 fn assert_scan(rt: &impl Abort, alloc: Global, images: &[&str], want: &str) -> Result<(), Fail> {
@@ -75,4 +86,20 @@ fn a_delivery_says_what_it_changed(rt: HostRuntime) {
         &changed_reply(u64::MAX),
         "{\"changed\":18446744073709551615}\n",
     );
+}
+
+#[test]
+fn a_refused_round_says_why(rt: HostRuntime) -> Result<(), Fail> {
+    let gap = RoundFault::Gap {
+        stream: Name::read(b"east")?,
+        wanted: 6,
+        got: 7,
+    };
+    let reply = fault_reply(rt.alloc(), &gap)?;
+    let want = "{\"error\":\"gap\",\"got\":7,\"stream\":\"east\",\"wanted\":6}\n";
+    assert_eq!(rt; reply.as_slice(), want.as_bytes());
+    let reply = fault_reply(rt.alloc(), &RoundFault::TooManyStreams)?;
+    let want = "{\"error\":\"too-many-streams\"}\n";
+    assert_eq!(rt; reply.as_slice(), want.as_bytes());
+    Ok(())
 }

@@ -4,15 +4,18 @@ ghost use Rattle.std.specs.Prelude.{◌≡◌, ◌≢◌, ◌+◌, ◌<◌, ◌�
 ghost use Rattle.std.specs.Io.KnownBytes.{Keeps};
 ghost use Rattle.pn_line.specs.Sent.{Sends, AppendsFront};
 ghost use Rattle.pn_serve.specs.declared.running.RunFault.TheVariants.{Write, Memory};
+ghost use Rattle.pn_region.specs.Regions.{new_region};
 ghost use Rattle.pn_serve.specs.Runs.{Ended, Broken, Cut, Exceeded};
 ghost use Rattle.pn_serve.specs.AnsweredLine.{Answered, AnsweredInPart};
 ghost use Rattle.pn_serve.specs.Script.{one_if};
 ghost use Rattle.pn_serve.specs.Replying.{reply_text, is_refusal};
 
+use crate::Settings;
 use crate::answering::{Reply, answer};
 use crate::replies::{changed_reply, refusal_reply};
+use pn_join::NoMemory;
 use pn_line::{LineBuffer, LineEnd, Outbox, Piece, Sink, Source, WriteFault, read_line};
-use pn_record::Records;
+use pn_region::Region;
 use std::alloc::{AllocError, Global};
 use thiserror::Error;
 
@@ -52,6 +55,14 @@ impl From<WriteFault> for RunFault {
     }
 }
 
+impl From<NoMemory> for RunFault {
+    ghost from_gives = { λ _ fault. fault ≡ Memory };
+
+    fn from(_error: NoMemory) -> RunFault {
+        RunFault::Memory
+    }
+}
+
 impl From<AllocError> for RunFault {
     ghost from_gives = { λ _ fault. fault ≡ Memory };
 
@@ -60,53 +71,66 @@ impl From<AllocError> for RunFault {
     }
 }
 
-/// Answers the lines of a script until its end, each by one reply, and writes each reply before it waits
-/// for more input.
+/// Answers the lines of a script until its end, each by one reply, over a new region, and writes each reply
+/// before it waits for more input.
 pub fn run<S: Source, W: Sink>(
     alloc: Global,
     input: &mut S,
     output: &mut W,
+    settings: Settings,
 ) -> Result<Counts, RunFault>
     ensures ended { IfOk result (λ counts. IfSome (S.left input.old) (λ script.
-        Ended script (W.contents output.old) (W.contents output.new) counts.lines counts.refused)) }
+        Ended (new_region settings.0) script (W.contents output.old) (W.contents output.new) counts.lines counts.refused)) }
     ensures read { IsErrOf result RunFault.Read → S.may_fail }
     ensures broken { IsErrOf result RunFault.Read → IfSome (S.left input.old) (λ script.
-        Broken script (S.left input.new) (W.contents output.old) (W.contents output.new)) }
+        Broken (new_region settings.0) script (S.left input.new) (W.contents output.old) (W.contents output.new)) }
     ensures write { IsErrOf result RunFault.Write → W.may_fail }
     ensures cut { IsErrOf result RunFault.Write → IfSome (S.left input.old) (λ script.
-        Cut script (W.contents output.old) (W.contents output.new)) }
+        Cut (new_region settings.0) script (W.contents output.old) (W.contents output.new)) }
     ensures exceeded { IsErrOf result RunFault.TooManyTurns → IfSome (S.left input.old) (λ script.
-        Exceeded script (W.contents output.old) (W.contents output.new)) }
+        Exceeded (new_region settings.0) script (W.contents output.old) (W.contents output.new)) }
     ensures memory { IsErrOf result RunFault.Memory
         → Keeps (S.left input.old) (S.left input.new) × Keeps (W.contents output.old) (W.contents output.new) }
 {
+    let Settings { layout, workers } = settings;
     let mut line = LineBuffer::new(alloc)?;
     let mut outbox = Outbox::new(alloc)?;
-    serve(alloc, &mut line, &mut outbox, input, output)
+    let mut region = Region::new(alloc, layout)?;
+    serve(
+        alloc,
+        &mut region,
+        workers,
+        &mut line,
+        &mut outbox,
+        input,
+        output,
+    )
 }
 
 // Answers line after line.
 fn serve<S: Source, W: Sink>(
     alloc: Global,
+    region: &mut Region,
+    workers: usize,
     line: &mut LineBuffer,
     outbox: &mut Outbox,
     input: &mut S,
     output: &mut W,
 ) -> Result<Counts, RunFault>
-    requires { outbox.old ≡ [] }
+    requires empty { outbox.old ≡ [] }
+    requires workers { (1 ≤ workers) × (workers ≤ 16) }
     ensures ended { IfOk result (λ counts. IfSome (S.left input.old) (λ script.
-        Ended script (W.contents output.old) (W.contents output.new) counts.lines counts.refused)) }
+        Ended region.old script (W.contents output.old) (W.contents output.new) counts.lines counts.refused)) }
     ensures read { IsErrOf result RunFault.Read → S.may_fail }
     ensures broken { IsErrOf result RunFault.Read → IfSome (S.left input.old) (λ script.
-        Broken script (S.left input.new) (W.contents output.old) (W.contents output.new)) }
+        Broken region.old script (S.left input.new) (W.contents output.old) (W.contents output.new)) }
     ensures write { IsErrOf result RunFault.Write → W.may_fail }
     ensures cut { IsErrOf result RunFault.Write → IfSome (S.left input.old) (λ script.
-        Cut script (W.contents output.old) (W.contents output.new)) }
+        Cut region.old script (W.contents output.old) (W.contents output.new)) }
     ensures exceeded { IsErrOf result RunFault.TooManyTurns → IfSome (S.left input.old) (λ script.
-        Exceeded script (W.contents output.old) (W.contents output.new)) }
+        Exceeded region.old script (W.contents output.old) (W.contents output.new)) }
     ensures not_memory { IsErrOf result RunFault.Memory → ⊥ }
 {
-    let mut records = Records::new(alloc);
     let mut counts = Counts {
         lines: 0,
         refused: 0,
@@ -120,7 +144,7 @@ fn serve<S: Source, W: Sink>(
         match end {
             LineEnd::Newline { more } => {
                 let bytes = line.bytes();
-                answer_line(alloc, &mut records, &mut counts, bytes, outbox, output)?;
+                answer_line(alloc, region, workers, &mut counts, bytes, outbox, output)?;
                 if !more {
                     outbox.flush(output)?;
                 }
@@ -131,7 +155,7 @@ fn serve<S: Source, W: Sink>(
                     return Ok(counts);
                 }
                 let bytes = line.bytes();
-                answer_line(alloc, &mut records, &mut counts, bytes, outbox, output)?;
+                answer_line(alloc, region, workers, &mut counts, bytes, outbox, output)?;
                 outbox.flush(output)?;
                 return Ok(counts);
             }
@@ -166,19 +190,21 @@ fn end_of<S: Source>(line: &mut LineBuffer, input: &mut S) -> Result<(), RunFaul
 // Answers one line: its reply waits or goes out, and is counted.
 fn answer_line<W: Sink>(
     alloc: Global,
-    records: &mut Records,
+    region: &mut Region,
+    workers: usize,
     counts: &mut Counts,
     line: &[u8],
     outbox: &mut Outbox,
     output: &mut W,
 ) -> Result<(), WriteFault>
+    requires workers { (1 ≤ workers) × (workers ≤ 16) }
     requires turns { counts.old.lines < MOST_LINES }
     requires bounded { counts.old.refused ≤ counts.old.lines }
-    ensures ok { OnOk result (Answered records.old records.new line.now (W.contents output.old) (W.contents output.new) outbox.old outbox.new counts.old counts.new) }
-    ensures err { OnErr result (AnsweredInPart records.old records.new line.now (W.contents output.old) (W.contents output.new) outbox.old) }
+    ensures ok { OnOk result (Answered region.old region.new line.now (W.contents output.old) (W.contents output.new) outbox.old outbox.new counts.old counts.new) }
+    ensures err { OnErr result (AnsweredInPart region.old region.new line.now (W.contents output.old) (W.contents output.new) outbox.old) }
     ensures fault { OnErr result W.may_fail }
 {
-    let reply = answer(alloc, records, line);
+    let reply = answer(alloc, region, workers, line);
     count(counts, &reply);
     push_reply(&reply, outbox, output)
 }
@@ -190,7 +216,7 @@ fn count(counts: &mut Counts, reply: &Reply)
     ensures refused { counts.new.refused ≡ one_if (is_refusal reply.now) + counts.old.refused }
 {
     counts.lines += 1;
-    if let Reply::Refused(_) = reply {
+    if let Reply::Refused(_) | Reply::NotTaken(_) = reply {
         counts.refused += 1;
     }
 }
@@ -203,7 +229,7 @@ fn push_reply<W: Sink>(reply: &Reply, outbox: &mut Outbox, output: &mut W) -> Re
 {
     match reply {
         Reply::Changed(count) => outbox.push(output, changed_reply(*count).as_bytes()),
-        Reply::Rows(text) => outbox.push(output, text),
+        Reply::Text(text) | Reply::NotTaken(text) => outbox.push(output, text),
         Reply::Refused(refusal) => outbox.push(output, refusal_reply(refusal).as_bytes()),
     }
 }

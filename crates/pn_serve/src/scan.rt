@@ -3,52 +3,60 @@
 ghost use Rattle.std.specs.Prelude.{◌≡◌, [], ◌∷◌, map, IfOk, OnOk, option_to_list, slice_get};
 ghost use Rattle.serde_json.specs.Data.{array};
 ghost use Rattle.serde_json.specs.View.{items_of};
+ghost use Rattle.pn_region.specs.Regions.{all_cells};
 ghost use Rattle.pn_serve.specs.Rows.{has_fields as with_fields, is_shown as shows, row_data, shown_rows, scan_data, line_of};
 ghost use Rattle.pn_serve.specs.Tokens.{Appends, value_tokens, values_tokens};
 
 use crate::rows::write_row;
+use crate::text::{begun, finished};
 use json::Writer;
 use pn_join::NoMemory;
 use pn_record::{Body, Cell, Content, Key, Records};
+use pn_region::Region;
 use std::alloc::Global;
-
-/// The first size of a reply's text, in bytes.
-const FIRST_SIZE: usize = 256;
 
 /// The reply to a scan of all records, one line: `{"next":null,"rows":[..]}` with the row of each record
 /// that has a content with fields, in key order. It is built whole; on an error nothing of it stands.
-pub fn scan_reply(alloc: Global, records: &Records) -> Result<Vec<u8>, NoMemory>
-    ensures { IfOk result (λ text. text.items ≡ line_of (scan_data records.now)) }
+pub fn scan_reply(alloc: Global, region: &Region) -> Result<Vec<u8>, NoMemory>
+    ensures { IfOk result (λ text. text.items ≡ line_of (scan_data (all_cells region.now))) }
 {
-    let mut writer = Writer::new(Vec::with_capacity(alloc, FIRST_SIZE)?);
-    write_scan(&mut writer, records)?;
-    let mut text = writer.into_inner();
-    text.push(b'\n')?;
-    Ok(text)
+    let mut writer = begun(alloc)?;
+    write_scan(&mut writer, region)?;
+    finished(writer)
 }
 
 #[tactic(auto, unfolding(crate::specs::Rows::scan_data))]
-fn write_scan(writer: &mut Writer, records: &Records) -> Result<(), NoMemory>
-    ensures { OnOk result (Appends writer.old writer.new (value_tokens (scan_data records.now))) }
+fn write_scan(writer: &mut Writer, region: &Region) -> Result<(), NoMemory>
+    ensures { OnOk result (Appends writer.old writer.new (value_tokens (scan_data (all_cells region.now)))) }
 {
     writer.begin_object()?;
     writer.key("next")?;
     writer.null()?;
     writer.key("rows")?;
-    write_rows(writer, records)?;
+    write_tablets_rows(writer, region)?;
     writer.end_object()?;
     Ok(())
 }
 
-fn write_rows(writer: &mut Writer, records: &Records) -> Result<(), NoMemory>
+// The rows of tablet after tablet.
+fn write_tablets_rows(writer: &mut Writer, region: &Region) -> Result<(), NoMemory>
     ensures { OnOk result (Appends writer.old writer.new
-        (value_tokens (array (items_of (map row_data (shown_rows records.now)))))) }
+        (value_tokens (array (items_of (map row_data (shown_rows (all_cells region.now))))))) }
 {
     writer.begin_array()?;
+    for tablet in 0..region.layout().count() {
+        write_rows(writer, region.tablet(tablet).cells())?;
+    }
+    writer.end_array()?;
+    Ok(())
+}
+
+fn write_rows(writer: &mut Writer, records: &Records) -> Result<(), NoMemory>
+    ensures { OnOk result (Appends writer.old writer.new (values_tokens (map row_data (shown_rows records.now)))) }
+{
     for place in 0..records.len() {
         write_row_at(writer, records, place)?;
     }
-    writer.end_array()?;
     Ok(())
 }
 

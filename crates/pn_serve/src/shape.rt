@@ -12,9 +12,9 @@ pub(crate) struct BatchShape<'v> {
 }
 
 impl<'v> Model for BatchShape<'v> {
-    ghost use Rattle.pn_serve.specs.Asked.{Delivered};
+    ghost use Rattle.pn_stream.specs.Positions.{Delivered};
 
     ghost Value = { Delivered };
 
-    ghost view = { λ b. record { first = b.first; images = b.images.items; stream = b.stream.now } };
+    ghost view = { λ b. record { stream = b.stream.now; first = b.first; images = b.images.items } };
 }

@@ -16,6 +16,7 @@ impl Part {
             Part::Batches => "batches",
             Part::First => "first",
             Part::Images => "images",
+            Part::Key => "key",
             Part::Stream => "stream",
             Part::Query => "query",
             Part::Other => "other",

@@ -1,7 +1,9 @@
 //! `pnuts`: a script on standard input becomes replies on standard output.
 #![tactic(auto)]
 
-use pn_serve::{Counts, RunFault, run};
+use pn_serve::{Counts, RunFault, Settings, run};
+use pn_tablet::Layout;
+use std::alloc::Global;
 use std::io;
 use std::io::BufReader;
 use std::process::ExitCode;
@@ -24,7 +26,19 @@ fn answer_input(rt: &(impl AllocGlobal + Input + Print)) -> Result<Counts, RunFa
     let Ok(mut input) = BufReader::with_capacity(rt.alloc(), INPUT_ROOM, rt.reader()) else {
         return Err(RunFault::Memory);
     };
-    run(rt.alloc(), &mut input, &mut io::writer(rt))
+    let settings = one_tablet(rt.alloc());
+    run(rt.alloc(), &mut input, &mut io::writer(rt), settings)
+}
+
+// One tablet for all keys, and one worker.
+fn one_tablet(alloc: Global) -> Settings {
+    let Ok(layout) = Layout::new(Vec::new(alloc)) else {
+        unreachable!()
+    };
+    let Some(settings) = Settings::new(layout, 1) else {
+        unreachable!()
+    };
+    settings
 }
 
 fn word_of(fault: RunFault) -> &'static str {

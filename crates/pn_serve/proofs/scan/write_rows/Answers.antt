@@ -3,7 +3,7 @@ use Rattle.std.proofs.Common.{◌≤◌, length, map, ap, arith}
 use Rattle.std.proofs.lemmas.List.{take_all}
 use Rattle.pn_serve.specs.Rows.{row_data, shown_rows}
 use Rattle.pn_serve.specs.Tokens.{values_tokens}
-use Rattle.pn_serve.proofs.RowTokens.{appends_none, appends_token, appends_both, appends_as, whole_array, one_more_row}
+use Rattle.pn_serve.proofs.RowTokens.{appends_none, appends_both, appends_as, one_more_row}
 use Rattle.pn_serve.proofs.scan.write_rows.Goals as goal
 
 pub loop-place-init : goal.loop-place-init
@@ -16,5 +16,4 @@ pub returns : goal.returns
 returns c =
     let entries = c.args.records.now in
     let passed : length entries ≤ c.loop-place.place = omega (arith, c.len-place-end.ensures.count) in
-    let all = ap (λ es. values_tokens (map row_data (shown_rows es))) (take_all c.loop-place.place entries passed) in
-    whole_array (map row_data (shown_rows entries)) (appends_token c.in_ok-begin_array.ensures) (appends_as all c.loop-place.invariant) (appends_token c.in_ok-end_array.ensures)
+    appends_as (ap (λ es. values_tokens (map row_data (shown_rows es))) (take_all c.loop-place.place entries passed)) c.loop-place.invariant

@@ -1,0 +1,7 @@
+-- How a script is answered.
+use Rattle.std.specs.Prelude.{ℕ}
+use Rattle.pn_tablet.specs.Layouts.{Bounds}
+
+-- how the keys are divided into tablets, and how many workers a round has
+abbrev pub Chosen : Type 0
+Chosen = Bounds × ℕ
