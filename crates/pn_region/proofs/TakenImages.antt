@@ -14,7 +14,7 @@ use Rattle.pn_tablet.specs.Tablets.{Tablet, empty_tablet}
 use Rattle.pn_apply.specs.Applying.{all_stepped, AreOldOrStepped}
 use Rattle.pn_apply.specs.Reducing.{all_images, images_in, join_in, ranges}
 use Rattle.pn_apply.proofs.ReduceLaws.{range_joins}
-use Rattle.pn_region.specs.Laws.{HasImages, AreIn, IsBetween, HoldsBetween, HoldBetween, HasBetween}
+use Rattle.pn_region.specs.Laws.{HasImages, AreIn, IsBetween, HoldsBetween, AllHoldBetween, HasBetween}
 use Rattle.pn_region.specs.Regions.{RegionState, IsTabletOf, AreTabletsOf, IsRegion, new_region}
 use Rattle.pn_region.specs.Rounds.{taking, IsHalfTaken}
 use Rattle.pn_region.proofs.HalfRounds.{half_so, left_as}
@@ -36,7 +36,7 @@ none_at_first (r ∷ rs) = λ i. sym table_of-nil i ∷ none_at_first rs i
 pub new_has : (bounds : Bounds) → HasImages (new_region bounds) []
 new_has bounds = none_at_first (ranges bounds)
 
-none_between : (rs : List Ends) → HoldBetween [] [] rs (map empty_tablet rs)
+none_between : (rs : List Ends) → AllHoldBetween [] [] rs (map empty_tablet rs)
 none_between [] = tt
 none_between (r ∷ rs) = (([], record { all = λ image there. there; no_others = λ image there. there }, sym table_of-nil), none_between rs)
 
@@ -101,7 +101,7 @@ module _ (marks old : Positions) (images : List Image) where
       let later = tails t.map (table_of (images_in r taken)) (maps_of ts) (pieces_of taken rs) has in
       λ i. one_takes taken r t are.0 here i ∷ all_take taken rs ts are.1 later i
 
-  all_surely : (sure maybe : List Image) (rs : List Ends) (ts : List Tablet) → AreTabletsOf old rs ts → HoldBetween sure maybe rs ts → HoldBetween (sure ++ images) maybe rs (all_stepped ts (map (join_in marks images) rs))
+  all_surely : (sure maybe : List Image) (rs : List Ends) (ts : List Tablet) → AreTabletsOf old rs ts → AllHoldBetween sure maybe rs ts → AllHoldBetween (sure ++ images) maybe rs (all_stepped ts (map (join_in marks images) rs))
   all_surely sure maybe [] [] are has = tt
   all_surely sure maybe [] (t ∷ ts) are has = absurd are
   all_surely sure maybe (r ∷ rs) [] are has = absurd are
@@ -113,7 +113,7 @@ module _ (marks old : Positions) (images : List Image) where
   one_perhaps sure maybe r t u is has (inr took) =
       (has.0 ++ images, maybe_all sure maybe has.0 images has.1, ap (λ (after : Tablet). after.map) took ∙ one_takes has.0 r t is has.2)
 
-  all_perhaps : (sure maybe : List Image) (rs : List Ends) (ts us : List Tablet) → AreTabletsOf old rs ts → HoldBetween sure maybe rs ts → AreOldOrStepped ts (map (join_in marks images) rs) us → HoldBetween sure (maybe ++ images) rs us
+  all_perhaps : (sure maybe : List Image) (rs : List Ends) (ts us : List Tablet) → AreTabletsOf old rs ts → AllHoldBetween sure maybe rs ts → AreOldOrStepped ts (map (join_in marks images) rs) us → AllHoldBetween sure (maybe ++ images) rs us
   all_perhaps sure maybe [] [] [] are has half = tt
   all_perhaps sure maybe [] [] (u ∷ us) are has half = absurd half
   all_perhaps sure maybe [] (t ∷ ts) us are has half = absurd are
@@ -121,7 +121,7 @@ module _ (marks old : Positions) (images : List Image) where
   all_perhaps sure maybe (r ∷ rs) (t ∷ ts) [] are has half = absurd half
   all_perhaps sure maybe (r ∷ rs) (t ∷ ts) (u ∷ us) are has half = (one_perhaps sure maybe r t u are.0 has.0 half.0, all_perhaps sure maybe rs ts us are.1 has.1 half.1)
 
-none_perhaps : (sure maybe more : List Image) (rs : List Ends) (ts : List Tablet) → HoldBetween sure maybe rs ts → HoldBetween sure (maybe ++ more) rs ts
+none_perhaps : (sure maybe more : List Image) (rs : List Ends) (ts : List Tablet) → AllHoldBetween sure maybe rs ts → AllHoldBetween sure (maybe ++ more) rs ts
 none_perhaps sure maybe more [] [] has = tt
 none_perhaps sure maybe more [] (t ∷ ts) has = absurd has
 none_perhaps sure maybe more (r ∷ rs) [] has = absurd has
@@ -138,6 +138,6 @@ round_surely_takes region deliveries marks sure maybe is has = all_surely marks 
 pub round_may_take : (old new : RegionState) (deliveries : List Delivered) (sure maybe : List Image) → IsRegion old → HasBetween sure maybe old → IsHalfTaken old deliveries new → HasBetween sure (maybe ++ all_images deliveries) new
 round_may_take old new deliveries sure maybe is has left =
     left_as old new deliveries (HasBetween sure (maybe ++ all_images deliveries)) left
-    (half_so old new deliveries (HoldBetween sure (maybe ++ all_images deliveries) (ranges old.layout))
+    (half_so old new deliveries (AllHoldBetween sure (maybe ++ all_images deliveries) (ranges old.layout))
     (none_perhaps sure maybe (all_images deliveries) (ranges old.layout) old.tablets has)
     (λ marks half. all_perhaps marks old.marks (all_images deliveries) sure maybe (ranges old.layout) old.tablets new.tablets is.tablets has half) left)

@@ -14,7 +14,7 @@ use Rattle.pn_tablet.specs.Tablets.{Tablet}
 use Rattle.pn_apply.specs.Reducing.{images_in, ranges}
 use Rattle.pn_apply.proofs.ReduceLaws.{cells_cut}
 use Rattle.pn_apply.proofs.Tables.{entries_that, table_that}
-use Rattle.pn_region.specs.Laws.{HasImages, AreIn, IsBetween, HoldBetween, HasBetween}
+use Rattle.pn_region.specs.Laws.{HasImages, AreIn, IsBetween, AllHoldBetween, HasBetween}
 use Rattle.pn_region.specs.Regions.{RegionState, all_cells}
 use Rattle.pn_region.proofs.TakenImages.{maps_of, pieces_of}
 
@@ -39,7 +39,7 @@ same_sure : (sure maybe images : List Image) → AreIn maybe sure → IsBetween 
 same_sure sure maybe images are between image =
     ((λ there. sure_or sure maybe image are (Contains-append_cases sure maybe image (between.no_others image there))), between.all image)
 
-all_sure : (sure maybe : List Image) (rs : List Ends) (ts : List Tablet) → AreIn maybe sure → HoldBetween sure maybe rs ts → maps_of ts ≡ pieces_of sure rs
+all_sure : (sure maybe : List Image) (rs : List Ends) (ts : List Tablet) → AreIn maybe sure → AllHoldBetween sure maybe rs ts → maps_of ts ≡ pieces_of sure rs
 all_sure sure maybe [] [] are has = refl
 all_sure sure maybe [] (t ∷ ts) are has = absurd has
 all_sure sure maybe (r ∷ rs) [] are has = absurd has

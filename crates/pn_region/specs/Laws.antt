@@ -21,20 +21,20 @@ pub record IsBetween (sure maybe images : List Image) : Type 0 where
   pub all : AreIn sure images
   pub no_others : AreIn images (sure ++ maybe)
 
--- the cells are those, in the range, of images that have all of the sure ones and none but both
+-- the cells are those, in the range, of a list of images that has all of the sure ones and none but those of both
 abbrev pub HoldsBetween : List Image → List Image → Ends → Entries → Type 0
 HoldsBetween sure maybe range cells = (images : List Image) × IsBetween sure maybe images × (cells ≡ table_of (images_in range images))
 
--- so are the cells of each tablet in its own range
-abbrev pub HoldBetween : List Image → List Image → List Ends → List Tablet → Type 0
-HoldBetween sure maybe [] [] = Unit {0}
-HoldBetween sure maybe [] (tablet ∷ tablets) = ⊥
-HoldBetween sure maybe (range ∷ others) [] = ⊥
-HoldBetween sure maybe (range ∷ others) (tablet ∷ tablets) = HoldsBetween sure maybe range tablet.map × HoldBetween sure maybe others tablets
+-- each range has its own tablet, in their order, whose cells are those of such a list
+abbrev pub AllHoldBetween : List Image → List Image → List Ends → List Tablet → Type 0
+AllHoldBetween sure maybe [] [] = Unit {0}
+AllHoldBetween sure maybe [] (tablet ∷ tablets) = ⊥
+AllHoldBetween sure maybe (range ∷ others) [] = ⊥
+AllHoldBetween sure maybe (range ∷ others) (tablet ∷ tablets) = HoldsBetween sure maybe range tablet.map × AllHoldBetween sure maybe others tablets
 
--- each tablet has the cells, in its range, of a list of images that has all of the first and none but those of both
+-- each tablet has the cells, in its range, of a list of images that has all of the sure ones and none but those of both
 abbrev pub HasBetween : List Image → List Image → RegionState → Type 0
-HasBetween sure maybe region = HoldBetween sure maybe (ranges region.layout) region.tablets
+HasBetween sure maybe region = AllHoldBetween sure maybe (ranges region.layout) region.tablets
 
 -- one of the deliveries has the position of the stream
 pub record HasPosition (deliveries : List Delivered) (name : List ℕ) (position : ℕ) : Type 0 where
