@@ -69,6 +69,14 @@ impl Delivery {
     {
         &self.images
     }
+
+    /// The images themselves, in the order of their positions. It takes no memory.
+    pub fn into_images(self) -> Vec<Image>
+        ensures { result.items ≡ self.images }
+    {
+        let Delivery { images, .. } = self;
+        images
+    }
 }
 
 // Whether the positions of `count` images from `first` on are positions of a stream.
