@@ -1,29 +1,30 @@
 -- Images shared out by tablet are those in the tablets' ranges.
-use Rattle.std.proofs.Common.{◌≡◌, ℕ, zero, suc, ◌+◌, ◌<◌, ◌≤◌, Bool, true, false, cond, eqb, List, [], ◌∷◌, ◌++◌, map, filter, length, take, set, get_or, refl, sym, ap, ◌∙◌, subst, arith, append-nil}
+use Rattle.std.proofs.Common.{◌≡◌, ℕ, zero, suc, ◌+◌, ◌<◌, ◌≤◌, Bool, true, false, cond, eqb, List, [], ◌∷◌, ◌++◌, map, filter, length, take, drop, set, get_or, refl, sym, ap, ◌∙◌, subst, arith, append-nil}
 use Rattle.std.specs.Prelude.{Vec}
-use Rattle.std.specs.Borrow.{Bor}
 use Rattle.std.specs.declared.alloc.Global.{Global}
 use Rattle.std.specs.List.{range_with_len}
 use Rattle.std.proofs.lemmas.Bool.{eq-eqb, eqb-true, eqb-false}
-use Rattle.std.proofs.lemmas.Grind.{flat_map-append}
-use Rattle.std.proofs.lemmas.List.{map-append, map-set, length-set, length-map, get_or-set_same, get_or-set_other, take_more, append_assoc}
+use Rattle.std.proofs.lemmas.Grind.{drop_more_same}
+use Rattle.std.proofs.lemmas.List.{map-append, map-set, length-set, length-map, get_or-set_same, get_or-set_other, get_or-drop, drop-set-lt, take_more}
 use Rattle.std.proofs.lemmas.List.Elements.{filter-append}
 use Rattle.std.proofs.lemmas.List.FromFn.{length-map-range_with_len, get_or-map-range_with_len, map-range_with_len_more, fill_by_all}
 use Rattle.pn_join.specs.Marks.{Positions}
 use Rattle.pn_record.specs.declared.image.Image.{Image}
 use Rattle.pn_record.specs.CellMap.{Entries, table_of}
-use Rattle.pn_stream.specs.Positions.{Delivered}
 use Rattle.pn_tablet.specs.Ranges.{Ends, in_range}
 use Rattle.pn_tablet.specs.Layouts.{Bounds, IsLayout, tablet_of, tablet_ends}
 use Rattle.pn_tablet.specs.declared.op.TabletOp.{TabletOp}
 use Rattle.pn_tablet.specs.declared.op.TabletOp.TheVariants.{Join}
 use Rattle.pn_tablet.proofs.LayoutFacts.{key_in_tablet, tablet_of_key, tablet_of_within}
-use Rattle.pn_apply.specs.Reducing.{all_images, images_in, ranges, joins_of}
-use Rattle.pn_apply.specs.Shares.{lent, images_at, by_tablet}
+use Rattle.pn_apply.specs.Reducing.{images_in, ranges, joins_of}
+use Rattle.pn_apply.specs.Shares.{lists, images_at, by_tablet}
 use Rattle.pn_apply.proofs.Fronts.{mapped_at}
 
 abbrev pub Share : Type 0
-Share = Vec (Bor Image) Global
+Share = Vec Image Global
+
+abbrev items : Share → List Image
+items share = share.items
 
 bool_same : (a b : Bool) → (a ≡ true → b ≡ true) → (b ≡ true → a ≡ true) → a ≡ b
 bool_same true b there back = sym (there refl)
@@ -56,8 +57,8 @@ length-by_tablet : (bounds : Bounds) (images : List Image) → length (by_tablet
 length-by_tablet bounds images = length-map-range_with_len (images_at bounds images) 0 (length bounds + 1)
 
 -- there are as many shares as tablets
-pub counted : (bounds : Bounds) (images : List Image) (shares : List Share) → map lent shares ≡ by_tablet bounds images → length shares ≡ length bounds + 1
-counted bounds images shares is = sym (length-map shares lent) ∙ ap length is ∙ length-by_tablet bounds images
+pub counted : (bounds : Bounds) (images : List Image) (shares : List Share) → lists shares ≡ by_tablet bounds images → length shares ≡ length bounds + 1
+counted bounds images shares is = sym (length-map shares items) ∙ ap length is ∙ length-by_tablet bounds images
 
 module _ (bounds : Bounds) (taken : List Image) (image : Image) where
   abbrev at : ℕ
@@ -88,56 +89,55 @@ module _ (bounds : Bounds) (taken : List Image) (image : Image) where
       (λ k within. placed k (eqb at k) refl within ∙ sym (more_at k))
 
 -- one more image goes to its tablet's share
-pub share_more : (bounds : Bounds) (taken : List Image) (image : Image) (shares : List Share) (old new : Share) → map lent shares ≡ by_tablet bounds taken
-    → old ≡ get_or shares (tablet_of bounds image.key) old → lent new ≡ lent old ++ image ∷ []
-    → map lent (set shares (tablet_of bounds image.key) new) ≡ by_tablet bounds (taken ++ image ∷ [])
+pub share_more : (bounds : Bounds) (taken : List Image) (image : Image) (shares : List Share) (old new : Share) → lists shares ≡ by_tablet bounds taken
+    → old ≡ get_or shares (tablet_of bounds image.key) old → new.items ≡ old.items ++ image ∷ []
+    → lists (set shares (tablet_of bounds image.key) new) ≡ by_tablet bounds (taken ++ image ∷ [])
 share_more bounds taken image shares old new is was pushed =
     let at = tablet_of bounds image.key in
     let within : at < length shares = omega (arith, tablet_of_within bounds image.key, counted bounds taken shares is) in
-    let before : lent old ≡ images_at bounds taken at =
-    ap lent was ∙ sym (mapped_at lent shares at old (lent old) within) ∙ ap (λ (all : List (List Image)). get_or all at (lent old)) is
-    ∙ get_or-map-range_with_len (images_at bounds taken) 0 (length bounds + 1) at at (lent old) (omega (arith, tablet_of_within bounds image.key)) (omega arith) in
-    map-set lent shares at new
-    ∙ ap (λ (x : List Image). set (map lent shares) at x) (pushed ∙ ap (λ (x : List Image). x ++ image ∷ []) before)
+    let before : old.items ≡ images_at bounds taken at =
+    ap items was ∙ sym (mapped_at items shares at old old.items within) ∙ ap (λ (all : List (List Image)). get_or all at old.items) is
+    ∙ get_or-map-range_with_len (images_at bounds taken) 0 (length bounds + 1) at at old.items (omega (arith, tablet_of_within bounds image.key)) (omega arith) in
+    map-set items shares at new
+    ∙ ap (λ (x : List Image). set (lists shares) at x) (pushed ∙ ap (λ (x : List Image). x ++ image ∷ []) before)
     ∙ ap (λ (all : List (List Image)). set all at (images_at bounds taken at ++ image ∷ [])) is
     ∙ more_by_tablet bounds taken image
 
--- one more image of a list
-pub taken_more : (taken images : List Image) (i : ℕ) (d : Image) → i < length images → (taken ++ take i images) ++ get_or images i d ∷ [] ≡ taken ++ take (i + 1) images
-taken_more taken images i d within = append_assoc taken (take i images) (get_or images i d ∷ []) ∙ ap (λ (xs : List Image). taken ++ xs) (sym (take_more images i d within))
-
--- one more delivery
-pub delivered_more : (deliveries : List Delivered) (i : ℕ) (d : Delivered) → i < length deliveries → all_images (take i deliveries) ++ (get_or deliveries i d).images ≡ all_images (take (i + 1) deliveries)
-delivered_more deliveries i d within =
-    ap (λ (xs : List Image). all_images (take i deliveries) ++ xs) (sym (append-nil (get_or deliveries i d).images))
-    ∙ sym (ap all_images (take_more deliveries i d within) ∙ flat_map-append (λ (x : Delivered). x.images) (take i deliveries) (get_or deliveries i d ∷ []))
-
 -- the joins of the shares are the joins in the ranges
-pub joins_by_share : (bounds : Bounds) (marks : Positions) (images : List Image) (shares : List Share) → map lent shares ≡ map (λ (range : Ends). images_in range images) (ranges bounds)
-    → map (λ (share : Share). Join (table_of (lent share)) marks) shares ≡ joins_of bounds marks images
+pub joins_by_share : (bounds : Bounds) (marks : Positions) (images : List Image) (shares : List Share) → lists shares ≡ map (λ (range : Ends). images_in range images) (ranges bounds)
+    → map (λ (share : Share). Join (table_of share.items) marks) shares ≡ joins_of bounds marks images
 joins_by_share bounds marks images shares is =
     let join : List Image → TabletOp = λ own. Join (table_of own) marks in
-    sym (map_twice join lent shares) ∙ ap (map join) is ∙ map_twice join (λ (range : Ends). images_in range images) (ranges bounds)
+    sym (map_twice join items shares) ∙ ap (map join) is ∙ map_twice join (λ (range : Ends). images_in range images) (ranges bounds)
 
 -- one more share without images
-pub empty_more : (bounds : Bounds) (n : ℕ) (shares new : List Share) (share : Share) → map lent shares ≡ map (images_at bounds []) (range_with_len 0 n) → share.items ≡ [] → new ≡ shares ++ share ∷ []
-    → map lent new ≡ map (images_at bounds []) (range_with_len 0 (n + 1))
+pub empty_more : (bounds : Bounds) (n : ℕ) (shares new : List Share) (share : Share) → lists shares ≡ map (images_at bounds []) (range_with_len 0 n) → share.items ≡ [] → new ≡ shares ++ share ∷ []
+    → lists new ≡ map (images_at bounds []) (range_with_len 0 (n + 1))
 empty_more bounds n shares new share is none grown =
-    ap (map lent) grown ∙ map-append lent shares (share ∷ [])
-    ∙ (λ i. is i ++ map (λ (image : Bor Image). image.now) (none i) ∷ [])
+    ap lists grown ∙ map-append items shares (share ∷ [])
+    ∙ (λ i. is i ++ none i ∷ [])
     ∙ sym (map-range_with_len_more (images_at bounds []) 0 n n (omega arith))
 
--- one more share is joined
-pub joined_more : (marks own : Positions) (cells : Entries) (shares : List Share) (n : ℕ) (share : Share) (operations new : List TabletOp) → n < length shares → share ≡ get_or shares n share
-    → operations ≡ map (λ (each : Share). Join (table_of (lent each)) marks) (take n shares) → cells ≡ table_of (lent share) → own ≡ marks → new ≡ operations ++ Join cells own ∷ []
-    → new ≡ map (λ (each : Share). Join (table_of (lent each)) marks) (take (n + 1) shares)
-joined_more marks own cells shares n share operations new within read before cut same grown =
-    let join : Share → TabletOp = λ each. Join (table_of (lent each)) marks in
-    grown
-    ∙ (λ i. before i ++ Join ((cut ∙ ap (λ (s : Share). table_of (lent s)) read) i) (same i) ∷ [])
-    ∙ sym (map-append join (take n shares) (get_or shares n share ∷ []))
-    ∙ ap (map join) (sym (take_more shares n share within))
+-- what is next of two lists that are the same from there on
+next_same : (left shares : List Share) (n : ℕ) (d : Share) → drop n left ≡ drop n shares → get_or left n d ≡ get_or shares n d
+next_same left shares n d rest =
+    let here : n + 0 ≡ n = omega arith in
+    let read : (xs : List Share) → get_or (drop n xs) 0 d ≡ get_or xs n d = λ xs. get_or-drop n xs 0 d ∙ ap (λ k. get_or xs k d) here in
+    sym (read left) ∙ ap (λ (xs : List Share). get_or xs 0 d) rest ∙ read shares
 
--- an image that is pushed is lent behind the others
-pub pushed_share : (old new : Share) (image : Bor Image) → new.items ≡ old.items ++ image ∷ [] → lent new ≡ lent old ++ image.now ∷ []
-pushed_share old new image grown = ap (map (λ (each : Bor Image). each.now)) grown ∙ map-append (λ (each : Bor Image). each.now) old.items (image ∷ [])
+-- where a share is taken out of its place, those behind it stay
+pub left_behind : (left shares : List Share) (n : ℕ) (none : Share) → drop n left ≡ drop n shares → drop (n + 1) (set left n none) ≡ drop (n + 1) shares
+left_behind left shares n none rest = drop-set-lt (n + 1) left n none (omega arith) ∙ drop_more_same left shares n rest
+
+-- one more share is joined, which is taken out of what is left
+pub joined_more : (marks own : Positions) (cells : Entries) (shares left : List Share) (n : ℕ) (share at : Share) (operations new : List TabletOp) → n < length shares
+    → drop n left ≡ drop n shares → share ≡ get_or left n at
+    → operations ≡ map (λ (each : Share). Join (table_of each.items) marks) (take n shares) → cells ≡ table_of share.items → own ≡ marks → new ≡ operations ++ Join cells own ∷ []
+    → new ≡ map (λ (each : Share). Join (table_of each.items) marks) (take (n + 1) shares)
+joined_more marks own cells shares left n share at operations new within rest read before cut same grown =
+    let join : Share → TabletOp = λ each. Join (table_of each.items) marks in
+    let found : share ≡ get_or shares n at = read ∙ next_same left shares n at rest in
+    grown
+    ∙ (λ i. before i ++ Join ((cut ∙ ap (λ (s : Share). table_of s.items) found) i) (same i) ∷ [])
+    ∙ sym (map-append join (take n shares) (get_or shares n at ∷ []))
+    ∙ ap (map join) (sym (take_more shares n at within))

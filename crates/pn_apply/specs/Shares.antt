@@ -1,14 +1,13 @@
 -- Images shared out by tablet.
 use Rattle.std.specs.Prelude.{ℕ, ◌+◌, ◌==◌, List, length, map, filter, Vec}
-use Rattle.std.specs.Borrow.{Bor}
 use Rattle.std.specs.declared.alloc.Global.{Global}
 use Rattle.std.specs.List.{range_with_len}
 use Rattle.pn_record.specs.declared.image.Image.{Image}
 use Rattle.pn_tablet.specs.Layouts.{Bounds, tablet_of}
 
--- the images that are lent in a list
-abbrev pub lent : Vec (Bor Image) Global → List Image
-lent images = map (λ image. image.now) images.items
+-- the images of each share
+abbrev pub lists : List (Vec Image Global) → List (List Image)
+lists shares = map (λ share. share.items) shares
 
 -- the images of the tablet of this number
 abbrev pub images_at : Bounds → List Image → ℕ → List Image

@@ -13,5 +13,5 @@ mod tests;
 
 pub use apply::apply_all;
 pub use gate::{Gate, Open};
-pub use reducing::reduce;
+pub use reducing::{reduce, reduce_owned};
 pub use slot::Slot;

@@ -4,33 +4,49 @@ ghost use Rattle.std.specs.Prelude.{◌≡◌, ◌+◌, ◌++◌, [], List, leng
 ghost use Rattle.pn_record.specs.declared.image.Image.{Image};
 ghost use Rattle.pn_tablet.specs.Layouts.{IsLayout};
 ghost use Rattle.pn_apply.specs.Reducing.{all_images, images_in, ranges};
-ghost use Rattle.pn_apply.specs.Shares.{lent, by_tablet};
+ghost use Rattle.pn_apply.specs.Shares.{lists, by_tablet};
 
-use pn_join::NoMemory;
+use pn_join::{Dup, NoMemory};
 use pn_record::Image;
 use pn_stream::Delivery;
 use pn_tablet::Layout;
 use std::alloc::Global;
 
 /// The images of each tablet, in the order in which they are delivered. Each is looked at once.
-pub fn images_by_tablet<'a>(
+pub fn images_by_tablet(
     alloc: Global,
-    deliveries: &'a [Delivery],
+    deliveries: Vec<Delivery>,
     layout: &Layout,
-) -> Result<Vec<Vec<&'a Image>>, NoMemory>
-    ensures { IfOk result (λ shares. map lent shares.items
+) -> Result<Vec<Vec<Image>>, NoMemory>
+    ensures { IfOk result (λ shares. lists shares.items
+        ≡ map (λ range. images_in range (all_images deliveries.items)) (ranges layout.now)) }
+{
+    let mut shares = empty_shares(alloc, layout)?;
+    for delivery in deliveries {
+        share_out(&mut shares, delivery.into_images(), layout)?;
+    }
+    Ok(shares)
+}
+
+/// Copies of the images of each tablet, in the order in which they are delivered.
+pub fn copies_by_tablet(
+    alloc: Global,
+    deliveries: &[Delivery],
+    layout: &Layout,
+) -> Result<Vec<Vec<Image>>, NoMemory>
+    ensures { IfOk result (λ shares. lists shares.items
         ≡ map (λ range. images_in range (all_images deliveries.now)) (ranges layout.now)) }
 {
     let mut shares = empty_shares(alloc, layout)?;
     for delivery in deliveries {
-        share_out(&mut shares, delivery.images(), layout)?;
+        share_out(&mut shares, copies(alloc, delivery.images())?, layout)?;
     }
     Ok(shares)
 }
 
 // A share without images for each tablet.
-fn empty_shares<'a>(alloc: Global, layout: &Layout) -> Result<Vec<Vec<&'a Image>>, NoMemory>
-    ensures empty { IfOk result (λ shares. map lent shares.items ≡ by_tablet layout.now []) }
+fn empty_shares(alloc: Global, layout: &Layout) -> Result<Vec<Vec<Image>>, NoMemory>
+    ensures empty { IfOk result (λ shares. lists shares.items ≡ by_tablet layout.now []) }
     ensures lawful { IsLayout layout.now }
 {
     let mut shares = Vec::with_capacity(alloc, layout.count())?;
@@ -40,19 +56,39 @@ fn empty_shares<'a>(alloc: Global, layout: &Layout) -> Result<Vec<Vec<&'a Image>
     Ok(shares)
 }
 
-// Puts each image into the share of its key's tablet.
-fn share_out<'a>(
-    shares: &mut Vec<Vec<&'a Image>>,
-    images: &'a [Image],
+// Moves each image into the share of its key's tablet.
+fn share_out(
+    shares: &mut Vec<Vec<Image>>,
+    images: Vec<Image>,
     layout: &Layout,
 ) -> Result<(), NoMemory>
     requires { length shares.old.items ≡ length layout.now + 1 }
-    ensures shared { OnOk result ((taken : List Image) → map lent shares.old.items ≡ by_tablet layout.now taken
-        → map lent shares.new.items ≡ by_tablet layout.now (taken ++ images.now)) }
+    ensures shared { OnOk result ((taken : List Image) → lists shares.old.items ≡ by_tablet layout.now taken
+        → lists shares.new.items ≡ by_tablet layout.now (taken ++ images.items)) }
     ensures count { OnOk result (length shares.new.items ≡ length layout.now + 1) }
 {
     for image in images {
         shares[layout.tablet_of(&image.key)].push(image)?;
     }
     Ok(())
+}
+
+fn copies(alloc: Global, images: &[Image]) -> Result<Vec<Image>, NoMemory>
+    ensures { IfOk result (λ copies. copies.items ≡ images.now) }
+{
+    let mut copies = Vec::with_capacity(alloc, images.len())?;
+    for image in images {
+        copies.push_reserved(copy(image)?);
+    }
+    Ok(copies)
+}
+
+fn copy(image: &Image) -> Result<Image, NoMemory>
+    ensures { IfOk result (λ copy. copy ≡ image.now) }
+{
+    Ok(Image {
+        key: image.key.dup()?,
+        version: image.version,
+        content: image.content.dup()?,
+    })
 }

@@ -86,6 +86,16 @@ fn joined(alloc: Global, operation: &TabletOp) -> Result<String, Fail> {
     Ok(text)
 }
 
+// The same of each operation, one after another.
+fn all_joined(alloc: Global, operations: &[TabletOp]) -> Result<String, Fail> {
+    let mut text = String::new(alloc);
+    for operation in operations {
+        text.push_str(joined(alloc, operation)?.as_str())?;
+        text.push_str("; ")?;
+    }
+    Ok(text)
+}
+
 // What changed, key by key.
 fn told(alloc: Global, changes: &[Change]) -> Result<String, Fail> {
     let mut text = String::new(alloc);
@@ -126,13 +136,13 @@ fn two_tablets_get_their_images_with_any_number_of_workers(rt: HostRuntime) -> R
     let alloc = rt.alloc();
     let layout = layout(alloc, &["m"])?;
     let marks = marks(alloc)?;
-    let deliveries = [delivery(alloc, &["n", "l", "m"])?];
+    let want = "l@1 east:3; m@1 n@1 east:3; ";
     for workers in [1, 2, 16] {
-        let operations = reduce(alloc, &deliveries, &layout, &marks, workers, &Open)?;
-        assert_eq!(rt; operations.len(), 2);
-        for (operation, want) in operations.iter().zip(["l@1 east:3", "m@1 n@1 east:3"]) {
-            assert_eq!(rt; joined(alloc, operation)?.as_str(), want);
-        }
+        let deliveries = vec![in alloc; delivery(alloc, &["n", "l", "m"])?]?;
+        let copied = reduce(alloc, &deliveries, &layout, &marks, workers, &Open)?;
+        let moved = reduce_owned(alloc, deliveries, &layout, &marks, workers, &Open)?;
+        assert_eq!(rt; all_joined(alloc, &copied)?.as_str(), want);
+        assert_eq!(rt; all_joined(alloc, &moved)?.as_str(), want);
     }
     Ok(())
 }

@@ -1,7 +1,7 @@
 -- The records that hold the images are their table.
-use Rattle.std.proofs.Common.{List, map, subst}
-use Rattle.std.specs.Borrow.{Bor}
-use Rattle.std.proofs.lemmas.List.{take_all}
+use Rattle.std.proofs.Common.{List, sym, ◌∙◌, subst, rules, map-id}
+use Rattle.std.proofs.lemmas.Iterator.Adapters.{YieldsList-from_vec}
+use Rattle.std.proofs.lemmas.Iterator.Consumers.{YieldsList-end}
 use Rattle.pn_record.specs.declared.image.Image.{Image}
 use Rattle.pn_record.specs.Cells.{Holds}
 use Rattle.pn_record.proofs.CellMaps.{held_table}
@@ -10,6 +10,7 @@ use Rattle.pn_apply.proofs.reducing.cells_of.Goals as goal
 pub returns : goal.returns
 returns c =
     let was = c.loop-image in
-    let all = take_all was.image-index c.args.images.now c.loop-image-test.false in
-    held_table was.cells (map (λ (image : Bor Image). image.now) c.args.images.now) was.invariant.rising
-    (subst (λ (some : List (Bor Image)). Holds was.cells (map (λ (image : Bor Image). image.now) some)) all was.invariant.held)
+    let end = YieldsList-end (YieldsList-from_vec {s = c.into_iter-image-iterator.result} c.args.images.items (search rules) (search rules))
+    was.yielded was.image-iterator was.yielded_by c.next.result c.next.new.self c.in-None.is c.next.ensures.steps in
+    held_table was.cells c.args.images.items was.invariant.rising
+    (subst (λ (some : List Image). Holds was.cells some) (sym (map-id was.yielded) ∙ end.0) was.invariant.held)

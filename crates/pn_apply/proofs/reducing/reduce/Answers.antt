@@ -1,17 +1,17 @@
 -- The joins of the shares are those of the tablets.
-use Rattle.std.proofs.Common.{◌≡◌, Vec, map, ap, ◌∙◌}
+use Rattle.std.proofs.Common.{◌≡◌, Vec, ap, ◌∙◌}
 use Rattle.std.specs.declared.alloc.Global.{Global}
 use Rattle.std.proofs.lemmas.Result.{IfOk-weaker}
 use Rattle.pn_tablet.specs.declared.op.TabletOp.{TabletOp}
 use Rattle.pn_apply.specs.Reducing.{all_images, joins_of}
-use Rattle.pn_apply.specs.Shares.{lent}
+use Rattle.pn_apply.specs.Shares.{lists}
 use Rattle.pn_apply.proofs.Sharing.{joins_by_share}
 use Rattle.pn_apply.proofs.reducing.reduce.Goals as goal
 
 pub returns : goal.returns
 returns g c =
     let images = all_images c.args.deliveries.now in
-    let shares = c.deref.result.now in
-    let shared = ap (map lent) c.deref.ensures.value ∙ c.in_ok-shares.ensures in
+    let shares = c.as_mut_slice.result.now in
+    let shared = ap lists c.as_mut_slice.ensures.value ∙ c.in_ok-shares.ensures in
     IfOk-weaker c.reduce_share.result _ (λ (operations : Vec TabletOp Global). operations.items ≡ joins_of c.args.layout.now c.args.marks.now images)
     (λ operations is. is ∙ joins_by_share c.args.layout.now c.args.marks.now images shares shared) c.reduce_share.ensures
