@@ -12,7 +12,7 @@ ghost use Rattle.pn_region.specs.Regions.{IsRegion, new_region};
 ghost use Rattle.pn_region.specs.Rounds.{round, changed, Leaves};
 
 use crate::{RoundFault, next_marks};
-use pn_apply::{Gate, apply_all, reduce};
+use pn_apply::{Gate, apply_all, reduce_owned};
 use pn_join::{Dup, Marks, NoMemory};
 use pn_record::Key;
 use pn_stream::Delivery;
@@ -107,7 +107,7 @@ impl Region {
         ensures err { IfErr result (λ fault. Leaves fault self.old deliveries.items self.new) }
     {
         let marks = next_marks(&self.marks, &deliveries)?;
-        let operations = reduce(self.alloc, &deliveries, &self.layout, &marks, workers, gate)?;
+        let operations = reduce_owned(self.alloc, deliveries, &self.layout, &marks, workers, gate)?;
         let tablets = self.tablets.as_mut_slice();
         let changes = take_joins(self.alloc, tablets, &operations, workers, gate)?;
         self.marks = marks;
