@@ -1,4 +1,5 @@
 pub mod Coding
+pub mod Honest
 pub mod Laws
 pub mod Marking
 pub mod Regions

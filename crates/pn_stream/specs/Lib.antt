@@ -1,4 +1,5 @@
 pub mod Batches
+pub mod Brokers
 pub mod Faults
 pub mod MessageLines
 pub mod Messages

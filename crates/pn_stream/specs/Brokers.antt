@@ -1,0 +1,18 @@
+-- What brokers published, and deliveries that are honest about it.
+use Rattle.std.specs.Prelude.{◌≡◌, ℕ, pred, List, length, take, drop}
+use Rattle.std.specs.List.{flat_map}
+use Rattle.pn_join.specs.Marks.{Positions}
+use Rattle.pn_record.specs.declared.image.Image.{Image}
+use Rattle.pn_stream.specs.Positions.{Delivered}
+
+-- a broker record: for each stream name one list of images, of which the first stands at position 1
+abbrev pub BrokerRecord : Type 0
+BrokerRecord = List ℕ → List Image
+
+-- the images up to marks: of each stream those at positions 1 to its mark
+abbrev pub up_to : BrokerRecord → Positions → List Image
+up_to broker marks = flat_map (λ mark. take mark.1 (broker mark.0)) marks
+
+-- an honest delivery: its images are those that its stream has at its positions
+abbrev pub IsHonest : BrokerRecord → Delivered → Type 0
+IsHonest broker delivery = delivery.images ≡ take (length delivery.images) (drop (pred delivery.first) (broker delivery.stream))
