@@ -1,4 +1,5 @@
 pub mod Apart
+pub mod GapLaws
 pub mod HalfRounds
 pub mod KeyTablets
 pub mod MarkLaws

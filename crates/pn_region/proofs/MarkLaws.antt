@@ -13,18 +13,21 @@ use Rattle.pn_region.specs.Marking.{bringing, last_position, marked, leaves_gap,
 use Rattle.pn_region.specs.declared.fault.RoundFault.{RoundFault}
 use Rattle.pn_region.specs.declared.fault.RoundFault.TheVariants.{Gap, TooManyStreams}
 
-abbrev brings : Delivered → Bool
+-- the delivery brings images
+abbrev pub brings : Delivered → Bool
 brings d = not (eqb (length d.images) 0)
 
-abbrev gap_of : Positions → Delivered → RoundFault
+-- the gap that it leaves
+abbrev pub gap_of : Positions → Delivered → RoundFault
 gap_of m d = Gap d.stream (position_of m d.stream + 1) d.first
 
-accepted : (b : Bool) (fault : RoundFault) (rest : Result Positions RoundFault) (next : Positions) → cond b (Err fault) rest ≡ Ok next → (b ≡ false) × (rest ≡ Ok next)
+-- what is not refused goes on
+pub accepted : (b : Bool) (fault : RoundFault) (rest : Result Positions RoundFault) (next : Positions) → cond b (Err fault) rest ≡ Ok next → (b ≡ false) × (rest ≡ Ok next)
 accepted true fault rest next is = cc
 accepted false fault rest next is = (refl, is)
 
 -- marks that are of few streams are those after all deliveries
-few : (right : Result Positions RoundFault) (next : Positions) → of_few_streams right ≡ Ok next → right ≡ Ok next
+pub few : (right : Result Positions RoundFault) (next : Positions) → of_few_streams right ≡ Ok next → right ≡ Ok next
 few (Ok marks) next is = (accepted (nat_lt 16 (length marks)) TooManyStreams (Ok marks) next is).1
 few (Err fault) next is = is
 
@@ -88,7 +91,8 @@ marked_last m d =
     let own : unwrap_or (cond (eq_by_cmp name_cmp d.stream d.stream) (Some (last_position d)) None) 0 ≡ last_position d = ap (λ r. unwrap_or (cond (is_eq r) (Some (last_position d)) None) 0) (tied_itself nat_list_cmp_total d.stream) in
     omega (arith, own, position_of-raised m ((d.stream, last_position d) ∷ []) d.stream)
 
-never_fall : (ds : List Delivered) (m next : Positions) → marks_after m (bringing ds) ≡ Ok next → Reaches next m
+-- marks never fall
+pub never_fall : (ds : List Delivered) (m next : Positions) → marks_after m (bringing ds) ≡ Ok next → Reaches next m
 never_fall [] m next is name =
     let same : m ≡ next = cc in
     omega (arith, ap (λ (marks : Positions). position_of marks name) same)
@@ -98,10 +102,12 @@ never_fall (d ∷ ds) m next is name =
       | false ↦ λ rest. never_fall ds m next rest name
     ] is
 
-some_brings : (d : Delivered) → 0 < length d.images → brings d ≡ true
+-- what has images brings some
+pub some_brings : (d : Delivered) → 0 < length d.images → brings d ≡ true
 some_brings d some = grind (arith, nat_tests)
 
-last_taken : (ds : List Delivered) (m next : Positions) (k : ℕ) (d : Delivered) → k < length ds → get_or ds k d ≡ d → 0 < length d.images → marks_after m (bringing ds) ≡ Ok next → last_position d ≤ position_of next d.stream
+-- marks reach the last position of each delivery that has images
+pub last_taken : (ds : List Delivered) (m next : Positions) (k : ℕ) (d : Delivered) → k < length ds → get_or ds k d ≡ d → 0 < length d.images → marks_after m (bringing ds) ≡ Ok next → last_position d ≤ position_of next d.stream
 last_taken [] m next k d within at some is = absurd (omega (arith, within))
 last_taken (first ∷ ds) m next zero d within at some is =
     let brought : brings first ≡ true = ap brings at ∙ some_brings d some in

@@ -1,5 +1,6 @@
 -- The words of the laws of regions.
-use Rattle.std.specs.Prelude.{◌≡◌, ℕ, ◌+◌, ◌≤◌, ◌<◌, length, List, [], ◌∷◌, ◌++◌, map, Contains}
+use Rattle.std.specs.Prelude.{◌≡◌, ◌⊎◌, ℕ, ◌+◌, ◌≤◌, ◌<◌, length, List, [], ◌∷◌, ◌++◌, map, Contains}
+use Rattle.pn_join.specs.Marks.{Positions, position_of}
 use Rattle.pn_record.specs.declared.image.Image.{Image}
 use Rattle.pn_record.specs.CellMap.{Entries, table_of}
 use Rattle.pn_stream.specs.Positions.{Delivered}
@@ -43,3 +44,27 @@ pub record HasPosition (deliveries : List Delivered) (name : List ℕ) (position
   pub stream : delivery.stream ≡ name
   pub from : delivery.first ≤ position
   pub before : position < delivery.first + length delivery.images
+
+-- the position was taken before: the marks have reached it, or one of the deliveries has it
+abbrev pub WasTaken : Positions → List Delivered → List ℕ → ℕ → Type 0
+WasTaken marks deliveries name position = (position ≤ position_of marks name) ⊎ HasPosition deliveries name position
+
+-- each delivery that has images finds all positions of its stream below its own taken before it
+abbrev pub HasNoGap : Positions → List Delivered → Type 0
+HasNoGap marks deliveries = (before : List Delivered) (delivery : Delivered) (after : List Delivered) (position : ℕ)
+    → deliveries ≡ before ++ delivery ∷ after → 0 < length delivery.images → position < delivery.first
+    → WasTaken marks before delivery.stream position
+
+-- behind deliveries without a gap stands one that begins past a position that its stream wants first
+pub record IsGap (marks : Positions) (deliveries : List Delivered) (stream : List ℕ) (wanted got : ℕ) : Type 0 where
+  pub before : List Delivered
+  pub delivery : Delivered
+  pub after : List Delivered
+  pub place : deliveries ≡ before ++ delivery ∷ after
+  pub brings : 0 < length delivery.images
+  pub stream_is : stream ≡ delivery.stream
+  pub got_is : got ≡ delivery.first
+  pub first : HasNoGap marks before
+  pub below : (position : ℕ) → position < wanted → WasTaken marks before stream position
+  pub missing : WasTaken marks before stream wanted → ⊥
+  pub past : wanted < got

@@ -1,6 +1,6 @@
 //! The laws of rounds, as contracts. A call does nothing.
 
-ghost use Rattle.std.specs.Prelude.{◌≡◌, ℕ, ◌≤◌, ◌<◌, List, [], ◌++◌, length, Contains, Ok, Some, IsSome, slice_get};
+ghost use Rattle.std.specs.Prelude.{◌≡◌, ℕ, ◌≤◌, ◌<◌, List, [], ◌++◌, length, Contains, Ok, Err, Some, IsSome, slice_get};
 ghost use Rattle.std.specs.FinMap.{find};
 ghost use Rattle.pn_join.specs.Marks.{Positions, Reaches, position_of};
 ghost use Rattle.pn_record.specs.declared.image.Image.{Image};
@@ -11,10 +11,11 @@ ghost use Rattle.pn_stream.specs.Positions.{Delivered};
 ghost use Rattle.pn_tablet.specs.Layouts.{Bounds, IsLayout, tablet_of};
 ghost use Rattle.pn_tablet.specs.Tablets.{Tablet};
 ghost use Rattle.pn_apply.specs.Reducing.{all_images};
-ghost use Rattle.pn_region.specs.Laws.{AreIn, HasImages, HasBetween, HasPosition};
+ghost use Rattle.pn_region.specs.Laws.{AreIn, HasImages, HasBetween, HasNoGap, HasPosition, IsGap};
 ghost use Rattle.pn_region.specs.Marking.{last_position, new_marks};
 ghost use Rattle.pn_region.specs.Regions.{RegionState, IsRegion, new_region, all_cells};
 ghost use Rattle.pn_region.specs.Rounds.{taking, IsHalfTaken};
+ghost use Rattle.pn_region.specs.declared.fault.RoundFault.TheVariants.{Gap, TooManyStreams};
 
 /// The new region of a layout is one, and has the cells of no image.
 pub fn new_regions()
@@ -89,4 +90,15 @@ pub fn marks_take_the_greatest()
     ensures delivered { (marks next : Positions) (deliveries : List Delivered) (delivery : Delivered)
         → new_marks marks deliveries ≡ Ok next → Contains deliveries delivery → 0 < length delivery.images
         → last_position delivery ≤ position_of next delivery.stream }
+{}
+
+/// A gap is told exactly where a delivery begins past a position of its stream that was not taken before it:
+/// the first such delivery, and the first position that it lacks.
+pub fn a_gap_is_a_missing_position()
+    ensures none { (marks next : Positions) (deliveries : List Delivered)
+        → new_marks marks deliveries ≡ Ok next → HasNoGap marks deliveries }
+    ensures too_many { (marks : Positions) (deliveries : List Delivered)
+        → new_marks marks deliveries ≡ Err TooManyStreams → HasNoGap marks deliveries }
+    ensures gap { (marks : Positions) (deliveries : List Delivered) (stream : List ℕ) (wanted got : ℕ)
+        → new_marks marks deliveries ≡ Err (Gap stream wanted got) → IsGap marks deliveries stream wanted got }
 {}
