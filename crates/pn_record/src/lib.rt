@@ -2,16 +2,12 @@
 #![tactic(auto)]
 
 mod cell;
-#[cfg(test)]
-mod cell_tests;
 mod content;
 mod copy;
 mod fault;
 mod gather;
 mod image;
 pub mod image_laws;
-#[cfg(test)]
-mod image_tests;
 mod key;
 pub mod laws;
 mod marks;

@@ -7,8 +7,6 @@ mod fault;
 pub mod laws;
 mod marking;
 mod region;
-#[cfg(test)]
-mod tests;
 
 pub use fault::RoundFault;
 pub use marking::next_marks;

@@ -12,8 +12,6 @@ mod parts;
 mod reading;
 mod refusal;
 mod replies;
-#[cfg(test)]
-mod reply_tests;
 mod rows;
 mod running;
 mod scan;

@@ -160,6 +160,3 @@ fn is_empty(members: &Map<String, Value>) -> bool
 {
     members.is_empty()
 }
-
-#[cfg(test)]
-mod tests;

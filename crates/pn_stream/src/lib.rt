@@ -7,8 +7,6 @@ pub mod laws;
 mod message;
 mod next;
 mod reader;
-#[cfg(test)]
-mod tests;
 
 pub use delivery::{Delivery, LAST_POSITION};
 pub use fault::StreamFault;

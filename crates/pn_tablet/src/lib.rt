@@ -13,8 +13,6 @@ mod needs;
 mod op;
 mod range;
 mod state;
-#[cfg(test)]
-mod tests;
 
 pub use change::Change;
 pub use copy::TabletCopy;

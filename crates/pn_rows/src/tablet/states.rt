@@ -1,8 +1,8 @@
 //! Tablets through losses and adoptions, at values worked out by hand.
 
-use crate::{Change, CopyFault, OpFault, Range, Status, TabletCopy, TabletOp, TabletState};
 use pn_join::{Dup, Highest, Marks, Name};
 use pn_record::{Body, Cell, Image, Key, KeyFault, Records, Value, read_image, take_image};
+use pn_tablet::{Change, CopyFault, OpFault, Range, Status, TabletCopy, TabletOp, TabletState};
 use std::alloc::Global;
 use std::test::Fail;
 

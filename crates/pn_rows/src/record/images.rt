@@ -1,9 +1,9 @@
 //! Images as JSON at worked values, and at the edge of each limit.
-use crate::{
+use ImageFault::{BadShape, NotJson, OutOfRange, TooLong};
+use pn_record::{
     ImageFault, Member, Version, content_value, image_of, image_value, numbers_of, read_image,
     read_value, shape_of, version_of, version_value, write_image,
 };
-use ImageFault::{BadShape, NotJson, OutOfRange, TooLong};
 use std::alloc::{AllocError, Global};
 use std::test::Fail;
 

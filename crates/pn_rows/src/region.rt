@@ -1,9 +1,9 @@
 //! Rounds over two tablets, and the marks of deliveries.
 
-use super::*;
 use pn_apply::Open;
 use pn_join::{Highest, Marks, Name};
 use pn_record::{Key, KeyFault, read_image};
+use pn_region::{Region, RoundFault, next_marks};
 use pn_stream::Delivery;
 use pn_tablet::Layout;
 use std::alloc::Global;

@@ -1,6 +1,6 @@
 //! Keys, contents and cells at values that are known beforehand.
-use crate::{Body, Cell, CellState, Content, Key, KeyFault, Value, Version};
 use pn_join::{Dup, Join, Name};
+use pn_record::{Body, Cell, CellState, Content, Key, KeyFault, Value, Version};
 use std::alloc::Global;
 use std::cmp::Ordering;
 use std::test::Fail;

@@ -1,9 +1,9 @@
 //! Replies against texts that were written down by hand.
-use crate::{Part, Refusal, ShortReply, changed_reply, fault_reply, refusal_reply, scan_reply};
 use pn_apply::Open;
 use pn_join::Name;
 use pn_record::{KeyFault, Member, read_image};
 use pn_region::{Region, RoundFault};
+use pn_serve::{Part, Refusal, ShortReply, changed_reply, fault_reply, refusal_reply, scan_reply};
 use pn_stream::Delivery;
 use pn_tablet::Layout;
 use std::alloc::Global;

@@ -1,8 +1,8 @@
 //! Streams that come in pieces or fail, and messages and lines at the edge of their limits.
-use super::*;
 use pn_join::{Name, StreamName};
 use pn_line::{InMemory, Source};
 use pn_record::{ImageFault, Member};
+use pn_stream::{Delivery, LAST_POSITION, StreamFault, StreamReader, read_message};
 use std::alloc::Global;
 use std::io;
 use std::io::{BufRead, ErrorKind, Read};

@@ -1,7 +1,8 @@
 //! Lines and the commands or refusals that they are.
 
-use super::*;
 use pn_record::Member;
+use pn_serve::{Command, Part, Refusal, command_of};
+use std::alloc::Global;
 use std::test::Fail;
 
 const DELIVER: &[u8] =

@@ -1,0 +1,5 @@
+//! Cells, images and marks, each call by itself.
+
+mod cells;
+mod images;
+mod marks;
