@@ -37,8 +37,9 @@ bench: build
 
 # Brings the built program to each of its ends, and refuses each of its allocations in turn.
 checks: build
+	@cd crates/pn_bench && rt run < stdin > /dev/null
 	@checks/exit-statuses "$(PROGRAM)"
-	@checks/want-of-memory "$(PROGRAM)"
+	@checks/want-of-memory "$(PROGRAM)" "$(STEPS)"
 
 # Runs the worked rows through the built program, where they are at hand.
 rows:

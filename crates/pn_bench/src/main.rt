@@ -1,16 +1,16 @@
 //! What the benches count the steps of: lines read as JSON alone, as images or as the messages of a stream,
-//! and rows written by a scan or as JSON alone.
+//! rows written by a scan or as JSON alone, and scripts over several tablets.
 //!
-//! Its words are a way and how often rows are written. It prints how many lines were read well, and how
-//! many bytes were written.
+//! Its words are a way and how often rows are written, or `script` and the bounds of the tablets. It prints how
+//! many lines were read well, and how many bytes were written.
 #![tactic(auto)]
 
 use pn_apply::Open;
 use pn_join::{Name, NoMemory};
 use pn_line::{LineBuffer, LineEnd, Source, read_line};
-use pn_record::{Image, read_image};
+use pn_record::{Image, Key, read_image};
 use pn_region::Region;
-use pn_serve::scan_reply;
+use pn_serve::{Settings, run, scan_reply};
 use pn_stream::{Delivery, StreamReader};
 use pn_tablet::Layout;
 use serde_json::Value;
@@ -39,6 +39,8 @@ enum Way {
     Scans,
     /// The same, and then what a scan shows is written as JSON.
     Writes,
+    /// They are a script, which is answered.
+    Script,
 }
 
 impl Way {
@@ -50,6 +52,7 @@ impl Way {
             "messages" => Some(Way::Messages),
             "scans" => Some(Way::Scans),
             "writes" => Some(Way::Writes),
+            "script" => Some(Way::Script),
             _ => None,
         }
     }
@@ -58,11 +61,18 @@ impl Way {
 fn main(rt: HostRuntime) -> io::Result<()> {
     let mut words = env::args(&rt)?;
     let way = words.nth(1).and_then(|word| Way::read(word.as_str()));
+    let way = way.unwrap_or(Way::Lines);
+    let mut input = BufReader::with_capacity(rt.alloc(), INPUT_ROOM, rt.reader())?;
+    if let Way::Script = way {
+        let lines = match keys_of(rt.alloc(), words) {
+            Some(bounds) => answer_script(&rt, &mut input, bounds).unwrap_or(0),
+            None => 0,
+        };
+        return println!(rt; "{lines} lines, 0 bytes");
+    }
     let times = words
         .next()
         .and_then(|word| word.as_str().parse::<u32>().ok());
-    let way = way.unwrap_or(Way::Lines);
-    let mut input = BufReader::with_capacity(rt.alloc(), INPUT_ROOM, rt.reader())?;
     let mut images = Vec::new(rt.alloc());
     let lines = match way {
         Way::Messages => take_messages(rt.alloc(), input),
@@ -74,6 +84,27 @@ fn main(rt: HostRuntime) -> io::Result<()> {
         None => 0,
     };
     println!(rt; "{lines} lines, {bytes} bytes")
+}
+
+// The words as keys.
+fn keys_of(alloc: Global, words: env::Args<Global>) -> Option<Vec<Key>> {
+    let mut keys = Vec::new(alloc);
+    for word in words {
+        keys.push(Key::of(alloc, word.as_str()).ok()?).ok()?;
+    }
+    Some(keys)
+}
+
+// How many lines of a script were answered, over tablets with these bounds.
+fn answer_script<S: Source>(
+    rt: &(impl AllocGlobal + Print),
+    input: &mut S,
+    bounds: Vec<Key>,
+) -> Option<u64> {
+    let layout = Layout::new(bounds).ok()?;
+    let settings = Settings::new(layout, 1)?;
+    let counts = run(rt.alloc(), input, &mut io::writer(rt), settings).ok()?;
+    Some(counts.lines)
 }
 
 // How many lines were read well.
@@ -114,7 +145,7 @@ fn take_messages<S: Source + Drop>(alloc: Global, input: S) -> u64 {
 
 fn is_taken(alloc: Global, way: Way, images: &mut Vec<Image>, line: &[u8]) -> bool {
     match way {
-        Way::Lines | Way::Messages => true,
+        Way::Lines | Way::Messages | Way::Script => true,
         Way::Values => Value::from_slice(alloc, line).is_ok(),
         Way::Images => read_image(alloc, line).is_ok(),
         Way::Scans | Way::Writes => match read_image(alloc, line) {
@@ -140,7 +171,7 @@ fn write_rows(alloc: Global, way: Way, region: &Region, times: u32) -> Result<us
     match way {
         Way::Scans => write_scans(alloc, region, times),
         Way::Writes => write_values(alloc, region, times),
-        Way::Lines | Way::Values | Way::Images | Way::Messages => Ok(0),
+        Way::Lines | Way::Values | Way::Images | Way::Messages | Way::Script => Ok(0),
     }
 }
 
