@@ -8,8 +8,6 @@ pub mod laws;
 mod reducing;
 mod share;
 mod slot;
-#[cfg(test)]
-mod tests;
 
 pub use apply::apply_all;
 pub use gate::{Gate, Open};

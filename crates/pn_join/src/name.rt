@@ -146,34 +146,3 @@ impl Ord for Name {
         self.as_bytes().cmp(other.as_bytes())
     }
 }
-
-#[cfg(test)]
-mod tests {
-    use super::*;
-    use std::test::Fail;
-
-    #[test]
-    fn names_are_read(rt: HostRuntime) -> Result<(), Fail> {
-        assert_eq!(rt; Name::read(b"a")?.as_str(), "a");
-        assert_eq!(rt; Name::read(b"west-2")?.as_str(), "west-2");
-        let longest = b"0123456789abcdef0123456789abcdef";
-        assert_eq!(rt; Name::read(longest)?.as_str().len(), 32);
-        assert_eq!(rt; Name::read(b"west-2")?.dup()?.as_str(), "west-2");
-        Ok(())
-    }
-
-    #[test]
-    fn other_texts_are_refused(rt: HostRuntime) {
-        assert!(rt; Name::read(b"").is_err());
-        assert!(rt; Name::read(b"0123456789abcdef0123456789abcdef0").is_err());
-        assert!(rt; Name::read(b"West").is_err());
-        assert!(rt; Name::read(b"west_2").is_err());
-    }
-
-    #[test]
-    fn names_are_ordered_by_their_bytes(rt: HostRuntime) -> Result<(), Fail> {
-        assert!(rt; Name::read(b"b")? > Name::read(b"aa")?);
-        assert!(rt; Name::read(b"a")? < Name::read(b"aa")?);
-        Ok(())
-    }
-}

@@ -9,8 +9,6 @@ ghost use Rattle.pn_join.specs.Places.{place_of};
 ghost use Rattle.pn_join.specs.Changes.{IsJoinOf};
 
 mod changes;
-#[cfg(test)]
-mod tests;
 
 use crate::{Dup, Join, NoMemory};
 use changes::{Changes, Placed, put_in};

@@ -8,8 +8,6 @@ mod piece;
 mod reading;
 mod sink;
 mod source;
-#[cfg(test)]
-mod tests;
 mod writing;
 
 pub use in_memory::InMemory;

@@ -1,6 +1,4 @@
-//! Tests: scripts through `run`, records beside a plain, slow program, and calls of single crates.
-//!
-//! Those of the calls stand here and not beside their code, since the proof of a crate's tests proves the crate again.
+//! Tests of scripts: worked rows through `run`, records beside a plain, slow program, and the calls of `pn_serve`.
 #![tactic(auto)]
 
 #[cfg(test)]
@@ -14,10 +12,6 @@ mod limits;
 #[cfg(test)]
 mod readers;
 #[cfg(test)]
-mod record;
-#[cfg(test)]
-mod region;
-#[cfg(test)]
 mod row;
 #[cfg(test)]
 mod rows;
@@ -25,10 +19,6 @@ mod rows;
 mod serve;
 #[cfg(test)]
 mod slow;
-#[cfg(test)]
-mod stream;
-#[cfg(test)]
-mod tablet;
 #[cfg(test)]
 mod tablets;
 #[cfg(test)]

@@ -1,5 +1,5 @@
 //! Lines from readers in pieces, and writers that take little, nothing, or fail.
-use super::*;
+use pn_line::*;
 use std::alloc::Global;
 use std::io;
 use std::io::{BufRead, ErrorKind, Read, Write};

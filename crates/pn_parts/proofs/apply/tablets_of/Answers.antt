@@ -4,7 +4,7 @@ use Rattle.std.proofs.lemmas.List.{map-append}
 use Rattle.std.proofs.lemmas.List.FromFn.{map-range_with_len_more}
 use Rattle.pn_tablet.specs.Layouts.{tablet_ends}
 use Rattle.pn_tablet.specs.Tablets.{Tablet}
-use Rattle.pn_apply.proofs.tests.tablets_of.Goals as goal
+use Rattle.pn_parts.proofs.apply.tablets_of.Goals as goal
 
 pub loop-tablet-preserved : goal.loop-tablet-preserved
 loop-tablet-preserved c =

@@ -3,8 +3,7 @@
 ghost use Rattle.std.specs.Prelude.{◌≡◌, ℕ, max, IfOk, OnOk, OnErr};
 ghost use Rattle.std.proofs.Common.{arith};
 
-use super::Table;
-use crate::{Dup, Join, Name, NoMemory};
+use pn_join::{Dup, Join, Name, NoMemory, Table};
 use std::alloc::Global;
 use std::test::Fail;
 

@@ -3,7 +3,7 @@ ghost use Rattle.std.specs.Prelude.{◌≡◌, map, IfOk};
 ghost use Rattle.std.specs.Option.{option_copied};
 ghost use Rattle.pn_apply.specs.Reducing.{ranges};
 
-use super::*;
+use pn_apply::{Gate, Open, apply_all, reduce, reduce_owned};
 use pn_join::{Dup, Highest, Marks, Name};
 use pn_record::{Key, KeyFault, read_image};
 use pn_stream::Delivery;
