@@ -1,14 +1,13 @@
 //! The ranges of a line's parts, looked at in their shapes. It takes no memory.
 
-ghost use Rattle.std.specs.Prelude.{◌≡◌, length};
-ghost use Rattle.pn_stream.specs.Positions.{are_positions};
+ghost use Rattle.std.specs.Prelude.{◌≡◌};
 ghost use Rattle.pn_serve.specs.Ranges.{each_fits, image_fits, batch_fits, batches_fit};
 
 use crate::shape::BatchShape;
 use crate::{Part, Refusal};
 use pn_join::Name;
 use pn_record::Shape;
-use pn_stream::LAST_POSITION;
+use pn_stream::positions_fit;
 
 /// The most batches of a command.
 const MOST_BATCHES: usize = 64;
@@ -39,13 +38,6 @@ fn check_batch(batch: &BatchShape<'_>) -> Result<(), Refusal>
         return Err(Refusal::OutOfRange(Part::Stream));
     }
     Ok(())
-}
-
-/// Whether the positions of `count` images from `first` on are positions of a stream.
-fn positions_fit(first: u64, count: usize) -> bool
-    ensures { result ≡ are_positions first count }
-{
-    1 <= first && first <= LAST_POSITION && count as u64 <= LAST_POSITION + 1 - first
 }
 
 fn check_images(images: &[Shape<'_>]) -> Result<(), Refusal>

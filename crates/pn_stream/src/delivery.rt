@@ -79,8 +79,9 @@ impl Delivery {
     }
 }
 
-// Whether the positions of `count` images from `first` on are positions of a stream.
-fn positions_fit(first: u64, count: usize) -> bool
+/// Whether `count` images from the position `first` on have positions from 1 to 10^15. Where there are none,
+/// it is `first` that is asked.
+pub fn positions_fit(first: u64, count: usize) -> bool
     ensures { result ≡ are_positions first count }
 {
     1 <= first && first <= LAST_POSITION && count as u64 <= LAST_POSITION + 1 - first

@@ -1,7 +1,6 @@
 //! What marks lack of a need.
 
 ghost use Rattle.std.specs.Prelude.{◌≡◌};
-ghost use Rattle.pn_join.specs.Marks.{position_of};
 ghost use Rattle.pn_tablet.specs.Needs.{first_short as the_first_short};
 
 use pn_join::{Dup, Marks, StreamName};
@@ -26,16 +25,7 @@ pub fn first_short(marks: &Marks, need: &Marks) -> Option<Short>
     };
     Some(Short {
         stream: name,
-        has: position(marks, stream),
+        has: marks.position(stream),
         wanted: wanted.0,
     })
-}
-
-fn position(marks: &Marks, stream: &StreamName) -> u64
-    ensures { result ≡ position_of marks.now stream.now }
-{
-    match marks.get(stream) {
-        Some(highest) => highest.0,
-        None => 0,
-    }
 }
