@@ -10,5 +10,6 @@ pub mod Pieces
 pub mod RoundEnds
 pub mod RoundSteps
 pub mod Spelled
+pub mod StreamCount
 pub mod TakenImages
 pub mod Together

@@ -1,12 +1,15 @@
 -- The words of the laws of regions.
 use Rattle.std.specs.Prelude.{◌≡◌, ◌⊎◌, ℕ, ◌+◌, ◌≤◌, ◌<◌, length, List, [], ◌∷◌, ◌++◌, map, Contains}
-use Rattle.pn_join.specs.Marks.{Positions, position_of}
+use Rattle.std.specs.Ordering.{eq_by_cmp}
+use Rattle.std.specs.Set.{distinct_count}
+use Rattle.pn_join.specs.Marks.{Positions, name_cmp, position_of}
 use Rattle.pn_record.specs.declared.image.Image.{Image}
 use Rattle.pn_record.specs.CellMap.{Entries, table_of}
 use Rattle.pn_stream.specs.Positions.{Delivered}
 use Rattle.pn_tablet.specs.Ranges.{Ends}
 use Rattle.pn_tablet.specs.Tablets.{Tablet}
 use Rattle.pn_apply.specs.Reducing.{images_in, ranges}
+use Rattle.pn_region.specs.Marking.{bringing}
 use Rattle.pn_region.specs.Regions.{RegionState}
 
 -- each tablet has the cells of the images that lie in its range
@@ -44,6 +47,14 @@ pub record HasPosition (deliveries : List Delivered) (name : List ℕ) (position
   pub stream : delivery.stream ≡ name
   pub from : delivery.first ≤ position
   pub before : position < delivery.first + length delivery.images
+
+-- the names of the marks, and those of the deliveries that bring images
+abbrev pub named : Positions → List Delivered → List (List ℕ)
+named marks deliveries = map (λ mark. mark.0) marks ++ map (λ delivery. delivery.stream) (bringing deliveries)
+
+-- how many streams these name
+abbrev pub stream_count : Positions → List Delivered → ℕ
+stream_count marks deliveries = distinct_count (eq_by_cmp name_cmp) (named marks deliveries)
 
 -- the position was taken before: the marks have reached it, or one of the deliveries has it
 abbrev pub WasTaken : Positions → List Delivered → List ℕ → ℕ → Type 0

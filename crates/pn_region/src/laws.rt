@@ -1,8 +1,8 @@
 //! The laws of rounds, as contracts. A call does nothing.
 
-ghost use Rattle.std.specs.Prelude.{◌≡◌, ℕ, ◌≤◌, ◌<◌, List, [], ◌++◌, length, Contains, Ok, Err, Some, IsSome, slice_get};
-ghost use Rattle.std.specs.FinMap.{find};
-ghost use Rattle.pn_join.specs.Marks.{Positions, Reaches, position_of};
+ghost use Rattle.std.specs.Prelude.{◌≡◌, ℕ, ◌≤◌, ◌<◌, List, [], ◌++◌, length, Contains, Ok, Err, Some, IsSome, IsTrue, slice_get};
+ghost use Rattle.std.specs.FinMap.{find, is_sorted};
+ghost use Rattle.pn_join.specs.Marks.{Positions, Reaches, name_cmp, position_of};
 ghost use Rattle.pn_record.specs.declared.image.Image.{Image};
 ghost use Rattle.pn_record.specs.Order.{bytes_cmp};
 ghost use Rattle.pn_record.specs.CellMap.{table_of};
@@ -11,11 +11,11 @@ ghost use Rattle.pn_stream.specs.Positions.{Delivered};
 ghost use Rattle.pn_tablet.specs.Layouts.{Bounds, IsLayout, tablet_of};
 ghost use Rattle.pn_tablet.specs.Tablets.{Tablet};
 ghost use Rattle.pn_apply.specs.Reducing.{all_images};
-ghost use Rattle.pn_region.specs.Laws.{AreIn, HasImages, HasBetween, HasNoGap, HasPosition, IsGap};
+ghost use Rattle.pn_region.specs.Laws.{AreIn, HasImages, HasBetween, HasNoGap, HasPosition, IsGap, stream_count};
 ghost use Rattle.pn_region.specs.Marking.{last_position, new_marks};
 ghost use Rattle.pn_region.specs.Regions.{RegionState, IsRegion, new_region, all_cells};
 ghost use Rattle.pn_region.specs.Rounds.{taking, IsHalfTaken};
-ghost use Rattle.pn_region.specs.declared.fault.RoundFault.TheVariants.{Gap, TooManyStreams};
+ghost use Rattle.pn_region.specs.declared.fault.RoundFault.TheVariants.{Gap, TooManyStreams, Memory};
 
 /// The new region of a layout is one, and has the cells of no image.
 pub fn new_regions()
@@ -101,4 +101,17 @@ pub fn a_gap_is_a_missing_position()
         → new_marks marks deliveries ≡ Err TooManyStreams → HasNoGap marks deliveries }
     ensures gap { (marks : Positions) (deliveries : List Delivered) (stream : List ℕ) (wanted got : ℕ)
         → new_marks marks deliveries ≡ Err (Gap stream wanted got) → IsGap marks deliveries stream wanted got }
+{}
+
+/// Over marks whose names rise: new marks have as many names as the marks and the deliveries with images name
+/// streams, and at most 16. Where there are too many streams they are more. Besides these two a gap alone is told.
+pub fn streams_are_counted()
+    ensures few { (marks next : Positions) (deliveries : List Delivered)
+        → IsTrue (is_sorted name_cmp marks) → new_marks marks deliveries ≡ Ok next
+        → (length next ≡ stream_count marks deliveries) × (stream_count marks deliveries ≤ 16) }
+    ensures too_many { (marks : Positions) (deliveries : List Delivered)
+        → IsTrue (is_sorted name_cmp marks) → new_marks marks deliveries ≡ Err TooManyStreams
+        → 16 < stream_count marks deliveries }
+    ensures nothing_else { (marks : Positions) (deliveries : List Delivered)
+        → new_marks marks deliveries ≡ Err Memory → ⊥ }
 {}
