@@ -36,11 +36,16 @@ range_joins range images more =
     ∙ same_cells_table (own ++ spelled) (own ++ theirs) (λ key. cells-append own spelled key ∙ ap (λ (c : Option Celled). both (cells own key) c) (cells-spelled theirs key) ∙ sym (cells-append own theirs key))
     ∙ ap table_of (sym (filter-append (λ (image : Image). in_range range image.key) images more))
 
+-- the same images have the same cells in a range
+pub same_in : (range : Ends) (images others : List Image) → SameImages images others → table_of (images_in range images) ≡ table_of (images_in range others)
+same_in range images others same =
+    table_that (in_range range) images
+    ∙ ap (entries_that (in_range range)) (same_cells_table images others (cells-same images others same))
+    ∙ sym (table_that (in_range range) others)
+
 pub same_joins : (bounds : Bounds) (marks : Positions) (images others : List Image) → SameImages images others → joins_of bounds marks images ≡ joins_of bounds marks others
 same_joins bounds marks images others same =
-    let same_table : table_of images ≡ table_of others = same_cells_table images others (cells-same images others same) in
-    ap (λ (f : Ends → TabletOp). map f (ranges bounds))
-    (λ i range. Join ((table_that (in_range range) images ∙ ap (entries_that (in_range range)) same_table ∙ sym (table_that (in_range range) others)) i) marks)
+    ap (λ (f : Ends → TabletOp). map f (ranges bounds)) (λ i range. Join (same_in range images others same i) marks)
 
 inside : (range : Ends) (images : List Image) → lie_in range (table_of (images_in range images)) ≡ true
 inside range images = ap (lie_in range) (table_that (in_range range) images) ∙ all_that (in_range range) (table_of images)

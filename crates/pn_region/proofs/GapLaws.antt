@@ -1,12 +1,12 @@
 -- Where a gap stands.
-use Rattle.std.proofs.Common.{◌≡◌, ◌⊎◌, inl, inr, ℕ, zero, suc, ◌+◌, ◌<◌, ◌≤◌, pred, Bool, true, false, cond, nat_lt, List, [], ◌∷◌, ◌++◌, length, refl, sym, ap, ◌∙◌, arith}
+use Rattle.std.proofs.Common.{◌≡◌, inl, inr, ℕ, zero, suc, ◌+◌, ◌<◌, ◌≤◌, pred, Bool, true, false, cond, nat_lt, List, [], ◌∷◌, ◌++◌, length, refl, sym, ap, ◌∙◌, arith}
 use Rattle.std.specs.Prelude.{Result, Ok, Err}
 use Rattle.std.proofs.lemmas.Bool.Decides.{nat_tests}
 use Rattle.std.proofs.lemmas.List.Elements.{filter-append}
 use Rattle.pn_join.specs.Marks.{Positions, position_of}
 use Rattle.pn_stream.specs.Positions.{Delivered}
 use Rattle.pn_region.proofs.MarkLaws.{brings, gap_of, accepted, few, none_skipped, never_fall, some_brings, last_taken}
-use Rattle.pn_region.specs.Laws.{HasPosition, WasTaken, HasNoGap, IsGap}
+use Rattle.pn_region.specs.Laws.{WasTaken, HasNoGap, IsGap}
 use Rattle.pn_region.specs.Marking.{bringing, last_position, marked, leaves_gap, marks_after, of_few_streams, new_marks}
 use Rattle.pn_region.specs.declared.fault.RoundFault.{RoundFault}
 use Rattle.pn_region.specs.declared.fault.RoundFault.TheVariants.{Gap, TooManyStreams}

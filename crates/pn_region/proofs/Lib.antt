@@ -1,4 +1,6 @@
 pub mod Apart
+pub mod Faith
+pub mod FaithfulCopies
 pub mod GapLaws
 pub mod HalfRounds
 pub mod KeyTablets

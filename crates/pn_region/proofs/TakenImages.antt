@@ -54,7 +54,7 @@ either_one first second (inl one) = first one
 either_one first second (inr other) = second other
 
 -- what is in one list or in the other
-by_part : {P : Type 0} (xs ys : List Image) (image : Image) → (Contains xs image → P) → (Contains ys image → P) → Contains (xs ++ ys) image → P
+pub by_part : {P : Type 0} (xs ys : List Image) (image : Image) → (Contains xs image → P) → (Contains ys image → P) → Contains (xs ++ ys) image → P
 by_part xs ys image first second there = either_one first second (Contains-append_cases xs ys image there)
 
 module _ (sure maybe images more : List Image) (between : IsBetween sure maybe images) where

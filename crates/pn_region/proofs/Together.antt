@@ -6,14 +6,11 @@ use Rattle.std.proofs.lemmas.List.Folds.{flat_map-map}
 use Rattle.pn_record.specs.declared.image.Image.{Image}
 use Rattle.pn_record.specs.Cells.{SameImages}
 use Rattle.pn_record.specs.CellMap.{Entries, table_of}
-use Rattle.pn_record.proofs.CellLists.{cells-same}
-use Rattle.pn_record.proofs.CellMaps.{same_cells_table}
 use Rattle.pn_tablet.specs.Layouts.{IsLayout}
-use Rattle.pn_tablet.specs.Ranges.{Ends, in_range}
+use Rattle.pn_tablet.specs.Ranges.{Ends}
 use Rattle.pn_tablet.specs.Tablets.{Tablet}
 use Rattle.pn_apply.specs.Reducing.{images_in, ranges}
-use Rattle.pn_apply.proofs.ReduceLaws.{cells_cut}
-use Rattle.pn_apply.proofs.Tables.{entries_that, table_that}
+use Rattle.pn_apply.proofs.ReduceLaws.{cells_cut, same_in}
 use Rattle.pn_region.specs.Laws.{HasImages, AreIn, IsBetween, AllHoldBetween, HasBetween}
 use Rattle.pn_region.specs.Regions.{RegionState, all_cells}
 use Rattle.pn_region.proofs.TakenImages.{maps_of, pieces_of}
@@ -24,11 +21,6 @@ together region images lawful has =
     ∙ ap (flat_map (λ (cells : Entries). cells)) has
     ∙ flat_map-map (λ (cells : Entries). cells) (λ (range : Ends). table_of (images_in range images)) (ranges region.layout)
     ∙ cells_cut region.layout images lawful
-
--- the same images have the same cells in a range
-same_piece : (range : Ends) (images others : List Image) → SameImages images others → table_of (images_in range images) ≡ table_of (images_in range others)
-same_piece range images others same =
-    table_that (in_range range) images ∙ ap (entries_that (in_range range)) (same_cells_table images others (cells-same images others same)) ∙ sym (table_that (in_range range) others)
 
 sure_or : (sure maybe : List Image) (image : Image) → AreIn maybe sure → Contains sure image ⊎ Contains maybe image → Contains sure image
 sure_or sure maybe image are (inl there) = there
@@ -44,7 +36,7 @@ all_sure sure maybe [] [] are has = refl
 all_sure sure maybe [] (t ∷ ts) are has = absurd has
 all_sure sure maybe (r ∷ rs) [] are has = absurd has
 all_sure sure maybe (r ∷ rs) (t ∷ ts) are has =
-    λ i. (has.0.2 ∙ same_piece r has.0.0 sure (same_sure sure maybe has.0.0 are has.0.1)) i ∷ all_sure sure maybe rs ts are has.1 i
+    λ i. (has.0.2 ∙ same_in r has.0.0 sure (same_sure sure maybe has.0.0 are has.0.1)) i ∷ all_sure sure maybe rs ts are has.1 i
 
 -- where all that may be there is sure to be, each tablet has the cells of the sure images
 pub surely_has : (region : RegionState) (sure maybe : List Image) → AreIn maybe sure → HasBetween sure maybe region → HasImages region sure

@@ -1,4 +1,5 @@
 pub mod Coding
+pub mod Faith
 pub mod Honest
 pub mod Laws
 pub mod Marking

@@ -7,10 +7,18 @@ ghost use Rattle.pn_record.specs.declared.image.Image.{Image};
 ghost use Rattle.pn_record.specs.Order.{bytes_cmp};
 ghost use Rattle.pn_record.specs.CellMap.{table_of};
 ghost use Rattle.pn_record.specs.Older.{NotOlder};
+ghost use Rattle.pn_stream.specs.Brokers.{BrokerRecord, AreHonest, up_to};
 ghost use Rattle.pn_stream.specs.Positions.{Delivered};
 ghost use Rattle.pn_tablet.specs.Layouts.{Bounds, IsLayout, tablet_of};
+ghost use Rattle.pn_tablet.specs.Copies.{Copied};
+ghost use Rattle.pn_tablet.specs.Copying.{copy_of};
+ghost use Rattle.pn_tablet.specs.Steps.{lost, step};
 ghost use Rattle.pn_tablet.specs.Tablets.{Tablet};
-ghost use Rattle.pn_apply.specs.Reducing.{all_images};
+ghost use Rattle.pn_tablet.specs.declared.op.TabletOp.TheVariants.{Adopt};
+ghost use Rattle.pn_tablet.specs.declared.state.Status.TheVariants.{Serving};
+ghost use Rattle.pn_apply.specs.Reducing.{all_images, images_in};
+ghost use Rattle.pn_region.specs.Faith.{IsFaithful, AreFaithful};
+ghost use Rattle.pn_region.specs.Honest.{IsHonestCopy};
 ghost use Rattle.pn_region.specs.Laws.{AreIn, HasImages, HasBetween, HasNoGap, HasPosition, IsGap, stream_count};
 ghost use Rattle.pn_region.specs.Marking.{last_position, new_marks};
 ghost use Rattle.pn_region.specs.Regions.{RegionState, IsRegion, new_region, all_cells};
@@ -114,4 +122,32 @@ pub fn streams_are_counted()
         → 16 < stream_count marks deliveries }
     ensures nothing_else { (marks : Positions) (deliveries : List Delivered)
         → new_marks marks deliveries ≡ Err Memory → ⊥ }
+{}
+
+/// A new region's tablets are faithful, whatever brokers published. A round of honest deliveries keeps tablets
+/// faithful, and so does one that ends without memory.
+pub fn honest_rounds_keep_tablets_faithful()
+    ensures new { (broker : BrokerRecord) (bounds : Bounds) → AreFaithful broker (new_region bounds).tablets }
+    ensures taken { (broker : BrokerRecord) (region : RegionState) (deliveries : List Delivered) (marks : Positions)
+        → IsRegion region → AreFaithful broker region.tablets → AreHonest broker deliveries
+        → new_marks region.marks deliveries ≡ Ok marks
+        → AreFaithful broker (taking region deliveries marks).tablets }
+    ensures half_taken { (broker : BrokerRecord) (old new : RegionState) (deliveries : List Delivered)
+        → IsRegion old → AreFaithful broker old.tablets → AreHonest broker deliveries
+        → IsHalfTaken old deliveries new → AreFaithful broker new.tablets }
+{}
+
+/// A tablet that is lost is faithful, and an honest copy that is adopted keeps a tablet faithful. A faithful
+/// tablet that serves has the cells of all images in its range up to its cover, and the copy that it gives is
+/// honest.
+pub fn honest_copies_keep_tablets_faithful()
+    ensures lost { (broker : BrokerRecord) (tablet : Tablet) → IsFaithful broker (lost tablet) }
+    ensures adopted { (broker : BrokerRecord) (tablet after : Tablet) (copy : Copied)
+        → IsFaithful broker tablet → IsHonestCopy broker copy → step tablet (Adopt copy) ≡ Ok after
+        → IsFaithful broker after }
+    ensures serving { (broker : BrokerRecord) (tablet : Tablet)
+        → IsFaithful broker tablet → tablet.status ≡ Serving
+        → tablet.map ≡ table_of (images_in tablet.range (up_to broker tablet.cover)) }
+    ensures given { (broker : BrokerRecord) (tablet : Tablet) (need : Positions) (copy : Copied)
+        → IsFaithful broker tablet → copy_of tablet need ≡ Ok copy → IsHonestCopy broker copy }
 {}

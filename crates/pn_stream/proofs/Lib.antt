@@ -1,3 +1,4 @@
+pub mod Published
 pub mod Runs
 pub mod SameBatch
 pub mod SameMessage

@@ -64,7 +64,7 @@ module _ {X Y : Type 0} (p : X → Bool) (f : X → Y) where
   none_found xs none = found_by xs (nat_lt (position_or_len p xs) (length xs)) refl none
 
 -- marks that lack nothing of a need reach it
-nothing_short : (marks need : Positions) → first_short marks need ≡ None → Reaches marks need
+pub nothing_short : (marks need : Positions) → first_short marks need ≡ None → Reaches marks need
 nothing_short marks need none =
     reached marks need (none_found (falls_short marks) (λ wanted. record { stream = wanted.0; has = position_of marks wanted.0; wanted = wanted.1 }) need none)
 

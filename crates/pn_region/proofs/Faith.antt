@@ -1,0 +1,142 @@
+-- Rounds of honest deliveries keep tablets faithful.
+use Rattle.std.proofs.Common.{◌≡◌, ℕ, ◌+◌, ◌<◌, ◌≤◌, true, false, nat_lt, List, [], ◌∷◌, ◌++◌, map, length, get_or, refl, sym, ap, ◌∙◌, subst, arith, ◌⊎◌, inl, inr, Contains}
+use Rattle.std.specs.Prelude.{Ok, Err, MatchResult}
+use Rattle.std.proofs.lemmas.Bool.Decides.{nat_tests}
+use Rattle.std.proofs.lemmas.List.Elements.{Contains-append_left, Contains-append_right}
+use Rattle.pn_join.specs.Marks.{Positions, Reaches, position_of, raised}
+use Rattle.pn_join.proofs.MarksFacts.{position_of-raised}
+use Rattle.pn_record.specs.declared.image.Image.{Image}
+use Rattle.pn_record.specs.Cells.{spell}
+use Rattle.pn_record.specs.CellMap.{Entries, table_of, adds}
+use Rattle.pn_record.proofs.CellMaps.{table_of-nil}
+use Rattle.pn_stream.specs.Positions.{Delivered}
+use Rattle.pn_stream.specs.Brokers.{BrokerRecord, up_to, AreHonest}
+use Rattle.pn_stream.proofs.Published.{Stands, wider, in_part, part_of, is_up_to, published, brings, is_brought}
+use Rattle.pn_tablet.specs.Layouts.{Bounds}
+use Rattle.pn_tablet.specs.Ranges.{Ends}
+use Rattle.pn_tablet.specs.Steps.{taking, stepped}
+use Rattle.pn_tablet.specs.Tablets.{Tablet, empty_tablet}
+use Rattle.pn_apply.specs.Applying.{all_stepped, AreOldOrStepped}
+use Rattle.pn_apply.specs.Reducing.{all_images, images_in, join_in, ranges}
+use Rattle.pn_apply.proofs.ReduceLaws.{range_joins}
+use Rattle.pn_region.specs.Faith.{missing, IsFaithful, AreFaithful}
+use Rattle.pn_region.specs.Marking.{new_marks, last_position}
+use Rattle.pn_region.specs.Regions.{RegionState, IsTabletOf, AreTabletsOf, IsRegion, new_region}
+use Rattle.pn_region.specs.Rounds.{joins, IsHalfTaken}
+use Rattle.pn_region.specs.Rounds as rounds
+use Rattle.pn_region.proofs.MarkLaws.{not_skipped, next_has_last}
+use Rattle.pn_region.proofs.RoundSteps.{is_taken}
+use Rattle.pn_region.proofs.TakenImages.{by_part}
+
+one_empty : (broker : BrokerRecord) (r : Ends) → IsFaithful broker (empty_tablet r)
+one_empty broker r = record {
+  images = [];
+  cells = sym table_of-nil;
+  published = λ image there. absurd (omega (arith, there.1));
+  all = λ image there. absurd (omega (arith, there.1));
+}
+
+all_empty : (broker : BrokerRecord) (rs : List Ends) → AreFaithful broker (map empty_tablet rs)
+all_empty broker [] = tt
+all_empty broker (r ∷ rs) = (one_empty broker r, all_empty broker rs)
+
+-- a new region's tablets are faithful, whatever was published
+pub new_faithful : (broker : BrokerRecord) (bounds : Bounds) → AreFaithful broker (new_region bounds).tablets
+new_faithful broker bounds = all_empty broker (ranges bounds)
+
+left_so : {A B C : Type 0} → (A → C) → A ⊎ B → C ⊎ B
+left_so f (inl a) = inl (f a)
+left_so f (inr b) = inr b
+
+module _ (broker : BrokerRecord) (marks next : Positions) (deliveries : List Delivered) (honest : AreHonest broker deliveries) (accepted : new_marks marks deliveries ≡ Ok next) where
+  abbrev images : List Image
+  images = all_images deliveries
+
+  -- what was brought stands up to marks that reach the new ones
+  brought : (reached : Positions) → Reaches reached next → (image : Image) → Contains images image → Contains (up_to broker reached) image
+  brought reached reaches image there =
+      let found = part_of (λ (delivery : Delivered). delivery.images) deliveries image there in
+      let stands = brings broker found.part image (honest found.part found.listed) found.there in
+      let last : last_position found.part ≤ position_of next found.part.stream = next_has_last marks next deliveries found.part accepted found.listed (omega (arith, found.there.1)) in
+      is_up_to broker reached found.part.stream image
+      (wider (last_position found.part) (position_of reached found.part.stream) (broker found.part.stream) image (omega (arith, last, reaches found.part.stream)) stands)
+
+  -- what stands past the old marks, up to the new ones, was brought
+  was_brought : (stream : List ℕ) (image : Image) (at : ℕ) → position_of marks stream < at + 1 → at + 1 ≤ position_of next stream → at < length (broker stream) → get_or (broker stream) at image ≡ image → Contains images image
+  was_brought stream image at past up within is =
+      let has = not_skipped marks next deliveries stream (at + 1) accepted past up in
+      in_part (λ (delivery : Delivered). delivery.images) deliveries has.there.0 has.delivery image has.there.1 has.there.2
+      (is_brought broker has.delivery image (honest has.delivery has.there) at has.from has.before
+      (subst (λ name. at < length (broker name)) (sym has.stream) within)
+      (subst (λ name. get_or (broker name) at image ≡ image) (sym has.stream) is))
+
+  module _ (r : Ends) (t : Tablet) (of : IsTabletOf marks r t) (faithful : IsFaithful broker t) where
+    -- the images up to the raised cover: those up to the old one, and those that were brought
+    up_to_raised : (image : Image) (stream : List ℕ) → Stands (broker stream) (position_of (raised t.cover next) stream) image
+        → Contains (faithful.images ++ images) image ⊎ Contains (up_to broker (missing t.status)) image
+    up_to_raised image stream stands =
+        elim (nat_lt stands.at (position_of t.cover stream)) as (λ b. nat_lt stands.at (position_of t.cover stream) ≡ b → Contains (faithful.images ++ images) image ⊎ Contains (up_to broker (missing t.status)) image) [
+          | true ↦ λ before.
+              left_so (Contains-append_left faithful.images images image)
+              (faithful.all image (is_up_to broker t.cover stream image (record { at = stands.at; below = grind (arith, nat_tests); within = stands.within; is = stands.is })))
+          | false ↦ λ past.
+              let reached : position_of t.cover stream ≤ stands.at = grind (arith, nat_tests) in
+              inl (Contains-append_right faithful.images images image
+              (was_brought stream image stands.at (omega (arith, reached, of.covered stream))
+              (omega (arith, reached, stands.below, position_of-raised t.cover next stream)) stands.within stands.is))
+        ] refl
+
+    one_keeps : IsFaithful broker (taking t (table_of (images_in r images)) next)
+    one_keeps = record {
+      images = faithful.images ++ images;
+      cells =
+          ap (λ (cells : Entries). adds cells (spell (table_of (images_in r images)))) (faithful.cells ∙ ap (λ (range : Ends). table_of (images_in range faithful.images)) of.range)
+          ∙ range_joins r faithful.images images
+          ∙ ap (λ (range : Ends). table_of (images_in range (faithful.images ++ images))) (sym of.range);
+      published = λ image.
+          by_part faithful.images images image
+          (λ there.
+          let old = published broker t.cover image (faithful.published image there) in
+          is_up_to broker (raised t.cover next) old.stream image
+          (wider (position_of t.cover old.stream) (position_of (raised t.cover next) old.stream) (broker old.stream) image (omega (arith, position_of-raised t.cover next old.stream)) old.stands))
+          (brought (raised t.cover next) (λ name. omega (arith, position_of-raised t.cover next name)) image);
+      all = λ image there.
+          let new = published broker (raised t.cover next) image there in
+          up_to_raised image new.stream new.stands;
+    }
+
+    stepped_keeps : IsFaithful broker (stepped t (join_in next images r))
+    stepped_keeps = subst (IsFaithful broker) (sym (is_taken next images marks r t of)) one_keeps
+
+    one_half : (u : Tablet) → (u ≡ t) ⊎ (u ≡ stepped t (join_in next images r)) → IsFaithful broker u
+    one_half u (inl same) = subst (IsFaithful broker) (sym same) faithful
+    one_half u (inr took) = subst (IsFaithful broker) (sym took) stepped_keeps
+
+  all_keep : (rs : List Ends) (ts : List Tablet) → AreTabletsOf marks rs ts → AreFaithful broker ts → AreFaithful broker (all_stepped ts (map (join_in next images) rs))
+  all_keep [] [] are faithful = tt
+  all_keep [] (t ∷ ts) are faithful = absurd are
+  all_keep (r ∷ rs) [] are faithful = absurd are
+  all_keep (r ∷ rs) (t ∷ ts) are faithful = (stepped_keeps r t are.0 faithful.0, all_keep rs ts are.1 faithful.1)
+
+  all_half : (rs : List Ends) (ts us : List Tablet) → AreTabletsOf marks rs ts → AreFaithful broker ts → AreOldOrStepped ts (map (join_in next images) rs) us → AreFaithful broker us
+  all_half [] [] [] are faithful half = tt
+  all_half [] [] (u ∷ us) are faithful half = absurd half
+  all_half [] (t ∷ ts) us are faithful half = absurd are
+  all_half (r ∷ rs) [] us are faithful half = absurd are
+  all_half (r ∷ rs) (t ∷ ts) [] are faithful half = absurd half
+  all_half (r ∷ rs) (t ∷ ts) (u ∷ us) are faithful half = (one_half r t are.0 faithful.0 u half.0, all_half rs ts us are.1 faithful.1 half.1)
+
+-- a round of honest deliveries keeps tablets faithful
+pub round_keeps : (broker : BrokerRecord) (region : RegionState) (deliveries : List Delivered) (marks : Positions) → IsRegion region → AreFaithful broker region.tablets → AreHonest broker deliveries
+    → new_marks region.marks deliveries ≡ Ok marks → AreFaithful broker (rounds.taking region deliveries marks).tablets
+round_keeps broker region deliveries marks is faithful honest accepted =
+    all_keep broker region.marks marks deliveries honest accepted (ranges region.layout) region.tablets is.tablets faithful
+
+-- and so does one that ended without memory
+pub half_keeps : (broker : BrokerRecord) (old new : RegionState) (deliveries : List Delivered) → IsRegion old → AreFaithful broker old.tablets → AreHonest broker deliveries
+    → IsHalfTaken old deliveries new → AreFaithful broker new.tablets
+half_keeps broker old new deliveries is faithful honest left =
+    elim (new_marks old.marks deliveries) as (λ right. new_marks old.marks deliveries ≡ right → MatchResult right (λ marks. AreOldOrStepped old.tablets (joins old deliveries marks) new.tablets) (λ fault. new.tablets ≡ old.tablets) → AreFaithful broker new.tablets) [
+      | Ok marks ↦ λ accepted half. all_half broker old.marks marks deliveries honest accepted (ranges old.layout) old.tablets new.tablets is.tablets faithful half
+      | Err fault ↦ λ refused same. subst (AreFaithful broker) (sym same) faithful
+    ] refl left.2

@@ -1,0 +1,131 @@
+-- A loss, and an honest copy that is adopted, leave faithful tablets, and these give honest copies.
+use Rattle.std.proofs.Common.{◌≡◌, ℕ, ◌≤◌, Bool, true, false, nat_lt, if◌then◌else◌, List, [], ◌++◌, Option, None, Some, refl, sym, ap, ◌∙◌, subst, arith, ◌⊎◌, inl, inr, Contains}
+use Rattle.std.specs.Prelude.{Result, Ok, Err}
+use Rattle.std.proofs.lemmas.Bool.Decides.{nat_tests}
+use Rattle.std.proofs.lemmas.List.Elements.{Contains-append_left, Contains-append_right}
+use Rattle.pn_join.specs.Marks.{Positions, Reaches, position_of, raised}
+use Rattle.pn_join.proofs.MarksFacts.{position_of-raised}
+use Rattle.pn_record.specs.declared.image.Image.{Image}
+use Rattle.pn_record.specs.Cells.{spell}
+use Rattle.pn_record.specs.CellMap.{table_of, adds}
+use Rattle.pn_record.proofs.CellMaps.{table_of-nil}
+use Rattle.pn_stream.specs.Brokers.{BrokerRecord, up_to}
+use Rattle.pn_stream.proofs.Published.{Stands, wider, is_up_to, published}
+use Rattle.pn_tablet.specs.Copies.{Copied}
+use Rattle.pn_tablet.specs.Copying.{unless_behind, copy_from, copy_of}
+use Rattle.pn_tablet.specs.Needs.{lacking, first_short}
+use Rattle.pn_tablet.specs.Ranges.{Ends}
+use Rattle.pn_tablet.specs.Steps.{taking, lost, adopting, step}
+use Rattle.pn_tablet.specs.Tablets.{Tablet, same_range}
+use Rattle.pn_tablet.specs.declared.state.Status.{Status}
+use Rattle.pn_tablet.specs.declared.state.Status.TheVariants.{Serving, Recovering}
+use Rattle.pn_tablet.specs.declared.needs.Short.{Short}
+use Rattle.pn_tablet.specs.declared.op.TabletOp.TheVariants.{Adopt}
+use Rattle.pn_tablet.specs.declared.fault.OpFault.{OpFault}
+use Rattle.pn_tablet.specs.declared.fault.OpFault.TheVariants.{WrongRange}
+use Rattle.pn_tablet.proofs.Recovery.{nothing_short}
+use Rattle.pn_tablet.proofs.Stepping.{one_range}
+use Rattle.pn_tablet.proofs.TabletLaws.{adopted}
+use Rattle.pn_apply.specs.Reducing.{images_in}
+use Rattle.pn_apply.proofs.ReduceLaws.{range_joins, same_in}
+use Rattle.pn_region.specs.Faith.{missing, IsFaithful}
+use Rattle.pn_region.specs.Honest.{IsHonestCopy}
+use Rattle.pn_region.proofs.TakenImages.{by_part}
+
+-- a tablet that was lost may lack all up to its need
+pub lost_faithful : (broker : BrokerRecord) (t : Tablet) → IsFaithful broker (lost t)
+lost_faithful broker t = record {
+  images = [];
+  cells = sym table_of-nil;
+  published = λ image there. absurd (omega (arith, there.1));
+  all = λ image there. inr there;
+}
+
+was_so : (b : Bool) (right : Result Tablet OpFault) (after : Tablet) → (if b then right else Err WrongRange) ≡ Ok after → b ≡ true
+was_so true right after is = refl
+was_so false right after is = cc
+
+-- marks that lack nothing of what a tablet needs reach it
+need_reached : (status : Status) (marks : Positions) → lacking status marks ≡ None → Reaches marks (missing status)
+need_reached Serving marks none name = omega arith
+need_reached (Recovering need) marks none name = nothing_short marks need none name
+
+module _ (broker : BrokerRecord) (t : Tablet) (copy : Copied) (faithful : IsFaithful broker t) (honest : IsHonestCopy broker copy) (ranged : t.range ≡ copy.range) (reaches : Reaches copy.marks (missing t.status)) where
+  abbrev copied : List Image
+  copied = up_to broker copy.marks
+
+  abbrev cover : Positions
+  cover = raised t.cover copy.marks
+
+  -- what the tablet lacked the copy has
+  not_missing : (image : Image) → Contains faithful.images image ⊎ Contains (up_to broker (missing t.status)) image → Contains (faithful.images ++ copied) image
+  not_missing image (inl there) = Contains-append_left faithful.images copied image there
+  not_missing image (inr lacked) =
+      let old = published broker (missing t.status) image lacked in
+      Contains-append_right faithful.images copied image
+      (is_up_to broker copy.marks old.stream image (wider (position_of (missing t.status) old.stream) (position_of copy.marks old.stream) (broker old.stream) image (reaches old.stream) old.stands))
+
+  up_to_cover : (image : Image) (stream : List ℕ) → Stands (broker stream) (position_of cover stream) image → Contains (faithful.images ++ copied) image
+  up_to_cover image stream stands =
+      elim (nat_lt stands.at (position_of t.cover stream)) as (λ b. nat_lt stands.at (position_of t.cover stream) ≡ b → Contains (faithful.images ++ copied) image) [
+        | true ↦ λ before.
+            not_missing image
+            (faithful.all image (is_up_to broker t.cover stream image (record { at = stands.at; below = grind (arith, nat_tests); within = stands.within; is = stands.is })))
+        | false ↦ λ past.
+            let beyond : position_of t.cover stream ≤ stands.at = grind (arith, nat_tests) in
+            Contains-append_right faithful.images copied image
+            (is_up_to broker copy.marks stream image (record { at = stands.at; below = omega (arith, beyond, stands.below, position_of-raised t.cover copy.marks stream); within = stands.within; is = stands.is }))
+      ] refl
+
+  up_to_more : (marks : Positions) → Reaches cover marks → (image : Image) → Contains (up_to broker marks) image → Contains (up_to broker cover) image
+  up_to_more marks reach image there =
+      let old = published broker marks image there in
+      is_up_to broker cover old.stream image (wider (position_of marks old.stream) (position_of cover old.stream) (broker old.stream) image (reach old.stream) old.stands)
+
+  taken_faithful : IsFaithful broker (record (taking t copy.map copy.marks) { status = Serving })
+  taken_faithful = record {
+    images = faithful.images ++ copied;
+    cells =
+        (λ i. adds (faithful.cells i) (spell ((honest ∙ ap (λ (range : Ends). table_of (images_in range copied)) (sym ranged)) i)))
+        ∙ range_joins t.range faithful.images copied;
+    published = λ image.
+        by_part faithful.images copied image
+        (λ there. up_to_more t.cover (λ name. omega (arith, position_of-raised t.cover copy.marks name)) image (faithful.published image there))
+        (up_to_more copy.marks (λ name. omega (arith, position_of-raised t.cover copy.marks name)) image);
+    all = λ image there.
+        let new = published broker cover image there in
+        inl (up_to_cover image new.stream new.stands);
+  }
+
+-- an honest copy that is adopted keeps a tablet faithful
+pub adopted_faithful : (broker : BrokerRecord) (t after : Tablet) (copy : Copied) → IsFaithful broker t → IsHonestCopy broker copy → step t (Adopt copy) ≡ Ok after → IsFaithful broker after
+adopted_faithful broker t after copy faithful honest is =
+    let known = adopted t copy after is in
+    let ranged = one_range t.range copy.range (was_so (same_range t.range copy.range) (adopting t copy (lacking t.status copy.marks)) after is) in
+    subst (IsFaithful broker) (sym known.taken) (taken_faithful broker t copy faithful honest ranged (need_reached t.status copy.marks known.reaches))
+
+none_lacked : (broker : BrokerRecord) (image : Image) {A : Type 0} → A ⊎ Contains (up_to broker []) image → A
+none_lacked broker image (inl there) = there
+none_lacked broker image (inr lacked) = absurd (omega (arith, lacked.1))
+
+-- a faithful tablet that serves has the cells of all images up to its cover
+pub serving_has_all : (broker : BrokerRecord) (t : Tablet) → IsFaithful broker t → t.status ≡ Serving → t.map ≡ table_of (images_in t.range (up_to broker t.cover))
+serving_has_all broker t faithful serves =
+    let all = subst (λ (status : Status). (image : Image) → Contains (up_to broker t.cover) image → Contains faithful.images image ⊎ Contains (up_to broker (missing status)) image) serves faithful.all in
+    faithful.cells
+    ∙ same_in t.range faithful.images (up_to broker t.cover) (λ image. (faithful.published image, λ there. none_lacked broker image (all image there)))
+
+given_by : (broker : BrokerRecord) (t : Tablet) (short : Option Short) (copy : Copied) → t.map ≡ table_of (images_in t.range (up_to broker t.cover))
+    → unless_behind short (record { range = t.range; marks = t.cover; map = t.map }) ≡ Ok copy → IsHonestCopy broker copy
+given_by broker t None copy has is =
+    let same : record { range = t.range; marks = t.cover; map = t.map } ≡ copy = cc in
+    subst (IsHonestCopy broker) same has
+given_by broker t (Some short) copy has is = cc
+
+by_status : (broker : BrokerRecord) (t : Tablet) (need : Positions) (copy : Copied) (status : Status) → t.status ≡ status → IsFaithful broker t → copy_from status t need ≡ Ok copy → IsHonestCopy broker copy
+by_status broker t need copy Serving serves faithful is = given_by broker t (first_short t.cover need) copy (serving_has_all broker t faithful serves) is
+by_status broker t need copy (Recovering lacked) recovers faithful is = cc
+
+-- so the copy that it gives is honest
+pub given_is_honest : (broker : BrokerRecord) (t : Tablet) (need : Positions) (copy : Copied) → IsFaithful broker t → copy_of t need ≡ Ok copy → IsHonestCopy broker copy
+given_is_honest broker t need copy faithful is = by_status broker t need copy t.status refl faithful is
