@@ -1,8 +1,7 @@
 -- The laws of scripts that `src/laws.rt` states.
-use Rattle.std.proofs.Common.{◌≡◌, ℕ, Bool, true, false, if◌then◌else◌, List, [], ◌∷◌, ◌++◌, Option, Some, None, option_and_then, slice_get, map, refl, sym, ap, ◌∙◌, subst, append-nil, append_assoc, ◌⊎◌, inl, inr}
+use Rattle.std.proofs.Common.{◌≡◌, ℕ, Bool, true, false, if◌then◌else◌, List, [], ◌∷◌, ◌++◌, Option, Some, None, option_and_then, slice_get, map, refl, sym, ap, ◌∙◌, subst, append-nil, append_assoc, inl, inr}
 use Rattle.std.specs.Prelude.{Result, Ok, Err, MatchResult, IsSome}
 use Rattle.std.specs.FinMap.{find}
-use Rattle.std.specs.List.{list_any}
 use Rattle.std.specs.Result.{result_map_both}
 use Rattle.pn_line.specs.Text.{lines_of}
 use Rattle.pn_join.specs.Marks.{Positions}
@@ -18,7 +17,6 @@ use Rattle.pn_record.proofs.NeverOlder.{joined_not_older}
 use Rattle.pn_stream.specs.Positions.{Delivered}
 use Rattle.pn_tablet.specs.Layouts.{Bounds, IsLayout, tablet_of}
 use Rattle.pn_tablet.specs.Tablets.{Tablet, empty_tablet}
-use Rattle.pn_tablet.specs.Steps.{stepped}
 use Rattle.pn_tablet.specs.declared.op.TabletOp.{TabletOp}
 use Rattle.pn_apply.specs.Applying.{AreJoinsIn, AreOldOrStepped}
 use Rattle.pn_apply.specs.Reducing.{all_images, ranges}
@@ -40,7 +38,7 @@ use Rattle.pn_serve.specs.Commands.{command_at}
 use Rattle.pn_serve.specs.Looks.{IsLook}
 use Rattle.pn_serve.specs.Machine.{Outcome, done, line, call, round, Machine, saying, half_doing, some_stepped, half_by, half_taken, delivering, turn, serving}
 use Rattle.pn_serve.specs.Rows.{scan_data, line_of}
-use Rattle.pn_serve.specs.Script.{first_outcome, later_outcomes, deliveries_asked, accepted_images, images_brought, images_taken, images_left, taken_from, left_from, taken, machine_after, region_after, AreRepeated}
+use Rattle.pn_serve.specs.Script.{first_outcome, later_outcomes, deliveries_asked, accepted_images, images_taken, some_tablet, images_left, taken_from, left_from, taken, machine_after, region_after, AreRepeated}
 use Rattle.pn_serve.specs.Shown.{cell_at, read_data}
 
 -- ---- regions of which some tablets took their part
@@ -54,7 +52,7 @@ some_or_none [] (t ∷ ts) (op ∷ ops) fits = (inl refl, some_or_none [] ts ops
 some_or_none (true ∷ flags) (t ∷ ts) (op ∷ ops) fits = (inr refl, some_or_none flags ts ops fits.1)
 some_or_none (false ∷ flags) (t ∷ ts) (op ∷ ops) fits = (inl refl, some_or_none flags ts ops fits.1)
 
-none_stepped : (flags : List Bool) (ts : List Tablet) (ops : List TabletOp) → list_any (λ flag. flag) flags ≡ false → some_stepped flags ts ops ≡ ts
+none_stepped : (flags : List Bool) (ts : List Tablet) (ops : List TabletOp) → some_tablet flags ts ≡ false → some_stepped flags ts ops ≡ ts
 none_stepped [] ts ops none = refl
 none_stepped (flag ∷ flags) [] ops none = refl
 none_stepped (flag ∷ flags) (t ∷ ts) [] none = refl
@@ -79,7 +77,7 @@ half_is region deliveries flags is =
     let right = new_marks region.marks deliveries in
     (half_layout region deliveries flags right, half_marks region deliveries flags right, half_tablets region deliveries flags right is)
 
-half_none : (region : RegionState) (deliveries : List Delivered) (flags : List Bool) (right : Result Positions RoundFault) → list_any (λ flag. flag) flags ≡ false → half_by region deliveries flags right ≡ region
+half_none : (region : RegionState) (deliveries : List Delivered) (flags : List Bool) (right : Result Positions RoundFault) → some_tablet flags region.tablets ≡ false → half_by region deliveries flags right ≡ region
 half_none region deliveries flags (Ok next) none = λ i. record { layout = region.layout; tablets = none_stepped flags region.tablets (joins region deliveries next) none i; marks = region.marks }
 half_none region deliveries flags (Err fault) none = refl
 
@@ -122,7 +120,7 @@ said_keeps m (Err refusal) sure maybe keeps = others_keep m sure maybe keeps
 
 -- a round that ended without memory
 half_keeps : (region : RegionState) (deliveries : List Delivered) (flags : List Bool) (sure maybe : List Image) (some : Bool) (right : Result Positions RoundFault)
-    → list_any (λ flag. flag) flags ≡ some → new_marks region.marks deliveries ≡ right → Keeps sure maybe region
+    → some_tablet flags region.tablets ≡ some → new_marks region.marks deliveries ≡ right → Keeps sure maybe region
     → Keeps (sure ++ []) (maybe ++ (if some then accepted_images deliveries right else [])) (half_by region deliveries flags right)
 half_keeps region deliveries flags sure maybe false right none found keeps =
     subst (Keeps (sure ++ []) (maybe ++ [])) (sym (half_none region deliveries flags right none)) (as_before sure maybe region keeps)
@@ -143,13 +141,13 @@ others_half m some sure maybe keeps =
     subst (λ (more : List Image). Keeps (sure ++ []) (maybe ++ more) m.region) (sym (no_more some (new_marks m.region.marks []))) (as_before sure maybe m.region keeps)
 
 half_said_keeps : (m : Machine) (flags : List Bool) (said : Result Asked Refusal) (sure maybe : List Image) → Keeps sure maybe m.region
-    → Keeps (sure ++ []) (maybe ++ (if list_any (λ flag. flag) flags then accepted_images (deliveries_asked said) (new_marks m.region.marks (deliveries_asked said)) else [])) (half_doing m flags said).machine.region
-half_said_keeps m flags (Ok (deliver deliveries)) sure maybe keeps = half_keeps m.region deliveries flags sure maybe (list_any (λ flag. flag) flags) (new_marks m.region.marks deliveries) refl refl keeps
-half_said_keeps m flags (Ok marks) sure maybe keeps = others_half m (list_any (λ flag. flag) flags) sure maybe keeps
-half_said_keeps m flags (Ok (read key)) sure maybe keeps = others_half m (list_any (λ flag. flag) flags) sure maybe keeps
-half_said_keeps m flags (Ok scan) sure maybe keeps = others_half m (list_any (λ flag. flag) flags) sure maybe keeps
-half_said_keeps m flags (Ok tablets) sure maybe keeps = others_half m (list_any (λ flag. flag) flags) sure maybe keeps
-half_said_keeps m flags (Err refusal) sure maybe keeps = others_half m (list_any (λ flag. flag) flags) sure maybe keeps
+    → Keeps (sure ++ []) (maybe ++ (if some_tablet flags m.region.tablets then accepted_images (deliveries_asked said) (new_marks m.region.marks (deliveries_asked said)) else [])) (half_doing m flags said).machine.region
+half_said_keeps m flags (Ok (deliver deliveries)) sure maybe keeps = half_keeps m.region deliveries flags sure maybe (some_tablet flags m.region.tablets) (new_marks m.region.marks deliveries) refl refl keeps
+half_said_keeps m flags (Ok marks) sure maybe keeps = others_half m (some_tablet flags m.region.tablets) sure maybe keeps
+half_said_keeps m flags (Ok (read key)) sure maybe keeps = others_half m (some_tablet flags m.region.tablets) sure maybe keeps
+half_said_keeps m flags (Ok scan) sure maybe keeps = others_half m (some_tablet flags m.region.tablets) sure maybe keeps
+half_said_keeps m flags (Ok tablets) sure maybe keeps = others_half m (some_tablet flags m.region.tablets) sure maybe keeps
+half_said_keeps m flags (Err refusal) sure maybe keeps = others_half m (some_tablet flags m.region.tablets) sure maybe keeps
 
 turn_keeps : (m : Machine) (outcome : Outcome) (text : List ℕ) (sure maybe : List Image) → Keeps sure maybe m.region
     → Keeps (sure ++ images_taken m outcome text) (maybe ++ images_left m outcome text) (turn m outcome text).machine.region

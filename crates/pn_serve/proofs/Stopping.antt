@@ -1,27 +1,25 @@
 -- What was written where a script is not answered to its end.
-use Rattle.std.proofs.Common.{◌≡◌, ◌≢◌, ℕ, zero, suc, ◌+◌, ◌<◌, ◌≤◌, Option, None, Some, List, [], ◌∷◌, ◌++◌, length, All, IfSome, OnSome, inl, inr, refl, sym, ap, ◌∙◌, subst, arith, append-nil, append_assoc}
+use Rattle.std.proofs.Common.{◌≡◌, ◌≢◌, ℕ, ◌+◌, ◌<◌, ◌≤◌, Option, None, Some, List, [], ◌∷◌, ◌++◌, length, IfSome, OnSome, inl, inr, refl, sym, ap, ◌∙◌, subst, arith, append-nil, append_assoc}
 use Rattle.std.specs.Io.KnownBytes.{Appends, IsAtEnd, Keeps}
 use Rattle.std.proofs.lemmas.Bool.{cases_eq}
 use Rattle.std.proofs.lemmas.List.{length_push}
 use Rattle.std.proofs.lemmas.List.Elements.{All-nil}
 use Rattle.pn_line.specs.Line.{LineSoFar, so_far}
-use Rattle.pn_line.specs.LinesRead.{LinesRead, PartRead}
 use Rattle.pn_line.specs.Reads.{Takes, IsUnbroken}
-use Rattle.pn_line.specs.Sent.{Sends, AppendsFront}
+use Rattle.pn_line.specs.Sent.{AppendsFront}
 use Rattle.pn_line.specs.Text.{lines_of, onto_first}
 use Rattle.pn_line.proofs.LinesReadLaws.{LinesRead-line, LinesRead-end, LinesRead-part}
 use Rattle.pn_line.proofs.SentLaws.{Sends-flushed, Sends-cut, Sends-cut_flush, AppendsFront-more}
 use Rattle.pn_line.proofs.TextLaws.{lines_of-line, lines_of-byte, lines_of-text, lines_of-begun}
 use Rattle.pn_region.specs.Regions.{RegionState}
 use Rattle.pn_serve.specs.AnsweredLine.{Answered, AnsweredInPart}
-use Rattle.pn_serve.specs.Commands.{command_at}
 use Rattle.pn_serve.specs.Machine.{Outcome, Machine, turn, serving}
 use Rattle.pn_serve.specs.Replying.{reply_text, is_refusal}
 use Rattle.pn_serve.specs.declared.running.Counts.{Counts}
-use Rattle.pn_serve.specs.Runs.{Broken, Cut, Exceeded, lines_within}
+use Rattle.pn_serve.specs.Runs.{Broken, Cut, Exceeded}
 use Rattle.pn_serve.specs.Script.{replies_from, machine_after, one_if}
 use Rattle.pn_serve.proofs.Serving.{Answers, Answers-line, Served, replies_from-push, turned_kept, lines_left, some_same, one_line}
-use Rattle.pn_serve.proofs.Within.{IsShort, within-million, within-endless, not_all}
+use Rattle.pn_serve.proofs.Within.{within-million, within-endless, not_all}
 
 -- the replies to lines, and then to more of them
 replies_from-more : (machine : Machine) (texts : List (List ℕ)) (outcomes : List Outcome) (more : List (List ℕ)) → length outcomes ≡ length texts

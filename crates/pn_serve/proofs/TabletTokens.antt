@@ -9,7 +9,7 @@ use Rattle.json.specs.Print.{print}
 use Rattle.json.specs.Token.{Token, begin_object, end_object}
 use Rattle.json.specs.Tree.{members_tokens}
 use Rattle.json.specs.Written.{Written}
-use Rattle.serde_json.specs.Data.{Data, object}
+use Rattle.serde_json.specs.Data.{Data}
 use Rattle.serde_json.specs.Written.{members_outline}
 use Rattle.serde_json.proofs.Texts.{print-outline}
 use Rattle.pn_join.specs.Marks.{Positions}

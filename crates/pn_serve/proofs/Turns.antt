@@ -1,12 +1,10 @@
 -- What lines that say something do, by what the program did.
-use Rattle.std.proofs.Common.{◌≡◌, ℕ, Bool, true, false, cond, List, [], ◌∷◌, Option, refl, sym, ap, ◌∙◌, subst, ◌⊎◌, inl, inr}
+use Rattle.std.proofs.Common.{◌≡◌, ℕ, Bool, true, false, List, [], ◌∷◌, refl, sym, ap, ◌∙◌, inl, inr}
 use Rattle.std.specs.Prelude.{Result, Ok, Err, Vec, MatchResult}
 use Rattle.std.specs.declared.alloc.Global.{Global}
-use Rattle.std.specs.Result.{result_map_both}
 use Rattle.pn_join.specs.Marks.{Positions}
 use Rattle.pn_stream.specs.Positions.{Delivered}
 use Rattle.pn_tablet.specs.Tablets.{Tablet}
-use Rattle.pn_tablet.specs.Steps.{stepped}
 use Rattle.pn_tablet.specs.declared.op.TabletOp.{TabletOp}
 use Rattle.pn_apply.specs.Applying.{AreOldOrStepped}
 use Rattle.pn_region.specs.Marking.{new_marks}
@@ -14,12 +12,11 @@ use Rattle.pn_region.specs.Regions.{RegionState}
 use Rattle.pn_region.specs.Rounds.{joins, changed, IsHalfTaken}
 use Rattle.pn_region.specs.Rounds.{round as taken_round}
 use Rattle.pn_region.specs.declared.fault.RoundFault.{RoundFault}
-use Rattle.pn_serve.specs.declared.answering.Reply.{Reply}
 use Rattle.pn_serve.specs.declared.answering.Reply.TheVariants.{Changed, Text, Refused, NotTaken}
 use Rattle.pn_serve.specs.declared.refusal.Refusal.{Refusal}
 use Rattle.pn_serve.specs.declared.refusal.Refusal.TheVariants.{Memory}
 use Rattle.pn_serve.specs.Asked.{Asked, deliver}
-use Rattle.pn_serve.specs.Machine.{Outcome, done, line, round, Turn, doing, delivering, some_stepped, half_by, turn_of, serving, showing}
+use Rattle.pn_serve.specs.Machine.{done, line, round, Turn, doing, delivering, some_stepped, half_by, serving, showing}
 use Rattle.pn_serve.specs.Replies.{changed_data, fault_data}
 use Rattle.pn_serve.specs.Replying.{Turned}
 use Rattle.pn_serve.specs.Rows.{line_of}

@@ -1,10 +1,11 @@
 -- The replies to a script, from a region on.
-use Rattle.std.specs.Prelude.{ℕ, ◌+◌, Bool, true, false, if◌then◌else◌, List, [], ◌∷◌, ◌++◌, Contains, Result, Ok, Err}
+use Rattle.std.specs.Prelude.{ℕ, ◌+◌, Bool, true, false, if◌then◌else◌, List, [], ◌∷◌, ◌++◌, length, take, Contains, Result, Ok, Err}
 use Rattle.std.specs.List.{list_any}
 use Rattle.pn_join.specs.Marks.{Positions}
 use Rattle.pn_line.specs.Text.{lines_of}
 use Rattle.pn_record.specs.declared.image.Image.{Image}
 use Rattle.pn_stream.specs.Positions.{Delivered}
+use Rattle.pn_tablet.specs.Tablets.{Tablet}
 use Rattle.pn_apply.specs.Reducing.{all_images}
 use Rattle.pn_region.specs.Marking.{new_marks}
 use Rattle.pn_region.specs.Regions.{RegionState}
@@ -83,12 +84,16 @@ images_taken machine line text = []
 images_taken machine call text = []
 images_taken machine (round which) text = []
 
+-- one of the tablets has a flag
+abbrev pub some_tablet : List Bool → List Tablet → Bool
+some_tablet which all = list_any (λ flag. flag) (take (length all) which)
+
 -- the images that a line left in some tablets, where its round ended without memory
 abbrev pub images_left : Machine → Outcome → List ℕ → List Image
 images_left machine done text = []
 images_left machine line text = []
 images_left machine call text = []
-images_left machine (round which) text = if list_any (λ flag. flag) which then images_brought machine text else []
+images_left machine (round which) text = if some_tablet which machine.region.tablets then images_brought machine text else []
 
 -- the images that lines took, in order
 abbrev pub taken_from : Machine → List (List ℕ) → List Outcome → List Image

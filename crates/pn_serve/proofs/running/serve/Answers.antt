@@ -1,5 +1,5 @@
 -- Each line read and answered goes on from what was served.
-use Rattle.std.proofs.Common.{◌+◌, ◌<◌, ◌≤◌, ◌≡◌, ◌≢◌, rules, refl, ap, ◌∙◌, arith}
+use Rattle.std.proofs.Common.{◌+◌, rules, refl, ap, ◌∙◌, arith}
 use Rattle.pn_serve.proofs.Serving.{Begins, OnTold, Goes_on, Last, Served-end, Served-flush, Ends, refused_within}
 use Rattle.pn_serve.proofs.Stopping.{Served-cut, Served-cut_line, Served-cut_last, Last-cut, Served-broken_end, Served-endless, Exceeds}
 use Rattle.pn_serve.proofs.running.serve.Goals.{then-not-more+in_ok-flush-in-Newline, else-not-more}

@@ -1,5 +1,4 @@
 -- The text is the line of the value that was written.
-use Rattle.std.proofs.Common.{Vec}
 use Rattle.std.proofs.lemmas.Result.{IfOk-weaker}
 use Rattle.pn_region.specs.Regions.{all_cells}
 use Rattle.pn_serve.specs.Rows.{scan_data}

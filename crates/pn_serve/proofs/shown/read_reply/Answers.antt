@@ -1,5 +1,5 @@
 -- The text is the line of the value that was written.
-use Rattle.std.proofs.Common.{Vec, Option, ap}
+use Rattle.std.proofs.Common.{Option, ap}
 use Rattle.pn_record.specs.Sets.{Celled}
 use Rattle.pn_serve.specs.Tokens.{value_tokens}
 use Rattle.pn_serve.proofs.RowTokens.{appends_as}
