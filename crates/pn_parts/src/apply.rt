@@ -3,40 +3,15 @@ ghost use Rattle.std.specs.Prelude.{◌≡◌, map, IfOk};
 ghost use Rattle.std.specs.Option.{option_copied};
 ghost use Rattle.pn_apply.specs.Reducing.{ranges};
 
+use crate::given::{delivery, layout, marks};
 use pn_apply::{Gate, Open, apply_all, reduce, reduce_owned};
-use pn_join::{Dup, Highest, Marks, Name};
-use pn_record::{Key, KeyFault, read_image};
+use pn_join::Dup;
+use pn_record::{Key, KeyFault};
 use pn_stream::Delivery;
 use pn_tablet::{Change, Layout, Range, TabletOp, TabletState};
 use std::alloc::Global;
 use std::cell::Cell;
 use std::test::Fail;
-
-// One delivery of an image at each of these keys, all of one version.
-fn delivery(alloc: Global, keys: &[&str]) -> Result<Delivery, Fail> {
-    let mut images = Vec::with_capacity(alloc, keys.len())?;
-    for key in keys {
-        let line = format!(in alloc;
-            "{{\"fields\":{{\"v\":\"x\"}},\"key\":\"{key}\",\"master\":\"w\",\"version\":[1,0]}}"
-        )?;
-        images.push(read_image(alloc, line.as_bytes())?)?;
-    }
-    Ok(Delivery::new(Name::read(b"east")?, 1, images).ok_or(KeyFault::OutOfRange)?)
-}
-
-fn marks(alloc: Global) -> Result<Marks, Fail> {
-    let mut marks = Marks::new(alloc);
-    marks.join_entry(Name::read(b"east")?, Highest(3))?;
-    Ok(marks)
-}
-
-fn layout(alloc: Global, bounds: &[&str]) -> Result<Layout, Fail> {
-    let mut keys = Vec::with_capacity(alloc, bounds.len())?;
-    for bound in bounds {
-        keys.push(Key::of(alloc, bound)?)?;
-    }
-    Ok(Layout::new(keys)?)
-}
 
 fn copied(key: Option<&Key>) -> Result<Option<Key>, Fail>
     ensures { IfOk result (λ copy. copy ≡ option_copied key.entry) }
@@ -135,10 +110,10 @@ fn nobody() -> Counts {
 fn two_tablets_get_their_images_with_any_number_of_workers(rt: HostRuntime) -> Result<(), Fail> {
     let alloc = rt.alloc();
     let layout = layout(alloc, &["m"])?;
-    let marks = marks(alloc)?;
+    let marks = marks(alloc, &["east"])?;
     let want = "l@1 east:3; m@1 n@1 east:3; ";
     for workers in [1, 2, 16] {
-        let deliveries = vec![in alloc; delivery(alloc, &["n", "l", "m"])?]?;
+        let deliveries = vec![in alloc; delivery(alloc, "east", 1, &["n", "l", "m"])?]?;
         let copied = reduce(alloc, &deliveries, &layout, &marks, workers, &Open)?;
         let moved = reduce_owned(alloc, deliveries, &layout, &marks, workers, &Open)?;
         assert_eq!(rt; all_joined(alloc, &copied)?.as_str(), want);
@@ -155,7 +130,7 @@ fn taken(
     first: &Counts,
     second: &Counts,
 ) -> Result<Vec<Vec<Change>>, Fail> {
-    let marks = marks(alloc)?;
+    let marks = marks(alloc, &["east"])?;
     let operations = reduce(alloc, deliveries, layout, &marks, 2, first)?;
     let mut tablets = tablets_of(alloc, layout)?;
     Ok(apply_all(alloc, tablets.as_mut_slice(), &operations, 2, second)?)
@@ -165,7 +140,10 @@ fn taken(
 fn changes_come_in_the_order_of_the_tablets(rt: HostRuntime) -> Result<(), Fail> {
     let alloc = rt.alloc();
     let layout = layout(alloc, &["m"])?;
-    let deliveries = [delivery(alloc, &["n", "l"])?, delivery(alloc, &["m", "n"])?];
+    let deliveries = [
+        delivery(alloc, "east", 1, &["n", "l"])?,
+        delivery(alloc, "east", 1, &["m", "n"])?,
+    ];
     let changes = taken(alloc, &deliveries, &layout, &nobody(), &nobody())?;
     assert_eq!(rt; changes.len(), 2);
     for (list, want) in changes.iter().zip(["l true ", "m true n true "]) {
@@ -178,7 +156,7 @@ fn changes_come_in_the_order_of_the_tablets(rt: HostRuntime) -> Result<(), Fail>
 fn each_tablet_is_entered_once_in_each_call_in_rising_order(rt: HostRuntime) -> Result<(), Fail> {
     let alloc = rt.alloc();
     let layout = layout(alloc, &["c", "m", "x"])?;
-    let deliveries = [delivery(alloc, &["m", "z"])?];
+    let deliveries = [delivery(alloc, "east", 1, &["m", "z"])?];
     let (first, second) = (nobody(), nobody());
     assert_eq!(rt;
         taken(alloc, &deliveries, &layout, &first, &second)?.len(),

@@ -6,9 +6,13 @@
 #[cfg(test)]
 mod apply;
 #[cfg(test)]
+mod given;
+#[cfg(test)]
 mod join;
 #[cfg(test)]
 mod line;
+#[cfg(test)]
+mod pieces;
 #[cfg(test)]
 mod record;
 #[cfg(test)]

@@ -1,38 +1,13 @@
 //! Lines from readers in pieces, and writers that take little, nothing, or fail.
-use pn_line::*;
+use crate::pieces::Pieces;
+use pn_line::{
+    Discard, InMemory, LineBuffer, LineEnd, OUTBOX_ROOM, Outbox, Sink, Source, WriteFault,
+    read_line, write_all_of,
+};
 use std::alloc::Global;
 use std::io;
 use std::io::{BufRead, ErrorKind, Read, Write};
 use std::test::Fail;
-
-// A reader that shows at most `size` bytes at a time, and fails at look number `fails_at`.
-#[derive(Drop)]
-struct Pieces<'a> {
-    rest: &'a [u8],
-    size: usize,
-    looks: usize,
-    fails_at: usize,
-}
-
-impl Read for Pieces<'_> {
-    fn read(&mut self, _buf: &mut [u8]) -> io::Result<usize> {
-        Err(io::Error::from(ErrorKind::Unsupported))
-    }
-}
-
-impl BufRead for Pieces<'_> {
-    fn fill_buf(&mut self) -> io::Result<&[u8]> {
-        self.looks = self.looks.wrapping_add(1);
-        if self.looks == self.fails_at {
-            return Err(io::Error::from(ErrorKind::Interrupted));
-        }
-        Ok(&self.rest[..self.size.min(self.rest.len())])
-    }
-
-    fn consume(&mut self, amount: usize) {
-        self.rest = &self.rest[amount.min(self.rest.len())..];
-    }
-}
 
 // Each line of a source with a mark for how it ended, and what a further read says.
 fn marked<S: Source>(alloc: Global, source: &mut S) -> io::Result<Vec<u8>> {
@@ -59,12 +34,7 @@ fn lines_come_whole_from_pieces(rt: HostRuntime) -> Result<(), Fail> {
     let text = b"one\n\ntwo\r\n{\"a\":1}\nlast";
     let want = b"one||two\r|{\"a\":1}|last.";
     for size in [1, 2, 7] {
-        let mut reader = Pieces {
-            rest: text,
-            size,
-            looks: 0,
-            fails_at: 0,
-        };
+        let mut reader = Pieces::new(text, size);
         let lines = marked(rt.alloc(), &mut reader)?;
         assert_eq!(rt; lines.as_slice(), want.as_slice(), "in pieces of {size}");
     }
@@ -101,12 +71,7 @@ fn a_line_one_byte_over_is_too_long(rt: HostRuntime) -> Result<(), Fail> {
     ] {
         let mut text = vec![in rt.alloc(); b'x'; bytes]?;
         text.extend_from_slice(b"\nnext\n")?;
-        let mut reader = Pieces {
-            rest: &text,
-            size: 10_000,
-            looks: 0,
-            fails_at: 0,
-        };
+        let mut reader = Pieces::new(&text, 10_000);
         let mut line = LineBuffer::new(rt.alloc())?;
         let end = read_line(&mut line, &mut reader)?;
         assert!(rt; matches!(end, LineEnd::Newline { .. }), "{bytes} bytes end");
@@ -155,12 +120,7 @@ fn a_line_of_a_billion_bytes_is_endless(rt: HostRuntime) -> Result<(), Fail> {
 #[test]
 fn a_read_goes_on_after_an_error(rt: HostRuntime) -> Result<(), Fail> {
     for fails_at in 1..6 {
-        let mut reader = Pieces {
-            rest: b"12345\n7",
-            size: 2,
-            looks: 0,
-            fails_at,
-        };
+        let mut reader = Pieces::failing(b"12345\n7", 2, fails_at);
         let mut line = LineBuffer::new(rt.alloc())?;
         let first = read_line(&mut line, &mut reader);
         assert_eq!(rt; first.is_err(), fails_at <= 3, "at {fails_at}");

@@ -1,34 +1,12 @@
 //! Rounds over two tablets, and the marks of deliveries.
 
+use crate::given::{delivery, layout, marks};
 use pn_apply::Open;
-use pn_join::{Highest, Marks, Name};
-use pn_record::{Key, KeyFault, read_image};
+use pn_join::Marks;
 use pn_region::{Region, RoundFault, next_marks};
 use pn_stream::Delivery;
-use pn_tablet::Layout;
 use std::alloc::Global;
 use std::test::Fail;
-
-// A delivery from this position on of an image at each of these keys, all of one version.
-fn delivery(alloc: Global, stream: &str, first: u64, keys: &[&str]) -> Result<Delivery, Fail> {
-    let mut images = Vec::with_capacity(alloc, keys.len())?;
-    for key in keys {
-        let line = format!(in alloc;
-            "{{\"fields\":{{\"v\":\"x\"}},\"key\":\"{key}\",\"master\":\"w\",\"version\":[1,0]}}"
-        )?;
-        images.push(read_image(alloc, line.as_bytes())?)?;
-    }
-    Ok(Delivery::new(Name::read(stream.as_bytes())?, first, images).ok_or(KeyFault::OutOfRange)?)
-}
-
-// Marks of the streams, each with its first three positions taken.
-fn marks(alloc: Global, streams: &[&str]) -> Result<Marks, Fail> {
-    let mut marks = Marks::new(alloc);
-    for stream in streams {
-        marks.join_entry(Name::read(stream.as_bytes())?, Highest(3))?;
-    }
-    Ok(marks)
-}
 
 // Each stream with its position.
 fn text_of(alloc: Global, marks: &Marks) -> Result<String, Fail> {
@@ -107,9 +85,7 @@ fn a_seventeenth_stream_is_refused(rt: HostRuntime) -> Result<(), Fail> {
 
 // A new region of two tablets.
 fn region(alloc: Global) -> Result<Region, Fail> {
-    let mut bounds = Vec::new(alloc);
-    bounds.push(Key::of(alloc, "m")?)?;
-    Ok(Region::new(alloc, Layout::new(bounds)?)?)
+    Ok(Region::new(alloc, layout(alloc, &["m"])?)?)
 }
 
 // How many records a round of one delivery from the start of a stream changes.

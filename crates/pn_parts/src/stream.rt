@@ -1,4 +1,5 @@
 //! Streams that come in pieces or fail, and messages and lines at the edge of their limits.
+use crate::pieces::Pieces;
 use pn_join::{Name, StreamName};
 use pn_line::{InMemory, Source};
 use pn_record::{ImageFault, Member};
@@ -7,35 +8,6 @@ use std::alloc::Global;
 use std::io;
 use std::io::{BufRead, ErrorKind, Read};
 use std::test::Fail;
-
-// Shows at most `size` bytes at a time, and fails at look number `fails_at`.
-#[derive(Drop)]
-struct Pieces<'a> {
-    rest: &'a [u8],
-    size: usize,
-    looks: usize,
-    fails_at: usize,
-}
-
-impl Read for Pieces<'_> {
-    fn read(&mut self, _buf: &mut [u8]) -> io::Result<usize> {
-        Err(io::Error::from(ErrorKind::Unsupported))
-    }
-}
-
-impl BufRead for Pieces<'_> {
-    fn fill_buf(&mut self) -> io::Result<&[u8]> {
-        self.looks = self.looks.wrapping_add(1);
-        if self.looks == self.fails_at {
-            return Err(io::Error::from(ErrorKind::ConnectionReset));
-        }
-        Ok(&self.rest[..self.size.min(self.rest.len())])
-    }
-
-    fn consume(&mut self, amount: usize) {
-        self.rest = &self.rest[amount.min(self.rest.len())..];
-    }
-}
 
 // A pipe into which the first bytes were written, and the others only after it was found empty.
 #[derive(Drop)]
@@ -299,12 +271,7 @@ fn a_reader_that_fails_gives_what_came_first(rt: HostRuntime) -> Result<(), Fail
 
     // A line takes three looks at 30 bytes.
     for fails_at in 1..17 {
-        let source = Pieces {
-            rest: text.as_bytes(),
-            size: 30,
-            looks: 0,
-            fails_at,
-        };
+        let source = Pieces::failing(text.as_bytes(), 30, fails_at);
         let mut reader = StreamReader::new(alloc, east()?, 0, source);
         let want = fails_at.saturating_sub(1) / 3;
         if want > 0 {
@@ -334,12 +301,7 @@ fn a_line_may_have_65_536_bytes(rt: HostRuntime) -> Result<(), Fail> {
     for (spaces, is_taken) in [(65_536 - 77, true), (65_537 - 77, false)] {
         let mut text = vec![in alloc; b' '; spaces]?;
         text.extend_from_slice(message(alloc, 1)?.as_bytes())?;
-        let source = Pieces {
-            rest: &text,
-            size: 4_096,
-            looks: 0,
-            fails_at: 0,
-        };
+        let source = Pieces::new(&text, 4_096);
         let mut reader = StreamReader::new(alloc, east()?, 0, source);
         let fault = reader.next_batch(1).err();
         assert_eq!(rt; fault.is_none(), is_taken);

@@ -6,7 +6,7 @@ use Rattle.std.proofs.lemmas.List.Elements.{Contains-append_left, Contains-appen
 use Rattle.pn_join.specs.Marks.{Positions, Reaches, position_of, raised}
 use Rattle.pn_join.proofs.MarksFacts.{position_of-raised}
 use Rattle.pn_record.specs.declared.image.Image.{Image}
-use Rattle.pn_record.specs.Cells.{spell}
+use Rattle.pn_record.specs.Cells.{spell, SameImages}
 use Rattle.pn_record.specs.CellMap.{Entries, table_of, adds}
 use Rattle.pn_record.proofs.CellMaps.{table_of-nil}
 use Rattle.pn_stream.specs.Positions.{Delivered}
@@ -18,15 +18,16 @@ use Rattle.pn_tablet.specs.Steps.{taking, stepped}
 use Rattle.pn_tablet.specs.Tablets.{Tablet, empty_tablet}
 use Rattle.pn_apply.specs.Applying.{all_stepped, AreOldOrStepped}
 use Rattle.pn_apply.specs.Reducing.{all_images, images_in, join_in, ranges}
-use Rattle.pn_apply.proofs.ReduceLaws.{range_joins}
+use Rattle.pn_apply.proofs.ReduceLaws.{range_joins, same_in}
 use Rattle.pn_region.specs.Faith.{missing, IsFaithful, AreFaithful}
+use Rattle.pn_region.specs.Laws.{HasImages}
 use Rattle.pn_region.specs.Marking.{new_marks, last_position}
 use Rattle.pn_region.specs.Regions.{RegionState, IsTabletOf, AreTabletsOf, IsRegion, new_region}
 use Rattle.pn_region.specs.Rounds.{joins, IsHalfTaken}
 use Rattle.pn_region.specs.Rounds as rounds
-use Rattle.pn_region.proofs.MarkLaws.{not_skipped, next_has_last}
+use Rattle.pn_region.proofs.MarkLaws.{not_skipped, next_has_last, next_reaches}
 use Rattle.pn_region.proofs.RoundSteps.{is_taken}
-use Rattle.pn_region.proofs.TakenImages.{by_part}
+use Rattle.pn_region.proofs.TakenImages.{by_part, pieces_of, round_takes}
 
 one_empty : (broker : BrokerRecord) (r : Ends) → IsFaithful broker (empty_tablet r)
 one_empty broker r = record {
@@ -69,6 +70,31 @@ module _ (broker : BrokerRecord) (marks next : Positions) (deliveries : List Del
       (is_brought broker has.delivery image (honest has.delivery has.there) at has.from has.before
       (subst (λ name. at < length (broker name)) (sym has.stream) within)
       (subst (λ name. get_or (broker name) at image ≡ image) (sym has.stream) is))
+
+  same_to_next : SameImages (up_to broker marks ++ images) (up_to broker next)
+  same_to_next image = (
+    by_part (up_to broker marks) images image
+        (λ there.
+        let old = published broker marks image there in
+        is_up_to broker next old.stream image
+        (wider (position_of marks old.stream) (position_of next old.stream) (broker old.stream) image (next_reaches marks next deliveries accepted old.stream) old.stands))
+        (brought next (λ name. omega arith) image),
+    λ there.
+        let new = published broker next image there in
+        old_or_new image new.stream new.stands,
+  )
+    where
+      old_or_new : (image : Image) (stream : List ℕ) → Stands (broker stream) (position_of next stream) image → Contains (up_to broker marks ++ images) image
+      old_or_new image stream stands =
+          elim (nat_lt stands.at (position_of marks stream)) as (λ b. nat_lt stands.at (position_of marks stream) ≡ b → Contains (up_to broker marks ++ images) image) [
+            | true ↦ λ before.
+                Contains-append_left (up_to broker marks) images image
+                (is_up_to broker marks stream image (record { at = stands.at; below = grind (arith, nat_tests); within = stands.within; is = stands.is }))
+            | false ↦ λ past.
+                let reached : position_of marks stream ≤ stands.at = grind (arith, nat_tests) in
+                Contains-append_right (up_to broker marks) images image
+                (was_brought stream image stands.at (omega (arith, reached)) (omega (arith, stands.below)) stands.within stands.is)
+          ] refl
 
   module _ (r : Ends) (t : Tablet) (of : IsTabletOf marks r t) (faithful : IsFaithful broker t) where
     -- the images up to the raised cover: those up to the old one, and those that were brought
@@ -140,3 +166,14 @@ half_keeps broker old new deliveries is faithful honest left =
       | Ok marks ↦ λ accepted half. all_half broker old.marks marks deliveries honest accepted (ranges old.layout) old.tablets new.tablets is.tablets faithful half
       | Err fault ↦ λ refused same. subst (AreFaithful broker) (sym same) faithful
     ] refl left.2
+
+same_pieces : (some others : List Image) (rs : List Ends) → SameImages some others → pieces_of some rs ≡ pieces_of others rs
+same_pieces some others [] same = refl
+same_pieces some others (r ∷ rs) same = λ i. same_in r some others same i ∷ same_pieces some others rs same i
+
+-- where a region has just the images up to its marks, it has just those up to its new ones
+pub round_up_to : (broker : BrokerRecord) (region : RegionState) (deliveries : List Delivered) (marks : Positions) → IsRegion region → HasImages region (up_to broker region.marks) → AreHonest broker deliveries
+    → new_marks region.marks deliveries ≡ Ok marks → HasImages (rounds.taking region deliveries marks) (up_to broker marks)
+round_up_to broker region deliveries marks is has honest accepted =
+    round_takes region deliveries marks (up_to broker region.marks) is has
+    ∙ same_pieces (up_to broker region.marks ++ all_images deliveries) (up_to broker marks) (ranges region.layout) (same_to_next broker region.marks marks deliveries honest accepted)

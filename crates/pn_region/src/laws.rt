@@ -137,6 +137,17 @@ pub fn honest_rounds_keep_tablets_faithful()
         → IsHalfTaken old deliveries new → AreFaithful broker new.tablets }
 {}
 
+/// Marks tell what was taken: a new region has just the images up to its marks, which are none, and where one has
+/// just these it has just those up to its new marks after a round of honest deliveries.
+pub fn marks_tell_what_was_taken()
+    ensures new { (broker : BrokerRecord) (bounds : Bounds)
+        → HasImages (new_region bounds) (up_to broker (new_region bounds).marks) }
+    ensures taken { (broker : BrokerRecord) (region : RegionState) (deliveries : List Delivered) (marks : Positions)
+        → IsRegion region → HasImages region (up_to broker region.marks) → AreHonest broker deliveries
+        → new_marks region.marks deliveries ≡ Ok marks
+        → HasImages (taking region deliveries marks) (up_to broker marks) }
+{}
+
 /// A tablet that is lost is faithful, and an honest copy that is adopted keeps a tablet faithful. A faithful
 /// tablet that serves has the cells of all images in its range up to its cover, and the copy that it gives is
 /// honest.

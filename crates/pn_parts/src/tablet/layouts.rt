@@ -1,23 +1,11 @@
 //! Layouts, and the tablets of keys.
 
+use crate::given::{keys, layout};
 use pn_join::Dup;
 use pn_record::Key;
 use pn_tablet::{Layout, LayoutFault};
 use std::alloc::Global;
 use std::test::Fail;
-
-fn keys(alloc: Global, texts: &[&str]) -> Result<Vec<Key>, Fail> {
-    let mut keys = Vec::new(alloc);
-    for text in texts {
-        keys.push(Key::of(alloc, text)?)?;
-    }
-    Ok(keys)
-}
-
-fn layout_of(alloc: Global, texts: &[&str]) -> Result<Layout, Fail> {
-    let keys = keys(alloc, texts)?;
-    Ok(Layout::new(keys)?)
-}
 
 fn fault_of(alloc: Global, texts: &[&str]) -> Result<Option<LayoutFault>, Fail> {
     let keys = keys(alloc, texts)?;
@@ -83,7 +71,7 @@ fn faults_are_printed(rt: HostRuntime) -> Result<(), Fail> {
 #[test]
 fn keys_have_their_tablets(rt: HostRuntime) -> Result<(), Fail> {
     let alloc = rt.alloc();
-    let layout = layout_of(alloc, &["m", "t"])?.dup()?;
+    let layout = layout(alloc, &["m", "t"])?.dup()?;
     assert_eq!(rt; layout.count(), 3);
     for (text, tablet) in [("a", 0), ("lz", 0), ("m", 1), ("s", 1), ("t", 2), ("z", 2)] {
         assert_eq!(rt; tablet_at(alloc, &layout, text)?, tablet);
@@ -93,7 +81,7 @@ fn keys_have_their_tablets(rt: HostRuntime) -> Result<(), Fail> {
 
 #[test]
 fn tablets_have_their_ends(rt: HostRuntime) -> Result<(), Fail> {
-    let layout = layout_of(rt.alloc(), &["m", "t"])?;
+    let layout = layout(rt.alloc(), &["m", "t"])?;
     assert!(rt; has_ends(&layout, 0, None, Some("m")));
     assert!(rt; has_ends(&layout, 1, Some("m"), Some("t")));
     assert!(rt; has_ends(&layout, 2, Some("t"), None));
@@ -110,7 +98,7 @@ fn one_tablet_has_no_ends(rt: HostRuntime) -> Result<(), Fail> {
 
 #[test]
 fn a_first_tablet_may_hold_no_key(rt: HostRuntime) -> Result<(), Fail> {
-    let layout = layout_of(rt.alloc(), &["\0"])?;
+    let layout = layout(rt.alloc(), &["\0"])?;
     assert_eq!(rt; tablet_at(rt.alloc(), &layout, "\0")?, 1);
     Ok(())
 }
