@@ -6,7 +6,7 @@ use Rattle.std.specs.List.Sorted.{IsStrictlySortedBy}
 use Rattle.std.specs.FinMap.{is_sorted}
 use Rattle.std.specs.FinMap.Entries.{below_all}
 use Rattle.pn_record.specs.Order.{bytes_cmp}
-use Rattle.pn_record.specs.Sets.{Celled}
+use Rattle.pn_record.specs.Sets.{CellValue}
 use Rattle.pn_record.specs.CellMap.{Entries}
 use Rattle.pn_record.proofs.Sorted.{first_true, second_true, is_less}
 use Rattle.pn_tablet.specs.Ranges.{Ends, is_below, is_from, in_range}
@@ -83,11 +83,11 @@ none_below test b key (e ∷ es) above below =
     ap (λ (t : Bool). cond (test e.0 && t) (e ∷ rest) rest) here ∙ ap (λ (t : Bool). cond t (e ∷ rest) rest) (and_false (test e.0))
     ∙ none_below test b key es above (second_true (is_lt (bytes_cmp key e.0)) (below_all bytes_cmp key es) below)
 
-low_step : (x : Bool) (e : List ℕ × Celled) (lows highs all : Entries) → lows ++ highs ≡ all → cond (x && true) (e ∷ lows) lows ++ highs ≡ cond x (e ∷ all) all
+low_step : (x : Bool) (e : List ℕ × CellValue) (lows highs all : Entries) → lows ++ highs ≡ all → cond (x && true) (e ∷ lows) lows ++ highs ≡ cond x (e ∷ all) all
 low_step true e lows highs all is = ap (λ (rest : Entries). e ∷ rest) is
 low_step false e lows highs all is = is
 
-high_step : (x : Bool) (e : List ℕ × Celled) (lows highs all : Entries) → x ≡ true → lows ≡ [] → lows ++ highs ≡ all → cond (x && false) (e ∷ lows) lows ++ (e ∷ highs) ≡ cond x (e ∷ all) all
+high_step : (x : Bool) (e : List ℕ × CellValue) (lows highs all : Entries) → x ≡ true → lows ≡ [] → lows ++ highs ≡ all → cond (x && false) (e ∷ lows) lows ++ (e ∷ highs) ≡ cond x (e ∷ all) all
 high_step true e lows highs all passes none is = ap (λ (l : Entries). l ++ (e ∷ highs)) none ∙ ap (λ (rest : Entries). e ∷ rest) (ap (λ (l : Entries). l ++ highs) (sym none) ∙ is)
 high_step false e lows highs all passes none is = cc
 

@@ -3,14 +3,14 @@ use Rattle.std.proofs.Common.{◌≡◌, ℕ, zero, suc, ◌+◌, ◌<◌, ◌�
 use Rattle.std.proofs.lemmas.List.{take_more, map-set, length-map}
 use Rattle.std.proofs.Math.Seq.{map-set_same}
 use Rattle.std.specs.Prelude.{Result, Ok, Err, OnErr}
-use Rattle.pn_tablet.specs.Tablets.{Tablet}
+use Rattle.pn_tablet.specs.Tablets.{TabletStateValue}
 use Rattle.pn_tablet.specs.Steps.{stepped}
 use Rattle.pn_tablet.specs.Changes.{answer}
 use Rattle.pn_tablet.specs.declared.change.Change.{Change}
 use Rattle.pn_tablet.specs.declared.op.TabletOp.{TabletOp}
 use Rattle.pn_apply.specs.Applying.{IsJoinIn, AreJoinsIn, all_stepped, all_changes, AreOldOrStepped}
 
-abbrev pub front_stepped : ℕ → List Tablet → List TabletOp → List Tablet
+abbrev pub front_stepped : ℕ → List TabletStateValue → List TabletOp → List TabletStateValue
 front_stepped zero ts ops = ts
 front_stepped (suc n) [] ops = []
 front_stepped (suc n) (t ∷ ts) [] = t ∷ ts
@@ -22,14 +22,14 @@ mapped_at f [] n d e within = absurd (omega arith)
 mapped_at f (x ∷ xs) zero d e within = refl
 mapped_at f (x ∷ xs) (suc n) d e within = mapped_at f xs n d e (omega arith)
 
-pub same_length : (ts : List Tablet) (ops : List TabletOp) → AreJoinsIn ts ops → length ts ≡ length ops
+pub same_length : (ts : List TabletStateValue) (ops : List TabletOp) → AreJoinsIn ts ops → length ts ≡ length ops
 same_length [] [] fit = refl
 same_length [] (op ∷ ops) fit = absurd fit
 same_length (t ∷ ts) [] fit = absurd fit
 same_length (t ∷ ts) (op ∷ ops) fit = ap suc (same_length ts ops fit.1)
 
 -- the operation at a place is a join in the range of the tablet there
-pub join_at : (ts : List Tablet) (ops : List TabletOp) (n : ℕ) (t : Tablet) (op : TabletOp) → AreJoinsIn ts ops → n < length ops → IsJoinIn (get_or ts n t) (get_or ops n op)
+pub join_at : (ts : List TabletStateValue) (ops : List TabletOp) (n : ℕ) (t : TabletStateValue) (op : TabletOp) → AreJoinsIn ts ops → n < length ops → IsJoinIn (get_or ts n t) (get_or ops n op)
 join_at [] [] n t op fit within = absurd (omega arith)
 join_at [] (o ∷ ops) n t op fit within = absurd fit
 join_at (u ∷ ts) [] n t op fit within = absurd fit
@@ -37,13 +37,13 @@ join_at (u ∷ ts) (o ∷ ops) zero t op fit within = fit.0
 join_at (u ∷ ts) (o ∷ ops) (suc n) t op fit within = join_at ts ops n t op fit.1 (omega arith)
 
 -- the next tablet is as it was
-pub untouched : (ts : List Tablet) (ops : List TabletOp) (n : ℕ) (t : Tablet) → get_or (front_stepped n ts ops) n t ≡ get_or ts n t
+pub untouched : (ts : List TabletStateValue) (ops : List TabletOp) (n : ℕ) (t : TabletStateValue) → get_or (front_stepped n ts ops) n t ≡ get_or ts n t
 untouched ts ops zero t = refl
 untouched [] ops (suc n) t = refl
 untouched (u ∷ ts) [] (suc n) t = refl
 untouched (u ∷ ts) (o ∷ ops) (suc n) t = untouched ts ops n t
 
-next_stepped : (ts : List Tablet) (ops : List TabletOp) (n : ℕ) (t : Tablet) (op : TabletOp) → AreJoinsIn ts ops → n < length ops
+next_stepped : (ts : List TabletStateValue) (ops : List TabletOp) (n : ℕ) (t : TabletStateValue) (op : TabletOp) → AreJoinsIn ts ops → n < length ops
     → set (front_stepped n ts ops) n (stepped (get_or ts n t) (get_or ops n op)) ≡ front_stepped (suc n) ts ops
 next_stepped [] [] n t op fit within = absurd (omega arith)
 next_stepped [] (o ∷ ops) n t op fit within = absurd fit
@@ -52,12 +52,12 @@ next_stepped (u ∷ ts) (o ∷ ops) zero t op fit within = refl
 next_stepped (u ∷ ts) (o ∷ ops) (suc n) t op fit within = ap (λ rest. stepped u o ∷ rest) (next_stepped ts ops n t op fit.1 (omega arith))
 
 -- one more takes its operation
-pub more_stepped : (ts : List Tablet) (ops : List TabletOp) (n : ℕ) (t : Tablet) (op : TabletOp) → AreJoinsIn ts ops → n < length ops
+pub more_stepped : (ts : List TabletStateValue) (ops : List TabletOp) (n : ℕ) (t : TabletStateValue) (op : TabletOp) → AreJoinsIn ts ops → n < length ops
     → set (front_stepped n ts ops) n (stepped (get_or ts n t) (get_or ops n op)) ≡ front_stepped (n + 1) ts ops
 more_stepped ts ops n t op fit within = next_stepped ts ops n t op fit within ∙ ap (λ k. front_stepped k ts ops) (sym (add-one n))
 
 -- in the end all have
-pub stepped_whole : (ts : List Tablet) (ops : List TabletOp) (n : ℕ) → AreJoinsIn ts ops → length ops ≤ n → front_stepped n ts ops ≡ all_stepped ts ops
+pub stepped_whole : (ts : List TabletStateValue) (ops : List TabletOp) (n : ℕ) → AreJoinsIn ts ops → length ops ≤ n → front_stepped n ts ops ≡ all_stepped ts ops
 stepped_whole [] [] zero fit past = refl
 stepped_whole [] [] (suc n) fit past = refl
 stepped_whole [] (o ∷ ops) n fit past = absurd fit
@@ -66,7 +66,7 @@ stepped_whole (u ∷ ts) (o ∷ ops) zero fit past = absurd (omega arith)
 stepped_whole (u ∷ ts) (o ∷ ops) (suc n) fit past = ap (λ rest. stepped u o ∷ rest) (stepped_whole ts ops n fit.1 (omega arith))
 
 -- at any time each is as it was or as its operation leaves it
-pub old_or_stepped : (ts : List Tablet) (ops : List TabletOp) (n : ℕ) → AreJoinsIn ts ops → AreOldOrStepped ts ops (front_stepped n ts ops)
+pub old_or_stepped : (ts : List TabletStateValue) (ops : List TabletOp) (n : ℕ) → AreJoinsIn ts ops → AreOldOrStepped ts ops (front_stepped n ts ops)
 old_or_stepped [] [] zero fit = tt
 old_or_stepped [] [] (suc n) fit = tt
 old_or_stepped [] (o ∷ ops) n fit = absurd fit
@@ -74,13 +74,13 @@ old_or_stepped (u ∷ ts) [] n fit = absurd fit
 old_or_stepped (u ∷ ts) (o ∷ ops) zero fit = (inl refl, old_or_stepped ts ops zero fit.1)
 old_or_stepped (u ∷ ts) (o ∷ ops) (suc n) fit = (inr refl, old_or_stepped ts ops n fit.1)
 
-length-changes : (ts : List Tablet) (ops : List TabletOp) → AreJoinsIn ts ops → length (all_changes ts ops) ≡ length ops
+length-changes : (ts : List TabletStateValue) (ops : List TabletOp) → AreJoinsIn ts ops → length (all_changes ts ops) ≡ length ops
 length-changes [] [] fit = refl
 length-changes [] (op ∷ ops) fit = absurd fit
 length-changes (t ∷ ts) [] fit = absurd fit
 length-changes (t ∷ ts) (op ∷ ops) fit = ap suc (length-changes ts ops fit.1)
 
-changes_at : (ts : List Tablet) (ops : List TabletOp) (n : ℕ) (t : Tablet) (op : TabletOp) → AreJoinsIn ts ops → n < length ops
+changes_at : (ts : List TabletStateValue) (ops : List TabletOp) (n : ℕ) (t : TabletStateValue) (op : TabletOp) → AreJoinsIn ts ops → n < length ops
     → get_or (all_changes ts ops) n [] ≡ answer (get_or ops n op) (get_or ts n t) (stepped (get_or ts n t) (get_or ops n op))
 changes_at [] [] n t op fit within = absurd (omega arith)
 changes_at [] (o ∷ ops) n t op fit within = absurd fit
@@ -89,14 +89,14 @@ changes_at (u ∷ ts) (o ∷ ops) zero t op fit within = refl
 changes_at (u ∷ ts) (o ∷ ops) (suc n) t op fit within = changes_at ts ops n t op fit.1 (omega arith)
 
 -- the changes of one more
-pub more_changes : (ts : List Tablet) (ops : List TabletOp) (n : ℕ) (t : Tablet) (op : TabletOp) → AreJoinsIn ts ops → n < length ops
+pub more_changes : (ts : List TabletStateValue) (ops : List TabletOp) (n : ℕ) (t : TabletStateValue) (op : TabletOp) → AreJoinsIn ts ops → n < length ops
     → take n (all_changes ts ops) ++ answer (get_or ops n op) (get_or ts n t) (stepped (get_or ts n t) (get_or ops n op)) ∷ [] ≡ take (n + 1) (all_changes ts ops)
 more_changes ts ops n t op fit within =
     let short : n < length (all_changes ts ops) = omega (arith, within, length-changes ts ops fit) in
     sym (take_more (all_changes ts ops) n [] short ∙ ap (λ x. take n (all_changes ts ops) ++ x ∷ []) (changes_at ts ops n t op fit within))
 
 -- the changes of all
-pub changes_whole : (ts : List Tablet) (ops : List TabletOp) (n : ℕ) → AreJoinsIn ts ops → length ops ≤ n → take n (all_changes ts ops) ≡ all_changes ts ops
+pub changes_whole : (ts : List TabletStateValue) (ops : List TabletOp) (n : ℕ) → AreJoinsIn ts ops → length ops ≤ n → take n (all_changes ts ops) ≡ all_changes ts ops
 changes_whole [] [] zero fit past = refl
 changes_whole [] [] (suc n) fit past = refl
 changes_whole [] (o ∷ ops) n fit past = absurd fit
@@ -104,7 +104,7 @@ changes_whole (u ∷ ts) [] n fit past = absurd fit
 changes_whole (u ∷ ts) (o ∷ ops) zero fit past = absurd (omega arith)
 changes_whole (u ∷ ts) (o ∷ ops) (suc n) fit past = ap (λ rest. answer o u (stepped u o) ∷ rest) (changes_whole ts ops n fit.1 (omega arith))
 
-length-front : (ts : List Tablet) (ops : List TabletOp) (n : ℕ) → length (front_stepped n ts ops) ≡ length ts
+length-front : (ts : List TabletStateValue) (ops : List TabletOp) (n : ℕ) → length (front_stepped n ts ops) ≡ length ts
 length-front ts ops zero = refl
 length-front [] ops (suc n) = refl
 length-front (u ∷ ts) [] (suc n) = refl
@@ -116,7 +116,7 @@ on_err (Ok x) holds = tt
 on_err (Err e) holds = holds
 
 -- slots of which the first so many have taken their operations
-module _ {S : Type 0} (tablet : S → Tablet) (ts : List Tablet) (ops : List TabletOp) (fit : AreJoinsIn ts ops) (slots : List S) (n : ℕ) (so_far : map tablet slots ≡ front_stepped n ts ops) where
+module _ {S : Type 0} (tablet : S → TabletStateValue) (ts : List TabletStateValue) (ops : List TabletOp) (fit : AreJoinsIn ts ops) (slots : List S) (n : ℕ) (so_far : map tablet slots ≡ front_stepped n ts ops) where
   pub slot_count : length slots ≡ length ops
   slot_count = sym (length-map slots tablet) ∙ ap length so_far ∙ length-front ts ops n ∙ same_length ts ops fit
 
@@ -126,20 +126,20 @@ module _ {S : Type 0} (tablet : S → Tablet) (ts : List Tablet) (ops : List Tab
   -- the next slot's tablet is as it was
   slot_before : (old : S) → n < length ops → old ≡ get_or slots n old → tablet old ≡ get_or ts n (tablet old)
   slot_before old within read =
-      ap tablet read ∙ sym (mapped_at tablet slots n old (tablet old) (slot_within within)) ∙ ap (λ (xs : List Tablet). get_or xs n (tablet old)) so_far ∙ untouched ts ops n (tablet old)
+      ap tablet read ∙ sym (mapped_at tablet slots n old (tablet old) (slot_within within)) ∙ ap (λ (xs : List TabletStateValue). get_or xs n (tablet old)) so_far ∙ untouched ts ops n (tablet old)
 
   -- its operation is a join in its range
   pub slot_joins : (old : S) (op : TabletOp) → n < length ops → old ≡ get_or slots n old → op ≡ get_or ops n op → IsJoinIn (tablet old) op
   slot_joins old op within read given =
-      subst (λ (t : Tablet). IsJoinIn t op) (sym (slot_before old within read))
+      subst (λ (t : TabletStateValue). IsJoinIn t op) (sym (slot_before old within read))
       (subst (λ (o : TabletOp). IsJoinIn (get_or ts n (tablet old)) o) (sym given) (join_at ts ops n (tablet old) op fit within))
 
   pub slot_stepped : (old new : S) (op : TabletOp) → n < length ops → old ≡ get_or slots n old → op ≡ get_or ops n op → tablet new ≡ stepped (tablet old) op
       → map tablet (set slots n new) ≡ front_stepped (n + 1) ts ops
   slot_stepped old new op within read given took =
       map-set tablet slots n new
-      ∙ ap (λ (t : Tablet). set (map tablet slots) n t) (took ∙ ap (λ (t : Tablet). stepped t op) (slot_before old within read) ∙ ap (λ (o : TabletOp). stepped (get_or ts n (tablet old)) o) given)
-      ∙ ap (λ (xs : List Tablet). set xs n (stepped (get_or ts n (tablet old)) (get_or ops n op))) so_far
+      ∙ ap (λ (t : TabletStateValue). set (map tablet slots) n t) (took ∙ ap (λ (t : TabletStateValue). stepped t op) (slot_before old within read) ∙ ap (λ (o : TabletOp). stepped (get_or ts n (tablet old)) o) given)
+      ∙ ap (λ (xs : List TabletStateValue). set xs n (stepped (get_or ts n (tablet old)) (get_or ops n op))) so_far
       ∙ more_stepped ts ops n (tablet old) op fit within
 
   pub slot_changes : (old : S) (op : TabletOp) (changes : List (List Change)) (list : List Change) → n < length ops → old ≡ get_or slots n old → op ≡ get_or ops n op
@@ -147,7 +147,7 @@ module _ {S : Type 0} (tablet : S → Tablet) (ts : List Tablet) (ops : List Tab
   slot_changes old op changes list within read given before answered =
       ap (λ (xs : List (List Change)). xs ++ list ∷ []) before
       ∙ ap (λ (x : List Change). take n (all_changes ts ops) ++ x ∷ [])
-      (answered ∙ ap (λ (t : Tablet). answer op t (stepped t op)) (slot_before old within read) ∙ ap (λ (o : TabletOp). answer o (get_or ts n (tablet old)) (stepped (get_or ts n (tablet old)) o)) given)
+      (answered ∙ ap (λ (t : TabletStateValue). answer op t (stepped t op)) (slot_before old within read) ∙ ap (λ (o : TabletOp). answer o (get_or ts n (tablet old)) (stepped (get_or ts n (tablet old)) o)) given)
       ∙ more_changes ts ops n (tablet old) op fit within
 
   -- where memory runs out each slot is old or stepped

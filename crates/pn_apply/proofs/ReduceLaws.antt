@@ -5,14 +5,14 @@ use Rattle.std.proofs.lemmas.List.Elements.{filter-append}
 use Rattle.std.proofs.lemmas.List.Folds.{flat_map-map}
 use Rattle.pn_join.specs.Marks.{Positions}
 use Rattle.pn_record.specs.declared.image.Image.{Image}
-use Rattle.pn_record.specs.Sets.{Celled}
+use Rattle.pn_record.specs.Sets.{CellValue}
 use Rattle.pn_record.specs.Cells.{SameImages, cells, spell}
 use Rattle.pn_record.specs.CellMap.{Entries, table_of, adds}
 use Rattle.pn_record.proofs.CellLists.{both, cells-append, cells-same}
 use Rattle.pn_record.proofs.CellMaps.{rising-table_of, adds-table_of, same_cells_table, cells-spelled}
 use Rattle.pn_tablet.specs.Ranges.{Ends, in_range}
 use Rattle.pn_tablet.specs.Layouts.{Bounds, IsLayout}
-use Rattle.pn_tablet.specs.Tablets.{Tablet, lie_in}
+use Rattle.pn_tablet.specs.Tablets.{TabletStateValue, lie_in}
 use Rattle.pn_tablet.specs.declared.op.TabletOp.{TabletOp}
 use Rattle.pn_tablet.specs.declared.op.TabletOp.TheVariants.{Join}
 use Rattle.pn_apply.specs.Applying.{AreJoinsIn}
@@ -33,7 +33,7 @@ range_joins range images more =
     let theirs = images_in range more in
     let spelled = spell (table_of theirs) in
     adds-table_of own spelled
-    ∙ same_cells_table (own ++ spelled) (own ++ theirs) (λ key. cells-append own spelled key ∙ ap (λ (c : Option Celled). both (cells own key) c) (cells-spelled theirs key) ∙ sym (cells-append own theirs key))
+    ∙ same_cells_table (own ++ spelled) (own ++ theirs) (λ key. cells-append own spelled key ∙ ap (λ (c : Option CellValue). both (cells own key) c) (cells-spelled theirs key) ∙ sym (cells-append own theirs key))
     ∙ ap table_of (sym (filter-append (λ (image : Image). in_range range image.key) images more))
 
 -- the same images have the same cells in a range
@@ -50,9 +50,9 @@ same_joins bounds marks images others same =
 inside : (range : Ends) (images : List Image) → lie_in range (table_of (images_in range images)) ≡ true
 inside range images = ap (lie_in range) (table_that (in_range range) images) ∙ all_that (in_range range) (table_of images)
 
-fit_own : (marks : Positions) (images : List Image) (tablets : List Tablet) → AreJoinsIn tablets (map (join_in marks images) (map (λ (t : Tablet). t.range) tablets))
+fit_own : (marks : Positions) (images : List Image) (tablets : List TabletStateValue) → AreJoinsIn tablets (map (join_in marks images) (map (λ (t : TabletStateValue). t.range) tablets))
 fit_own marks images [] = tt
 fit_own marks images (t ∷ tablets) = (inside t.range images, fit_own marks images tablets)
 
-pub joins_fit : (bounds : Bounds) (marks : Positions) (images : List Image) (tablets : List Tablet) → map (λ (t : Tablet). t.range) tablets ≡ ranges bounds → AreJoinsIn tablets (joins_of bounds marks images)
+pub joins_fit : (bounds : Bounds) (marks : Positions) (images : List Image) (tablets : List TabletStateValue) → map (λ (t : TabletStateValue). t.range) tablets ≡ ranges bounds → AreJoinsIn tablets (joins_of bounds marks images)
 joins_fit bounds marks images tablets is = subst (λ (rs : List Ends). AreJoinsIn tablets (map (join_in marks images) rs)) is (fit_own marks images tablets)

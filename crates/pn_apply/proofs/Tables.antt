@@ -7,7 +7,7 @@ use Rattle.std.specs.FinMap.{find, is_sorted}
 use Rattle.std.specs.FinMap.Entries.{below_all}
 use Rattle.pn_record.specs.declared.image.Image.{Image}
 use Rattle.pn_record.specs.Order.{bytes_cmp}
-use Rattle.pn_record.specs.Sets.{Celled}
+use Rattle.pn_record.specs.Sets.{CellValue}
 use Rattle.pn_record.specs.Cells.{cell_of, cells, images_of}
 use Rattle.pn_record.specs.CellMap.{Entries, table_of}
 use Rattle.pn_record.proofs.Sorted.{both_true, first_true, second_true}
@@ -15,7 +15,7 @@ use Rattle.pn_record.proofs.HeldRecords.{same_key, tied_keys}
 use Rattle.pn_record.proofs.CellMaps.{held_table, rising-table_of, Holds-table_of}
 
 abbrev pub entries_that : (List ℕ → Bool) → Entries → Entries
-entries_that test es = filter (λ (e : List ℕ × Celled). test e.0) es
+entries_that test es = filter (λ (e : List ℕ × CellValue). test e.0) es
 
 abbrev pub images_that : (List ℕ → Bool) → List Image → List Image
 images_that test images = filter (λ (image : Image). test image.key) images
@@ -24,11 +24,11 @@ cond-same : {A : Type 0} (b : Bool) (x : A) → cond b x x ≡ x
 cond-same true x = refl
 cond-same false x = refl
 
-taken_entry : (t pass : Bool) (x : Celled) (all rest : Option Celled) → (t ≡ true → pass ≡ true) → rest ≡ cond pass all None → cond t (Some x) rest ≡ cond pass (cond t (Some x) all) None
+taken_entry : (t pass : Bool) (x : CellValue) (all rest : Option CellValue) → (t ≡ true → pass ≡ true) → rest ≡ cond pass all None → cond t (Some x) rest ≡ cond pass (cond t (Some x) all) None
 taken_entry true pass x all rest same is = ap (λ (k : Bool). cond k (Some x) None) (sym (same refl))
 taken_entry false pass x all rest same is = is
 
-skipped_entry : (t pass : Bool) (x : Celled) (all rest : Option Celled) → (t ≡ true → pass ≡ false) → rest ≡ cond pass all None → rest ≡ cond pass (cond t (Some x) all) None
+skipped_entry : (t pass : Bool) (x : CellValue) (all rest : Option CellValue) → (t ≡ true → pass ≡ false) → rest ≡ cond pass all None → rest ≡ cond pass (cond t (Some x) all) None
 skipped_entry true pass x all rest same is = is ∙ ap (λ (k : Bool). cond k all None) (same refl) ∙ ap (λ (k : Bool). cond k (Some x) None) (sym (same refl))
 skipped_entry false pass x all rest same is = is
 
@@ -99,13 +99,13 @@ sorted_that test (e ∷ es) rising =
 pub table_that : (test : List ℕ → Bool) (images : List Image) → table_of (images_that test images) ≡ entries_that test (table_of images)
 table_that test images =
     sym (held_table (entries_that test (table_of images)) (images_that test images) (sorted_that test (table_of images) (rising-table_of images))
-    (λ key. find_that test key (table_of images) ∙ ap (λ (c : Option Celled). cond (test key) c None) (Holds-table_of images key) ∙ sym (cells_that test images key)))
+    (λ key. find_that test key (table_of images) ∙ ap (λ (c : Option CellValue). cond (test key) c None) (Holds-table_of images key) ∙ sym (cells_that test images key)))
 
 -- what passes passes
-pub all_that : (test : List ℕ → Bool) (es : Entries) → list_all (λ (e : List ℕ × Celled). test e.0) (entries_that test es) ≡ true
+pub all_that : (test : List ℕ → Bool) (es : Entries) → list_all (λ (e : List ℕ × CellValue). test e.0) (entries_that test es) ≡ true
 all_that test [] = refl
 all_that test (e ∷ es) =
-    elim (test e.0) as (λ b. test e.0 ≡ b → list_all (λ (x : List ℕ × Celled). test x.0) (cond b (e ∷ entries_that test es) (entries_that test es)) ≡ true) [
-      | true ↦ λ is. both_true (test e.0) (list_all (λ (x : List ℕ × Celled). test x.0) (entries_that test es)) is (all_that test es)
+    elim (test e.0) as (λ b. test e.0 ≡ b → list_all (λ (x : List ℕ × CellValue). test x.0) (cond b (e ∷ entries_that test es) (entries_that test es)) ≡ true) [
+      | true ↦ λ is. both_true (test e.0) (list_all (λ (x : List ℕ × CellValue). test x.0) (entries_that test es)) is (all_that test es)
       | false ↦ λ is. all_that test es
     ] refl

@@ -1,7 +1,7 @@
 -- Operations on several tablets, each on its own.
 use Rattle.std.specs.Prelude.{◌≡◌, List, [], ◌∷◌, map, IsTrue, ◌⊎◌}
 use Rattle.std.specs.List.{zip}
-use Rattle.pn_tablet.specs.Tablets.{Tablet, lie_in}
+use Rattle.pn_tablet.specs.Tablets.{TabletStateValue, lie_in}
 use Rattle.pn_tablet.specs.Steps.{stepped}
 use Rattle.pn_tablet.specs.Changes.{answer}
 use Rattle.pn_tablet.specs.declared.change.Change.{Change}
@@ -9,28 +9,28 @@ use Rattle.pn_tablet.specs.declared.op.TabletOp.{TabletOp}
 use Rattle.pn_tablet.specs.declared.op.TabletOp.TheVariants.{Join, Lose, Adopt}
 
 -- the operation is a join of keys that lie in the tablet's range
-abbrev pub IsJoinIn : Tablet → TabletOp → Type 0
+abbrev pub IsJoinIn : TabletStateValue → TabletOp → Type 0
 IsJoinIn tablet (Join cells marks) = IsTrue (lie_in tablet.range cells)
 IsJoinIn tablet Lose = ⊥
 IsJoinIn tablet (Adopt copy) = ⊥
 
 -- there are as many operations as tablets, each a join in the range of its own tablet
-abbrev pub AreJoinsIn : List Tablet → List TabletOp → Type 0
+abbrev pub AreJoinsIn : List TabletStateValue → List TabletOp → Type 0
 AreJoinsIn [] [] = Unit {0}
 AreJoinsIn [] (operation ∷ operations) = ⊥
 AreJoinsIn (tablet ∷ tablets) [] = ⊥
 AreJoinsIn (tablet ∷ tablets) (operation ∷ operations) = IsJoinIn tablet operation × AreJoinsIn tablets operations
 
 -- each tablet after its own operation
-abbrev pub all_stepped : List Tablet → List TabletOp → List Tablet
+abbrev pub all_stepped : List TabletStateValue → List TabletOp → List TabletStateValue
 all_stepped tablets operations = map (λ each. stepped each.0 each.1) (zip tablets operations)
 
 -- what each operation changes in its own tablet
-abbrev pub all_changes : List Tablet → List TabletOp → List (List Change)
+abbrev pub all_changes : List TabletStateValue → List TabletOp → List (List Change)
 all_changes tablets operations = map (λ each. answer each.1 each.0 (stepped each.0 each.1)) (zip tablets operations)
 
 -- each tablet is as it was, or as its own operation leaves it
-abbrev pub AreOldOrStepped : List Tablet → List TabletOp → List Tablet → Type 0
+abbrev pub AreOldOrStepped : List TabletStateValue → List TabletOp → List TabletStateValue → Type 0
 AreOldOrStepped [] [] [] = Unit {0}
 AreOldOrStepped (tablet ∷ tablets) (operation ∷ operations) (now ∷ nows) =
     ((now ≡ tablet) ⊎ (now ≡ stepped tablet operation)) × AreOldOrStepped tablets operations nows

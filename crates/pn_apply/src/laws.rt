@@ -6,10 +6,10 @@ ghost use Rattle.pn_join.specs.Marks.{Positions};
 ghost use Rattle.pn_record.specs.declared.image.Image.{Image};
 ghost use Rattle.pn_record.specs.Cells.{SameImages, spell};
 ghost use Rattle.pn_record.specs.CellMap.{table_of, adds};
-ghost use Rattle.pn_stream.specs.Positions.{Delivered};
+ghost use Rattle.pn_stream.specs.Positions.{DeliveryValue};
 ghost use Rattle.pn_tablet.specs.Layouts.{Bounds, IsLayout};
 ghost use Rattle.pn_tablet.specs.Ranges.{Ends};
-ghost use Rattle.pn_tablet.specs.Tablets.{Tablet};
+ghost use Rattle.pn_tablet.specs.Tablets.{TabletStateValue};
 ghost use Rattle.pn_apply.specs.Applying.{AreJoinsIn};
 ghost use Rattle.pn_apply.specs.Reducing.{all_images, images_in, ranges, joins_of, joined_cells};
 
@@ -30,13 +30,13 @@ pub fn ranges_join_alone()
 
 /// Deliveries of the same images bring the same, whatever their order, repeats and cuts.
 pub fn the_same_images_bring_the_same()
-    ensures { (bounds : Bounds) (marks : Positions) (deliveries others : List Delivered)
+    ensures { (bounds : Bounds) (marks : Positions) (deliveries others : List DeliveryValue)
         → SameImages (all_images deliveries) (all_images others)
         → joins_of bounds marks (all_images deliveries) ≡ joins_of bounds marks (all_images others) }
 {}
 
 /// What images bring to the tablets of a layout can be applied to them.
 pub fn joins_lie_in_their_ranges()
-    ensures { (bounds : Bounds) (marks : Positions) (images : List Image) (tablets : List Tablet)
+    ensures { (bounds : Bounds) (marks : Positions) (images : List Image) (tablets : List TabletStateValue)
         → map (λ tablet. tablet.range) tablets ≡ ranges bounds → AreJoinsIn tablets (joins_of bounds marks images) }
 {}

@@ -1,7 +1,7 @@
 //! Slots, which take the operations of one tablet.
 
 ghost use Rattle.std.specs.Prelude.{◌≡◌, Ok, IsOk, IfOk, IfErr, OnOk, OnErr};
-ghost use Rattle.pn_tablet.specs.Tablets.{Tablet};
+ghost use Rattle.pn_tablet.specs.Tablets.{TabletStateValue};
 ghost use Rattle.pn_tablet.specs.Steps.{step, Refuses};
 ghost use Rattle.pn_tablet.specs.Changes.{answer};
 ghost use Rattle.pn_tablet.specs.declared.op.TabletOp.TheVariants.{Lose};
@@ -11,7 +11,7 @@ use pn_tablet::{Change, OpFault, TabletOp, TabletState};
 /// What takes operations as a tablet's state does: the state itself, or what stands for it.
 pub trait Slot {
     /// The tablet that the slot is.
-    ghost tablet: { Self → Tablet };
+    ghost tablet: { Self → TabletStateValue };
 
     /// Takes one operation. The answers and refusals are those of [`TabletState::apply`], and an error
     /// leaves the slot's tablet as it was.

@@ -13,7 +13,7 @@ use Rattle.pn_record.specs.declared.image.Image.{Image}
 use Rattle.pn_record.specs.Order.{version_cmp}
 use Rattle.pn_record.specs.Totals.{version_cmp_total, version_cmp-exact}
 use Rattle.pn_record.specs.Cells.{SameImages, later, top, images_of, contents_with, cell_of, cells}
-use Rattle.pn_record.specs.Sets.{Celled, Stamp, Contents, set_of, cell_joined}
+use Rattle.pn_record.specs.Sets.{CellValue, Stamp, Contents, set_of, cell_joined}
 use Rattle.pn_record.specs.Unions.{set_of-append}
 use Rattle.pn_record.specs.JoinedCells.{cell_joined-laws, joined-less, joined-equal, joined-greater, turned-less, turned-greater, greater-trans, by_versions}
 
@@ -51,7 +51,7 @@ none_above v (b ∷ images) above =
     ∙ none_above v images parts.1
 
 -- the cell of one image
-abbrev alone : Image → Celled
+abbrev alone : Image → CellValue
 alone image = (image.version, set_of (image.content ∷ []))
 
 kept : (v : Stamp) (x : Image) (images : List Image) (r : Ordering) → version_cmp x.version v ≡ r → contents_with v (x ∷ images) ≡ set_of (map (λ image. image.content) (cond (is_eq r) (x ∷ filter (λ image. eq_by_cmp version_cmp image.version v) images) (filter (λ image. eq_by_cmp version_cmp image.version v) images)))
@@ -78,22 +78,22 @@ pub cell_of-cons : (x : Image) (images : List Image) → cell_of (x ∷ images) 
 cell_of-cons x images = onto x images (top images) refl
 
 -- cells that may be there, joined
-abbrev pub both : Option Celled → Option Celled → Option Celled
+abbrev pub both : Option CellValue → Option CellValue → Option CellValue
 both = optional_joined cell_joined
 
-pub both-assoc : (a b c : Option Celled) → both (both a b) c ≡ both a (both b c)
+pub both-assoc : (a b c : Option CellValue) → both (both a b) c ≡ both a (both b c)
 both-assoc None b c = refl
 both-assoc (Some a) None c = refl
 both-assoc (Some a) (Some b) None = refl
 both-assoc (Some a) (Some b) (Some c) = ap Some (cell_joined-laws.associates a b c)
 
-pub both-comm : (a b : Option Celled) → both a b ≡ both b a
+pub both-comm : (a b : Option CellValue) → both a b ≡ both b a
 both-comm None None = refl
 both-comm None (Some b) = refl
 both-comm (Some a) None = refl
 both-comm (Some a) (Some b) = ap Some (cell_joined-laws.commutes a b)
 
-pub both-same : (a : Option Celled) → both a a ≡ a
+pub both-same : (a : Option CellValue) → both a a ≡ a
 both-same None = refl
 both-same (Some a) = ap Some (cell_joined-laws.repeats a)
 

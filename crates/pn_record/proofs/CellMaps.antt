@@ -11,10 +11,10 @@ use Rattle.std.proofs.lemmas.Cmp.{nat_list_cmp_total, tied_itself}
 use Rattle.std.proofs.lemmas.Map.Lookups.{exact_bytes}
 use Rattle.std.specs.Str.{bytes_eq}
 use Rattle.pn_record.specs.declared.image.Image.{Image}
-use Rattle.pn_record.specs.Limits.{Shown}
+use Rattle.pn_record.specs.Limits.{ContentValue}
 use Rattle.pn_record.specs.Order.{bytes_cmp, content_cmp}
 use Rattle.pn_record.specs.Totals.{content_cmp_total}
-use Rattle.pn_record.specs.Sets.{Celled, Contents, HasContents, set_of, union, cell_joined}
+use Rattle.pn_record.specs.Sets.{CellValue, Contents, HasContents, set_of, union, cell_joined}
 use Rattle.pn_record.specs.Unions.{either, get-union, some-set_of, set_of-one}
 use Rattle.pn_record.specs.JoinedCells.{by_versions, joined-less, joined-equal, joined-greater}
 use Rattle.pn_record.specs.Cells.{Holds, cell_of, cells, images_of, spell}
@@ -24,8 +24,8 @@ use Rattle.pn_record.proofs.HeldRecords.{Holds-spell, same_key, tied_keys, not_f
 use Rattle.pn_record.proofs.Sorted.{first_true, second_true}
 
 -- the entry that an image makes of the cells of a list
-abbrev entry : List Image → Image → Option (List ℕ × Celled)
-entry all image = option_map (λ (cell : Celled). (image.key, cell)) (cells all image.key)
+abbrev entry : List Image → Image → Option (List ℕ × CellValue)
+entry all image = option_map (λ (cell : CellValue). (image.key, cell)) (cells all image.key)
 
 abbrev made : List Image → List Image → Entries
 made all images = filter_map (entry all) images
@@ -39,11 +39,11 @@ cond-same true x = refl
 cond-same false x = refl
 
 -- a key that is tested twice: nothing is found for it where its cell is none
-skipped : (b h : Bool) (at rest : Option Celled) → (b ≡ true → at ≡ None) → rest ≡ cond h at None → rest ≡ cond (b || h) at None
-skipped true h at rest none is = is ∙ ap (λ (o : Option Celled). cond h o None) (none refl) ∙ cond-same h None ∙ sym (none refl)
+skipped : (b h : Bool) (at rest : Option CellValue) → (b ≡ true → at ≡ None) → rest ≡ cond h at None → rest ≡ cond (b || h) at None
+skipped true h at rest none is = is ∙ ap (λ (o : Option CellValue). cond h o None) (none refl) ∙ cond-same h None ∙ sym (none refl)
 skipped false h at rest none is = is
 
-taken : (b h : Bool) (cell : Celled) (at rest : Option Celled) → (b ≡ true → at ≡ Some cell) → rest ≡ cond h at None → cond b (Some cell) rest ≡ cond (b || h) at None
+taken : (b h : Bool) (cell : CellValue) (at rest : Option CellValue) → (b ≡ true → at ≡ Some cell) → rest ≡ cond h at None → cond b (Some cell) rest ≡ cond (b || h) at None
 taken true h cell at rest some is = sym (some refl)
 taken false h cell at rest some is = is
 
@@ -57,7 +57,7 @@ found all (image ∷ images) key =
     let rest = found all images key in
     let b = bytes_eq image.key key in
     let here : b ≡ true → cells all key ≡ cells all image.key = λ same. ap (cells all) (same_bytes image.key key same) in
-    elim (cells all image.key) as (λ o. cells all image.key ≡ o → find bytes_cmp key (cons_option (option_map (λ (cell : Celled). (image.key, cell)) o) (made all images)) ≡ cond (b || has_key key images) (cells all key) None) [
+    elim (cells all image.key) as (λ o. cells all image.key ≡ o → find bytes_cmp key (cons_option (option_map (λ (cell : CellValue). (image.key, cell)) o) (made all images)) ≡ cond (b || has_key key images) (cells all key) None) [
       | None ↦ λ none. skipped b (has_key key images) (cells all key) (find bytes_cmp key (made all images)) (λ same. here same ∙ none) rest
       | Some cell ↦ λ some.
           ap (λ t. cond t (Some cell) (find bytes_cmp key (made all images))) (sym (same_key image.key key))
@@ -106,14 +106,14 @@ held_table table images rising held =
     same_entries bytes_cmp nat_list_cmp_total exact_bytes table (table_of images) (subst T (sym rising) tt) (subst T (sym (rising-table_of images)) tt)
     (λ key. held key ∙ sym (Holds-table_of images key))
 
-some_from_find : (es : List (Shown × Unit {0})) (q : Shown) → find content_cmp q es ≡ Some tt → 0 < length (map (λ (e : Shown × Unit {0}). e.0) es)
+some_from_find : (es : List (ContentValue × Unit {0})) (q : ContentValue) → find content_cmp q es ≡ Some tt → 0 < length (map (λ (e : ContentValue × Unit {0}). e.0) es)
 some_from_find [] q there = cc
 some_from_find (e ∷ es) q there = omega arith
 
-some_from_get : (a : Contents) (q : Shown) → get a q ≡ Some tt → 0 < length (keys a)
+some_from_get : (a : Contents) (q : ContentValue) → get a q ≡ Some tt → 0 < length (keys a)
 some_from_get a q there = some_from_find (entries a) q (sym (get-entries a q) ∙ there)
 
-find_first : (es : List (Shown × Unit {0})) → 0 < length (map (λ (e : Shown × Unit {0}). e.0) es) → (q : Shown) × (find content_cmp q es ≡ Some tt)
+find_first : (es : List (ContentValue × Unit {0})) → 0 < length (map (λ (e : ContentValue × Unit {0}). e.0) es) → (q : ContentValue) × (find content_cmp q es ≡ Some tt)
 find_first [] some = absurd (omega arith)
 find_first (e ∷ es) some = (e.0, ap (λ r. cond (is_eq r) (Some e.1) (find content_cmp e.0 es)) (tied_itself content_cmp_total e.0))
 
@@ -122,18 +122,18 @@ some-union a b some =
     let first = find_first (entries a) some in
     some_from_get (union a b) first.0 (get-union a b first.0 ∙ ap (λ o. either o (get b first.0)) (get-entries a first.0 ∙ first.1))
 
-some-joined : (a b : Celled) → HasContents a → HasContents b → HasContents (cell_joined a b)
+some-joined : (a b : CellValue) → HasContents a → HasContents b → HasContents (cell_joined a b)
 some-joined a b some some_too = by_versions a.0 b.0
     (λ e. subst HasContents (sym (joined-less a b e)) some_too)
     (λ e. subst HasContents (sym (joined-equal a b e)) (some-union a.1 b.1 some))
     (λ e. subst HasContents (sym (joined-greater a b e)) some)
 
 -- where there is a cell, it has contents
-abbrev AnyHas : Option Celled → Type 0
+abbrev AnyHas : Option CellValue → Type 0
 AnyHas None = Unit {0}
 AnyHas (Some cell) = HasContents cell
 
-any-both : (a : Celled) (o : Option Celled) → HasContents a → AnyHas o → AnyHas (both (Some a) o)
+any-both : (a : CellValue) (o : Option CellValue) → HasContents a → AnyHas o → AnyHas (both (Some a) o)
 any-both a None some any = some
 any-both a (Some b) some any = some-joined a b some any
 
@@ -143,7 +143,7 @@ any-cell_of (image ∷ images) =
     subst AnyHas (sym (cell_of-cons image images)) (any-both (image.version, set_of (image.content ∷ [])) (cell_of images) (some-set_of (image.content ∷ []) (set_of-one image.content)) (any-cell_of images))
 
 -- what has contents at each key has them in each entry
-all_have : (es : Entries) → is_sorted bytes_cmp es ≡ true → ((key : List ℕ) → AnyHas (find bytes_cmp key es)) → AllByRecursion (λ (e : List ℕ × Celled). HasContents e.1) es
+all_have : (es : Entries) → is_sorted bytes_cmp es ≡ true → ((key : List ℕ) → AnyHas (find bytes_cmp key es)) → AllByRecursion (λ (e : List ℕ × CellValue). HasContents e.1) es
 all_have [] rising any = tt
 all_have (e ∷ es) rising any = (
   subst AnyHas (ap (λ r. cond (is_eq r) (Some e.1) (find bytes_cmp e.0 es)) (tied_itself nat_list_cmp_total e.0)) (any e.0),
@@ -157,7 +157,7 @@ all_have (e ∷ es) rising any = (
     rest key true tied = subst AnyHas (sym (ap (λ k. find bytes_cmp k es) (tied_keys key e.0 tied) ∙ not_found e.0 es below)) tt
     rest key false apart = subst AnyHas (ap (λ t. cond t (Some e.1) (find bytes_cmp key es)) apart) (any key)
 
-pub have-table_of : (images : List Image) → AllByRecursion (λ (e : List ℕ × Celled). HasContents e.1) (table_of images)
+pub have-table_of : (images : List Image) → AllByRecursion (λ (e : List ℕ × CellValue). HasContents e.1) (table_of images)
 have-table_of images = all_have (table_of images) (rising-table_of images) (λ key. subst AnyHas (sym (Holds-table_of images key)) (any-cell_of (images_of key images)))
 
 -- lists with the same cells have the same table

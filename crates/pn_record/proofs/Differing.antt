@@ -13,29 +13,29 @@ use Rattle.std.proofs.lemmas.Map.Lookups.{exact_bytes}
 use Rattle.pn_join.specs.Tables.{optional_joined}
 use Rattle.pn_record.specs.Order.{bytes_cmp, version_cmp, content_cmp}
 use Rattle.pn_record.specs.Totals.{version_cmp_total, content_cmp_total}
-use Rattle.pn_record.specs.Sets.{Celled, cell_joined}
+use Rattle.pn_record.specs.Sets.{CellValue, cell_joined}
 use Rattle.pn_record.specs.CellMap.{Entries}
 use Rattle.pn_record.specs.SameCells.{same_cell, same_at}
 use Rattle.pn_record.proofs.Sorted.{both_true, first_true, second_true, is_less}
 
-same_cell-itself : (a : Celled) → same_cell a a ≡ true
+same_cell-itself : (a : CellValue) → same_cell a a ≡ true
 same_cell-itself a =
     both_true (eq_by_cmp version_cmp a.0 a.0) (pointwise (eq_by_cmp content_cmp) (keys a.1) (keys a.1))
     ((eq_by_cmp_equiv version_cmp_total).refl a.0) ((lists_equiv (eq_by_cmp_equiv content_cmp_total)).refl (keys a.1))
 
-same_at-itself : (o : Option Celled) → same_at o o ≡ true
+same_at-itself : (o : Option CellValue) → same_at o o ≡ true
 same_at-itself None = refl
 same_at-itself (Some a) = same_cell-itself a
 
 -- the entry is what the table has at its key
-abbrev pub IsAt : Entries → List ℕ × Celled → Type 0
+abbrev pub IsAt : Entries → List ℕ × CellValue → Type 0
 IsAt table e = find bytes_cmp e.0 table ≡ Some e.1
 
 -- a key above another does not tie with it
 apart : (k q : List ℕ) → bytes_cmp k q ≡ Less → eq_by_cmp bytes_cmp q k ≡ false
 apart k q less = (eq_by_cmp_equiv nat_list_cmp_total).symm q k ∙ ap is_eq less
 
-lifted : (e : List ℕ × Celled) (table es : Entries) → below_all bytes_cmp e.0 es ≡ true → AllByRecursion (IsAt table) es → AllByRecursion (IsAt (e ∷ table)) es
+lifted : (e : List ℕ × CellValue) (table es : Entries) → below_all bytes_cmp e.0 es ≡ true → AllByRecursion (IsAt table) es → AllByRecursion (IsAt (e ∷ table)) es
 lifted e table [] below at = tt
 lifted e table (f ∷ es) below at = (
   ap (λ t. cond t (Some e.1) (find bytes_cmp f.0 table)) (apart e.0 f.0 (is_less _ (first_true (is_lt (bytes_cmp e.0 f.0)) (below_all bytes_cmp e.0 es) below))) ∙ at.0,
@@ -52,12 +52,12 @@ each_at (e ∷ es) rising = (
 
 -- the keys alone
 abbrev pub units : Entries → List (List ℕ × Unit {0})
-units es = map (λ (e : List ℕ × Celled). (e.0, tt)) es
+units es = map (λ (e : List ℕ × CellValue). (e.0, tt)) es
 
-here : Option Celled → Option (Unit {0})
-here o = option_map (λ (c : Celled). tt) o
+here : Option CellValue → Option (Unit {0})
+here o = option_map (λ (c : CellValue). tt) o
 
-here-cond : (t : Bool) (a b : Option Celled) → here (cond t a b) ≡ cond t (here a) (here b)
+here-cond : (t : Bool) (a b : Option CellValue) → here (cond t a b) ≡ cond t (here a) (here b)
 unfolding here
 here-cond true a b = refl
 here-cond false a b = refl
@@ -80,7 +80,7 @@ abbrev pub differs : Entries → Entries → List ℕ → Bool
 differs old new key = not (same_at (find bytes_cmp key old) (find bytes_cmp key new))
 
 abbrev pub chosen : Entries → Entries → Entries → Entries
-chosen old new es = filter (λ (e : List ℕ × Celled). differs old new e.0) es
+chosen old new es = filter (λ (e : List ℕ × CellValue). differs old new e.0) es
 
 module _ (old more new : Entries) (rising : is_sorted bytes_cmp new ≡ true) (rises : is_sorted bytes_cmp more ≡ true) (joined : (key : List ℕ) → find bytes_cmp key new ≡ optional_joined cell_joined (find bytes_cmp key old) (find bytes_cmp key more)) where
   -- a key that nothing is joined at stays
@@ -89,11 +89,11 @@ module _ (old more new : Entries) (rising : is_sorted bytes_cmp new ≡ true) (r
       ap (λ o. not (same_at (find bytes_cmp key old) o)) (joined key ∙ ap (optional_joined cell_joined (find bytes_cmp key old)) none ∙ joined_none (find bytes_cmp key old))
       ∙ ap not (same_at-itself (find bytes_cmp key old))
     where
-      joined_none : (o : Option Celled) → optional_joined cell_joined o None ≡ o
+      joined_none : (o : Option CellValue) → optional_joined cell_joined o None ≡ o
       joined_none None = refl
       joined_none (Some a) = refl
 
-  found : (t : Bool) (o a b : Option Celled) → (b ≡ None → t ≡ false) → a ≡ optional_joined cell_joined o b → cond t (here a) None ≡ cond t (here b) None
+  found : (t : Bool) (o a b : Option CellValue) → (b ≡ None → t ≡ false) → a ≡ optional_joined cell_joined o b → cond t (here a) None ≡ cond t (here b) None
   unfolding here
   found false o a b none is = refl
   found true o a None none is = cc (none refl)

@@ -12,10 +12,10 @@ use Rattle.std.proofs.lemmas.Cmp.{eq_by_cmp_equiv, tied_itself, nat_list_cmp_tot
 use Rattle.std.proofs.lemmas.Map.Lookups.{exact_bytes}
 use Rattle.pn_join.specs.Tables.{contents_at, key_by_key}
 use Rattle.pn_record.specs.declared.image.Image.{Image}
-use Rattle.pn_record.specs.Limits.{Shown}
+use Rattle.pn_record.specs.Limits.{ContentValue}
 use Rattle.pn_record.specs.Order.{bytes_cmp}
 use Rattle.pn_record.specs.Totals.{version_cmp_total}
-use Rattle.pn_record.specs.Sets.{Stamp, Celled, HasContents, set_of, cell_joined}
+use Rattle.pn_record.specs.Sets.{Stamp, CellValue, HasContents, set_of, cell_joined}
 use Rattle.pn_record.specs.Unions.{set_of-append, set_of-keys}
 use Rattle.pn_record.specs.JoinedCells.{joined-equal}
 use Rattle.pn_record.specs.Cells.{Holds, cell_of, cells, images_of, spell, spell_cell}
@@ -24,7 +24,7 @@ use Rattle.pn_record.proofs.CellLists.{both, cells-append, cell_of-cons}
 
 -- entries of a table of cells
 abbrev pub Entries : Type 0
-Entries = List (List ℕ × Celled)
+Entries = List (List ℕ × CellValue)
 
 option_map-same : {A : Type 0} (o : Option A) → option_map (λ x. x) o ≡ o
 option_map-same None = refl
@@ -64,7 +64,7 @@ not_found key (e ∷ es) below =
     ap (λ r. cond (is_eq r) (Some e.1) (find bytes_cmp key es)) less ∙ not_found key es (second_true (is_lt (bytes_cmp key e.0)) _ below)
 
 -- images of one key are all of a key's images, or none
-filter-alike : (key : List ℕ) (t : Bool) (f : Shown → Image) → ((shown : Shown) → bytes_eq (f shown).key key ≡ t) → (contents : List Shown) → images_of key (map f contents) ≡ cond t (map f contents) []
+filter-alike : (key : List ℕ) (t : Bool) (f : ContentValue → Image) → ((shown : ContentValue) → bytes_eq (f shown).key key ≡ t) → (contents : List ContentValue) → images_of key (map f contents) ≡ cond t (map f contents) []
 filter-alike key true f alike [] = refl
 filter-alike key false f alike [] = refl
 filter-alike key true f alike (c ∷ contents) =
@@ -73,21 +73,21 @@ filter-alike key false f alike (c ∷ contents) =
     ap (λ b. cond b (f c ∷ images_of key (map f contents)) (images_of key (map f contents))) (alike c) ∙ filter-alike key false f alike contents
 
 -- the cell of images of one version is their contents
-cell_of-version : (key : List ℕ) (version : Stamp) (first : Shown) (contents : List Shown) → cell_of (map (λ (shown : Shown). record { key = key; version = version; content = shown }) (first ∷ contents)) ≡ Some (version, set_of (first ∷ contents))
+cell_of-version : (key : List ℕ) (version : Stamp) (first : ContentValue) (contents : List ContentValue) → cell_of (map (λ (shown : ContentValue). record { key = key; version = version; content = shown }) (first ∷ contents)) ≡ Some (version, set_of (first ∷ contents))
 cell_of-version key version first [] = cell_of-cons (record { key = key; version = version; content = first }) []
 cell_of-version key version first (next ∷ contents) =
-    let image : Shown → Image = λ shown. record { key = key; version = version; content = shown } in
+    let image : ContentValue → Image = λ shown. record { key = key; version = version; content = shown } in
     cell_of-cons (image first) (map image (next ∷ contents))
     ∙ ap (both (Some (version, set_of (first ∷ [])))) (cell_of-version key version next contents)
     ∙ ap Some (joined-equal (version, set_of (first ∷ [])) (version, set_of (next ∷ contents)) (tied_itself version_cmp_total version) ∙ ap (λ s. (version, s)) (sym (set_of-append (first ∷ []) (next ∷ contents))))
 
-cell_of-spelled : (key : List ℕ) (version : Stamp) (contents : List Shown) → 0 < length contents → cell_of (map (λ (shown : Shown). record { key = key; version = version; content = shown }) contents) ≡ Some (version, set_of contents)
+cell_of-spelled : (key : List ℕ) (version : Stamp) (contents : List ContentValue) → 0 < length contents → cell_of (map (λ (shown : ContentValue). record { key = key; version = version; content = shown }) contents) ≡ Some (version, set_of contents)
 cell_of-spelled key version [] some = absurd (omega arith)
 cell_of-spelled key version (first ∷ contents) some = cell_of-version key version first contents
 
-cells-spell_cell : (key : List ℕ) (e : List ℕ × Celled) → HasContents e.1 → cells (spell_cell e) key ≡ cond (eq_by_cmp bytes_cmp key e.0) (Some e.1) None
+cells-spell_cell : (key : List ℕ) (e : List ℕ × CellValue) → HasContents e.1 → cells (spell_cell e) key ≡ cond (eq_by_cmp bytes_cmp key e.0) (Some e.1) None
 cells-spell_cell key e some =
-    let image : Shown → Image = λ shown. record { key = e.0; version = e.1.0; content = shown } in
+    let image : ContentValue → Image = λ shown. record { key = e.0; version = e.1.0; content = shown } in
     ap cell_of (filter-alike key (bytes_eq e.0 key) image (λ shown. refl) (keys e.1.1))
     ∙ elim (bytes_eq e.0 key) as (λ t. cell_of (cond t (map image (keys e.1.1)) []) ≡ cond t (Some e.1) None) [
       | true ↦ cell_of-spelled e.0 e.1.0 (keys e.1.1) some ∙ ap (λ s. Some (e.1.0, s)) (set_of-keys e.1.1)
@@ -95,7 +95,7 @@ cells-spell_cell key e some =
     ]
     ∙ ap (λ t. cond t (Some e.1) None) (same_key e.0 key)
 
-chosen : (t : Bool) (cell : Celled) (rest : Option Celled) → (t ≡ true → rest ≡ None) → cond t (Some cell) rest ≡ both (cond t (Some cell) None) rest
+chosen : (t : Bool) (cell : CellValue) (rest : Option CellValue) → (t ≡ true → rest ≡ None) → cond t (Some cell) rest ≡ both (cond t (Some cell) None) rest
 chosen true cell rest none = ap (both (Some cell)) (sym (none refl))
 chosen false cell rest none = refl
 

@@ -12,7 +12,7 @@ use Rattle.std.proofs.lemmas.Map.Lookups.{exact_bytes}
 use Rattle.pn_record.specs.declared.image.Image.{Image}
 use Rattle.pn_record.specs.Order.{bytes_cmp, version_cmp}
 use Rattle.pn_record.specs.Totals.{version_cmp_total}
-use Rattle.pn_record.specs.Sets.{Stamp, Celled}
+use Rattle.pn_record.specs.Sets.{Stamp, CellValue}
 use Rattle.pn_record.specs.JoinedCells.{by_versions, turned-greater}
 use Rattle.pn_record.specs.Cells.{IsTop, Holds, SameImages, later, top}
 use Rattle.pn_record.proofs.CellLists.{cells-same}
@@ -72,7 +72,7 @@ top_greatest images = elim (top images) as (λ o. MatchOption o (images ≡ []) 
   | Some v ↦ λ is. record { there = is.there; greatest = All-from_recursion (λ (image : Image). NotAbove image.version v) images is.greatest }
 ] (top_of images)
 
-pub same_tables : (table other : List (List ℕ × Celled)) (images others : List Image) → IsTrue (is_sorted bytes_cmp table) → IsTrue (is_sorted bytes_cmp other) → Holds table images → Holds other others → SameImages images others → table ≡ other
+pub same_tables : (table other : List (List ℕ × CellValue)) (images others : List Image) → IsTrue (is_sorted bytes_cmp table) → IsTrue (is_sorted bytes_cmp other) → Holds table images → Holds other others → SameImages images others → table ≡ other
 same_tables table other images others rising rises held held_too same =
     same_entries bytes_cmp nat_list_cmp_total exact_bytes table other (subst T (sym rising) tt) (subst T (sym rises) tt)
     (λ key. held key ∙ cells-same images others same key ∙ sym (held_too key))

@@ -7,9 +7,9 @@ use Rattle.std.specs.Ordering.{is_gt, eq_by_cmp}
 use Rattle.std.specs.FinMap.{find, keys}
 use Rattle.std.specs.FinMap.Entries.{by_order}
 use Rattle.pn_record.specs.declared.image.Image.{Image}
-use Rattle.pn_record.specs.Limits.{Shown}
+use Rattle.pn_record.specs.Limits.{ContentValue}
 use Rattle.pn_record.specs.Order.{bytes_cmp, version_cmp}
-use Rattle.pn_record.specs.Sets.{Stamp, Contents, Celled, set_of, union}
+use Rattle.pn_record.specs.Sets.{Stamp, Contents, CellValue, set_of, union}
 
 -- the version is that of one of the images, and no image has a greater one
 pub record IsTop (version : Stamp) (images : List Image) : Type 0 where
@@ -34,23 +34,23 @@ abbrev pub contents_with : Stamp → List Image → Contents
 contents_with version images = set_of (map (λ image. image.content) (filter (λ image. eq_by_cmp version_cmp image.version version) images))
 
 -- the greatest version with the contents of all images that have it, or nothing where there is no image
-abbrev pub cell_of : List Image → Option Celled
+abbrev pub cell_of : List Image → Option CellValue
 cell_of images = option_map (λ version. (version, contents_with version images)) (top images)
 
 -- the cells of a list: what each key has in it
-abbrev pub cells : List Image → List ℕ → Option Celled
+abbrev pub cells : List Image → List ℕ → Option CellValue
 cells images key = cell_of (images_of key images)
 
 -- the entries of a table have exactly the cells of the images
-abbrev pub Holds : List (List ℕ × Celled) → List Image → Type 0
+abbrev pub Holds : List (List ℕ × CellValue) → List Image → Type 0
 Holds table images = (key : List ℕ) → find bytes_cmp key table ≡ cells images key
 
 -- one image for each content of a cell
-abbrev pub spell_cell : List ℕ × Celled → List Image
+abbrev pub spell_cell : List ℕ × CellValue → List Image
 spell_cell entry = map (λ shown. record { key = entry.0; version = entry.1.0; content = shown }) (keys entry.1.1)
 
 -- one image for each key and content
-abbrev pub spell : List (List ℕ × Celled) → List Image
+abbrev pub spell : List (List ℕ × CellValue) → List Image
 spell table = flat_map spell_cell table
 
 -- each image of one is in the other, however often and in whatever order

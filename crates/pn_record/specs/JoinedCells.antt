@@ -8,16 +8,16 @@ use Rattle.std.proofs.lemmas.Cmp.{tied_itself}
 use Rattle.pn_join.specs.Laws.{JoinLaws}
 use Rattle.pn_record.specs.Order.{version_cmp}
 use Rattle.pn_record.specs.Totals.{version_cmp_total, version_cmp-exact}
-use Rattle.pn_record.specs.Sets.{Celled, Stamp, union, cell_joined}
+use Rattle.pn_record.specs.Sets.{CellValue, Stamp, union, cell_joined}
 use Rattle.pn_record.specs.Unions.{union-comm, union-assoc, union-same}
 
-pub joined-less : (a b : Celled) → version_cmp a.0 b.0 ≡ Less → cell_joined a b ≡ b
+pub joined-less : (a b : CellValue) → version_cmp a.0 b.0 ≡ Less → cell_joined a b ≡ b
 joined-less a b e = ap (λ r. by_order r b (a.0, union a.1 b.1) a) e
 
-pub joined-equal : (a b : Celled) → version_cmp a.0 b.0 ≡ Equal → cell_joined a b ≡ (a.0, union a.1 b.1)
+pub joined-equal : (a b : CellValue) → version_cmp a.0 b.0 ≡ Equal → cell_joined a b ≡ (a.0, union a.1 b.1)
 joined-equal a b e = ap (λ r. by_order r b (a.0, union a.1 b.1) a) e
 
-pub joined-greater : (a b : Celled) → version_cmp a.0 b.0 ≡ Greater → cell_joined a b ≡ a
+pub joined-greater : (a b : CellValue) → version_cmp a.0 b.0 ≡ Greater → cell_joined a b ≡ a
 joined-greater a b e = ap (λ r. by_order r b (a.0, union a.1 b.1) a) e
 
 pub turned-less : (v w : Stamp) → version_cmp v w ≡ Less → version_cmp w v ≡ Greater
@@ -37,16 +37,16 @@ greater-trans u v w p q = turned-less w u (version_cmp_total.trans w v u (turned
 pub by_versions : {G : Type 0} (v w : Stamp) → (version_cmp v w ≡ Less → G) → (version_cmp v w ≡ Equal → G) → (version_cmp v w ≡ Greater → G) → G
 by_versions {G} v w less equal greater = elim (version_cmp v w) as (λ r. version_cmp v w ≡ r → G) [ Less ↦ less | Equal ↦ equal | Greater ↦ greater ] refl
 
-commutes : (a b : Celled) → cell_joined a b ≡ cell_joined b a
+commutes : (a b : CellValue) → cell_joined a b ≡ cell_joined b a
 commutes a b = by_versions a.0 b.0
     (λ e. joined-less a b e ∙ sym (joined-greater b a (turned-less a.0 b.0 e)))
     (λ e. joined-equal a b e ∙ (λ i. (version_cmp-exact a.0 b.0 e i, union-comm a.1 b.1 i)) ∙ sym (joined-equal b a (turned-equal a.0 b.0 e)))
     (λ e. joined-greater a b e ∙ sym (joined-less b a (turned-greater a.0 b.0 e)))
 
-repeats : (a : Celled) → cell_joined a a ≡ a
+repeats : (a : CellValue) → cell_joined a a ≡ a
 repeats a = joined-equal a a (tied_itself version_cmp_total a.0) ∙ ap (λ s. (a.0, s)) (union-same a.1)
 
-associates : (a b c : Celled) → cell_joined (cell_joined a b) c ≡ cell_joined a (cell_joined b c)
+associates : (a b c : CellValue) → cell_joined (cell_joined a b) c ≡ cell_joined a (cell_joined b c)
 associates a b c = by_versions a.0 b.0
     (λ ab. ap (λ x. cell_joined x c) (joined-less a b ab) ∙ by_versions b.0 c.0
     (λ bc. joined-less b c bc ∙ sym (ap (cell_joined a) (joined-less b c bc) ∙ joined-less a c (version_cmp_total.trans a.0 b.0 c.0 ab bc)))

@@ -19,8 +19,8 @@ abbrev pub Field : Type 0
 Field = List ℕ × List ℕ
 
 -- what a content shows: its fields, or none for a deletion, and its master
-abbrev pub Shown : Type 0
-Shown = Option (List Field) × List ℕ
+abbrev pub ContentValue : Type 0
+ContentValue = Option (List Field) × List ℕ
 
 -- a name of 1 to 64 bytes and a text of at most 4,096
 abbrev pub is_field : Field → Bool
@@ -44,5 +44,5 @@ is_body None = true
 is_body (Some fields) = fields_fit fields && names_rise fields
 
 -- a body within the limits, and a master
-abbrev pub is_content : Shown → Bool
+abbrev pub is_content : ContentValue → Bool
 is_content shown = is_body shown.0 && is_name shown.1

@@ -4,7 +4,7 @@ use Rattle.std.specs.declared.cmp.Ordering.{Ordering}
 use Rattle.std.specs.Ordering.{nat_cmp, ordering_then}
 use Rattle.std.specs.Option.{option_cmp}
 use Rattle.std.specs.Cmp.Lexicographic.{slice_cmp}
-use Rattle.pn_record.specs.Limits.{Field, Shown}
+use Rattle.pn_record.specs.Limits.{Field, ContentValue}
 
 -- by generation, and then by number
 abbrev pub version_cmp : ℕ × ℕ → ℕ × ℕ → Ordering
@@ -23,5 +23,5 @@ abbrev pub body_cmp : Option (List Field) → Option (List Field) → Ordering
 body_cmp = option_cmp (slice_cmp field_cmp)
 
 -- by body, and then by master
-abbrev pub content_cmp : Shown → Shown → Ordering
+abbrev pub content_cmp : ContentValue → ContentValue → Ordering
 content_cmp a b = ordering_then (body_cmp a.0 b.0) (bytes_cmp a.1 b.1)

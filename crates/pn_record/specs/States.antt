@@ -4,16 +4,16 @@ use Rattle.std.specs.List.{list_all}
 use Rattle.std.specs.FinMap.{keys}
 use Rattle.pn_record.specs.declared.cell.CellState.{CellState}
 use Rattle.pn_record.specs.declared.cell.CellState.TheVariants.{One, Deleted, Conflict}
-use Rattle.pn_record.specs.Limits.{Shown}
-use Rattle.pn_record.specs.Sets.{Celled}
+use Rattle.pn_record.specs.Limits.{ContentValue}
+use Rattle.pn_record.specs.Sets.{CellValue}
 
 -- the content is a deletion
-abbrev pub is_deletion : Shown → Bool
+abbrev pub is_deletion : ContentValue → Bool
 is_deletion shown = is_none shown.0
 
 -- deleted where all contents are deletions, one where there is one content, and else a conflict
-abbrev pub state_of_contents : List Shown → CellState
+abbrev pub state_of_contents : List ContentValue → CellState
 state_of_contents contents = if list_all is_deletion contents then Deleted else (if length contents == 1 then One else Conflict)
 
-abbrev pub state_of : Celled → CellState
+abbrev pub state_of : CellValue → CellState
 state_of cell = state_of_contents (keys cell.1)

@@ -8,7 +8,7 @@ use Rattle.std.specs.Ordering.{on}
 use Rattle.std.specs.Cmp.{IsTotalOrder}
 use Rattle.std.specs.Cmp.Lexicographic.{options_total}
 use Rattle.std.proofs.lemmas.Cmp.{nat_cmp_total, nat_list_cmp_total, lists_total, on_total, then_total}
-use Rattle.pn_record.specs.Limits.{Field, Shown}
+use Rattle.pn_record.specs.Limits.{Field, ContentValue}
 use Rattle.pn_record.specs.Order.{version_cmp, bytes_cmp, field_cmp, body_cmp, content_cmp}
 use Rattle.pn_record.specs.Showing.{shown_value}
 
@@ -22,7 +22,7 @@ pub field_cmp_total : IsTotalOrder field_cmp
 field_cmp_total = then_total (on_total (λ (f : Field). f.0) nat_list_cmp_total) (on_total (λ (f : Field). f.1) nat_list_cmp_total)
 
 pub content_cmp_total : IsTotalOrder content_cmp
-content_cmp_total = then_total (on_total (λ (s : Shown). s.0) (options_total (lists_total field_cmp_total))) (on_total (λ (s : Shown). s.1) nat_list_cmp_total)
+content_cmp_total = then_total (on_total (λ (s : ContentValue). s.0) (options_total (lists_total field_cmp_total))) (on_total (λ (s : ContentValue). s.1) nat_list_cmp_total)
 
 pub version_cmp_total : IsTotalOrder version_cmp
 version_cmp_total = then_total (on_total (λ (v : ℕ × ℕ). v.0) nat_cmp_total) (on_total (λ (v : ℕ × ℕ). v.1) nat_cmp_total)

@@ -1,7 +1,7 @@
 -- The JSON values of versions, contents and images.
 use Rattle.std.specs.Prelude.{ℕ, true, List, [], ◌∷◌, codes, Option, Some, None}
 use Rattle.serde_json.specs.Data.{Data, boolean, number, string, array, object, unsigned, no_items, item, Members, no_members, member}
-use Rattle.pn_record.specs.Limits.{Field, Shown}
+use Rattle.pn_record.specs.Limits.{Field, ContentValue}
 use Rattle.pn_record.specs.declared.image.Image.{Image}
 
 -- the two numbers
@@ -19,7 +19,7 @@ body_data None rest = member (codes "deleted") (boolean true) rest
 body_data (Some fields) rest = member (codes "fields") (object (fields_data fields)) rest
 
 -- the body and the master
-abbrev pub content_data : Shown → Data
+abbrev pub content_data : ContentValue → Data
 content_data shown = object (body_data shown.0 (member (codes "master") (string shown.1) no_members))
 
 -- the body, the key, the master and the version

@@ -3,7 +3,7 @@
 ghost use Rattle.std.specs.Prelude.{◌≡◌, ◌∷◌, [], ◌<◌, length, IsTrue, IfOk, OnOk, OnErr};
 ghost use Rattle.std.specs.FinMap.{keys};
 ghost use Rattle.std.specs.List.{list_all};
-ghost use Rattle.pn_record.specs.Sets.{Celled, set_of, union, cell_joined, HasContents};
+ghost use Rattle.pn_record.specs.Sets.{CellValue, set_of, union, cell_joined, HasContents};
 ghost use Rattle.pn_record.specs.JoinedCells.{cell_joined-laws};
 ghost use Rattle.pn_record.specs.States.{state_of, is_deletion as deletes};
 
@@ -41,9 +41,9 @@ impl Model for Cell {
     ghost use Rattle.std.specs.FinMap as map;
     ghost use base.Stored.{coded_unit};
     ghost use Rattle.pn_record.specs.Coding.{shown_code};
-    ghost use Rattle.pn_record.specs.Sets.{Celled, set_of, IsContents};
+    ghost use Rattle.pn_record.specs.Sets.{CellValue, set_of, IsContents};
 
-    ghost Value = { Celled };
+    ghost Value = { CellValue };
 
     ghost coded = { coded× (coded× coded_ℕ coded_ℕ) (map.code shown_code coded_unit) };
 
@@ -129,7 +129,7 @@ impl Dup for Cell {
 }
 
 impl Join for Cell {
-    ghost Meaning = { Celled };
+    ghost Meaning = { CellValue };
 
     ghost meaning = { λ cell. cell };
 

@@ -36,9 +36,9 @@ pub struct Content {
 
 impl Model for Content {
     ghost use Rattle.std.specs.Prelude.{ℕ, List, IsTrue};
-    ghost use Rattle.pn_record.specs.Limits.{Shown, is_content};
+    ghost use Rattle.pn_record.specs.Limits.{ContentValue, is_content};
 
-    ghost Value = { Shown };
+    ghost Value = { ContentValue };
 
     ghost use Rattle.pn_record.specs.Showing.{shown_body};
 

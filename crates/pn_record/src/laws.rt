@@ -7,7 +7,7 @@ ghost use Rattle.pn_join.specs.Laws.{JoinLaws};
 ghost use Rattle.pn_join.specs.Tables.{optional_joined};
 ghost use Rattle.pn_record.specs.declared.image.Image.{Image};
 ghost use Rattle.pn_record.specs.Order.{bytes_cmp, version_cmp};
-ghost use Rattle.pn_record.specs.Sets.{Celled, cell_joined};
+ghost use Rattle.pn_record.specs.Sets.{CellValue, cell_joined};
 ghost use Rattle.pn_record.specs.Cells.{Holds, IsTop, SameImages, cells, top};
 
 /// The top version of images is that of one of them, and none has a greater one.
@@ -28,12 +28,12 @@ pub fn cells_of_the_same_images()
 
 /// Two tables that hold the same images are equal.
 pub fn tables_of_the_same_images()
-    ensures { (table other : List (List ℕ × Celled)) (images others : List Image)
+    ensures { (table other : List (List ℕ × CellValue)) (images others : List Image)
         → IsTrue (is_sorted bytes_cmp table) → IsTrue (is_sorted bytes_cmp other)
         → Holds table images → Holds other others → SameImages images others → table ≡ other }
 {}
 
 /// A join leaves no cell at an older version.
 pub fn joining_never_goes_back()
-    ensures { (cell other : Celled) → is_gt (version_cmp cell.0 (cell_joined cell other).0) ≡ false }
+    ensures { (cell other : CellValue) → is_gt (version_cmp cell.0 (cell_joined cell other).0) ≡ false }
 {}

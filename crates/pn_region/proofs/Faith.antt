@@ -9,20 +9,20 @@ use Rattle.pn_record.specs.declared.image.Image.{Image}
 use Rattle.pn_record.specs.Cells.{spell, SameImages}
 use Rattle.pn_record.specs.CellMap.{Entries, table_of, adds}
 use Rattle.pn_record.proofs.CellMaps.{table_of-nil}
-use Rattle.pn_stream.specs.Positions.{Delivered}
+use Rattle.pn_stream.specs.Positions.{DeliveryValue}
 use Rattle.pn_stream.specs.Brokers.{BrokerRecord, up_to, AreHonest}
 use Rattle.pn_stream.proofs.Published.{Stands, wider, in_part, part_of, is_up_to, published, brings, is_brought}
 use Rattle.pn_tablet.specs.Layouts.{Bounds}
 use Rattle.pn_tablet.specs.Ranges.{Ends}
 use Rattle.pn_tablet.specs.Steps.{taking, stepped}
-use Rattle.pn_tablet.specs.Tablets.{Tablet, empty_tablet}
+use Rattle.pn_tablet.specs.Tablets.{TabletStateValue, empty_tablet}
 use Rattle.pn_apply.specs.Applying.{all_stepped, AreOldOrStepped}
 use Rattle.pn_apply.specs.Reducing.{all_images, images_in, join_in, ranges}
 use Rattle.pn_apply.proofs.ReduceLaws.{range_joins, same_in}
 use Rattle.pn_region.specs.Faith.{missing, IsFaithful, AreFaithful}
 use Rattle.pn_region.specs.Laws.{HasImages}
 use Rattle.pn_region.specs.Marking.{new_marks, last_position}
-use Rattle.pn_region.specs.Regions.{RegionState, IsTabletOf, AreTabletsOf, IsRegion, new_region}
+use Rattle.pn_region.specs.Regions.{RegionValue, IsTabletOf, AreTabletsOf, IsRegion, new_region}
 use Rattle.pn_region.specs.Rounds.{joins, IsHalfTaken}
 use Rattle.pn_region.specs.Rounds as rounds
 use Rattle.pn_region.proofs.MarkLaws.{not_skipped, next_has_last, next_reaches}
@@ -49,14 +49,14 @@ left_so : {A B C : Type 0} → (A → C) → A ⊎ B → C ⊎ B
 left_so f (inl a) = inl (f a)
 left_so f (inr b) = inr b
 
-module _ (broker : BrokerRecord) (marks next : Positions) (deliveries : List Delivered) (honest : AreHonest broker deliveries) (accepted : new_marks marks deliveries ≡ Ok next) where
+module _ (broker : BrokerRecord) (marks next : Positions) (deliveries : List DeliveryValue) (honest : AreHonest broker deliveries) (accepted : new_marks marks deliveries ≡ Ok next) where
   abbrev images : List Image
   images = all_images deliveries
 
   -- what was brought stands up to marks that reach the new ones
   brought : (reached : Positions) → Reaches reached next → (image : Image) → Contains images image → Contains (up_to broker reached) image
   brought reached reaches image there =
-      let found = part_of (λ (delivery : Delivered). delivery.images) deliveries image there in
+      let found = part_of (λ (delivery : DeliveryValue). delivery.images) deliveries image there in
       let stands = brings broker found.part image (honest found.part found.listed) found.there in
       let last : last_position found.part ≤ position_of next found.part.stream = next_has_last marks next deliveries found.part accepted found.listed (omega (arith, found.there.1)) in
       is_up_to broker reached found.part.stream image
@@ -66,7 +66,7 @@ module _ (broker : BrokerRecord) (marks next : Positions) (deliveries : List Del
   was_brought : (stream : List ℕ) (image : Image) (at : ℕ) → position_of marks stream < at + 1 → at + 1 ≤ position_of next stream → at < length (broker stream) → get_or (broker stream) at image ≡ image → Contains images image
   was_brought stream image at past up within is =
       let has = not_skipped marks next deliveries stream (at + 1) accepted past up in
-      in_part (λ (delivery : Delivered). delivery.images) deliveries has.there.0 has.delivery image has.there.1 has.there.2
+      in_part (λ (delivery : DeliveryValue). delivery.images) deliveries has.there.0 has.delivery image has.there.1 has.there.2
       (is_brought broker has.delivery image (honest has.delivery has.there) at has.from has.before
       (subst (λ name. at < length (broker name)) (sym has.stream) within)
       (subst (λ name. get_or (broker name) at image ≡ image) (sym has.stream) is))
@@ -96,7 +96,7 @@ module _ (broker : BrokerRecord) (marks next : Positions) (deliveries : List Del
                 (was_brought stream image stands.at (omega (arith, reached)) (omega (arith, stands.below)) stands.within stands.is)
           ] refl
 
-  module _ (r : Ends) (t : Tablet) (of : IsTabletOf marks r t) (faithful : IsFaithful broker t) where
+  module _ (r : Ends) (t : TabletStateValue) (of : IsTabletOf marks r t) (faithful : IsFaithful broker t) where
     -- the images up to the raised cover: those up to the old one, and those that were brought
     up_to_raised : (image : Image) (stream : List ℕ) → Stands (broker stream) (position_of (raised t.cover next) stream) image
         → Contains (faithful.images ++ images) image ⊎ Contains (up_to broker (missing t.status)) image
@@ -134,17 +134,17 @@ module _ (broker : BrokerRecord) (marks next : Positions) (deliveries : List Del
     stepped_keeps : IsFaithful broker (stepped t (join_in next images r))
     stepped_keeps = subst (IsFaithful broker) (sym (is_taken next images marks r t of)) one_keeps
 
-    one_half : (u : Tablet) → (u ≡ t) ⊎ (u ≡ stepped t (join_in next images r)) → IsFaithful broker u
+    one_half : (u : TabletStateValue) → (u ≡ t) ⊎ (u ≡ stepped t (join_in next images r)) → IsFaithful broker u
     one_half u (inl same) = subst (IsFaithful broker) (sym same) faithful
     one_half u (inr took) = subst (IsFaithful broker) (sym took) stepped_keeps
 
-  all_keep : (rs : List Ends) (ts : List Tablet) → AreTabletsOf marks rs ts → AreFaithful broker ts → AreFaithful broker (all_stepped ts (map (join_in next images) rs))
+  all_keep : (rs : List Ends) (ts : List TabletStateValue) → AreTabletsOf marks rs ts → AreFaithful broker ts → AreFaithful broker (all_stepped ts (map (join_in next images) rs))
   all_keep [] [] are faithful = tt
   all_keep [] (t ∷ ts) are faithful = absurd are
   all_keep (r ∷ rs) [] are faithful = absurd are
   all_keep (r ∷ rs) (t ∷ ts) are faithful = (stepped_keeps r t are.0 faithful.0, all_keep rs ts are.1 faithful.1)
 
-  all_half : (rs : List Ends) (ts us : List Tablet) → AreTabletsOf marks rs ts → AreFaithful broker ts → AreOldOrStepped ts (map (join_in next images) rs) us → AreFaithful broker us
+  all_half : (rs : List Ends) (ts us : List TabletStateValue) → AreTabletsOf marks rs ts → AreFaithful broker ts → AreOldOrStepped ts (map (join_in next images) rs) us → AreFaithful broker us
   all_half [] [] [] are faithful half = tt
   all_half [] [] (u ∷ us) are faithful half = absurd half
   all_half [] (t ∷ ts) us are faithful half = absurd are
@@ -153,13 +153,13 @@ module _ (broker : BrokerRecord) (marks next : Positions) (deliveries : List Del
   all_half (r ∷ rs) (t ∷ ts) (u ∷ us) are faithful half = (one_half r t are.0 faithful.0 u half.0, all_half rs ts us are.1 faithful.1 half.1)
 
 -- a round of honest deliveries keeps tablets faithful
-pub round_keeps : (broker : BrokerRecord) (region : RegionState) (deliveries : List Delivered) (marks : Positions) → IsRegion region → AreFaithful broker region.tablets → AreHonest broker deliveries
+pub round_keeps : (broker : BrokerRecord) (region : RegionValue) (deliveries : List DeliveryValue) (marks : Positions) → IsRegion region → AreFaithful broker region.tablets → AreHonest broker deliveries
     → new_marks region.marks deliveries ≡ Ok marks → AreFaithful broker (rounds.taking region deliveries marks).tablets
 round_keeps broker region deliveries marks is faithful honest accepted =
     all_keep broker region.marks marks deliveries honest accepted (ranges region.layout) region.tablets is.tablets faithful
 
 -- and so does one that ended without memory
-pub half_keeps : (broker : BrokerRecord) (old new : RegionState) (deliveries : List Delivered) → IsRegion old → AreFaithful broker old.tablets → AreHonest broker deliveries
+pub half_keeps : (broker : BrokerRecord) (old new : RegionValue) (deliveries : List DeliveryValue) → IsRegion old → AreFaithful broker old.tablets → AreHonest broker deliveries
     → IsHalfTaken old deliveries new → AreFaithful broker new.tablets
 half_keeps broker old new deliveries is faithful honest left =
     elim (new_marks old.marks deliveries) as (λ right. new_marks old.marks deliveries ≡ right → MatchResult right (λ marks. AreOldOrStepped old.tablets (joins old deliveries marks) new.tablets) (λ fault. new.tablets ≡ old.tablets) → AreFaithful broker new.tablets) [
@@ -172,7 +172,7 @@ same_pieces some others [] same = refl
 same_pieces some others (r ∷ rs) same = λ i. same_in r some others same i ∷ same_pieces some others rs same i
 
 -- where a region has just the images up to its marks, it has just those up to its new ones
-pub round_up_to : (broker : BrokerRecord) (region : RegionState) (deliveries : List Delivered) (marks : Positions) → IsRegion region → HasImages region (up_to broker region.marks) → AreHonest broker deliveries
+pub round_up_to : (broker : BrokerRecord) (region : RegionValue) (deliveries : List DeliveryValue) (marks : Positions) → IsRegion region → HasImages region (up_to broker region.marks) → AreHonest broker deliveries
     → new_marks region.marks deliveries ≡ Ok marks → HasImages (rounds.taking region deliveries marks) (up_to broker marks)
 round_up_to broker region deliveries marks is has honest accepted =
     round_takes region deliveries marks (up_to broker region.marks) is has

@@ -11,12 +11,12 @@ use Rattle.pn_record.specs.CellMap.{table_of, adds}
 use Rattle.pn_record.proofs.CellMaps.{table_of-nil}
 use Rattle.pn_stream.specs.Brokers.{BrokerRecord, up_to}
 use Rattle.pn_stream.proofs.Published.{Stands, wider, is_up_to, published}
-use Rattle.pn_tablet.specs.Copies.{Copied}
+use Rattle.pn_tablet.specs.Copies.{TabletCopyValue}
 use Rattle.pn_tablet.specs.Copying.{unless_behind, copy_from, copy_of}
 use Rattle.pn_tablet.specs.Needs.{lacking, first_short}
 use Rattle.pn_tablet.specs.Ranges.{Ends}
 use Rattle.pn_tablet.specs.Steps.{taking, lost, adopting, step}
-use Rattle.pn_tablet.specs.Tablets.{Tablet, same_range}
+use Rattle.pn_tablet.specs.Tablets.{TabletStateValue, same_range}
 use Rattle.pn_tablet.specs.declared.state.Status.{Status}
 use Rattle.pn_tablet.specs.declared.state.Status.TheVariants.{Serving, Recovering}
 use Rattle.pn_tablet.specs.declared.needs.Short.{Short}
@@ -33,7 +33,7 @@ use Rattle.pn_region.specs.Honest.{IsHonestCopy}
 use Rattle.pn_region.proofs.TakenImages.{by_part}
 
 -- a tablet that was lost may lack all up to its need
-pub lost_faithful : (broker : BrokerRecord) (t : Tablet) → IsFaithful broker (lost t)
+pub lost_faithful : (broker : BrokerRecord) (t : TabletStateValue) → IsFaithful broker (lost t)
 lost_faithful broker t = record {
   images = [];
   cells = sym table_of-nil;
@@ -41,7 +41,7 @@ lost_faithful broker t = record {
   all = λ image there. inr there;
 }
 
-was_so : (b : Bool) (right : Result Tablet OpFault) (after : Tablet) → (if b then right else Err WrongRange) ≡ Ok after → b ≡ true
+was_so : (b : Bool) (right : Result TabletStateValue OpFault) (after : TabletStateValue) → (if b then right else Err WrongRange) ≡ Ok after → b ≡ true
 was_so true right after is = refl
 was_so false right after is = cc
 
@@ -50,7 +50,7 @@ need_reached : (status : Status) (marks : Positions) → lacking status marks �
 need_reached Serving marks none name = omega arith
 need_reached (Recovering need) marks none name = nothing_short marks need none name
 
-module _ (broker : BrokerRecord) (t : Tablet) (copy : Copied) (faithful : IsFaithful broker t) (honest : IsHonestCopy broker copy) (ranged : t.range ≡ copy.range) (reaches : Reaches copy.marks (missing t.status)) where
+module _ (broker : BrokerRecord) (t : TabletStateValue) (copy : TabletCopyValue) (faithful : IsFaithful broker t) (honest : IsHonestCopy broker copy) (ranged : t.range ≡ copy.range) (reaches : Reaches copy.marks (missing t.status)) where
   abbrev copied : List Image
   copied = up_to broker copy.marks
 
@@ -82,7 +82,7 @@ module _ (broker : BrokerRecord) (t : Tablet) (copy : Copied) (faithful : IsFait
       let old = published broker marks image there in
       is_up_to broker cover old.stream image (wider (position_of marks old.stream) (position_of cover old.stream) (broker old.stream) image (reach old.stream) old.stands)
 
-  taken_faithful : IsFaithful broker (record (taking t copy.map copy.marks) { status = Serving })
+  taken_faithful : IsFaithful broker (record (taking t copy.cells copy.marks) { status = Serving })
   taken_faithful = record {
     images = faithful.images ++ copied;
     cells =
@@ -98,7 +98,7 @@ module _ (broker : BrokerRecord) (t : Tablet) (copy : Copied) (faithful : IsFait
   }
 
 -- an honest copy that is adopted keeps a tablet faithful
-pub adopted_faithful : (broker : BrokerRecord) (t after : Tablet) (copy : Copied) → IsFaithful broker t → IsHonestCopy broker copy → step t (Adopt copy) ≡ Ok after → IsFaithful broker after
+pub adopted_faithful : (broker : BrokerRecord) (t after : TabletStateValue) (copy : TabletCopyValue) → IsFaithful broker t → IsHonestCopy broker copy → step t (Adopt copy) ≡ Ok after → IsFaithful broker after
 adopted_faithful broker t after copy faithful honest is =
     let known = adopted t copy after is in
     let ranged = one_range t.range copy.range (was_so (same_range t.range copy.range) (adopting t copy (lacking t.status copy.marks)) after is) in
@@ -109,23 +109,23 @@ none_lacked broker image (inl there) = there
 none_lacked broker image (inr lacked) = absurd (omega (arith, lacked.1))
 
 -- a faithful tablet that serves has the cells of all images up to its cover
-pub serving_has_all : (broker : BrokerRecord) (t : Tablet) → IsFaithful broker t → t.status ≡ Serving → t.map ≡ table_of (images_in t.range (up_to broker t.cover))
+pub serving_has_all : (broker : BrokerRecord) (t : TabletStateValue) → IsFaithful broker t → t.status ≡ Serving → t.cells ≡ table_of (images_in t.range (up_to broker t.cover))
 serving_has_all broker t faithful serves =
     let all = subst (λ (status : Status). (image : Image) → Contains (up_to broker t.cover) image → Contains faithful.images image ⊎ Contains (up_to broker (missing status)) image) serves faithful.all in
     faithful.cells
     ∙ same_in t.range faithful.images (up_to broker t.cover) (λ image. (faithful.published image, λ there. none_lacked broker image (all image there)))
 
-given_by : (broker : BrokerRecord) (t : Tablet) (short : Option Short) (copy : Copied) → t.map ≡ table_of (images_in t.range (up_to broker t.cover))
-    → unless_behind short (record { range = t.range; marks = t.cover; map = t.map }) ≡ Ok copy → IsHonestCopy broker copy
+given_by : (broker : BrokerRecord) (t : TabletStateValue) (short : Option Short) (copy : TabletCopyValue) → t.cells ≡ table_of (images_in t.range (up_to broker t.cover))
+    → unless_behind short (record { range = t.range; marks = t.cover; cells = t.cells }) ≡ Ok copy → IsHonestCopy broker copy
 given_by broker t None copy has is =
-    let same : record { range = t.range; marks = t.cover; map = t.map } ≡ copy = cc in
+    let same : record { range = t.range; marks = t.cover; cells = t.cells } ≡ copy = cc in
     subst (IsHonestCopy broker) same has
 given_by broker t (Some short) copy has is = cc
 
-by_status : (broker : BrokerRecord) (t : Tablet) (need : Positions) (copy : Copied) (status : Status) → t.status ≡ status → IsFaithful broker t → copy_from status t need ≡ Ok copy → IsHonestCopy broker copy
+by_status : (broker : BrokerRecord) (t : TabletStateValue) (need : Positions) (copy : TabletCopyValue) (status : Status) → t.status ≡ status → IsFaithful broker t → copy_from status t need ≡ Ok copy → IsHonestCopy broker copy
 by_status broker t need copy Serving serves faithful is = given_by broker t (first_short t.cover need) copy (serving_has_all broker t faithful serves) is
 by_status broker t need copy (Recovering lacked) recovers faithful is = cc
 
 -- so the copy that it gives is honest
-pub given_is_honest : (broker : BrokerRecord) (t : Tablet) (need : Positions) (copy : Copied) → IsFaithful broker t → copy_of t need ≡ Ok copy → IsHonestCopy broker copy
+pub given_is_honest : (broker : BrokerRecord) (t : TabletStateValue) (need : Positions) (copy : TabletCopyValue) → IsFaithful broker t → copy_of t need ≡ Ok copy → IsHonestCopy broker copy
 given_is_honest broker t need copy faithful is = by_status broker t need copy t.status refl faithful is

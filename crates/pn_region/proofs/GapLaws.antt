@@ -4,7 +4,7 @@ use Rattle.std.specs.Prelude.{Result, Ok, Err}
 use Rattle.std.proofs.lemmas.Bool.Decides.{nat_tests}
 use Rattle.std.proofs.lemmas.List.Elements.{filter-append}
 use Rattle.pn_join.specs.Marks.{Positions, position_of}
-use Rattle.pn_stream.specs.Positions.{Delivered}
+use Rattle.pn_stream.specs.Positions.{DeliveryValue}
 use Rattle.pn_region.proofs.MarkLaws.{brings, gap_of, accepted, few, none_skipped, never_fall, some_brings, last_taken}
 use Rattle.pn_region.specs.Laws.{WasTaken, HasNoGap, IsGap}
 use Rattle.pn_region.specs.Marking.{bringing, last_position, marked, leaves_gap, marks_after, of_few_streams, new_marks}
@@ -12,7 +12,7 @@ use Rattle.pn_region.specs.declared.fault.RoundFault.{RoundFault}
 use Rattle.pn_region.specs.declared.fault.RoundFault.TheVariants.{Gap, TooManyStreams}
 
 -- the position is one that the marks have reached by these deliveries
-taken_up_to : (ds : List Delivered) (m n : Positions) (name : List ℕ) (p : ℕ) → marks_after m (bringing ds) ≡ Ok n → p ≤ position_of n name → WasTaken m ds name p
+taken_up_to : (ds : List DeliveryValue) (m n : Positions) (name : List ℕ) (p : ℕ) → marks_after m (bringing ds) ≡ Ok n → p ≤ position_of n name → WasTaken m ds name p
 taken_up_to ds m n name p is within =
     elim (nat_lt (position_of m name) p) as (λ b. nat_lt (position_of m name) p ≡ b → WasTaken m ds name p) [
       | true ↦ λ more. inr (none_skipped ds m n name p is (grind (arith, nat_tests)) within)
@@ -27,7 +27,7 @@ has_images : (first count p : ℕ) → first ≤ p → p < first + count → 0 <
 has_images first count p from before = omega (arith, from, before)
 
 -- and no other was taken
-taken_is_reached : (ds : List Delivered) (m n : Positions) (name : List ℕ) (p : ℕ) → marks_after m (bringing ds) ≡ Ok n → WasTaken m ds name p → p ≤ position_of n name
+taken_is_reached : (ds : List DeliveryValue) (m n : Positions) (name : List ℕ) (p : ℕ) → marks_after m (bringing ds) ≡ Ok n → WasTaken m ds name p → p ≤ position_of n name
 taken_is_reached ds m n name p is (inl within) = omega (arith, within, never_fall ds m n is name)
 taken_is_reached ds m n name p is (inr has) =
     let last : last_position has.delivery ≤ position_of n has.delivery.stream =
@@ -38,12 +38,12 @@ taken_is_reached ds m n name p is (inr has) =
     omega (arith, last, same, within)
 
 -- deliveries are taken one part after another
-record Parts (m : Positions) (front rest : List Delivered) (next : Positions) : Type 0 where
+record Parts (m : Positions) (front rest : List DeliveryValue) (next : Positions) : Type 0 where
   reached : Positions
   so_far : marks_after m front ≡ Ok reached
   then_on : marks_after reached rest ≡ Ok next
 
-in_parts : (front rest : List Delivered) (m next : Positions) → marks_after m (front ++ rest) ≡ Ok next → Parts m front rest next
+in_parts : (front rest : List DeliveryValue) (m next : Positions) → marks_after m (front ++ rest) ≡ Ok next → Parts m front rest next
 in_parts [] rest m next is = record { reached = m; so_far = refl; then_on = is }
 in_parts (d ∷ front) rest m next is =
     let passed = accepted (leaves_gap m d) (gap_of m d) (marks_after (marked m d) (front ++ rest)) next is in
@@ -54,13 +54,13 @@ in_parts (d ∷ front) rest m next is =
       then_on = parts.then_on;
     }
 
-brought : (before after : List Delivered) (d : Delivered) → 0 < length d.images → bringing (before ++ d ∷ after) ≡ bringing before ++ d ∷ bringing after
+brought : (before after : List DeliveryValue) (d : DeliveryValue) → 0 < length d.images → bringing (before ++ d ∷ after) ≡ bringing before ++ d ∷ bringing after
 brought before after d some =
     filter-append brings before (d ∷ after)
     ∙ ap (λ (b : Bool). bringing before ++ cond b (d ∷ bringing after) (bringing after)) (some_brings d some)
 
 -- where all deliveries are taken there is no gap
-no_gap : (ds : List Delivered) (m n : Positions) → marks_after m (bringing ds) ≡ Ok n → HasNoGap m ds
+no_gap : (ds : List DeliveryValue) (m n : Positions) → marks_after m (bringing ds) ≡ Ok n → HasNoGap m ds
 no_gap ds m n is before d after p place some below =
     let parts = in_parts (bringing before) (d ∷ bringing after) m n
     (ap (marks_after m) (sym (ap bringing place ∙ brought before after d some)) ∙ is) in
@@ -70,7 +70,7 @@ no_gap ds m n is before d after p place some below =
     no_gap_reaches : (mark first p : ℕ) → nat_lt (mark + 1) first ≡ false → p < first → p ≤ mark
     no_gap_reaches mark first p joins below = grind (arith, nat_tests)
 
-pub none_is_told : (marks next : Positions) (deliveries : List Delivered) → new_marks marks deliveries ≡ Ok next → HasNoGap marks deliveries
+pub none_is_told : (marks next : Positions) (deliveries : List DeliveryValue) → new_marks marks deliveries ≡ Ok next → HasNoGap marks deliveries
 none_is_told marks next deliveries is = no_gap deliveries marks next (few (marks_after marks (bringing deliveries)) next is)
 
 gap_or_on : (b : Bool) (gap : RoundFault) (rest : Result Positions RoundFault) (P : Type 0) → (rest ≡ Err TooManyStreams → P) → (gap ≡ TooManyStreams → P) → cond b (Err gap) rest ≡ Err TooManyStreams → P
@@ -78,7 +78,7 @@ gap_or_on true gap rest P on now is = now cc
 gap_or_on false gap rest P on now is = on is
 
 -- too many streams are no gap
-never_too_many : (ds : List Delivered) (m : Positions) → marks_after m ds ≡ Err TooManyStreams → ⊥
+never_too_many : (ds : List DeliveryValue) (m : Positions) → marks_after m ds ≡ Err TooManyStreams → ⊥
 never_too_many [] m is = cc
 never_too_many (d ∷ ds) m is = gap_or_on (leaves_gap m d) (gap_of m d) (marks_after (marked m d) ds) ⊥ (never_too_many ds (marked m d)) (λ same. cc) is
 
@@ -86,7 +86,7 @@ too_many_after_all : (right : Result Positions RoundFault) (P : Type 0) → (rig
 too_many_after_all (Ok n) P never all is = all n refl
 too_many_after_all (Err fault) P never all is = never is
 
-pub too_many_leave_none : (marks : Positions) (deliveries : List Delivered) → new_marks marks deliveries ≡ Err TooManyStreams → HasNoGap marks deliveries
+pub too_many_leave_none : (marks : Positions) (deliveries : List DeliveryValue) → new_marks marks deliveries ≡ Err TooManyStreams → HasNoGap marks deliveries
 too_many_leave_none marks deliveries is =
     too_many_after_all (marks_after marks (bringing deliveries)) (HasNoGap marks deliveries)
     (λ never. absurd (never_too_many (bringing deliveries) marks never))
@@ -94,10 +94,10 @@ too_many_leave_none marks deliveries is =
     is
 
 -- a delivery that leaves a gap, behind those that were taken
-record Met (m : Positions) (ds : List Delivered) (fault : RoundFault) : Type 0 where
-  before : List Delivered
-  delivery : Delivered
-  after : List Delivered
+record Met (m : Positions) (ds : List DeliveryValue) (fault : RoundFault) : Type 0 where
+  before : List DeliveryValue
+  delivery : DeliveryValue
+  after : List DeliveryValue
   reached : Positions
   place : ds ≡ before ++ delivery ∷ after
   so_far : marks_after m (bringing before) ≡ Ok reached
@@ -106,15 +106,15 @@ record Met (m : Positions) (ds : List Delivered) (fault : RoundFault) : Type 0 w
   fault_is : gap_of reached delivery ≡ fault
 
 -- behind a delivery that is taken or brings nothing
-behind : (m next : Positions) (d : Delivered) (ds : List Delivered) (fault : RoundFault)
-    → ((before : List Delivered) (n : Positions) → marks_after next (bringing before) ≡ Ok n → marks_after m (bringing (d ∷ before)) ≡ Ok n)
+behind : (m next : Positions) (d : DeliveryValue) (ds : List DeliveryValue) (fault : RoundFault)
+    → ((before : List DeliveryValue) (n : Positions) → marks_after next (bringing before) ≡ Ok n → marks_after m (bringing (d ∷ before)) ≡ Ok n)
     → Met next ds fault → Met m (d ∷ ds) fault
 behind m next d ds fault on met = record {
   before = d ∷ met.before;
   delivery = met.delivery;
   after = met.after;
   reached = met.reached;
-  place = ap (λ (rest : List Delivered). d ∷ rest) met.place;
+  place = ap (λ (rest : List DeliveryValue). d ∷ rest) met.place;
   so_far = on met.before met.reached met.so_far;
   brings_some = met.brings_some;
   leaves = met.leaves;
@@ -122,7 +122,7 @@ behind m next d ds fault on met = record {
 }
 
 -- the first gap is met behind deliveries that are taken
-first_met : (ds : List Delivered) (m : Positions) (fault : RoundFault) → marks_after m (bringing ds) ≡ Err fault → Met m ds fault
+first_met : (ds : List DeliveryValue) (m : Positions) (fault : RoundFault) → marks_after m (bringing ds) ≡ Err fault → Met m ds fault
 first_met [] m fault is = absurd cc
 first_met (d ∷ ds) m fault is =
     elim (brings d) as (λ b. brings d ≡ b → marks_after m (cond b (d ∷ bringing ds) (bringing ds)) ≡ Err fault → Met m (d ∷ ds) fault) [
@@ -151,11 +151,11 @@ first_met (d ∷ ds) m fault is =
           (first_met ds m fault rest)
     ] refl is
 
-brings_images : (d : Delivered) → brings d ≡ true → 0 < length d.images
+brings_images : (d : DeliveryValue) → brings d ≡ true → 0 < length d.images
 brings_images d some = grind (arith, nat_tests)
 
 -- what is met is a gap
-met_is_gap : (m : Positions) (ds : List Delivered) (stream : List ℕ) (wanted got : ℕ) → Met m ds (Gap stream wanted got) → IsGap m ds stream wanted got
+met_is_gap : (m : Positions) (ds : List DeliveryValue) (stream : List ℕ) (wanted got : ℕ) → Met m ds (Gap stream wanted got) → IsGap m ds stream wanted got
 met_is_gap m ds stream wanted got met =
     let fault : gap_of met.reached met.delivery ≡ Gap stream wanted got = met.fault_is in
     let stream_is : stream ≡ met.delivery.stream = cc in
@@ -187,7 +187,7 @@ gap_after_all (Ok n) stream wanted got is = absurd (no_gap_in (nat_lt 16 (length
     no_gap_in false n is = cc
 gap_after_all (Err fault) stream wanted got is = is
 
-pub gap_is_missing : (marks : Positions) (deliveries : List Delivered) (stream : List ℕ) (wanted got : ℕ) → new_marks marks deliveries ≡ Err (Gap stream wanted got) → IsGap marks deliveries stream wanted got
+pub gap_is_missing : (marks : Positions) (deliveries : List DeliveryValue) (stream : List ℕ) (wanted got : ℕ) → new_marks marks deliveries ≡ Err (Gap stream wanted got) → IsGap marks deliveries stream wanted got
 gap_is_missing marks deliveries stream wanted got is =
     met_is_gap marks deliveries stream wanted got
     (first_met deliveries marks (Gap stream wanted got) (gap_after_all (marks_after marks (bringing deliveries)) stream wanted got is))

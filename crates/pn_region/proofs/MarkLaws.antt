@@ -7,18 +7,18 @@ use Rattle.std.proofs.lemmas.Cmp.{nat_list_cmp_total, tied_itself}
 use Rattle.pn_join.specs.Marks.{Positions, Reaches, name_cmp, position_of}
 use Rattle.pn_join.proofs.MarksFacts.{position_of-raised}
 use Rattle.pn_record.proofs.HeldRecords.{tied_keys}
-use Rattle.pn_stream.specs.Positions.{Delivered}
+use Rattle.pn_stream.specs.Positions.{DeliveryValue}
 use Rattle.pn_region.specs.Laws.{HasPosition}
 use Rattle.pn_region.specs.Marking.{bringing, last_position, marked, leaves_gap, marks_after, of_few_streams, new_marks}
 use Rattle.pn_region.specs.declared.fault.RoundFault.{RoundFault}
 use Rattle.pn_region.specs.declared.fault.RoundFault.TheVariants.{Gap, TooManyStreams}
 
 -- the delivery brings images
-abbrev pub brings : Delivered → Bool
+abbrev pub brings : DeliveryValue → Bool
 brings d = not (eqb (length d.images) 0)
 
 -- the gap that it leaves
-abbrev pub gap_of : Positions → Delivered → RoundFault
+abbrev pub gap_of : Positions → DeliveryValue → RoundFault
 gap_of m d = Gap d.stream (position_of m d.stream + 1) d.first
 
 -- what is not refused goes on
@@ -31,7 +31,7 @@ pub few : (right : Result Positions RoundFault) (next : Positions) → of_few_st
 few (Ok marks) next is = (accepted (nat_lt 16 (length marks)) TooManyStreams (Ok marks) next is).1
 few (Err fault) next is = is
 
-further : (first : Delivered) (ds : List Delivered) (name : List ℕ) (p : ℕ) → HasPosition ds name p → HasPosition (first ∷ ds) name p
+further : (first : DeliveryValue) (ds : List DeliveryValue) (name : List ℕ) (p : ℕ) → HasPosition ds name p → HasPosition (first ∷ ds) name p
 further first ds name p has = record {
   delivery = has.delivery;
   there = (suc has.there.0, omega (arith, has.there.1), has.there.2);
@@ -45,7 +45,7 @@ below_pred p zero some within = absurd (omega (arith, some, within))
 below_pred p (suc n) some within = omega (arith, within)
 
 -- a position that a stream's own delivery takes
-own_position : (m : Positions) (d : Delivered) (ds : List Delivered) (name : List ℕ) (p : ℕ) → d.stream ≡ name → leaves_gap m d ≡ false → position_of m name < p → p ≤ last_position d → HasPosition (d ∷ ds) name p
+own_position : (m : Positions) (d : DeliveryValue) (ds : List DeliveryValue) (name : List ℕ) (p : ℕ) → d.stream ≡ name → leaves_gap m d ≡ false → position_of m name < p → p ≤ last_position d → HasPosition (d ∷ ds) name p
 own_position m d ds name p same joins below within =
     let wanted : position_of m d.stream ≡ position_of m name = ap (position_of m) same in
     record {
@@ -57,7 +57,7 @@ own_position m d ds name p same joins below within =
     }
 
 -- a position that one delivery takes
-one_position : (m : Positions) (d : Delivered) (ds : List Delivered) (name : List ℕ) (p : ℕ) → leaves_gap m d ≡ false → position_of m name < p → p ≤ position_of (marked m d) name → HasPosition (d ∷ ds) name p
+one_position : (m : Positions) (d : DeliveryValue) (ds : List DeliveryValue) (name : List ℕ) (p : ℕ) → leaves_gap m d ≡ false → position_of m name < p → p ≤ position_of (marked m d) name → HasPosition (d ∷ ds) name p
 one_position m d ds name p joins below within =
     elim (eq_by_cmp name_cmp name d.stream) as (λ b. eq_by_cmp name_cmp name d.stream ≡ b → position_of (marked m d) name ≡ max (position_of m name) (unwrap_or (cond b (Some (last_position d)) None) 0) → HasPosition (d ∷ ds) name p) [
       | true ↦ λ tied most. own_position m d ds name p (sym (tied_keys name d.stream tied)) joins below (omega (arith, below, within, most))
@@ -65,7 +65,7 @@ one_position m d ds name p joins below within =
     ] refl (position_of-raised m ((d.stream, last_position d) ∷ []) name)
 
 -- each position that marks have gone past stands in a delivery
-pub none_skipped : (ds : List Delivered) (m next : Positions) (name : List ℕ) (p : ℕ) → marks_after m (bringing ds) ≡ Ok next → position_of m name < p → p ≤ position_of next name → HasPosition ds name p
+pub none_skipped : (ds : List DeliveryValue) (m next : Positions) (name : List ℕ) (p : ℕ) → marks_after m (bringing ds) ≡ Ok next → position_of m name < p → p ≤ position_of next name → HasPosition ds name p
 none_skipped [] m next name p is below within =
     let same : m ≡ next = cc in
     absurd (omega (arith, below, within, ap (λ (marks : Positions). position_of marks name) same))
@@ -80,19 +80,19 @@ none_skipped (d ∷ ds) m next name p is below within =
       | false ↦ λ rest. further d ds name p (none_skipped ds m next name p rest below within)
     ] is
 
-pub not_skipped : (marks next : Positions) (deliveries : List Delivered) (name : List ℕ) (p : ℕ) → new_marks marks deliveries ≡ Ok next → position_of marks name < p → p ≤ position_of next name → HasPosition deliveries name p
+pub not_skipped : (marks next : Positions) (deliveries : List DeliveryValue) (name : List ℕ) (p : ℕ) → new_marks marks deliveries ≡ Ok next → position_of marks name < p → p ≤ position_of next name → HasPosition deliveries name p
 not_skipped marks next deliveries name p is below within = none_skipped deliveries marks next name p (few (marks_after marks (bringing deliveries)) next is) below within
 
-marked_reach : (m : Positions) (d : Delivered) → Reaches (marked m d) m
+marked_reach : (m : Positions) (d : DeliveryValue) → Reaches (marked m d) m
 marked_reach m d name = omega (arith, position_of-raised m ((d.stream, last_position d) ∷ []) name)
 
-marked_last : (m : Positions) (d : Delivered) → last_position d ≤ position_of (marked m d) d.stream
+marked_last : (m : Positions) (d : DeliveryValue) → last_position d ≤ position_of (marked m d) d.stream
 marked_last m d =
     let own : unwrap_or (cond (eq_by_cmp name_cmp d.stream d.stream) (Some (last_position d)) None) 0 ≡ last_position d = ap (λ r. unwrap_or (cond (is_eq r) (Some (last_position d)) None) 0) (tied_itself nat_list_cmp_total d.stream) in
     omega (arith, own, position_of-raised m ((d.stream, last_position d) ∷ []) d.stream)
 
 -- marks never fall
-pub never_fall : (ds : List Delivered) (m next : Positions) → marks_after m (bringing ds) ≡ Ok next → Reaches next m
+pub never_fall : (ds : List DeliveryValue) (m next : Positions) → marks_after m (bringing ds) ≡ Ok next → Reaches next m
 never_fall [] m next is name =
     let same : m ≡ next = cc in
     omega (arith, ap (λ (marks : Positions). position_of marks name) same)
@@ -103,17 +103,17 @@ never_fall (d ∷ ds) m next is name =
     ] is
 
 -- what has images brings some
-pub some_brings : (d : Delivered) → 0 < length d.images → brings d ≡ true
+pub some_brings : (d : DeliveryValue) → 0 < length d.images → brings d ≡ true
 some_brings d some = grind (arith, nat_tests)
 
 -- marks reach the last position of each delivery that has images
-pub last_taken : (ds : List Delivered) (m next : Positions) (k : ℕ) (d : Delivered) → k < length ds → get_or ds k d ≡ d → 0 < length d.images → marks_after m (bringing ds) ≡ Ok next → last_position d ≤ position_of next d.stream
+pub last_taken : (ds : List DeliveryValue) (m next : Positions) (k : ℕ) (d : DeliveryValue) → k < length ds → get_or ds k d ≡ d → 0 < length d.images → marks_after m (bringing ds) ≡ Ok next → last_position d ≤ position_of next d.stream
 last_taken [] m next k d within at some is = absurd (omega (arith, within))
 last_taken (first ∷ ds) m next zero d within at some is =
     let brought : brings first ≡ true = ap brings at ∙ some_brings d some in
     let all : marks_after m (first ∷ bringing ds) ≡ Ok next = ap (λ (b : Bool). marks_after m (cond b (first ∷ bringing ds) (bringing ds))) (sym brought) ∙ is in
     let rest = (accepted (leaves_gap m first) (gap_of m first) (marks_after (marked m first) (bringing ds)) next all).1 in
-    subst (λ (one : Delivered). last_position one ≤ position_of next one.stream) at
+    subst (λ (one : DeliveryValue). last_position one ≤ position_of next one.stream) at
     (omega (arith, marked_last m first, never_fall ds (marked m first) next rest first.stream))
 last_taken (first ∷ ds) m next (suc k) d within at some is =
     elim (brings first) as (λ b. marks_after m (cond b (first ∷ bringing ds) (bringing ds)) ≡ Ok next → last_position d ≤ position_of next d.stream) [
@@ -121,10 +121,10 @@ last_taken (first ∷ ds) m next (suc k) d within at some is =
       | false ↦ λ rest. last_taken ds m next k d (omega (arith, within)) at some rest
     ] is
 
-pub next_reaches : (marks next : Positions) (deliveries : List Delivered) → new_marks marks deliveries ≡ Ok next → Reaches next marks
+pub next_reaches : (marks next : Positions) (deliveries : List DeliveryValue) → new_marks marks deliveries ≡ Ok next → Reaches next marks
 next_reaches marks next deliveries is = never_fall deliveries marks next (few (marks_after marks (bringing deliveries)) next is)
 
-pub next_has_last : (marks next : Positions) (deliveries : List Delivered) (delivery : Delivered) → new_marks marks deliveries ≡ Ok next → Contains deliveries delivery → 0 < length delivery.images
+pub next_has_last : (marks next : Positions) (deliveries : List DeliveryValue) (delivery : DeliveryValue) → new_marks marks deliveries ≡ Ok next → Contains deliveries delivery → 0 < length delivery.images
     → last_position delivery ≤ position_of next delivery.stream
 next_has_last marks next deliveries delivery is there some =
     last_taken deliveries marks next there.0 delivery there.1 there.2 some (few (marks_after marks (bringing deliveries)) next is)

@@ -4,7 +4,7 @@ use Rattle.std.specs.Prelude.{Result, Ok, Err}
 use Rattle.std.proofs.lemmas.List.Elements.{filter-append}
 use Rattle.std.proofs.lemmas.List.{take_more}
 use Rattle.pn_join.specs.Marks.{Positions, position_of}
-use Rattle.pn_stream.specs.Positions.{Delivered}
+use Rattle.pn_stream.specs.Positions.{DeliveryValue}
 use Rattle.pn_region.specs.Marking.{bringing, marked, leaves_gap, marks_after, of_few_streams, new_marks, Refuses}
 use Rattle.pn_region.specs.declared.fault.RoundFault.{RoundFault}
 use Rattle.pn_region.specs.declared.fault.RoundFault.TheVariants.{Gap, TooManyStreams, Memory}
@@ -14,7 +14,7 @@ step_on true fault rest more after n next is = cc
 step_on false fault rest more after n next is = next is
 
 -- further deliveries go on from the marks of those before
-pub marks_on : (m n : Positions) (ds more : List Delivered) → marks_after m ds ≡ Ok n → marks_after m (ds ++ more) ≡ marks_after n more
+pub marks_on : (m n : Positions) (ds more : List DeliveryValue) → marks_after m ds ≡ Ok n → marks_after m (ds ++ more) ≡ marks_after n more
 marks_on m n [] more is = cc
 marks_on m n (d ∷ ds) more is =
     step_on (leaves_gap m d) (Gap d.stream (position_of m d.stream + 1) d.first) (marks_after (marked m d) ds) (marks_after (marked m d) (ds ++ more)) (marks_after n more) n
@@ -25,44 +25,44 @@ gap_on true gap fault rest more next is = is
 gap_on false gap fault rest more next is = next is
 
 -- the first gap stays the first
-pub gap_stays : (m : Positions) (ds more : List Delivered) (fault : RoundFault) → marks_after m ds ≡ Err fault → marks_after m (ds ++ more) ≡ Err fault
+pub gap_stays : (m : Positions) (ds more : List DeliveryValue) (fault : RoundFault) → marks_after m ds ≡ Err fault → marks_after m (ds ++ more) ≡ Err fault
 gap_stays m [] more fault is = cc
 gap_stays m (d ∷ ds) more fault is =
     gap_on (leaves_gap m d) (Gap d.stream (position_of m d.stream + 1) d.first) fault (marks_after (marked m d) ds) (marks_after (marked m d) (ds ++ more))
     (gap_stays (marked m d) ds more fault) is
 
-abbrev brings : Delivered → Bool
+abbrev brings : DeliveryValue → Bool
 brings d = not (eqb (length d.images) 0)
 
 -- the marks after one more delivery
-pub marks_more : (m n after : Positions) (ds : List Delivered) (i : ℕ) (d : Delivered) → i < length ds → marks_after m (bringing (take i ds)) ≡ Ok n → marks_after n (bringing (get_or ds i d ∷ [])) ≡ Ok after
+pub marks_more : (m n after : Positions) (ds : List DeliveryValue) (i : ℕ) (d : DeliveryValue) → i < length ds → marks_after m (bringing (take i ds)) ≡ Ok n → marks_after n (bringing (get_or ds i d ∷ [])) ≡ Ok after
     → marks_after m (bringing (take (i + 1) ds)) ≡ Ok after
 marks_more m n after ds i d within so_far next =
-    ap (λ (xs : List Delivered). marks_after m (bringing xs)) (take_more ds i d within)
+    ap (λ (xs : List DeliveryValue). marks_after m (bringing xs)) (take_more ds i d within)
     ∙ ap (marks_after m) (filter-append brings (take i ds) (get_or ds i d ∷ []))
     ∙ marks_on m n (bringing (take i ds)) (bringing (get_or ds i d ∷ [])) so_far
     ∙ next
 
-split_at : (ds : List Delivered) (i : ℕ) → take i ds ++ drop i ds ≡ ds
+split_at : (ds : List DeliveryValue) (i : ℕ) → take i ds ++ drop i ds ≡ ds
 split_at ds zero = refl
 split_at [] (suc i) = refl
 split_at (d ∷ ds) (suc i) = ap (λ rest. d ∷ rest) (split_at ds i)
 
 -- a gap that is met is that of all deliveries
-pub gap_met : (m n : Positions) (ds : List Delivered) (i : ℕ) (d : Delivered) (fault : RoundFault) → i < length ds → marks_after m (bringing (take i ds)) ≡ Ok n → marks_after n (bringing (get_or ds i d ∷ [])) ≡ Err fault
+pub gap_met : (m n : Positions) (ds : List DeliveryValue) (i : ℕ) (d : DeliveryValue) (fault : RoundFault) → i < length ds → marks_after m (bringing (take i ds)) ≡ Ok n → marks_after n (bringing (get_or ds i d ∷ [])) ≡ Err fault
     → new_marks m ds ≡ Err fault
 gap_met m n ds i d fault within so_far next =
     ap of_few_streams
-    (ap (λ (xs : List Delivered). marks_after m (bringing xs)) (sym (split_at ds (i + 1)))
+    (ap (λ (xs : List DeliveryValue). marks_after m (bringing xs)) (sym (split_at ds (i + 1)))
     ∙ ap (marks_after m) (filter-append brings (take (i + 1) ds) (drop (i + 1) ds))
     ∙ gap_stays m (bringing (take (i + 1) ds)) (bringing (drop (i + 1) ds)) fault
-    (ap (λ (xs : List Delivered). marks_after m (bringing xs)) (take_more ds i d within)
+    (ap (λ (xs : List DeliveryValue). marks_after m (bringing xs)) (take_more ds i d within)
     ∙ ap (marks_after m) (filter-append brings (take i ds) (get_or ds i d ∷ []))
     ∙ marks_on m n (bringing (take i ds)) (bringing (get_or ds i d ∷ [])) so_far
     ∙ next))
 
 -- so is the fault that is answered then
-pub refusal_met : (m n : Positions) (ds : List Delivered) (i : ℕ) (d : Delivered) (fault : RoundFault) → i < length ds → marks_after m (bringing (take i ds)) ≡ Ok n
+pub refusal_met : (m n : Positions) (ds : List DeliveryValue) (i : ℕ) (d : DeliveryValue) (fault : RoundFault) → i < length ds → marks_after m (bringing (take i ds)) ≡ Ok n
     → Refuses fault (marks_after n (bringing (get_or ds i d ∷ []))) → Refuses fault (new_marks m ds)
 refusal_met m n ds i d (Gap stream wanted got) within so_far is = gap_met m n ds i d (Gap stream wanted got) within so_far is
 refusal_met m n ds i d TooManyStreams within so_far is = gap_met m n ds i d TooManyStreams within so_far is

@@ -7,7 +7,7 @@ use Rattle.std.proofs.lemmas.List.FromFn.{length-map-range_with_len, map-range_w
 use Rattle.pn_join.specs.Marks.{Positions}
 use Rattle.pn_tablet.specs.Layouts.{Bounds, IsLayout, tablet_ends}
 use Rattle.pn_tablet.specs.Ranges.{Ends}
-use Rattle.pn_tablet.specs.Tablets.{Tablet, empty_tablet}
+use Rattle.pn_tablet.specs.Tablets.{TabletStateValue, empty_tablet}
 use Rattle.pn_tablet.proofs.Keeping.{spelled_nil}
 use Rattle.pn_apply.specs.Reducing.{ranges}
 use Rattle.pn_region.specs.Regions.{AreTabletsOf, IsRegion}
@@ -18,25 +18,25 @@ empty_ones [] = tt
 empty_ones (r ∷ rs) = (record { range = refl; inside = refl; spelled = spelled_nil; covered = λ name. omega arith }, empty_ones rs)
 
 -- there are as many tablets as ranges
-pub tablet_count : (marks : Positions) (bounds : Bounds) (ts : List Tablet) → AreTabletsOf marks (ranges bounds) ts → length ts ≡ length bounds + 1
+pub tablet_count : (marks : Positions) (bounds : Bounds) (ts : List TabletStateValue) → AreTabletsOf marks (ranges bounds) ts → length ts ≡ length bounds + 1
 tablet_count marks bounds ts are =
-    sym (length-map ts (λ (t : Tablet). t.range)) ∙ ap length (own_ranges marks (ranges bounds) ts are) ∙ length-map-range_with_len (tablet_ends bounds) 0 (length bounds + 1)
+    sym (length-map ts (λ (t : TabletStateValue). t.range)) ∙ ap length (own_ranges marks (ranges bounds) ts are) ∙ length-map-range_with_len (tablet_ends bounds) 0 (length bounds + 1)
 
-pub new_is : (layout : Bounds) (ts : List Tablet) (marks : Positions) → IsLayout layout → ts ≡ map empty_tablet (ranges layout) → marks ≡ [] → IsRegion (record { layout = layout; tablets = ts; marks = marks })
+pub new_is : (layout : Bounds) (ts : List TabletStateValue) (marks : Positions) → IsLayout layout → ts ≡ map empty_tablet (ranges layout) → marks ≡ [] → IsRegion (record { layout = layout; tablets = ts; marks = marks })
 new_is layout ts marks lawful empty none =
-    subst (λ (tablets : List Tablet). IsRegion (record { layout = layout; tablets = tablets; marks = marks })) (sym empty)
+    subst (λ (tablets : List TabletStateValue). IsRegion (record { layout = layout; tablets = tablets; marks = marks })) (sym empty)
     (subst (λ (m : Positions). IsRegion (record { layout = layout; tablets = map empty_tablet (ranges layout); marks = m })) (sym none)
     (record { lawful = lawful; tablets = empty_ones (ranges layout) }))
 
 -- one more empty tablet
-pub empty_more : (bounds : Bounds) (n : ℕ) (ts : List Tablet) (t : Tablet) (ends : Ends) → ts ≡ map empty_tablet (map (tablet_ends bounds) (range_with_len 0 n)) → t ≡ empty_tablet ends → ends ≡ tablet_ends bounds n
+pub empty_more : (bounds : Bounds) (n : ℕ) (ts : List TabletStateValue) (t : TabletStateValue) (ends : Ends) → ts ≡ map empty_tablet (map (tablet_ends bounds) (range_with_len 0 n)) → t ≡ empty_tablet ends → ends ≡ tablet_ends bounds n
     → ts ++ t ∷ [] ≡ map empty_tablet (map (tablet_ends bounds) (range_with_len 0 (n + 1)))
 empty_more bounds n ts t ends so_far empty at =
     (λ i. so_far i ++ (empty ∙ ap empty_tablet at) i ∷ [])
     ∙ sym (map-append empty_tablet (map (tablet_ends bounds) (range_with_len 0 n)) (tablet_ends bounds n ∷ []))
     ∙ ap (map empty_tablet) (sym (map-range_with_len_more (tablet_ends bounds) 0 n n (omega arith)))
 
-pub tablet_at : (ts : List Tablet) (n : ℕ) (t : Tablet) → n < length ts → t ≡ get_or ts n t → slice_get ts n ≡ Some t
+pub tablet_at : (ts : List TabletStateValue) (n : ℕ) (t : TabletStateValue) → n < length ts → t ≡ get_or ts n t → slice_get ts n ≡ Some t
 tablet_at [] n t within is = absurd (omega arith)
 tablet_at (u ∷ ts) zero t within is = ap Some (sym is)
 tablet_at (u ∷ ts) (suc n) t within is = tablet_at ts n t (omega arith) is

@@ -7,22 +7,22 @@ use Rattle.std.specs.FinMap.{find}
 use Rattle.std.proofs.lemmas.List.Elements.{filter_map-append}
 use Rattle.pn_join.specs.Marks.{Positions}
 use Rattle.pn_record.specs.Order.{bytes_cmp}
-use Rattle.pn_record.specs.Sets.{Celled}
+use Rattle.pn_record.specs.Sets.{CellValue}
 use Rattle.pn_record.specs.CellMap.{Entries}
 use Rattle.pn_record.proofs.Sorted.{first_true, second_true}
 use Rattle.pn_record.proofs.HeldRecords.{tied_keys}
 use Rattle.pn_tablet.specs.Ranges.{Ends, in_range}
-use Rattle.pn_tablet.specs.Tablets.{Tablet, lie_in}
+use Rattle.pn_tablet.specs.Tablets.{TabletStateValue, lie_in}
 use Rattle.pn_tablet.specs.Changes.{changes, change_of}
 use Rattle.pn_tablet.specs.declared.change.Change.{Change}
 use Rattle.pn_region.specs.Regions.{AreTabletsOf}
 use Rattle.pn_region.proofs.Apart.{Outside, Apart}
 
 -- the cells of tablets together
-abbrev pub cells_of : List Tablet → Entries
-cells_of tablets = flat_map (λ tablet. tablet.map) tablets
+abbrev pub cells_of : List TabletStateValue → Entries
+cells_of tablets = flat_map (λ tablet. tablet.cells) tablets
 
-outside_first : (t : Bool) (range : Ends) (key : List ℕ) (e : List ℕ × Celled) (rest : Option Celled)
+outside_first : (t : Bool) (range : Ends) (key : List ℕ) (e : List ℕ × CellValue) (rest : Option CellValue)
     → eq_by_cmp bytes_cmp key e.0 ≡ t → in_range range e.0 ≡ true → in_range range key ≡ false → rest ≡ None → cond t (Some e.1) rest ≡ None
 outside_first true range key e rest tied inside outside none =
     let no : true ≡ false = sym (ap (in_range range) (tied_keys key e.0 tied) ∙ inside) ∙ outside in cc
@@ -47,7 +47,7 @@ found_behind key (e ∷ es) more none =
 -- what is not found behind is found in front, or not at all
 pub found_before : (key : List ℕ) (es more : Entries) → find bytes_cmp key more ≡ None → find bytes_cmp key (es ++ more) ≡ find bytes_cmp key es
 found_before key [] more none = none
-found_before key (e ∷ es) more none = ap (λ (rest : Option Celled). cond (eq_by_cmp bytes_cmp key e.0) (Some e.1) rest) (found_before key es more none)
+found_before key (e ∷ es) more none = ap (λ (rest : Option CellValue). cond (eq_by_cmp bytes_cmp key e.0) (Some e.1) rest) (found_before key es more none)
 
 not_in : (range other : Ends) (key : List ℕ) → (in_range other key ≡ true → in_range range key ≡ false) → in_range range key ≡ true → in_range other key ≡ false
 not_in range other key apart lies =
@@ -57,13 +57,13 @@ not_in range other key apart lies =
     ] refl
 
 -- a key of a range is not found in tablets of others
-pub none_there : (marks : Positions) (range : Ends) (others : List Ends) (tablets : List Tablet) → Outside range others → AreTabletsOf marks others tablets
+pub none_there : (marks : Positions) (range : Ends) (others : List Ends) (tablets : List TabletStateValue) → Outside range others → AreTabletsOf marks others tablets
     → (key : List ℕ) → in_range range key ≡ true → find bytes_cmp key (cells_of tablets) ≡ None
 none_there marks range [] [] outside are key lies = refl
 none_there marks range [] (t ∷ ts) outside are key lies = absurd are
 none_there marks range (r ∷ rs) [] outside are key lies = absurd are
 none_there marks range (r ∷ rs) (t ∷ ts) outside are key lies =
-    found_behind key t.map (cells_of ts) (none_outside r t.map key are.0.inside (not_in range r key (outside.0 key) lies))
+    found_behind key t.cells (cells_of ts) (none_outside r t.cells key are.0.inside (not_in range r key (outside.0 key) lies))
     ∙ none_there marks range rs ts outside.1 are.1 key lies
 
 -- the two have the same cells at the keys of the ranges
@@ -91,27 +91,27 @@ changes_alike range before other (e ∷ es) inside alike =
     ∙ (λ i. filter_map (λ entry. change_of (here i) e) (e ∷ []) ++ later i)
     ∙ sym (filter_map-append (λ entry. change_of (find bytes_cmp entry.0 other) entry) (e ∷ []) es)
 
-changes_behind : (marks : Positions) (rs : List Ends) (before other : Entries) (tablets : List Tablet) → AreTabletsOf marks rs tablets → AreAlike before other rs
+changes_behind : (marks : Positions) (rs : List Ends) (before other : Entries) (tablets : List TabletStateValue) → AreTabletsOf marks rs tablets → AreAlike before other rs
     → changes before (cells_of tablets) ≡ changes other (cells_of tablets)
 changes_behind marks [] before other [] are alike = refl
 changes_behind marks [] before other (t ∷ ts) are alike = absurd are
 changes_behind marks (r ∷ rs) before other [] are alike = absurd are
 changes_behind marks (r ∷ rs) before other (t ∷ ts) are alike =
-    filter_map-append (λ entry. change_of (find bytes_cmp entry.0 before) entry) t.map (cells_of ts)
-    ∙ (λ i. changes_alike r before other t.map are.0.inside alike.0 i ++ changes_behind marks rs before other ts are.1 alike.1 i)
-    ∙ sym (filter_map-append (λ entry. change_of (find bytes_cmp entry.0 other) entry) t.map (cells_of ts))
+    filter_map-append (λ entry. change_of (find bytes_cmp entry.0 before) entry) t.cells (cells_of ts)
+    ∙ (λ i. changes_alike r before other t.cells are.0.inside alike.0 i ++ changes_behind marks rs before other ts are.1 alike.1 i)
+    ∙ sym (filter_map-append (λ entry. change_of (find bytes_cmp entry.0 other) entry) t.cells (cells_of ts))
 
 -- what changes in all tablets together is what changes in each
-pub changes_by_tablet : (marks later : Positions) (rs : List Ends) (ts us : List Tablet) → Apart rs → AreTabletsOf marks rs ts → AreTabletsOf later rs us
-    → changes (cells_of ts) (cells_of us) ≡ flat_map (λ each. changes each.0.map each.1.map) (zip ts us)
+pub changes_by_tablet : (marks later : Positions) (rs : List Ends) (ts us : List TabletStateValue) → Apart rs → AreTabletsOf marks rs ts → AreTabletsOf later rs us
+    → changes (cells_of ts) (cells_of us) ≡ flat_map (λ each. changes each.0.cells each.1.cells) (zip ts us)
 changes_by_tablet marks later [] [] [] apart are too = refl
 changes_by_tablet marks later [] [] (u ∷ us) apart are too = absurd too
 changes_by_tablet marks later [] (t ∷ ts) us apart are too = absurd are
 changes_by_tablet marks later (r ∷ rs) [] us apart are too = absurd are
 changes_by_tablet marks later (r ∷ rs) (t ∷ ts) [] apart are too = absurd too
 changes_by_tablet marks later (r ∷ rs) (t ∷ ts) (u ∷ us) apart are too =
-    let whole = t.map ++ cells_of ts in
-    filter_map-append (λ entry. change_of (find bytes_cmp entry.0 whole) entry) u.map (cells_of us)
-    ∙ (λ i. changes_alike r whole t.map u.map too.0.inside (λ key lies. found_before key t.map (cells_of ts) (none_there marks r rs ts apart.0 are.1 key lies)) i
-    ++ (changes_behind later rs whole (cells_of ts) us too.1 (alike_behind r rs t.map (cells_of ts) are.0.inside apart.0)
+    let whole = t.cells ++ cells_of ts in
+    filter_map-append (λ entry. change_of (find bytes_cmp entry.0 whole) entry) u.cells (cells_of us)
+    ∙ (λ i. changes_alike r whole t.cells u.cells too.0.inside (λ key lies. found_before key t.cells (cells_of ts) (none_there marks r rs ts apart.0 are.1 key lies)) i
+    ++ (changes_behind later rs whole (cells_of ts) us too.1 (alike_behind r rs t.cells (cells_of ts) are.0.inside apart.0)
     ∙ changes_by_tablet marks later rs ts us apart.1 are.1 too.1) i)

@@ -2,8 +2,8 @@
 use Rattle.std.proofs.Common.{◌≡◌, List, [], ◌∷◌, length, map, refl, sym, ap, ◌∙◌, subst, arith}
 use Rattle.std.specs.Prelude.{Result, Ok, Err, MatchResult, IfErr, IsErrAnd}
 use Rattle.pn_join.specs.Marks.{Positions}
-use Rattle.pn_stream.specs.Positions.{Delivered}
-use Rattle.pn_tablet.specs.Tablets.{Tablet}
+use Rattle.pn_stream.specs.Positions.{DeliveryValue}
+use Rattle.pn_tablet.specs.Tablets.{TabletStateValue}
 use Rattle.pn_tablet.specs.Changes.{changes}
 use Rattle.pn_tablet.specs.declared.change.Change.{Change}
 use Rattle.pn_tablet.specs.declared.op.TabletOp.{TabletOp}
@@ -14,7 +14,7 @@ use Rattle.pn_apply.specs.Reducing.{all_images, ranges}
 use Rattle.pn_apply.proofs.Fronts.{old_or_stepped, stepped_whole}
 use Rattle.pn_apply.proofs.ReduceLaws.{joins_fit}
 use Rattle.pn_region.specs.Marking.{new_marks}
-use Rattle.pn_region.specs.Regions.{RegionState, AreTabletsOf, IsRegion, all_cells}
+use Rattle.pn_region.specs.Regions.{RegionValue, AreTabletsOf, IsRegion, all_cells}
 use Rattle.pn_region.specs.Rounds.{joins, taking, round, changed, Leaves}
 use Rattle.pn_region.specs.declared.fault.RoundFault.{RoundFault}
 use Rattle.pn_region.specs.declared.fault.RoundFault.TheVariants.{Gap, TooManyStreams, Memory}
@@ -36,14 +36,14 @@ handed_on (Ok value) fault P is holds = tt
 handed_on (Err other) fault P is holds = subst P (sym is) holds
 
 -- none or all have taken their joins
-pub none_taken : (ts : List Tablet) (ops : List TabletOp) → AreJoinsIn ts ops → AreOldOrStepped ts ops ts
+pub none_taken : (ts : List TabletStateValue) (ops : List TabletOp) → AreJoinsIn ts ops → AreOldOrStepped ts ops ts
 none_taken ts ops fit = old_or_stepped ts ops 0 fit
 
-pub each_taken : (ts us : List Tablet) (ops : List TabletOp) → AreJoinsIn ts ops → us ≡ all_stepped ts ops → AreOldOrStepped ts ops us
+pub each_taken : (ts us : List TabletStateValue) (ops : List TabletOp) → AreJoinsIn ts ops → us ≡ all_stepped ts ops → AreOldOrStepped ts ops us
 each_taken ts us ops fit is =
     subst (AreOldOrStepped ts ops) (stepped_whole ts ops (length ops) fit (omega arith) ∙ sym is) (old_or_stepped ts ops (length ops) fit)
 
-module _ (old : RegionState) (deliveries : List Delivered) (is : IsRegion old) where
+module _ (old : RegionValue) (deliveries : List DeliveryValue) (is : IsRegion old) where
   pub fit : (marks : Positions) → AreJoinsIn old.tablets (joins old deliveries marks)
   fit marks = joins_fit old.layout marks (all_images deliveries) old.tablets (own_ranges old.marks (ranges old.layout) old.tablets is.tablets)
 
@@ -58,42 +58,42 @@ module _ (old : RegionState) (deliveries : List Delivered) (is : IsRegion old) w
   same_left Memory = (refl, refl, half_none (new_marks old.marks deliveries))
 
   -- memory ran out while joins were taken
-  pub half_left : (marks : Positions) (us : List Tablet) → new_marks old.marks deliveries ≡ Ok marks → AreOldOrStepped old.tablets (joins old deliveries marks) us
+  pub half_left : (marks : Positions) (us : List TabletStateValue) → new_marks old.marks deliveries ≡ Ok marks → AreOldOrStepped old.tablets (joins old deliveries marks) us
       → Leaves Memory old deliveries (record { layout = old.layout; tablets = us; marks = old.marks })
   half_left marks us accepted half =
       (refl, refl, subst (λ (right : Result Positions RoundFault). MatchResult right (λ marks. AreOldOrStepped old.tablets (joins old deliveries marks) us) (λ fault. us ≡ old.tablets)) (sym accepted) half)
 
   -- it is a region all the same
-  pub half_region : (marks : Positions) (us : List Tablet) → AreOldOrStepped old.tablets (joins old deliveries marks) us → IsRegion (record { layout = old.layout; tablets = us; marks = old.marks })
+  pub half_region : (marks : Positions) (us : List TabletStateValue) → AreOldOrStepped old.tablets (joins old deliveries marks) us → IsRegion (record { layout = old.layout; tablets = us; marks = old.marks })
   half_region marks us half = record { lawful = is.lawful; tablets = half_taken marks (all_images deliveries) old.marks (ranges old.layout) old.tablets us is.tablets half }
 
   -- all joins were taken
-  pub new_region_is : (marks : Positions) (us : List Tablet) → us ≡ all_stepped old.tablets (joins old deliveries marks) → IsRegion (record { layout = old.layout; tablets = us; marks = marks })
+  pub new_region_is : (marks : Positions) (us : List TabletStateValue) → us ≡ all_stepped old.tablets (joins old deliveries marks) → IsRegion (record { layout = old.layout; tablets = us; marks = marks })
   new_region_is marks us taken = record {
     lawful = is.lawful;
     tablets = subst (AreTabletsOf marks (ranges old.layout)) (sym taken) (all_taken marks (all_images deliveries) old.marks (ranges old.layout) old.tablets is.tablets);
   }
 
-  pub round_ok : (marks : Positions) (us : List Tablet) → new_marks old.marks deliveries ≡ Ok marks → us ≡ all_stepped old.tablets (joins old deliveries marks)
+  pub round_ok : (marks : Positions) (us : List TabletStateValue) → new_marks old.marks deliveries ≡ Ok marks → us ≡ all_stepped old.tablets (joins old deliveries marks)
       → round old deliveries ≡ Ok (record { layout = old.layout; tablets = us; marks = marks })
   round_ok marks us accepted taken =
       ap (result_map_both (taking old deliveries) (λ fault. fault)) accepted
-      ∙ ap (λ (ts : List Tablet). Ok (record { layout = old.layout; tablets = ts; marks = marks })) (sym taken)
+      ∙ ap (λ (ts : List TabletStateValue). Ok (record { layout = old.layout; tablets = ts; marks = marks })) (sym taken)
 
-  pub count : (marks : Positions) (us : List Tablet) (all : List Change) → us ≡ all_stepped old.tablets (joins old deliveries marks)
+  pub count : (marks : Positions) (us : List TabletStateValue) (all : List Change) → us ≡ all_stepped old.tablets (joins old deliveries marks)
       → all ≡ flat_map (λ (list : List Change). list) (all_changes old.tablets (joins old deliveries marks))
       → length all ≡ changed old (record { layout = old.layout; tablets = us; marks = marks })
   count marks us all taken told =
       ap length (told ∙ changes_together marks (all_images deliveries) old.marks (ranges old.layout) old.tablets (ranges_apart old.layout is.lawful) is.tablets)
-      ∙ ap (λ (ts : List Tablet). length (changes (all_cells old) (flat_map (λ tablet. tablet.map) ts))) (sym taken)
+      ∙ ap (λ (ts : List TabletStateValue). length (changes (all_cells old) (flat_map (λ tablet. tablet.cells) ts))) (sym taken)
 
   -- the tablets of a region, and the operations that were found for them
-  module _ (marks : Positions) (ts us : List Tablet) (ops : List TabletOp) (are : ts ≡ old.tablets) (found : ops ≡ joins old deliveries marks) where
+  module _ (marks : Positions) (ts us : List TabletStateValue) (ops : List TabletOp) (are : ts ≡ old.tablets) (found : ops ≡ joins old deliveries marks) where
     pub fit_found : AreJoinsIn ts ops
-    fit_found = subst (λ (o : List TabletOp). AreJoinsIn ts o) (sym found) (subst (λ (t : List Tablet). AreJoinsIn t (joins old deliveries marks)) (sym are) (fit marks))
+    fit_found = subst (λ (o : List TabletOp). AreJoinsIn ts o) (sym found) (subst (λ (t : List TabletStateValue). AreJoinsIn t (joins old deliveries marks)) (sym are) (fit marks))
 
     pub half_found : AreOldOrStepped ts ops us → AreOldOrStepped old.tablets (joins old deliveries marks) us
-    half_found half = subst (λ (o : List TabletOp). AreOldOrStepped old.tablets o us) found (subst (λ (t : List Tablet). AreOldOrStepped t ops us) are half)
+    half_found half = subst (λ (o : List TabletOp). AreOldOrStepped old.tablets o us) found (subst (λ (t : List TabletStateValue). AreOldOrStepped t ops us) are half)
 
     pub all_found : us ≡ all_stepped ts ops → us ≡ all_stepped old.tablets (joins old deliveries marks)
     all_found taken = taken ∙ (λ i. all_stepped (are i) (found i))
@@ -102,6 +102,6 @@ module _ (old : RegionState) (deliveries : List Delivered) (is : IsRegion old) w
     told_found all told = told ∙ (λ i. flat_map (λ (list : List Change). list) (all_changes (are i) (found i)))
 
 -- a region by another name
-pub err_as : {T : Type 0} (old now : RegionState) (deliveries : List Delivered) (answer : Result T RoundFault) (new : RegionState) → old ≡ now
+pub err_as : {T : Type 0} (old now : RegionValue) (deliveries : List DeliveryValue) (answer : Result T RoundFault) (new : RegionValue) → old ≡ now
     → IfErr answer (λ fault. Leaves fault old deliveries new) → IfErr answer (λ fault. Leaves fault now deliveries new)
-err_as old now deliveries answer new same holds = subst (λ (r : RegionState). IfErr answer (λ fault. Leaves fault r deliveries new)) same holds
+err_as old now deliveries answer new same holds = subst (λ (r : RegionValue). IfErr answer (λ fault. Leaves fault r deliveries new)) same holds

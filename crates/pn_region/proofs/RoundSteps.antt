@@ -8,7 +8,7 @@ use Rattle.pn_record.specs.declared.image.Image.{Image}
 use Rattle.pn_record.specs.Cells.{spell}
 use Rattle.pn_record.specs.CellMap.{Entries, table_of}
 use Rattle.pn_tablet.specs.Ranges.{Ends, in_range}
-use Rattle.pn_tablet.specs.Tablets.{Tablet, lie_in}
+use Rattle.pn_tablet.specs.Tablets.{TabletStateValue, lie_in}
 use Rattle.pn_tablet.specs.Steps.{taking, after_step, stepped}
 use Rattle.pn_tablet.specs.Changes.{changes}
 use Rattle.pn_tablet.specs.declared.change.Change.{Change}
@@ -23,7 +23,7 @@ use Rattle.pn_region.proofs.Apart.{Apart}
 use Rattle.pn_region.proofs.Pieces.{cells_of, changes_by_tablet}
 use Rattle.pn_region.proofs.Spelled.{taken_inside}
 
-pub own_ranges : (marks : Positions) (rs : List Ends) (ts : List Tablet) → AreTabletsOf marks rs ts → map (λ (t : Tablet). t.range) ts ≡ rs
+pub own_ranges : (marks : Positions) (rs : List Ends) (ts : List TabletStateValue) → AreTabletsOf marks rs ts → map (λ (t : TabletStateValue). t.range) ts ≡ rs
 own_ranges marks [] [] are = refl
 own_ranges marks [] (t ∷ ts) are = absurd are
 own_ranges marks (r ∷ rs) [] are = absurd are
@@ -47,31 +47,31 @@ module _ (marks : Positions) (images : List Image) where
   cells_in range = table_of (images_in range images)
 
   -- the join in a tablet's range is taken
-  pub is_taken : (old : Positions) (r : Ends) (t : Tablet) → IsTabletOf old r t → stepped t (join r) ≡ taking t (cells_in r) marks
+  pub is_taken : (old : Positions) (r : Ends) (t : TabletStateValue) → IsTabletOf old r t → stepped t (join r) ≡ taking t (cells_in r) marks
   is_taken old r t is =
       ap (λ (b : Bool). after_step t (if b then Ok (taking t (cells_in r) marks) else Err WrongRange)) (ap (λ (range : Ends). lie_in range (cells_in r)) is.range ∙ cells_inside r images)
 
   -- and the tablet stays one of its range
-  one_taken : (old later : Positions) (r : Ends) (t : Tablet) → IsTabletOf old r t → Reaches (raised t.cover marks) later → IsTabletOf later r (stepped t (join r))
+  one_taken : (old later : Positions) (r : Ends) (t : TabletStateValue) → IsTabletOf old r t → Reaches (raised t.cover marks) later → IsTabletOf later r (stepped t (join r))
   one_taken old later r t is reach =
       subst (IsTabletOf later r) (sym (is_taken old r t is)) (record {
         range = is.range;
-        inside = ap (lie_in r) (taken_inside r t.map images is.spelled is.inside) ∙ cells_inside r (spell t.map ++ images);
-        spelled = spelled_adds t.map (spell (cells_in r));
+        inside = ap (lie_in r) (taken_inside r t.cells images is.spelled is.inside) ∙ cells_inside r (spell t.cells ++ images);
+        spelled = spelled_adds t.cells (spell (cells_in r));
         covered = reach;
       })
 
-  pub all_taken : (old : Positions) (rs : List Ends) (ts : List Tablet) → AreTabletsOf old rs ts → AreTabletsOf marks rs (all_stepped ts (map join rs))
+  pub all_taken : (old : Positions) (rs : List Ends) (ts : List TabletStateValue) → AreTabletsOf old rs ts → AreTabletsOf marks rs (all_stepped ts (map join rs))
   all_taken old [] [] are = tt
   all_taken old [] (t ∷ ts) are = absurd are
   all_taken old (r ∷ rs) [] are = absurd are
   all_taken old (r ∷ rs) (t ∷ ts) are = (one_taken old marks r t are.0 (new_reached t.cover marks), all_taken old rs ts are.1)
 
-  half_one : (old : Positions) (r : Ends) (t u : Tablet) → IsTabletOf old r t → (u ≡ t) ⊎ (u ≡ stepped t (join r)) → IsTabletOf old r u
+  half_one : (old : Positions) (r : Ends) (t u : TabletStateValue) → IsTabletOf old r t → (u ≡ t) ⊎ (u ≡ stepped t (join r)) → IsTabletOf old r u
   half_one old r t u is (inl same) = subst (IsTabletOf old r) (sym same) is
   half_one old r t u is (inr taken) = subst (IsTabletOf old r) (sym taken) (one_taken old old r t is (old_reached t.cover marks old is.covered))
 
-  pub half_taken : (old : Positions) (rs : List Ends) (ts us : List Tablet) → AreTabletsOf old rs ts → AreOldOrStepped ts (map join rs) us → AreTabletsOf old rs us
+  pub half_taken : (old : Positions) (rs : List Ends) (ts us : List TabletStateValue) → AreTabletsOf old rs ts → AreOldOrStepped ts (map join rs) us → AreTabletsOf old rs us
   half_taken old [] [] [] are half = tt
   half_taken old [] [] (u ∷ us) are half = absurd half
   half_taken old [] (t ∷ ts) us are half = absurd are
@@ -79,15 +79,15 @@ module _ (marks : Positions) (images : List Image) where
   half_taken old (r ∷ rs) (t ∷ ts) [] are half = absurd half
   half_taken old (r ∷ rs) (t ∷ ts) (u ∷ us) are half = (half_one old r t u are.0 half.0, half_taken old rs ts us are.1 half.1)
 
-  changes_of_joins : (old : Positions) (rs : List Ends) (ts : List Tablet) → AreTabletsOf old rs ts
-      → flat_map (λ (list : List Change). list) (all_changes ts (map join rs)) ≡ flat_map (λ each. changes each.0.map each.1.map) (zip ts (all_stepped ts (map join rs)))
+  changes_of_joins : (old : Positions) (rs : List Ends) (ts : List TabletStateValue) → AreTabletsOf old rs ts
+      → flat_map (λ (list : List Change). list) (all_changes ts (map join rs)) ≡ flat_map (λ each. changes each.0.cells each.1.cells) (zip ts (all_stepped ts (map join rs)))
   changes_of_joins old [] [] are = refl
   changes_of_joins old [] (t ∷ ts) are = absurd are
   changes_of_joins old (r ∷ rs) [] are = absurd are
-  changes_of_joins old (r ∷ rs) (t ∷ ts) are = ap (λ (rest : List Change). changes t.map (stepped t (join r)).map ++ rest) (changes_of_joins old rs ts are.1)
+  changes_of_joins old (r ∷ rs) (t ∷ ts) are = ap (λ (rest : List Change). changes t.cells (stepped t (join r)).cells ++ rest) (changes_of_joins old rs ts are.1)
 
   -- the changes of each tablet, one after another, are those of all cells together
-  pub changes_together : (old : Positions) (rs : List Ends) (ts : List Tablet) → Apart rs → AreTabletsOf old rs ts
+  pub changes_together : (old : Positions) (rs : List Ends) (ts : List TabletStateValue) → Apart rs → AreTabletsOf old rs ts
       → flat_map (λ (list : List Change). list) (all_changes ts (map join rs)) ≡ changes (cells_of ts) (cells_of (all_stepped ts (map join rs)))
   changes_together old rs ts apart are =
       changes_of_joins old rs ts are ∙ sym (changes_by_tablet old marks rs ts (all_stepped ts (map join rs)) apart are (all_taken old rs ts are))

@@ -3,7 +3,7 @@ use Rattle.std.proofs.Common.{◌≡◌, ℕ, Bool, true, cond, List, [], ◌∷
 use Rattle.std.specs.FinMap.{keys}
 use Rattle.std.proofs.lemmas.List.Elements.{filter-append}
 use Rattle.pn_record.specs.declared.image.Image.{Image}
-use Rattle.pn_record.specs.Limits.{Shown}
+use Rattle.pn_record.specs.Limits.{ContentValue}
 use Rattle.pn_record.specs.Sets.{Stamp}
 use Rattle.pn_record.specs.Cells.{spell, spell_cell}
 use Rattle.pn_record.specs.CellMap.{Entries, table_of, adds}
@@ -14,12 +14,12 @@ use Rattle.pn_apply.specs.Reducing.{images_in}
 use Rattle.pn_apply.proofs.ReduceLaws.{range_joins}
 
 -- images of one key are in its range
-own_images : (range : Ends) (key : List ℕ) (version : Stamp) (contents : List Shown) → in_range range key ≡ true
+own_images : (range : Ends) (key : List ℕ) (version : Stamp) (contents : List ContentValue) → in_range range key ≡ true
     → images_in range (map (λ shown. record { key = key; version = version; content = shown }) contents) ≡ map (λ shown. record { key = key; version = version; content = shown }) contents
 own_images range key version [] lies = refl
 own_images range key version (shown ∷ contents) lies =
     let image : Image = record { key = key; version = version; content = shown } in
-    let rest = map (λ (shown : Shown). record { key = key; version = version; content = shown }) contents in
+    let rest = map (λ (shown : ContentValue). record { key = key; version = version; content = shown }) contents in
     ap (λ (b : Bool). cond b (image ∷ images_in range rest) (images_in range rest)) lies ∙ ap (λ (images : List Image). image ∷ images) (own_images range key version contents lies)
 
 -- what spells a map in the range lies there

@@ -15,7 +15,7 @@ use Rattle.pn_join.specs.Marks.{Positions, name_cmp}
 use Rattle.pn_join.specs.Tables.{optional_joined}
 use Rattle.pn_join.proofs.MarksFacts.{find-raised, is_sorted-raised}
 use Rattle.pn_join.proofs.Rising.{Below, Rising, Rising-from_sorted}
-use Rattle.pn_stream.specs.Positions.{Delivered}
+use Rattle.pn_stream.specs.Positions.{DeliveryValue}
 use Rattle.pn_region.proofs.MarkLaws.{gap_of, accepted}
 use Rattle.pn_region.specs.Laws.{named, stream_count}
 use Rattle.pn_region.specs.Marking.{bringing, last_position, marked, leaves_gap, marks_after, of_few_streams, new_marks}
@@ -24,7 +24,7 @@ use Rattle.pn_region.specs.declared.fault.RoundFault.TheVariants.{TooManyStreams
 abbrev names_of : Positions → List (List ℕ)
 names_of marks = map (λ mark. mark.0) marks
 
-abbrev streams_of : List Delivered → List (List ℕ)
+abbrev streams_of : List DeliveryValue → List (List ℕ)
 streams_of deliveries = map (λ delivery. delivery.stream) deliveries
 
 abbrev has_name : List (List ℕ) → List ℕ → Bool
@@ -51,18 +51,18 @@ either_side true b c = refl
 either_side false b c = refl
 
 -- marks after a delivery have its name besides
-one_more : (m : Positions) (d : Delivered) (name : List ℕ) → has_name (names_of (marked m d)) name ≡ (has_name (names_of m) name || eq_by_cmp name_cmp name d.stream)
+one_more : (m : Positions) (d : DeliveryValue) (name : List ℕ) → has_name (names_of (marked m d)) name ≡ (has_name (names_of m) name || eq_by_cmp name_cmp name d.stream)
 one_more m d name =
     sym (is_some-find name_cmp name (marked m d))
     ∙ ap is_some (find-raised m ((d.stream, last_position d) ∷ []) name)
     ∙ joined_is (find name_cmp name m) (eq_by_cmp name_cmp name d.stream) (last_position d)
     ∙ ap (λ b. b || eq_by_cmp name_cmp name d.stream) (is_some-find name_cmp name m)
 
-marked_rises : (m : Positions) (d : Delivered) → IsTrue (is_sorted name_cmp m) → IsTrue (is_sorted name_cmp (marked m d))
+marked_rises : (m : Positions) (d : DeliveryValue) → IsTrue (is_sorted name_cmp m) → IsTrue (is_sorted name_cmp (marked m d))
 marked_rises m d rising = is_sorted-raised m ((d.stream, last_position d) ∷ []) rising
 
 -- marks that rise do so after deliveries
-still_rise : (ds : List Delivered) (m next : Positions) → IsTrue (is_sorted name_cmp m) → marks_after m ds ≡ Ok next → IsTrue (is_sorted name_cmp next)
+still_rise : (ds : List DeliveryValue) (m next : Positions) → IsTrue (is_sorted name_cmp m) → marks_after m ds ≡ Ok next → IsTrue (is_sorted name_cmp next)
 still_rise [] m next rising is =
     let same : m ≡ next = cc in
     subst (λ (marks : Positions). IsTrue (is_sorted name_cmp marks)) same rising
@@ -70,7 +70,7 @@ still_rise (d ∷ ds) m next rising is =
     still_rise ds (marked m d) next (marked_rises m d rising) (accepted (leaves_gap m d) (gap_of m d) (marks_after (marked m d) ds) next is).1
 
 -- they have the names of the marks before, and those of the deliveries
-have_both : (ds : List Delivered) (m next : Positions) (name : List ℕ) → marks_after m ds ≡ Ok next → has_name (names_of next) name ≡ (has_name (names_of m) name || has_name (streams_of ds) name)
+have_both : (ds : List DeliveryValue) (m next : Positions) (name : List ℕ) → marks_after m ds ≡ Ok next → has_name (names_of next) name ≡ (has_name (names_of m) name || has_name (streams_of ds) name)
 have_both [] m next name is =
     let same : m ≡ next = cc in
     ap (λ (marks : Positions). has_name (names_of marks) name) (sym same) ∙ or_none (has_name (names_of m) name)
@@ -84,7 +84,7 @@ have_both (d ∷ ds) m next name is =
     ∙ either_side (has_name (names_of m) name) (eq_by_cmp name_cmp name d.stream) (has_name (streams_of ds) name)
 
 -- so there are as many as these name
-counted : (ds : List Delivered) (m next : Positions) → IsTrue (is_sorted name_cmp m) → marks_after m (bringing ds) ≡ Ok next → length next ≡ stream_count m ds
+counted : (ds : List DeliveryValue) (m next : Positions) → IsTrue (is_sorted name_cmp m) → marks_after m (bringing ds) ≡ Ok next → length next ≡ stream_count m ds
 counted ds m next rising is =
     sym (length-map next (λ mark. mark.0))
     ∙ length-from_keys (eq_by_cmp_equiv nat_list_cmp_total) (names_of next) (named m ds)
@@ -95,7 +95,7 @@ no_more : (n : ℕ) (b : Bool) → nat_lt 16 n ≡ b → b ≡ false → n ≤ 1
 no_more n b is holds = grind (arith, nat_tests)
 
 -- new marks name just the streams, at most sixteen
-pub few_streams : (marks next : Positions) (deliveries : List Delivered) → IsTrue (is_sorted name_cmp marks) → new_marks marks deliveries ≡ Ok next → (length next ≡ stream_count marks deliveries) × (stream_count marks deliveries ≤ 16)
+pub few_streams : (marks next : Positions) (deliveries : List DeliveryValue) → IsTrue (is_sorted name_cmp marks) → new_marks marks deliveries ≡ Ok next → (length next ≡ stream_count marks deliveries) × (stream_count marks deliveries ≤ 16)
 few_streams marks next deliveries rising is =
     elim (marks_after marks (bringing deliveries)) as (λ r. marks_after marks (bringing deliveries) ≡ r → of_few_streams r ≡ Ok next → (length next ≡ stream_count marks deliveries) × (stream_count marks deliveries ≤ 16)) [
       | Ok all ↦ λ after few.
@@ -110,7 +110,7 @@ more : (b : Bool) (marks : Positions) → cond b (Err TooManyStreams) (Ok marks)
 more true marks is = refl
 more false marks is = cc
 
-not_few : (ds : List Delivered) (m : Positions) → marks_after m ds ≡ Err TooManyStreams → ⊥
+not_few : (ds : List DeliveryValue) (m : Positions) → marks_after m ds ≡ Err TooManyStreams → ⊥
 not_few [] m is = cc
 not_few (d ∷ ds) m is =
     elim (leaves_gap m d) as (λ b. cond b (Err (gap_of m d)) (marks_after (marked m d) ds) ≡ Err TooManyStreams → ⊥) [
@@ -119,7 +119,7 @@ not_few (d ∷ ds) m is =
     ] is
 
 -- where there are too many streams they are more than sixteen
-pub many_streams : (marks : Positions) (deliveries : List Delivered) → IsTrue (is_sorted name_cmp marks) → new_marks marks deliveries ≡ Err TooManyStreams → 16 < stream_count marks deliveries
+pub many_streams : (marks : Positions) (deliveries : List DeliveryValue) → IsTrue (is_sorted name_cmp marks) → new_marks marks deliveries ≡ Err TooManyStreams → 16 < stream_count marks deliveries
 many_streams marks deliveries rising is =
     elim (marks_after marks (bringing deliveries)) as (λ r. marks_after marks (bringing deliveries) ≡ r → of_few_streams r ≡ Err TooManyStreams → 16 < stream_count marks deliveries) [
       | Ok all ↦ λ after many.
@@ -129,7 +129,7 @@ many_streams marks deliveries rising is =
       | Err fault ↦ λ after many. absurd (not_few (bringing deliveries) marks (after ∙ many))
     ] refl is
 
-not_memory : (ds : List Delivered) (m : Positions) → marks_after m ds ≡ Err Memory → ⊥
+not_memory : (ds : List DeliveryValue) (m : Positions) → marks_after m ds ≡ Err Memory → ⊥
 not_memory [] m is = cc
 not_memory (d ∷ ds) m is =
     elim (leaves_gap m d) as (λ b. cond b (Err (gap_of m d)) (marks_after (marked m d) ds) ≡ Err Memory → ⊥) [
@@ -138,7 +138,7 @@ not_memory (d ∷ ds) m is =
     ] is
 
 -- and memory is no matter of marks
-pub never_memory : (marks : Positions) (deliveries : List Delivered) → new_marks marks deliveries ≡ Err Memory → ⊥
+pub never_memory : (marks : Positions) (deliveries : List DeliveryValue) → new_marks marks deliveries ≡ Err Memory → ⊥
 never_memory marks deliveries is =
     elim (marks_after marks (bringing deliveries)) as (λ r. marks_after marks (bringing deliveries) ≡ r → of_few_streams r ≡ Err Memory → ⊥) [
       | Ok all ↦ λ after wants.

@@ -2,7 +2,7 @@
 use Rattle.std.proofs.Common.{◌≡◌, List, [], ◌∷◌, ◌++◌, map, refl, sym, ap, ◌∙◌, ◌⊎◌, inl, inr, Contains}
 use Rattle.std.proofs.lemmas.List.Elements.{Contains-append_left, Contains-append_right, Contains-append_cases}
 use Rattle.pn_join.specs.Marks.{Positions}
-use Rattle.pn_stream.specs.Positions.{Delivered}
+use Rattle.pn_stream.specs.Positions.{DeliveryValue}
 use Rattle.pn_record.specs.declared.image.Image.{Image}
 use Rattle.pn_record.specs.Cells.{spell}
 use Rattle.pn_record.specs.CellMap.{Entries, table_of, adds}
@@ -10,19 +10,19 @@ use Rattle.pn_record.proofs.CellMaps.{table_of-nil}
 use Rattle.pn_tablet.specs.Layouts.{Bounds}
 use Rattle.pn_tablet.specs.Ranges.{Ends}
 use Rattle.pn_tablet.specs.Steps.{stepped}
-use Rattle.pn_tablet.specs.Tablets.{Tablet, empty_tablet}
+use Rattle.pn_tablet.specs.Tablets.{TabletStateValue, empty_tablet}
 use Rattle.pn_apply.specs.Applying.{all_stepped, AreOldOrStepped}
 use Rattle.pn_apply.specs.Reducing.{all_images, images_in, join_in, ranges}
 use Rattle.pn_apply.proofs.ReduceLaws.{range_joins}
 use Rattle.pn_region.specs.Laws.{HasImages, AreIn, IsBetween, HoldsBetween, AllHoldBetween, HasBetween}
-use Rattle.pn_region.specs.Regions.{RegionState, IsTabletOf, AreTabletsOf, IsRegion, new_region}
+use Rattle.pn_region.specs.Regions.{RegionValue, IsTabletOf, AreTabletsOf, IsRegion, new_region}
 use Rattle.pn_region.specs.Rounds.{taking, IsHalfTaken}
 use Rattle.pn_region.proofs.HalfRounds.{half_so, left_as}
 use Rattle.pn_region.proofs.RoundSteps.{is_taken}
 
 -- the cells of each tablet
-abbrev pub maps_of : List Tablet → List Entries
-maps_of tablets = map (λ tablet. tablet.map) tablets
+abbrev pub maps_of : List TabletStateValue → List Entries
+maps_of tablets = map (λ tablet. tablet.cells) tablets
 
 -- the cells of images in each range
 abbrev pub pieces_of : List Image → List Ends → List Entries
@@ -87,33 +87,33 @@ module _ (sure maybe images more : List Image) (between : IsBetween sure maybe i
 
 module _ (marks old : Positions) (images : List Image) where
   -- a tablet that has the cells of images in its range takes those of more
-  one_takes : (taken : List Image) (r : Ends) (t : Tablet) → IsTabletOf old r t → t.map ≡ table_of (images_in r taken) → (stepped t (join_in marks images r)).map ≡ table_of (images_in r (taken ++ images))
+  one_takes : (taken : List Image) (r : Ends) (t : TabletStateValue) → IsTabletOf old r t → t.cells ≡ table_of (images_in r taken) → (stepped t (join_in marks images r)).cells ≡ table_of (images_in r (taken ++ images))
   one_takes taken r t is has =
-      ap (λ (after : Tablet). after.map) (is_taken marks images old r t is)
+      ap (λ (after : TabletStateValue). after.cells) (is_taken marks images old r t is)
       ∙ ap (λ (cells : Entries). adds cells (spell (table_of (images_in r images)))) has ∙ range_joins r taken images
 
-  all_take : (taken : List Image) (rs : List Ends) (ts : List Tablet) → AreTabletsOf old rs ts → maps_of ts ≡ pieces_of taken rs → maps_of (all_stepped ts (map (join_in marks images) rs)) ≡ pieces_of (taken ++ images) rs
+  all_take : (taken : List Image) (rs : List Ends) (ts : List TabletStateValue) → AreTabletsOf old rs ts → maps_of ts ≡ pieces_of taken rs → maps_of (all_stepped ts (map (join_in marks images) rs)) ≡ pieces_of (taken ++ images) rs
   all_take taken [] [] are has = refl
   all_take taken [] (t ∷ ts) are has = absurd are
   all_take taken (r ∷ rs) [] are has = absurd are
   all_take taken (r ∷ rs) (t ∷ ts) are has =
-      let here = heads t.map (table_of (images_in r taken)) (maps_of ts) (pieces_of taken rs) has in
-      let later = tails t.map (table_of (images_in r taken)) (maps_of ts) (pieces_of taken rs) has in
+      let here = heads t.cells (table_of (images_in r taken)) (maps_of ts) (pieces_of taken rs) has in
+      let later = tails t.cells (table_of (images_in r taken)) (maps_of ts) (pieces_of taken rs) has in
       λ i. one_takes taken r t are.0 here i ∷ all_take taken rs ts are.1 later i
 
-  all_surely : (sure maybe : List Image) (rs : List Ends) (ts : List Tablet) → AreTabletsOf old rs ts → AllHoldBetween sure maybe rs ts → AllHoldBetween (sure ++ images) maybe rs (all_stepped ts (map (join_in marks images) rs))
+  all_surely : (sure maybe : List Image) (rs : List Ends) (ts : List TabletStateValue) → AreTabletsOf old rs ts → AllHoldBetween sure maybe rs ts → AllHoldBetween (sure ++ images) maybe rs (all_stepped ts (map (join_in marks images) rs))
   all_surely sure maybe [] [] are has = tt
   all_surely sure maybe [] (t ∷ ts) are has = absurd are
   all_surely sure maybe (r ∷ rs) [] are has = absurd are
   all_surely sure maybe (r ∷ rs) (t ∷ ts) are has =
       ((has.0.0 ++ images, sure_more sure maybe has.0.0 images has.0.1, one_takes has.0.0 r t are.0 has.0.2), all_surely sure maybe rs ts are.1 has.1)
 
-  one_perhaps : (sure maybe : List Image) (r : Ends) (t u : Tablet) → IsTabletOf old r t → HoldsBetween sure maybe r t.map → (u ≡ t) ⊎ (u ≡ stepped t (join_in marks images r)) → HoldsBetween sure (maybe ++ images) r u.map
-  one_perhaps sure maybe r t u is has (inl same) = (has.0, maybe_none sure maybe has.0 images has.1, ap (λ (after : Tablet). after.map) same ∙ has.2)
+  one_perhaps : (sure maybe : List Image) (r : Ends) (t u : TabletStateValue) → IsTabletOf old r t → HoldsBetween sure maybe r t.cells → (u ≡ t) ⊎ (u ≡ stepped t (join_in marks images r)) → HoldsBetween sure (maybe ++ images) r u.cells
+  one_perhaps sure maybe r t u is has (inl same) = (has.0, maybe_none sure maybe has.0 images has.1, ap (λ (after : TabletStateValue). after.cells) same ∙ has.2)
   one_perhaps sure maybe r t u is has (inr took) =
-      (has.0 ++ images, maybe_all sure maybe has.0 images has.1, ap (λ (after : Tablet). after.map) took ∙ one_takes has.0 r t is has.2)
+      (has.0 ++ images, maybe_all sure maybe has.0 images has.1, ap (λ (after : TabletStateValue). after.cells) took ∙ one_takes has.0 r t is has.2)
 
-  all_perhaps : (sure maybe : List Image) (rs : List Ends) (ts us : List Tablet) → AreTabletsOf old rs ts → AllHoldBetween sure maybe rs ts → AreOldOrStepped ts (map (join_in marks images) rs) us → AllHoldBetween sure (maybe ++ images) rs us
+  all_perhaps : (sure maybe : List Image) (rs : List Ends) (ts us : List TabletStateValue) → AreTabletsOf old rs ts → AllHoldBetween sure maybe rs ts → AreOldOrStepped ts (map (join_in marks images) rs) us → AllHoldBetween sure (maybe ++ images) rs us
   all_perhaps sure maybe [] [] [] are has half = tt
   all_perhaps sure maybe [] [] (u ∷ us) are has half = absurd half
   all_perhaps sure maybe [] (t ∷ ts) us are has half = absurd are
@@ -121,21 +121,21 @@ module _ (marks old : Positions) (images : List Image) where
   all_perhaps sure maybe (r ∷ rs) (t ∷ ts) [] are has half = absurd half
   all_perhaps sure maybe (r ∷ rs) (t ∷ ts) (u ∷ us) are has half = (one_perhaps sure maybe r t u are.0 has.0 half.0, all_perhaps sure maybe rs ts us are.1 has.1 half.1)
 
-none_perhaps : (sure maybe more : List Image) (rs : List Ends) (ts : List Tablet) → AllHoldBetween sure maybe rs ts → AllHoldBetween sure (maybe ++ more) rs ts
+none_perhaps : (sure maybe more : List Image) (rs : List Ends) (ts : List TabletStateValue) → AllHoldBetween sure maybe rs ts → AllHoldBetween sure (maybe ++ more) rs ts
 none_perhaps sure maybe more [] [] has = tt
 none_perhaps sure maybe more [] (t ∷ ts) has = absurd has
 none_perhaps sure maybe more (r ∷ rs) [] has = absurd has
 none_perhaps sure maybe more (r ∷ rs) (t ∷ ts) has = ((has.0.0, maybe_none sure maybe has.0.0 more has.0.1, has.0.2), none_perhaps sure maybe more rs ts has.1)
 
 -- a round takes its images
-pub round_takes : (region : RegionState) (deliveries : List Delivered) (marks : Positions) (taken : List Image) → IsRegion region → HasImages region taken → HasImages (taking region deliveries marks) (taken ++ all_images deliveries)
+pub round_takes : (region : RegionValue) (deliveries : List DeliveryValue) (marks : Positions) (taken : List Image) → IsRegion region → HasImages region taken → HasImages (taking region deliveries marks) (taken ++ all_images deliveries)
 round_takes region deliveries marks taken is has = all_take marks region.marks (all_images deliveries) taken (ranges region.layout) region.tablets is.tablets has
 
-pub round_surely_takes : (region : RegionState) (deliveries : List Delivered) (marks : Positions) (sure maybe : List Image) → IsRegion region → HasBetween sure maybe region → HasBetween (sure ++ all_images deliveries) maybe (taking region deliveries marks)
+pub round_surely_takes : (region : RegionValue) (deliveries : List DeliveryValue) (marks : Positions) (sure maybe : List Image) → IsRegion region → HasBetween sure maybe region → HasBetween (sure ++ all_images deliveries) maybe (taking region deliveries marks)
 round_surely_takes region deliveries marks sure maybe is has = all_surely marks region.marks (all_images deliveries) sure maybe (ranges region.layout) region.tablets is.tablets has
 
 -- a round that ended without memory may have taken them
-pub round_may_take : (old new : RegionState) (deliveries : List Delivered) (sure maybe : List Image) → IsRegion old → HasBetween sure maybe old → IsHalfTaken old deliveries new → HasBetween sure (maybe ++ all_images deliveries) new
+pub round_may_take : (old new : RegionValue) (deliveries : List DeliveryValue) (sure maybe : List Image) → IsRegion old → HasBetween sure maybe old → IsHalfTaken old deliveries new → HasBetween sure (maybe ++ all_images deliveries) new
 round_may_take old new deliveries sure maybe is has left =
     left_as old new deliveries (HasBetween sure (maybe ++ all_images deliveries)) left
     (half_so old new deliveries (AllHoldBetween sure (maybe ++ all_images deliveries) (ranges old.layout))

@@ -8,16 +8,16 @@ use Rattle.pn_record.specs.Cells.{SameImages}
 use Rattle.pn_record.specs.CellMap.{Entries, table_of}
 use Rattle.pn_tablet.specs.Layouts.{IsLayout}
 use Rattle.pn_tablet.specs.Ranges.{Ends}
-use Rattle.pn_tablet.specs.Tablets.{Tablet}
+use Rattle.pn_tablet.specs.Tablets.{TabletStateValue}
 use Rattle.pn_apply.specs.Reducing.{images_in, ranges}
 use Rattle.pn_apply.proofs.ReduceLaws.{cells_cut, same_in}
 use Rattle.pn_region.specs.Laws.{HasImages, AreIn, IsBetween, AllHoldBetween, HasBetween}
-use Rattle.pn_region.specs.Regions.{RegionState, all_cells}
+use Rattle.pn_region.specs.Regions.{RegionValue, all_cells}
 use Rattle.pn_region.proofs.TakenImages.{maps_of, pieces_of}
 
-pub together : (region : RegionState) (images : List Image) → IsLayout region.layout → HasImages region images → all_cells region ≡ table_of images
+pub together : (region : RegionValue) (images : List Image) → IsLayout region.layout → HasImages region images → all_cells region ≡ table_of images
 together region images lawful has =
-    sym (flat_map-map (λ (cells : Entries). cells) (λ (tablet : Tablet). tablet.map) region.tablets)
+    sym (flat_map-map (λ (cells : Entries). cells) (λ (tablet : TabletStateValue). tablet.cells) region.tablets)
     ∙ ap (flat_map (λ (cells : Entries). cells)) has
     ∙ flat_map-map (λ (cells : Entries). cells) (λ (range : Ends). table_of (images_in range images)) (ranges region.layout)
     ∙ cells_cut region.layout images lawful
@@ -31,7 +31,7 @@ same_sure : (sure maybe images : List Image) → AreIn maybe sure → IsBetween 
 same_sure sure maybe images are between image =
     ((λ there. sure_or sure maybe image are (Contains-append_cases sure maybe image (between.no_others image there))), between.all image)
 
-all_sure : (sure maybe : List Image) (rs : List Ends) (ts : List Tablet) → AreIn maybe sure → AllHoldBetween sure maybe rs ts → maps_of ts ≡ pieces_of sure rs
+all_sure : (sure maybe : List Image) (rs : List Ends) (ts : List TabletStateValue) → AreIn maybe sure → AllHoldBetween sure maybe rs ts → maps_of ts ≡ pieces_of sure rs
 all_sure sure maybe [] [] are has = refl
 all_sure sure maybe [] (t ∷ ts) are has = absurd has
 all_sure sure maybe (r ∷ rs) [] are has = absurd has
@@ -39,8 +39,8 @@ all_sure sure maybe (r ∷ rs) (t ∷ ts) are has =
     λ i. (has.0.2 ∙ same_in r has.0.0 sure (same_sure sure maybe has.0.0 are has.0.1)) i ∷ all_sure sure maybe rs ts are has.1 i
 
 -- where all that may be there is sure to be, each tablet has the cells of the sure images
-pub surely_has : (region : RegionState) (sure maybe : List Image) → AreIn maybe sure → HasBetween sure maybe region → HasImages region sure
+pub surely_has : (region : RegionValue) (sure maybe : List Image) → AreIn maybe sure → HasBetween sure maybe region → HasImages region sure
 surely_has region sure maybe are has = all_sure sure maybe (ranges region.layout) region.tablets are has
 
-pub surely_together : (region : RegionState) (sure maybe : List Image) → IsLayout region.layout → HasBetween sure maybe region → AreIn maybe sure → all_cells region ≡ table_of sure
+pub surely_together : (region : RegionValue) (sure maybe : List Image) → IsLayout region.layout → HasBetween sure maybe region → AreIn maybe sure → all_cells region ≡ table_of sure
 surely_together region sure maybe lawful has are = together region sure lawful (surely_has region sure maybe are has)

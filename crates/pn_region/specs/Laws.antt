@@ -5,16 +5,16 @@ use Rattle.std.specs.Set.{distinct_count}
 use Rattle.pn_join.specs.Marks.{Positions, name_cmp, position_of}
 use Rattle.pn_record.specs.declared.image.Image.{Image}
 use Rattle.pn_record.specs.CellMap.{Entries, table_of}
-use Rattle.pn_stream.specs.Positions.{Delivered}
+use Rattle.pn_stream.specs.Positions.{DeliveryValue}
 use Rattle.pn_tablet.specs.Ranges.{Ends}
-use Rattle.pn_tablet.specs.Tablets.{Tablet}
+use Rattle.pn_tablet.specs.Tablets.{TabletStateValue}
 use Rattle.pn_apply.specs.Reducing.{images_in, ranges}
 use Rattle.pn_region.specs.Marking.{bringing}
-use Rattle.pn_region.specs.Regions.{RegionState}
+use Rattle.pn_region.specs.Regions.{RegionValue}
 
 -- each tablet has the cells of the images that lie in its range
-abbrev pub HasImages : RegionState → List Image → Type 0
-HasImages region images = map (λ tablet. tablet.map) region.tablets ≡ map (λ range. table_of (images_in range images)) (ranges region.layout)
+abbrev pub HasImages : RegionValue → List Image → Type 0
+HasImages region images = map (λ tablet. tablet.cells) region.tablets ≡ map (λ range. table_of (images_in range images)) (ranges region.layout)
 
 -- each image of one list is in the other
 abbrev pub AreIn : List Image → List Image → Type 0
@@ -30,47 +30,47 @@ abbrev pub HoldsBetween : List Image → List Image → Ends → Entries → Typ
 HoldsBetween sure maybe range cells = (images : List Image) × IsBetween sure maybe images × (cells ≡ table_of (images_in range images))
 
 -- each range has its own tablet, in their order, whose cells are those of such a list
-abbrev pub AllHoldBetween : List Image → List Image → List Ends → List Tablet → Type 0
+abbrev pub AllHoldBetween : List Image → List Image → List Ends → List TabletStateValue → Type 0
 AllHoldBetween sure maybe [] [] = Unit {0}
 AllHoldBetween sure maybe [] (tablet ∷ tablets) = ⊥
 AllHoldBetween sure maybe (range ∷ others) [] = ⊥
-AllHoldBetween sure maybe (range ∷ others) (tablet ∷ tablets) = HoldsBetween sure maybe range tablet.map × AllHoldBetween sure maybe others tablets
+AllHoldBetween sure maybe (range ∷ others) (tablet ∷ tablets) = HoldsBetween sure maybe range tablet.cells × AllHoldBetween sure maybe others tablets
 
 -- each tablet has the cells, in its range, of a list of images that has all of the sure ones and none but those of both
-abbrev pub HasBetween : List Image → List Image → RegionState → Type 0
+abbrev pub HasBetween : List Image → List Image → RegionValue → Type 0
 HasBetween sure maybe region = AllHoldBetween sure maybe (ranges region.layout) region.tablets
 
 -- one of the deliveries has the position of the stream
-pub record HasPosition (deliveries : List Delivered) (name : List ℕ) (position : ℕ) : Type 0 where
-  pub delivery : Delivered
+pub record HasPosition (deliveries : List DeliveryValue) (name : List ℕ) (position : ℕ) : Type 0 where
+  pub delivery : DeliveryValue
   pub there : Contains deliveries delivery
   pub stream : delivery.stream ≡ name
   pub from : delivery.first ≤ position
   pub before : position < delivery.first + length delivery.images
 
 -- the names of the marks, and those of the deliveries that bring images
-abbrev pub named : Positions → List Delivered → List (List ℕ)
+abbrev pub named : Positions → List DeliveryValue → List (List ℕ)
 named marks deliveries = map (λ mark. mark.0) marks ++ map (λ delivery. delivery.stream) (bringing deliveries)
 
 -- how many streams these name
-abbrev pub stream_count : Positions → List Delivered → ℕ
+abbrev pub stream_count : Positions → List DeliveryValue → ℕ
 stream_count marks deliveries = distinct_count (eq_by_cmp name_cmp) (named marks deliveries)
 
 -- the position was taken before: the marks have reached it, or one of the deliveries has it
-abbrev pub WasTaken : Positions → List Delivered → List ℕ → ℕ → Type 0
+abbrev pub WasTaken : Positions → List DeliveryValue → List ℕ → ℕ → Type 0
 WasTaken marks deliveries name position = (position ≤ position_of marks name) ⊎ HasPosition deliveries name position
 
 -- each delivery that has images finds all positions of its stream below its own taken before it
-abbrev pub HasNoGap : Positions → List Delivered → Type 0
-HasNoGap marks deliveries = (before : List Delivered) (delivery : Delivered) (after : List Delivered) (position : ℕ)
+abbrev pub HasNoGap : Positions → List DeliveryValue → Type 0
+HasNoGap marks deliveries = (before : List DeliveryValue) (delivery : DeliveryValue) (after : List DeliveryValue) (position : ℕ)
     → deliveries ≡ before ++ delivery ∷ after → 0 < length delivery.images → position < delivery.first
     → WasTaken marks before delivery.stream position
 
 -- behind deliveries without a gap stands one that begins past a position that its stream wants first
-pub record IsGap (marks : Positions) (deliveries : List Delivered) (stream : List ℕ) (wanted got : ℕ) : Type 0 where
-  pub before : List Delivered
-  pub delivery : Delivered
-  pub after : List Delivered
+pub record IsGap (marks : Positions) (deliveries : List DeliveryValue) (stream : List ℕ) (wanted got : ℕ) : Type 0 where
+  pub before : List DeliveryValue
+  pub delivery : DeliveryValue
+  pub after : List DeliveryValue
   pub place : deliveries ≡ before ++ delivery ∷ after
   pub brings : 0 < length delivery.images
   pub stream_is : stream ≡ delivery.stream

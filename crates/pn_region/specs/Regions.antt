@@ -6,38 +6,38 @@ use Rattle.pn_record.specs.CellMap.{Entries}
 use Rattle.pn_tablet.specs.Layouts.{Bounds, IsLayout}
 use Rattle.pn_tablet.specs.Laws.{IsSpelled}
 use Rattle.pn_tablet.specs.Ranges.{Ends}
-use Rattle.pn_tablet.specs.Tablets.{Tablet, empty_tablet, lie_in}
+use Rattle.pn_tablet.specs.Tablets.{TabletStateValue, empty_tablet, lie_in}
 use Rattle.pn_apply.specs.Reducing.{ranges}
 
 -- a layout, the tablets of its ranges, and how far streams were taken
-pub record RegionState : Type 0 where
+pub record RegionValue : Type 0 where
   pub layout : Bounds
-  pub tablets : List Tablet
+  pub tablets : List TabletStateValue
   pub marks : Positions
 
 -- a tablet of the range: its keys lie there, its map is one of images, and its cover reaches the marks
-pub record IsTabletOf (marks : Positions) (ends : Ends) (tablet : Tablet) : Type 0 where
+pub record IsTabletOf (marks : Positions) (ends : Ends) (tablet : TabletStateValue) : Type 0 where
   pub range : tablet.range ≡ ends
-  pub inside : IsTrue (lie_in ends tablet.map)
-  pub spelled : IsSpelled tablet.map
+  pub inside : IsTrue (lie_in ends tablet.cells)
+  pub spelled : IsSpelled tablet.cells
   pub covered : Reaches tablet.cover marks
 
 -- each range has its own tablet, in their order
-abbrev pub AreTabletsOf : Positions → List Ends → List Tablet → Type 0
+abbrev pub AreTabletsOf : Positions → List Ends → List TabletStateValue → Type 0
 AreTabletsOf marks [] [] = Unit {0}
 AreTabletsOf marks [] (tablet ∷ tablets) = ⊥
 AreTabletsOf marks (range ∷ others) [] = ⊥
 AreTabletsOf marks (range ∷ others) (tablet ∷ tablets) = IsTabletOf marks range tablet × AreTabletsOf marks others tablets
 
 -- a lawful layout, and a tablet for each of its ranges whose cover reaches the marks
-pub record IsRegion (region : RegionState) : Type 0 where
+pub record IsRegion (region : RegionValue) : Type 0 where
   pub lawful : IsLayout region.layout
   pub tablets : AreTabletsOf region.marks (ranges region.layout) region.tablets
 
 -- a region that has taken nothing
-abbrev pub new_region : Bounds → RegionState
+abbrev pub new_region : Bounds → RegionValue
 new_region bounds = record { layout = bounds; tablets = map empty_tablet (ranges bounds); marks = [] }
 
 -- the cells of all tablets together
-abbrev pub all_cells : RegionState → Entries
-all_cells region = flat_map (λ tablet. tablet.map) region.tablets
+abbrev pub all_cells : RegionValue → Entries
+all_cells region = flat_map (λ tablet. tablet.cells) region.tablets

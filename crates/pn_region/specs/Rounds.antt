@@ -2,41 +2,41 @@
 use Rattle.std.specs.Prelude.{◌≡◌, ℕ, List, length, Result, MatchResult}
 use Rattle.std.specs.Result.{result_map_both}
 use Rattle.pn_join.specs.Marks.{Positions}
-use Rattle.pn_stream.specs.Positions.{Delivered}
+use Rattle.pn_stream.specs.Positions.{DeliveryValue}
 use Rattle.pn_tablet.specs.Changes.{changes}
 use Rattle.pn_tablet.specs.declared.op.TabletOp.{TabletOp}
 use Rattle.pn_apply.specs.Applying.{all_stepped, AreOldOrStepped}
 use Rattle.pn_apply.specs.Reducing.{all_images, joins_of}
 use Rattle.pn_region.specs.Marking.{new_marks}
-use Rattle.pn_region.specs.Regions.{RegionState, all_cells}
+use Rattle.pn_region.specs.Regions.{RegionValue, all_cells}
 use Rattle.pn_region.specs.declared.fault.RoundFault.{RoundFault}
 use Rattle.pn_region.specs.declared.fault.RoundFault.TheVariants.{Gap, TooManyStreams, Memory}
 
 -- what the deliveries bring to each tablet of the region: the cells of their images in its range, and the new marks
-abbrev pub joins : RegionState → List Delivered → Positions → List TabletOp
+abbrev pub joins : RegionValue → List DeliveryValue → Positions → List TabletOp
 joins region deliveries marks = joins_of region.layout marks (all_images deliveries)
 
 -- each tablet takes its join, and the marks are the new ones
-abbrev pub taking : RegionState → List Delivered → Positions → RegionState
+abbrev pub taking : RegionValue → List DeliveryValue → Positions → RegionValue
 taking region deliveries marks = record region { tablets = all_stepped region.tablets (joins region deliveries marks); marks = marks }
 
 -- the region after a round, or why it is refused
-abbrev pub round : RegionState → List Delivered → Result RegionState RoundFault
+abbrev pub round : RegionValue → List DeliveryValue → Result RegionValue RoundFault
 round region deliveries = result_map_both (taking region deliveries) (λ fault. fault) (new_marks region.marks deliveries)
 
 -- how many records differ in all tablets together
-abbrev pub changed : RegionState → RegionState → ℕ
+abbrev pub changed : RegionValue → RegionValue → ℕ
 changed old new = length (changes (all_cells old) (all_cells new))
 
 -- each tablet is as it was, or has taken its join where the round is not refused
-abbrev pub IsHalfTaken : RegionState → List Delivered → RegionState → Type 0
+abbrev pub IsHalfTaken : RegionValue → List DeliveryValue → RegionValue → Type 0
 IsHalfTaken old deliveries new = (new.layout ≡ old.layout) × (new.marks ≡ old.marks)
     × MatchResult (new_marks old.marks deliveries)
     (λ marks. AreOldOrStepped old.tablets (joins old deliveries marks) new.tablets)
     (λ fault. new.tablets ≡ old.tablets)
 
 -- what a fault leaves: want of memory may leave joins in some tablets, and every other changes nothing
-abbrev pub Leaves : RoundFault → RegionState → List Delivered → RegionState → Type 0
+abbrev pub Leaves : RoundFault → RegionValue → List DeliveryValue → RegionValue → Type 0
 Leaves (Gap stream wanted got) old deliveries new = new ≡ old
 Leaves TooManyStreams old deliveries new = new ≡ old
 Leaves Memory old deliveries new = IsHalfTaken old deliveries new

@@ -8,12 +8,12 @@ ghost use Rattle.pn_record.specs.Order.{bytes_cmp};
 ghost use Rattle.pn_record.specs.CellMap.{table_of};
 ghost use Rattle.pn_record.specs.Older.{NotOlder};
 ghost use Rattle.pn_stream.specs.Brokers.{BrokerRecord, AreHonest, up_to};
-ghost use Rattle.pn_stream.specs.Positions.{Delivered};
+ghost use Rattle.pn_stream.specs.Positions.{DeliveryValue};
 ghost use Rattle.pn_tablet.specs.Layouts.{Bounds, IsLayout, tablet_of};
-ghost use Rattle.pn_tablet.specs.Copies.{Copied};
+ghost use Rattle.pn_tablet.specs.Copies.{TabletCopyValue};
 ghost use Rattle.pn_tablet.specs.Copying.{copy_of};
 ghost use Rattle.pn_tablet.specs.Steps.{lost, step};
-ghost use Rattle.pn_tablet.specs.Tablets.{Tablet};
+ghost use Rattle.pn_tablet.specs.Tablets.{TabletStateValue};
 ghost use Rattle.pn_tablet.specs.declared.op.TabletOp.TheVariants.{Adopt};
 ghost use Rattle.pn_tablet.specs.declared.state.Status.TheVariants.{Serving};
 ghost use Rattle.pn_apply.specs.Reducing.{all_images, images_in};
@@ -21,7 +21,7 @@ ghost use Rattle.pn_region.specs.Faith.{IsFaithful, AreFaithful};
 ghost use Rattle.pn_region.specs.Honest.{IsHonestCopy};
 ghost use Rattle.pn_region.specs.Laws.{AreIn, HasImages, HasBetween, HasNoGap, HasPosition, IsGap, stream_count};
 ghost use Rattle.pn_region.specs.Marking.{last_position, new_marks};
-ghost use Rattle.pn_region.specs.Regions.{RegionState, IsRegion, new_region, all_cells};
+ghost use Rattle.pn_region.specs.Regions.{RegionValue, IsRegion, new_region, all_cells};
 ghost use Rattle.pn_region.specs.Rounds.{taking, IsHalfTaken};
 ghost use Rattle.pn_region.specs.declared.fault.RoundFault.TheVariants.{Gap, TooManyStreams, Memory};
 
@@ -34,22 +34,22 @@ pub fn new_regions()
 
 /// A region stays one in every round, also in one that ends without memory.
 pub fn rounds_keep_regions()
-    ensures taken { (region : RegionState) (deliveries : List Delivered) (marks : Positions)
+    ensures taken { (region : RegionValue) (deliveries : List DeliveryValue) (marks : Positions)
         → IsRegion region → IsRegion (taking region deliveries marks) }
-    ensures half_taken { (old new : RegionState) (deliveries : List Delivered)
+    ensures half_taken { (old new : RegionValue) (deliveries : List DeliveryValue)
         → IsRegion old → IsHalfTaken old deliveries new → IsRegion new }
 {}
 
 /// A round takes its images beside those that were taken before. One that ends without memory may have taken
 /// them, each tablet for itself.
 pub fn a_round_takes_its_images()
-    ensures images { (region : RegionState) (deliveries : List Delivered) (marks : Positions) (taken : List Image)
+    ensures images { (region : RegionValue) (deliveries : List DeliveryValue) (marks : Positions) (taken : List Image)
         → IsRegion region → HasImages region taken
         → HasImages (taking region deliveries marks) (taken ++ all_images deliveries) }
-    ensures surely { (region : RegionState) (deliveries : List Delivered) (marks : Positions) (sure maybe : List Image)
+    ensures surely { (region : RegionValue) (deliveries : List DeliveryValue) (marks : Positions) (sure maybe : List Image)
         → IsRegion region → HasBetween sure maybe region
         → HasBetween (sure ++ all_images deliveries) maybe (taking region deliveries marks) }
-    ensures perhaps { (old new : RegionState) (deliveries : List Delivered) (sure maybe : List Image)
+    ensures perhaps { (old new : RegionValue) (deliveries : List DeliveryValue) (sure maybe : List Image)
         → IsRegion old → HasBetween sure maybe old → IsHalfTaken old deliveries new
         → HasBetween sure (maybe ++ all_images deliveries) new }
 {}
@@ -57,35 +57,35 @@ pub fn a_round_takes_its_images()
 /// The cells of all tablets, one after another, are those of all images that were taken. So they are once
 /// each image that may have been taken surely was.
 pub fn all_tablets_together()
-    ensures images { (region : RegionState) (images : List Image)
+    ensures images { (region : RegionValue) (images : List Image)
         → IsLayout region.layout → HasImages region images → all_cells region ≡ table_of images }
-    ensures surely { (region : RegionState) (sure maybe : List Image)
+    ensures surely { (region : RegionValue) (sure maybe : List Image)
         → IsLayout region.layout → HasBetween sure maybe region → AreIn maybe sure
         → all_cells region ≡ table_of sure }
 {}
 
 /// No round takes a record away or leaves it at an older version, nor does one that ends without memory.
 pub fn a_round_never_goes_back()
-    ensures taken { (region : RegionState) (deliveries : List Delivered) (marks : Positions)
+    ensures taken { (region : RegionValue) (deliveries : List DeliveryValue) (marks : Positions)
         → IsRegion region → (key : List ℕ)
         → NotOlder (find bytes_cmp key (all_cells region)) (find bytes_cmp key (all_cells (taking region deliveries marks))) }
-    ensures half_taken { (old new : RegionState) (deliveries : List Delivered)
+    ensures half_taken { (old new : RegionValue) (deliveries : List DeliveryValue)
         → IsRegion old → IsHalfTaken old deliveries new → (key : List ℕ)
         → NotOlder (find bytes_cmp key (all_cells old)) (find bytes_cmp key (all_cells new)) }
 {}
 
 /// The tablet that the layout names for a key is there, and what it has at the key is what all tablets have.
 pub fn the_tablet_of_a_key_has_its_cell()
-    ensures there { (region : RegionState) (key : List ℕ)
+    ensures there { (region : RegionValue) (key : List ℕ)
         → IsRegion region → IsSome (slice_get region.tablets (tablet_of region.layout key)) }
-    ensures cell { (region : RegionState) (key : List ℕ) (tablet : Tablet)
+    ensures cell { (region : RegionValue) (key : List ℕ) (tablet : TabletStateValue)
         → IsRegion region → slice_get region.tablets (tablet_of region.layout key) ≡ Some tablet
-        → find bytes_cmp key tablet.map ≡ find bytes_cmp key (all_cells region) }
+        → find bytes_cmp key tablet.cells ≡ find bytes_cmp key (all_cells region) }
 {}
 
 /// Each position that the marks go past stands in one of the deliveries.
 pub fn no_position_is_skipped()
-    ensures { (marks next : Positions) (deliveries : List Delivered) (name : List ℕ) (position : ℕ)
+    ensures { (marks next : Positions) (deliveries : List DeliveryValue) (name : List ℕ) (position : ℕ)
         → new_marks marks deliveries ≡ Ok next
         → position_of marks name < position → position ≤ position_of next name
         → HasPosition deliveries name position }
@@ -93,9 +93,9 @@ pub fn no_position_is_skipped()
 
 /// New marks are nowhere below those before, nor below the last position of any delivery that has images.
 pub fn marks_take_the_greatest()
-    ensures before { (marks next : Positions) (deliveries : List Delivered)
+    ensures before { (marks next : Positions) (deliveries : List DeliveryValue)
         → new_marks marks deliveries ≡ Ok next → Reaches next marks }
-    ensures delivered { (marks next : Positions) (deliveries : List Delivered) (delivery : Delivered)
+    ensures delivered { (marks next : Positions) (deliveries : List DeliveryValue) (delivery : DeliveryValue)
         → new_marks marks deliveries ≡ Ok next → Contains deliveries delivery → 0 < length delivery.images
         → last_position delivery ≤ position_of next delivery.stream }
 {}
@@ -103,24 +103,24 @@ pub fn marks_take_the_greatest()
 /// A gap is told exactly where a delivery begins past a position of its stream that was not taken before it:
 /// the first such delivery, and the first position that it lacks.
 pub fn a_gap_is_a_missing_position()
-    ensures none { (marks next : Positions) (deliveries : List Delivered)
+    ensures none { (marks next : Positions) (deliveries : List DeliveryValue)
         → new_marks marks deliveries ≡ Ok next → HasNoGap marks deliveries }
-    ensures too_many { (marks : Positions) (deliveries : List Delivered)
+    ensures too_many { (marks : Positions) (deliveries : List DeliveryValue)
         → new_marks marks deliveries ≡ Err TooManyStreams → HasNoGap marks deliveries }
-    ensures gap { (marks : Positions) (deliveries : List Delivered) (stream : List ℕ) (wanted got : ℕ)
+    ensures gap { (marks : Positions) (deliveries : List DeliveryValue) (stream : List ℕ) (wanted got : ℕ)
         → new_marks marks deliveries ≡ Err (Gap stream wanted got) → IsGap marks deliveries stream wanted got }
 {}
 
 /// Over marks whose names rise: new marks have as many names as the marks and the deliveries with images name
 /// streams, and at most 16. Where there are too many streams they are more. Besides these two a gap alone is told.
 pub fn streams_are_counted()
-    ensures few { (marks next : Positions) (deliveries : List Delivered)
+    ensures few { (marks next : Positions) (deliveries : List DeliveryValue)
         → IsTrue (is_sorted name_cmp marks) → new_marks marks deliveries ≡ Ok next
         → (length next ≡ stream_count marks deliveries) × (stream_count marks deliveries ≤ 16) }
-    ensures too_many { (marks : Positions) (deliveries : List Delivered)
+    ensures too_many { (marks : Positions) (deliveries : List DeliveryValue)
         → IsTrue (is_sorted name_cmp marks) → new_marks marks deliveries ≡ Err TooManyStreams
         → 16 < stream_count marks deliveries }
-    ensures nothing_else { (marks : Positions) (deliveries : List Delivered)
+    ensures nothing_else { (marks : Positions) (deliveries : List DeliveryValue)
         → new_marks marks deliveries ≡ Err Memory → ⊥ }
 {}
 
@@ -128,11 +128,11 @@ pub fn streams_are_counted()
 /// faithful, and so does one that ends without memory.
 pub fn honest_rounds_keep_tablets_faithful()
     ensures new { (broker : BrokerRecord) (bounds : Bounds) → AreFaithful broker (new_region bounds).tablets }
-    ensures taken { (broker : BrokerRecord) (region : RegionState) (deliveries : List Delivered) (marks : Positions)
+    ensures taken { (broker : BrokerRecord) (region : RegionValue) (deliveries : List DeliveryValue) (marks : Positions)
         → IsRegion region → AreFaithful broker region.tablets → AreHonest broker deliveries
         → new_marks region.marks deliveries ≡ Ok marks
         → AreFaithful broker (taking region deliveries marks).tablets }
-    ensures half_taken { (broker : BrokerRecord) (old new : RegionState) (deliveries : List Delivered)
+    ensures half_taken { (broker : BrokerRecord) (old new : RegionValue) (deliveries : List DeliveryValue)
         → IsRegion old → AreFaithful broker old.tablets → AreHonest broker deliveries
         → IsHalfTaken old deliveries new → AreFaithful broker new.tablets }
 {}
@@ -142,7 +142,7 @@ pub fn honest_rounds_keep_tablets_faithful()
 pub fn marks_tell_what_was_taken()
     ensures new { (broker : BrokerRecord) (bounds : Bounds)
         → HasImages (new_region bounds) (up_to broker (new_region bounds).marks) }
-    ensures taken { (broker : BrokerRecord) (region : RegionState) (deliveries : List Delivered) (marks : Positions)
+    ensures taken { (broker : BrokerRecord) (region : RegionValue) (deliveries : List DeliveryValue) (marks : Positions)
         → IsRegion region → HasImages region (up_to broker region.marks) → AreHonest broker deliveries
         → new_marks region.marks deliveries ≡ Ok marks
         → HasImages (taking region deliveries marks) (up_to broker marks) }
@@ -152,13 +152,13 @@ pub fn marks_tell_what_was_taken()
 /// tablet that serves has the cells of all images in its range up to its cover, and the copy that it gives is
 /// honest.
 pub fn honest_copies_keep_tablets_faithful()
-    ensures lost { (broker : BrokerRecord) (tablet : Tablet) → IsFaithful broker (lost tablet) }
-    ensures adopted { (broker : BrokerRecord) (tablet after : Tablet) (copy : Copied)
+    ensures lost { (broker : BrokerRecord) (tablet : TabletStateValue) → IsFaithful broker (lost tablet) }
+    ensures adopted { (broker : BrokerRecord) (tablet after : TabletStateValue) (copy : TabletCopyValue)
         → IsFaithful broker tablet → IsHonestCopy broker copy → step tablet (Adopt copy) ≡ Ok after
         → IsFaithful broker after }
-    ensures serving { (broker : BrokerRecord) (tablet : Tablet)
+    ensures serving { (broker : BrokerRecord) (tablet : TabletStateValue)
         → IsFaithful broker tablet → tablet.status ≡ Serving
-        → tablet.map ≡ table_of (images_in tablet.range (up_to broker tablet.cover)) }
-    ensures given { (broker : BrokerRecord) (tablet : Tablet) (need : Positions) (copy : Copied)
+        → tablet.cells ≡ table_of (images_in tablet.range (up_to broker tablet.cover)) }
+    ensures given { (broker : BrokerRecord) (tablet : TabletStateValue) (need : Positions) (copy : TabletCopyValue)
         → IsFaithful broker tablet → copy_of tablet need ≡ Ok copy → IsHonestCopy broker copy }
 {}

@@ -37,9 +37,9 @@ pub struct Round {
 }
 
 impl Model for Region {
-    ghost use Rattle.pn_region.specs.Regions.{RegionState, IsRegion};
+    ghost use Rattle.pn_region.specs.Regions.{RegionValue, IsRegion};
 
-    ghost Value = { RegionState };
+    ghost Value = { RegionValue };
 
     ghost use Rattle.pn_region.specs.Coding.{region_code};
 

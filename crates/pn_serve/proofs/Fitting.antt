@@ -3,7 +3,7 @@ use Rattle.std.proofs.Common.{◌≡◌, ℕ, zero, suc, ◌<◌, List, [], ◌�
 use Rattle.pn_record.specs.Checks.{◌>>=◌, fault_as}
 use Rattle.pn_record.specs.Grammar.{ranges_in}
 use Rattle.pn_record.specs.declared.image.Image.{Image}
-use Rattle.pn_serve.specs.Ranges.{each_fits, image_fits}
+use Rattle.pn_serve.specs.Command.Ranges.{each_fits, image_fits}
 use Rattle.pn_serve.specs.declared.refusal.Refusal.{Refusal}
 
 -- both of two checks passed

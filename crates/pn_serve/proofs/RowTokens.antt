@@ -11,10 +11,10 @@ use Rattle.serde_json.specs.Data.{Data, array, object}
 use Rattle.serde_json.specs.View.{items_of}
 use Rattle.serde_json.specs.Written.{items_outline, members_outline}
 use Rattle.pn_record.specs.Limits.{Field}
-use Rattle.pn_record.specs.Sets.{Celled}
+use Rattle.pn_record.specs.Sets.{CellValue}
 use Rattle.pn_record.specs.Writing.{fields_data}
-use Rattle.pn_serve.specs.Rows.{row_data, shown_rows}
-use Rattle.pn_serve.specs.Tokens.{Appends, field_tokens, value_tokens, values_tokens}
+use Rattle.pn_serve.specs.Reply.Rows.{row_data, shown_rows}
+use Rattle.pn_serve.specs.Reply.Tokens.{Appends, field_tokens, value_tokens, values_tokens}
 
 -- ---- what was written
 
@@ -65,7 +65,7 @@ taken_next (x ∷ xs) zero = refl
 taken_next (x ∷ xs) (suc i) = ap (λ l. x ∷ l) (taken_next xs i)
 
 -- one more entry of a table
-pub one_more_row : (entries : List (List ℕ × Celled)) (i : ℕ)
+pub one_more_row : (entries : List (List ℕ × CellValue)) (i : ℕ)
     → values_tokens (map row_data (shown_rows (take i entries))) ++ values_tokens (map row_data (shown_rows (option_to_list (slice_get entries i))))
     ≡ values_tokens (map row_data (shown_rows (take (i + 1) entries)))
 one_more_row entries i =

@@ -7,22 +7,22 @@ use Rattle.pn_line.specs.Text.{lines_of}
 use Rattle.pn_join.specs.Marks.{Positions}
 use Rattle.pn_record.specs.declared.image.Image.{Image}
 use Rattle.pn_record.specs.Order.{bytes_cmp}
-use Rattle.pn_record.specs.Sets.{Celled}
+use Rattle.pn_record.specs.Sets.{CellValue}
 use Rattle.pn_record.specs.Cells.{SameImages}
 use Rattle.pn_record.specs.CellMap.{Entries, table_of}
 use Rattle.pn_record.specs.Older.{NotOlder}
 use Rattle.pn_record.proofs.CellLists.{cells-same}
 use Rattle.pn_record.proofs.CellMaps.{same_cells_table}
 use Rattle.pn_record.proofs.NeverOlder.{joined_not_older}
-use Rattle.pn_stream.specs.Positions.{Delivered}
+use Rattle.pn_stream.specs.Positions.{DeliveryValue}
 use Rattle.pn_tablet.specs.Layouts.{Bounds, IsLayout, tablet_of}
-use Rattle.pn_tablet.specs.Tablets.{Tablet, empty_tablet}
+use Rattle.pn_tablet.specs.Tablets.{TabletStateValue, empty_tablet}
 use Rattle.pn_tablet.specs.declared.op.TabletOp.{TabletOp}
 use Rattle.pn_apply.specs.Applying.{AreJoinsIn, AreOldOrStepped}
 use Rattle.pn_apply.specs.Reducing.{all_images, ranges}
 use Rattle.pn_region.specs.Laws.{HasBetween}
 use Rattle.pn_region.specs.Marking.{new_marks}
-use Rattle.pn_region.specs.Regions.{RegionState, IsRegion, new_region, all_cells}
+use Rattle.pn_region.specs.Regions.{RegionValue, IsRegion, new_region, all_cells}
 use Rattle.pn_region.specs.Rounds.{joins, taking, IsHalfTaken}
 use Rattle.pn_region.specs.declared.fault.RoundFault.{RoundFault}
 use Rattle.pn_region.proofs.HalfRounds.{half_taken_is}
@@ -33,17 +33,17 @@ use Rattle.pn_region.proofs.RoundEnds.{fit, new_region_is}
 use Rattle.pn_region.proofs.TakenImages.{new_between, round_surely_takes, round_may_take}
 use Rattle.pn_region.proofs.Together.{surely_together}
 use Rattle.pn_serve.specs.declared.refusal.Refusal.{Refusal}
-use Rattle.pn_serve.specs.Asked.{Asked, deliver, marks, read, scan, tablets}
-use Rattle.pn_serve.specs.Commands.{command_at}
-use Rattle.pn_serve.specs.Looks.{IsLook}
+use Rattle.pn_serve.specs.Command.Meaning.{CommandValue, deliver, marks, read, scan, tablets}
+use Rattle.pn_serve.specs.Command.Lines.{command_at}
+use Rattle.pn_serve.specs.Command.Lookups.{IsLook}
 use Rattle.pn_serve.specs.Machine.{Outcome, done, line, call, round, Machine, saying, half_doing, some_stepped, half_by, half_taken, delivering, turn, serving}
-use Rattle.pn_serve.specs.Rows.{scan_data, line_of}
+use Rattle.pn_serve.specs.Reply.Rows.{scan_data, line_of}
 use Rattle.pn_serve.specs.Script.{first_outcome, later_outcomes, deliveries_asked, accepted_images, images_taken, some_tablet, images_left, taken_from, left_from, taken, machine_after, region_after, AreRepeated}
-use Rattle.pn_serve.specs.Shown.{cell_at, read_data}
+use Rattle.pn_serve.specs.Reply.Views.{cell_at, read_data}
 
 -- ---- regions of which some tablets took their part
 
-some_or_none : (flags : List Bool) (ts : List Tablet) (ops : List TabletOp) → AreJoinsIn ts ops → AreOldOrStepped ts ops (some_stepped flags ts ops)
+some_or_none : (flags : List Bool) (ts : List TabletStateValue) (ops : List TabletOp) → AreJoinsIn ts ops → AreOldOrStepped ts ops (some_stepped flags ts ops)
 some_or_none [] [] [] fits = tt
 some_or_none (flag ∷ flags) [] [] fits = tt
 some_or_none flags [] (op ∷ ops) fits = absurd fits
@@ -52,43 +52,43 @@ some_or_none [] (t ∷ ts) (op ∷ ops) fits = (inl refl, some_or_none [] ts ops
 some_or_none (true ∷ flags) (t ∷ ts) (op ∷ ops) fits = (inr refl, some_or_none flags ts ops fits.1)
 some_or_none (false ∷ flags) (t ∷ ts) (op ∷ ops) fits = (inl refl, some_or_none flags ts ops fits.1)
 
-none_stepped : (flags : List Bool) (ts : List Tablet) (ops : List TabletOp) → some_tablet flags ts ≡ false → some_stepped flags ts ops ≡ ts
+none_stepped : (flags : List Bool) (ts : List TabletStateValue) (ops : List TabletOp) → some_tablet flags ts ≡ false → some_stepped flags ts ops ≡ ts
 none_stepped [] ts ops none = refl
 none_stepped (flag ∷ flags) [] ops none = refl
 none_stepped (flag ∷ flags) (t ∷ ts) [] none = refl
 none_stepped (true ∷ flags) (t ∷ ts) (op ∷ ops) none = cc
 none_stepped (false ∷ flags) (t ∷ ts) (op ∷ ops) none = ap (λ rest. t ∷ rest) (none_stepped flags ts ops none)
 
-half_layout : (region : RegionState) (deliveries : List Delivered) (flags : List Bool) (right : Result Positions RoundFault) → (half_by region deliveries flags right).layout ≡ region.layout
+half_layout : (region : RegionValue) (deliveries : List DeliveryValue) (flags : List Bool) (right : Result Positions RoundFault) → (half_by region deliveries flags right).layout ≡ region.layout
 half_layout region deliveries flags (Ok next) = refl
 half_layout region deliveries flags (Err fault) = refl
 
-half_marks : (region : RegionState) (deliveries : List Delivered) (flags : List Bool) (right : Result Positions RoundFault) → (half_by region deliveries flags right).marks ≡ region.marks
+half_marks : (region : RegionValue) (deliveries : List DeliveryValue) (flags : List Bool) (right : Result Positions RoundFault) → (half_by region deliveries flags right).marks ≡ region.marks
 half_marks region deliveries flags (Ok next) = refl
 half_marks region deliveries flags (Err fault) = refl
 
-half_tablets : (region : RegionState) (deliveries : List Delivered) (flags : List Bool) (right : Result Positions RoundFault) → IsRegion region
+half_tablets : (region : RegionValue) (deliveries : List DeliveryValue) (flags : List Bool) (right : Result Positions RoundFault) → IsRegion region
     → MatchResult right (λ next. AreOldOrStepped region.tablets (joins region deliveries next) (half_by region deliveries flags right).tablets) (λ fault. (half_by region deliveries flags right).tablets ≡ region.tablets)
 half_tablets region deliveries flags (Ok next) is = some_or_none flags region.tablets (joins region deliveries next) (fit region deliveries is next)
 half_tablets region deliveries flags (Err fault) is = refl
 
-half_is : (region : RegionState) (deliveries : List Delivered) (flags : List Bool) → IsRegion region → IsHalfTaken region deliveries (half_taken region deliveries flags)
+half_is : (region : RegionValue) (deliveries : List DeliveryValue) (flags : List Bool) → IsRegion region → IsHalfTaken region deliveries (half_taken region deliveries flags)
 half_is region deliveries flags is =
     let right = new_marks region.marks deliveries in
     (half_layout region deliveries flags right, half_marks region deliveries flags right, half_tablets region deliveries flags right is)
 
-half_none : (region : RegionState) (deliveries : List Delivered) (flags : List Bool) (right : Result Positions RoundFault) → some_tablet flags region.tablets ≡ false → half_by region deliveries flags right ≡ region
+half_none : (region : RegionValue) (deliveries : List DeliveryValue) (flags : List Bool) (right : Result Positions RoundFault) → some_tablet flags region.tablets ≡ false → half_by region deliveries flags right ≡ region
 half_none region deliveries flags (Ok next) none = λ i. record { layout = region.layout; tablets = none_stepped flags region.tablets (joins region deliveries next) none i; marks = region.marks }
 half_none region deliveries flags (Err fault) none = refl
 
 -- ---- what each line keeps
 
 -- a region whose tablets have what was surely taken, and at most what was left beside it
-record Keeps (sure maybe : List Image) (region : RegionState) : Type 0 where
+record Keeps (sure maybe : List Image) (region : RegionValue) : Type 0 where
   pub region_is : IsRegion region
   pub between : HasBetween sure maybe region
 
-as_before : (sure maybe : List Image) (region : RegionState) → Keeps sure maybe region → Keeps (sure ++ []) (maybe ++ []) region
+as_before : (sure maybe : List Image) (region : RegionValue) → Keeps sure maybe region → Keeps (sure ++ []) (maybe ++ []) region
 as_before sure maybe region keeps =
     subst (λ (s : List Image). Keeps s (maybe ++ []) region) (sym (append-nil sure)) (subst (λ (m : List Image). Keeps sure m region) (sym (append-nil maybe)) keeps)
 
@@ -96,7 +96,7 @@ none_accepted : (right : Result Positions RoundFault) → accepted_images [] rig
 none_accepted (Ok next) = refl
 none_accepted (Err fault) = refl
 
-delivered_keeps : (m : Machine) (deliveries : List Delivered) (right : Result Positions RoundFault) (sure maybe : List Image) → Keeps sure maybe m.region
+delivered_keeps : (m : Machine) (deliveries : List DeliveryValue) (right : Result Positions RoundFault) (sure maybe : List Image) → Keeps sure maybe m.region
     → Keeps (sure ++ accepted_images deliveries right) (maybe ++ []) (delivering m (result_map_both (taking m.region deliveries) (λ fault. fault) right)).machine.region
 delivered_keeps m deliveries (Ok next) sure maybe keeps = record {
   region_is = new_region_is m.region deliveries keeps.region_is next _ refl;
@@ -109,7 +109,7 @@ others_keep : (m : Machine) (sure maybe : List Image) → Keeps sure maybe m.reg
 others_keep m sure maybe keeps =
     subst (λ (some : List Image). Keeps (sure ++ some) (maybe ++ []) m.region) (sym (none_accepted (new_marks m.region.marks []))) (as_before sure maybe m.region keeps)
 
-said_keeps : (m : Machine) (said : Result Asked Refusal) (sure maybe : List Image) → Keeps sure maybe m.region
+said_keeps : (m : Machine) (said : Result CommandValue Refusal) (sure maybe : List Image) → Keeps sure maybe m.region
     → Keeps (sure ++ accepted_images (deliveries_asked said) (new_marks m.region.marks (deliveries_asked said))) (maybe ++ []) (saying m said).machine.region
 said_keeps m (Ok (deliver deliveries)) sure maybe keeps = delivered_keeps m deliveries (new_marks m.region.marks deliveries) sure maybe keeps
 said_keeps m (Ok marks) sure maybe keeps = others_keep m sure maybe keeps
@@ -119,7 +119,7 @@ said_keeps m (Ok tablets) sure maybe keeps = others_keep m sure maybe keeps
 said_keeps m (Err refusal) sure maybe keeps = others_keep m sure maybe keeps
 
 -- a round that ended without memory
-half_keeps : (region : RegionState) (deliveries : List Delivered) (flags : List Bool) (sure maybe : List Image) (some : Bool) (right : Result Positions RoundFault)
+half_keeps : (region : RegionValue) (deliveries : List DeliveryValue) (flags : List Bool) (sure maybe : List Image) (some : Bool) (right : Result Positions RoundFault)
     → some_tablet flags region.tablets ≡ some → new_marks region.marks deliveries ≡ right → Keeps sure maybe region
     → Keeps (sure ++ []) (maybe ++ (if some then accepted_images deliveries right else [])) (half_by region deliveries flags right)
 half_keeps region deliveries flags sure maybe false right none found keeps =
@@ -140,7 +140,7 @@ others_half : (m : Machine) (some : Bool) (sure maybe : List Image) → Keeps su
 others_half m some sure maybe keeps =
     subst (λ (more : List Image). Keeps (sure ++ []) (maybe ++ more) m.region) (sym (no_more some (new_marks m.region.marks []))) (as_before sure maybe m.region keeps)
 
-half_said_keeps : (m : Machine) (flags : List Bool) (said : Result Asked Refusal) (sure maybe : List Image) → Keeps sure maybe m.region
+half_said_keeps : (m : Machine) (flags : List Bool) (said : Result CommandValue Refusal) (sure maybe : List Image) → Keeps sure maybe m.region
     → Keeps (sure ++ []) (maybe ++ (if some_tablet flags m.region.tablets then accepted_images (deliveries_asked said) (new_marks m.region.marks (deliveries_asked said)) else [])) (half_doing m flags said).machine.region
 half_said_keeps m flags (Ok (deliver deliveries)) sure maybe keeps = half_keeps m.region deliveries flags sure maybe (some_tablet flags m.region.tablets) (new_marks m.region.marks deliveries) refl refl keeps
 half_said_keeps m flags (Ok marks) sure maybe keeps = others_half m (some_tablet flags m.region.tablets) sure maybe keeps
@@ -195,19 +195,19 @@ same_records bounds others one other went goes lawful lawful_too repeated repeat
     let takes = taken (new_region others) other goes in
     held_records bounds one went lawful repeated ∙ same_cells_table took takes (cells-same took takes same) ∙ sym (held_records others other goes lawful_too repeats)
 
-cell_there : (region : RegionState) (key : List ℕ) (found : Option Tablet) → slice_get region.tablets (tablet_of region.layout key) ≡ found → IsRegion region → IsSome found
-    → option_and_then (λ (tablet : Tablet). find bytes_cmp key tablet.map) found ≡ find bytes_cmp key (all_cells region)
+cell_there : (region : RegionValue) (key : List ℕ) (found : Option TabletStateValue) → slice_get region.tablets (tablet_of region.layout key) ≡ found → IsRegion region → IsSome found
+    → option_and_then (λ (tablet : TabletStateValue). find bytes_cmp key tablet.cells) found ≡ find bytes_cmp key (all_cells region)
 cell_there region key None at is there = cc
 cell_there region key (Some tablet) at is there = has_its_cell region key tablet is at
 
-cell_is : (region : RegionState) (key : List ℕ) → IsRegion region → cell_at region key ≡ find bytes_cmp key (all_cells region)
+cell_is : (region : RegionValue) (key : List ℕ) → IsRegion region → cell_at region key ≡ find bytes_cmp key (all_cells region)
 cell_is region key is = cell_there region key (slice_get region.tablets (tablet_of region.layout key)) refl is (has_tablet region key is)
 
-look_alike : (m n : Machine) (said : Result Asked Refusal) → IsLook said → IsRegion m.region → IsRegion n.region → all_cells m.region ≡ all_cells n.region → (saying m said).reply ≡ (saying n said).reply
+look_alike : (m n : Machine) (said : Result CommandValue Refusal) → IsLook said → IsRegion m.region → IsRegion n.region → all_cells m.region ≡ all_cells n.region → (saying m said).reply ≡ (saying n said).reply
 look_alike m n (Ok (deliver deliveries)) looks is too same = absurd looks
 look_alike m n (Ok marks) looks is too same = absurd looks
 look_alike m n (Ok (read key)) looks is too same =
-    ap (λ (cell : Option Celled). line_of (read_data key cell)) (cell_is m.region key is ∙ ap (find bytes_cmp key) same ∙ sym (cell_is n.region key too))
+    ap (λ (cell : Option CellValue). line_of (read_data key cell)) (cell_is m.region key is ∙ ap (find bytes_cmp key) same ∙ sym (cell_is n.region key too))
 look_alike m n (Ok scan) looks is too same = ap (λ (cells : Entries). line_of (scan_data cells)) same
 look_alike m n (Ok tablets) looks is too same = absurd looks
 look_alike m n (Err refusal) looks is too same = absurd looks
@@ -223,23 +223,23 @@ same_replies bounds others one other went goes lawful lawful_too repeated repeat
     (served_keeps bounds (lines_of one) went lawful).region_is (served_keeps others (lines_of other) goes lawful_too).region_is
     (same_records bounds others one other went goes lawful lawful_too repeated repeats same)
 
-itself_not_older : (o : Option Celled) → NotOlder o o
+itself_not_older : (o : Option CellValue) → NotOlder o o
 itself_not_older None = tt
 itself_not_older (Some cell) = joined_not_older (Some cell) None
 
 -- no key of the region later is absent or older
-abbrev NeverOlder : RegionState → RegionState → Type 0
+abbrev NeverOlder : RegionValue → RegionValue → Type 0
 NeverOlder old new = (key : List ℕ) → NotOlder (find bytes_cmp key (all_cells old)) (find bytes_cmp key (all_cells new))
 
-stays : (region : RegionState) → NeverOlder region region
+stays : (region : RegionValue) → NeverOlder region region
 stays region key = itself_not_older (find bytes_cmp key (all_cells region))
 
-delivered_later : (m : Machine) (deliveries : List Delivered) (right : Result Positions RoundFault) → IsRegion m.region
+delivered_later : (m : Machine) (deliveries : List DeliveryValue) (right : Result Positions RoundFault) → IsRegion m.region
     → NeverOlder m.region (delivering m (result_map_both (taking m.region deliveries) (λ fault. fault) right)).machine.region
 delivered_later m deliveries (Ok next) is = round_not_older m.region deliveries next is
 delivered_later m deliveries (Err fault) is = stays m.region
 
-said_later : (m : Machine) (said : Result Asked Refusal) → IsRegion m.region → NeverOlder m.region (saying m said).machine.region
+said_later : (m : Machine) (said : Result CommandValue Refusal) → IsRegion m.region → NeverOlder m.region (saying m said).machine.region
 said_later m (Ok (deliver deliveries)) is = delivered_later m deliveries (new_marks m.region.marks deliveries) is
 said_later m (Ok marks) is = stays m.region
 said_later m (Ok (read key)) is = stays m.region
@@ -247,7 +247,7 @@ said_later m (Ok scan) is = stays m.region
 said_later m (Ok tablets) is = stays m.region
 said_later m (Err refusal) is = stays m.region
 
-half_later : (m : Machine) (flags : List Bool) (said : Result Asked Refusal) → IsRegion m.region → NeverOlder m.region (half_doing m flags said).machine.region
+half_later : (m : Machine) (flags : List Bool) (said : Result CommandValue Refusal) → IsRegion m.region → NeverOlder m.region (half_doing m flags said).machine.region
 half_later m flags (Ok (deliver deliveries)) is = half_not_older m.region (half_taken m.region deliveries flags) deliveries is (half_is m.region deliveries flags is)
 half_later m flags (Ok marks) is = stays m.region
 half_later m flags (Ok (read key)) is = stays m.region

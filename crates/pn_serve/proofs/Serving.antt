@@ -16,20 +16,20 @@ use Rattle.pn_line.proofs.LinesReadLaws.{LinesRead-none, LinesRead-line, LinesRe
 use Rattle.pn_line.proofs.SentLaws.{Sends-none, Sends-trans, Sends-all, Sends-flushed}
 use Rattle.pn_line.proofs.TextLaws.{lines_of-text, lines_of-nil}
 use Rattle.pn_record.specs.Checks.{◌>>=◌, fault_as}
-use Rattle.pn_region.specs.Regions.{RegionState}
+use Rattle.pn_region.specs.Regions.{RegionValue}
 use Rattle.pn_record.specs.Reading.{value_at, reading}
 use Rattle.pn_record.specs.declared.fault.ImageFault.TheVariants as image
-use Rattle.pn_serve.specs.declared.answering.Reply.{Reply}
-use Rattle.pn_serve.specs.Asked.{Asked}
+use Rattle.pn_serve.specs.declared.reply.Reply.{Reply}
+use Rattle.pn_serve.specs.Command.Meaning.{CommandValue}
 use Rattle.pn_serve.specs.declared.refusal.Refusal.{Refusal}
 use Rattle.pn_serve.specs.declared.refusal.Refusal.TheVariants.{TooLong}
-use Rattle.pn_serve.specs.Commands.{command_at, command_in, refusal_of}
+use Rattle.pn_serve.specs.Command.Lines.{command_at, command_in, refusal_of}
 use Rattle.pn_serve.specs.Machine.{Outcome, Machine, turn, serving}
 use Rattle.pn_serve.specs.Script.{replies_from, machine_after, refusals_from, one_if}
-use Rattle.pn_serve.specs.Replying.{Turned, reply_text, is_refusal}
+use Rattle.pn_serve.specs.Answers.{Turned, reply_text, is_refusal}
 use Rattle.pn_serve.specs.Runs.{Ended, lines_within}
 use Rattle.pn_serve.proofs.Within.{IsShort, within-all}
-use Rattle.pn_serve.specs.declared.running.Counts.{Counts}
+use Rattle.pn_serve.specs.declared.script.Counts.{Counts}
 use Rattle.pn_serve.specs.AnsweredLine.{Answered}
 
 -- a line is the command that its kept bytes are
@@ -74,9 +74,9 @@ are_short texts line taken short is ends =
     let test : nat_lt (length taken) 1000000000 ≡ true = grind (arith, nat_tests, ap (λ (l : LineSoFar). l.count) is, ends) in
     All-append IsShort texts (taken ∷ []) short (All-cons IsShort taken [] test (All-nil IsShort))
 
-pub turned_kept : (old new : RegionState) (line : LineSoFar) (taken : List ℕ) (reply : Reply) → line ≡ so_far taken → Turned old (command_at line.front) new reply → Turned old (command_at taken) new reply
+pub turned_kept : (old new : RegionValue) (line : LineSoFar) (taken : List ℕ) (reply : Reply) → line ≡ so_far taken → Turned old (command_at line.front) new reply → Turned old (command_at taken) new reply
 turned_kept old new line taken reply is turned =
-    subst (λ (said : Result Asked Refusal). Turned old said new reply) (ap (λ (l : LineSoFar). command_at l.front) is ∙ command_at-kept taken) turned
+    subst (λ (said : Result CommandValue Refusal). Turned old said new reply) (ap (λ (l : LineSoFar). command_at l.front) is ∙ command_at-kept taken) turned
 
 no_line : (taken : List ℕ) → length taken ≡ 0 → last_line taken ≡ []
 no_line [] none = refl
@@ -114,13 +114,13 @@ one_if-le true = omega arith
 one_if-le false = omega arith
 
 -- no more lines are refused than are counted
-pub refused_within : (old new : RegionState) (text : List ℕ) (a b : Option (List ℕ)) (waits now : List ℕ) (had has : Counts) → Answered old new text a b waits now had has → had.refused ≤ had.lines → has.refused ≤ has.lines
+pub refused_within : (old new : RegionValue) (text : List ℕ) (a b : Option (List ℕ)) (waits now : List ℕ) (had has : Counts) → Answered old new text a b waits now had has → had.refused ≤ had.lines → has.refused ≤ has.lines
 refused_within old new text a b waits now had has is within = omega (arith, is.lines, is.refused, one_if-le (is_refusal is.reply))
 
 -- from a region on
-module _ (from : RegionState) where
+module _ (from : RegionValue) where
   -- these lines were answered, by one list of outcomes
-  pub record Answers (texts : List (List ℕ)) (a b : Option (List ℕ)) (waits : List ℕ) (region : RegionState) (lines refused : ℕ) : Type 0 where
+  pub record Answers (texts : List (List ℕ)) (a b : Option (List ℕ)) (waits : List ℕ) (region : RegionValue) (lines refused : ℕ) : Type 0 where
     pub outcomes : List Outcome
     pub paired : length outcomes ≡ length texts
     pub sends : Sends a b [] waits (replies_from (serving from) texts outcomes)
@@ -131,7 +131,7 @@ module _ (from : RegionState) where
   pub Answers-none : (a : Option (List ℕ)) (waits : List ℕ) → waits ≡ [] → Answers [] a a waits from 0 0
   Answers-none a waits none = record { outcomes = []; paired = refl; sends = rw none (Sends-none a); machine = refl; counted = refl; refusals = refl }
 
-  pub Answers-line : (texts : List (List ℕ)) (a b c : Option (List ℕ)) (waits now : List ℕ) (old new : RegionState) (lines refused : ℕ) (text : List ℕ) (reply : Reply) → Answers texts a b waits old lines refused
+  pub Answers-line : (texts : List (List ℕ)) (a b c : Option (List ℕ)) (waits now : List ℕ) (old new : RegionValue) (lines refused : ℕ) (text : List ℕ) (reply : Reply) → Answers texts a b waits old lines refused
       → Turned old (command_at text) new reply → Sends b c waits now (reply_text reply) → Answers (texts ++ text ∷ []) a c now new (lines + 1) (one_if (is_refusal reply) + refused)
   Answers-line texts a b c waits now old new lines refused text reply is turned sends =
       let outcomes = is.outcomes in
@@ -153,7 +153,7 @@ module _ (from : RegionState) where
         refusals = omega (arith, counts, is.refusals);
       }
 
-  pub Answers-flush : (texts : List (List ℕ)) (a b c : Option (List ℕ)) (waits now : List ℕ) (region : RegionState) (lines refused : ℕ) → Answers texts a b waits region lines refused → Appends b c waits → now ≡ [] → Answers texts a c now region lines refused
+  pub Answers-flush : (texts : List (List ℕ)) (a b c : Option (List ℕ)) (waits now : List ℕ) (region : RegionValue) (lines refused : ℕ) → Answers texts a b waits region lines refused → Appends b c waits → now ≡ [] → Answers texts a c now region lines refused
   Answers-flush texts a b c waits now region lines refused is sent none = record {
     outcomes = is.outcomes;
     paired = is.paired;
@@ -164,7 +164,7 @@ module _ (from : RegionState) where
   }
 
   -- all lines were answered, and what waited went out
-  pub Answers-end : (text : List ℕ) (texts : List (List ℕ)) (a b c : Option (List ℕ)) (waits : List ℕ) (region : RegionState) (lines refused : ℕ) → lines_of text ≡ texts → lines_within text ≡ lines_of text → Answers texts a b waits region lines refused → Appends b c waits → Ended from text a c lines refused
+  pub Answers-end : (text : List ℕ) (texts : List (List ℕ)) (a b c : Option (List ℕ)) (waits : List ℕ) (region : RegionValue) (lines refused : ℕ) → lines_of text ≡ texts → lines_within text ≡ lines_of text → Answers texts a b waits region lines refused → Appends b c waits → Ended from text a c lines refused
   Answers-end text texts a b c waits region lines refused all within is sent = record {
     within = within;
     outcomes = is.outcomes;
@@ -174,13 +174,13 @@ module _ (from : RegionState) where
   }
 
   -- of this text these lines were read and answered
-  pub record Served (text : List ℕ) (left a b : Option (List ℕ)) (waits : List ℕ) (region : RegionState) (lines refused : ℕ) : Type 0 where
+  pub record Served (text : List ℕ) (left a b : Option (List ℕ)) (waits : List ℕ) (region : RegionValue) (lines refused : ℕ) : Type 0 where
     pub texts : List (List ℕ)
     pub read : LinesRead text left texts
     pub short : All IsShort texts
     pub answers : Answers texts a b waits region lines refused
 
-  pub Served-line : (text : List ℕ) (left leaves a b c : Option (List ℕ)) (waits now : List ℕ) (old new : RegionState) (lines refused : ℕ) (line : LineSoFar) (reply : Reply) → Served text left a b waits old lines refused
+  pub Served-line : (text : List ℕ) (left leaves a b c : Option (List ℕ)) (waits now : List ℕ) (old new : RegionValue) (lines refused : ℕ) (line : LineSoFar) (reply : Reply) → Served text left a b waits old lines refused
       → Takes (so_far []) line left leaves (10 ∷ []) → line.count < 1000000000 → Turned old (command_at line.front) new reply → Sends b c waits now (reply_text reply) → Served text leaves a c now new (lines + 1) (one_if (is_refusal reply) + refused)
   Served-line text left leaves a b c waits now old new lines refused line reply served takes ends turned sends =
       let (taken, is, read) = LinesRead-line served.read takes in record {
@@ -190,7 +190,7 @@ module _ (from : RegionState) where
         answers = Answers-line served.texts a b c waits now old new lines refused taken reply served.answers (turned_kept old new line taken reply is turned) sends;
       }
 
-  pub Served-flush : (text : List ℕ) (left a b c : Option (List ℕ)) (waits now : List ℕ) (region : RegionState) (lines refused : ℕ) → Served text left a b waits region lines refused → Appends b c waits → now ≡ [] → Served text left a c now region lines refused
+  pub Served-flush : (text : List ℕ) (left a b c : Option (List ℕ)) (waits now : List ℕ) (region : RegionValue) (lines refused : ℕ) → Served text left a b waits region lines refused → Appends b c waits → now ≡ [] → Served text left a c now region lines refused
   Served-flush text left a b c waits now region lines refused served sent none = record {
     texts = served.texts;
     read = served.read;
@@ -199,7 +199,7 @@ module _ (from : RegionState) where
   }
 
   -- the input ended behind a newline
-  pub Served-end : (text : List ℕ) (left leaves a b c : Option (List ℕ)) (waits : List ℕ) (region : RegionState) (lines refused : ℕ) (line : LineSoFar) → Served text left a b waits region lines refused
+  pub Served-end : (text : List ℕ) (left leaves a b c : Option (List ℕ)) (waits : List ℕ) (region : RegionValue) (lines refused : ℕ) (line : LineSoFar) → Served text left a b waits region lines refused
       → Takes (so_far []) line left leaves [] → OnSome left (IsAtEnd leaves) → line.count ≡ 0 → lines ≤ 1000000 → Appends b c waits → Ended from text a c lines refused
   Served-end text left leaves a b c waits region lines refused line served takes end none few sent =
       let (taken, is, all) = LinesRead-end leaves served.read takes end in
@@ -208,7 +208,7 @@ module _ (from : RegionState) where
       Answers-end text served.texts a b c waits region lines refused whole (within-all text served.texts whole served.short (omega (arith, few, served.answers.counted))) served.answers sent
 
   -- the input ended in a last line
-  pub Served-last : (text : List ℕ) (left leaves a b c d : Option (List ℕ)) (waits now : List ℕ) (old new : RegionState) (lines refused : ℕ) (line : LineSoFar) (reply : Reply) → Served text left a b waits old lines refused
+  pub Served-last : (text : List ℕ) (left leaves a b c d : Option (List ℕ)) (waits now : List ℕ) (old new : RegionValue) (lines refused : ℕ) (line : LineSoFar) (reply : Reply) → Served text left a b waits old lines refused
       → Takes (so_far []) line left leaves [] → OnSome left (IsAtEnd leaves) → line.count ≢ 0 → line.count < 1000000000 → lines < 1000000 → Turned old (command_at line.front) new reply → Sends b c waits now (reply_text reply) → Appends c d now → Ended from text a d (lines + 1) (one_if (is_refusal reply) + refused)
   Served-last text left leaves a b c d waits now old new lines refused line reply served takes end some ends few turned sends sent =
       let (taken, is, all) = LinesRead-end leaves served.read takes end in
@@ -219,7 +219,7 @@ module _ (from : RegionState) where
       (Answers-line served.texts a b c waits now old new lines refused taken reply served.answers (turned_kept old new line taken reply is turned) sends) sent
 
   -- nothing was left behind the lines that were answered
-  pub Served-all : (text rest : List ℕ) (a b c : Option (List ℕ)) (waits : List ℕ) (region : RegionState) (lines refused : ℕ) → Served text (Some rest) a b waits region lines refused → rest ≡ [] → lines ≤ 1000000 → Appends b c waits → Ended from text a c lines refused
+  pub Served-all : (text rest : List ℕ) (a b c : Option (List ℕ)) (waits : List ℕ) (region : RegionValue) (lines refused : ℕ) → Served text (Some rest) a b waits region lines refused → rest ≡ [] → lines ≤ 1000000 → Appends b c waits → Ended from text a c lines refused
   Served-all text rest a b c waits region lines refused served none few sent =
       let left : served.read.rest ≡ [] = some_same served.read.rest rest (sym served.read.left_is) ∙ none in
       let whole : lines_of text ≡ served.texts = lines_left served.read ∙ ap (λ (r : List ℕ). served.texts ++ lines_of r) left ∙ ap (λ (l : List (List ℕ)). served.texts ++ l) lines_of-nil ∙ append-nil served.texts in
@@ -230,19 +230,19 @@ module _ (from : RegionState) where
   Begins (Some text) a waits none = record { texts = []; read = LinesRead-none text; short = All-nil IsShort; answers = Answers-none a waits none }
 
   -- a line was read and answered
-  pub Goes_on : (text : List ℕ) (left leaves a b c : Option (List ℕ)) (waits now : List ℕ) (old new : RegionState) (had has : Counts) (line : LineSoFar) → Served text left a b waits old had.lines had.refused
+  pub Goes_on : (text : List ℕ) (left leaves a b c : Option (List ℕ)) (waits now : List ℕ) (old new : RegionValue) (had has : Counts) (line : LineSoFar) → Served text left a b waits old had.lines had.refused
       → Takes (so_far []) line left leaves (10 ∷ []) → line.count < 1000000000 → Answered old new line.front b c waits now had has → Served text leaves a c now new has.lines has.refused
   Goes_on text left leaves a b c waits now old new had has line served takes ends is =
       rw (is.lines, is.refused) (Served-line text left leaves a b c waits now old new had.lines had.refused line is.reply served takes ends is.turned is.sends)
 
   -- the last line was read and answered
-  pub Last : (text : List ℕ) (left leaves a b c d : Option (List ℕ)) (waits now : List ℕ) (old new : RegionState) (had has : Counts) (line : LineSoFar) → Served text left a b waits old had.lines had.refused
+  pub Last : (text : List ℕ) (left leaves a b c d : Option (List ℕ)) (waits now : List ℕ) (old new : RegionValue) (had has : Counts) (line : LineSoFar) → Served text left a b waits old had.lines had.refused
       → Takes (so_far []) line left leaves [] → OnSome left (IsAtEnd leaves) → line.count ≢ 0 → line.count < 1000000000 → had.lines < 1000000 → Answered old new line.front b c waits now had has → Appends c d now → Ended from text a d has.lines has.refused
   Last text left leaves a b c d waits now old new had has line served takes end some ends few is sent =
       rw (is.lines, is.refused) (Served-last text left leaves a b c d waits now old new had.lines had.refused line is.reply served takes end some ends few is.turned is.sends sent)
 
   -- nothing was left behind the lines that were answered, by cases on what is told
-  pub Ends : (first left a b c : Option (List ℕ)) (waits : List ℕ) (region : RegionState) (lines refused : ℕ) → IfSome first (λ text. Served text left a b waits region lines refused) → IfSome left (λ rest. rest ≡ []) → lines ≤ 1000000 → Appends b c waits → IfSome first (λ text. Ended from text a c lines refused)
+  pub Ends : (first left a b c : Option (List ℕ)) (waits : List ℕ) (region : RegionValue) (lines refused : ℕ) → IfSome first (λ text. Served text left a b waits region lines refused) → IfSome left (λ rest. rest ≡ []) → lines ≤ 1000000 → Appends b c waits → IfSome first (λ text. Ended from text a c lines refused)
   Ends None left a b c waits region lines refused served none few sent = tt
   Ends (Some text) (Some rest) a b c waits region lines refused served none few sent = Served-all text rest a b c waits region lines refused served none few sent
   Ends (Some text) None a b c waits region lines refused served none few sent = absurd (untold served.read.rest served.read.left_is)

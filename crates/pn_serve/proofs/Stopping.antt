@@ -11,11 +11,11 @@ use Rattle.pn_line.specs.Text.{lines_of, onto_first}
 use Rattle.pn_line.proofs.LinesReadLaws.{LinesRead-line, LinesRead-end, LinesRead-part}
 use Rattle.pn_line.proofs.SentLaws.{Sends-flushed, Sends-cut, Sends-cut_flush, AppendsFront-more}
 use Rattle.pn_line.proofs.TextLaws.{lines_of-line, lines_of-byte, lines_of-text, lines_of-begun}
-use Rattle.pn_region.specs.Regions.{RegionState}
+use Rattle.pn_region.specs.Regions.{RegionValue}
 use Rattle.pn_serve.specs.AnsweredLine.{Answered, AnsweredInPart}
 use Rattle.pn_serve.specs.Machine.{Outcome, Machine, turn, serving}
-use Rattle.pn_serve.specs.Replying.{reply_text, is_refusal}
-use Rattle.pn_serve.specs.declared.running.Counts.{Counts}
+use Rattle.pn_serve.specs.Answers.{reply_text, is_refusal}
+use Rattle.pn_serve.specs.declared.script.Counts.{Counts}
 use Rattle.pn_serve.specs.Runs.{Broken, Cut, Exceeded}
 use Rattle.pn_serve.specs.Script.{replies_from, machine_after, one_if}
 use Rattle.pn_serve.proofs.Serving.{Answers, Answers-line, Served, replies_from-push, turned_kept, lines_left, some_same, one_line}
@@ -51,7 +51,7 @@ begun_line (b ∷ part) rest unbroken long =
     let (line, more, is, longer) = lines_of-begun b part rest unbroken in (line, more, is, omega (arith, long, longer))
 
 -- from a region on
-module _ (from : RegionState) where
+module _ (from : RegionValue) where
   -- a front of the replies to the first lines is one of the replies to all
   front_of_all : (text : List ℕ) (texts more : List (List ℕ)) (outcomes : List Outcome) (a c : Option (List ℕ)) → lines_of text ≡ texts ++ more → length outcomes ≡ length texts
       → AppendsFront a c (replies_from (serving from) texts outcomes) → Cut from text a c
@@ -63,12 +63,12 @@ module _ (from : RegionState) where
   }
 
   -- the writer failed between two lines
-  Answers-cut : (text : List ℕ) (texts more : List (List ℕ)) (a b c : Option (List ℕ)) (waits : List ℕ) (region : RegionState) (lines refused : ℕ) → lines_of text ≡ texts ++ more
+  Answers-cut : (text : List ℕ) (texts more : List (List ℕ)) (a b c : Option (List ℕ)) (waits : List ℕ) (region : RegionValue) (lines refused : ℕ) → lines_of text ≡ texts ++ more
       → Answers from texts a b waits region lines refused → AppendsFront b c waits → Cut from text a c
   Answers-cut text texts more a b c waits region lines refused all is front = front_of_all text texts more is.outcomes a c all is.paired (Sends-cut_flush is.sends front)
 
   -- the writer failed at the reply to a line
-  Answers-cut_line : (text : List ℕ) (texts : List (List ℕ)) (taken : List ℕ) (more : List (List ℕ)) (a b c : Option (List ℕ)) (waits : List ℕ) (old new : RegionState) (lines refused : ℕ) (line : LineSoFar)
+  Answers-cut_line : (text : List ℕ) (texts : List (List ℕ)) (taken : List ℕ) (more : List (List ℕ)) (a b c : Option (List ℕ)) (waits : List ℕ) (old new : RegionValue) (lines refused : ℕ) (line : LineSoFar)
       → lines_of text ≡ texts ++ taken ∷ more → Answers from texts a b waits old lines refused → line ≡ so_far taken → AnsweredInPart old new line.front b c waits → Cut from text a c
   Answers-cut_line text texts taken more a b c waits old new lines refused line all is at part =
       let turned = turned_kept old new line taken part.reply at part.turned in
@@ -82,12 +82,12 @@ module _ (from : RegionState) where
       (subst (λ (r : List ℕ). AppendsFront a c r) (sym said) (Sends-cut (reply_text part.reply) is.sends part.front))
 
   -- the writer failed where what waited was to go out
-  pub Served-cut : (text : List ℕ) (left a b c : Option (List ℕ)) (waits : List ℕ) (region : RegionState) (lines refused : ℕ) → Served from text left a b waits region lines refused → AppendsFront b c waits → Cut from text a c
+  pub Served-cut : (text : List ℕ) (left a b c : Option (List ℕ)) (waits : List ℕ) (region : RegionValue) (lines refused : ℕ) → Served from text left a b waits region lines refused → AppendsFront b c waits → Cut from text a c
   Served-cut text left a b c waits region lines refused served front =
       Answers-cut text served.texts (lines_of served.read.rest) a b c waits region lines refused (lines_left served.read) served.answers front
 
   -- the writer failed at the reply to a line with its newline
-  pub Served-cut_line : (text : List ℕ) (left leaves a b c : Option (List ℕ)) (waits : List ℕ) (old new : RegionState) (lines refused : ℕ) (line : LineSoFar) → Served from text left a b waits old lines refused
+  pub Served-cut_line : (text : List ℕ) (left leaves a b c : Option (List ℕ)) (waits : List ℕ) (old new : RegionValue) (lines refused : ℕ) (line : LineSoFar) → Served from text left a b waits old lines refused
       → Takes (so_far []) line left leaves (10 ∷ []) → AnsweredInPart old new line.front b c waits → Cut from text a c
   Served-cut_line text left leaves a b c waits old new lines refused line served takes part =
       let (taken, is, read) = LinesRead-line served.read takes in
@@ -95,7 +95,7 @@ module _ (from : RegionState) where
       (lines_left read ∙ append_assoc served.texts (taken ∷ []) (lines_of read.rest)) served.answers is part
 
   -- the writer failed at the reply to the last line
-  pub Served-cut_last : (text : List ℕ) (left leaves a b c : Option (List ℕ)) (waits : List ℕ) (old new : RegionState) (lines refused : ℕ) (line : LineSoFar) → Served from text left a b waits old lines refused
+  pub Served-cut_last : (text : List ℕ) (left leaves a b c : Option (List ℕ)) (waits : List ℕ) (old new : RegionValue) (lines refused : ℕ) (line : LineSoFar) → Served from text left a b waits old lines refused
       → Takes (so_far []) line left leaves [] → OnSome left (IsAtEnd leaves) → line.count ≢ 0 → AnsweredInPart old new line.front b c waits → Cut from text a c
   Served-cut_last text left leaves a b c waits old new lines refused line served takes end some part =
       let (taken, is, all) = LinesRead-end leaves served.read takes end in
@@ -103,14 +103,14 @@ module _ (from : RegionState) where
       Answers-cut_line text served.texts taken [] a b c waits old new lines refused line (all ∙ ap (λ (l : List (List ℕ)). served.texts ++ l) (one_line taken full)) served.answers is part
 
   -- a read failed in a line
-  pub Served-broken : (text : List ℕ) (left leaves a b c : Option (List ℕ)) (waits : List ℕ) (region : RegionState) (lines refused : ℕ) (line : LineSoFar) → Served from text left a b waits region lines refused
+  pub Served-broken : (text : List ℕ) (left leaves a b c : Option (List ℕ)) (waits : List ℕ) (region : RegionValue) (lines refused : ℕ) (line : LineSoFar) → Served from text left a b waits region lines refused
       → Takes (so_far []) line left leaves [] → Appends b c waits → Broken from text leaves a c
   Served-broken text left leaves a b c waits region lines refused line served takes sent =
       let (part, is, read) = LinesRead-part served.read takes in
       record { lines = served.texts; part = part; read = read; outcomes = served.answers.outcomes; wrote = Sends-flushed c served.answers.sends sent }
 
   -- a read failed behind the last line that may be answered
-  pub Served-broken_end : (text : List ℕ) (left leaves a b c : Option (List ℕ)) (waits : List ℕ) (region : RegionState) (lines refused : ℕ) → Served from text left a b waits region lines refused
+  pub Served-broken_end : (text : List ℕ) (left leaves a b c : Option (List ℕ)) (waits : List ℕ) (region : RegionValue) (lines refused : ℕ) → Served from text left a b waits region lines refused
       → Keeps left leaves → Appends b c waits → Broken from text leaves a c
   Served-broken_end text left leaves a b c waits region lines refused served kept sent = record {
     lines = served.texts;
@@ -135,7 +135,7 @@ module _ (from : RegionState) where
       stays (Some x) (Some y) rest is kept = ap Some kept ∙ is
 
   -- there are more than a million lines
-  pub Served-exceeded : (text rest : List ℕ) (a b c : Option (List ℕ)) (waits : List ℕ) (region : RegionState) (lines refused : ℕ) → Served from text (Some rest) a b waits region lines refused
+  pub Served-exceeded : (text rest : List ℕ) (a b c : Option (List ℕ)) (waits : List ℕ) (region : RegionValue) (lines refused : ℕ) → Served from text (Some rest) a b waits region lines refused
       → rest ≢ [] → lines ≡ 1000000 → Appends b c waits → Exceeded from text a c
   Served-exceeded text rest a b c waits region lines refused served some many sent =
       let (line, more, is) = some_line served.read.rest (λ none. some (some_same rest served.read.rest served.read.left_is ∙ none)) in
@@ -147,7 +147,7 @@ module _ (from : RegionState) where
       }
 
   -- a line has no end
-  pub Served-endless : (text : List ℕ) (left leaves a b c : Option (List ℕ)) (waits : List ℕ) (region : RegionState) (lines refused : ℕ) (line : LineSoFar) → Served from text left a b waits region lines refused
+  pub Served-endless : (text : List ℕ) (left leaves a b c : Option (List ℕ)) (waits : List ℕ) (region : RegionValue) (lines refused : ℕ) (line : LineSoFar) → Served from text left a b waits region lines refused
       → Takes (so_far []) line left leaves [] → line.count ≡ 1000000000 → lines < 1000000 → Appends b c waits → Exceeded from text a c
   Served-endless text left leaves a b c waits region lines refused line served takes endless few sent =
       let (part, is, read) = LinesRead-part served.read takes in
@@ -160,7 +160,7 @@ module _ (from : RegionState) where
       }
 
   -- the writer failed behind the reply to the last line
-  pub Last-cut : (text : List ℕ) (left leaves a b c d : Option (List ℕ)) (waits now : List ℕ) (old new : RegionState) (had has : Counts) (line : LineSoFar) → Served from text left a b waits old had.lines had.refused
+  pub Last-cut : (text : List ℕ) (left leaves a b c d : Option (List ℕ)) (waits now : List ℕ) (old new : RegionValue) (had has : Counts) (line : LineSoFar) → Served from text left a b waits old had.lines had.refused
       → Takes (so_far []) line left leaves [] → OnSome left (IsAtEnd leaves) → line.count ≢ 0 → Answered old new line.front b c waits now had has → AppendsFront c d now → Cut from text a d
   Last-cut text left leaves a b c d waits now old new had has line served takes end some answered front =
       let (taken, is, all) = LinesRead-end leaves served.read takes end in
@@ -170,7 +170,7 @@ module _ (from : RegionState) where
       (Answers-line from served.texts a b c waits now old new had.lines had.refused taken answered.reply served.answers (turned_kept old new line taken answered.reply is answered.turned) answered.sends) front
 
   -- there are more than a million lines, by cases on what is told
-  pub Exceeds : (first left a b c : Option (List ℕ)) (waits : List ℕ) (region : RegionState) (lines refused : ℕ) → IfSome first (λ text. Served from text left a b waits region lines refused) → IfSome left (λ rest. rest ≢ []) → lines ≡ 1000000 → Appends b c waits → IfSome first (λ text. Exceeded from text a c)
+  pub Exceeds : (first left a b c : Option (List ℕ)) (waits : List ℕ) (region : RegionValue) (lines refused : ℕ) → IfSome first (λ text. Served from text left a b waits region lines refused) → IfSome left (λ rest. rest ≢ []) → lines ≡ 1000000 → Appends b c waits → IfSome first (λ text. Exceeded from text a c)
   Exceeds None left a b c waits region lines refused served some many sent = tt
   Exceeds (Some text) (Some rest) a b c waits region lines refused served some many sent = Served-exceeded text rest a b c waits region lines refused served some many sent
   Exceeds (Some text) None a b c waits region lines refused served some many sent = absurd (untold served.read.rest served.read.left_is)

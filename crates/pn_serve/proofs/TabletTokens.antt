@@ -14,9 +14,9 @@ use Rattle.serde_json.specs.Written.{members_outline}
 use Rattle.serde_json.proofs.Texts.{print-outline}
 use Rattle.pn_join.specs.Marks.{Positions}
 use Rattle.pn_record.specs.Marks.{positions_data, marks_data}
-use Rattle.pn_tablet.specs.Tablets.{Tablet}
-use Rattle.pn_serve.specs.Rows.{row_data, shown_rows, line_of}
-use Rattle.pn_serve.specs.Tokens.{Appends, mark_tokens, value_tokens, values_tokens}
+use Rattle.pn_tablet.specs.Tablets.{TabletStateValue}
+use Rattle.pn_serve.specs.Reply.Rows.{row_data, shown_rows, line_of}
+use Rattle.pn_serve.specs.Reply.Tokens.{Appends, mark_tokens, value_tokens, values_tokens}
 use Rattle.pn_serve.proofs.RowTokens.{appends_both, appends_as, taken_next}
 
 -- one element more of a list
@@ -24,19 +24,19 @@ next_taken : {X : Type 0} (xs : List X) (i : ℕ) → take i xs ++ option_to_lis
 next_taken xs i = taken_next xs i ∙ ap (λ n. take n xs) (sym (add-one i))
 
 -- the rows of one tablet more
-pub one_more_tablet : (tablets : List Tablet) (i : ℕ) (t : Tablet) → slice_get tablets i ≡ Some t
-    → values_tokens (map row_data (shown_rows (flat_map (λ tablet. tablet.map) (take i tablets)))) ++ values_tokens (map row_data (shown_rows t.map))
-    ≡ values_tokens (map row_data (shown_rows (flat_map (λ tablet. tablet.map) (take (i + 1) tablets))))
+pub one_more_tablet : (tablets : List TabletStateValue) (i : ℕ) (t : TabletStateValue) → slice_get tablets i ≡ Some t
+    → values_tokens (map row_data (shown_rows (flat_map (λ tablet. tablet.cells) (take i tablets)))) ++ values_tokens (map row_data (shown_rows t.cells))
+    ≡ values_tokens (map row_data (shown_rows (flat_map (λ tablet. tablet.cells) (take (i + 1) tablets))))
 one_more_tablet tablets i t there =
-    let front = flat_map (λ (tablet : Tablet). tablet.map) (take i tablets) in
-    let more = flat_map (λ (tablet : Tablet). tablet.map) (option_to_list (slice_get tablets i)) in
-    let same : more ≡ t.map = ap (λ o. flat_map (λ (tablet : Tablet). tablet.map) (option_to_list o)) there ∙ append-nil t.map in
-    sym (flat_map-append value_tokens (map row_data (shown_rows front)) (map row_data (shown_rows t.map)))
-    ∙ ap values_tokens (sym (map-append row_data (shown_rows front) (shown_rows t.map)))
-    ∙ ap (λ es. values_tokens (map row_data es)) (sym (filter-append _ front t.map))
+    let front = flat_map (λ (tablet : TabletStateValue). tablet.cells) (take i tablets) in
+    let more = flat_map (λ (tablet : TabletStateValue). tablet.cells) (option_to_list (slice_get tablets i)) in
+    let same : more ≡ t.cells = ap (λ o. flat_map (λ (tablet : TabletStateValue). tablet.cells) (option_to_list o)) there ∙ append-nil t.cells in
+    sym (flat_map-append value_tokens (map row_data (shown_rows front)) (map row_data (shown_rows t.cells)))
+    ∙ ap values_tokens (sym (map-append row_data (shown_rows front) (shown_rows t.cells)))
+    ∙ ap (λ es. values_tokens (map row_data es)) (sym (filter-append _ front t.cells))
     ∙ ap (λ es. values_tokens (map row_data (shown_rows (front ++ es)))) (sym same)
-    ∙ ap (λ es. values_tokens (map row_data (shown_rows es))) (sym (flat_map-append (λ (tablet : Tablet). tablet.map) (take i tablets) (option_to_list (slice_get tablets i))))
-    ∙ ap (λ ts. values_tokens (map row_data (shown_rows (flat_map (λ (tablet : Tablet). tablet.map) ts)))) (next_taken tablets i)
+    ∙ ap (λ es. values_tokens (map row_data (shown_rows es))) (sym (flat_map-append (λ (tablet : TabletStateValue). tablet.cells) (take i tablets) (option_to_list (slice_get tablets i))))
+    ∙ ap (λ ts. values_tokens (map row_data (shown_rows (flat_map (λ (tablet : TabletStateValue). tablet.cells) ts)))) (next_taken tablets i)
 
 -- one item more of a list
 pub one_more_item : {Y : Type 0} (f : Y → Data) (ys : List Y) (i : ℕ) (y : Y) → slice_get ys i ≡ Some y

@@ -4,15 +4,15 @@ use Rattle.std.specs.List.{list_any}
 use Rattle.pn_join.specs.Marks.{Positions}
 use Rattle.pn_line.specs.Text.{lines_of}
 use Rattle.pn_record.specs.declared.image.Image.{Image}
-use Rattle.pn_stream.specs.Positions.{Delivered}
-use Rattle.pn_tablet.specs.Tablets.{Tablet}
+use Rattle.pn_stream.specs.Positions.{DeliveryValue}
+use Rattle.pn_tablet.specs.Tablets.{TabletStateValue}
 use Rattle.pn_apply.specs.Reducing.{all_images}
 use Rattle.pn_region.specs.Marking.{new_marks}
-use Rattle.pn_region.specs.Regions.{RegionState}
+use Rattle.pn_region.specs.Regions.{RegionValue}
 use Rattle.pn_region.specs.declared.fault.RoundFault.{RoundFault}
 use Rattle.pn_serve.specs.declared.refusal.Refusal.{Refusal}
-use Rattle.pn_serve.specs.Asked.{Asked, deliver, marks, read, scan, tablets}
-use Rattle.pn_serve.specs.Commands.{command_at}
+use Rattle.pn_serve.specs.Command.Meaning.{CommandValue, deliver, marks, read, scan, tablets}
+use Rattle.pn_serve.specs.Command.Lines.{command_at}
 use Rattle.pn_serve.specs.Machine.{Outcome, done, line, call, round, Machine, turn, serving}
 
 -- a line's outcome: lines beyond the list go as they say
@@ -47,19 +47,19 @@ refusals_from machine (text ∷ lines) outcomes =
     one_if (turn machine (first_outcome outcomes) text).refused + refusals_from (turn machine (first_outcome outcomes) text).machine lines (later_outcomes outcomes)
 
 -- the replies to a script
-abbrev pub replies : RegionState → List ℕ → List Outcome → List ℕ
+abbrev pub replies : RegionValue → List ℕ → List Outcome → List ℕ
 replies region script outcomes = replies_from (serving region) (lines_of script) outcomes
 
 -- how many replies to a script are refusals
-abbrev pub refusals : RegionState → List ℕ → List Outcome → ℕ
+abbrev pub refusals : RegionValue → List ℕ → List Outcome → ℕ
 refusals region script outcomes = refusals_from (serving region) (lines_of script) outcomes
 
 -- the region after a script
-abbrev pub region_after : RegionState → List ℕ → List Outcome → RegionState
+abbrev pub region_after : RegionValue → List ℕ → List Outcome → RegionValue
 region_after region script outcomes = (machine_after (serving region) (lines_of script) outcomes).region
 
 -- the deliveries that a line asks to take
-abbrev pub deliveries_asked : Result Asked Refusal → List Delivered
+abbrev pub deliveries_asked : Result CommandValue Refusal → List DeliveryValue
 deliveries_asked (Ok (deliver deliveries)) = deliveries
 deliveries_asked (Ok marks) = []
 deliveries_asked (Ok (read key)) = []
@@ -68,7 +68,7 @@ deliveries_asked (Ok tablets) = []
 deliveries_asked (Err refusal) = []
 
 -- the images of a round that is not refused
-abbrev pub accepted_images : List Delivered → Result Positions RoundFault → List Image
+abbrev pub accepted_images : List DeliveryValue → Result Positions RoundFault → List Image
 accepted_images deliveries (Ok next) = all_images deliveries
 accepted_images deliveries (Err fault) = []
 
@@ -85,7 +85,7 @@ images_taken machine call text = []
 images_taken machine (round which) text = []
 
 -- one of the tablets has a flag
-abbrev pub some_tablet : List Bool → List Tablet → Bool
+abbrev pub some_tablet : List Bool → List TabletStateValue → Bool
 some_tablet which all = list_any (λ flag. flag) (take (length all) which)
 
 -- the images that a line left in some tablets, where its round ended without memory
@@ -108,9 +108,9 @@ left_from machine (text ∷ lines) outcomes =
     images_left machine (first_outcome outcomes) text ++ left_from (turn machine (first_outcome outcomes) text).machine lines (later_outcomes outcomes)
 
 -- the images that the accepted deliveries of a script took
-abbrev pub taken : RegionState → List ℕ → List Outcome → List Image
+abbrev pub taken : RegionValue → List ℕ → List Outcome → List Image
 taken region script outcomes = taken_from (serving region) (lines_of script) outcomes
 
 -- what a round left in some tablets when it ended without memory is among what was taken: it was given again
-abbrev pub AreRepeated : RegionState → List ℕ → List Outcome → Type 0
+abbrev pub AreRepeated : RegionValue → List ℕ → List Outcome → Type 0
 AreRepeated region script outcomes = (image : Image) → Contains (left_from (serving region) (lines_of script) outcomes) image → Contains (taken region script outcomes) image

@@ -3,5 +3,5 @@ use Rattle.std.specs.Prelude.{ℕ}
 use Rattle.pn_tablet.specs.Layouts.{Bounds}
 
 -- how the keys are divided into tablets, and how many workers a round has
-abbrev pub Chosen : Type 0
-Chosen = Bounds × ℕ
+abbrev pub SettingsValue : Type 0
+SettingsValue = Bounds × ℕ

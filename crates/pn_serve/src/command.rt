@@ -1,5 +1,12 @@
 //! The commands that lines are.
 
+pub(crate) mod batch;
+mod build;
+pub(crate) mod parse;
+mod ranges;
+mod shapes;
+pub(crate) mod word;
+
 use pn_record::Key;
 use pn_stream::Delivery;
 

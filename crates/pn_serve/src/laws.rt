@@ -9,8 +9,8 @@ ghost use Rattle.pn_record.specs.Older.{NotOlder};
 ghost use Rattle.pn_record.specs.Order.{bytes_cmp};
 ghost use Rattle.pn_tablet.specs.Layouts.{Bounds, IsLayout};
 ghost use Rattle.pn_region.specs.Regions.{new_region, all_cells};
-ghost use Rattle.pn_serve.specs.Commands.{command_at};
-ghost use Rattle.pn_serve.specs.Looks.{IsLook};
+ghost use Rattle.pn_serve.specs.Command.Lines.{command_at};
+ghost use Rattle.pn_serve.specs.Command.Lookups.{IsLook};
 ghost use Rattle.pn_serve.specs.Machine.{Outcome, done, serving, turn};
 ghost use Rattle.pn_serve.specs.Script.{machine_after, region_after, taken, AreRepeated};
 

@@ -1,6 +1,7 @@
 //! Why a line was refused.
 
 ghost use Rattle.std.specs.Prelude.{◌≡◌};
+ghost use Rattle.pn_serve.specs.Reply.Short.{part_word};
 ghost use Rattle.pn_serve.specs.declared.refusal.Refusal.TheVariants.{Memory};
 
 use pn_join::NoMemory;
@@ -23,6 +24,26 @@ pub enum Part {
     Other,
     /// A part of an image.
     Image(Member),
+}
+
+impl Part {
+    /// The part's name in lower case; of a part of an image, the name of its member.
+    pub fn word(&self) -> &'static str
+        ensures { result.now ≡ part_word self.now }
+    {
+        match self {
+            Part::Whole => "whole",
+            Part::Do => "do",
+            Part::Batches => "batches",
+            Part::First => "first",
+            Part::Images => "images",
+            Part::Key => "key",
+            Part::Stream => "stream",
+            Part::Query => "query",
+            Part::Other => "other",
+            Part::Image(member) => member.word(),
+        }
+    }
 }
 
 /// Why a line was refused. The first fault in the order of the variants is named.

@@ -17,9 +17,9 @@ pub struct Settings {
 
 impl Model for Settings {
     ghost use Rattle.std.specs.Prelude.{◌≤◌};
-    ghost use Rattle.pn_serve.specs.Settings.{Chosen};
+    ghost use Rattle.pn_serve.specs.Settings.{SettingsValue};
 
-    ghost Value = { Chosen };
+    ghost Value = { SettingsValue };
 
     ghost view = { λ settings. (settings.layout, settings.workers) };
 

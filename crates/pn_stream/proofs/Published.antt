@@ -9,7 +9,7 @@ use Rattle.std.proofs.lemmas.List.Elements.{Contains-append_left, Contains-appen
 use Rattle.pn_join.specs.Marks.{Positions, name_cmp, position_of}
 use Rattle.pn_record.specs.declared.image.Image.{Image}
 use Rattle.pn_record.proofs.HeldRecords.{tied_keys}
-use Rattle.pn_stream.specs.Positions.{Delivered}
+use Rattle.pn_stream.specs.Positions.{DeliveryValue}
 use Rattle.pn_stream.specs.Brokers.{BrokerRecord, up_to, IsHonest}
 
 -- the image stands in the list, below the place n
@@ -107,7 +107,7 @@ pred_is : (n : ℕ) → 1 ≤ n → n ≡ suc (pred n)
 pred_is zero some = absurd (omega (arith, some))
 pred_is (suc n) some = refl
 
-module _ (broker : BrokerRecord) (delivery : Delivered) (image : Image) (honest : IsHonest broker delivery) where
+module _ (broker : BrokerRecord) (delivery : DeliveryValue) (image : Image) (honest : IsHonest broker delivery) where
   abbrev before : ℕ
   before = pred delivery.first
 

@@ -3,7 +3,7 @@ use Rattle.std.specs.Prelude.{◌≡◌, ℕ, ◌≤◌, pred, List, length, tak
 use Rattle.std.specs.List.{flat_map}
 use Rattle.pn_join.specs.Marks.{Positions, position_of}
 use Rattle.pn_record.specs.declared.image.Image.{Image}
-use Rattle.pn_stream.specs.Positions.{Delivered}
+use Rattle.pn_stream.specs.Positions.{DeliveryValue}
 
 -- a broker record: for each stream name one list of images, of which the first stands at position 1
 abbrev pub BrokerRecord : Type 0
@@ -14,9 +14,9 @@ abbrev pub up_to : BrokerRecord → Positions → List Image
 up_to broker marks = flat_map (λ mark. take (position_of marks mark.0) (broker mark.0)) marks
 
 -- an honest delivery: its images are those that its stream has at its positions, of which the first is 1
-abbrev pub IsHonest : BrokerRecord → Delivered → Type 0
+abbrev pub IsHonest : BrokerRecord → DeliveryValue → Type 0
 IsHonest broker delivery = (1 ≤ delivery.first) × (delivery.images ≡ take (length delivery.images) (drop (pred delivery.first) (broker delivery.stream)))
 
 -- each delivery is honest
-abbrev pub AreHonest : BrokerRecord → List Delivered → Type 0
-AreHonest broker deliveries = (delivery : Delivered) → Contains deliveries delivery → IsHonest broker delivery
+abbrev pub AreHonest : BrokerRecord → List DeliveryValue → Type 0
+AreHonest broker deliveries = (delivery : DeliveryValue) → Contains deliveries delivery → IsHonest broker delivery

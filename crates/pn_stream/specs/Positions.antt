@@ -11,7 +11,7 @@ abbrev pub are_positions : ℕ → ℕ → Bool
 are_positions first count = is_position first && nat_le (first + count) (10 ^ 15 + 1)
 
 -- what a delivery shows: images that stand in a stream at consecutive positions from the first on
-pub record Delivered : Type 0 where
+pub record DeliveryValue : Type 0 where
   pub stream : List ℕ
   pub first : ℕ
   pub images : List Image

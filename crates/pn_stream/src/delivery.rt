@@ -21,9 +21,9 @@ pub struct Delivery {
 
 impl Model for Delivery {
     ghost use Rattle.std.specs.Prelude.{length, IsTrue};
-    ghost use Rattle.pn_stream.specs.Positions.{Delivered, are_positions};
+    ghost use Rattle.pn_stream.specs.Positions.{DeliveryValue, are_positions};
 
-    ghost Value = { Delivered };
+    ghost Value = { DeliveryValue };
 
     ghost view = { λ d. record { stream = d.stream; first = d.first; images = d.images.items } };
 

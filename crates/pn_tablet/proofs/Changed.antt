@@ -5,7 +5,7 @@ use Rattle.std.specs.FinMap.{find}
 use Rattle.std.proofs.lemmas.List.Elements.{filter_map-append}
 use Rattle.pn_join.specs.Tables.{optional_joined}
 use Rattle.pn_record.specs.Order.{bytes_cmp}
-use Rattle.pn_record.specs.Sets.{Celled, Stamp, cell_joined}
+use Rattle.pn_record.specs.Sets.{CellValue, Stamp, cell_joined}
 use Rattle.pn_record.specs.CellMap.{Entries}
 use Rattle.pn_record.specs.SameCells.{same_at}
 use Rattle.pn_record.proofs.Differing.{IsAt, each_at, units, differs, same_chosen}
@@ -14,39 +14,39 @@ use Rattle.pn_tablet.specs.Changes.{version_at, change_of, change_by, changes}
 use Rattle.pn_tablet.specs.declared.change.Change.{Change}
 
 -- what is made of the keys that pass
-split : (g : List ℕ → Change) (t : Bool) (e : List ℕ × Celled) (rest : List Change) (others : Entries)
+split : (g : List ℕ → Change) (t : Bool) (e : List ℕ × CellValue) (rest : List Change) (others : Entries)
     → rest ≡ map (λ u. g u.0) (units others) → cons_option (cond t (Some (g e.0)) None) rest ≡ map (λ u. g u.0) (units (cond t (e ∷ others) others))
 split g true e rest others is = ap (λ r. g e.0 ∷ r) is
 split g false e rest others is = is
 
-gathered : (table es : Entries) (d : List ℕ → Bool) (g : List ℕ → Change) (f : List ℕ × Celled → Option Change)
-    → AllByRecursion (IsAt table) es → ((e : List ℕ × Celled) → IsAt table e → f e ≡ cond (d e.0) (Some (g e.0)) None)
-    → filter_map f es ≡ map (λ u. g u.0) (units (filter (λ (e : List ℕ × Celled). d e.0) es))
+gathered : (table es : Entries) (d : List ℕ → Bool) (g : List ℕ → Change) (f : List ℕ × CellValue → Option Change)
+    → AllByRecursion (IsAt table) es → ((e : List ℕ × CellValue) → IsAt table e → f e ≡ cond (d e.0) (Some (g e.0)) None)
+    → filter_map f es ≡ map (λ u. g u.0) (units (filter (λ (e : List ℕ × CellValue). d e.0) es))
 gathered table [] d g f at is = refl
 gathered table (e ∷ es) d g f at is =
     ap (λ o. cons_option o (filter_map f es)) (is e at.0)
-    ∙ split g (d e.0) e (filter_map f es) (filter (λ (e : List ℕ × Celled). d e.0) es) (gathered table es d g f at.1 is)
+    ∙ split g (d e.0) e (filter_map f es) (filter (λ (e : List ℕ × CellValue). d e.0) es) (gathered table es d g f at.1 is)
 
 -- the version of a cell that is there
-stamp_of : Option Celled → Stamp
+stamp_of : Option CellValue → Stamp
 stamp_of None = (0, 0)
 stamp_of (Some cell) = cell.0
 
-abbrev change_at : Option Celled → Option Celled → List ℕ → Change
+abbrev change_at : Option CellValue → Option CellValue → List ℕ → Change
 change_at before after key = record { key = key; before = version_at before; after = stamp_of after }
 
 flipped : (t : Bool) (change : Change) → cond t None (Some change) ≡ cond (not t) (Some change) None
 flipped true change = refl
 flipped false change = refl
 
-from_entry : (before : Option Celled) (e : List ℕ × Celled) (after : Option Celled) → after ≡ Some e.1
+from_entry : (before : Option CellValue) (e : List ℕ × CellValue) (after : Option CellValue) → after ≡ Some e.1
     → change_of before e ≡ cond (not (same_at before after)) (Some (change_at before after e.0)) None
 unfolding stamp_of
 from_entry before e after is =
     flipped (same_at before (Some e.1)) (change_at before (Some e.1) e.0)
     ∙ ap (λ o. cond (not (same_at before o)) (Some (change_at before o e.0)) None) (sym is)
 
-from_joined : (before : Option Celled) (e : List ℕ × Celled) (after : Option Celled) → after ≡ optional_joined cell_joined before (Some e.1)
+from_joined : (before : Option CellValue) (e : List ℕ × CellValue) (after : Option CellValue) → after ≡ optional_joined cell_joined before (Some e.1)
     → change_by before e ≡ cond (not (same_at before after)) (Some (change_at before after e.0)) None
 from_joined None e after is = from_entry None e after is
 from_joined (Some cell) e after is = from_entry (Some cell) (e.0, cell_joined cell e.1) after is
@@ -67,7 +67,7 @@ take_next (f ∷ es) zero e there = cc
 take_next (f ∷ es) (suc i) e there = ap (λ rest. f ∷ rest) (take_next es i e there)
 
 -- one more entry
-pub changes_more : (f : List ℕ × Celled → Option Change) (es : Entries) (i : ℕ) (e : List ℕ × Celled) (so_far : List Change) (o : Option Change)
+pub changes_more : (f : List ℕ × CellValue → Option Change) (es : Entries) (i : ℕ) (e : List ℕ × CellValue) (so_far : List Change) (o : Option Change)
     → Some e ≡ slice_get es i → so_far ≡ filter_map f (take i es) → o ≡ f e → so_far ++ cons_option o [] ≡ filter_map f (take (i + 1) es)
 changes_more f es i e so_far o there is one =
     (λ j. is j ++ cons_option (one j) []) ∙ sym (filter_map-append f (take i es) (e ∷ [])) ∙ ap (filter_map f) (sym (take_next es i e there)) ∙ ap (λ n. filter_map f (take n es)) (sym (add-one i))

@@ -9,7 +9,7 @@ use Rattle.pn_record.proofs.CellLists.{both, both-assoc, both-comm, both-same, c
 use Rattle.pn_record.proofs.CellMaps.{adds-table_of, same_cells_table}
 use Rattle.pn_tablet.specs.Laws.{Rise}
 use Rattle.pn_tablet.specs.Steps.{taking, after_step, stepped}
-use Rattle.pn_tablet.specs.Tablets.{Tablet, lie_in}
+use Rattle.pn_tablet.specs.Tablets.{TabletStateValue, lie_in}
 use Rattle.pn_tablet.specs.declared.op.TabletOp.TheVariants.{Join}
 use Rattle.pn_tablet.specs.declared.fault.OpFault.TheVariants.{WrongRange}
 
@@ -46,22 +46,22 @@ raised_commute cover marks positions g h k =
 raised_repeat : (cover marks : Positions) → Rise cover → Rise marks → raised (raised cover marks) marks ≡ raised cover marks
 raised_repeat cover marks g h = raised-associates cover marks marks g ∙ ap (raised cover) (raised-repeats marks h)
 
-taking_commutes : (t : Tablet) (cells others : Entries) (marks positions : Positions) → Rise t.cover → Rise marks → Rise positions
+taking_commutes : (t : TabletStateValue) (cells others : Entries) (marks positions : Positions) → Rise t.cover → Rise marks → Rise positions
     → taking (taking t cells marks) others positions ≡ taking (taking t others positions) cells marks
 taking_commutes t cells others marks positions g h k =
-    λ i. record { range = t.range; map = adds_commute t.map (spell cells) (spell others) i; cover = raised_commute t.cover marks positions g h k i; status = t.status }
+    λ i. record { range = t.range; cells = adds_commute t.cells (spell cells) (spell others) i; cover = raised_commute t.cover marks positions g h k i; status = t.status }
 
-taking_repeats : (t : Tablet) (cells : Entries) (marks : Positions) → Rise t.cover → Rise marks → taking (taking t cells marks) cells marks ≡ taking t cells marks
-taking_repeats t cells marks g h = λ i. record { range = t.range; map = adds_repeat t.map (spell cells) i; cover = raised_repeat t.cover marks g h i; status = t.status }
+taking_repeats : (t : TabletStateValue) (cells : Entries) (marks : Positions) → Rise t.cover → Rise marks → taking (taking t cells marks) cells marks ≡ taking t cells marks
+taking_repeats t cells marks g h = λ i. record { range = t.range; cells = adds_repeat t.cells (spell cells) i; cover = raised_repeat t.cover marks g h i; status = t.status }
 
 -- a join of keys in the range is taken, and another is not
-taken_in : (t : Tablet) (cells : Entries) (marks : Positions) → lie_in t.range cells ≡ true → stepped t (Join cells marks) ≡ taking t cells marks
+taken_in : (t : TabletStateValue) (cells : Entries) (marks : Positions) → lie_in t.range cells ≡ true → stepped t (Join cells marks) ≡ taking t cells marks
 taken_in t cells marks inside = ap (λ b. after_step t (if b then Ok (taking t cells marks) else Err WrongRange)) inside
 
-left_out : (t : Tablet) (cells : Entries) (marks : Positions) → lie_in t.range cells ≡ false → stepped t (Join cells marks) ≡ t
+left_out : (t : TabletStateValue) (cells : Entries) (marks : Positions) → lie_in t.range cells ≡ false → stepped t (Join cells marks) ≡ t
 left_out t cells marks outside = ap (λ b. after_step t (if b then Ok (taking t cells marks) else Err WrongRange)) outside
 
-commute_by : (t : Tablet) (cells others : Entries) (marks positions : Positions) (a b : Bool) → lie_in t.range cells ≡ a → lie_in t.range others ≡ b
+commute_by : (t : TabletStateValue) (cells others : Entries) (marks positions : Positions) (a b : Bool) → lie_in t.range cells ≡ a → lie_in t.range others ≡ b
     → Rise t.cover → Rise marks → Rise positions
     → stepped (stepped t (Join cells marks)) (Join others positions) ≡ stepped (stepped t (Join others positions)) (Join cells marks)
 commute_by t cells others marks positions true true x y g h k =
@@ -78,18 +78,18 @@ commute_by t cells others marks positions false false x y g h k =
     ap (λ t. stepped t (Join others positions)) (left_out t cells marks x) ∙ left_out t others positions y
     ∙ sym (ap (λ t. stepped t (Join cells marks)) (left_out t others positions y) ∙ left_out t cells marks x)
 
-pub joins_commute : (t : Tablet) (cells others : Entries) (marks positions : Positions) → Rise t.cover → Rise marks → Rise positions
+pub joins_commute : (t : TabletStateValue) (cells others : Entries) (marks positions : Positions) → Rise t.cover → Rise marks → Rise positions
     → stepped (stepped t (Join cells marks)) (Join others positions) ≡ stepped (stepped t (Join others positions)) (Join cells marks)
 joins_commute t cells others marks positions =
     commute_by t cells others marks positions (lie_in t.range cells) (lie_in t.range others) refl refl
 
-repeat_by : (t : Tablet) (cells : Entries) (marks : Positions) (a : Bool) → lie_in t.range cells ≡ a → Rise t.cover → Rise marks
+repeat_by : (t : TabletStateValue) (cells : Entries) (marks : Positions) (a : Bool) → lie_in t.range cells ≡ a → Rise t.cover → Rise marks
     → stepped (stepped t (Join cells marks)) (Join cells marks) ≡ stepped t (Join cells marks)
 repeat_by t cells marks true x g h =
     ap (λ t. stepped t (Join cells marks)) (taken_in t cells marks x) ∙ taken_in (taking t cells marks) cells marks x
     ∙ taking_repeats t cells marks g h ∙ sym (taken_in t cells marks x)
 repeat_by t cells marks false x g h = ap (λ t. stepped t (Join cells marks)) (left_out t cells marks x)
 
-pub joins_repeat : (t : Tablet) (cells : Entries) (marks : Positions) → Rise t.cover → Rise marks
+pub joins_repeat : (t : TabletStateValue) (cells : Entries) (marks : Positions) → Rise t.cover → Rise marks
     → stepped (stepped t (Join cells marks)) (Join cells marks) ≡ stepped t (Join cells marks)
 joins_repeat t cells marks = repeat_by t cells marks (lie_in t.range cells) refl

@@ -7,7 +7,7 @@ use Rattle.pn_join.specs.Marks.{Positions}
 use Rattle.pn_join.specs.Tables.{optional_joined}
 use Rattle.pn_record.specs.declared.image.Image.{Image}
 use Rattle.pn_record.specs.Order.{bytes_cmp}
-use Rattle.pn_record.specs.Sets.{Celled, cell_joined}
+use Rattle.pn_record.specs.Sets.{CellValue, cell_joined}
 use Rattle.pn_record.specs.Cells.{spell}
 use Rattle.pn_record.specs.CellMap.{Entries, table_of, adds}
 use Rattle.pn_record.proofs.Sorted.{both_true, first_true, second_true}
@@ -27,27 +27,27 @@ spelled_adds old images = spelled_table (spell old ++ images)
 pub spelled_nil : [] ≡ table_of (spell [])
 spelled_nil = sym table_of-nil
 
-inside_first : (t : Bool) (range : Ends) (key : List ℕ) (e : List ℕ × Celled) (cell : Celled) (rest : Option Celled)
+inside_first : (t : Bool) (range : Ends) (key : List ℕ) (e : List ℕ × CellValue) (cell : CellValue) (rest : Option CellValue)
     → eq_by_cmp bytes_cmp key e.0 ≡ t → in_range range e.0 ≡ true → (rest ≡ Some cell → in_range range key ≡ true)
     → cond t (Some e.1) rest ≡ Some cell → in_range range key ≡ true
 inside_first true range key e cell rest tied inside later there = ap (in_range range) (tied_keys key e.0 tied) ∙ inside
 inside_first false range key e cell rest apart inside later there = later there
 
 -- a key that is found lies in the range
-found_inside : (range : Ends) (es : Entries) (key : List ℕ) (cell : Celled) → lie_in range es ≡ true → find bytes_cmp key es ≡ Some cell → in_range range key ≡ true
+found_inside : (range : Ends) (es : Entries) (key : List ℕ) (cell : CellValue) → lie_in range es ≡ true → find bytes_cmp key es ≡ Some cell → in_range range key ≡ true
 found_inside range [] key cell inside there = cc
 found_inside range (e ∷ es) key cell inside there =
     inside_first (eq_by_cmp bytes_cmp key e.0) range key e cell (find bytes_cmp key es) refl (first_true (in_range range e.0) (lie_in range es) inside)
     (λ here. found_inside range es key cell (second_true (in_range range e.0) (lie_in range es) inside) here) there
 
 -- so does a key of either
-either_inside : (range : Ends) (key : List ℕ) (cell : Celled) (old more : Option Celled) → ((c : Celled) → old ≡ Some c → in_range range key ≡ true)
-    → ((c : Celled) → more ≡ Some c → in_range range key ≡ true) → Some cell ≡ optional_joined cell_joined old more → in_range range key ≡ true
+either_inside : (range : Ends) (key : List ℕ) (cell : CellValue) (old more : Option CellValue) → ((c : CellValue) → old ≡ Some c → in_range range key ≡ true)
+    → ((c : CellValue) → more ≡ Some c → in_range range key ≡ true) → Some cell ≡ optional_joined cell_joined old more → in_range range key ≡ true
 either_inside range key cell None None inside inside_too is = cc
 either_inside range key cell None (Some c) inside inside_too is = inside_too c refl
 either_inside range key cell (Some c) more inside inside_too is = inside c refl
 
-all_inside : (range : Ends) (table es : Entries) → AllByRecursion (IsAt table) es → ((e : List ℕ × Celled) → IsAt table e → in_range range e.0 ≡ true) → lie_in range es ≡ true
+all_inside : (range : Ends) (table es : Entries) → AllByRecursion (IsAt table) es → ((e : List ℕ × CellValue) → IsAt table e → in_range range e.0 ≡ true) → lie_in range es ≡ true
 all_inside range table [] at inside = refl
 all_inside range table (e ∷ es) at inside = both_true (in_range range e.0) (lie_in range es) (inside e at.0) (all_inside range table es at.1 inside)
 

@@ -8,18 +8,18 @@ use Rattle.pn_join.specs.Marks.{Positions, Reaches, position_of, falls_short}
 use Rattle.pn_join.proofs.MarksFacts.{reached}
 use Rattle.pn_record.specs.declared.image.Image.{Image}
 use Rattle.pn_record.specs.Order.{bytes_cmp}
-use Rattle.pn_record.specs.Sets.{Celled}
+use Rattle.pn_record.specs.Sets.{CellValue}
 use Rattle.pn_record.specs.Cells.{cells, spell}
 use Rattle.pn_record.specs.CellMap.{Entries, table_of, adds}
 use Rattle.pn_record.specs.Older.{NotOlder}
 use Rattle.pn_record.proofs.CellLists.{both, both-assoc, both-comm, cells-append, all_absorbed}
 use Rattle.pn_record.proofs.CellMaps.{Holds-table_of, cells-spelled}
 use Rattle.pn_record.proofs.NeverOlder.{joined_not_older}
-use Rattle.pn_tablet.specs.Copies.{Copied}
+use Rattle.pn_tablet.specs.Copies.{TabletCopyValue}
 use Rattle.pn_tablet.specs.Laws.{Rise, AreJoins, Grows}
 use Rattle.pn_tablet.specs.Needs.{lacking, first_short}
 use Rattle.pn_tablet.specs.Steps.{taking, lost, step, after_step, stepped}
-use Rattle.pn_tablet.specs.Tablets.{Tablet, lie_in}
+use Rattle.pn_tablet.specs.Tablets.{TabletStateValue, lie_in}
 use Rattle.pn_tablet.specs.declared.state.Status.{Status}
 use Rattle.pn_tablet.specs.declared.state.Status.TheVariants.{Recovering}
 use Rattle.pn_tablet.specs.declared.op.TabletOp.{TabletOp}
@@ -28,11 +28,11 @@ use Rattle.pn_tablet.specs.declared.fault.OpFault.TheVariants.{WrongRange}
 use Rattle.pn_tablet.proofs.TabletLaws.{adopted}
 
 -- joins leave the status as it is
-status_left : (t : Tablet) (cells : Entries) (marks : Positions) (b : Bool) → (after_step t (if b then Ok (taking t cells marks) else Err WrongRange)).status ≡ t.status
+status_left : (t : TabletStateValue) (cells : Entries) (marks : Positions) (b : Bool) → (after_step t (if b then Ok (taking t cells marks) else Err WrongRange)).status ≡ t.status
 status_left t cells marks true = refl
 status_left t cells marks false = refl
 
-joins_leave : (t : Tablet) (status : Status) (ops : List TabletOp) → t.status ≡ status → AreJoins ops → (fold stepped t ops).status ≡ status
+joins_leave : (t : TabletStateValue) (status : Status) (ops : List TabletOp) → t.status ≡ status → AreJoins ops → (fold stepped t ops).status ≡ status
 joins_leave t status [] is joins = is
 joins_leave t status (Join cells marks ∷ ops) is joins =
     joins_leave (stepped t (Join cells marks)) status ops (status_left t cells marks (lie_in t.range cells) ∙ is) joins.1
@@ -69,7 +69,7 @@ nothing_short marks need none =
     reached marks need (none_found (falls_short marks) (λ wanted. record { stream = wanted.0; has = position_of marks wanted.0; wanted = wanted.1 }) need none)
 
 -- the cell of what was lost is there once the images of the copy are, which has all that was lost
-brought_back : (x s y : Option Celled) → both x y ≡ y → NotOlder x (both s y)
+brought_back : (x s y : Option CellValue) → both x y ≡ y → NotOlder x (both s y)
 brought_back x s y absorbed =
     subst (NotOlder x) (sym (both-assoc x s y) ∙ ap (λ c. both c y) (both-comm x s) ∙ both-assoc s x y ∙ ap (both s) absorbed) (joined_not_older x (both s y))
 
@@ -83,16 +83,16 @@ copied_back map was images all key =
     subst (λ o. NotOlder o (find bytes_cmp key (table_of (spell map ++ spell (table_of images))))) (sym (Holds-table_of was key))
     (subst (NotOlder (cells was key)) (sym now) (brought_back (cells was key) s (cells images key) (all_absorbed key was images all)))
 
-pub adoption_brings_back : (upto : Positions → List Image) → Grows upto → (t after : Tablet) (joins : List TabletOp) (copy : Copied) → AreJoins joins
-    → Rise t.cover → Rise copy.marks → t.map ≡ table_of (upto t.cover) → copy.map ≡ table_of (upto copy.marks)
+pub adoption_brings_back : (upto : Positions → List Image) → Grows upto → (t after : TabletStateValue) (joins : List TabletOp) (copy : TabletCopyValue) → AreJoins joins
+    → Rise t.cover → Rise copy.marks → t.cells ≡ table_of (upto t.cover) → copy.cells ≡ table_of (upto copy.marks)
     → step (fold stepped (stepped t Lose) joins) (Adopt copy) ≡ Ok after
-    → (key : List ℕ) → NotOlder (find bytes_cmp key t.map) (find bytes_cmp key after.map)
+    → (key : List ℕ) → NotOlder (find bytes_cmp key t.cells) (find bytes_cmp key after.cells)
 adoption_brings_back upto grows t after joins copy are g h was copied is key =
     let before = fold stepped (lost t) joins in
     let known = adopted before copy after is in
     let needs : before.status ≡ Recovering t.cover = joins_leave (lost t) (Recovering t.cover) joins refl are in
     let reaches = nothing_short copy.marks t.cover (ap (λ status. lacking status copy.marks) (sym needs) ∙ known.reaches) in
-    subst (λ m. NotOlder (find bytes_cmp key m) (find bytes_cmp key after.map)) (sym was)
-    (subst (λ (a : Tablet). NotOlder (find bytes_cmp key (table_of (upto t.cover))) (find bytes_cmp key a.map)) (sym known.taken)
-    (subst (λ m. NotOlder (find bytes_cmp key (table_of (upto t.cover))) (find bytes_cmp key (adds before.map (spell m)))) (sym copied)
-    (copied_back before.map (upto t.cover) (upto copy.marks) (grows copy.marks t.cover h g reaches) key)))
+    subst (λ m. NotOlder (find bytes_cmp key m) (find bytes_cmp key after.cells)) (sym was)
+    (subst (λ (a : TabletStateValue). NotOlder (find bytes_cmp key (table_of (upto t.cover))) (find bytes_cmp key a.cells)) (sym known.taken)
+    (subst (λ m. NotOlder (find bytes_cmp key (table_of (upto t.cover))) (find bytes_cmp key (adds before.cells (spell m)))) (sym copied)
+    (copied_back before.cells (upto t.cover) (upto copy.marks) (grows copy.marks t.cover h g reaches) key)))

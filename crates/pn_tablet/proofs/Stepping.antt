@@ -8,9 +8,9 @@ use Rattle.pn_record.specs.CellMap.{Entries, adds}
 use Rattle.pn_record.proofs.Sorted.{first_true, second_true}
 use Rattle.pn_record.proofs.HeldRecords.{same_key, tied_keys}
 use Rattle.pn_tablet.specs.Ranges.{Ends}
-use Rattle.pn_tablet.specs.Copies.{Copied}
+use Rattle.pn_tablet.specs.Copies.{TabletCopyValue}
 use Rattle.pn_tablet.specs.Needs.{lacking}
-use Rattle.pn_tablet.specs.Tablets.{Tablet, lie_in, same_range}
+use Rattle.pn_tablet.specs.Tablets.{TabletStateValue, lie_in, same_range}
 use Rattle.pn_tablet.specs.Steps.{taking, adopting, step}
 use Rattle.pn_tablet.specs.declared.state.Status.TheVariants.{Serving}
 use Rattle.pn_tablet.specs.declared.op.TabletOp.TheVariants.{Join, Adopt}
@@ -29,16 +29,16 @@ one_range a b same = λ i. (
   same_end a.1 b.1 (second_true (option_eq bytes_eq a.0 b.0) (option_eq bytes_eq a.1 b.1) same) i,
 )
 
-pub join_step : (t : Tablet) (cells new : Entries) (marks higher : Positions) → lie_in t.range cells ≡ true → new ≡ adds t.map (spell cells) → higher ≡ raised t.cover marks
-    → step t (Join cells marks) ≡ Ok (record { range = t.range; map = new; cover = higher; status = t.status })
+pub join_step : (t : TabletStateValue) (cells new : Entries) (marks higher : Positions) → lie_in t.range cells ≡ true → new ≡ adds t.cells (spell cells) → higher ≡ raised t.cover marks
+    → step t (Join cells marks) ≡ Ok (record { range = t.range; cells = new; cover = higher; status = t.status })
 join_step t cells new marks higher inside is is_too =
     ap (λ b. if b then Ok (taking t cells marks) else Err WrongRange) inside
-    ∙ (λ i. Ok (record { range = t.range; map = sym is i; cover = sym is_too i; status = t.status }))
+    ∙ (λ i. Ok (record { range = t.range; cells = sym is i; cover = sym is_too i; status = t.status }))
 
-pub adopt_step : (t : Tablet) (copy : Copied) (new : Entries) (higher : Positions) → same_range t.range copy.range ≡ true → lacking t.status copy.marks ≡ None
-    → new ≡ adds t.map (spell copy.map) → higher ≡ raised t.cover copy.marks
-    → step t (Adopt copy) ≡ Ok (record { range = t.range; map = new; cover = higher; status = Serving })
+pub adopt_step : (t : TabletStateValue) (copy : TabletCopyValue) (new : Entries) (higher : Positions) → same_range t.range copy.range ≡ true → lacking t.status copy.marks ≡ None
+    → new ≡ adds t.cells (spell copy.cells) → higher ≡ raised t.cover copy.marks
+    → step t (Adopt copy) ≡ Ok (record { range = t.range; cells = new; cover = higher; status = Serving })
 adopt_step t copy new higher same none is is_too =
     ap (λ b. if b then adopting t copy (lacking t.status copy.marks) else Err WrongRange) same
     ∙ ap (adopting t copy) none
-    ∙ (λ i. Ok (record { range = t.range; map = sym is i; cover = sym is_too i; status = Serving }))
+    ∙ (λ i. Ok (record { range = t.range; cells = sym is i; cover = sym is_too i; status = Serving }))

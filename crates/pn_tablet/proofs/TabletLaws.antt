@@ -5,16 +5,16 @@ use Rattle.pn_join.specs.Marks.{Positions, Reaches, position_of, raised}
 use Rattle.pn_join.proofs.MarksFacts.{position_of-raised}
 use Rattle.pn_record.specs.declared.image.Image.{Image}
 use Rattle.pn_record.specs.Order.{bytes_cmp}
-use Rattle.pn_record.specs.Sets.{Celled}
+use Rattle.pn_record.specs.Sets.{CellValue}
 use Rattle.pn_record.specs.Cells.{cells, spell}
 use Rattle.pn_record.specs.CellMap.{Entries, table_of, adds}
 use Rattle.pn_record.specs.Older.{NotOlder}
 use Rattle.pn_record.proofs.NeverOlder.{joined_not_older, held_not_older}
-use Rattle.pn_tablet.specs.Copies.{Copied}
+use Rattle.pn_tablet.specs.Copies.{TabletCopyValue}
 use Rattle.pn_tablet.specs.Laws.{IsSpelled}
 use Rattle.pn_tablet.specs.Needs.{lacking}
 use Rattle.pn_tablet.specs.Steps.{taking, adopting, step, after_step, stepped}
-use Rattle.pn_tablet.specs.Tablets.{Tablet, lie_in, same_range}
+use Rattle.pn_tablet.specs.Tablets.{TabletStateValue, lie_in, same_range}
 use Rattle.pn_tablet.specs.declared.state.Status.TheVariants.{Serving}
 use Rattle.pn_tablet.specs.declared.needs.Short.{Short}
 use Rattle.pn_tablet.specs.declared.op.TabletOp.{TabletOp}
@@ -23,28 +23,28 @@ use Rattle.pn_tablet.specs.declared.fault.OpFault.{OpFault}
 use Rattle.pn_tablet.specs.declared.fault.OpFault.TheVariants.{WrongRange}
 
 -- what holds before a step and after one that is taken holds after the step
-by_step : (P : Tablet → Type 0) (t : Tablet) (r : Result Tablet OpFault) → P t → ((after : Tablet) → r ≡ Ok after → P after) → P (after_step t r)
+by_step : (P : TabletStateValue → Type 0) (t : TabletStateValue) (r : Result TabletStateValue OpFault) → P t → ((after : TabletStateValue) → r ≡ Ok after → P after) → P (after_step t r)
 by_step P t (Ok after) was taken = taken after refl
 by_step P t (Err refusal) was taken = was
 
-passed : (b : Bool) (right : Result Tablet OpFault) (after : Tablet) → (if b then right else Err WrongRange) ≡ Ok after → right ≡ Ok after
+passed : (b : Bool) (right : Result TabletStateValue OpFault) (after : TabletStateValue) → (if b then right else Err WrongRange) ≡ Ok after → right ≡ Ok after
 passed true right after is = is
 passed false right after is = cc
 
 -- the state after a join that is taken
-joined_is : (t : Tablet) (cells : Entries) (marks : Positions) (after : Tablet) → step t (Join cells marks) ≡ Ok after → after ≡ taking t cells marks
+joined_is : (t : TabletStateValue) (cells : Entries) (marks : Positions) (after : TabletStateValue) → step t (Join cells marks) ≡ Ok after → after ≡ taking t cells marks
 joined_is t cells marks after is = let taken = passed (lie_in t.range cells) (Ok (taking t cells marks)) after is in cc
 
 -- what is known of an adoption that is taken
-pub record Adopted (t : Tablet) (copy : Copied) (after : Tablet) : Type 0 where
+pub record Adopted (t : TabletStateValue) (copy : TabletCopyValue) (after : TabletStateValue) : Type 0 where
   pub reaches : lacking t.status copy.marks ≡ None
-  pub taken : after ≡ record (taking t copy.map copy.marks) { status = Serving }
+  pub taken : after ≡ record (taking t copy.cells copy.marks) { status = Serving }
 
-adopted_by : (t : Tablet) (copy : Copied) (short : Option Short) (after : Tablet) → lacking t.status copy.marks ≡ short → adopting t copy short ≡ Ok after → Adopted t copy after
+adopted_by : (t : TabletStateValue) (copy : TabletCopyValue) (short : Option Short) (after : TabletStateValue) → lacking t.status copy.marks ≡ short → adopting t copy short ≡ Ok after → Adopted t copy after
 adopted_by t copy None after none is = record { reaches = none; taken = cc }
 adopted_by t copy (Some short) after some is = cc
 
-pub adopted : (t : Tablet) (copy : Copied) (after : Tablet) → step t (Adopt copy) ≡ Ok after → Adopted t copy after
+pub adopted : (t : TabletStateValue) (copy : TabletCopyValue) (after : TabletStateValue) → step t (Adopt copy) ≡ Ok after → Adopted t copy after
 adopted t copy after is =
     adopted_by t copy (lacking t.status copy.marks) after refl (passed (same_range t.range copy.range) (adopting t copy (lacking t.status copy.marks)) after is)
 
@@ -55,7 +55,7 @@ raised_reaches a b name = let is = position_of-raised a b name in subst (λ n. p
 same_reaches : (a : Positions) → Reaches a a
 same_reaches a name = omega arith
 
-pub never_falls : (t : Tablet) (op : TabletOp) → Reaches (stepped t op).cover t.cover
+pub never_falls : (t : TabletStateValue) (op : TabletOp) → Reaches (stepped t op).cover t.cover
 never_falls t (Join cells marks) =
     by_step (λ after. Reaches after.cover t.cover) t (step t (Join cells marks)) (same_reaches t.cover)
     (λ after is. subst (λ a. Reaches a.cover t.cover) (sym (joined_is t cells marks after is)) (raised_reaches t.cover marks))
@@ -64,7 +64,7 @@ never_falls t (Adopt copy) =
     by_step (λ after. Reaches after.cover t.cover) t (step t (Adopt copy)) (same_reaches t.cover)
     (λ after is. subst (λ a. Reaches a.cover t.cover) (sym (adopted t copy after is).taken) (raised_reaches t.cover copy.marks))
 
-itself_not_older : (o : Option Celled) → NotOlder o o
+itself_not_older : (o : Option CellValue) → NotOlder o o
 itself_not_older None = tt
 itself_not_older (Some cell) = joined_not_older (Some cell) None
 
@@ -73,16 +73,16 @@ unfolding adds
 added_not_older map images key spelled =
     subst (λ m. NotOlder (find bytes_cmp key m) (find bytes_cmp key (table_of (spell map ++ images)))) (sym spelled) (held_not_older (spell map) images key)
 
-pub never_older : (t : Tablet) (op : TabletOp) → IsSpelled t.map → (op ≡ Lose → ⊥) → (key : List ℕ) → NotOlder (find bytes_cmp key t.map) (find bytes_cmp key (stepped t op).map)
+pub never_older : (t : TabletStateValue) (op : TabletOp) → IsSpelled t.cells → (op ≡ Lose → ⊥) → (key : List ℕ) → NotOlder (find bytes_cmp key t.cells) (find bytes_cmp key (stepped t op).cells)
 never_older t (Join cells marks) spelled not_lost key =
-    by_step (λ after. NotOlder (find bytes_cmp key t.map) (find bytes_cmp key after.map)) t (step t (Join cells marks)) (itself_not_older (find bytes_cmp key t.map))
-    (λ after is. subst (λ a. NotOlder (find bytes_cmp key t.map) (find bytes_cmp key a.map)) (sym (joined_is t cells marks after is)) (added_not_older t.map (spell cells) key spelled))
+    by_step (λ after. NotOlder (find bytes_cmp key t.cells) (find bytes_cmp key after.cells)) t (step t (Join cells marks)) (itself_not_older (find bytes_cmp key t.cells))
+    (λ after is. subst (λ a. NotOlder (find bytes_cmp key t.cells) (find bytes_cmp key a.cells)) (sym (joined_is t cells marks after is)) (added_not_older t.cells (spell cells) key spelled))
 never_older t Lose spelled not_lost key = absurd (not_lost refl)
 never_older t (Adopt copy) spelled not_lost key =
-    by_step (λ after. NotOlder (find bytes_cmp key t.map) (find bytes_cmp key after.map)) t (step t (Adopt copy)) (itself_not_older (find bytes_cmp key t.map))
-    (λ after is. subst (λ a. NotOlder (find bytes_cmp key t.map) (find bytes_cmp key a.map)) (sym (adopted t copy after is).taken) (added_not_older t.map (spell copy.map) key spelled))
+    by_step (λ after. NotOlder (find bytes_cmp key t.cells) (find bytes_cmp key after.cells)) t (step t (Adopt copy)) (itself_not_older (find bytes_cmp key t.cells))
+    (λ after is. subst (λ a. NotOlder (find bytes_cmp key t.cells) (find bytes_cmp key a.cells)) (sym (adopted t copy after is).taken) (added_not_older t.cells (spell copy.cells) key spelled))
 
-pub never_older_served : (t : Tablet) (op : TabletOp) → IsSpelled t.map → (stepped t op).status ≡ Serving → (key : List ℕ) → NotOlder (find bytes_cmp key t.map) (find bytes_cmp key (stepped t op).map)
+pub never_older_served : (t : TabletStateValue) (op : TabletOp) → IsSpelled t.cells → (stepped t op).status ≡ Serving → (key : List ℕ) → NotOlder (find bytes_cmp key t.cells) (find bytes_cmp key (stepped t op).cells)
 never_older_served t (Join cells marks) spelled serves key = never_older t (Join cells marks) spelled (λ e. cc) key
 never_older_served t Lose spelled serves key = cc
 never_older_served t (Adopt copy) spelled serves key = never_older t (Adopt copy) spelled (λ e. cc) key

@@ -3,20 +3,20 @@ use Rattle.std.specs.Prelude.{ℕ, List, [], Option, None, Some, option_map, if�
 use Rattle.std.specs.List.{filter_map}
 use Rattle.std.specs.FinMap.{find}
 use Rattle.pn_record.specs.Order.{bytes_cmp}
-use Rattle.pn_record.specs.Sets.{Celled, Stamp, cell_joined}
+use Rattle.pn_record.specs.Sets.{CellValue, Stamp, cell_joined}
 use Rattle.pn_record.specs.CellMap.{Entries}
 use Rattle.pn_record.specs.SameCells.{same_at}
-use Rattle.pn_tablet.specs.Tablets.{Tablet}
+use Rattle.pn_tablet.specs.Tablets.{TabletStateValue}
 use Rattle.pn_tablet.specs.declared.change.Change.{Change}
 use Rattle.pn_tablet.specs.declared.op.TabletOp.{TabletOp}
 use Rattle.pn_tablet.specs.declared.op.TabletOp.TheVariants.{Join, Lose, Adopt}
 
 -- the version of a cell, where there is one
-abbrev pub version_at : Option Celled → Option Stamp
+abbrev pub version_at : Option CellValue → Option Stamp
 version_at cell = option_map (λ c. c.0) cell
 
 -- the change of a key from the cell that it had, if it had one, to another
-abbrev pub change_of : Option Celled → List ℕ × Celled → Option Change
+abbrev pub change_of : Option CellValue → List ℕ × CellValue → Option Change
 change_of before entry = if same_at before (Some entry.1) then None else Some (record { key = entry.0; before = version_at before; after = entry.1.0 })
 
 -- the keys whose cells differ from before, in key order, with their versions before and after
@@ -24,12 +24,12 @@ abbrev pub changes : Entries → Entries → List Change
 changes before after = filter_map (λ entry. change_of (find bytes_cmp entry.0 before) entry) after
 
 -- what an operation answers: the changes of a join, and none of a loss or an adoption
-abbrev pub answer : TabletOp → Tablet → Tablet → List Change
-answer (Join cells marks) before after = changes before.map after.map
+abbrev pub answer : TabletOp → TabletStateValue → TabletStateValue → List Change
+answer (Join cells marks) before after = changes before.cells after.cells
 answer Lose before after = []
 answer (Adopt copy) before after = []
 
 -- the change of a key when another cell is joined to what it has
-abbrev pub change_by : Option Celled → List ℕ × Celled → Option Change
+abbrev pub change_by : Option CellValue → List ℕ × CellValue → Option Change
 change_by None entry = change_of None entry
 change_by (Some cell) entry = change_of (Some cell) (entry.0, cell_joined cell entry.1)

@@ -7,8 +7,8 @@ use Rattle.pn_join.specs.Marks.{Positions}
 use Rattle.pn_record.specs.CellMap.{Entries}
 use Rattle.pn_record.specs.Coding.{shown_code}
 use Rattle.pn_tablet.specs.Ranges.{Ends}
-use Rattle.pn_tablet.specs.Copies.{Copied}
-use Rattle.pn_tablet.specs.Tablets.{Tablet}
+use Rattle.pn_tablet.specs.Copies.{TabletCopyValue}
+use Rattle.pn_tablet.specs.Tablets.{TabletStateValue}
 use Rattle.pn_tablet.specs.declared.state.Status.{Status}
 use Rattle.pn_tablet.specs.declared.state.Status.TheVariants.{Serving, Recovering}
 
@@ -38,17 +38,17 @@ abbrev pub status_code : Coded Status
 status_code = code_by (Option Positions) (coded_option positions_code) need_of status_of status_of-need
 
 -- a tablet as pairs
-abbrev pub tablet_code : Coded Tablet
+abbrev pub tablet_code : Coded TabletStateValue
 tablet_code =
     code_by ((Ends × Entries) × (Positions × Status)) (coded× (coded× ends_code entries_code) (coded× positions_code status_code))
-    (λ t. ((t.range, t.map), (t.cover, t.status)))
-    (λ p. record { range = p.0.0; map = p.0.1; cover = p.1.0; status = p.1.1 })
+    (λ t. ((t.range, t.cells), (t.cover, t.status)))
+    (λ p. record { range = p.0.0; cells = p.0.1; cover = p.1.0; status = p.1.1 })
     (λ _. refl)
 
 -- a copy as pairs
-abbrev pub copied_code : Coded Copied
+abbrev pub copied_code : Coded TabletCopyValue
 copied_code =
     code_by ((Ends × Entries) × Positions) (coded× (coded× ends_code entries_code) positions_code)
-    (λ c. ((c.range, c.map), c.marks))
-    (λ p. record { range = p.0.0; map = p.0.1; marks = p.1 })
+    (λ c. ((c.range, c.cells), c.marks))
+    (λ p. record { range = p.0.0; cells = p.0.1; marks = p.1 })
     (λ _. refl)

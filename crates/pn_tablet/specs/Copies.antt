@@ -4,7 +4,7 @@ use Rattle.pn_record.specs.CellMap.{Entries}
 use Rattle.pn_tablet.specs.Ranges.{Ends}
 
 -- a range, the cells of its keys, and how far streams were taken into them
-pub record Copied : Type 0 where
+pub record TabletCopyValue : Type 0 where
   pub range : Ends
   pub marks : Positions
-  pub map : Entries
+  pub cells : Entries

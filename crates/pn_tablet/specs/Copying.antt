@@ -2,28 +2,28 @@
 use Rattle.std.specs.Prelude.{◌≡◌, Option, None, Some, Result, Ok, Err, IsOk}
 use Rattle.pn_join.specs.Marks.{Positions}
 use Rattle.pn_tablet.specs.Needs.{first_short}
-use Rattle.pn_tablet.specs.Copies.{Copied}
-use Rattle.pn_tablet.specs.Tablets.{Tablet}
+use Rattle.pn_tablet.specs.Copies.{TabletCopyValue}
+use Rattle.pn_tablet.specs.Tablets.{TabletStateValue}
 use Rattle.pn_tablet.specs.declared.state.Status.{Status}
 use Rattle.pn_tablet.specs.declared.state.Status.TheVariants.{Serving, Recovering}
 use Rattle.pn_tablet.specs.declared.needs.Short.{Short}
 use Rattle.pn_tablet.specs.declared.fault.CopyFault as fault
 
 -- the copy, unless its marks fall short
-abbrev pub unless_behind : Option Short → Copied → Result Copied fault.CopyFault
+abbrev pub unless_behind : Option Short → TabletCopyValue → Result TabletCopyValue fault.CopyFault
 unless_behind None copy = Ok copy
 unless_behind (Some short) copy = Err (fault.TheVariants.Behind short.stream short.has short.wanted)
 
 -- a tablet that serves and whose cover reaches the need gives its range, its cover and its cells
-abbrev pub copy_from : Status → Tablet → Positions → Result Copied fault.CopyFault
+abbrev pub copy_from : Status → TabletStateValue → Positions → Result TabletCopyValue fault.CopyFault
 copy_from (Recovering _) tablet need = Err fault.TheVariants.Recovering
-copy_from Serving tablet need = unless_behind (first_short tablet.cover need) (record { range = tablet.range; marks = tablet.cover; map = tablet.map })
+copy_from Serving tablet need = unless_behind (first_short tablet.cover need) (record { range = tablet.range; marks = tablet.cover; cells = tablet.cells })
 
-abbrev pub copy_of : Tablet → Positions → Result Copied fault.CopyFault
+abbrev pub copy_of : TabletStateValue → Positions → Result TabletCopyValue fault.CopyFault
 copy_of tablet need = copy_from tablet.status tablet need
 
 -- the answer is the right one, or memory ran out where a copy is given
-abbrev pub Answers : Result Copied fault.CopyFault → Result Copied fault.CopyFault → Type 0
+abbrev pub Answers : Result TabletCopyValue fault.CopyFault → Result TabletCopyValue fault.CopyFault → Type 0
 Answers (Ok copy) right = right ≡ Ok copy
 Answers (Err fault.TheVariants.Recovering) right = right ≡ Err fault.TheVariants.Recovering
 Answers (Err (fault.TheVariants.Behind stream has wanted)) right = right ≡ Err (fault.TheVariants.Behind stream has wanted)

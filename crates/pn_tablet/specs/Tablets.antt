@@ -11,15 +11,15 @@ use Rattle.pn_tablet.specs.declared.state.Status.{Status}
 use Rattle.pn_tablet.specs.declared.state.Status.TheVariants.{Serving, Recovering}
 
 -- a range, the cells of its keys, how far streams were taken, and whether it serves
-pub record Tablet : Type 0 where
+pub record TabletStateValue : Type 0 where
   pub range : Ends
-  pub map : Entries
+  pub cells : Entries
   pub cover : Positions
   pub status : Status
 
 -- a tablet that serves and has taken nothing
-abbrev pub empty_tablet : Ends → Tablet
-empty_tablet range = record { range = range; map = []; cover = []; status = Serving }
+abbrev pub empty_tablet : Ends → TabletStateValue
+empty_tablet range = record { range = range; cells = []; cover = []; status = Serving }
 
 -- all keys lie in the range
 abbrev pub lie_in : Ends → Entries → Bool

@@ -19,9 +19,9 @@ pub struct TabletCopy {
 
 impl Model for TabletCopy {
     ghost use Rattle.std.specs.Prelude.{IsTrue};
-    ghost use Rattle.pn_tablet.specs.Copies.{Copied};
+    ghost use Rattle.pn_tablet.specs.Copies.{TabletCopyValue};
 
-    ghost Value = { Copied };
+    ghost Value = { TabletCopyValue };
 
     ghost use Rattle.pn_tablet.specs.Coding.{copied_code};
 
@@ -29,7 +29,7 @@ impl Model for TabletCopy {
 
     ghost use Rattle.pn_tablet.specs.Tablets.{lie_in};
 
-    ghost view = { λ copy. record { range = copy.range; marks = copy.marks; map = copy.cells } };
+    ghost view = { λ copy. record { range = copy.range; marks = copy.marks; cells = copy.cells } };
 
     ghost invariant = { λ copy. IsTrue (lie_in copy.range copy.cells) };
 }

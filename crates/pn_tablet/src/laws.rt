@@ -7,31 +7,31 @@ ghost use Rattle.pn_record.specs.declared.image.Image.{Image};
 ghost use Rattle.pn_record.specs.Order.{bytes_cmp};
 ghost use Rattle.pn_record.specs.CellMap.{Entries, table_of};
 ghost use Rattle.pn_record.specs.Older.{NotOlder};
-ghost use Rattle.pn_tablet.specs.Copies.{Copied};
+ghost use Rattle.pn_tablet.specs.Copies.{TabletCopyValue};
 ghost use Rattle.pn_tablet.specs.Laws.{IsSpelled, Rise, AreJoins, Grows};
 ghost use Rattle.pn_tablet.specs.Steps.{step, stepped};
-ghost use Rattle.pn_tablet.specs.Tablets.{Tablet};
+ghost use Rattle.pn_tablet.specs.Tablets.{TabletStateValue};
 ghost use Rattle.pn_tablet.specs.declared.op.TabletOp.{TabletOp};
 ghost use Rattle.pn_tablet.specs.declared.op.TabletOp.TheVariants.{Join, Lose, Adopt};
 ghost use Rattle.pn_tablet.specs.declared.state.Status.TheVariants.{Serving};
 
 /// No operation lowers the cover.
 pub fn cover_never_falls()
-    ensures { (tablet : Tablet) (op : TabletOp) → Reaches (stepped tablet op).cover tablet.cover }
+    ensures { (tablet : TabletStateValue) (op : TabletOp) → Reaches (stepped tablet op).cover tablet.cover }
 {}
 
 /// No operation but a loss takes a record away or leaves it at an older version. After a loss the tablet
 /// does not serve.
 pub fn nothing_but_a_loss_goes_back()
-    ensures kept { (tablet : Tablet) (op : TabletOp) → IsSpelled tablet.map → (op ≡ Lose → ⊥)
-        → (key : List ℕ) → NotOlder (find bytes_cmp key tablet.map) (find bytes_cmp key (stepped tablet op).map) }
-    ensures served { (tablet : Tablet) (op : TabletOp) → IsSpelled tablet.map → (stepped tablet op).status ≡ Serving
-        → (key : List ℕ) → NotOlder (find bytes_cmp key tablet.map) (find bytes_cmp key (stepped tablet op).map) }
+    ensures kept { (tablet : TabletStateValue) (op : TabletOp) → IsSpelled tablet.cells → (op ≡ Lose → ⊥)
+        → (key : List ℕ) → NotOlder (find bytes_cmp key tablet.cells) (find bytes_cmp key (stepped tablet op).map) }
+    ensures served { (tablet : TabletStateValue) (op : TabletOp) → IsSpelled tablet.cells → (stepped tablet op).status ≡ Serving
+        → (key : List ℕ) → NotOlder (find bytes_cmp key tablet.cells) (find bytes_cmp key (stepped tablet op).map) }
 {}
 
 /// Two joins give the same tablet in either order, also where one is refused.
 pub fn joins_commute()
-    ensures { (tablet : Tablet) (cells others : Entries) (marks positions : Positions)
+    ensures { (tablet : TabletStateValue) (cells others : Entries) (marks positions : Positions)
         → Rise tablet.cover → Rise marks → Rise positions
         → stepped (stepped tablet (Join cells marks)) (Join others positions)
         ≡ stepped (stepped tablet (Join others positions)) (Join cells marks) }
@@ -39,7 +39,7 @@ pub fn joins_commute()
 
 /// A join that comes again changes nothing.
 pub fn joins_repeat_without_effect()
-    ensures { (tablet : Tablet) (cells : Entries) (marks : Positions) → Rise tablet.cover → Rise marks
+    ensures { (tablet : TabletStateValue) (cells : Entries) (marks : Positions) → Rise tablet.cover → Rise marks
         → stepped (stepped tablet (Join cells marks)) (Join cells marks) ≡ stepped tablet (Join cells marks) }
 {}
 
@@ -48,9 +48,9 @@ pub fn joins_repeat_without_effect()
 /// copy's is that of the images up to its marks.
 pub fn an_adoption_brings_back_what_was_lost()
     ensures { (upto : Positions → List Image) → Grows upto
-        → (tablet after : Tablet) (joins : List TabletOp) (copy : Copied) → AreJoins joins
+        → (tablet after : TabletStateValue) (joins : List TabletOp) (copy : TabletCopyValue) → AreJoins joins
         → Rise tablet.cover → Rise copy.marks
-        → tablet.map ≡ table_of (upto tablet.cover) → copy.map ≡ table_of (upto copy.marks)
+        → tablet.cells ≡ table_of (upto tablet.cover) → copy.cells ≡ table_of (upto copy.marks)
         → step (fold stepped (stepped tablet Lose) joins) (Adopt copy) ≡ Ok after
-        → (key : List ℕ) → NotOlder (find bytes_cmp key tablet.map) (find bytes_cmp key after.map) }
+        → (key : List ℕ) → NotOlder (find bytes_cmp key tablet.cells) (find bytes_cmp key after.cells) }
 {}

@@ -39,9 +39,9 @@ pub struct TabletState {
 }
 
 impl Model for TabletState {
-    ghost use Rattle.pn_tablet.specs.Tablets.{Tablet};
+    ghost use Rattle.pn_tablet.specs.Tablets.{TabletStateValue};
 
-    ghost Value = { Tablet };
+    ghost Value = { TabletStateValue };
 
     ghost use Rattle.pn_tablet.specs.Coding.{tablet_code};
 
@@ -49,7 +49,7 @@ impl Model for TabletState {
 
     ghost use Rattle.pn_tablet.specs.Tablets.{IsTablet};
 
-    ghost view = { λ state. record { range = state.range; map = state.cells; cover = state.cover; status = state.status } };
+    ghost view = { λ state. record { range = state.range; cells = state.cells; cover = state.cover; status = state.status } };
 
     ghost invariant = { λ state. IsTablet state.range state.cells state.cover state.status state.spare };
 }
@@ -103,7 +103,7 @@ impl TabletState {
 impl TabletState {
     fn join(&mut self, cells: &Records, marks: &Marks) -> Result<Vec<Change>, OpFault>
         ensures ok { OnOk result (step self.old (Join cells.now marks.now) ≡ Ok self.new) }
-        ensures changes { IfOk result (λ list. list.items ≡ changes self.old.map self.new.map) }
+        ensures changes { IfOk result (λ list. list.items ≡ changes self.old.cells self.new.cells) }
         ensures refused { IfErr result (λ fault. Refuses fault (step self.old (Join cells.now marks.now))) }
         ensures err { OnErr result (self.new ≡ self.old) }
     {

@@ -14,15 +14,15 @@ impl TabletState {
     /// The range that its keys lie in. It takes no memory, nor do the three below.
     pub fn range(&self) -> &Range
         ensures range { result.now ≡ self.now.range }
-        ensures inside { IsTrue (lie_in self.now.range self.now.map) }
+        ensures inside { IsTrue (lie_in self.now.range self.now.cells) }
     {
         &self.range
     }
 
     /// The cells of its records, by key.
     pub fn cells(&self) -> &Records
-        ensures cells { result.now ≡ self.now.map }
-        ensures spelled { self.now.map ≡ table_of (spell self.now.map) }
+        ensures cells { result.now ≡ self.now.cells }
+        ensures spelled { self.now.cells ≡ table_of (spell self.now.cells) }
     {
         &self.cells
     }

@@ -1,7 +1,7 @@
 -- Shared out by tablet, the copies are shared out by the ranges.
 use Rattle.std.proofs.Common.{List, take, ap, ◌∙◌}
 use Rattle.std.proofs.lemmas.List.{take_all}
-use Rattle.pn_stream.specs.Positions.{Delivered}
+use Rattle.pn_stream.specs.Positions.{DeliveryValue}
 use Rattle.pn_apply.specs.Reducing.{all_images}
 use Rattle.pn_apply.specs.Shares.{by_tablet}
 use Rattle.pn_apply.proofs.Sharing.{counted, by_ranges}
@@ -17,5 +17,5 @@ returns c =
     let was = c.loop-delivery in
     let all = take_all was.delivery-index c.args.deliveries.now c.loop-delivery-test.false in
     was.invariant
-    ∙ ap (λ (some : List Delivered). by_tablet c.args.layout.now (all_images some)) all
+    ∙ ap (λ (some : List DeliveryValue). by_tablet c.args.layout.now (all_images some)) all
     ∙ by_ranges c.args.layout.now (all_images c.args.deliveries.now) c.empty_shares.ensures.lawful

@@ -2,7 +2,7 @@
 use Rattle.std.proofs.Common.{List, sym, ap, ◌∙◌, rules, map-id}
 use Rattle.std.proofs.lemmas.Iterator.Adapters.{YieldsList-from_vec}
 use Rattle.std.proofs.lemmas.Iterator.Consumers.{YieldsList-end}
-use Rattle.pn_stream.specs.Positions.{Delivered}
+use Rattle.pn_stream.specs.Positions.{DeliveryValue}
 use Rattle.pn_apply.specs.Reducing.{all_images}
 use Rattle.pn_apply.specs.Shares.{by_tablet}
 use Rattle.pn_apply.proofs.Sharing.{counted, by_ranges}
@@ -19,5 +19,5 @@ returns c =
     let end = YieldsList-end (YieldsList-from_vec {s = c.into_iter-delivery-iterator.result} c.args.deliveries.items (search rules) (search rules))
     was.yielded was.delivery-iterator was.yielded_by c.next.result c.next.new.self c.in-None.is c.next.ensures.steps in
     was.invariant
-    ∙ ap (λ (some : List Delivered). by_tablet c.args.layout.now (all_images some)) (sym (map-id was.yielded) ∙ end.0)
+    ∙ ap (λ (some : List DeliveryValue). by_tablet c.args.layout.now (all_images some)) (sym (map-id was.yielded) ∙ end.0)
     ∙ by_ranges c.args.layout.now (all_images c.args.deliveries.items) c.empty_shares.ensures.lawful

@@ -3,15 +3,15 @@ use Rattle.std.proofs.Common.{◌++◌, [], ◌∷◌, map, sym, ap, ◌∙◌, 
 use Rattle.std.proofs.lemmas.List.{map-append}
 use Rattle.std.proofs.lemmas.List.FromFn.{map-range_with_len_more}
 use Rattle.pn_tablet.specs.Layouts.{tablet_ends}
-use Rattle.pn_tablet.specs.Tablets.{Tablet}
+use Rattle.pn_tablet.specs.Tablets.{TabletStateValue}
 use Rattle.pn_parts.proofs.apply.tablets_of.Goals as goal
 
 pub loop-tablet-preserved : goal.loop-tablet-preserved
 loop-tablet-preserved c =
     let was = c.loop-tablet in
     let tablet = c.new.result in
-    let ranged = ap (λ (t : Tablet). t.range) c.new.ensures ∙ c.in_ok-range_of.ensures ∙ c.range.ensures.ends in
-    ap (map (λ (t : Tablet). t.range)) c.in_ok-push.ensures.items
-    ∙ map-append (λ (t : Tablet). t.range) was.tablets.items (tablet ∷ [])
+    let ranged = ap (λ (t : TabletStateValue). t.range) c.new.ensures ∙ c.in_ok-range_of.ensures ∙ c.range.ensures.ends in
+    ap (map (λ (t : TabletStateValue). t.range)) c.in_ok-push.ensures.items
+    ∙ map-append (λ (t : TabletStateValue). t.range) was.tablets.items (tablet ∷ [])
     ∙ (λ i. was.invariant i ++ ranged i ∷ [])
     ∙ sym (map-range_with_len_more (tablet_ends c.args.layout.now) 0 was.tablet was.tablet (omega arith))

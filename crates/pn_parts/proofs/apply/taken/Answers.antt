@@ -1,6 +1,6 @@
 -- The operations are joins in the ranges of the tablets.
 use Rattle.std.proofs.Common.{List, map, sym, ap, ◌∙◌, subst}
-use Rattle.pn_tablet.specs.Tablets.{Tablet}
+use Rattle.pn_tablet.specs.Tablets.{TabletStateValue}
 use Rattle.pn_tablet.specs.declared.op.TabletOp.{TabletOp}
 use Rattle.pn_apply.specs.Applying.{AreJoinsIn}
 use Rattle.pn_apply.specs.Reducing.{all_images}
@@ -11,7 +11,7 @@ use Rattle.pn_parts.proofs.apply.taken.Goals as goal
 pub apply_all-requires-clause-joins : goal.apply_all-requires-clause-joins
 apply_all-requires-clause-joins c =
     let slots = c.as_mut_slice.result.now in
-    let tablets = map (λ (t : Tablet). t) slots in
-    let ranged = map_twice (λ (t : Tablet). t.range) (λ (t : Tablet). t) slots ∙ ap (map (λ (t : Tablet). t.range)) c.as_mut_slice.ensures.value ∙ c.in_ok-tablets.ensures in
+    let tablets = map (λ (t : TabletStateValue). t) slots in
+    let ranged = map_twice (λ (t : TabletStateValue). t.range) (λ (t : TabletStateValue). t) slots ∙ ap (map (λ (t : TabletStateValue). t.range)) c.as_mut_slice.ensures.value ∙ c.in_ok-tablets.ensures in
     subst (λ (operations : List TabletOp). AreJoinsIn tablets operations) (sym (c.deref.ensures.value ∙ c.in_ok-operations.ensures))
     (joins_fit c.args.layout.now _ (all_images c.args.deliveries.now) tablets ranged)

@@ -1,13 +1,13 @@
 -- Each step gathers the lesser of the two firsts.
 use Rattle.std.proofs.Common.{List, ◌++◌, sym, ap, ◌∙◌, subst}
-use Rattle.pn_record.specs.Limits.{Shown}
+use Rattle.pn_record.specs.Limits.{ContentValue}
 use Rattle.pn_record.specs.Sets.{set_of}
 use Rattle.pn_record.proofs.Gathering.{Progress, begun, loop_less, loop_equal, loop_greater, ended}
 use Rattle.pn_record.proofs.gather.gathered.Goals as goal
 
 pub loop-x-init : goal.loop-x-init
 loop-x-init c =
-    subst (λ (all : List Shown). Progress all c.args.ours.now c.args.theirs.now c.args.ours.now c.args.theirs.now) (sym c.new-all.ensures.items)
+    subst (λ (all : List ContentValue). Progress all c.args.ours.now c.args.theirs.now c.args.ours.now c.args.theirs.now) (sym c.new-all.ensures.items)
     (begun c.args.ours.now c.args.theirs.now c.requires.our_contents c.requires.their_contents)
 
 pub loop-x-preserved-in_ok-push-in-Less : goal.loop-x-preserved-in_ok-push-in-Less
@@ -27,5 +27,5 @@ loop-x-preserved c =
 
 pub returns-clause-both : goal.returns-clause-both
 returns-clause-both c =
-    ap set_of (c.in_ok-push_all-2.ensures ∙ ap (λ (l : List Shown). l ++ c.loop-x.right.now) c.in_ok-push_all.ensures)
+    ap set_of (c.in_ok-push_all-2.ensures ∙ ap (λ (l : List ContentValue). l ++ c.loop-x.right.now) c.in_ok-push_all.ensures)
     ∙ ended c.loop-x.all.items c.loop-x.left.now c.loop-x.right.now c.args.ours.now c.args.theirs.now c.loop-x.invariant

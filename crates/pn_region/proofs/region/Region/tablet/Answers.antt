@@ -1,7 +1,7 @@
 -- There is a tablet of each number.
 use Rattle.std.proofs.Common.{◌≡◌, length, ap, subst, arith}
 use Rattle.std.specs.Prelude.{slice_get, Some}
-use Rattle.pn_region.specs.Regions.{RegionState}
+use Rattle.pn_region.specs.Regions.{RegionValue}
 use Rattle.pn_region.proofs.NewRegion.{tablet_count, tablet_at}
 use Rattle.pn_region.proofs.region.Region.tablet.Goals as goal
 
@@ -9,13 +9,13 @@ pub index-requires : goal.index-requires
 index-requires c =
     let inside = c.self.inside in
     let count = tablet_count inside.marks inside.layout inside.tablets.items c.self.invariant.tablets in
-    let layout = ap (λ (r : RegionState). length r.layout) c.self.view_is in
+    let layout = ap (λ (r : RegionValue). length r.layout) c.self.view_is in
     omega (arith, count, layout, c.requires, inside.tablets.ok.0)
 
 pub returns : goal.returns
 returns c =
     let inside = c.self.inside in
     let count = tablet_count inside.marks inside.layout inside.tablets.items c.self.invariant.tablets in
-    let layout = ap (λ (r : RegionState). length r.layout) c.self.view_is in
-    subst (λ (r : RegionState). slice_get r.tablets c.args.tablet ≡ Some c.index.result.now) c.self.view_is
+    let layout = ap (λ (r : RegionValue). length r.layout) c.self.view_is in
+    subst (λ (r : RegionValue). slice_get r.tablets c.args.tablet ≡ Some c.index.result.now) c.self.view_is
     (tablet_at inside.tablets.items c.args.tablet c.index.result.now (omega (arith, count, layout, c.requires)) c.index.ensures)

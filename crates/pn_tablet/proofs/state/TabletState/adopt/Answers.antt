@@ -2,9 +2,9 @@
 use Rattle.std.proofs.Common.{◌≡◌, true, sym, ap, ◌∙◌, subst}
 use Rattle.pn_record.specs.Cells.{spell}
 use Rattle.pn_record.proofs.CellMaps.{held_adds}
-use Rattle.pn_tablet.specs.Copies.{Copied}
+use Rattle.pn_tablet.specs.Copies.{TabletCopyValue}
 use Rattle.pn_tablet.specs.Needs.{lacking}
-use Rattle.pn_tablet.specs.Tablets.{Tablet, lie_in}
+use Rattle.pn_tablet.specs.Tablets.{TabletStateValue, lie_in}
 use Rattle.pn_tablet.specs.Steps.{step}
 use Rattle.pn_tablet.specs.declared.op.TabletOp.TheVariants.{Adopt}
 use Rattle.pn_tablet.proofs.Keeping.{kept}
@@ -23,12 +23,12 @@ invariant_of-self-2 c =
 pub returns-clause-ok : goal.returns-clause-ok
 returns-clause-ok c =
     let joins = c.in_ok-join_records.ensures in
-    let tablet : Tablet = record { range = c.self.inside.range; map = c.self.inside.cells; cover = c.self.inside.cover; status = c.self.inside.status } in
-    let copy : Copied = record { range = c.copy.inside.range; marks = c.copy.inside.marks; map = c.copy.inside.cells } in
-    ap (λ (t : Tablet). step t (Adopt c.args.copy.now)) (sym c.self.view_is)
-    ∙ ap (λ (k : Copied). step tablet (Adopt k)) (sym c.copy.view_is)
+    let tablet : TabletStateValue = record { range = c.self.inside.range; cells = c.self.inside.cells; cover = c.self.inside.cover; status = c.self.inside.status } in
+    let copy : TabletCopyValue = record { range = c.copy.inside.range; marks = c.copy.inside.marks; cells = c.copy.inside.cells } in
+    ap (λ (t : TabletStateValue). step t (Adopt c.args.copy.now)) (sym c.self.view_is)
+    ∙ ap (λ (k : TabletCopyValue). step tablet (Adopt k)) (sym c.copy.view_is)
     ∙ adopt_step tablet copy c.join_records.new.records c.in_ok-cover.cover
     (sym c.are_same.ensures ∙ c.if-not-are_same.false)
-    (ap (λ (t : Tablet). lacking t.status c.copy.inside.marks) c.self.view_is ∙ sym c.lacking.ensures ∙ c.in_default.is)
+    (ap (λ (t : TabletStateValue). lacking t.status c.copy.inside.marks) c.self.view_is ∙ sym c.lacking.ensures ∙ c.in_default.is)
     (held_adds c.self.inside.cells c.join_records.new.records (spell c.copy.inside.cells) joins.rising.0 joins.spelled)
     c.in_ok-cover.ensures.0

@@ -2,7 +2,7 @@
 use Rattle.std.proofs.Common.{sym, ap, ◌∙◌}
 use Rattle.pn_record.specs.Cells.{spell}
 use Rattle.pn_record.proofs.CellMaps.{held_adds}
-use Rattle.pn_tablet.specs.Tablets.{Tablet}
+use Rattle.pn_tablet.specs.Tablets.{TabletStateValue}
 use Rattle.pn_tablet.specs.Changes.{changes}
 use Rattle.pn_tablet.specs.Steps.{step}
 use Rattle.pn_tablet.specs.declared.op.TabletOp.TheVariants.{Join}
@@ -23,8 +23,8 @@ invariant_of-self-2 c =
 pub returns-clause-ok : goal.returns-clause-ok
 returns-clause-ok c =
     let joins = c.in_ok-join_records.ensures in
-    let tablet : Tablet = record { range = c.self.inside.range; map = c.self.inside.cells; cover = c.self.inside.cover; status = c.self.inside.status } in
-    ap (λ (t : Tablet). step t (Join c.args.cells.now c.args.marks.now)) (sym c.self.view_is)
+    let tablet : TabletStateValue = record { range = c.self.inside.range; cells = c.self.inside.cells; cover = c.self.inside.cover; status = c.self.inside.status } in
+    ap (λ (t : TabletStateValue). step t (Join c.args.cells.now c.args.marks.now)) (sym c.self.view_is)
     ∙ join_step tablet c.args.cells.now c.join_records.new.records c.args.marks.now c.in_ok-cover.cover
     (sym c.lie_in.ensures ∙ c.if-not-lie_in.false)
     (held_adds c.self.inside.cells c.join_records.new.records (spell c.args.cells.now) joins.rising.0 joins.spelled)
@@ -35,4 +35,4 @@ returns-clause-changes c =
     let joins = c.in_ok-join_records.ensures in
     c.in_ok-changes.ensures
     ∙ joined_changes c.self.inside.cells c.args.cells.now c.join_records.new.records (record { rises = joins.rising.1; rising = joins.rising.0; joined = joins.joined })
-    ∙ ap (λ (t : Tablet). changes t.map c.join_records.new.records) c.self.view_is
+    ∙ ap (λ (t : TabletStateValue). changes t.cells c.join_records.new.records) c.self.view_is

@@ -1,0 +1,9 @@
+-- What a line says.
+pub mod Faults
+pub mod Lines
+pub mod Lookups
+pub mod Meaning
+pub mod Queries
+pub mod Ranges
+pub mod Shapes
+pub mod Words

@@ -1,0 +1,84 @@
+-- The command that a line is, or its first fault: its length, its reading, all shapes, and then the ranges.
+use Rattle.std.specs.Prelude.{ℕ, List, codes, option_and_then, Result, Ok}
+use Rattle.std.specs.Option.{ok_or}
+use Rattle.serde_json.specs.Data.{Data, Members}
+use Rattle.serde_json.specs.Find.{get, as_str, as_array, as_object}
+use Rattle.pn_record.specs.Checks.{◌>>=◌, fault_as}
+use Rattle.pn_record.specs.Reading.{value_at}
+use Rattle.pn_record.specs.declared.fault.ImageFault.{ImageFault}
+use Rattle.pn_record.specs.declared.fault.ImageFault.TheVariants as image
+use Rattle.pn_serve.specs.Command.Meaning.{CommandValue, deliver, marks, read, scan, tablets}
+use Rattle.pn_serve.specs.Command.Words.{word_of}
+use Rattle.pn_serve.specs.Command.Queries.{query_in}
+use Rattle.pn_serve.specs.Command.Shapes.{each_in, part_in, no_others, batch_shape}
+use Rattle.pn_serve.specs.Command.Ranges.{batches_fit, fitting_key}
+use Rattle.pn_serve.specs.declared.command.word.Word.{Word}
+use Rattle.pn_serve.specs.declared.command.word.Word.TheVariants.{Deliver, Marks, Read, Scan, Tablets}
+use Rattle.pn_serve.specs.declared.command.word.Form.TheVariants.{Command}
+use Rattle.pn_serve.specs.declared.refusal.Part.TheVariants.{Whole, Do, Batches, Key, Query}
+use Rattle.pn_serve.specs.declared.refusal.Part.TheVariants as part
+use Rattle.pn_serve.specs.declared.refusal.Refusal.{Refusal}
+use Rattle.pn_serve.specs.declared.refusal.Refusal.TheVariants.{TooLong, NotJson, BadShape, OutOfRange, Memory}
+
+-- the batches of a `deliver` command
+unfoldable pub deliver_in : Members → Data → Result CommandValue Refusal
+deliver_in members d = do
+  items ← part_in Batches as_array (get (codes "batches") d)
+  batches ← each_in batch_shape items
+  named ← no_others (Command Deliver) members
+  fit ← batches_fit batches
+  Ok (deliver batches)
+
+-- a `marks` command
+unfoldable pub marks_in : Members → Result CommandValue Refusal
+marks_in members = do
+  named ← no_others (Command Marks) members
+  Ok marks
+
+-- a `read` command
+unfoldable pub read_in : Members → Data → Result CommandValue Refusal
+read_in members d = do
+  text ← part_in Key as_str (get (codes "key") d)
+  named ← no_others (Command Read) members
+  key ← fitting_key text
+  Ok (read key)
+
+-- a `scan` command
+unfoldable pub scan_in : Members → Data → Result CommandValue Refusal
+scan_in members d = do
+  query ← part_in Query query_in (get (codes "query") d)
+  named ← no_others (Command Scan) members
+  Ok scan
+
+-- a `tablets` command
+unfoldable pub tablets_in : Members → Result CommandValue Refusal
+tablets_in members = do
+  named ← no_others (Command Tablets) members
+  Ok tablets
+
+-- the command of a word
+abbrev pub command_as : Word → Members → Data → Result CommandValue Refusal
+command_as Deliver members d = deliver_in members d
+command_as Marks members d = marks_in members
+command_as Read members d = read_in members d
+command_as Scan members d = scan_in members d
+command_as Tablets members d = tablets_in members
+
+-- the command that a value is
+unfoldable pub command_in : Data → Result CommandValue Refusal
+command_in d = do
+  members ← ok_or (as_object d) (BadShape Whole)
+  word ← part_in Do (λ value. option_and_then word_of (as_str value)) (get (codes "do") d)
+  command_as word members d
+
+-- the refusal of a line for what is at fault in an image
+abbrev pub refusal_of : ImageFault → Refusal
+refusal_of image.TooLong = TooLong
+refusal_of image.NotJson = NotJson
+refusal_of image.Memory = Memory
+refusal_of (image.BadShape at) = BadShape (part.Image at)
+refusal_of (image.OutOfRange at) = OutOfRange (part.Image at)
+
+-- the command that a line is
+unfoldable pub command_at : List ℕ → Result CommandValue Refusal
+command_at line = fault_as refusal_of (value_at line) >>= command_in

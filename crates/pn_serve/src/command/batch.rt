@@ -1,0 +1,20 @@
+//! Batches of the right shape, borrowed from the parsed value.
+
+use pn_record::Shape;
+use std::marker::Model;
+
+/// The parts of a batch of the right shape, whose ranges are still to be looked at.
+#[derive(Drop)]
+pub(crate) struct BatchShape<'v> {
+    pub(crate) first: u64,
+    pub(crate) images: Vec<Shape<'v>>,
+    pub(crate) stream: &'v str,
+}
+
+impl<'v> Model for BatchShape<'v> {
+    ghost use Rattle.pn_stream.specs.Positions.{DeliveryValue};
+
+    ghost Value = { DeliveryValue };
+
+    ghost view = { λ b. record { stream = b.stream.now; first = b.first; images = b.images.items } };
+}

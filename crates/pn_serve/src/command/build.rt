@@ -1,0 +1,52 @@
+//! Batches in their ranges, copied out of the parsed value as deliveries.
+
+ghost use Rattle.std.specs.Prelude.{◌≡◌, IfOk, Ok};
+ghost use Rattle.pn_serve.specs.Command.Ranges.{each_fits, image_fits, batch_fits, batches_fit};
+
+use crate::command::batch::BatchShape;
+use pn_join::{Name, NoMemory};
+use pn_record::{Image, Shape};
+use pn_stream::Delivery;
+use std::alloc::Global;
+
+/// The deliveries of the batches, with each text copied once.
+#[tactic(auto, unfolding(crate::specs::Command::Ranges::batches_fit))]
+pub(crate) fn built_deliveries(
+    alloc: Global,
+    shapes: &[BatchShape<'_>],
+) -> Result<Vec<Delivery>, NoMemory>
+    requires { batches_fit shapes.now ≡ Ok tt }
+    ensures { IfOk result (λ deliveries. deliveries.items ≡ shapes.now) }
+{
+    let mut deliveries = Vec::with_capacity(alloc, shapes.len())?;
+    for shape in shapes {
+        deliveries.push(built_delivery(alloc, shape)?)?;
+    }
+    Ok(deliveries)
+}
+
+#[tactic(auto, unfolding(crate::specs::Command::Ranges::batch_fits))]
+fn built_delivery(alloc: Global, shape: &BatchShape<'_>) -> Result<Delivery, NoMemory>
+    requires { batch_fits shape.now ≡ Ok tt }
+    ensures { IfOk result (λ delivery. delivery ≡ shape.now) }
+{
+    let images = built_images(alloc, &shape.images)?;
+    let Ok(stream) = Name::read(shape.stream.as_bytes()) else {
+        unreachable!()
+    };
+    match Delivery::new(stream, shape.first, images) {
+        Some(delivery) => Ok(delivery),
+        None => unreachable!(),
+    }
+}
+
+fn built_images(alloc: Global, shapes: &[Shape<'_>]) -> Result<Vec<Image>, NoMemory>
+    requires { each_fits image_fits shapes.now ≡ Ok tt }
+    ensures { IfOk result (λ images. images.items ≡ shapes.now) }
+{
+    let mut images = Vec::with_capacity(alloc, shapes.len())?;
+    for shape in shapes {
+        images.push(shape.image(alloc)?)?;
+    }
+    Ok(images)
+}

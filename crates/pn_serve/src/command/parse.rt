@@ -1,0 +1,162 @@
+//! The command that a line is.
+
+ghost use Rattle.std.specs.Prelude.{◌≡◌, ◌<◌, length, option_and_then, IfOk, IsErrOf, IsTrue};
+ghost use Rattle.serde_json.specs.Find.{as_str};
+ghost use Rattle.serde_json.specs.View.{view, members_view};
+ghost use Rattle.pn_record.specs.Seen.{seen};
+ghost use Rattle.pn_serve.specs.Command.Faults.{AnswersAs};
+ghost use Rattle.pn_serve.specs.Command.Meaning.{command_value};
+ghost use Rattle.pn_serve.specs.Command.Queries.{is_empty as no_members, query_in};
+ghost use Rattle.pn_record.specs.Limits.{is_key};
+ghost use Rattle.pn_serve.specs.Command.Ranges.{IsInRanges, fitting_key};
+ghost use Rattle.pn_serve.specs.Command.Shapes.{part_in};
+ghost use Rattle.pn_serve.specs.Command.Words.{word_of as word_named};
+ghost use Rattle.pn_serve.specs.Command.Lines.{refusal_of, deliver_in, marks_in, read_in, scan_in, tablets_in, command_in as command_seen, command_at};
+ghost use Rattle.pn_serve.specs.declared.refusal.Part.TheVariants.{Do, Query};
+
+use crate::command::build::built_deliveries;
+use crate::command::ranges::check_batches;
+use crate::command::shapes::{batches_of, check_names, items_of, text_of};
+use crate::command::word::{Form, Word};
+use crate::{Command, Part, Refusal};
+use pn_record::{ImageFault, Key, KeyFault, read_value};
+use serde_json::{Map, Value};
+use std::alloc::Global;
+
+impl From<ImageFault> for Refusal {
+    ghost from_gives = { λ fault refusal. refusal ≡ refusal_of fault };
+
+    fn from(fault: ImageFault) -> Refusal {
+        match fault {
+            ImageFault::TooLong => Refusal::TooLong,
+            ImageFault::NotJson => Refusal::NotJson,
+            ImageFault::Memory => Refusal::Memory,
+            ImageFault::BadShape(member) => Refusal::BadShape(Part::Image(member)),
+            ImageFault::OutOfRange(member) => Refusal::OutOfRange(Part::Image(member)),
+        }
+    }
+}
+
+/// The command that a line is, or its first fault. `TooLong` where it has more than 65,536 bytes;
+/// otherwise `NotJson` where `serde_json` reads no value in it; otherwise `BadShape` with the first
+/// part that is absent or of another kind; otherwise `OutOfRange` with the first that breaks a limit.
+/// `Memory` may stand in place of any of these but the first, where a growth was refused.
+#[tactic(auto, unfolding(crate::specs::Command::Lines::command_at))]
+pub fn command_of(alloc: Global, line: &[u8]) -> Result<Command, Refusal>
+    ensures exact { AnswersAs command_value result (command_at line.now) }
+    ensures in_ranges { IfOk result (λ command. IsInRanges (command_value command)) }
+    ensures too_long { 65536 < length line.now → IsErrOf result Refusal.TooLong }
+{
+    let value = read_value(alloc, line)?;
+    command_in(alloc, &value)
+}
+
+#[tactic(auto, unfolding(crate::specs::Command::Lines::command_in))]
+fn command_in(alloc: Global, value: &Value) -> Result<Command, Refusal>
+    ensures exact { AnswersAs command_value result (command_seen (view value.now)) }
+    ensures in_ranges { IfOk result (λ command. IsInRanges (command_value command)) }
+{
+    let members = value.as_object().ok_or(Refusal::BadShape(Part::Whole))?;
+    match word_of(value.get("do"))? {
+        Word::Deliver => deliver_of(alloc, members, value),
+        Word::Marks => marks_of(members),
+        Word::Read => read_of(alloc, members, value),
+        Word::Scan => scan_of(members, value),
+        Word::Tablets => tablets_of(members),
+    }
+}
+
+fn word_of(value: Option<&Value>) -> Result<Word, Refusal>
+    ensures { result ≡ part_in Do (λ d. option_and_then word_named (as_str d)) (seen value.entry) }
+{
+    match value.and_then(Value::as_str) {
+        Some(text) => Word::read(text).ok_or(Refusal::BadShape(Part::Do)),
+        None => Err(Refusal::BadShape(Part::Do)),
+    }
+}
+
+#[tactic(auto, unfolding(crate::specs::Command::Lines::deliver_in))]
+fn deliver_of(
+    alloc: Global,
+    members: &Map<String, Value>,
+    value: &Value,
+) -> Result<Command, Refusal>
+    ensures exact { AnswersAs command_value result (deliver_in (members_view members.now.entries) (view value.now)) }
+    ensures in_ranges { IfOk result (λ command. IsInRanges (command_value command)) }
+{
+    let items = items_of(Part::Batches, value.get("batches"))?;
+    let shapes = batches_of(alloc, items)?;
+    check_names(Form::Command(Word::Deliver), members)?;
+    check_batches(&shapes)?;
+    Ok(Command::Deliver(built_deliveries(alloc, &shapes)?))
+}
+
+#[tactic(auto, unfolding(crate::specs::Command::Lines::marks_in))]
+fn marks_of(members: &Map<String, Value>) -> Result<Command, Refusal>
+    ensures exact { AnswersAs command_value result (marks_in (members_view members.now.entries)) }
+    ensures in_ranges { IfOk result (λ command. IsInRanges (command_value command)) }
+{
+    check_names(Form::Command(Word::Marks), members)?;
+    Ok(Command::Marks)
+}
+
+#[tactic(auto, unfolding(crate::specs::Command::Lines::read_in))]
+fn read_of(alloc: Global, members: &Map<String, Value>, value: &Value) -> Result<Command, Refusal>
+    ensures exact { AnswersAs command_value result (read_in (members_view members.now.entries) (view value.now)) }
+    ensures in_ranges { IfOk result (λ command. IsInRanges (command_value command)) }
+{
+    let text = text_of(Part::Key, value.get("key"))?;
+    check_names(Form::Command(Word::Read), members)?;
+    Ok(Command::Read(key_of(alloc, text)?))
+}
+
+fn key_of(alloc: Global, text: &str) -> Result<Key, Refusal>
+    ensures exact { AnswersAs (λ key. key) result (fitting_key text.now) }
+    ensures in_ranges { IfOk result (λ key. IsTrue (is_key key)) }
+{
+    match Key::of(alloc, text) {
+        Ok(key) => Ok(key),
+        Err(KeyFault::OutOfRange) => Err(Refusal::OutOfRange(Part::Key)),
+        Err(KeyFault::Memory) => Err(Refusal::Memory),
+    }
+}
+
+#[tactic(auto, unfolding(crate::specs::Command::Lines::tablets_in))]
+fn tablets_of(members: &Map<String, Value>) -> Result<Command, Refusal>
+    ensures exact { AnswersAs command_value result (tablets_in (members_view members.now.entries)) }
+    ensures in_ranges { IfOk result (λ command. IsInRanges (command_value command)) }
+{
+    check_names(Form::Command(Word::Tablets), members)?;
+    Ok(Command::Tablets)
+}
+
+#[tactic(auto, unfolding(crate::specs::Command::Lines::scan_in))]
+fn scan_of(members: &Map<String, Value>, value: &Value) -> Result<Command, Refusal>
+    ensures exact { AnswersAs command_value result (scan_in (members_view members.now.entries) (view value.now)) }
+    ensures in_ranges { IfOk result (λ command. IsInRanges (command_value command)) }
+{
+    check_query(value.get("query"))?;
+    check_names(Form::Command(Word::Scan), members)?;
+    Ok(Command::Scan)
+}
+
+fn check_query(value: Option<&Value>) -> Result<(), Refusal>
+    ensures { result ≡ part_in Query query_in (seen value.entry) }
+{
+    match value.and_then(Value::as_object) {
+        Some(members) => {
+            if is_empty(members) {
+                Ok(())
+            } else {
+                Err(Refusal::BadShape(Part::Query))
+            }
+        }
+        None => Err(Refusal::BadShape(Part::Query)),
+    }
+}
+
+fn is_empty(members: &Map<String, Value>) -> bool
+    ensures { result ≡ no_members (members_view members.now.entries) }
+{
+    members.is_empty()
+}

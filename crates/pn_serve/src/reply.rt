@@ -1,0 +1,23 @@
+//! What lines are answered.
+
+pub(crate) mod faults;
+mod rows;
+pub(crate) mod scan;
+pub(crate) mod short;
+mod text;
+pub(crate) mod views;
+
+use crate::Refusal;
+
+/// The reply to one line.
+#[derive(Drop)]
+pub enum Reply {
+    /// How many records a round changed.
+    Changed(u64),
+    /// A reply's text.
+    Text(Vec<u8>),
+    /// The line was refused.
+    Refused(Refusal),
+    /// The text of why the round of its deliveries was refused.
+    NotTaken(Vec<u8>),
+}

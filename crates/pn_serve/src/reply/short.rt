@@ -1,0 +1,91 @@
+//! Replies of fixed texts, names and numbers, which take no memory.
+
+ghost use Rattle.std.specs.Prelude.{◌≡◌, ◌+◌, ◌≤◌, [], ◌++◌, length};
+ghost use Rattle.pn_serve.specs.Reply.Rows.{line_of};
+ghost use Rattle.pn_serve.specs.Reply.Short.{refusal_data, changed_data};
+
+use crate::Refusal;
+use std::marker::Model;
+
+/// The most bytes of a short reply.
+const ROOM: usize = 128;
+
+/// A reply of one line, held in place.
+#[derive(Debug, Drop)]
+pub struct ShortReply {
+    bytes: [u8; ROOM],
+    len: usize,
+}
+
+impl Model for ShortReply {
+    ghost use Rattle.std.specs.Prelude.{ℕ, List, take, ◌≤◌};
+
+    ghost Value = { List ℕ };
+
+    ghost view = { λ reply. take reply.len reply.bytes };
+
+    ghost invariant = { λ reply. reply.len ≤ 128 };
+}
+
+impl ShortReply {
+    /// The whole line, with its newline.
+    pub fn as_bytes(&self) -> &[u8]
+        ensures { result.now ≡ self.now }
+    {
+        &self.bytes[..self.len]
+    }
+
+    fn new() -> ShortReply
+        ensures { result ≡ [] }
+    {
+        ShortReply {
+            bytes: [0; ROOM],
+            len: 0,
+        }
+    }
+
+    fn push(&mut self, text: &str)
+        requires { length self.old + length text.now ≤ ROOM }
+        ensures { self.new ≡ self.old ++ text.now }
+    {
+        let end = self.len + text.len();
+        self.bytes[self.len..end].copy_from_slice(text.as_bytes());
+        self.len = end;
+    }
+}
+
+/// The reply to a line that was refused, as `{"error":"bad-shape","member":"key"}`.
+#[tactic(auto, unfolding(crate::specs::Reply::Rows::line_of, crate::specs::Reply::Short::refusal_data, serde_json::proofs::OnLiterals::serde_json_on_literals))]
+pub fn refusal_reply(refusal: &Refusal) -> ShortReply
+    ensures { result ≡ line_of (refusal_data refusal.now) }
+{
+    let mut reply = ShortReply::new();
+    match refusal {
+        Refusal::TooLong => reply.push("{\"error\":\"too-long\"}\n"),
+        Refusal::NotJson => reply.push("{\"error\":\"not-json\"}\n"),
+        Refusal::BadShape(part) => {
+            reply.push("{\"error\":\"bad-shape\",\"member\":\"");
+            reply.push(part.word());
+            reply.push("\"}\n");
+        }
+        Refusal::OutOfRange(part) => {
+            reply.push("{\"error\":\"out-of-range\",\"member\":\"");
+            reply.push(part.word());
+            reply.push("\"}\n");
+        }
+        Refusal::Memory => reply.push("{\"error\":\"memory\"}\n"),
+    }
+    reply
+}
+
+/// The reply to a delivery, `{"changed":N}`: how many records it changed.
+#[tactic(auto, unfolding(crate::specs::Reply::Rows::line_of, crate::specs::Reply::Short::changed_data, serde_json::proofs::OnLiterals::serde_json_on_literals))]
+pub fn changed_reply(count: u64) -> ShortReply
+    ensures { result ≡ line_of (changed_data count) }
+{
+    let mut reply = ShortReply::new();
+    reply.push("{\"changed\":");
+    reply.push(itoa::Buffer::new().format(count));
+    reply.push("}\n");
+    reply
+}
