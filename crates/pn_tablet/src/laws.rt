@@ -24,9 +24,9 @@ pub fn cover_never_falls()
 /// does not serve.
 pub fn nothing_but_a_loss_goes_back()
     ensures kept { (tablet : TabletStateValue) (op : TabletOp) → IsSpelled tablet.cells → (op ≡ Lose → ⊥)
-        → (key : List ℕ) → NotOlder (find bytes_cmp key tablet.cells) (find bytes_cmp key (stepped tablet op).map) }
+        → (key : List ℕ) → NotOlder (find bytes_cmp key tablet.cells) (find bytes_cmp key (stepped tablet op).cells) }
     ensures served { (tablet : TabletStateValue) (op : TabletOp) → IsSpelled tablet.cells → (stepped tablet op).status ≡ Serving
-        → (key : List ℕ) → NotOlder (find bytes_cmp key tablet.cells) (find bytes_cmp key (stepped tablet op).map) }
+        → (key : List ℕ) → NotOlder (find bytes_cmp key tablet.cells) (find bytes_cmp key (stepped tablet op).cells) }
 {}
 
 /// Two joins give the same tablet in either order, also where one is refused.
