@@ -12,4 +12,4 @@ pub use join::{Dup, Join};
 pub use marks::{Highest, Marks, raise, raise_at};
 pub use memory::NoMemory;
 pub use name::{BadName, Name, StreamName};
-pub use table::Table;
+pub use table::{Entries, Table};

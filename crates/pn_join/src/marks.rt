@@ -82,7 +82,12 @@ impl Table<StreamName, Highest> {
         ensures short { result ≡ list_any (falls_short self.now) need.now }
         ensures rising { IsTrue (is_sorted name_cmp need.now) }
     {
-        need.entries().iter().any(|wanted| self.falls_short(wanted))
+        for (name, position) in need.iter() {
+            if self.position(name) < position.0 {
+                return true;
+            }
+        }
+        false
     }
 
     fn falls_short(&self, wanted: &(StreamName, Highest)) -> bool
