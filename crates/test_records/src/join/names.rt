@@ -1,6 +1,6 @@
 //! Names of some lengths and letters.
 
-use pn_join::{Dup, Name};
+use pn_join::{BadName, Dup, Name};
 use std::test::Fail;
 
 #[test]
@@ -25,5 +25,14 @@ fn other_texts_are_refused(rt: HostRuntime) {
 fn names_are_ordered_by_their_bytes(rt: HostRuntime) -> Result<(), Fail> {
     assert!(rt; Name::read(b"b")? > Name::read(b"aa")?);
     assert!(rt; Name::read(b"a")? < Name::read(b"aa")?);
+    Ok(())
+}
+
+#[test]
+fn what_a_name_has_is_told_in_words(rt: HostRuntime) -> Result<(), Fail> {
+    assert_eq!(rt;
+        format!(in rt.alloc(); "{}", BadName)?.as_str(),
+        "a name has 1 to 32 bytes of a to z, 0 to 9 and -"
+    );
     Ok(())
 }

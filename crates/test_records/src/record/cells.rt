@@ -91,3 +91,14 @@ fn contents_of_one_version_are_shown_side_by_side(rt: HostRuntime) -> Result<(),
     assert_eq!(rt; both.state(), CellState::Conflict);
     Ok(())
 }
+
+#[test]
+fn faults_of_keys_are_told_in_words(rt: HostRuntime) -> Result<(), Fail> {
+    for (fault, want) in [
+        (KeyFault::OutOfRange, "a key has 1 to 256 bytes"),
+        (KeyFault::Memory, "out of memory"),
+    ] {
+        assert_eq!(rt; format!(in rt.alloc(); "{fault}")?.as_str(), want);
+    }
+    Ok(())
+}

@@ -4,7 +4,7 @@ use Rattle.std.proofs.lemmas.List.{map-append}
 use Rattle.std.proofs.lemmas.List.FromFn.{map-range_with_len_more}
 use Rattle.pn_tablet.specs.Layouts.{tablet_ends}
 use Rattle.pn_tablet.specs.Tablets.{TabletStateValue}
-use Rattle.pn_parts.proofs.apply.tablets_of.Goals as goal
+use Rattle.test_tablets.proofs.apply.tablets_of.Goals as goal
 
 pub loop-tablet-preserved : goal.loop-tablet-preserved
 loop-tablet-preserved c =

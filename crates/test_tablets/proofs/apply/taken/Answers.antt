@@ -6,7 +6,7 @@ use Rattle.pn_apply.specs.Applying.{AreJoinsIn}
 use Rattle.pn_apply.specs.Reducing.{all_images}
 use Rattle.pn_apply.proofs.ReduceLaws.{joins_fit}
 use Rattle.pn_apply.proofs.Sharing.{map_twice}
-use Rattle.pn_parts.proofs.apply.taken.Goals as goal
+use Rattle.test_tablets.proofs.apply.taken.Goals as goal
 
 pub apply_all-requires-clause-joins : goal.apply_all-requires-clause-joins
 apply_all-requires-clause-joins c =

@@ -5,7 +5,7 @@ use std::io::{BufRead, ErrorKind, Read};
 
 /// Shows at most `size` bytes at a time, and fails at look number `fails_at`, of which the first is 1.
 #[derive(Drop)]
-pub(crate) struct Pieces<'a> {
+pub struct Pieces<'a> {
     rest: &'a [u8],
     size: usize,
     looks: usize,
@@ -13,12 +13,13 @@ pub(crate) struct Pieces<'a> {
 }
 
 impl<'a> Pieces<'a> {
-    /// It never fails.
-    pub(crate) fn new(bytes: &'a [u8], size: usize) -> Pieces<'a> {
+    /// A reader that never fails.
+    pub fn new(bytes: &'a [u8], size: usize) -> Pieces<'a> {
         Pieces::failing(bytes, size, 0)
     }
 
-    pub(crate) fn failing(bytes: &'a [u8], size: usize, fails_at: usize) -> Pieces<'a> {
+    /// A reader that fails at one look.
+    pub fn failing(bytes: &'a [u8], size: usize, fails_at: usize) -> Pieces<'a> {
         Pieces {
             rest: bytes,
             size,

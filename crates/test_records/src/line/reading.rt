@@ -1,13 +1,10 @@
-//! Lines from readers in pieces, and writers that take little, nothing, or fail.
-use crate::pieces::Pieces;
-use pn_line::{
-    Discard, InMemory, LineBuffer, LineEnd, OUTBOX_ROOM, Outbox, Sink, Source, WriteFault,
-    read_line, write_all_of,
-};
+//! Lines from readers in pieces, from memory, and without end.
+use pn_line::{InMemory, LineBuffer, LineEnd, Source, read_line};
 use std::alloc::Global;
 use std::io;
-use std::io::{BufRead, ErrorKind, Read, Write};
+use std::io::{BufRead, ErrorKind, Read};
 use std::test::Fail;
+use test_io::Pieces;
 
 // Each line of a source with a mark for how it ended, and what a further read says.
 fn marked<S: Source>(alloc: Global, source: &mut S) -> io::Result<Vec<u8>> {
@@ -131,113 +128,5 @@ fn a_read_goes_on_after_an_error(rt: HostRuntime) -> Result<(), Fail> {
         }
         assert_eq!(rt; line.bytes(), b"12345".as_slice(), "at {fails_at}");
     }
-    Ok(())
-}
-
-// A writer that takes at most `size` bytes at a time, and fails at call number `fails_at`.
-#[derive(Drop)]
-struct Slow {
-    taken: Vec<u8>,
-    size: usize,
-    calls: usize,
-    fails_at: usize,
-    flushes: usize,
-}
-
-impl Slow {
-    fn new(alloc: Global, size: usize, fails_at: usize) -> Slow {
-        Slow {
-            taken: Vec::new(alloc),
-            size,
-            calls: 0,
-            fails_at,
-            flushes: 0,
-        }
-    }
-}
-
-impl Write for Slow {
-    fn write(&mut self, buf: &[u8]) -> io::Result<usize> {
-        self.calls = self.calls.wrapping_add(1);
-        if self.calls == self.fails_at {
-            return Err(io::Error::from(ErrorKind::BrokenPipe));
-        }
-        let count = self.size.min(buf.len());
-        self.taken.extend_from_slice(&buf[..count])?;
-        Ok(count)
-    }
-
-    fn flush(&mut self) -> io::Result<()> {
-        self.flushes = self.flushes.wrapping_add(1);
-        Ok(())
-    }
-}
-
-#[test]
-fn a_write_says_why_it_stopped(rt: HostRuntime) -> Result<(), Fail> {
-    let mut writer = Slow::new(rt.alloc(), 1, 0);
-    write_all_of(&mut writer, b"abc")?;
-    assert_eq!(rt; writer.taken.as_slice(), b"abc".as_slice());
-    for fails_at in 1..4 {
-        let mut writer = Slow::new(rt.alloc(), 1, fails_at);
-        let fault = write_all_of(&mut writer, b"abc");
-        assert!(rt;
-            matches!(&fault, Err(WriteFault::Failed(_))),
-            "at {fails_at}"
-        );
-        assert_eq!(rt; writer.taken.len(), fails_at - 1);
-        let _ = fault;
-    }
-    let mut writer = Slow::new(rt.alloc(), 0, 0);
-    let fault = write_all_of(&mut writer, b"abc");
-    assert!(rt; matches!(&fault, Err(WriteFault::TookNothing)));
-    let _ = fault;
-    Ok(())
-}
-
-#[test]
-fn an_outbox_writes_when_it_is_full_and_when_flushed(rt: HostRuntime) -> Result<(), Fail> {
-    let mut writer = Slow::new(rt.alloc(), 1_000_000, 0);
-    let mut outbox = Outbox::new(rt.alloc())?;
-    outbox.push(&mut writer, b"abc")?;
-    assert_eq!(rt; (writer.calls, writer.flushes), (0, 0));
-    let block = vec![in rt.alloc(); b'x'; OUTBOX_ROOM]?;
-    outbox.push(&mut writer, &block)?;
-    assert_eq!(rt; writer.taken.as_slice(), b"abc".as_slice());
-    let long = vec![in rt.alloc(); b'y'; 70_000]?;
-    outbox.push(&mut writer, &long)?;
-    assert_eq!(rt; writer.taken.len(), 3 + 65_536 + 70_000);
-    outbox.push(&mut writer, b"z")?;
-    outbox.flush(&mut writer)?;
-    assert_eq!(rt; writer.taken.len(), 3 + 65_536 + 70_000 + 1);
-    assert_eq!(rt; writer.taken.last().copied(), Some(b'z'));
-    assert_eq!(rt; (writer.calls, writer.flushes), (4, 1));
-    Ok(())
-}
-
-#[test]
-fn an_outbox_gives_up_what_did_not_go_out(rt: HostRuntime) -> Result<(), Fail> {
-    for fails_at in 1..4 {
-        let mut writer = Slow::new(rt.alloc(), 1, fails_at);
-        let mut outbox = Outbox::new(rt.alloc())?;
-        outbox.push(&mut writer, b"abc")?;
-        let fault = outbox.flush(&mut writer);
-        assert!(rt;
-            matches!(&fault, Err(WriteFault::Failed(_))),
-            "at {fails_at}"
-        );
-        let _ = fault;
-        outbox.flush(&mut writer)?;
-        assert_eq!(rt; writer.taken.len(), fails_at - 1);
-    }
-    Ok(())
-}
-
-#[test]
-fn a_sink_that_discards_takes_all_bytes(rt: HostRuntime) -> Result<(), Fail> {
-    let long = vec![in rt.alloc(); b'y'; 70_000]?;
-    assert_eq!(rt; Discard.write_some(&long)?, 70_000);
-    write_all_of(&mut Discard, &long)?;
-    Discard.hand_on()?;
     Ok(())
 }

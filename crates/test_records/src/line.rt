@@ -1,0 +1,4 @@
+//! Lines and writers, each call by itself.
+
+mod reading;
+mod writing;

@@ -1,0 +1,5 @@
+//! Tests of streams: the calls of `pn_stream`, at values that were worked out by hand.
+#![tactic(auto)]
+
+#[cfg(test)]
+mod streams;

@@ -1,0 +1,11 @@
+//! Tests of tablets and regions: the calls of `pn_tablet`, `pn_apply` and `pn_region`, at values that were worked out by hand.
+#![tactic(auto)]
+
+#[cfg(test)]
+mod apply;
+#[cfg(test)]
+mod given;
+#[cfg(test)]
+mod region;
+#[cfg(test)]
+mod tablet;
