@@ -9,6 +9,9 @@ ghost use Rattle.pn_join.specs.Marks.{name_cmp, position_of, Reaches, falls_shor
 use crate::{Dup, Join, NoMemory, StreamName, Table};
 use std::marker::Model;
 
+/// The last position that a stream can have.
+pub const LAST_POSITION: u64 = 1_000_000_000_000_000;
+
 /// A position that only rises: the join of two is the greater one.
 #[derive(Clone, Copy, Debug, PartialEq, Eq, PartialOrd, Ord)]
 pub struct Highest(pub u64);

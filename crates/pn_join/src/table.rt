@@ -173,7 +173,7 @@ impl<K: Ord + Dup, C: Join> Dup for Table<K, C> {
 impl<K: Ord + Dup, C: Join> Join for Table<K, C> {
     ghost use Rattle.std.specs.Prelude.{Option};
     ghost use Rattle.pn_join.specs.Tables.{contents_at, key_by_key, IsTable};
-    ghost use Rattle.pn_join.specs.TableLaws.{key_by_key-laws};
+    ghost use Rattle.pn_join.specs.Proofs.TableLaws.{key_by_key-laws};
 
     ghost Meaning = { K → Option C.Meaning };
 
