@@ -11,11 +11,14 @@ SCRIPT ?= crates/pnuts/stdin
 PROGRAM := crates/pnuts/out/pnuts
 STEPS := crates/pn_bench/out/pn_bench
 
+# The crate whose edits `make edits` tries; none: all crates.
+CRATE ?=
+
 # Worked rows that are kept outside the repository, and which of them `make rows` runs.
 ROWS ?= ../shared/rows
 STAGE ?= first-path
 
-.PHONY: run test build bench checks rows toolchain
+.PHONY: run test edits build bench checks rows toolchain
 
 # Shows the program at work: the replies to the script on standard output. It proves nothing.
 run: toolchain
@@ -24,6 +27,10 @@ run: toolchain
 # The gate: every proof from nothing, the edits that must fail, the program and the tests.
 test: toolchain
 	@rt ci
+
+# Tries all wrong bodies, and not only those that the gate tries: the prover must refuse each.
+edits: toolchain
+	@checks/edits $(CRATE)
 
 # Proves the program, and leaves it built with optimisation.
 build: toolchain

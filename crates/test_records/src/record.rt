@@ -3,3 +3,5 @@
 mod cells;
 mod images;
 mod marks;
+mod sizes;
+mod values;

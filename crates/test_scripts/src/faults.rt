@@ -1,17 +1,16 @@
 //! Readers and writers that fail in mid-stream: what is written is a front of the replies.
 
-use crate::readers::Pieces;
 use crate::row::{first_lines, one_tablet};
 use crate::rows::FIRST_RUN;
-use crate::writers::{Stop, Stopping};
 use pn_line::InMemory;
 use pn_serve::{RunFault, run};
 use std::test::Fail;
+use test_io::{Pieces, Stop, Stopping};
 
 #[test]
 fn a_reader_that_fails_leaves_the_replies_to_whole_lines(rt: HostRuntime) -> Result<(), Fail> {
     for shown in 0..=FIRST_RUN.script.len() {
-        let mut input = Pieces::failing(FIRST_RUN.script, 1, shown.wrapping_add(1));
+        let mut input = Pieces::failing(FIRST_RUN.script.as_bytes(), 1, shown.wrapping_add(1));
         let mut output = Vec::new(rt.alloc());
         let ended = run(rt.alloc(), &mut input, &mut output, one_tablet(rt.alloc()));
         assert_eq!(rt; ended, Err(RunFault::Read), "after {shown} bytes");
@@ -50,7 +49,7 @@ fn a_writer_that_stops_has_a_front_of_the_replies(rt: HostRuntime) {
 
 #[test]
 fn a_writer_that_takes_a_byte_at_a_time_has_all_replies(rt: HostRuntime) -> Result<(), Fail> {
-    let mut output = Stopping::new(rt.alloc(), 1, 0, Stop::Fails);
+    let mut output = Stopping::never(rt.alloc(), 1);
     let mut input = InMemory::new(FIRST_RUN.script.as_bytes());
     run(rt.alloc(), &mut input, &mut output, one_tablet(rt.alloc()))?;
     assert_eq!(rt; output.taken.as_slice(), FIRST_RUN.replies.as_bytes());

@@ -1,52 +1,7 @@
-//! Readers that show little at a time, fail, repeat their lines, or never come to an end.
+//! Readers that repeat their lines, or never come to an end.
 
 use std::io;
 use std::io::{BufRead, ErrorKind, Read};
-
-/// Shows at most `size` bytes at a time, and fails at look number `fails_at`, counted from 1.
-#[derive(Drop)]
-pub(crate) struct Pieces<'a> {
-    rest: &'a [u8],
-    size: usize,
-    looks: usize,
-    fails_at: usize,
-}
-
-impl<'a> Pieces<'a> {
-    /// A reader that does not fail.
-    pub(crate) fn new(text: &'a str, size: usize) -> Pieces<'a> {
-        Pieces::failing(text, size, 0)
-    }
-
-    pub(crate) fn failing(text: &'a str, size: usize, fails_at: usize) -> Pieces<'a> {
-        Pieces {
-            rest: text.as_bytes(),
-            size,
-            looks: 0,
-            fails_at,
-        }
-    }
-}
-
-impl Read for Pieces<'_> {
-    fn read(&mut self, _buf: &mut [u8]) -> io::Result<usize> {
-        Err(io::Error::from(ErrorKind::Unsupported))
-    }
-}
-
-impl BufRead for Pieces<'_> {
-    fn fill_buf(&mut self) -> io::Result<&[u8]> {
-        self.looks = self.looks.wrapping_add(1);
-        if self.looks == self.fails_at {
-            return Err(io::Error::from(ErrorKind::ConnectionReset));
-        }
-        Ok(&self.rest[..self.size.min(self.rest.len())])
-    }
-
-    fn consume(&mut self, amount: usize) {
-        self.rest = &self.rest[amount.min(self.rest.len())..];
-    }
-}
 
 /// Shows each line of a text twice, one after the other.
 #[derive(Drop)]

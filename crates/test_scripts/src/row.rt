@@ -1,6 +1,5 @@
 //! A worked row: a script, and the replies that it has.
 
-use crate::readers::Pieces;
 use pn_line::{InMemory, Source};
 use pn_record::{Key, KeyFault};
 use pn_serve::{RunFault, Settings, run};
@@ -8,6 +7,7 @@ use pn_tablet::Layout;
 use std::alloc::{AllocError, Global};
 use std::process::Abort;
 use std::test::Fail;
+use test_io::Pieces;
 
 /// A script and its replies, each line with its newline.
 #[derive(Clone, Copy)]
@@ -64,7 +64,7 @@ pub(crate) fn assert_agrees<R: Abort + AllocGlobal>(rt: &R, row: Row) -> Result<
     let replies = replies_of(rt.alloc(), &mut InMemory::new(script))?;
     assert_eq!(rt; replies.as_slice(), row.replies.as_bytes());
     for size in [1, 2, 7] {
-        let replies = replies_of(rt.alloc(), &mut Pieces::new(row.script, size))?;
+        let replies = replies_of(rt.alloc(), &mut Pieces::new(script, size))?;
         assert_eq!(rt;
             replies.as_slice(),
             row.replies.as_bytes(),

@@ -2,4 +2,8 @@
 #![tactic(auto)]
 
 #[cfg(test)]
+mod messages;
+#[cfg(test)]
+mod sources;
+#[cfg(test)]
 mod streams;

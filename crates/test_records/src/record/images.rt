@@ -1,44 +1,17 @@
-//! Images as JSON at worked values, and at the edge of each limit.
+//! Images as lines of JSON, at worked values.
 use ImageFault::{BadShape, NotJson, OutOfRange, TooLong};
-use pn_record::{
-    ImageFault, Member, Version, content_value, image_of, image_value, numbers_of, read_image,
-    read_value, shape_of, version_of, version_value, write_image,
-};
-use std::alloc::{AllocError, Global};
+use pn_record::{ImageFault, Member, read_image, write_image};
+use std::alloc::Global;
 use std::test::Fail;
 
-fn fault_of(alloc: Global, line: &str) -> Option<ImageFault> {
+/// Why a line is no image.
+pub(crate) fn fault_of(alloc: Global, line: &str) -> Option<ImageFault> {
     read_image(alloc, line.as_bytes()).err()
 }
 
 fn rewritten(alloc: Global, line: &str) -> Result<String, Fail> {
     let image = read_image(alloc, line.as_bytes())?;
     Ok(write_image(alloc, &image)?)
-}
-
-fn repeated(alloc: Global, text: &str, times: usize) -> Result<String, AllocError> {
-    let mut all = String::new(alloc);
-    for _ in 0..times {
-        all.push_str(text)?;
-    }
-    Ok(all)
-}
-
-// An image with these fields and this key.
-fn line_of(alloc: Global, fields: &str, key: &str) -> Result<String, AllocError> {
-    format!(in alloc;
-        "{{\"fields\":{fields},\"key\":\"{key}\",\"master\":\"w\",\"version\":[1,0]}}"
-    )
-}
-
-// An object of so many fields, each with the text.
-fn fields_of(alloc: Global, count: u32, text: &str) -> Result<String, AllocError> {
-    let mut fields = String::from_str(alloc, "{\"f\":\"\"")?;
-    for i in 1..count {
-        fields.push_str(format!(in alloc; ",\"f{i}\":\"{text}\"")?.as_str())?;
-    }
-    fields.push_str("}")?;
-    Ok(fields)
 }
 
 #[test]
@@ -107,6 +80,14 @@ fn the_first_wrong_shape_is_named(rt: HostRuntime) {
     }
 }
 
+// Why an image of this version is refused.
+fn fault_of_version(alloc: Global, version: &str) -> Result<Option<ImageFault>, Fail> {
+    let line = format!(in alloc;
+        "{{\"deleted\":true,\"key\":\"k\",\"master\":\"w\",\"version\":{version}}}"
+    )?;
+    Ok(fault_of(alloc, line.as_str()))
+}
+
 #[test]
 fn versions_are_two_whole_numbers(rt: HostRuntime) -> Result<(), Fail> {
     for version in [
@@ -124,29 +105,22 @@ fn versions_are_two_whole_numbers(rt: HostRuntime) -> Result<(), Fail> {
         "[\"1\",\"2\"]",
         "{\"generation\":1}",
     ] {
-        let line = format!(in rt.alloc();
-            "{{\"deleted\":true,\"key\":\"k\",\"master\":\"w\",\"version\":{version}}}"
-        )?;
-        assert_eq!(rt;
-            fault_of(rt.alloc(), line.as_str()),
-            Some(BadShape(Member::Version)),
-            "at {version}"
-        );
+        let fault = fault_of_version(rt.alloc(), version)?;
+        assert_eq!(rt; fault, Some(BadShape(Member::Version)), "at {version}");
     }
+    Ok(())
+}
+
+#[test]
+fn versions_have_a_least_and_a_greatest_generation_and_number(rt: HostRuntime) -> Result<(), Fail> {
     for version in [
         "[0,2]",
         "[1000000000000001,0]",
         "[1,1000000000000001]",
         "[1,18446744073709551615]",
     ] {
-        let line = format!(in rt.alloc();
-            "{{\"deleted\":true,\"key\":\"k\",\"master\":\"w\",\"version\":{version}}}"
-        )?;
-        assert_eq!(rt;
-            fault_of(rt.alloc(), line.as_str()),
-            Some(OutOfRange(Member::Version)),
-            "at {version}"
-        );
+        let fault = fault_of_version(rt.alloc(), version)?;
+        assert_eq!(rt; fault, Some(OutOfRange(Member::Version)), "at {version}");
     }
     Ok(())
 }
@@ -184,76 +158,7 @@ fn the_first_broken_limit_is_named(rt: HostRuntime) {
 }
 
 #[test]
-fn sizes_at_the_edge(rt: HostRuntime) -> Result<(), Fail> {
-    let alloc = rt.alloc();
-    let key = repeated(alloc, "é", 128)?;
-    let longer = repeated(alloc, "é", 127)?;
-    let name = repeated(alloc, "n", 64)?;
-    let text = repeated(alloc, "t", 4_096)?;
-    let less = repeated(alloc, "t", 4_095)?;
-    for (fields, key, want) in [
-        ("{}", key.as_str(), None),
-        (
-            "{}",
-            format!(in alloc; "{longer}€")?.as_str(),
-            Some(OutOfRange(Member::Key)),
-        ),
-        (
-            format!(in alloc; "{{\"{name}\":\"{text}\"}}")?.as_str(),
-            "k",
-            None,
-        ),
-        (
-            format!(in alloc; "{{\"{name}n\":\"\"}}")?.as_str(),
-            "k",
-            Some(OutOfRange(Member::Fields)),
-        ),
-        (
-            format!(in alloc; "{{\"a\":\"{text}t\"}}")?.as_str(),
-            "k",
-            Some(OutOfRange(Member::Fields)),
-        ),
-        (
-            format!(in alloc; "{{\"a\":\"{less}\",\"b\":\"{less}\"}}")?.as_str(),
-            "k",
-            None,
-        ),
-        (
-            format!(in alloc; "{{\"a\":\"{less}\",\"b\":\"{text}\"}}")?.as_str(),
-            "k",
-            Some(OutOfRange(Member::Fields)),
-        ),
-        (fields_of(alloc, 64, "x")?.as_str(), "k", None),
-        (
-            fields_of(alloc, 65, "x")?.as_str(),
-            "k",
-            Some(OutOfRange(Member::Fields)),
-        ),
-    ] {
-        let line = line_of(alloc, fields, key)?;
-        assert_eq!(rt; fault_of(alloc, line.as_str()), want, "at {line}");
-    }
-    Ok(())
-}
-
-#[test]
-fn lines_at_the_edge(rt: HostRuntime) -> Result<(), Fail> {
-    let alloc = rt.alloc();
-    let line = line_of(alloc, "{}", "k")?;
-    let spaces = repeated(alloc, " ", 65_536 - line.len().min(65_536))?;
-    let long = format!(in alloc; "{line}{spaces}")?;
-    assert_eq!(rt; long.len(), 65_536);
-    assert_eq!(rt; fault_of(alloc, long.as_str()), None);
-    assert_eq!(rt;
-        fault_of(alloc, format!(in alloc; "{long} ")?.as_str()),
-        Some(TooLong)
-    );
-    for (depth, want) in [(126, BadShape(Member::Deleted)), (127, NotJson)] {
-        let open = repeated(alloc, "[", depth)?;
-        let close = repeated(alloc, "]", depth)?;
-        let nested = format!(in alloc; "{{\"deleted\":{open}{close}}}")?;
-        assert_eq!(rt; fault_of(alloc, nested.as_str()), Some(want), "at {depth}");
-    }
+fn other_texts_are_not_json(rt: HostRuntime) {
     for text in [
         "",
         "{",
@@ -264,34 +169,12 @@ fn lines_at_the_edge(rt: HostRuntime) -> Result<(), Fail> {
         "{\"a\":01}",
         "\u{feff}{}",
     ] {
-        assert_eq!(rt; fault_of(alloc, text), Some(NotJson), "at {text}");
+        assert_eq!(rt; fault_of(rt.alloc(), text), Some(NotJson), "at {text}");
     }
-    assert_eq!(rt; read_image(alloc, &[b'"', 0xff, b'"']).err(), Some(NotJson));
-    Ok(())
-}
-
-#[test]
-fn values_are_read_and_written(rt: HostRuntime) -> Result<(), Fail> {
-    let alloc = rt.alloc();
-    let line = "{\"fields\":{\"v\":\"x\"},\"key\":\"k\",\"master\":\"w\",\"version\":[1,5]}";
-    let value = read_value(alloc, line.as_bytes())?;
-    let image = image_of(alloc, &value)?;
-    assert!(rt; image_value(alloc, &image)?.to_string(alloc)?.as_str() == line);
-    assert!(rt;
-        content_value(alloc, &image.content)?
-            .to_string(alloc)?
-            .as_str()
-            == "{\"fields\":{\"v\":\"x\"},\"master\":\"w\"}"
+    assert_eq!(rt;
+        read_image(rt.alloc(), &[b'"', 0xff, b'"']).err(),
+        Some(NotJson)
     );
-    let version = version_value(alloc, image.version)?;
-    assert!(rt; version.to_string(alloc)?.as_str() == "[1,5]");
-    assert_eq!(rt; version_of(&version)?, image.version);
-    assert_eq!(rt; numbers_of(&version), Some((1, 5)));
-    assert_eq!(rt; Version::new(1, 5), Some(image.version));
-    let shape = shape_of(&value).ok().expect(&rt, "the shape of an image");
-    assert_eq!(rt; shape.check_ranges(), Ok(()));
-    assert!(rt; write_image(alloc, &shape.image(alloc)?)?.as_str() == line);
-    Ok(())
 }
 
 #[test]
