@@ -11,7 +11,8 @@ use serde_json::{Map, Value};
 
 /// Nothing where each member has one of the names, or the fault.
 pub fn check_names<F: Drop>(members: &Map<String, Value>, names: &[&str], fault: F) -> Result<(), F>
-    ensures { result ≡ no_others (texts names.now) fault (members_view members.now.entries) }
+    ensures named { result ≡ no_others (texts names.now) fault (members_view members.now.entries) }
+    ensures ordered { IsOrdered string_cmp members.now }
 {
     if is_only_named(members, names) {
         Ok(())
