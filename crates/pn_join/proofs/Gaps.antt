@@ -4,7 +4,7 @@ use Rattle.std.specs.Cmp.{IsTotalOrder}
 use Rattle.std.specs.FinMap.{put}
 use Rattle.std.specs.FinMap.Entries.{by_order}
 use Rattle.pn_join.specs.Places.{later, place_of}
-use Rattle.pn_join.proofs.Later.{same_before, never_first}
+use Rattle.pn_join.proofs.LaterPlaces.{same_before, never_first}
 
 not_between : {P K : Type 0} {cmp : K → K → Ordering} → IsTotalOrder cmp → (k l : K) → cmp k l ≡ Less → (m : K) → cmp l m ≡ Less → cmp k m ≡ Greater → P
 not_between o k l less m p q = let r : Less ≡ Greater = sym (o.trans k l m less p) ∙ q in cc

@@ -5,7 +5,7 @@ use Rattle.std.specs.FinMap.Entries.{by_order}
 use Rattle.pn_join.specs.declared.table.changes.Placed.{Placed}
 use Rattle.pn_join.specs.Changes.{with_content, with_contents}
 use Rattle.pn_join.specs.Places.{later, place_of}
-use Rattle.pn_join.proofs.Later.{same_before, never_first}
+use Rattle.pn_join.proofs.LaterPlaces.{same_before, never_first}
 
 module _ {K X : Type 0} where
   pub set_content : (es : List (K × X)) (i : ℕ) (v : X) (x : K × X) → x ≡ get_or es i x → set es i (x.0, v) ≡ with_content i v es
