@@ -7,9 +7,9 @@ module _ {A : Type 0} (P : A → Type 0) where
   each_of h [] = tt
   each_of h (x ∷ xs) = (h x, each_of h xs)
 
-  pub each_front : (xs ys : List A) → AllByRecursion P (xs ++ ys) → AllByRecursion P xs
-  each_front [] ys h = tt
-  each_front (x ∷ xs) ys h = (h.0, each_front xs ys h.1)
+  pub each_prefix : (xs ys : List A) → AllByRecursion P (xs ++ ys) → AllByRecursion P xs
+  each_prefix [] ys h = tt
+  each_prefix (x ∷ xs) ys h = (h.0, each_prefix xs ys h.1)
 
   pub each_back : (xs ys : List A) → AllByRecursion P (xs ++ ys) → AllByRecursion P ys
   each_back [] ys h = h

@@ -4,14 +4,7 @@ use Rattle.std.specs.Cmp.{IsTotalOrder}
 use Rattle.std.specs.FinMap.{put}
 use Rattle.std.specs.FinMap.Entries.{by_order}
 use Rattle.pn_join.specs.Places.{later, place_of}
-
-later_is_err : (r : Result ℕ ℕ) (i : ℕ) → Err (suc i) ≡ later r → Err i ≡ r
-later_is_err (Ok j) i is = cc
-later_is_err (Err j) i is = cc
-
-later_not_zero : {P : Type 0} (r : Result ℕ ℕ) → Err 0 ≡ later r → P
-later_not_zero (Ok j) is = cc
-later_not_zero (Err j) is = cc
+use Rattle.pn_join.proofs.LaterPlaces.{same_before, never_first}
 
 not_between : {P K : Type 0} {cmp : K → K → Ordering} → IsTotalOrder cmp → (k l : K) → cmp k l ≡ Less → (m : K) → cmp l m ≡ Less → cmp k m ≡ Greater → P
 not_between o k l less m p q = let r : Less ≡ Greater = sym (o.trans k l m less p) ∙ q in cc
@@ -35,13 +28,13 @@ module _ {K X : Type 0} (cmp : K → K → Ordering) where
       elim (cmp k e.0) as (λ r. cmp k e.0 ≡ r → Err 0 ≡ by_order r (Err 0) (Ok 0) (later (place_of cmp k es)) → cmp k e.0 ≡ Less) [
         | Less ↦ λ p h. p
         | Equal ↦ λ p h. cc
-        | Greater ↦ λ p h. later_not_zero (place_of cmp k es) h
+        | Greater ↦ λ p h. never_first (place_of cmp k es) (Err 0) refl h
       ] refl is
   IsGap-from_place k (e ∷ es) (suc i) is =
       elim (cmp k e.0) as (λ r. cmp k e.0 ≡ r → Err (suc i) ≡ by_order r (Err 0) (Ok 0) (later (place_of cmp k es)) → (cmp k e.0 ≡ Greater) × IsGap k es i) [
         | Less ↦ λ p h. cc
         | Equal ↦ λ p h. cc
-        | Greater ↦ λ p h. (p, IsGap-from_place k es i (later_is_err (place_of cmp k es) i h))
+        | Greater ↦ λ p h. (p, IsGap-from_place k es i (same_before (place_of cmp k es) (Err i) h))
       ] refl is
 
   pub gap_within : (k : K) (es : List (K × X)) (i : ℕ) → IsGap k es i → i ≤ length es

@@ -3,6 +3,7 @@ pub mod ChangesSoFar
 pub mod Each
 pub mod Gaps
 pub mod JoinSteps
+pub mod LaterPlaces
 pub mod MarksFacts
 pub mod Merging
 pub mod NameText

@@ -7,7 +7,7 @@ use Rattle.std.specs.FinMap.{put}
 use Rattle.pn_join.specs.declared.table.changes.Placed.{Placed}
 use Rattle.pn_join.specs.Changes.{first_place, items_of, with_entries}
 use Rattle.pn_join.specs.Places.{place_of}
-use Rattle.pn_join.proofs.Each.{each_front, each_back, each_by_both}
+use Rattle.pn_join.proofs.Each.{each_prefix, each_back, each_by_both}
 use Rattle.pn_join.proofs.Gaps.{IsBelowFirst, IsGap, IsGap-from_place, gap_within, put_in_gap, IsGap-take, gap_before}
 use Rattle.pn_join.proofs.Rising.{Below, Rising, Rising-front}
 
@@ -21,32 +21,32 @@ module _ {K X : Type 0} (cmp : K → K → Ordering) where
   reverse_aside aside back a =
       reverse-append (aside ++ reverse back) (a ∷ []) ∙ ap (λ xs. a ∷ xs) (reverse-append aside (reverse back) ∙ ap (λ xs. xs ++ reverse aside) (reverse-reverse back))
 
-  pub whole_more : (front : List (Placed (K × X))) (a : Placed (K × X)) (es aside : List (K × X)) → IsGap cmp a.item.0 es a.place → IsBelowFirst cmp a.item.0 (reverse aside) → with_entries cmp (items_of front) (take a.place es ++ reverse ((aside ++ reverse (drop a.place es)) ++ a.item ∷ [])) ≡ with_entries cmp (items_of (front ++ a ∷ [])) (es ++ reverse aside)
-  whole_more front a es aside gap below =
-      ap (λ xs. with_entries cmp (items_of front) (take a.place es ++ xs)) (reverse_aside aside (drop a.place es) a.item)
-      ∙ ap (with_entries cmp (items_of front)) (sym (put_in_gap cmp a.item.0 a.item.1 es a.place (reverse aside) gap below))
-      ∙ sym (with_entries_push (items_of front) a.item (es ++ reverse aside))
-      ∙ ap (λ xs. with_entries cmp xs (es ++ reverse aside)) (sym (map_push (λ (b : Placed (K × X)). b.item) front a))
+  pub whole_more : (prefix : List (Placed (K × X))) (a : Placed (K × X)) (es aside : List (K × X)) → IsGap cmp a.item.0 es a.place → IsBelowFirst cmp a.item.0 (reverse aside) → with_entries cmp (items_of prefix) (take a.place es ++ reverse ((aside ++ reverse (drop a.place es)) ++ a.item ∷ [])) ≡ with_entries cmp (items_of (prefix ++ a ∷ [])) (es ++ reverse aside)
+  whole_more prefix a es aside gap below =
+      ap (λ xs. with_entries cmp (items_of prefix) (take a.place es ++ xs)) (reverse_aside aside (drop a.place es) a.item)
+      ∙ ap (with_entries cmp (items_of prefix)) (sym (put_in_gap cmp a.item.0 a.item.1 es a.place (reverse aside) gap below))
+      ∙ sym (with_entries_push (items_of prefix) a.item (es ++ reverse aside))
+      ∙ ap (λ xs. with_entries cmp xs (es ++ reverse aside)) (sym (map_push (λ (b : Placed (K × X)). b.item) prefix a))
 
-  less_than_last : (front : List (Placed (K × X))) (a : Placed (K × X)) → Rising cmp (items_of (front ++ a ∷ [])) → AllByRecursion (λ b. cmp b.item.0 a.item.0 ≡ Less) front
+  less_than_last : (prefix : List (Placed (K × X))) (a : Placed (K × X)) → Rising cmp (items_of (prefix ++ a ∷ [])) → AllByRecursion (λ b. cmp b.item.0 a.item.0 ≡ Less) prefix
   less_than_last [] a h = tt
-  less_than_last (b ∷ front) a h = (last_below b.item.0 front a h.0, less_than_last front a h.1) where
-    last_below : (k : K) (front : List (Placed (K × X))) (a : Placed (K × X)) → Below cmp k (items_of (front ++ a ∷ [])) → cmp k a.item.0 ≡ Less
+  less_than_last (b ∷ prefix) a h = (last_below b.item.0 prefix a h.0, less_than_last prefix a h.1) where
+    last_below : (k : K) (prefix : List (Placed (K × X))) (a : Placed (K × X)) → Below cmp k (items_of (prefix ++ a ∷ [])) → cmp k a.item.0 ≡ Less
     last_below k [] a h = h.0
-    last_below k (b ∷ front) a h = last_below k front a h.1
+    last_below k (b ∷ prefix) a h = last_below k prefix a h.1
 
-  pub rising_front : (front : List (Placed (K × X))) (a : Placed (K × X)) → Rising cmp (items_of (front ++ a ∷ [])) → Rising cmp (items_of front)
-  rising_front front a h = Rising-front cmp (items_of front) (a.item ∷ []) (rw map_push at h)
+  pub rising_prefix : (prefix : List (Placed (K × X))) (a : Placed (K × X)) → Rising cmp (items_of (prefix ++ a ∷ [])) → Rising cmp (items_of prefix)
+  rising_prefix prefix a h = Rising-front cmp (items_of prefix) (a.item ∷ []) (rw map_push at h)
 
-  pub gaps_front : IsTotalOrder cmp → (front : List (Placed (K × X))) (a : Placed (K × X)) (es : List (K × X)) → Rising cmp (items_of (front ++ a ∷ [])) → AllByRecursion (λ b. IsGap cmp b.item.0 es b.place) (front ++ a ∷ []) → AllByRecursion (λ b. IsGap cmp b.item.0 (take a.place es) b.place) front
-  gaps_front o front a es rising gaps =
+  pub gaps_prefix : IsTotalOrder cmp → (prefix : List (Placed (K × X))) (a : Placed (K × X)) (es : List (K × X)) → Rising cmp (items_of (prefix ++ a ∷ [])) → AllByRecursion (λ b. IsGap cmp b.item.0 es b.place) (prefix ++ a ∷ []) → AllByRecursion (λ b. IsGap cmp b.item.0 (take a.place es) b.place) prefix
+  gaps_prefix o prefix a es rising gaps =
       each_by_both (λ b. cmp b.item.0 a.item.0 ≡ Less) (λ b. IsGap cmp b.item.0 es b.place) (λ b. IsGap cmp b.item.0 (take a.place es) b.place)
-      (λ b less gap. IsGap-take cmp o b.item.0 a.item.0 less es b.place a.place gap (each_back (λ b. IsGap cmp b.item.0 es b.place) front (a ∷ []) gaps).0)
-      front (less_than_last front a rising) (each_front (λ b. IsGap cmp b.item.0 es b.place) front (a ∷ []) gaps)
+      (λ b less gap. IsGap-take cmp o b.item.0 a.item.0 less es b.place a.place gap (each_back (λ b. IsGap cmp b.item.0 es b.place) prefix (a ∷ []) gaps).0)
+      prefix (less_than_last prefix a rising) (each_prefix (λ b. IsGap cmp b.item.0 es b.place) prefix (a ∷ []) gaps)
 
-  pub below_front : (front : List (Placed (K × X))) (a : Placed (K × X)) (back aside : List (K × X)) → Rising cmp (items_of (front ++ a ∷ [])) → AllByRecursion (λ b. IsBelowFirst cmp b.item.0 (reverse ((aside ++ reverse back) ++ a.item ∷ []))) front
-  below_front front a back aside rising =
-      rw (reverse_aside aside back a.item) (less_than_last front a rising)
+  pub below_prefix : (prefix : List (Placed (K × X))) (a : Placed (K × X)) (back aside : List (K × X)) → Rising cmp (items_of (prefix ++ a ∷ [])) → AllByRecursion (λ b. IsBelowFirst cmp b.item.0 (reverse ((aside ++ reverse back) ++ a.item ∷ []))) prefix
+  below_prefix prefix a back aside rising =
+      rw (reverse_aside aside back a.item) (less_than_last prefix a rising)
 
   below_each : (k : K) (placed : List (Placed (K × X))) → Below cmp k (items_of placed) → AllByRecursion (λ b. cmp k b.item.0 ≡ Less) placed
   below_each k [] h = tt

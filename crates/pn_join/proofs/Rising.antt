@@ -61,9 +61,9 @@ module _ {K X : Type 0} (cmp : K → K → Ordering) where
   Below-append k [] ys h g = g
   Below-append k (x ∷ xs) ys h g = (h.0, Below-append k xs ys h.1 g)
 
-  pub Below-front : (k : K) (xs ys : List (K × X)) → Below k (xs ++ ys) → Below k xs
-  Below-front k [] ys h = tt
-  Below-front k (x ∷ xs) ys h = (h.0, Below-front k xs ys h.1)
+  pub Below-prefix : (k : K) (xs ys : List (K × X)) → Below k (xs ++ ys) → Below k xs
+  Below-prefix k [] ys h = tt
+  Below-prefix k (x ∷ xs) ys h = (h.0, Below-prefix k xs ys h.1)
 
   pub Below-back : (k : K) (xs ys : List (K × X)) → Below k (xs ++ ys) → Below k ys
   Below-back k [] ys h = h
@@ -71,7 +71,7 @@ module _ {K X : Type 0} (cmp : K → K → Ordering) where
 
   pub Rising-front : (xs ys : List (K × X)) → Rising (xs ++ ys) → Rising xs
   Rising-front [] ys h = tt
-  Rising-front (x ∷ xs) ys h = (Below-front x.0 xs ys h.0, Rising-front xs ys h.1)
+  Rising-front (x ∷ xs) ys h = (Below-prefix x.0 xs ys h.0, Rising-front xs ys h.1)
 
   pub Rising-back : (xs ys : List (K × X)) → Rising (xs ++ ys) → Rising ys
   Rising-back [] ys h = h
@@ -85,7 +85,7 @@ module _ {K X : Type 0} (cmp : K → K → Ordering) where
   pub Rising-without : (xs : List (K × X)) (e : K × X) (ys : List (K × X)) → Rising (xs ++ e ∷ ys) → Rising (xs ++ ys)
   Rising-without [] e ys h = h.1
   Rising-without (x ∷ xs) e ys h =
-      (Below-append x.0 xs ys (Below-front x.0 xs (e ∷ ys) h.0) (Below-back x.0 xs (e ∷ ys) h.0).1, Rising-without xs e ys h.1)
+      (Below-append x.0 xs ys (Below-prefix x.0 xs (e ∷ ys) h.0) (Below-back x.0 xs (e ∷ ys) h.0).1, Rising-without xs e ys h.1)
 
   module _ (o : IsTotalOrder cmp) where
     pub Below-trans : (x y : K) (es : List (K × X)) → cmp x y ≡ Less → Below y es → Below x es

@@ -5,14 +5,7 @@ use Rattle.std.specs.FinMap.Entries.{by_order}
 use Rattle.pn_join.specs.declared.table.changes.Placed.{Placed}
 use Rattle.pn_join.specs.Changes.{with_content, with_contents}
 use Rattle.pn_join.specs.Places.{later, place_of}
-
-later_is_ok : (r : Result ℕ ℕ) (i : ℕ) → Ok (suc i) ≡ later r → Ok i ≡ r
-later_is_ok (Ok j) i is = cc
-later_is_ok (Err j) i is = cc
-
-later_not_first : {P : Type 0} (r : Result ℕ ℕ) → Ok 0 ≡ later r → P
-later_not_first (Ok j) is = cc
-later_not_first (Err j) is = cc
+use Rattle.pn_join.proofs.LaterPlaces.{same_before, never_first}
 
 module _ {K X : Type 0} where
   pub set_content : (es : List (K × X)) (i : ℕ) (v : X) (x : K × X) → x ≡ get_or es i x → set es i (x.0, v) ≡ with_content i v es
@@ -50,11 +43,11 @@ module _ {K X : Type 0} where
         elim (cmp k e.0) as (λ r. Ok 0 ≡ by_order r (Err 0) (Ok 0) (later (place_of cmp k es)) → (e.0, v) ∷ es ≡ by_order r ((k, v) ∷ e ∷ es) ((e.0, v) ∷ es) (e ∷ put cmp k v es)) [
           | Less ↦ λ h. cc
           | Equal ↦ λ h. refl
-          | Greater ↦ λ h. later_not_first (place_of cmp k es) h
+          | Greater ↦ λ h. never_first (place_of cmp k es) (Ok 0) refl h
         ] is
     with_content-tie v (e ∷ es) (suc i) is =
         elim (cmp k e.0) as (λ r. Ok (suc i) ≡ by_order r (Err 0) (Ok 0) (later (place_of cmp k es)) → e ∷ with_content i v es ≡ by_order r ((k, v) ∷ e ∷ es) ((e.0, v) ∷ es) (e ∷ put cmp k v es)) [
           | Less ↦ λ h. cc
           | Equal ↦ λ h. cc
-          | Greater ↦ λ h. ap (λ xs. e ∷ xs) (with_content-tie v es i (later_is_ok (place_of cmp k es) i h))
+          | Greater ↦ λ h. ap (λ xs. e ∷ xs) (with_content-tie v es i (same_before (place_of cmp k es) (Ok i) h))
         ] is

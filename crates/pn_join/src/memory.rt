@@ -1,8 +1,8 @@
-//! Want of memory, as every layer names it.
+//! Out of memory, as every layer names it.
 
 use std::alloc::{AllocError, AllocFailed};
 
-/// A growth was refused for want of memory.
+/// There was no memory left for what was to be made or to grow.
 #[derive(Clone, Copy, Debug, PartialEq, Eq)]
 pub struct NoMemory;
 

@@ -4,11 +4,11 @@ use Rattle.std.proofs.lemmas.List.{take_min, take_all, take-take, length-take}
 use Rattle.pn_line.specs.Line.{LineSoFar, longer, so_far, kept, most_kept}
 use Rattle.pn_line.specs.declared.line_buffer.TheConstants.{LONGEST_LINE, MOST_KEPT}
 
--- two lines with the same front and as many bytes
+-- two lines that keep the same bytes and as many bytes
 same_line : (f g : List ℕ) (m n : ℕ) → f ≡ g → m ≡ n → (let r : LineSoFar = record { front = f; count = m } in r) ≡ record { front = g; count = n }
 same_line f g m n fronts counts = cc
 
--- a front that takes what it has room for
+-- a line that takes what it has room for
 pub longer-filled : (line : LineSoFar) (bs new : List ℕ) (m : ℕ) → m ≡ min (length bs) (most_kept - length line.front) → new ≡ line.front ++ take m bs
     → record { front = new; count = line.count + length bs } ≡ longer line bs
 longer-filled line bs new m least filled =

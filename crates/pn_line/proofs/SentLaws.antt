@@ -1,4 +1,4 @@
--- How sendings join: one write after another, a front and then the rest, and where a writer failed.
+-- How sendings join: one write after another, a prefix and then the rest, and where a writer failed.
 use Rattle.std.proofs.Common.{◌≡◌, ℕ, ◌-◌, Option, List, [], ◌++◌, length, take, drop, refl, sym, ap, ◌∙◌, append_assoc, append-nil, take-append-drop, subst}
 use Rattle.std.proofs.lemmas.List.{take_rest}
 use Rattle.std.specs.Io.KnownBytes.{Appends}
@@ -14,25 +14,25 @@ goes_on a b c all done rest n sent whole more = (
   append_assoc done (take n rest) (take (length rest - n) (drop n rest)) ∙ ap (λ l. done ++ (take n rest ++ l)) (take_rest rest n) ∙ ap (λ l. done ++ l) (take-append-drop n rest) ∙ whole,
 )
 
--- a front of some bytes is a front of those and more
+-- a prefix of some bytes is a prefix of those and more
 pub AppendsFront-more : {a b : Option (List ℕ)} {bs : List ℕ} (cs : List ℕ) → AppendsFront a b bs → AppendsFront a b (bs ++ cs)
-AppendsFront-more cs front = record {
-  sent = front.sent;
-  back = front.back ++ cs;
-  appends = front.appends;
-  whole = sym (append_assoc front.sent front.back cs) ∙ ap (λ l. l ++ cs) front.whole;
+AppendsFront-more cs prefix = record {
+  sent = prefix.sent;
+  back = prefix.back ++ cs;
+  appends = prefix.appends;
+  whole = sym (append_assoc prefix.sent prefix.back cs) ∙ ap (λ l. l ++ cs) prefix.whole;
 }
 
--- some bytes whole, and then a front of others
+-- some bytes whole, and then a prefix of others
 pub AppendsFront-after : (a b c : Option (List ℕ)) (bs : List ℕ) {cs : List ℕ} → Appends a b bs → AppendsFront b c cs → AppendsFront a c (bs ++ cs)
-AppendsFront-after a b c bs sent front = record {
-  sent = bs ++ front.sent;
-  back = front.back;
-  appends = Appends-trans a b c _ _ sent front.appends;
-  whole = append_assoc bs front.sent front.back ∙ ap (λ l. bs ++ l) front.whole;
+AppendsFront-after a b c bs sent prefix = record {
+  sent = bs ++ prefix.sent;
+  back = prefix.back;
+  appends = Appends-trans a b c _ _ sent prefix.appends;
+  whole = append_assoc bs prefix.sent prefix.back ∙ ap (λ l. bs ++ l) prefix.whole;
 }
 
--- bytes that went out whole are a front of themselves
+-- bytes that went out whole are a prefix of themselves
 pub AppendsFront-whole : (a b : Option (List ℕ)) (bs : List ℕ) → Appends a b bs → AppendsFront a b bs
 AppendsFront-whole a b bs sent = record { sent = bs; back = []; appends = sent; whole = append-nil bs }
 
@@ -68,22 +68,22 @@ pub Sends-flushed : {a b : Option (List ℕ)} (c : Option (List ℕ)) {waited be
 Sends-flushed {a = a} {b = b} c first sent =
     let P : List ℕ → Type 0 = Appends a c in subst P first.whole (Appends-trans a b c _ _ first.appends sent)
 
--- where the writer fails after some pushes, a front of all the bytes went out
+-- where the writer fails after some pushes, a prefix of all the bytes went out
 pub Sends-cut : {a b c : Option (List ℕ)} {waited between bs : List ℕ} (cs : List ℕ) → Sends a b waited between bs → AppendsFront b c (between ++ cs)
     → AppendsFront a c (waited ++ (bs ++ cs))
-Sends-cut {waited = waited} {between = between} {bs = bs} cs first front = record {
-  sent = first.sent ++ front.sent;
-  back = front.back;
-  appends = Appends-trans _ _ _ _ _ first.appends front.appends;
-  whole = append_assoc first.sent front.sent front.back ∙ ap (λ l. first.sent ++ l) front.whole ∙ sym (append_assoc first.sent between cs)
+Sends-cut {waited = waited} {between = between} {bs = bs} cs first prefix = record {
+  sent = first.sent ++ prefix.sent;
+  back = prefix.back;
+  appends = Appends-trans _ _ _ _ _ first.appends prefix.appends;
+  whole = append_assoc first.sent prefix.sent prefix.back ∙ ap (λ l. first.sent ++ l) prefix.whole ∙ sym (append_assoc first.sent between cs)
       ∙ ap (λ l. l ++ cs) first.whole ∙ append_assoc waited bs cs;
 }
 
 -- the same where the writer fails at a flush
 pub Sends-cut_flush : {a b c : Option (List ℕ)} {waited between bs : List ℕ} → Sends a b waited between bs → AppendsFront b c between → AppendsFront a c (waited ++ bs)
-Sends-cut_flush {waited = waited} {bs = bs} first front = record {
-  sent = first.sent ++ front.sent;
-  back = front.back;
-  appends = Appends-trans _ _ _ _ _ first.appends front.appends;
-  whole = append_assoc first.sent front.sent front.back ∙ ap (λ l. first.sent ++ l) front.whole ∙ first.whole;
+Sends-cut_flush {waited = waited} {bs = bs} first prefix = record {
+  sent = first.sent ++ prefix.sent;
+  back = prefix.back;
+  appends = Appends-trans _ _ _ _ _ first.appends prefix.appends;
+  whole = append_assoc first.sent prefix.sent prefix.back ∙ ap (λ l. first.sent ++ l) prefix.whole ∙ first.whole;
 }

@@ -1,4 +1,4 @@
--- What reading a line says of told bytes: the line, the text behind it, and the lines of it all.
+-- What reading a line says of known bytes: the line, the text behind it, and the lines of it all.
 use Rattle.std.proofs.Common.{◌≡◌, ◌≢◌, ℕ, Option, None, Some, List, [], ◌∷◌, ◌++◌, refl, ap, ◌∙◌, append_assoc, append-nil, sym}
 use Rattle.std.proofs.lemmas.List.Elements.{All-append}
 use Rattle.std.specs.Io.KnownBytes.{Consumes, IsAtEnd}
@@ -17,15 +17,15 @@ pub record ReadsPart (part text : List ℕ) (new : LineSoFar) (leaves : Option (
   pub text_is : text ≡ taken ++ (behind ++ rest)
   pub leaves_is : leaves ≡ Some rest
 
--- told bytes that some bytes were taken of stay told
-told : (xs bs : List ℕ) (leaves : Option (List ℕ)) → Consumes (Some xs) leaves bs → (ys : List ℕ) × (leaves ≡ Some ys) × (xs ≡ bs ++ ys)
-told xs bs None consumed = absurd consumed
-told xs bs (Some ys) consumed = (ys, refl, consumed)
+-- known bytes that some bytes were taken of stay known
+still_known : (xs bs : List ℕ) (leaves : Option (List ℕ)) → Consumes (Some xs) leaves bs → (ys : List ℕ) × (leaves ≡ Some ys) × (xs ≡ bs ++ ys)
+still_known xs bs None consumed = absurd consumed
+still_known xs bs (Some ys) consumed = (ys, refl, consumed)
 
 pub ReadsPart-from_takes : (part text : List ℕ) {new : LineSoFar} {leaves : Option (List ℕ)} {behind : List ℕ} → IsUnbroken part
     → Takes (so_far part) new (Some text) leaves behind → ReadsPart part text new leaves behind
 ReadsPart-from_takes part text {behind = behind} unbroken takes =
-    let (rest, leaves_is, text_is) = told text _ _ takes.source in
+    let (rest, leaves_is, text_is) = still_known text _ _ takes.source in
     record {
       taken = takes.taken;
       rest = rest;

@@ -2,14 +2,14 @@
 use Rattle.std.specs.Prelude.{◌≡◌, ℕ, List, ◌++◌, Option}
 use Rattle.std.specs.Io.KnownBytes.{Appends}
 
--- a front of these bytes went out, and the writer took no other byte
+-- a prefix of these bytes went out, and the writer took no other byte
 pub record AppendsFront (old new : Option (List ℕ)) (bs : List ℕ) : Type 0 where
   pub sent : List ℕ
   pub back : List ℕ
   pub appends : Appends old new sent
   pub whole : sent ++ back ≡ bs
 
--- of the bytes that waited and then these bytes a front went out, and the rest waits now
+-- of the bytes that waited and then these bytes a prefix went out, and the rest waits now
 pub record Sends (old new : Option (List ℕ)) (waited waits bs : List ℕ) : Type 0 where
   pub sent : List ℕ
   pub appends : Appends old new sent

@@ -21,7 +21,7 @@ struct Countdown {
 }
 
 impl Countdown {
-    // One call. It fails where it is the first of those that are left up to `fails_at`.
+    // Counts one call, which fails where the count stands at 1.
     fn call(&mut self) -> io::Result<()>
         ensures fails { IsErr result ↔ (self.old.fails_at ≡ 1) }
         ensures counted { self.new.fails_at ≡ self.old.fails_at - 1 }

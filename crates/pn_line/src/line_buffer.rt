@@ -18,7 +18,7 @@ pub const ENDLESS: usize = 1_000_000_000;
 /// when it is made, and no memory after that.
 #[derive(Debug, Drop)]
 pub struct LineBuffer {
-    front: Vec<u8>,
+    kept: Vec<u8>,
     count: usize,
 }
 
@@ -29,10 +29,10 @@ impl Model for LineBuffer {
 
     ghost Value = { LineSoFar };
 
-    ghost view = { λ line. record { front = line.front.items; count = line.count } };
+    ghost view = { λ line. record { front = line.kept.items; count = line.count } };
 
-    ghost invariant = { λ line. (vec_len line.front ≡ min line.count MOST_KEPT)
-        × (MOST_KEPT ≤ vec_capacity line.front) × (line.count ≤ ENDLESS) };
+    ghost invariant = { λ line. (vec_len line.kept ≡ min line.count MOST_KEPT)
+        × (MOST_KEPT ≤ vec_capacity line.kept) × (line.count ≤ ENDLESS) };
 }
 
 impl LineBuffer {
@@ -41,7 +41,7 @@ impl LineBuffer {
         ensures { IfOk result (λ line. line ≡ so_far []) }
     {
         Ok(LineBuffer {
-            front: Vec::with_capacity(alloc, MOST_KEPT)?,
+            kept: Vec::with_capacity(alloc, MOST_KEPT)?,
             count: 0,
         })
     }
@@ -50,7 +50,7 @@ impl LineBuffer {
     pub fn start(&mut self)
         ensures { self.new ≡ so_far [] }
     {
-        self.front.clear();
+        self.kept.clear();
         self.count = 0;
     }
 
@@ -58,7 +58,7 @@ impl LineBuffer {
     pub fn bytes(&self) -> &[u8]
         ensures { result.now ≡ self.now.front }
     {
-        &self.front
+        &self.kept
     }
 
     /// How many bytes the line has, those that are not kept too.
@@ -88,9 +88,9 @@ impl LineBuffer {
         requires { self.old.count + length bytes.now ≤ ENDLESS }
         ensures { self.new ≡ longer self.old bytes.now }
     {
-        let room = MOST_KEPT - self.front.len();
-        let kept = &bytes[..bytes.len().min(room)];
-        self.front.extend_from_slice(kept).unwrap();
+        let room = MOST_KEPT - self.kept.len();
+        let more = &bytes[..bytes.len().min(room)];
+        self.kept.extend_from_slice(more).unwrap();
         self.count += bytes.len();
     }
 }

@@ -13,7 +13,7 @@ pub trait Sink {
     // What holds where a write can fail at all.
     ghost may_fail: { Type 0 };
 
-    /// Writes a front of the bytes, at least one where there is one, and answers how many it wrote.
+    /// Writes a prefix of the bytes, at least one where there is one, and answers how many it wrote.
     ///
     /// A fault is an error of the writer, `Interrupted` too, or that it takes no byte. It writes nothing.
     fn write_some(&mut self, bytes: &[u8]) -> Result<usize, WriteFault>

@@ -97,7 +97,7 @@ fn put_entries<K: Ord + Drop, C: Drop>(
 fn move_from<T>(items: &mut Vec<T>, place: usize, others: &mut Vec<T>)
     requires within { place ≤ vec_len items.old }
     requires room { vec_len others.old + (vec_len items.old - place) ≤ vec_capacity others.old }
-    ensures front { items.new.items ≡ take place items.old.items }
+    ensures prefix { items.new.items ≡ take place items.old.items }
     ensures back { others.new.items ≡ others.old.items ++ reverse (drop place items.old.items) }
     ensures len { vec_len items.new ≡ place }
     ensures others_len { vec_len others.new ≡ vec_len others.old + (vec_len items.old - place) }

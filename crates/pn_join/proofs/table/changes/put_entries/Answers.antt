@@ -1,8 +1,8 @@
 use Rattle.std.proofs.Common.{◌≡◌, ◌≤◌, [], ◌∷◌, ◌++◌, reverse, drop, length, ap, sym, ◌∙◌, arith, append-nil}
 use Rattle.pn_join.specs.Changes.{items_of, with_entries}
-use Rattle.pn_join.proofs.Each.{each_of, each_front, each_last, each_weaker}
+use Rattle.pn_join.proofs.Each.{each_of, each_prefix, each_last, each_weaker}
 use Rattle.pn_join.proofs.Gaps.{IsGap, IsBelowFirst, IsGap-from_place, gap_within}
-use Rattle.pn_join.proofs.Merging.{whole_more, rising_front, gaps_front, below_front}
+use Rattle.pn_join.proofs.Merging.{whole_more, rising_prefix, gaps_prefix, below_prefix}
 use Rattle.pn_join.proofs.Rising.{Rising-from_sorted}
 use Rattle.pn_join.proofs.table.changes.put_entries.Goals as goal
 
@@ -37,7 +37,7 @@ push_reserved-requires g c =
 pub loop-place-preserved : goal.loop-place-preserved
 loop-place-preserved g c =
     let cmp = g.K.Ord.cmp in
-    let front = c.pop.new.self.items in
+    let prefix = c.pop.new.self.items in
     let a = c.in-Some.field-0 in
     let es = c.loop-place.entries.items in
     let aside = c.loop-place.aside.items in
@@ -47,18 +47,18 @@ loop-place-preserved g c =
     let stay = rw items at c.loop-place.invariant.stay in
     let below = rw items at c.loop-place.invariant.below in
     let put_aside = c.push_reserved.ensures.items ∙ ap (λ xs. xs ++ a.item ∷ []) c.move_from.ensures.back in
-    let gap = each_last (λ b. IsGap cmp b.item.0 es b.place) front a gaps in
-    let stays = each_last (λ b. c.args.untouched ≤ b.place) front a stay in
+    let gap = each_last (λ b. IsGap cmp b.item.0 es b.place) prefix a gaps in
+    let stays = each_last (λ b. c.args.untouched ≤ b.place) prefix a stay in
     let within = gap_within cmp a.item.0 es a.place gap in
     record {
-      whole = rw (c.move_from.ensures.front, put_aside)
-          (whole_more cmp front a es aside gap (each_last (λ b. IsBelowFirst cmp b.item.0 (reverse aside)) front a below)
+      whole = rw (c.move_from.ensures.prefix, put_aside)
+          (whole_more cmp prefix a es aside gap (each_last (λ b. IsBelowFirst cmp b.item.0 (reverse aside)) prefix a below)
           ∙ ap (λ ps. with_entries cmp (items_of ps) (es ++ reverse aside)) (sym items)
           ∙ c.loop-place.invariant.whole);
-      gaps = rw c.move_from.ensures.front (gaps_front cmp g.met.K.Ord.total front a es rising gaps);
-      rising = rising_front cmp front a rising;
-      below = rw put_aside (below_front cmp front a (drop a.place es) aside rising);
-      stay = each_front _ front (a ∷ []) stay;
+      gaps = rw c.move_from.ensures.prefix (gaps_prefix cmp g.met.K.Ord.total prefix a es rising gaps);
+      rising = rising_prefix cmp prefix a rising;
+      below = rw put_aside (below_prefix cmp prefix a (drop a.place es) aside rising);
+      stay = each_prefix _ prefix (a ∷ []) stay;
       room = omega (arith, within, c.loop-place.entries.ok.0, c.loop-place.invariant.room, c.move_from.ensures.len, c.move_from.ensures.others_len, c.move_from.ensures.capacity, c.push_reserved.ensures.len, c.in-Some.ensures.len);
       room_aside = omega (arith, stays, within, c.loop-place.entries.ok.0, c.loop-place.invariant.room_aside, c.move_from.ensures.len, c.move_from.ensures.others_len, c.move_from.ensures.others_capacity, c.push_reserved.ensures.len, c.push_reserved.ensures.capacity, c.in-Some.ensures.len);
     }
