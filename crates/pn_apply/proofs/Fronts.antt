@@ -8,7 +8,8 @@ use Rattle.pn_tablet.specs.Steps.{stepped}
 use Rattle.pn_tablet.specs.Changes.{answer}
 use Rattle.pn_tablet.specs.declared.change.Change.{Change}
 use Rattle.pn_tablet.specs.declared.op.TabletOp.{TabletOp}
-use Rattle.pn_apply.specs.Applying.{IsJoinIn, AreJoinsIn, all_stepped, all_changes, AreOldOrStepped}
+use Rattle.pn_tablet.specs.Operations.{HasPositions}
+use Rattle.pn_apply.specs.Applying.{IsJoinIn, AreJoinsIn, HavePositions, all_stepped, all_changes, AreOldOrStepped, IsSomeOld}
 
 abbrev pub front_stepped : ℕ → List TabletStateValue → List TabletOp → List TabletStateValue
 front_stepped zero ts ops = ts
@@ -35,6 +36,28 @@ join_at [] (o ∷ ops) n t op fit within = absurd fit
 join_at (u ∷ ts) [] n t op fit within = absurd fit
 join_at (u ∷ ts) (o ∷ ops) zero t op fit within = fit.0
 join_at (u ∷ ts) (o ∷ ops) (suc n) t op fit within = join_at ts ops n t op fit.1 (omega arith)
+
+-- the positions that it brings are those of messages
+pub positions_at : (ops : List TabletOp) (n : ℕ) (op : TabletOp) → HavePositions ops → n < length ops → HasPositions (get_or ops n op)
+positions_at [] n op have within = absurd (omega arith)
+positions_at (o ∷ ops) zero op have within = have.0
+positions_at (o ∷ ops) (suc n) op have within = positions_at ops n op have.1 (omega arith)
+
+-- lists of which one place is the same
+pub one_old : (ts nows : List TabletStateValue) (n : ℕ) (t : TabletStateValue) → n < length ts → n < length nows → get_or nows n t ≡ get_or ts n t → IsSomeOld ts nows
+one_old [] nows n t within within_too same = absurd (omega arith)
+one_old (u ∷ ts) [] n t within within_too same = absurd (omega arith)
+one_old (u ∷ ts) (now ∷ nows) zero t within within_too same = inl same
+one_old (u ∷ ts) (now ∷ nows) (suc n) t within within_too same = inr (one_old ts nows n t (omega arith) (omega arith) same)
+
+pub not_none : (n : ℕ) → (n ≡ 0 → ⊥) → 0 < n
+not_none zero never = absurd (never refl)
+not_none (suc n) never = omega arith
+
+-- where there is a tablet and none has changed, one is as it was
+pub all_old : (ts : List TabletStateValue) → 0 < length ts → IsSomeOld ts ts
+all_old [] some = absurd (omega arith)
+all_old (t ∷ ts) some = inl refl
 
 -- the next tablet is as it was
 pub untouched : (ts : List TabletStateValue) (ops : List TabletOp) (n : ℕ) (t : TabletStateValue) → get_or (front_stepped n ts ops) n t ≡ get_or ts n t
@@ -154,3 +177,9 @@ module _ {S : Type 0} (tablet : S → TabletStateValue) (ts : List TabletStateVa
   pub slot_failed : (old new : S) → old ≡ get_or slots n old → tablet new ≡ tablet old → AreOldOrStepped ts ops (map tablet (set slots n new))
   slot_failed old new read same =
       subst (AreOldOrStepped ts ops) (sym (map-set_same tablet slots n new old (same ∙ ap tablet read) ∙ so_far)) (old_or_stepped ts ops n fit)
+
+  -- and this one is as it was
+  pub slot_old : (old new : S) → n < length ops → old ≡ get_or slots n old → tablet new ≡ tablet old → IsSomeOld ts (map tablet (set slots n new))
+  slot_old old new within read same =
+      subst (IsSomeOld ts) (sym (map-set_same tablet slots n new old (same ∙ ap tablet read) ∙ so_far))
+      (one_old ts (front_stepped n ts ops) n (tablet old) (omega (arith, within, same_length ts ops fit)) (omega (arith, within, same_length ts ops fit, length-front ts ops n)) (untouched ts ops n (tablet old)))

@@ -3,7 +3,7 @@ use Rattle.std.proofs.Common.{◌≡◌, true, List, [], ◌∷◌, ◌++◌, ma
 use Rattle.std.specs.List.{flat_map}
 use Rattle.std.proofs.lemmas.List.Elements.{filter-append}
 use Rattle.std.proofs.lemmas.List.Folds.{flat_map-map}
-use Rattle.pn_join.specs.Marks.{Positions}
+use Rattle.pn_join.specs.Marks.{Positions, are_positions}
 use Rattle.pn_record.specs.declared.image.Image.{Image}
 use Rattle.pn_record.specs.Sets.{CellValue}
 use Rattle.pn_record.specs.Cells.{SameImages, cells, spell}
@@ -15,7 +15,7 @@ use Rattle.pn_tablet.specs.Layouts.{Bounds, IsLayout}
 use Rattle.pn_tablet.specs.Tablets.{TabletStateValue, lie_in}
 use Rattle.pn_tablet.specs.declared.op.TabletOp.{TabletOp}
 use Rattle.pn_tablet.specs.declared.op.TabletOp.TheVariants.{Join}
-use Rattle.pn_apply.specs.Applying.{AreJoinsIn}
+use Rattle.pn_apply.specs.Applying.{AreJoinsIn, HavePositions}
 use Rattle.pn_apply.specs.Reducing.{images_in, ranges, join_in, joins_of, joined_cells}
 use Rattle.pn_apply.proofs.Tables.{entries_that, table_that, all_that}
 use Rattle.pn_apply.proofs.Cuts.{all_pieces}
@@ -56,3 +56,10 @@ fit_own marks images (t ∷ tablets) = (inside t.range images, fit_own marks ima
 
 pub joins_fit : (bounds : Bounds) (marks : Positions) (images : List Image) (tablets : List TabletStateValue) → map (λ (t : TabletStateValue). t.range) tablets ≡ ranges bounds → AreJoinsIn tablets (joins_of bounds marks images)
 joins_fit bounds marks images tablets is = subst (λ (rs : List Ends). AreJoinsIn tablets (map (join_in marks images) rs)) is (fit_own marks images tablets)
+
+with_positions : (marks : Positions) (images : List Image) (rs : List Ends) → are_positions marks ≡ true → HavePositions (map (join_in marks images) rs)
+with_positions marks images [] lawful = tt
+with_positions marks images (r ∷ rs) lawful = (lawful, with_positions marks images rs lawful)
+
+pub joins_have_positions : (bounds : Bounds) (marks : Positions) (images : List Image) → are_positions marks ≡ true → HavePositions (joins_of bounds marks images)
+joins_have_positions bounds marks images lawful = with_positions marks images (ranges bounds) lawful

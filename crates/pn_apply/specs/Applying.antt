@@ -1,25 +1,28 @@
 -- Operations on several tablets, each on its own.
 use Rattle.std.specs.Prelude.{◌≡◌, List, [], ◌∷◌, map, IsTrue, ◌⊎◌}
-use Rattle.std.specs.List.{zip}
+use Rattle.std.specs.List.{AllByRecursion, zip}
+use Rattle.pn_tablet.specs.Operations.{HasPositions}
 use Rattle.pn_tablet.specs.Tablets.{TabletStateValue, lie_in}
 use Rattle.pn_tablet.specs.Steps.{stepped}
 use Rattle.pn_tablet.specs.Changes.{answer}
 use Rattle.pn_tablet.specs.declared.change.Change.{Change}
 use Rattle.pn_tablet.specs.declared.op.TabletOp.{TabletOp}
-use Rattle.pn_tablet.specs.declared.op.TabletOp.TheVariants.{Join, Lose, Adopt}
+use Rattle.pn_tablet.specs.declared.op.TabletOp.TheVariants.{Join}
 
 -- the operation is a join of keys that lie in the tablet's range
 abbrev pub IsJoinIn : TabletStateValue → TabletOp → Type 0
 IsJoinIn tablet (Join cells marks) = IsTrue (lie_in tablet.range cells)
-IsJoinIn tablet Lose = ⊥
-IsJoinIn tablet (Adopt copy) = ⊥
+IsJoinIn tablet _ = ⊥
 
 -- there are as many operations as tablets, each a join in the range of its own tablet
 abbrev pub AreJoinsIn : List TabletStateValue → List TabletOp → Type 0
 AreJoinsIn [] [] = Unit {0}
-AreJoinsIn [] (operation ∷ operations) = ⊥
-AreJoinsIn (tablet ∷ tablets) [] = ⊥
 AreJoinsIn (tablet ∷ tablets) (operation ∷ operations) = IsJoinIn tablet operation × AreJoinsIn tablets operations
+AreJoinsIn _ _ = ⊥
+
+-- the positions that each operation brings are those of messages
+abbrev pub HavePositions : List TabletOp → Type 0
+HavePositions operations = AllByRecursion HasPositions operations
 
 -- each tablet after its own operation
 abbrev pub all_stepped : List TabletStateValue → List TabletOp → List TabletStateValue
@@ -35,3 +38,8 @@ AreOldOrStepped [] [] [] = Unit {0}
 AreOldOrStepped (tablet ∷ tablets) (operation ∷ operations) (now ∷ nows) =
     ((now ≡ tablet) ⊎ (now ≡ stepped tablet operation)) × AreOldOrStepped tablets operations nows
 AreOldOrStepped _ _ _ = ⊥
+
+-- one of the tablets is as it was
+abbrev pub IsSomeOld : List TabletStateValue → List TabletStateValue → Type 0
+IsSomeOld (tablet ∷ tablets) (now ∷ nows) = (now ≡ tablet) ⊎ IsSomeOld tablets nows
+IsSomeOld _ _ = ⊥

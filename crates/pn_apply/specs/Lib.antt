@@ -1,3 +1,4 @@
 pub mod Applying
+pub mod Limits
 pub mod Reducing
 pub mod Shares

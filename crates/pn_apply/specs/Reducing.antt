@@ -8,7 +8,7 @@ use Rattle.pn_stream.specs.Positions.{DeliveryValue}
 use Rattle.pn_tablet.specs.Ranges.{Ends, in_range}
 use Rattle.pn_tablet.specs.Layouts.{Bounds, tablet_ends}
 use Rattle.pn_tablet.specs.declared.op.TabletOp.{TabletOp}
-use Rattle.pn_tablet.specs.declared.op.TabletOp.TheVariants.{Join, Lose, Adopt}
+use Rattle.pn_tablet.specs.declared.op.TabletOp.TheVariants.{Join}
 
 -- the images of all deliveries, one delivery after another
 abbrev pub all_images : List DeliveryValue → List Image
@@ -30,8 +30,7 @@ join_in marks images range = Join (table_of (images_in range images)) marks
 abbrev pub joins_of : Bounds → Positions → List Image → List TabletOp
 joins_of bounds marks images = map (join_in marks images) (ranges bounds)
 
--- the cells that a join joins
+-- the cells that a join brings
 abbrev pub joined_cells : TabletOp → Entries
 joined_cells (Join cells marks) = cells
-joined_cells Lose = []
-joined_cells (Adopt copy) = []
+joined_cells _ = []

@@ -1,8 +1,8 @@
 //! The laws of what deliveries bring to tablets, as contracts. A call does nothing.
 
-ghost use Rattle.std.specs.Prelude.{◌≡◌, List, ◌++◌, map};
+ghost use Rattle.std.specs.Prelude.{◌≡◌, List, ◌++◌, map, IsTrue};
 ghost use Rattle.std.specs.List.{flat_map};
-ghost use Rattle.pn_join.specs.Marks.{Positions};
+ghost use Rattle.pn_join.specs.Marks.{Positions, are_positions};
 ghost use Rattle.pn_record.specs.declared.image.Image.{Image};
 ghost use Rattle.pn_record.specs.Cells.{SameImages, spell};
 ghost use Rattle.pn_record.specs.CellMap.{table_of, adds};
@@ -10,7 +10,7 @@ ghost use Rattle.pn_stream.specs.Positions.{DeliveryValue};
 ghost use Rattle.pn_tablet.specs.Layouts.{Bounds, IsLayout};
 ghost use Rattle.pn_tablet.specs.Ranges.{Ends};
 ghost use Rattle.pn_tablet.specs.Tablets.{TabletStateValue};
-ghost use Rattle.pn_apply.specs.Applying.{AreJoinsIn};
+ghost use Rattle.pn_apply.specs.Applying.{AreJoinsIn, HavePositions};
 ghost use Rattle.pn_apply.specs.Reducing.{all_images, images_in, ranges, joins_of, joined_cells};
 
 /// Cut into the ranges of any layout, the cells of all tablets one after another are those of all images.
@@ -35,8 +35,10 @@ pub fn the_same_images_bring_the_same()
         → joins_of bounds marks (all_images deliveries) ≡ joins_of bounds marks (all_images others) }
 {}
 
-/// What images bring to the tablets of a layout can be applied to them.
+/// What images bring to the tablets of a layout, with marks of lawful positions, can be applied to them.
 pub fn joins_lie_in_their_ranges()
-    ensures { (bounds : Bounds) (marks : Positions) (images : List Image) (tablets : List TabletStateValue)
+    ensures joins { (bounds : Bounds) (marks : Positions) (images : List Image) (tablets : List TabletStateValue)
         → map (λ tablet. tablet.range) tablets ≡ ranges bounds → AreJoinsIn tablets (joins_of bounds marks images) }
+    ensures positions { (bounds : Bounds) (marks : Positions) (images : List Image)
+        → IsTrue (are_positions marks) → HavePositions (joins_of bounds marks images) }
 {}

@@ -1,8 +1,10 @@
 //! What deliveries bring to each tablet.
 
-ghost use Rattle.std.specs.Prelude.{◌≡◌, ◌+◌, ◌≤◌, ◌<◌, ◌^◌, length, map, IfOk};
+ghost use Rattle.std.specs.Prelude.{◌≡◌, ◌+◌, ◌≤◌, ◌<◌, ◌^◌, length, map, IsTrue, IfOk};
+ghost use Rattle.pn_join.specs.Marks.{are_positions};
 ghost use Rattle.pn_record.specs.CellMap.{table_of};
 ghost use Rattle.pn_tablet.specs.declared.op.TabletOp.TheVariants.{Join};
+ghost use Rattle.pn_apply.specs.Limits.{most_workers};
 ghost use Rattle.pn_apply.specs.Reducing.{all_images, joins_of};
 
 use crate::Gate;
@@ -15,9 +17,9 @@ use std::alloc::Global;
 use std::mem;
 
 /// What the deliveries bring to each tablet of the layout, in the order of the tablets: the join of the
-/// cells of all images whose keys lie in the tablet's range, with the marks. Each image is copied. Between
-/// 1 and 16 workers are asked for; their number makes no difference to the answer. The gate is entered
-/// with a tablet's number before that tablet is worked.
+/// cells of all images whose keys lie in the tablet's range, with the marks, whose positions are 1 to 10^15.
+/// Each image is copied. Between 1 and 16 workers are asked for; their number makes no difference to the
+/// answer. The gate is entered with a tablet's number before that tablet is worked.
 pub fn reduce<G: Gate>(
     alloc: Global,
     deliveries: &[Delivery],
@@ -26,10 +28,10 @@ pub fn reduce<G: Gate>(
     workers: usize,
     gate: &G,
 ) -> Result<Vec<TabletOp>, NoMemory>
-    requires workers { (1 ≤ workers) × (workers ≤ 16) }
+    requires positions { IsTrue (are_positions marks.now) }
+    requires workers { (1 ≤ workers) × (workers ≤ most_workers) }
     ensures { IfOk result (λ operations. operations.items ≡ joins_of layout.now marks.now (all_images deliveries.now)) }
 {
-    let _ = workers;
     let mut shares = copies_by_tablet(alloc, deliveries, layout)?;
     reduce_share(alloc, 0, shares.as_mut_slice(), marks, gate)
 }
@@ -43,10 +45,10 @@ pub fn reduce_owned<G: Gate>(
     workers: usize,
     gate: &G,
 ) -> Result<Vec<TabletOp>, NoMemory>
-    requires workers { (1 ≤ workers) × (workers ≤ 16) }
+    requires positions { IsTrue (are_positions marks.now) }
+    requires workers { (1 ≤ workers) × (workers ≤ most_workers) }
     ensures { IfOk result (λ operations. operations.items ≡ joins_of layout.now marks.now (all_images deliveries.items)) }
 {
-    let _ = workers;
     let mut shares = images_by_tablet(alloc, deliveries, layout)?;
     reduce_share(alloc, 0, shares.as_mut_slice(), marks, gate)
 }

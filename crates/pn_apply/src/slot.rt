@@ -1,10 +1,11 @@
 //! Slots, which take the operations of one tablet.
 
-ghost use Rattle.std.specs.Prelude.{◌≡◌, Ok, IsOk, IfOk, IfErr, OnOk, OnErr};
+ghost use Rattle.std.specs.Prelude.{◌≡◌, Ok, IfOk, IfErr, OnOk, OnErr};
 ghost use Rattle.pn_tablet.specs.Tablets.{TabletStateValue};
-ghost use Rattle.pn_tablet.specs.Steps.{step, Refuses};
+ghost use Rattle.pn_tablet.specs.Operations.{HasPositions};
+ghost use Rattle.pn_tablet.specs.Refusals.{Refuses};
+ghost use Rattle.pn_tablet.specs.Steps.{step, is_memory};
 ghost use Rattle.pn_tablet.specs.Changes.{answer};
-ghost use Rattle.pn_tablet.specs.declared.op.TabletOp.TheVariants.{Lose};
 
 use pn_tablet::{Change, OpFault, TabletOp, TabletState};
 
@@ -13,14 +14,15 @@ pub trait Slot {
     /// The tablet that the slot is.
     ghost tablet: { Self → TabletStateValue };
 
-    /// Takes one operation. The answers and refusals are those of [`TabletState::apply`], and an error
-    /// leaves the slot's tablet as it was.
+    /// Takes one operation, whose positions are 1 to 10^15. The answers and refusals are those of
+    /// [`TabletState::apply`], but that memory may run out in a loss too. An error leaves the slot's tablet
+    /// as it was.
     fn apply(&mut self, op: &TabletOp) -> Result<Vec<Change>, OpFault>
+        requires positions { HasPositions op.now }
         ensures ok { OnOk result (step (tablet self.old) op.now ≡ Ok (tablet self.new)) }
         ensures changes { IfOk result (λ list. list.items ≡ answer op.now (tablet self.old) (tablet self.new)) }
-        ensures refused { IfErr result (λ fault. Refuses fault (step (tablet self.old) op.now)) }
-        ensures err { OnErr result (tablet self.new ≡ tablet self.old) }
-        ensures lose { op.now ≡ Lose → IsOk result };
+        ensures refused { IfErr result (λ fault. Refuses is_memory fault (step (tablet self.old) op.now)) }
+        ensures err { OnErr result (tablet self.new ≡ tablet self.old) };
 }
 
 impl Slot for TabletState {

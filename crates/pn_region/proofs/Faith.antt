@@ -19,7 +19,8 @@ use Rattle.pn_tablet.specs.Tablets.{TabletStateValue, empty_tablet}
 use Rattle.pn_apply.specs.Applying.{all_stepped, AreOldOrStepped}
 use Rattle.pn_apply.specs.Reducing.{all_images, images_in, join_in, ranges}
 use Rattle.pn_apply.proofs.ReduceLaws.{range_joins, same_in}
-use Rattle.pn_region.specs.Faith.{missing, IsFaithful, AreFaithful}
+use Rattle.pn_tablet.specs.Needs.{needed}
+use Rattle.pn_region.specs.Faith.{IsFaithful, AreFaithful}
 use Rattle.pn_region.specs.Laws.{HasImages}
 use Rattle.pn_region.specs.Marking.{new_marks, last_position}
 use Rattle.pn_region.specs.Regions.{RegionValue, IsTabletOf, AreTabletsOf, IsRegion, new_region}
@@ -99,9 +100,9 @@ module _ (broker : BrokerRecord) (marks next : Positions) (deliveries : List Del
   module _ (r : Ends) (t : TabletStateValue) (of : IsTabletOf marks r t) (faithful : IsFaithful broker t) where
     -- the images up to the raised cover: those up to the old one, and those that were brought
     up_to_raised : (image : Image) (stream : List ℕ) → Stands (broker stream) (position_of (raised t.cover next) stream) image
-        → Contains (faithful.images ++ images) image ⊎ Contains (up_to broker (missing t.status)) image
+        → Contains (faithful.images ++ images) image ⊎ Contains (up_to broker (needed t.status)) image
     up_to_raised image stream stands =
-        elim (nat_lt stands.at (position_of t.cover stream)) as (λ b. nat_lt stands.at (position_of t.cover stream) ≡ b → Contains (faithful.images ++ images) image ⊎ Contains (up_to broker (missing t.status)) image) [
+        elim (nat_lt stands.at (position_of t.cover stream)) as (λ b. nat_lt stands.at (position_of t.cover stream) ≡ b → Contains (faithful.images ++ images) image ⊎ Contains (up_to broker (needed t.status)) image) [
           | true ↦ λ before.
               left_so (Contains-append_left faithful.images images image)
               (faithful.all image (is_up_to broker t.cover stream image (record { at = stands.at; below = grind (arith, nat_tests); within = stands.within; is = stands.is })))

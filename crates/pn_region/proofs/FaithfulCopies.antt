@@ -13,7 +13,7 @@ use Rattle.pn_stream.specs.Brokers.{BrokerRecord, up_to}
 use Rattle.pn_stream.proofs.Published.{Stands, wider, is_up_to, published}
 use Rattle.pn_tablet.specs.Copies.{TabletCopyValue}
 use Rattle.pn_tablet.specs.Copying.{unless_behind, copy_from, copy_of}
-use Rattle.pn_tablet.specs.Needs.{lacking, first_short}
+use Rattle.pn_tablet.specs.Needs.{needed, lacking, first_short}
 use Rattle.pn_tablet.specs.Ranges.{Ends}
 use Rattle.pn_tablet.specs.Steps.{taking, lost, adopting, step}
 use Rattle.pn_tablet.specs.Tablets.{TabletStateValue, same_range}
@@ -28,7 +28,7 @@ use Rattle.pn_tablet.proofs.Stepping.{one_range}
 use Rattle.pn_tablet.proofs.TabletLaws.{adopted}
 use Rattle.pn_apply.specs.Reducing.{images_in}
 use Rattle.pn_apply.proofs.ReduceLaws.{range_joins, same_in}
-use Rattle.pn_region.specs.Faith.{missing, IsFaithful}
+use Rattle.pn_region.specs.Faith.{IsFaithful}
 use Rattle.pn_region.specs.Honest.{IsHonestCopy}
 use Rattle.pn_region.proofs.TakenImages.{by_part}
 
@@ -46,11 +46,11 @@ was_so true right after is = refl
 was_so false right after is = cc
 
 -- marks that lack nothing of what a tablet needs reach it
-need_reached : (status : Status) (marks : Positions) → lacking status marks ≡ None → Reaches marks (missing status)
+need_reached : (status : Status) (marks : Positions) → lacking status marks ≡ None → Reaches marks (needed status)
 need_reached Serving marks none name = omega arith
 need_reached (Recovering need) marks none name = nothing_short marks need none name
 
-module _ (broker : BrokerRecord) (t : TabletStateValue) (copy : TabletCopyValue) (faithful : IsFaithful broker t) (honest : IsHonestCopy broker copy) (ranged : t.range ≡ copy.range) (reaches : Reaches copy.marks (missing t.status)) where
+module _ (broker : BrokerRecord) (t : TabletStateValue) (copy : TabletCopyValue) (faithful : IsFaithful broker t) (honest : IsHonestCopy broker copy) (ranged : t.range ≡ copy.range) (reaches : Reaches copy.marks (needed t.status)) where
   abbrev copied : List Image
   copied = up_to broker copy.marks
 
@@ -58,18 +58,18 @@ module _ (broker : BrokerRecord) (t : TabletStateValue) (copy : TabletCopyValue)
   cover = raised t.cover copy.marks
 
   -- what the tablet lacked the copy has
-  not_missing : (image : Image) → Contains faithful.images image ⊎ Contains (up_to broker (missing t.status)) image → Contains (faithful.images ++ copied) image
-  not_missing image (inl there) = Contains-append_left faithful.images copied image there
-  not_missing image (inr lacked) =
-      let old = published broker (missing t.status) image lacked in
+  not_lacking : (image : Image) → Contains faithful.images image ⊎ Contains (up_to broker (needed t.status)) image → Contains (faithful.images ++ copied) image
+  not_lacking image (inl there) = Contains-append_left faithful.images copied image there
+  not_lacking image (inr lacked) =
+      let old = published broker (needed t.status) image lacked in
       Contains-append_right faithful.images copied image
-      (is_up_to broker copy.marks old.stream image (wider (position_of (missing t.status) old.stream) (position_of copy.marks old.stream) (broker old.stream) image (reaches old.stream) old.stands))
+      (is_up_to broker copy.marks old.stream image (wider (position_of (needed t.status) old.stream) (position_of copy.marks old.stream) (broker old.stream) image (reaches old.stream) old.stands))
 
   up_to_cover : (image : Image) (stream : List ℕ) → Stands (broker stream) (position_of cover stream) image → Contains (faithful.images ++ copied) image
   up_to_cover image stream stands =
       elim (nat_lt stands.at (position_of t.cover stream)) as (λ b. nat_lt stands.at (position_of t.cover stream) ≡ b → Contains (faithful.images ++ copied) image) [
         | true ↦ λ before.
-            not_missing image
+            not_lacking image
             (faithful.all image (is_up_to broker t.cover stream image (record { at = stands.at; below = grind (arith, nat_tests); within = stands.within; is = stands.is })))
         | false ↦ λ past.
             let beyond : position_of t.cover stream ≤ stands.at = grind (arith, nat_tests) in
@@ -111,7 +111,7 @@ none_lacked broker image (inr lacked) = absurd (omega (arith, lacked.1))
 -- a faithful tablet that serves has the cells of all images up to its cover
 pub serving_has_all : (broker : BrokerRecord) (t : TabletStateValue) → IsFaithful broker t → t.status ≡ Serving → t.cells ≡ table_of (images_in t.range (up_to broker t.cover))
 serving_has_all broker t faithful serves =
-    let all = subst (λ (status : Status). (image : Image) → Contains (up_to broker t.cover) image → Contains faithful.images image ⊎ Contains (up_to broker (missing status)) image) serves faithful.all in
+    let all = subst (λ (status : Status). (image : Image) → Contains (up_to broker t.cover) image → Contains faithful.images image ⊎ Contains (up_to broker (needed status)) image) serves faithful.all in
     faithful.cells
     ∙ same_in t.range faithful.images (up_to broker t.cover) (λ image. (faithful.published image, λ there. none_lacked broker image (all image there)))
 

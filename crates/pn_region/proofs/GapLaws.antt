@@ -5,9 +5,9 @@ use Rattle.std.proofs.lemmas.Bool.Decides.{nat_tests}
 use Rattle.std.proofs.lemmas.List.Elements.{filter-append}
 use Rattle.pn_join.specs.Marks.{Positions, position_of}
 use Rattle.pn_stream.specs.Positions.{DeliveryValue}
-use Rattle.pn_region.proofs.MarkLaws.{brings, gap_of, accepted, few, none_skipped, never_fall, some_brings, last_taken}
+use Rattle.pn_region.proofs.MarkLaws.{gap_of, accepted, few, none_skipped, never_fall, some_brings, last_taken}
 use Rattle.pn_region.specs.Laws.{WasTaken, HasNoGap, IsGap}
-use Rattle.pn_region.specs.Marking.{bringing, last_position, marked, leaves_gap, marks_after, of_few_streams, new_marks}
+use Rattle.pn_region.specs.Marking.{brings, bringing, last_position, marked, leaves_gap, marks_after, of_few_streams, new_marks}
 use Rattle.pn_region.specs.declared.fault.RoundFault.{RoundFault}
 use Rattle.pn_region.specs.declared.fault.RoundFault.TheVariants.{Gap, TooManyStreams}
 

@@ -1,6 +1,8 @@
 pub mod Apart
+pub mod Counting
 pub mod Faith
 pub mod FaithfulCopies
+pub mod Following
 pub mod GapLaws
 pub mod HalfRounds
 pub mod KeyTablets
@@ -8,6 +10,7 @@ pub mod MarkLaws
 pub mod MarkSteps
 pub mod NeverBack
 pub mod NewRegion
+pub mod Ordered
 pub mod Pieces
 pub mod RoundEnds
 pub mod RoundSteps

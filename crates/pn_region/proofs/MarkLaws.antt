@@ -9,13 +9,9 @@ use Rattle.pn_join.proofs.MarksFacts.{position_of-raised}
 use Rattle.pn_record.proofs.HeldRecords.{tied_keys}
 use Rattle.pn_stream.specs.Positions.{DeliveryValue}
 use Rattle.pn_region.specs.Laws.{HasPosition}
-use Rattle.pn_region.specs.Marking.{bringing, last_position, marked, leaves_gap, marks_after, of_few_streams, new_marks}
+use Rattle.pn_region.specs.Marking.{brings, bringing, last_position, marked, leaves_gap, marks_after, of_few_streams, new_marks}
 use Rattle.pn_region.specs.declared.fault.RoundFault.{RoundFault}
 use Rattle.pn_region.specs.declared.fault.RoundFault.TheVariants.{Gap, TooManyStreams}
-
--- the delivery brings images
-abbrev pub brings : DeliveryValue → Bool
-brings d = not (eqb (length d.images) 0)
 
 -- the gap that it leaves
 abbrev pub gap_of : Positions → DeliveryValue → RoundFault

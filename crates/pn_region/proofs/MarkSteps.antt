@@ -5,9 +5,9 @@ use Rattle.std.proofs.lemmas.List.Elements.{filter-append}
 use Rattle.std.proofs.lemmas.List.{take_more}
 use Rattle.pn_join.specs.Marks.{Positions, position_of}
 use Rattle.pn_stream.specs.Positions.{DeliveryValue}
-use Rattle.pn_region.specs.Marking.{bringing, marked, leaves_gap, marks_after, of_few_streams, new_marks, Refuses}
+use Rattle.pn_region.specs.Marking.{brings, bringing, marked, leaves_gap, marks_after, of_few_streams, new_marks}
 use Rattle.pn_region.specs.declared.fault.RoundFault.{RoundFault}
-use Rattle.pn_region.specs.declared.fault.RoundFault.TheVariants.{Gap, TooManyStreams, Memory}
+use Rattle.pn_region.specs.declared.fault.RoundFault.TheVariants.{Gap}
 
 step_on : (b : Bool) (fault : RoundFault) (rest more after : Result Positions RoundFault) (n : Positions) → (rest ≡ Ok n → more ≡ after) → cond b (Err fault) rest ≡ Ok n → cond b (Err fault) more ≡ after
 step_on true fault rest more after n next is = cc
@@ -30,9 +30,6 @@ gap_stays m [] more fault is = cc
 gap_stays m (d ∷ ds) more fault is =
     gap_on (leaves_gap m d) (Gap d.stream (position_of m d.stream + 1) d.first) fault (marks_after (marked m d) ds) (marks_after (marked m d) (ds ++ more))
     (gap_stays (marked m d) ds more fault) is
-
-abbrev brings : DeliveryValue → Bool
-brings d = not (eqb (length d.images) 0)
 
 -- the marks after one more delivery
 pub marks_more : (m n after : Positions) (ds : List DeliveryValue) (i : ℕ) (d : DeliveryValue) → i < length ds → marks_after m (bringing (take i ds)) ≡ Ok n → marks_after n (bringing (get_or ds i d ∷ [])) ≡ Ok after
@@ -60,10 +57,3 @@ gap_met m n ds i d fault within so_far next =
     ∙ ap (marks_after m) (filter-append brings (take i ds) (get_or ds i d ∷ []))
     ∙ marks_on m n (bringing (take i ds)) (bringing (get_or ds i d ∷ [])) so_far
     ∙ next))
-
--- so is the fault that is answered then
-pub refusal_met : (m n : Positions) (ds : List DeliveryValue) (i : ℕ) (d : DeliveryValue) (fault : RoundFault) → i < length ds → marks_after m (bringing (take i ds)) ≡ Ok n
-    → Refuses fault (marks_after n (bringing (get_or ds i d ∷ []))) → Refuses fault (new_marks m ds)
-refusal_met m n ds i d (Gap stream wanted got) within so_far is = gap_met m n ds i d (Gap stream wanted got) within so_far is
-refusal_met m n ds i d TooManyStreams within so_far is = gap_met m n ds i d TooManyStreams within so_far is
-refusal_met m n ds i d Memory within so_far is = tt

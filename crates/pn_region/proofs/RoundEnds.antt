@@ -1,5 +1,5 @@
 -- What a round leaves, by how it ended.
-use Rattle.std.proofs.Common.{◌≡◌, List, [], ◌∷◌, length, map, refl, sym, ap, ◌∙◌, subst, arith}
+use Rattle.std.proofs.Common.{◌≡◌, ◌≤◌, List, [], ◌∷◌, length, map, refl, sym, ap, ◌∙◌, subst, arith}
 use Rattle.std.specs.Prelude.{Result, Ok, Err, MatchResult, IfErr, IsErrAnd}
 use Rattle.pn_join.specs.Marks.{Positions}
 use Rattle.pn_stream.specs.Positions.{DeliveryValue}
@@ -9,9 +9,9 @@ use Rattle.pn_tablet.specs.declared.change.Change.{Change}
 use Rattle.pn_tablet.specs.declared.op.TabletOp.{TabletOp}
 use Rattle.std.specs.List.{flat_map}
 use Rattle.std.specs.Result.{result_map_both}
-use Rattle.pn_apply.specs.Applying.{AreJoinsIn, all_stepped, all_changes, AreOldOrStepped}
-use Rattle.pn_apply.specs.Reducing.{all_images, ranges}
-use Rattle.pn_apply.proofs.Fronts.{old_or_stepped, stepped_whole}
+use Rattle.pn_apply.specs.Applying.{AreJoinsIn, all_stepped, all_changes, AreOldOrStepped, IsSomeOld}
+use Rattle.pn_apply.specs.Reducing.{all_images, joined_cells, ranges}
+use Rattle.pn_apply.proofs.Fronts.{all_old, old_or_stepped, stepped_whole}
 use Rattle.pn_apply.proofs.ReduceLaws.{joins_fit}
 use Rattle.pn_region.specs.Marking.{new_marks}
 use Rattle.pn_region.specs.Regions.{RegionValue, AreTabletsOf, IsRegion, all_cells}
@@ -19,11 +19,9 @@ use Rattle.pn_region.specs.Rounds.{joins, taking, round, changed, Leaves}
 use Rattle.pn_region.specs.declared.fault.RoundFault.{RoundFault}
 use Rattle.pn_region.specs.declared.fault.RoundFault.TheVariants.{Gap, TooManyStreams, Memory}
 use Rattle.pn_region.proofs.Apart.{ranges_apart}
+use Rattle.pn_region.proofs.Counting.{few_together}
+use Rattle.pn_region.proofs.NewRegion.{tablet_count}
 use Rattle.pn_region.proofs.RoundSteps.{own_ranges, all_taken, half_taken, changes_together}
-
-pub same_list : {A : Type 0} (xs : List A) → map (λ x. x) xs ≡ xs
-same_list [] = refl
-same_list (x ∷ xs) = ap (λ rest. x ∷ rest) (same_list xs)
 
 -- what holds of every fault holds of the one that is answered
 pub whatever : {T E : Type 0} (answer : Result T E) (P : E → Type 0) → ((fault : E) → P fault) → IfErr answer P
@@ -98,8 +96,19 @@ module _ (old : RegionValue) (deliveries : List DeliveryValue) (is : IsRegion ol
     pub all_found : us ≡ all_stepped ts ops → us ≡ all_stepped old.tablets (joins old deliveries marks)
     all_found taken = taken ∙ (λ i. all_stepped (are i) (found i))
 
+    -- no more records change than are joined
+    pub few_found : length (flat_map (λ (list : List Change). list) (all_changes ts ops)) ≤ length (flat_map joined_cells ops)
+    few_found =
+        subst (λ (o : List TabletOp). length (flat_map (λ (list : List Change). list) (all_changes ts o)) ≤ length (flat_map joined_cells o)) (sym found)
+        (subst (λ (t : List TabletStateValue). length (flat_map (λ (list : List Change). list) (all_changes t (joins old deliveries marks))) ≤ length (flat_map joined_cells (joins old deliveries marks))) (sym are)
+        (few_together marks (all_images deliveries) old.marks (ranges old.layout) old.tablets is.tablets))
+
     pub told_found : (all : List Change) → all ≡ flat_map (λ (list : List Change). list) (all_changes ts ops) → all ≡ flat_map (λ (list : List Change). list) (all_changes old.tablets (joins old deliveries marks))
     told_found all told = told ∙ (λ i. flat_map (λ (list : List Change). list) (all_changes (are i) (found i)))
+
+-- a region has a tablet, which is as it was where none changed
+pub one_left : (old : RegionValue) → IsRegion old → IsSomeOld old.tablets old.tablets
+one_left old is = all_old old.tablets (omega (arith, tablet_count old.marks old.layout old.tablets is.tablets))
 
 -- a region by another name
 pub err_as : {T : Type 0} (old now : RegionValue) (deliveries : List DeliveryValue) (answer : Result T RoundFault) (new : RegionValue) → old ≡ now

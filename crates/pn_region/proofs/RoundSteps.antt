@@ -23,6 +23,10 @@ use Rattle.pn_region.proofs.Apart.{Apart}
 use Rattle.pn_region.proofs.Pieces.{cells_of, changes_by_tablet}
 use Rattle.pn_region.proofs.Spelled.{taken_inside}
 
+pub same_list : {A : Type 0} (xs : List A) → map (λ x. x) xs ≡ xs
+same_list [] = refl
+same_list (x ∷ xs) = ap (λ rest. x ∷ rest) (same_list xs)
+
 pub own_ranges : (marks : Positions) (rs : List Ends) (ts : List TabletStateValue) → AreTabletsOf marks rs ts → map (λ (t : TabletStateValue). t.range) ts ≡ rs
 own_ranges marks [] [] are = refl
 own_ranges marks [] (t ∷ ts) are = absurd are

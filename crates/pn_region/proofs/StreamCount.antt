@@ -16,10 +16,12 @@ use Rattle.pn_join.specs.Tables.{optional_joined}
 use Rattle.pn_join.proofs.MarksFacts.{find-raised, is_sorted-raised}
 use Rattle.pn_join.proofs.Rising.{Below, Rising, Rising-from_sorted}
 use Rattle.pn_stream.specs.Positions.{DeliveryValue}
+use Rattle.pn_tablet.specs.Refusals.{Refuses}
 use Rattle.pn_region.proofs.MarkLaws.{gap_of, accepted}
 use Rattle.pn_region.specs.Laws.{named, stream_count}
-use Rattle.pn_region.specs.Marking.{bringing, last_position, marked, leaves_gap, marks_after, of_few_streams, new_marks}
-use Rattle.pn_region.specs.declared.fault.RoundFault.TheVariants.{TooManyStreams, Memory}
+use Rattle.pn_region.specs.Marking.{bringing, last_position, marked, leaves_gap, marks_after, of_few_streams, new_marks, is_memory}
+use Rattle.pn_region.specs.declared.fault.RoundFault.{RoundFault}
+use Rattle.pn_region.specs.declared.fault.RoundFault.TheVariants.{Gap, TooManyStreams, Memory}
 
 abbrev names_of : Positions → List (List ℕ)
 names_of marks = map (λ mark. mark.0) marks
@@ -145,3 +147,9 @@ never_memory marks deliveries is =
           elim (nat_lt 16 (length all)) as (λ b. cond b (Err TooManyStreams) (Ok all) ≡ Err Memory → ⊥) [ true ↦ λ no. cc | false ↦ λ no. cc ] wants
       | Err fault ↦ λ after wants. not_memory (bringing deliveries) marks (after ∙ wants)
     ] refl is
+
+-- a fault that is the right one is no lack of memory
+pub refused_right : (marks : Positions) (deliveries : List DeliveryValue) (fault : RoundFault) → new_marks marks deliveries ≡ Err fault → Refuses is_memory fault (new_marks marks deliveries)
+refused_right marks deliveries (Gap stream wanted got) is = is
+refused_right marks deliveries TooManyStreams is = is
+refused_right marks deliveries Memory is = absurd (never_memory marks deliveries is)

@@ -21,14 +21,14 @@ use Rattle.pn_region.proofs.HalfRounds.{half_so, left_as}
 use Rattle.pn_region.proofs.RoundSteps.{is_taken}
 
 -- the cells of each tablet
-abbrev pub maps_of : List TabletStateValue → List Entries
-maps_of tablets = map (λ tablet. tablet.cells) tablets
+abbrev pub cells_each : List TabletStateValue → List Entries
+cells_each tablets = map (λ tablet. tablet.cells) tablets
 
 -- the cells of images in each range
 abbrev pub pieces_of : List Image → List Ends → List Entries
 pieces_of images ranges = map (λ range. table_of (images_in range images)) ranges
 
-none_at_first : (rs : List Ends) → maps_of (map empty_tablet rs) ≡ pieces_of [] rs
+none_at_first : (rs : List Ends) → cells_each (map empty_tablet rs) ≡ pieces_of [] rs
 none_at_first [] = refl
 none_at_first (r ∷ rs) = λ i. sym table_of-nil i ∷ none_at_first rs i
 
@@ -92,13 +92,13 @@ module _ (marks old : Positions) (images : List Image) where
       ap (λ (after : TabletStateValue). after.cells) (is_taken marks images old r t is)
       ∙ ap (λ (cells : Entries). adds cells (spell (table_of (images_in r images)))) has ∙ range_joins r taken images
 
-  all_take : (taken : List Image) (rs : List Ends) (ts : List TabletStateValue) → AreTabletsOf old rs ts → maps_of ts ≡ pieces_of taken rs → maps_of (all_stepped ts (map (join_in marks images) rs)) ≡ pieces_of (taken ++ images) rs
+  all_take : (taken : List Image) (rs : List Ends) (ts : List TabletStateValue) → AreTabletsOf old rs ts → cells_each ts ≡ pieces_of taken rs → cells_each (all_stepped ts (map (join_in marks images) rs)) ≡ pieces_of (taken ++ images) rs
   all_take taken [] [] are has = refl
   all_take taken [] (t ∷ ts) are has = absurd are
   all_take taken (r ∷ rs) [] are has = absurd are
   all_take taken (r ∷ rs) (t ∷ ts) are has =
-      let here = heads t.cells (table_of (images_in r taken)) (maps_of ts) (pieces_of taken rs) has in
-      let later = tails t.cells (table_of (images_in r taken)) (maps_of ts) (pieces_of taken rs) has in
+      let here = heads t.cells (table_of (images_in r taken)) (cells_each ts) (pieces_of taken rs) has in
+      let later = tails t.cells (table_of (images_in r taken)) (cells_each ts) (pieces_of taken rs) has in
       λ i. one_takes taken r t are.0 here i ∷ all_take taken rs ts are.1 later i
 
   all_surely : (sure maybe : List Image) (rs : List Ends) (ts : List TabletStateValue) → AreTabletsOf old rs ts → AllHoldBetween sure maybe rs ts → AllHoldBetween (sure ++ images) maybe rs (all_stepped ts (map (join_in marks images) rs))

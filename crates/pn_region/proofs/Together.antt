@@ -13,7 +13,7 @@ use Rattle.pn_apply.specs.Reducing.{images_in, ranges}
 use Rattle.pn_apply.proofs.ReduceLaws.{cells_cut, same_in}
 use Rattle.pn_region.specs.Laws.{HasImages, AreIn, IsBetween, AllHoldBetween, HasBetween}
 use Rattle.pn_region.specs.Regions.{RegionValue, all_cells}
-use Rattle.pn_region.proofs.TakenImages.{maps_of, pieces_of}
+use Rattle.pn_region.proofs.TakenImages.{cells_each, pieces_of}
 
 pub together : (region : RegionValue) (images : List Image) → IsLayout region.layout → HasImages region images → all_cells region ≡ table_of images
 together region images lawful has =
@@ -31,7 +31,7 @@ same_sure : (sure maybe images : List Image) → AreIn maybe sure → IsBetween 
 same_sure sure maybe images are between image =
     ((λ there. sure_or sure maybe image are (Contains-append_cases sure maybe image (between.no_others image there))), between.all image)
 
-all_sure : (sure maybe : List Image) (rs : List Ends) (ts : List TabletStateValue) → AreIn maybe sure → AllHoldBetween sure maybe rs ts → maps_of ts ≡ pieces_of sure rs
+all_sure : (sure maybe : List Image) (rs : List Ends) (ts : List TabletStateValue) → AreIn maybe sure → AllHoldBetween sure maybe rs ts → cells_each ts ≡ pieces_of sure rs
 all_sure sure maybe [] [] are has = refl
 all_sure sure maybe [] (t ∷ ts) are has = absurd has
 all_sure sure maybe (r ∷ rs) [] are has = absurd has

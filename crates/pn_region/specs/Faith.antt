@@ -1,27 +1,20 @@
 -- Tablets that are faithful to what brokers published.
-use Rattle.std.specs.Prelude.{◌≡◌, ◌⊎◌, List, [], Contains}
+use Rattle.std.specs.Prelude.{◌≡◌, ◌⊎◌, List, Contains}
 use Rattle.std.specs.List.{AllByRecursion}
-use Rattle.pn_join.specs.Marks.{Positions}
 use Rattle.pn_record.specs.declared.image.Image.{Image}
 use Rattle.pn_record.specs.CellMap.{table_of}
 use Rattle.pn_stream.specs.Brokers.{BrokerRecord, up_to}
+use Rattle.pn_tablet.specs.Needs.{needed}
 use Rattle.pn_tablet.specs.Tablets.{TabletStateValue}
-use Rattle.pn_tablet.specs.declared.state.Status.{Status}
-use Rattle.pn_tablet.specs.declared.state.Status.TheVariants.{Serving, Recovering}
 use Rattle.pn_apply.specs.Reducing.{images_in}
 use Rattle.pn_region.specs.Laws.{AreIn}
 
--- how far a tablet may lack what was published: up to its need where it recovers, and nothing where it serves
-abbrev pub missing : Status → Positions
-missing Serving = []
-missing (Recovering need) = need
-
--- a faithful tablet: its map is that, in its range, of images that stand up to its cover, and it lacks none of these but such as may be missing
+-- a faithful tablet: its cells are those, in its range, of images that stand up to its cover, and it lacks none of these but such as it needs
 pub record IsFaithful (broker : BrokerRecord) (tablet : TabletStateValue) : Type 0 where
   pub images : List Image
   pub cells : tablet.cells ≡ table_of (images_in tablet.range images)
   pub published : AreIn images (up_to broker tablet.cover)
-  pub all : (image : Image) → Contains (up_to broker tablet.cover) image → Contains images image ⊎ Contains (up_to broker (missing tablet.status)) image
+  pub all : (image : Image) → Contains (up_to broker tablet.cover) image → Contains images image ⊎ Contains (up_to broker (needed tablet.status)) image
 
 -- each tablet is faithful
 abbrev pub AreFaithful : BrokerRecord → List TabletStateValue → Type 0

@@ -32,9 +32,8 @@ HoldsBetween sure maybe range cells = (images : List Image) × IsBetween sure ma
 -- each range has its own tablet, in their order, whose cells are those of such a list
 abbrev pub AllHoldBetween : List Image → List Image → List Ends → List TabletStateValue → Type 0
 AllHoldBetween sure maybe [] [] = Unit {0}
-AllHoldBetween sure maybe [] (tablet ∷ tablets) = ⊥
-AllHoldBetween sure maybe (range ∷ others) [] = ⊥
 AllHoldBetween sure maybe (range ∷ others) (tablet ∷ tablets) = HoldsBetween sure maybe range tablet.cells × AllHoldBetween sure maybe others tablets
+AllHoldBetween sure maybe _ _ = ⊥
 
 -- each tablet has the cells, in its range, of a list of images that has all of the sure ones and none but those of both
 abbrev pub HasBetween : List Image → List Image → RegionValue → Type 0

@@ -1,21 +1,39 @@
 -- The marks of streams after deliveries.
-use Rattle.std.specs.Prelude.{◌≡◌, ℕ, ◌+◌, pred, Bool, not, nat_eq, nat_lt, if◌then◌else◌, List, [], ◌∷◌, length, filter, Result, Ok, Err, ⊤}
-use Rattle.pn_join.specs.Marks.{Positions, position_of, raised}
+use Rattle.std.specs.Prelude.{ℕ, ◌+◌, pred, Bool, true, false, not, nat_eq, nat_lt, if◌then◌else◌, List, [], ◌∷◌, length, filter, fold, Option, Some, None, Result, Ok, Err}
+use Rattle.std.specs.Ordering.{eq_by_cmp}
+use Rattle.pn_join.specs.Marks.{Positions, name_cmp, position_of, raised}
 use Rattle.pn_stream.specs.Positions.{DeliveryValue}
+use Rattle.pn_region.specs.Limits.{most_streams}
 use Rattle.pn_region.specs.declared.fault.RoundFault.{RoundFault}
 use Rattle.pn_region.specs.declared.fault.RoundFault.TheVariants.{Gap, TooManyStreams, Memory}
 
+-- the delivery brings images
+abbrev pub brings : DeliveryValue → Bool
+brings delivery = not (nat_eq (length delivery.images) 0)
+
 -- the deliveries that bring images
 abbrev pub bringing : List DeliveryValue → List DeliveryValue
-bringing deliveries = filter (λ delivery. not (nat_eq (length delivery.images) 0)) deliveries
+bringing deliveries = filter brings deliveries
 
 -- the position of a delivery's last image
 abbrev pub last_position : DeliveryValue → ℕ
 last_position delivery = pred (delivery.first + length delivery.images)
 
+-- the same, where there are images
+abbrev pub last_of : DeliveryValue → Option ℕ
+last_of delivery = if brings delivery then Some (last_position delivery) else None
+
+-- the same, where they are of the stream
+abbrev pub last_of_stream : List ℕ → DeliveryValue → Option ℕ
+last_of_stream stream delivery = if eq_by_cmp name_cmp stream delivery.stream then last_of delivery else None
+
 -- the marks after a delivery: its stream is taken up to the greater of its mark and the last position
 abbrev pub marked : Positions → DeliveryValue → Positions
 marked marks delivery = raised marks ((delivery.stream, last_position delivery) ∷ [])
+
+-- the marks after deliveries, whether or not there is a gap between them
+abbrev pub all_marked : Positions → List DeliveryValue → Positions
+all_marked marks deliveries = fold marked marks (bringing deliveries)
 
 -- the delivery begins past the position after its stream's mark
 abbrev pub leaves_gap : Positions → DeliveryValue → Bool
@@ -29,17 +47,16 @@ marks_after marks (delivery ∷ deliveries) =
     then Err (Gap delivery.stream (position_of marks delivery.stream + 1) delivery.first)
     else marks_after (marked marks delivery) deliveries
 
--- marks of at most sixteen streams
+-- marks of no more streams than a region takes
 abbrev pub of_few_streams : Result Positions RoundFault → Result Positions RoundFault
-of_few_streams (Ok marks) = if nat_lt 16 (length marks) then Err TooManyStreams else Ok marks
+of_few_streams (Ok marks) = if nat_lt most_streams (length marks) then Err TooManyStreams else Ok marks
 of_few_streams (Err fault) = Err fault
 
 -- the new marks of a round, or why it is refused
 abbrev pub new_marks : Positions → List DeliveryValue → Result Positions RoundFault
 new_marks marks deliveries = of_few_streams (marks_after marks (bringing deliveries))
 
--- the fault is that of the deliveries, or memory ran out
-abbrev pub Refuses : {A : Type 0} → RoundFault → Result A RoundFault → Type 0
-Refuses (Gap stream wanted got) right = right ≡ Err (Gap stream wanted got)
-Refuses TooManyStreams right = right ≡ Err TooManyStreams
-Refuses Memory right = ⊤
+-- the fault says that memory ran out
+abbrev pub is_memory : RoundFault → Bool
+is_memory Memory = true
+is_memory _ = false

@@ -1,13 +1,14 @@
 -- The state of a region.
-use Rattle.std.specs.Prelude.{◌≡◌, IsTrue, List, [], ◌∷◌, map}
+use Rattle.std.specs.Prelude.{◌≡◌, ◌≤◌, IsTrue, List, [], ◌∷◌, length, map}
 use Rattle.std.specs.List.{flat_map}
-use Rattle.pn_join.specs.Marks.{Positions, Reaches}
+use Rattle.pn_join.specs.Marks.{Positions, Reaches, are_positions}
 use Rattle.pn_record.specs.CellMap.{Entries}
 use Rattle.pn_tablet.specs.Layouts.{Bounds, IsLayout}
 use Rattle.pn_tablet.specs.Laws.{IsSpelled}
 use Rattle.pn_tablet.specs.Ranges.{Ends}
 use Rattle.pn_tablet.specs.Tablets.{TabletStateValue, empty_tablet, lie_in}
 use Rattle.pn_apply.specs.Reducing.{ranges}
+use Rattle.pn_region.specs.Limits.{most_streams}
 
 -- a layout, the tablets of its ranges, and how far streams were taken
 pub record RegionValue : Type 0 where
@@ -15,7 +16,7 @@ pub record RegionValue : Type 0 where
   pub tablets : List TabletStateValue
   pub marks : Positions
 
--- a tablet of the range: its keys lie there, its map is one of images, and its cover reaches the marks
+-- a tablet of the range: its keys lie there, its cells are those of images, and its cover reaches the marks
 pub record IsTabletOf (marks : Positions) (ends : Ends) (tablet : TabletStateValue) : Type 0 where
   pub range : tablet.range ≡ ends
   pub inside : IsTrue (lie_in ends tablet.cells)
@@ -25,14 +26,23 @@ pub record IsTabletOf (marks : Positions) (ends : Ends) (tablet : TabletStateVal
 -- each range has its own tablet, in their order
 abbrev pub AreTabletsOf : Positions → List Ends → List TabletStateValue → Type 0
 AreTabletsOf marks [] [] = Unit {0}
-AreTabletsOf marks [] (tablet ∷ tablets) = ⊥
-AreTabletsOf marks (range ∷ others) [] = ⊥
 AreTabletsOf marks (range ∷ others) (tablet ∷ tablets) = IsTabletOf marks range tablet × AreTabletsOf marks others tablets
+AreTabletsOf marks _ _ = ⊥
 
 -- a lawful layout, and a tablet for each of its ranges whose cover reaches the marks
 pub record IsRegion (region : RegionValue) : Type 0 where
   pub lawful : IsLayout region.layout
   pub tablets : AreTabletsOf region.marks (ranges region.layout) region.tablets
+
+-- what holds of a region's own marks: they are of few enough streams, and each position is that of a message
+pub record AreRegionMarks (marks : Positions) : Type 0 where
+  pub few : length marks ≤ most_streams
+  pub positions : IsTrue (are_positions marks)
+
+-- what holds of every region's fields
+pub record IsLawfulRegion (region : RegionValue) : Type 0 where
+  pub is_region : IsRegion region
+  pub are_marks : AreRegionMarks region.marks
 
 -- a region that has taken nothing
 abbrev pub new_region : Bounds → RegionValue

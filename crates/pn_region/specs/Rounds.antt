@@ -10,7 +10,7 @@ use Rattle.pn_apply.specs.Reducing.{all_images, joins_of}
 use Rattle.pn_region.specs.Marking.{new_marks}
 use Rattle.pn_region.specs.Regions.{RegionValue, all_cells}
 use Rattle.pn_region.specs.declared.fault.RoundFault.{RoundFault}
-use Rattle.pn_region.specs.declared.fault.RoundFault.TheVariants.{Gap, TooManyStreams, Memory}
+use Rattle.pn_region.specs.declared.fault.RoundFault.TheVariants.{Memory}
 
 -- what the deliveries bring to each tablet of the region: the cells of their images in its range, and the new marks
 abbrev pub joins : RegionValue → List DeliveryValue → Positions → List TabletOp
@@ -35,8 +35,7 @@ IsHalfTaken old deliveries new = (new.layout ≡ old.layout) × (new.marks ≡ o
     (λ marks. AreOldOrStepped old.tablets (joins old deliveries marks) new.tablets)
     (λ fault. new.tablets ≡ old.tablets)
 
--- what a fault leaves: want of memory may leave joins in some tablets, and every other changes nothing
+-- what a fault leaves: where memory ran out some tablets may have taken their joins, and every other changes nothing
 abbrev pub Leaves : RoundFault → RegionValue → List DeliveryValue → RegionValue → Type 0
-Leaves (Gap stream wanted got) old deliveries new = new ≡ old
-Leaves TooManyStreams old deliveries new = new ≡ old
 Leaves Memory old deliveries new = IsHalfTaken old deliveries new
+Leaves _ old deliveries new = new ≡ old

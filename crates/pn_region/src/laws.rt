@@ -12,6 +12,7 @@ ghost use Rattle.pn_stream.specs.Positions.{DeliveryValue};
 ghost use Rattle.pn_tablet.specs.Layouts.{Bounds, IsLayout, tablet_of};
 ghost use Rattle.pn_tablet.specs.Copies.{TabletCopyValue};
 ghost use Rattle.pn_tablet.specs.Copying.{copy_of};
+ghost use Rattle.pn_tablet.specs.Laws.{IsSpelled};
 ghost use Rattle.pn_tablet.specs.Steps.{lost, step};
 ghost use Rattle.pn_tablet.specs.Tablets.{TabletStateValue};
 ghost use Rattle.pn_tablet.specs.declared.op.TabletOp.TheVariants.{Adopt};
@@ -32,7 +33,7 @@ pub fn new_regions()
     ensures between { (bounds : Bounds) → HasBetween [] [] (new_region bounds) }
 {}
 
-/// A region stays one in every round, also in one that ends without memory.
+/// A region stays one in every round, also in one that ends out of memory.
 pub fn rounds_keep_regions()
     ensures taken { (region : RegionValue) (deliveries : List DeliveryValue) (marks : Positions)
         → IsRegion region → IsRegion (taking region deliveries marks) }
@@ -40,7 +41,7 @@ pub fn rounds_keep_regions()
         → IsRegion old → IsHalfTaken old deliveries new → IsRegion new }
 {}
 
-/// A round takes its images beside those that were taken before. One that ends without memory may have taken
+/// A round takes its images beside those that were taken before. One that ends out of memory may have taken
 /// them, each tablet for itself.
 pub fn a_round_takes_its_images()
     ensures images { (region : RegionValue) (deliveries : List DeliveryValue) (marks : Positions) (taken : List Image)
@@ -54,6 +55,13 @@ pub fn a_round_takes_its_images()
         → HasBetween sure (maybe ++ all_images deliveries) new }
 {}
 
+/// The cells of all tablets, one after another, are in key order, each key once, and they are those of the
+/// images that spell them. So they are in every region, also after a round that ended out of memory.
+pub fn all_cells_are_in_key_order()
+    ensures rising { (region : RegionValue) → IsRegion region → IsTrue (is_sorted bytes_cmp (all_cells region)) }
+    ensures spelled { (region : RegionValue) → IsRegion region → IsSpelled (all_cells region) }
+{}
+
 /// The cells of all tablets, one after another, are those of all images that were taken. So they are once
 /// each image that may have been taken surely was.
 pub fn all_tablets_together()
@@ -64,7 +72,7 @@ pub fn all_tablets_together()
         → all_cells region ≡ table_of sure }
 {}
 
-/// No round takes a record away or leaves it at an older version, nor does one that ends without memory.
+/// No round takes a record away or leaves it at an older version, nor does one that ends out of memory.
 pub fn a_round_never_goes_back()
     ensures taken { (region : RegionValue) (deliveries : List DeliveryValue) (marks : Positions)
         → IsRegion region → (key : List ℕ)
@@ -125,7 +133,7 @@ pub fn streams_are_counted()
 {}
 
 /// A new region's tablets are faithful, whatever brokers published. A round of honest deliveries keeps tablets
-/// faithful, and so does one that ends without memory.
+/// faithful, and so does one that ends out of memory.
 pub fn honest_rounds_keep_tablets_faithful()
     ensures new { (broker : BrokerRecord) (bounds : Bounds) → AreFaithful broker (new_region bounds).tablets }
     ensures taken { (broker : BrokerRecord) (region : RegionValue) (deliveries : List DeliveryValue) (marks : Positions)

@@ -1,51 +1,143 @@
 //! How far streams are taken after deliveries.
 
-ghost use Rattle.std.specs.Prelude.{◌≡◌, ◌∷◌, [], Ok, Err, IfOk, IfErr, OnOk};
-ghost use Rattle.pn_region.specs.Marking.{bringing, marks_after, new_marks, Refuses};
+ghost use Rattle.std.specs.Prelude.{◌≡◌, ◌≤◌, ◌+◌, ◌∷◌, [], length, Ok, Err, IsTrue, IfOk, IfErr, IfSome, OnOk};
+ghost use Rattle.std.specs.FinMap.{is_sorted};
+ghost use Rattle.std.specs.Int.{from_bool};
+ghost use Rattle.pn_join.specs.Marks.{name_cmp, position_of, are_positions, is_position};
+ghost use Rattle.pn_tablet.specs.Refusals.{Refuses};
+ghost use Rattle.pn_region.specs.Limits.{most_streams};
+ghost use Rattle.pn_region.specs.Marking.{bringing, last_of as the_last_of, last_of_stream as the_last_of_stream, all_marked, marks_after, new_marks, is_memory};
 
 use crate::RoundFault;
-use pn_join::{Dup, Marks, raise_at};
+use pn_join::{Dup, Marks, NoMemory, StreamName, raise_at};
 use pn_stream::Delivery;
 
 /// The most streams that a region takes.
 const MOST_STREAMS: usize = 16;
 
 /// The marks after the deliveries, in their order: each that has images takes its stream up to its last
-/// position, where that is greater.
+/// position, where that is greater. The positions of the marks are 1 to 10^15, and so are the new ones.
 ///
 /// `Gap` comes exactly where one begins more than one past its stream's mark, and names the first; else
-/// `TooManyStreams` exactly where there would be more than 16 names.
+/// `TooManyStreams` exactly where there would be more than 16 names. Neither takes memory.
 pub fn next_marks(marks: &Marks, deliveries: &[Delivery]) -> Result<Marks, RoundFault>
+    requires positions { IsTrue (are_positions marks.now) }
     ensures ok { IfOk result (λ next. new_marks marks.now deliveries.now ≡ Ok next) }
-    ensures refused { IfErr result (λ fault. Refuses fault (new_marks marks.now deliveries.now)) }
+    ensures refused { IfErr result (λ fault. Refuses is_memory fault (new_marks marks.now deliveries.now)) }
+    ensures positions { IfOk result (λ next. IsTrue (are_positions next)) }
+    ensures few { IfOk result (λ next. length next ≤ most_streams) }
+{
+    check(marks, deliveries)?;
+    Ok(followed(marks, deliveries)?)
+}
+
+// The first fault of the deliveries: a gap, or else too many streams. It takes no memory.
+fn check(marks: &Marks, deliveries: &[Delivery]) -> Result<(), RoundFault>
+    requires { IsTrue (are_positions marks.now) }
+    ensures ok { OnOk result (new_marks marks.now deliveries.now ≡ Ok (all_marked marks.now deliveries.now)) }
+    ensures few { OnOk result (length (all_marked marks.now deliveries.now) ≤ most_streams) }
+    ensures refused { IfErr result (λ fault. new_marks marks.now deliveries.now ≡ Err fault) }
+{
+    let mut streams = marks.len();
+    for (place, delivery) in deliveries.iter().enumerate() {
+        let is_new = is_new_stream(marks, &deliveries[..place], delivery)?;
+        streams = streams.saturating_add(usize::from(is_new));
+    }
+    if streams > MOST_STREAMS {
+        return Err(RoundFault::TooManyStreams);
+    }
+    Ok(())
+}
+
+// Whether the delivery brings images of a stream that neither the marks name nor the deliveries before it.
+fn is_new_stream(
+    marks: &Marks,
+    before: &[Delivery],
+    delivery: &Delivery,
+) -> Result<bool, RoundFault>
+    requires positions { IsTrue (are_positions (all_marked marks.now before.now)) }
+    requires rising { IsTrue (is_sorted name_cmp (all_marked marks.now before.now)) }
+    ensures ok { OnOk result (marks_after (all_marked marks.now before.now) (bringing (delivery.now ∷ []))
+        ≡ Ok (all_marked (all_marked marks.now before.now) (delivery.now ∷ []))) }
+    ensures count { IfOk result (λ is_new. length (all_marked (all_marked marks.now before.now) (delivery.now ∷ []))
+        ≡ length (all_marked marks.now before.now) + from_bool is_new) }
+    ensures positions { OnOk result (IsTrue (are_positions (all_marked (all_marked marks.now before.now) (delivery.now ∷ [])))) }
+    ensures refused { IfErr result (λ fault.
+        marks_after (all_marked marks.now before.now) (bringing (delivery.now ∷ [])) ≡ Err fault) }
+{
+    if delivery.images().is_empty() {
+        return Ok(false);
+    }
+    let mark = mark_after(marks, before, delivery.stream());
+    let first = delivery.first();
+    if mark < first - 1 {
+        let Ok(stream) = delivery.stream().dup() else {
+            unreachable!()
+        };
+        return Err(RoundFault::Gap {
+            stream,
+            wanted: mark + 1,
+            got: first,
+        });
+    }
+    Ok(mark == 0)
+}
+
+// How far the stream is taken after the deliveries, whether or not there is a gap between them.
+fn mark_after(marks: &Marks, deliveries: &[Delivery], stream: &StreamName) -> u64
+    ensures { result ≡ position_of (all_marked marks.now deliveries.now) stream.now }
+{
+    let mut mark = marks.position(stream);
+    for delivery in deliveries {
+        mark = mark.max(last_of_stream(stream, delivery).unwrap_or(0));
+    }
+    mark
+}
+
+// The position of the last image of a delivery, where it has images of the stream.
+fn last_of_stream(stream: &StreamName, delivery: &Delivery) -> Option<u64>
+    ensures { result ≡ the_last_of_stream stream.now delivery.now }
+{
+    if delivery.stream() != stream {
+        return None;
+    }
+    last_of(delivery)
+}
+
+// The position of the last image of a delivery, if it has any.
+fn last_of(delivery: &Delivery) -> Option<u64>
+    ensures last { result ≡ the_last_of delivery.now }
+    ensures position { IfSome result (λ last. IsTrue (is_position last)) }
+{
+    let (first, count) = (delivery.first(), delivery.images().len() as u64);
+    if count == 0 {
+        return None;
+    }
+    Some(first + count - 1)
+}
+
+// The marks once the deliveries are taken, between which there is no gap.
+fn followed(marks: &Marks, deliveries: &[Delivery]) -> Result<Marks, NoMemory>
+    requires { IsTrue (are_positions marks.now) }
+    ensures ok { IfOk result (λ next. next ≡ all_marked marks.now deliveries.now) }
+    ensures positions { IfOk result (λ next. IsTrue (are_positions next)) }
 {
     let mut next = marks.dup()?;
     for delivery in deliveries {
         follow(&mut next, delivery)?;
     }
-    if next.len() > MOST_STREAMS {
-        return Err(RoundFault::TooManyStreams);
-    }
     Ok(next)
 }
 
 // Takes one delivery's stream on.
-fn follow(marks: &mut Marks, delivery: &Delivery) -> Result<(), RoundFault>
-    ensures ok { OnOk result (marks_after marks.old (bringing (delivery.now ∷ [])) ≡ Ok marks.new) }
-    ensures refused { IfErr result (λ fault. Refuses fault (marks_after marks.old (bringing (delivery.now ∷ [])))) }
+fn follow(marks: &mut Marks, delivery: &Delivery) -> Result<(), NoMemory>
+    requires { IsTrue (are_positions marks.old) }
+    ensures ok { OnOk result (marks.new ≡ all_marked marks.old (delivery.now ∷ [])) }
+    ensures positions { OnOk result (IsTrue (are_positions marks.new)) }
 {
-    let (first, count) = (delivery.first(), delivery.images().len() as u64);
-    if count == 0 {
+    let Some(last) = last_of(delivery) else {
         return Ok(());
-    }
-    let mark = marks.position(delivery.stream());
-    if mark < first - 1 {
-        return Err(RoundFault::Gap {
-            stream: delivery.stream().dup()?,
-            wanted: mark + 1,
-            got: first,
-        });
-    }
-    let stream = delivery.stream().dup()?;
-    Ok(raise_at(marks, stream, first + count - 1)?)
+    };
+    raise_at(marks, delivery.stream().dup()?, last)?;
+    Ok(())
 }

@@ -1,20 +1,22 @@
 //! Regions, and the rounds that they take.
 
-ghost use Rattle.std.specs.Prelude.{◌≡◌, ◌++◌, ◌≤◌, length, slice_get, map, Some, Ok, IfOk, IfErr, OnOk, OnErr};
+ghost use Rattle.std.specs.Prelude.{◌≡◌, ◌≤◌, ◌<◌, ◌^◌, length, slice_get, map, Some, Ok, IsTrue, IfOk, IfErr, OnOk, OnErr};
 ghost use Rattle.std.specs.List.{flat_map};
-ghost use Rattle.std.specs.Option.{option_copied};
+ghost use Rattle.pn_join.specs.Marks.{are_positions};
 ghost use Rattle.pn_tablet.specs.Layouts.{tablet_ends};
+ghost use Rattle.pn_tablet.specs.Refusals.{Refuses};
 ghost use Rattle.pn_tablet.specs.Tablets.{empty_tablet};
-ghost use Rattle.pn_apply.specs.Applying.{AreJoinsIn, all_stepped, all_changes, AreOldOrStepped};
-ghost use Rattle.pn_apply.specs.Reducing.{ranges};
-ghost use Rattle.pn_region.specs.Marking.{Refuses};
+ghost use Rattle.pn_apply.specs.Applying.{AreJoinsIn, HavePositions, all_stepped, all_changes, AreOldOrStepped, IsSomeOld};
+ghost use Rattle.pn_apply.specs.Limits.{most_workers};
+ghost use Rattle.pn_apply.specs.Reducing.{joined_cells, ranges};
+ghost use Rattle.pn_region.specs.Limits.{most_streams};
+ghost use Rattle.pn_region.specs.Marking.{is_memory};
 ghost use Rattle.pn_region.specs.Regions.{IsRegion, new_region};
 ghost use Rattle.pn_region.specs.Rounds.{round, changed, Leaves};
 
 use crate::{RoundFault, next_marks};
 use pn_apply::{Gate, apply_all, reduce_owned};
 use pn_join::{Dup, Marks, NoMemory};
-use pn_record::Key;
 use pn_stream::Delivery;
 use pn_tablet::{Change, Layout, Range, TabletOp, TabletState};
 use std::alloc::Global;
@@ -37,17 +39,17 @@ pub struct Round {
 }
 
 impl Model for Region {
-    ghost use Rattle.pn_region.specs.Regions.{RegionValue, IsRegion};
+    ghost use Rattle.pn_region.specs.Regions.{RegionValue, IsLawfulRegion};
 
     ghost Value = { RegionValue };
 
-    ghost use Rattle.pn_region.specs.Coding.{region_code};
+    ghost use Rattle.pn_region.specs.Proofs.Coding.{region_code};
 
     ghost coded = { region_code };
 
     ghost view = { λ region. record { layout = region.layout; tablets = region.tablets.items; marks = region.marks } };
 
-    ghost invariant = { λ region. IsRegion (record { layout = region.layout; tablets = region.tablets.items; marks = region.marks }) };
+    ghost invariant = { λ region. IsLawfulRegion (record { layout = region.layout; tablets = region.tablets.items; marks = region.marks }) };
 }
 
 impl Region {
@@ -66,7 +68,9 @@ impl Region {
 
     /// How far streams were taken into every tablet. It takes no memory, nor do the two below.
     pub fn marks(&self) -> &Marks
-        ensures { result.now ≡ self.now.marks }
+        ensures marks { result.now ≡ self.now.marks }
+        ensures few { length self.now.marks ≤ most_streams }
+        ensures positions { IsTrue (are_positions self.now.marks) }
     {
         &self.marks
     }
@@ -92,28 +96,28 @@ impl Region {
     /// number before that tablet is worked.
     ///
     /// `Gap` comes exactly where a delivery begins more than one past its stream's mark, and names the
-    /// first; else `TooManyStreams` exactly where there would be more than 16 streams. Both change nothing.
-    /// After `Memory` each tablet is as it was or has taken its part, and the marks are as they were.
+    /// first; else `TooManyStreams` exactly where there would be more than 16 streams. Both change nothing,
+    /// and take no memory. After `Memory` each tablet is as it was or has taken its part, and one at least is
+    /// as it was; the marks are as they were.
     pub fn round<G: Gate>(
         &mut self,
         deliveries: Vec<Delivery>,
         workers: usize,
         gate: &G,
     ) -> Result<Round, RoundFault>
-        requires workers { (1 ≤ workers) × (workers ≤ 16) }
+        requires workers { (1 ≤ workers) × (workers ≤ most_workers) }
         ensures ok { OnOk result (round self.old deliveries.items ≡ Ok self.new) }
         ensures changed { IfOk result (λ done. done.changed ≡ changed self.old self.new) }
-        ensures refused { IfErr result (λ fault. Refuses fault (round self.old deliveries.items)) }
+        ensures refused { IfErr result (λ fault. Refuses is_memory fault (round self.old deliveries.items)) }
         ensures err { IfErr result (λ fault. Leaves fault self.old deliveries.items self.new) }
+        ensures left { OnErr result (IsSomeOld self.old.tablets self.new.tablets) }
     {
         let marks = next_marks(&self.marks, &deliveries)?;
         let operations = reduce_owned(self.alloc, deliveries, &self.layout, &marks, workers, gate)?;
         let tablets = self.tablets.as_mut_slice();
-        let changes = take_joins(self.alloc, tablets, &operations, workers, gate)?;
+        let changed = take_joins(self.alloc, tablets, &operations, workers, gate)?;
         self.marks = marks;
-        Ok(Round {
-            changed: changes.len() as u64,
-        })
+        Ok(Round { changed })
     }
 }
 
@@ -133,59 +137,67 @@ fn range_of(layout: &Layout, tablet: usize) -> Result<Range, NoMemory>
     ensures { IfOk result (λ range. range ≡ tablet_ends layout.now tablet) }
 {
     let (from, to) = layout.range(tablet);
-    match Range::new(copied(from)?, copied(to)?) {
-        Some(range) => Ok(range),
-        None => unreachable!(),
-    }
+    Range::copied(from, to)
 }
 
-fn copied(key: Option<&Key>) -> Result<Option<Key>, NoMemory>
-    ensures { IfOk result (λ copy. copy ≡ option_copied key.entry) }
-{
-    match key {
-        None => Ok(None),
-        Some(key) => Ok(Some(key.dup()?)),
-    }
-}
-
-// Each tablet takes its join, and all that changed is told in one list, tablet after tablet.
+// Each tablet takes its join. Answers how many records changed, which are at most as many as are joined:
+// that these can be counted is seen before a tablet is worked.
 fn take_joins<G: Gate>(
     alloc: Global,
     tablets: &mut [TabletState],
     joins: &[TabletOp],
     workers: usize,
     gate: &G,
-) -> Result<Vec<Change>, NoMemory>
+) -> Result<u64, NoMemory>
     requires joins { AreJoinsIn tablets.old joins.now }
-    requires workers { (1 ≤ workers) × (workers ≤ 16) }
+    requires positions { HavePositions joins.now }
+    requires workers { (1 ≤ workers) × (workers ≤ most_workers) }
+    requires some { 0 < length tablets.old }
+    requires few { length (flat_map (λ list. list) (all_changes tablets.old joins.now)) ≤ length (flat_map joined_cells joins.now) }
     ensures ok { OnOk result (tablets.new ≡ all_stepped tablets.old joins.now) }
-    ensures changes { IfOk result (λ all. all.items ≡ flat_map (λ list. list) (all_changes tablets.old joins.now)) }
+    ensures changed { IfOk result (λ changed. changed ≡ length (flat_map (λ list. list) (all_changes tablets.old joins.now))) }
     ensures err { OnErr result (AreOldOrStepped tablets.old joins.now tablets.new) }
+    ensures left { OnErr result (IsSomeOld tablets.old tablets.new) }
 {
+    if !can_be_counted(joins) {
+        return Err(NoMemory);
+    }
     let lists = apply_all(alloc, tablets, joins, workers, gate)?;
-    one_after_another(alloc, lists)
+    Ok(count_of(&lists) as u64)
 }
 
-// All changes in one list. Those of a single tablet stay where they are.
-fn one_after_another(alloc: Global, lists: Vec<Vec<Change>>) -> Result<Vec<Change>, NoMemory>
-    ensures { IfOk result (λ all. all.items ≡ flat_map (λ list. list.items) lists.items) }
+// Whether a number of 64 bits counts the records of all joins. It does for any that memory holds.
+fn can_be_counted(joins: &[TabletOp]) -> bool
+    ensures { IsTrue result → length (flat_map joined_cells joins.now) < 2 ^ 64 }
 {
-    let mut all = Vec::new(alloc);
+    let mut count = 0usize;
+    for join in joins {
+        let Some(more) = count.checked_add(joined_count(join)) else {
+            return false;
+        };
+        count = more;
+    }
+    true
+}
+
+// How many records the join brings.
+fn joined_count(join: &TabletOp) -> usize
+    ensures { result ≡ length (joined_cells join.now) }
+{
+    match join {
+        TabletOp::Join { cells, .. } => cells.len(),
+        _ => 0,
+    }
+}
+
+// How many changes the lists have together.
+fn count_of(lists: &[Vec<Change>]) -> usize
+    requires { length (flat_map (λ list. list.items) lists.now) < 2 ^ 64 }
+    ensures { result ≡ length (flat_map (λ list. list.items) lists.now) }
+{
+    let mut count = 0;
     for list in lists {
-        if all.is_empty() {
-            all = list;
-        } else {
-            append(&mut all, list)?;
-        }
+        count += list.len();
     }
-    Ok(all)
-}
-
-fn append(all: &mut Vec<Change>, more: Vec<Change>) -> Result<(), NoMemory>
-    ensures { OnOk result (all.new.items ≡ all.old.items ++ more.items) }
-{
-    for change in more {
-        all.push(change)?;
-    }
-    Ok(())
+    count
 }

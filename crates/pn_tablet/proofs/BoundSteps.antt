@@ -92,7 +92,8 @@ partitioned (bound ∷ bounds) key rising zero (suc j) d le within passes =
 partitioned (bound ∷ bounds) key rising (suc i) zero d le within passes = absurd (omega arith)
 partitioned (bound ∷ bounds) key rising (suc i) (suc j) d le within passes = partitioned bounds key rising.1 i j d (omega arith) (omega arith) passes
 
-is_so : (b : Bool) → not b ≡ false → b ≡ true
+-- what is not false is true
+pub is_so : (b : Bool) → not b ≡ false → b ≡ true
 is_so true h = refl
 is_so false h = cc
 

@@ -1,5 +1,5 @@
 -- The changes among what is joined are those of the whole table.
-use Rattle.std.proofs.Common.{◌≡◌, ℕ, zero, suc, ◌+◌, add-one, take, slice_get, Bool, true, false, not, cond, List, [], ◌∷◌, ◌++◌, map, filter, Option, Some, None, refl, sym, ap, ◌∙◌}
+use Rattle.std.proofs.Common.{◌≡◌, ℕ, zero, suc, ◌+◌, add-one, ◌≤◌, length, take, slice_get, Bool, true, false, not, cond, List, [], ◌∷◌, ◌++◌, map, filter, Option, Some, None, refl, sym, ap, ◌∙◌, subst, arith}
 use Rattle.std.specs.List.{AllByRecursion, filter_map, cons_option}
 use Rattle.std.specs.FinMap.{find}
 use Rattle.std.proofs.lemmas.List.Elements.{filter_map-append}
@@ -60,6 +60,20 @@ joined_changes old more new joins =
     ∙ ap (map (λ u. g u.0)) (sym (same_chosen old more new joins.rising joins.rises joins.joined))
     ∙ sym (gathered new new (differs old new) g (λ entry. change_of (find bytes_cmp entry.0 old) entry) (each_at new joins.rising)
     (λ e at. from_entry (find bytes_cmp e.0 old) e (find bytes_cmp e.0 new) at))
+
+fewer : {A B : Type 0} (o : Option B) (rest : List B) (xs : List A) → length rest ≤ length xs → length (cons_option o rest) ≤ suc (length xs)
+fewer None rest xs below = omega arith
+fewer (Some b) rest xs below = omega arith
+
+few_kept : {A B : Type 0} (f : A → Option B) (xs : List A) → length (filter_map f xs) ≤ length xs
+few_kept f [] = omega arith
+few_kept f (x ∷ xs) = fewer (f x) (filter_map f xs) xs (few_kept f xs)
+
+-- there are at most as many as are joined
+pub few_changes : (old more new : Entries) → Joins old more new → length (changes old new) ≤ length more
+few_changes old more new joins =
+    subst (λ (list : List Change). length list ≤ length more) (joined_changes old more new joins)
+    (few_kept (λ entry. change_by (find bytes_cmp entry.0 old) entry) more)
 
 take_next : {X : Type 0} (es : List X) (i : ℕ) (e : X) → Some e ≡ slice_get es i → take (suc i) es ≡ take i es ++ e ∷ []
 take_next [] i e there = cc

@@ -13,31 +13,31 @@ use Rattle.pn_tablet.specs.Tablets.{TabletStateValue, lie_in}
 use Rattle.pn_tablet.specs.declared.op.TabletOp.TheVariants.{Join}
 use Rattle.pn_tablet.specs.declared.fault.OpFault.TheVariants.{WrongRange}
 
-adds_twice : (map : Entries) (images more : List Image) → adds (adds map images) more ≡ table_of ((spell map ++ images) ++ more)
+adds_twice : (own : Entries) (images more : List Image) → adds (adds own images) more ≡ table_of ((spell own ++ images) ++ more)
 unfolding adds
-adds_twice map images more = adds-table_of (spell map ++ images) more
+adds_twice own images more = adds-table_of (spell own ++ images) more
 
-adds_commute : (map : Entries) (images more : List Image) → adds (adds map images) more ≡ adds (adds map more) images
-adds_commute map images more =
-    adds_twice map images more
-    ∙ same_cells_table ((spell map ++ images) ++ more) ((spell map ++ more) ++ images) (λ key.
-    let s = cells (spell map) key in
+adds_commute : (own : Entries) (images more : List Image) → adds (adds own images) more ≡ adds (adds own more) images
+adds_commute own images more =
+    adds_twice own images more
+    ∙ same_cells_table ((spell own ++ images) ++ more) ((spell own ++ more) ++ images) (λ key.
+    let s = cells (spell own) key in
     let a = cells images key in
     let b = cells more key in
-    cells-append (spell map ++ images) more key ∙ ap (λ c. both c b) (cells-append (spell map) images key) ∙ both-assoc s a b
+    cells-append (spell own ++ images) more key ∙ ap (λ c. both c b) (cells-append (spell own) images key) ∙ both-assoc s a b
     ∙ ap (both s) (both-comm a b)
-    ∙ sym (cells-append (spell map ++ more) images key ∙ ap (λ c. both c a) (cells-append (spell map) more key) ∙ both-assoc s b a))
-    ∙ sym (adds_twice map more images)
+    ∙ sym (cells-append (spell own ++ more) images key ∙ ap (λ c. both c a) (cells-append (spell own) more key) ∙ both-assoc s b a))
+    ∙ sym (adds_twice own more images)
 
-adds_repeat : (map : Entries) (images : List Image) → adds (adds map images) images ≡ adds map images
+adds_repeat : (own : Entries) (images : List Image) → adds (adds own images) images ≡ adds own images
 unfolding adds
-adds_repeat map images =
-    adds_twice map images images
-    ∙ same_cells_table ((spell map ++ images) ++ images) (spell map ++ images) (λ key.
-    let s = cells (spell map) key in
+adds_repeat own images =
+    adds_twice own images images
+    ∙ same_cells_table ((spell own ++ images) ++ images) (spell own ++ images) (λ key.
+    let s = cells (spell own) key in
     let a = cells images key in
-    cells-append (spell map ++ images) images key ∙ ap (λ c. both c a) (cells-append (spell map) images key) ∙ both-assoc s a a
-    ∙ ap (both s) (both-same a) ∙ sym (cells-append (spell map) images key))
+    cells-append (spell own ++ images) images key ∙ ap (λ c. both c a) (cells-append (spell own) images key) ∙ both-assoc s a a
+    ∙ ap (both s) (both-same a) ∙ sym (cells-append (spell own) images key))
 
 raised_commute : (cover marks positions : Positions) → Rise cover → Rise marks → Rise positions → raised (raised cover marks) positions ≡ raised (raised cover positions) marks
 raised_commute cover marks positions g h k =

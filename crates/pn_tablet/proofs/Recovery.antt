@@ -73,14 +73,14 @@ brought_back : (x s y : Option CellValue) → both x y ≡ y → NotOlder x (bot
 brought_back x s y absorbed =
     subst (NotOlder x) (sym (both-assoc x s y) ∙ ap (λ c. both c y) (both-comm x s) ∙ both-assoc s x y ∙ ap (both s) absorbed) (joined_not_older x (both s y))
 
-copied_back : (map : Entries) (was images : List Image) → ((image : Image) → Contains was image → Contains images image)
-    → (key : List ℕ) → NotOlder (find bytes_cmp key (table_of was)) (find bytes_cmp key (adds map (spell (table_of images))))
+copied_back : (own : Entries) (was images : List Image) → ((image : Image) → Contains was image → Contains images image)
+    → (key : List ℕ) → NotOlder (find bytes_cmp key (table_of was)) (find bytes_cmp key (adds own (spell (table_of images))))
 unfolding adds
-copied_back map was images all key =
-    let s = cells (spell map) key in
-    let now : find bytes_cmp key (table_of (spell map ++ spell (table_of images))) ≡ both s (cells images key) =
-    Holds-table_of (spell map ++ spell (table_of images)) key ∙ cells-append (spell map) (spell (table_of images)) key ∙ ap (both s) (cells-spelled images key) in
-    subst (λ o. NotOlder o (find bytes_cmp key (table_of (spell map ++ spell (table_of images))))) (sym (Holds-table_of was key))
+copied_back own was images all key =
+    let s = cells (spell own) key in
+    let now : find bytes_cmp key (table_of (spell own ++ spell (table_of images))) ≡ both s (cells images key) =
+    Holds-table_of (spell own ++ spell (table_of images)) key ∙ cells-append (spell own) (spell (table_of images)) key ∙ ap (both s) (cells-spelled images key) in
+    subst (λ o. NotOlder o (find bytes_cmp key (table_of (spell own ++ spell (table_of images))))) (sym (Holds-table_of was key))
     (subst (NotOlder (cells was key)) (sym now) (brought_back (cells was key) s (cells images key) (all_absorbed key was images all)))
 
 pub adoption_brings_back : (upto : Positions → List Image) → Grows upto → (t after : TabletStateValue) (joins : List TabletOp) (copy : TabletCopyValue) → AreJoins joins

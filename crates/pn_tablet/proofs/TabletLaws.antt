@@ -68,10 +68,10 @@ itself_not_older : (o : Option CellValue) → NotOlder o o
 itself_not_older None = tt
 itself_not_older (Some cell) = joined_not_older (Some cell) None
 
-added_not_older : (map : Entries) (images : List Image) (key : List ℕ) → IsSpelled map → NotOlder (find bytes_cmp key map) (find bytes_cmp key (adds map images))
+added_not_older : (own : Entries) (images : List Image) (key : List ℕ) → IsSpelled own → NotOlder (find bytes_cmp key own) (find bytes_cmp key (adds own images))
 unfolding adds
-added_not_older map images key spelled =
-    subst (λ m. NotOlder (find bytes_cmp key m) (find bytes_cmp key (table_of (spell map ++ images)))) (sym spelled) (held_not_older (spell map) images key)
+added_not_older own images key spelled =
+    subst (λ m. NotOlder (find bytes_cmp key m) (find bytes_cmp key (table_of (spell own ++ images)))) (sym spelled) (held_not_older (spell own) images key)
 
 pub never_older : (t : TabletStateValue) (op : TabletOp) → IsSpelled t.cells → (op ≡ Lose → ⊥) → (key : List ℕ) → NotOlder (find bytes_cmp key t.cells) (find bytes_cmp key (stepped t op).cells)
 never_older t (Join cells marks) spelled not_lost key =

@@ -1,4 +1,4 @@
--- The changes between two maps.
+-- The changes from some cells to others.
 use Rattle.std.specs.Prelude.{ℕ, List, [], Option, None, Some, option_map, if◌then◌else◌}
 use Rattle.std.specs.List.{filter_map}
 use Rattle.std.specs.FinMap.{find}
@@ -9,7 +9,7 @@ use Rattle.pn_record.specs.SameCells.{same_at}
 use Rattle.pn_tablet.specs.Tablets.{TabletStateValue}
 use Rattle.pn_tablet.specs.declared.change.Change.{Change}
 use Rattle.pn_tablet.specs.declared.op.TabletOp.{TabletOp}
-use Rattle.pn_tablet.specs.declared.op.TabletOp.TheVariants.{Join, Lose, Adopt}
+use Rattle.pn_tablet.specs.declared.op.TabletOp.TheVariants.{Join}
 
 -- the version of a cell, where there is one
 abbrev pub version_at : Option CellValue → Option Stamp
@@ -23,11 +23,10 @@ change_of before entry = if same_at before (Some entry.1) then None else Some (r
 abbrev pub changes : Entries → Entries → List Change
 changes before after = filter_map (λ entry. change_of (find bytes_cmp entry.0 before) entry) after
 
--- what an operation answers: the changes of a join, and none of a loss or an adoption
+-- what an operation answers: a join its changes, and any other none
 abbrev pub answer : TabletOp → TabletStateValue → TabletStateValue → List Change
 answer (Join cells marks) before after = changes before.cells after.cells
-answer Lose before after = []
-answer (Adopt copy) before after = []
+answer _ before after = []
 
 -- the change of a key when another cell is joined to what it has
 abbrev pub change_by : Option CellValue → List ℕ × CellValue → Option Change

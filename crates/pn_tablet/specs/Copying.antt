@@ -1,5 +1,5 @@
 -- Copies of tablets, and when one is given.
-use Rattle.std.specs.Prelude.{◌≡◌, Option, None, Some, Result, Ok, Err, IsOk}
+use Rattle.std.specs.Prelude.{Bool, true, false, Option, None, Some, Result, Ok, Err}
 use Rattle.pn_join.specs.Marks.{Positions}
 use Rattle.pn_tablet.specs.Needs.{first_short}
 use Rattle.pn_tablet.specs.Copies.{TabletCopyValue}
@@ -22,10 +22,7 @@ copy_from Serving tablet need = unless_behind (first_short tablet.cover need) (r
 abbrev pub copy_of : TabletStateValue → Positions → Result TabletCopyValue fault.CopyFault
 copy_of tablet need = copy_from tablet.status tablet need
 
--- the answer is the right one, or memory ran out where a copy is given
-abbrev pub Answers : Result TabletCopyValue fault.CopyFault → Result TabletCopyValue fault.CopyFault → Type 0
-Answers (Ok copy) right = right ≡ Ok copy
-Answers (Err fault.TheVariants.Recovering) right = right ≡ Err fault.TheVariants.Recovering
-Answers (Err (fault.TheVariants.Behind stream has wanted)) right = right ≡ Err (fault.TheVariants.Behind stream has wanted)
-Answers (Err fault.TheVariants.Memory) right = IsOk right
-Answers (Err fault.TheVariants.NoEntry) right = ⊥
+-- the fault says that memory ran out
+abbrev pub is_memory : fault.CopyFault → Bool
+is_memory fault.TheVariants.Memory = true
+is_memory _ = false

@@ -6,11 +6,11 @@ use Rattle.pn_record.specs.declared.image.Image.{Image}
 use Rattle.pn_record.specs.Cells.{spell}
 use Rattle.pn_record.specs.CellMap.{Entries, table_of}
 use Rattle.pn_tablet.specs.declared.op.TabletOp.{TabletOp}
-use Rattle.pn_tablet.specs.declared.op.TabletOp.TheVariants.{Join, Lose, Adopt}
+use Rattle.pn_tablet.specs.declared.op.TabletOp.TheVariants.{Join}
 
--- the map is the table of the images that spell it, as every tablet's is
+-- the cells are the table of the images that spell them, as every tablet's are
 abbrev pub IsSpelled : Entries → Type 0
-IsSpelled map = map ≡ table_of (spell map)
+IsSpelled cells = cells ≡ table_of (spell cells)
 
 -- the names rise, as in all marks
 abbrev pub Rise : Positions → Type 0
@@ -19,8 +19,7 @@ Rise marks = IsTrue (is_sorted name_cmp marks)
 -- the operation is a join
 abbrev pub IsJoin : TabletOp → Type 0
 IsJoin (Join cells marks) = Unit {0}
-IsJoin Lose = ⊥
-IsJoin (Adopt copy) = ⊥
+IsJoin _ = ⊥
 
 -- all are joins
 abbrev pub AreJoins : List TabletOp → Type 0

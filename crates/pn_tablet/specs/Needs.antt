@@ -1,5 +1,5 @@
 -- What marks lack of a need.
-use Rattle.std.specs.Prelude.{Option, None, option_map, slice_get}
+use Rattle.std.specs.Prelude.{[], Option, option_map, slice_get}
 use Rattle.std.specs.Option.{option_and_then}
 use Rattle.pn_join.specs.Marks.{Positions, position_of, shortfall}
 use Rattle.pn_tablet.specs.declared.state.Status.{Status}
@@ -10,7 +10,11 @@ use Rattle.pn_tablet.specs.declared.needs.Short.{Short}
 abbrev pub first_short : Positions → Positions → Option Short
 first_short marks need = option_map (λ wanted. record { stream = wanted.0; has = position_of marks wanted.0; wanted = wanted.1 }) (option_and_then (slice_get need) (shortfall marks need))
 
--- what marks lack of what a tablet needs: nothing where it serves
+-- what a tablet needs: nothing where it serves
+abbrev pub needed : Status → Positions
+needed Serving = []
+needed (Recovering need) = need
+
+-- what marks lack of what a tablet needs
 abbrev pub lacking : Status → Positions → Option Short
-lacking Serving marks = None
-lacking (Recovering need) marks = first_short marks need
+lacking status marks = first_short marks (needed status)

@@ -1,5 +1,5 @@
 -- What an operation makes of a tablet.
-use Rattle.std.specs.Prelude.{◌≡◌, if◌then◌else◌, List, [], fold, Option, None, Some, Result, Ok, Err, IsOk}
+use Rattle.std.specs.Prelude.{Bool, true, false, if◌then◌else◌, List, [], fold, Option, None, Some, Result, Ok, Err}
 use Rattle.pn_join.specs.Marks.{Positions, raised}
 use Rattle.pn_record.specs.Cells.{spell}
 use Rattle.pn_record.specs.CellMap.{Entries, adds}
@@ -14,11 +14,11 @@ use Rattle.pn_tablet.specs.declared.op.TabletOp.TheVariants.{Join, Lose, Adopt}
 use Rattle.pn_tablet.specs.declared.fault.OpFault.{OpFault}
 use Rattle.pn_tablet.specs.declared.fault.OpFault.TheVariants.{WrongRange, TooOld, Memory}
 
--- the map takes the images that the cells spell, and the marks raise the cover
+-- the tablet takes the images that the cells spell, and the marks raise its cover
 abbrev pub taking : TabletStateValue → Entries → Positions → TabletStateValue
 taking tablet cells marks = record tablet { cells = adds tablet.cells (spell cells); cover = raised tablet.cover marks }
 
--- the map is empty, the cover stays, and the tablet needs a copy that reaches it
+-- the cells are gone, the cover stays, and the tablet needs a copy that reaches it
 abbrev pub lost : TabletStateValue → TabletStateValue
 lost tablet = record tablet { cells = []; status = Recovering tablet.cover }
 
@@ -45,8 +45,7 @@ stepped tablet op = after_step tablet (step tablet op)
 abbrev pub state_of : Ends → List TabletOp → TabletStateValue
 state_of range ops = fold stepped (empty_tablet range) ops
 
--- the refusal is that of the step, or memory ran out where the step refuses nothing
-abbrev pub Refuses : OpFault → Result TabletStateValue OpFault → Type 0
-Refuses WrongRange right = right ≡ Err WrongRange
-Refuses (TooOld stream has needs) right = right ≡ Err (TooOld stream has needs)
-Refuses Memory right = IsOk right
+-- the fault says that memory ran out
+abbrev pub is_memory : OpFault → Bool
+is_memory Memory = true
+is_memory _ = false

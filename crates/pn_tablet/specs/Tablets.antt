@@ -3,9 +3,10 @@ use Rattle.std.specs.Prelude.{ℕ, Bool, ◌&&◌, ◌≡◌, IsTrue, List, [], 
 use Rattle.std.specs.Option.{option_eq}
 use Rattle.std.specs.Str.{bytes_eq}
 use Rattle.std.specs.List.{list_all}
-use Rattle.pn_join.specs.Marks.{Positions}
+use Rattle.pn_join.specs.Marks.{Positions, are_positions}
 use Rattle.pn_record.specs.Cells.{spell}
 use Rattle.pn_record.specs.CellMap.{Entries, table_of}
+use Rattle.pn_tablet.specs.Needs.{needed}
 use Rattle.pn_tablet.specs.Ranges.{Ends, in_range}
 use Rattle.pn_tablet.specs.declared.state.Status.{Status}
 use Rattle.pn_tablet.specs.declared.state.Status.TheVariants.{Serving, Recovering}
@@ -23,7 +24,7 @@ empty_tablet range = record { range = range; cells = []; cover = []; status = Se
 
 -- all keys lie in the range
 abbrev pub lie_in : Ends → Entries → Bool
-lie_in range map = list_all (λ entry. in_range range entry.0) map
+lie_in range cells = list_all (λ entry. in_range range entry.0) cells
 
 -- both ranges have the same ends
 abbrev pub same_range : Ends → Ends → Bool
@@ -35,7 +36,9 @@ HasNeed (Some spare) cover status = spare ≡ cover
 HasNeed None cover status = status ≡ Recovering cover
 
 -- what holds of every tablet's fields
-pub record IsTablet (range : Ends) (map : Entries) (cover : Positions) (status : Status) (spare : Option Positions) : Type 0 where
-  pub inside : IsTrue (lie_in range map)
-  pub spelled : map ≡ table_of (spell map)
+pub record IsTablet (range : Ends) (cells : Entries) (cover : Positions) (status : Status) (spare : Option Positions) : Type 0 where
+  pub inside : IsTrue (lie_in range cells)
+  pub spelled : cells ≡ table_of (spell cells)
+  pub positions : IsTrue (are_positions cover)
+  pub needed_positions : IsTrue (are_positions (needed status))
   pub has_need : HasNeed spare cover status

@@ -1,6 +1,7 @@
 //! Copies of a tablet.
 
-ghost use Rattle.pn_tablet.specs.Copying.{copy_of, Answers};
+ghost use Rattle.pn_tablet.specs.Copying.{copy_of, is_memory};
+ghost use Rattle.pn_tablet.specs.Refusals.{Answers};
 
 use crate::needs::first_short;
 use crate::{CopyFault, Range, Status, TabletState};
@@ -9,7 +10,7 @@ use pn_record::Records;
 use std::marker::Model;
 
 /// A copy of a tablet: its range, how far streams were taken into it, and its cells. All keys lie in
-/// the range.
+/// the range, and the positions are 1 to 10^15.
 #[derive(Drop)]
 pub struct TabletCopy {
     pub range: Range,
@@ -18,20 +19,17 @@ pub struct TabletCopy {
 }
 
 impl Model for TabletCopy {
-    ghost use Rattle.std.specs.Prelude.{IsTrue};
-    ghost use Rattle.pn_tablet.specs.Copies.{TabletCopyValue};
+    ghost use Rattle.pn_tablet.specs.Copies.{TabletCopyValue, IsCopy};
 
     ghost Value = { TabletCopyValue };
 
-    ghost use Rattle.pn_tablet.specs.Coding.{copied_code};
+    ghost use Rattle.pn_tablet.specs.Proofs.Coding.{copy_code};
 
-    ghost coded = { copied_code };
-
-    ghost use Rattle.pn_tablet.specs.Tablets.{lie_in};
+    ghost coded = { copy_code };
 
     ghost view = { λ copy. record { range = copy.range; marks = copy.marks; cells = copy.cells } };
 
-    ghost invariant = { λ copy. IsTrue (lie_in copy.range copy.cells) };
+    ghost invariant = { λ copy. IsCopy copy.range copy.marks copy.cells };
 }
 
 impl TabletState {
@@ -41,7 +39,7 @@ impl TabletState {
     /// `Recovering` comes exactly where the tablet is recovering, and else `Behind` exactly where the
     /// cover does not reach the need, with the first stream that falls short.
     pub fn copy(&self, need: &Marks) -> Result<TabletCopy, CopyFault>
-        ensures exact { Answers result (copy_of self.now need.now) }
+        ensures exact { Answers is_memory result (copy_of self.now need.now) }
     {
         if let Status::Recovering { .. } = self.status() {
             return Err(CopyFault::Recovering);

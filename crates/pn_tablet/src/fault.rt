@@ -5,7 +5,6 @@ ghost use Rattle.pn_tablet.specs.declared.fault.OpFault.TheVariants.{Memory as n
 ghost use Rattle.pn_tablet.specs.declared.fault.CopyFault.TheVariants.{Memory as no_memory_to_copy};
 
 use pn_join::{NoMemory, StreamName};
-use std::alloc::AllocError;
 use thiserror::Error;
 
 /// Why an operation was refused. The tablet stays as it was.

@@ -1,11 +1,10 @@
-//! Which keys lie in a range, and which ranges are the same.
+//! Which keys lie in a range.
 
-ghost use Rattle.std.specs.Prelude.{◌≡◌, Option};
+ghost use Rattle.std.specs.Prelude.{◌≡◌};
 ghost use Rattle.std.specs.List.{list_all};
-ghost use Rattle.std.specs.Option.{option_copied, option_eq};
-ghost use Rattle.std.specs.Str.{bytes_eq};
+ghost use Rattle.std.specs.Option.{option_copied};
 ghost use Rattle.pn_tablet.specs.Ranges.{is_from, is_before};
-ghost use Rattle.pn_tablet.specs.Tablets.{lie_in as all_lie_in, same_range};
+ghost use Rattle.pn_tablet.specs.Tablets.{lie_in as all_lie_in};
 
 use crate::Range;
 use pn_record::{Key, Records};
@@ -34,11 +33,4 @@ fn end_before(to: Option<&Key>, cells: &Records) -> bool
         Some(to) => cells.lower_bound(to) == cells.len(),
         None => true,
     }
-}
-
-/// Whether both ranges have the same ends. It takes no memory.
-pub fn are_same(range: &Range, other: &Range) -> bool
-    ensures { result ≡ same_range range.now other.now }
-{
-    range.from() == other.from() && range.to() == other.to()
 }

@@ -44,8 +44,8 @@ pub fn joins_repeat_without_effect()
 {}
 
 /// After a loss, joins, and a copy that is adopted then, every record is there again, at the version that it
-/// had before the loss or a later one: wherever the lost map was that of the images up to the cover, and the
-/// copy's is that of the images up to its marks.
+/// had before the loss or a later one: wherever the lost cells were those of the images up to the cover, and
+/// the copy's are those of the images up to its marks.
 pub fn an_adoption_brings_back_what_was_lost()
     ensures { (upto : Positions → List Image) → Grows upto
         → (tablet after : TabletStateValue) (joins : List TabletOp) (copy : TabletCopyValue) → AreJoins joins

@@ -46,6 +46,17 @@ impl Range {
         Some(Range { from, to })
     }
 
+    /// The range of these ends, which are in order and are copied.
+    pub fn copied(from: Option<&Key>, to: Option<&Key>) -> Result<Range, NoMemory>
+        requires { IsTrue (are_ends (option_copied from, option_copied to)) }
+        ensures { IfOk result (λ range. range ≡ (option_copied from.entry, option_copied to.entry)) }
+    {
+        Ok(Range {
+            from: copied(from)?,
+            to: copied(to)?,
+        })
+    }
+
     /// The least key in it, if it has one. It takes no memory.
     pub fn from(&self) -> Option<&Key>
         ensures from { option_copied result ≡ self.now.0 }
@@ -110,10 +121,7 @@ impl Dup for Range {
     fn dup(&self) -> Result<Range, NoMemory>
         ensures { IfOk result (λ copy. copy ≡ self.now) }
     {
-        Ok(Range {
-            from: copied(self.from())?,
-            to: copied(self.to())?,
-        })
+        Range::copied(self.from(), self.to())
     }
 }
 

@@ -1,17 +1,19 @@
 //! The state of a tablet, and the operations on it.
 
-ghost use Rattle.std.specs.Prelude.{◌≡◌, Ok, IsOk, IfOk, IfErr, OnOk, OnErr};
-ghost use Rattle.pn_join.specs.Marks.{raised};
+ghost use Rattle.std.specs.Prelude.{◌≡◌, Ok, IsOk, IsTrue, IfOk, IfErr, OnOk, OnErr};
+ghost use Rattle.pn_join.specs.Marks.{are_positions, raised};
+ghost use Rattle.pn_tablet.specs.Operations.{HasPositions};
 ghost use Rattle.pn_tablet.specs.Tablets.{empty_tablet};
 ghost use Rattle.pn_tablet.specs.Needs.{lacking as all_lacking};
-ghost use Rattle.pn_tablet.specs.Steps.{step, lost, Refuses};
+ghost use Rattle.pn_tablet.specs.Refusals.{Refuses};
+ghost use Rattle.pn_tablet.specs.Steps.{step, lost, is_memory};
 ghost use Rattle.pn_tablet.specs.Changes.{answer, changes};
 ghost use Rattle.pn_tablet.specs.declared.op.TabletOp.TheVariants.{Join, Lose, Adopt};
 
 mod parts;
 
 use crate::change::changes_of;
-use crate::inside::{are_same, lie_in};
+use crate::inside::lie_in;
 use crate::needs::{Short, first_short};
 use crate::{Change, OpFault, Range, TabletCopy, TabletOp};
 use pn_join::{Dup, Marks, NoMemory, raise};
@@ -43,7 +45,7 @@ impl Model for TabletState {
 
     ghost Value = { TabletStateValue };
 
-    ghost use Rattle.pn_tablet.specs.Coding.{tablet_code};
+    ghost use Rattle.pn_tablet.specs.Proofs.Coding.{tablet_code};
 
     ghost coded = { tablet_code };
 
@@ -69,7 +71,7 @@ impl TabletState {
         }
     }
 
-    /// Takes one operation.
+    /// Takes one operation, whose positions are 1 to 10^15.
     ///
     /// A join is taken also while the tablet recovers, and answers the keys whose cells changed. A loss
     /// empties the tablet, which then needs a copy that reaches its cover; it takes no memory and is never
@@ -80,9 +82,10 @@ impl TabletState {
     /// range, and else `TooOld` exactly where the tablet is recovering and the copy does not reach the
     /// need. An error leaves the tablet as it was.
     pub fn apply(&mut self, op: &TabletOp) -> Result<Vec<Change>, OpFault>
+        requires positions { HasPositions op.now }
         ensures ok { OnOk result (step self.old op.now ≡ Ok self.new) }
         ensures changes { IfOk result (λ list. list.items ≡ answer op.now self.old self.new) }
-        ensures refused { IfErr result (λ fault. Refuses fault (step self.old op.now)) }
+        ensures refused { IfErr result (λ fault. Refuses is_memory fault (step self.old op.now)) }
         ensures err { OnErr result (self.new ≡ self.old) }
         ensures lose { op.now ≡ Lose → IsOk result }
     {
@@ -102,9 +105,10 @@ impl TabletState {
 
 impl TabletState {
     fn join(&mut self, cells: &Records, marks: &Marks) -> Result<Vec<Change>, OpFault>
+        requires { IsTrue (are_positions marks.now) }
         ensures ok { OnOk result (step self.old (Join cells.now marks.now) ≡ Ok self.new) }
         ensures changes { IfOk result (λ list. list.items ≡ changes self.old.cells self.new.cells) }
-        ensures refused { IfErr result (λ fault. Refuses fault (step self.old (Join cells.now marks.now))) }
+        ensures refused { IfErr result (λ fault. Refuses is_memory fault (step self.old (Join cells.now marks.now))) }
         ensures err { OnErr result (self.new ≡ self.old) }
     {
         if !lie_in(&self.range, cells) {
@@ -129,10 +133,10 @@ impl TabletState {
 
     fn adopt(&mut self, copy: &TabletCopy) -> Result<(), OpFault>
         ensures ok { OnOk result (step self.old (Adopt copy.now) ≡ Ok self.new) }
-        ensures refused { IfErr result (λ fault. Refuses fault (step self.old (Adopt copy.now))) }
+        ensures refused { IfErr result (λ fault. Refuses is_memory fault (step self.old (Adopt copy.now))) }
         ensures err { OnErr result (self.new ≡ self.old) }
     {
-        if !are_same(&self.range, &copy.range) {
+        if self.range != copy.range {
             return Err(OpFault::WrongRange);
         }
         if let Some(short) = self.lacking(&copy.marks) {

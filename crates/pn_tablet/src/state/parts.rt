@@ -3,6 +3,8 @@
 ghost use Rattle.std.specs.Prelude.{◌≡◌, IsTrue};
 ghost use Rattle.pn_record.specs.Cells.{spell};
 ghost use Rattle.pn_record.specs.CellMap.{table_of};
+ghost use Rattle.pn_join.specs.Marks.{are_positions};
+ghost use Rattle.pn_tablet.specs.Needs.{needed};
 ghost use Rattle.pn_tablet.specs.Tablets.{lie_in};
 
 use super::{Status, TabletState};
@@ -29,14 +31,16 @@ impl TabletState {
 
     /// How far each stream was taken into it.
     pub fn cover(&self) -> &Marks
-        ensures { result.now ≡ self.now.cover }
+        ensures cover { result.now ≡ self.now.cover }
+        ensures positions { IsTrue (are_positions self.now.cover) }
     {
         &self.cover
     }
 
     /// Whether it serves.
     pub fn status(&self) -> &Status
-        ensures { result.now ≡ self.now.status }
+        ensures status { result.now ≡ self.now.status }
+        ensures positions { IsTrue (are_positions (needed self.now.status)) }
     {
         &self.status
     }

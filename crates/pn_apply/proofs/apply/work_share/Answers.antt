@@ -1,10 +1,11 @@
 -- Each operation is applied to the slot at its place.
-use Rattle.std.proofs.Common.{◌≡◌, ◌+◌, ◌++◌, [], ◌∷◌, map, length, get_or, ap, ◌∙◌, arith}
+use Rattle.std.proofs.Common.{◌≡◌, ◌+◌, ◌++◌, [], ◌∷◌, map, length, get_or, sym, subst, ap, ◌∙◌, arith}
 use Rattle.std.specs.Prelude.{Vec}
 use Rattle.std.specs.declared.alloc.Global.{Global}
 use Rattle.std.proofs.lemmas.List.{map-append, length_push}
 use Rattle.pn_tablet.specs.declared.change.Change.{Change}
-use Rattle.pn_apply.proofs.Fronts.{on_err, old_or_stepped, stepped_whole, changes_whole, slot_count, slot_within, slot_joins, slot_stepped, slot_changes, slot_failed}
+use Rattle.pn_tablet.specs.Operations.{HasPositions}
+use Rattle.pn_apply.proofs.Fronts.{on_err, all_old, not_none, same_length, positions_at, slot_old, old_or_stepped, stepped_whole, changes_whole, slot_count, slot_within, slot_joins, slot_stepped, slot_changes, slot_failed}
 use Rattle.pn_apply.proofs.apply.work_share.Goals as goal
 
 pub returns-in_err-results-clause-err : goal.returns-in_err-results-clause-err
@@ -27,12 +28,32 @@ bounds-slots-place g c =
     let was = c.loop-place in
     slot_within g.S.Slot.tablet (map g.S.Slot.tablet c.args.slots.now) c.args.operations.now c.requires.joins was.slots was.place was.invariant.slots c.loop-place-test.true
 
-pub apply_join-requires : goal.apply_join-requires
-apply_join-requires g c =
+pub apply_join-requires-clause-join : goal.apply_join-requires-clause-join
+apply_join-requires-clause-join g c =
     let was = c.loop-place in
     slot_joins g.S.Slot.tablet (map g.S.Slot.tablet c.args.slots.now) c.args.operations.now c.requires.joins was.slots was.place was.invariant.slots
     (get_or was.slots was.place c.index-slots-place.result) c.index-operations-place.result c.loop-place-test.true
     (ap (get_or was.slots was.place) c.index-slots-place.is) c.index-operations-place.is
+
+pub apply_join-requires-clause-positions : goal.apply_join-requires-clause-positions
+apply_join-requires-clause-positions g c =
+    subst HasPositions (sym c.index-operations-place.is)
+    (positions_at c.args.operations.now c.loop-place.place c.index-operations-place.result c.requires.positions c.loop-place-test.true)
+
+pub returns-in_err-results-clause-left : goal.returns-in_err-results-clause-left
+returns-in_err-results-clause-left g c =
+    let tablets = map g.S.Slot.tablet c.args.slots.now in
+    let count = same_length tablets c.args.operations.now c.requires.joins in
+    let some = not_none (length c.args.operations.now) (λ none. let fits = c.in_err-results.ensures.succeeds none in cc) in
+    on_err c.from_residual.result (all_old tablets (omega (arith, count, some)))
+
+pub returns-in_err-apply_join-clause-left : goal.returns-in_err-apply_join-clause-left
+returns-in_err-apply_join-clause-left g c =
+    let was = c.loop-place in
+    on_err c.from_residual-in_err-apply_join.result
+    (slot_old g.S.Slot.tablet (map g.S.Slot.tablet c.args.slots.now) c.args.operations.now c.requires.joins was.slots was.place was.invariant.slots
+    (get_or was.slots was.place c.index-slots-place.result) c.apply_join.new.slot c.loop-place-test.true
+    (ap (get_or was.slots was.place) c.index-slots-place.is) c.in_err-apply_join.ensures.err)
 
 pub returns-in_err-apply_join-clause-err : goal.returns-in_err-apply_join-clause-err
 returns-in_err-apply_join-clause-err g c =

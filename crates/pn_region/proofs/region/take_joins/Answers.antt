@@ -1,32 +1,34 @@
--- Each tablet takes its join, and changes are told in order.
-use Rattle.std.proofs.Common.{Vec, List, sym, ap, ◌∙◌, subst}
+-- Each tablet takes its join, and what changes is counted.
+use Rattle.std.proofs.Common.{◌≡◌, Vec, List, length, sym, ap, ◌∙◌, subst, arith}
 use Rattle.std.specs.declared.alloc.Global.{Global}
 use Rattle.std.specs.List.{flat_map}
-use Rattle.std.proofs.lemmas.Result.{IfOk-weaker}
 use Rattle.std.proofs.lemmas.List.Folds.{flat_map-map}
 use Rattle.pn_tablet.specs.Tablets.{TabletStateValue}
 use Rattle.pn_tablet.specs.declared.change.Change.{Change}
-use Rattle.pn_apply.specs.Applying.{AreJoinsIn, all_stepped, all_changes}
-use Rattle.pn_apply.proofs.Fronts.{on_err}
-use Rattle.pn_region.proofs.RoundEnds.{same_list, each_taken}
+use Rattle.pn_apply.specs.Applying.{AreJoinsIn, all_changes}
+use Rattle.pn_apply.proofs.Fronts.{all_old}
+use Rattle.pn_region.proofs.Counting.{all_told}
+use Rattle.pn_region.proofs.RoundEnds.{none_taken}
+use Rattle.pn_region.proofs.RoundSteps.{same_list}
 use Rattle.pn_region.proofs.region.take_joins.Goals as goal
+
+pub returns-then-not-can_be_counted-clause-err : goal.returns-then-not-can_be_counted-clause-err
+returns-then-not-can_be_counted-clause-err g c = none_taken c.args.tablets.now c.args.joins.now c.requires.joins
+
+pub returns-then-not-can_be_counted-clause-left : goal.returns-then-not-can_be_counted-clause-left
+returns-then-not-can_be_counted-clause-left g c = all_old c.args.tablets.now c.requires.some
 
 pub apply_all-requires-clause-joins : goal.apply_all-requires-clause-joins
 apply_all-requires-clause-joins g c = subst (λ (ts : List TabletStateValue). AreJoinsIn ts c.args.joins.now) (sym (same_list c.args.tablets.now)) c.requires.joins
 
-pub returns-clause-changes : goal.returns-clause-changes
-returns-clause-changes g c =
-    let lists = c.in_ok-lists.lists.items in
-    let one = λ (list : List Change). list in
-    IfOk-weaker c.one_after_another.result _ _
-    (λ all is. is
-    ∙ sym (flat_map-map one (λ (list : Vec Change Global). list.items) lists)
-    ∙ ap (flat_map one) c.in_ok-lists.ensures.changes
-    ∙ ap (λ (ts : List TabletStateValue). flat_map one (all_changes ts c.args.joins.now)) (same_list c.args.tablets.now))
-    c.one_after_another.ensures
+pub count_of-requires : goal.count_of-requires
+count_of-requires g c =
+    let told = ap (λ (lists : List (Vec Change Global)). length (flat_map (λ list. list.items) lists)) c.deref.ensures.value
+    ∙ all_told c.args.tablets.now c.args.joins.now c.in_ok-lists.lists.items c.in_ok-lists.ensures.changes in
+    omega (arith, told, c.requires.few, c.can_be_counted.ensures c.if-not-can_be_counted.false)
 
-pub returns-clause-err : goal.returns-clause-err
-returns-clause-err g c =
-    on_err c.one_after_another.result
-    (each_taken c.args.tablets.now c.apply_all.new.slots c.args.joins.now c.requires.joins
-    (sym (same_list c.apply_all.new.slots) ∙ c.in_ok-lists.ensures.ok ∙ ap (λ (ts : List TabletStateValue). all_stepped ts c.args.joins.now) (same_list c.args.tablets.now)))
+pub returns-clause-changed : goal.returns-clause-changed
+returns-clause-changed g c =
+    c.count_of.ensures
+    ∙ ap (λ (lists : List (Vec Change Global)). length (flat_map (λ list. list.items) lists)) c.deref.ensures.value
+    ∙ all_told c.args.tablets.now c.args.joins.now c.in_ok-lists.lists.items c.in_ok-lists.ensures.changes

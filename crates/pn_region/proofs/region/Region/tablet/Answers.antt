@@ -8,14 +8,14 @@ use Rattle.pn_region.proofs.region.Region.tablet.Goals as goal
 pub index-requires : goal.index-requires
 index-requires c =
     let inside = c.self.inside in
-    let count = tablet_count inside.marks inside.layout inside.tablets.items c.self.invariant.tablets in
+    let count = tablet_count inside.marks inside.layout inside.tablets.items c.self.invariant.is_region.tablets in
     let layout = ap (λ (r : RegionValue). length r.layout) c.self.view_is in
     omega (arith, count, layout, c.requires, inside.tablets.ok.0)
 
 pub returns : goal.returns
 returns c =
     let inside = c.self.inside in
-    let count = tablet_count inside.marks inside.layout inside.tablets.items c.self.invariant.tablets in
+    let count = tablet_count inside.marks inside.layout inside.tablets.items c.self.invariant.is_region.tablets in
     let layout = ap (λ (r : RegionValue). length r.layout) c.self.view_is in
     subst (λ (r : RegionValue). slice_get r.tablets c.args.tablet ≡ Some c.index.result.now) c.self.view_is
     (tablet_at inside.tablets.items c.args.tablet c.index.result.now (omega (arith, count, layout, c.requires)) c.index.ensures)

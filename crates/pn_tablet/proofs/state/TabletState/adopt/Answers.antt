@@ -1,5 +1,5 @@
 -- A copy that is adopted.
-use Rattle.std.proofs.Common.{◌≡◌, true, sym, ap, ◌∙◌, subst}
+use Rattle.std.proofs.Common.{◌≡◌, true, refl, sym, ap, ◌∙◌, subst}
 use Rattle.pn_record.specs.Cells.{spell}
 use Rattle.pn_record.proofs.CellMaps.{held_adds}
 use Rattle.pn_tablet.specs.Copies.{TabletCopyValue}
@@ -7,6 +7,7 @@ use Rattle.pn_tablet.specs.Needs.{lacking}
 use Rattle.pn_tablet.specs.Tablets.{TabletStateValue, lie_in}
 use Rattle.pn_tablet.specs.Steps.{step}
 use Rattle.pn_tablet.specs.declared.op.TabletOp.TheVariants.{Adopt}
+use Rattle.pn_tablet.proofs.BoundSteps.{is_so}
 use Rattle.pn_tablet.proofs.Keeping.{kept}
 use Rattle.pn_tablet.proofs.Stepping.{one_range, adopt_step}
 use Rattle.pn_tablet.proofs.state.TabletState.adopt.Goals as goal
@@ -14,11 +15,14 @@ use Rattle.pn_tablet.proofs.state.TabletState.adopt.Goals as goal
 pub invariant_of-self-2 : goal.invariant_of-self-2
 invariant_of-self-2 c =
     let joins = c.in_ok-join_records.ensures in
-    kept c.self.invariant
-    (subst (λ range. lie_in range c.copy.inside.cells ≡ true) (sym (one_range c.self.inside.range c.copy.inside.range (sym c.are_same.ensures ∙ c.if-not-are_same.false))) c.copy.invariant)
+    kept c.copy.inside.marks c.self.invariant
+    c.copy.invariant.positions
+    (subst (λ range. lie_in range c.copy.inside.cells ≡ true) (sym (one_range c.self.inside.range c.copy.inside.range (is_so _ (sym c.ne.ensures ∙ c.if-ne.false)))) c.copy.invariant.inside)
     (record { rises = joins.rising.1; rising = joins.rising.0; joined = joins.joined })
     (held_adds c.self.inside.cells c.join_records.new.records (spell c.copy.inside.cells) joins.rising.0 joins.spelled)
+    c.in_ok-cover.ensures.0
     (c.in_ok-cover.ensures.1 ∙ sym c.in_ok-cover.ensures.0)
+    refl
 
 pub returns-clause-ok : goal.returns-clause-ok
 returns-clause-ok c =
@@ -28,7 +32,7 @@ returns-clause-ok c =
     ap (λ (t : TabletStateValue). step t (Adopt c.args.copy.now)) (sym c.self.view_is)
     ∙ ap (λ (k : TabletCopyValue). step tablet (Adopt k)) (sym c.copy.view_is)
     ∙ adopt_step tablet copy c.join_records.new.records c.in_ok-cover.cover
-    (sym c.are_same.ensures ∙ c.if-not-are_same.false)
+    (is_so _ (sym c.ne.ensures ∙ c.if-ne.false))
     (ap (λ (t : TabletStateValue). lacking t.status c.copy.inside.marks) c.self.view_is ∙ sym c.lacking.ensures ∙ c.in_default.is)
     (held_adds c.self.inside.cells c.join_records.new.records (spell c.copy.inside.cells) joins.rising.0 joins.spelled)
     c.in_ok-cover.ensures.0

@@ -14,11 +14,14 @@ use Rattle.pn_tablet.proofs.state.TabletState.join.Goals as goal
 pub invariant_of-self-2 : goal.invariant_of-self-2
 invariant_of-self-2 c =
     let joins = c.in_ok-join_records.ensures in
-    kept c.self.invariant
+    kept c.args.marks.now c.self.invariant
+    c.requires
     (sym c.lie_in.ensures ∙ c.if-not-lie_in.false)
     (record { rises = joins.rising.1; rising = joins.rising.0; joined = joins.joined })
     (held_adds c.self.inside.cells c.join_records.new.records (spell c.args.cells.now) joins.rising.0 joins.spelled)
+    c.in_ok-cover.ensures.0
     (c.in_ok-cover.ensures.1 ∙ sym c.in_ok-cover.ensures.0)
+    c.self.invariant.needed_positions
 
 pub returns-clause-ok : goal.returns-clause-ok
 returns-clause-ok c =

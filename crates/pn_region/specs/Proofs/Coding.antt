@@ -2,7 +2,7 @@
 use Rattle.std.specs.Prelude.{List, refl}
 use Rattle.std.specs.Coded.{Coded, code_by, coded×, coded_ℕ, coded_list}
 use Rattle.pn_join.specs.Marks.{Positions}
-use Rattle.pn_tablet.specs.Coding.{tablet_code, positions_code}
+use Rattle.pn_tablet.specs.Proofs.Coding.{tablet_code, positions_code}
 use Rattle.pn_tablet.specs.Layouts.{Bounds}
 use Rattle.pn_tablet.specs.Tablets.{TabletStateValue}
 use Rattle.pn_region.specs.Regions.{RegionValue}

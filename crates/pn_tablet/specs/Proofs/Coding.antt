@@ -46,8 +46,8 @@ tablet_code =
     (λ _. refl)
 
 -- a copy as pairs
-abbrev pub copied_code : Coded TabletCopyValue
-copied_code =
+abbrev pub copy_code : Coded TabletCopyValue
+copy_code =
     code_by ((Ends × Entries) × Positions) (coded× (coded× ends_code entries_code) positions_code)
     (λ c. ((c.range, c.cells), c.marks))
     (λ p. record { range = p.0.0; cells = p.0.1; marks = p.1 })

@@ -1,0 +1,11 @@
+-- The marks are those after the deliveries so far.
+use Rattle.std.proofs.Common.{◌≡◌, take, IsTrue}
+use Rattle.pn_join.specs.Marks.{are_positions}
+use Rattle.pn_region.specs.Marking.{all_marked}
+use Rattle.pn_region.proofs.marking.followed.Given as goal
+
+abbrev pub invariant-loop-delivery : goal.invariant-loop-delivery
+invariant-loop-delivery l = record {
+  followed : l.next ≡ all_marked l.fn.marks (take l.delivery-index l.deliveries);
+  positions : IsTrue (are_positions l.next);
+}

@@ -1,0 +1,8 @@
+-- The mark is that after the deliveries so far.
+use Rattle.std.proofs.Common.{◌≡◌, take}
+use Rattle.pn_join.specs.Marks.{position_of}
+use Rattle.pn_region.specs.Marking.{all_marked}
+use Rattle.pn_region.proofs.marking.mark_after.Given as goal
+
+abbrev pub invariant-loop-delivery : goal.invariant-loop-delivery
+invariant-loop-delivery l = l.mark ≡ position_of (all_marked l.fn.marks (take l.delivery-index l.deliveries)) l.fn.stream

@@ -1,0 +1,6 @@
+-- How many there can be.
+use Rattle.std.specs.Prelude.{ℕ}
+
+-- the most bounds of a layout, which has one tablet more
+abbrev pub most_bounds : ℕ
+most_bounds = 63
