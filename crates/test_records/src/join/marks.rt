@@ -23,7 +23,7 @@ fn the_greater_position_stays(rt: HostRuntime) -> Result<(), Fail> {
 }
 
 #[test]
-fn an_absent_name_counts_as_nought(rt: HostRuntime) -> Result<(), Fail> {
+fn an_absent_name_counts_as_zero(rt: HostRuntime) -> Result<(), Fail> {
     let alloc = rt.alloc();
     let marks = marks(alloc, &[("east", 5), ("west", 2)])?;
     assert!(rt; marks.reaches(&self::marks(alloc, &[])?));
