@@ -8,7 +8,7 @@ use Rattle.std.specs.FinMap.{find, put}
 use Rattle.std.specs.FinMap.Entries.{find-put, find_tied}
 use Rattle.pn_join.specs.Laws.{JoinLaws}
 use Rattle.pn_join.specs.Tables.{contents_at, optional_joined, key_by_key}
-use Rattle.pn_join.specs.TableLaws.{key_by_key-laws}
+use Rattle.pn_join.specs.Proofs.TableLaws.{key_by_key-laws}
 use Rattle.pn_join.specs.Changes.{with_entries}
 use Rattle.pn_join.proofs.JoinSteps.{joined_more, contents_at_more, not_found_before, not_found_yet}
 use Rattle.pn_join.proofs.Puts.{tie, contents_at-put}

@@ -3,5 +3,5 @@ pub mod Laws
 pub mod Marks
 pub mod Naming
 pub mod Places
-pub mod TableLaws
+pub mod Proofs
 pub mod Tables

@@ -1,10 +1,11 @@
 -- Marks: positions of streams by their names, where an absent name counts as 0.
-use Rattle.std.specs.Prelude.{ℕ, ◌≤◌, ◌^◌, max, Bool, ◌&&◌, nat_lt, nat_le, List, [], ◌∷◌, Option, unwrap_or}
+use Rattle.std.specs.Prelude.{ℕ, ◌≤◌, max, Bool, ◌&&◌, nat_lt, nat_le, List, [], ◌∷◌, Option, unwrap_or}
 use Rattle.std.specs.declared.cmp.Ordering.{Ordering}
 use Rattle.std.specs.Ordering.{nat_cmp}
 use Rattle.std.specs.Cmp.Lexicographic.{slice_cmp}
 use Rattle.std.specs.List.{list_all, position}
 use Rattle.std.specs.FinMap.{find, put}
+use Rattle.pn_join.specs.declared.marks.TheConstants.{LAST_POSITION}
 
 -- names and their positions, in byte order of names
 abbrev pub Positions : Type 0
@@ -35,9 +36,9 @@ abbrev pub raised : Positions → Positions → Positions
 raised marks [] = marks
 raised marks (other ∷ others) = put name_cmp other.0 (max (position_of marks other.0) other.1) (raised marks others)
 
--- a position of a message: 1 to 10^15
+-- a position of a message: 1 to the last that a stream can have
 abbrev pub is_position : ℕ → Bool
-is_position n = nat_le 1 n && nat_le n (10 ^ 15)
+is_position n = nat_le 1 n && nat_le n LAST_POSITION
 
 -- each is the position of a message
 abbrev pub are_positions : Positions → Bool

@@ -9,7 +9,7 @@ mod name;
 mod table;
 
 pub use join::{Dup, Join};
-pub use marks::{Highest, Marks, raise, raise_at};
+pub use marks::{Highest, LAST_POSITION, Marks, raise, raise_at};
 pub use memory::NoMemory;
-pub use name::{BadName, Name, StreamName};
-pub use table::Table;
+pub use name::{BadName, LONGEST_NAME, Name, StreamName};
+pub use table::{Entries, Table};

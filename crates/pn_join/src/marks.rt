@@ -9,6 +9,9 @@ ghost use Rattle.pn_join.specs.Marks.{name_cmp, position_of, Reaches, falls_shor
 use crate::{Dup, Join, NoMemory, StreamName, Table};
 use std::marker::Model;
 
+/// The last position that a stream can have.
+pub const LAST_POSITION: u64 = 1_000_000_000_000_000;
+
 /// A position that only rises: the join of two is the greater one.
 #[derive(Clone, Copy, Debug, PartialEq, Eq, PartialOrd, Ord)]
 pub struct Highest(pub u64);
@@ -82,7 +85,12 @@ impl Table<StreamName, Highest> {
         ensures short { result ≡ list_any (falls_short self.now) need.now }
         ensures rising { IsTrue (is_sorted name_cmp need.now) }
     {
-        need.entries().iter().any(|wanted| self.falls_short(wanted))
+        for (name, position) in need.iter() {
+            if self.position(name) < position.0 {
+                return true;
+            }
+        }
+        false
     }
 
     fn falls_short(&self, wanted: &(StreamName, Highest)) -> bool

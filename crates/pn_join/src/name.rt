@@ -16,13 +16,13 @@ use std::marker::Model;
 use std::str;
 use thiserror::Error;
 
-/// The longest name, in bytes.
-const LONGEST: usize = 32;
+/// How many bytes a name may have.
+pub const LONGEST_NAME: usize = 32;
 
 /// A name: 1 to 32 bytes of `a` to `z`, `0` to `9` and `-`. Names are ordered by their bytes.
 #[derive(Debug, Drop)]
 pub struct Name {
-    bytes: [u8; LONGEST],
+    bytes: [u8; LONGEST_NAME],
     len: usize,
 }
 
@@ -36,13 +36,14 @@ pub struct BadName;
 
 impl Model for Name {
     ghost use Rattle.std.specs.Prelude.{ℕ, List, take, ◌≡◌, ◌≤◌, IsTrue};
+    ghost use Rattle.pn_join.specs.declared.name.TheConstants.{LONGEST_NAME};
     ghost use Rattle.pn_join.specs.Naming.{is_name};
 
     ghost Value = { List ℕ };
 
     ghost view = { λ name. take name.len name.bytes };
 
-    ghost invariant = { λ name. (name.len ≤ 32) × IsTrue (is_name (take name.len name.bytes)) };
+    ghost invariant = { λ name. (name.len ≤ LONGEST_NAME) × IsTrue (is_name (take name.len name.bytes)) };
 }
 
 impl Name {
@@ -54,7 +55,7 @@ impl Name {
         if !is_name(text) {
             return Err(BadName);
         }
-        let mut bytes = [0; LONGEST];
+        let mut bytes = [0; LONGEST_NAME];
         bytes[..text.len()].copy_from_slice(text);
         Ok(Name {
             bytes,
@@ -81,7 +82,7 @@ impl Name {
 fn is_name(text: &[u8]) -> bool
     ensures { result ≡ name_of text.now }
 {
-    1 <= text.len() && text.len() <= LONGEST && has_name_bytes_alone(text)
+    1 <= text.len() && text.len() <= LONGEST_NAME && has_name_bytes_alone(text)
 }
 
 fn has_name_bytes_alone(text: &[u8]) -> bool

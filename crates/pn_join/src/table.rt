@@ -1,6 +1,6 @@
 //! Tables: finite maps in key order that join key by key.
 
-ghost use Rattle.std.specs.Prelude.{◌≡◌, ℕ, ◌∷◌, [], length, map, option_map, slice_get, count_by, IsTrue, IfOk, IfSome, OnOk, OnErr, MatchResult};
+ghost use Rattle.std.specs.Prelude.{◌≡◌, ℕ, ◌∷◌, [], length, map, option_map, slice_get, drop, count_by, IsTrue, IfOk, IfSome, OnOk, OnErr, MatchResult};
 ghost use Rattle.std.specs.Option.{option_copied};
 ghost use Rattle.std.specs.Ordering.{is_lt};
 ghost use Rattle.std.specs.FinMap.{find, put, is_sorted};
@@ -9,9 +9,11 @@ ghost use Rattle.pn_join.specs.Places.{place_of};
 ghost use Rattle.pn_join.specs.Changes.{IsJoinOf};
 
 mod changes;
+mod entries;
 
 use crate::{Dup, Join, NoMemory};
 use changes::{Changes, Placed, put_in};
+pub use entries::Entries;
 use std::alloc::Global;
 use std::marker::Model;
 
@@ -68,6 +70,22 @@ impl<K: Ord + Dup, C: Join> Table<K, C> {
     {
         let (key, content) = self.entries.get(place)?;
         Some((key, content))
+    }
+
+    /// Walks all entries in key order, each as its key and content. It takes no memory.
+    pub fn iter(&self) -> Entries<'_, K, C>
+        ensures all { result ≡ self.now }
+        ensures table { IsTable K.cmp C.valid self.now }
+    {
+        Entries::of(&self.entries)
+    }
+
+    /// Walks the entries from a place on, in key order. It takes no memory.
+    pub fn iter_from(&self, place: usize) -> Entries<'_, K, C>
+        ensures rest { result ≡ drop place self.now }
+        ensures table { IsTable K.cmp C.valid self.now }
+    {
+        Entries::of(self.entries.get(place..).unwrap_or_default())
     }
 
     pub(crate) fn entries(&self) -> &[(K, C)]
@@ -145,7 +163,7 @@ impl<K: Ord + Dup, C: Join> Table<K, C> {
 impl<K: Ord + Dup, C: Join> Dup for Table<K, C> {
     fn dup(&self) -> Result<Self, NoMemory> {
         let mut entries = Vec::with_capacity(*self.entries.allocator(), self.len())?;
-        for (key, content) in &self.entries {
+        for (key, content) in self.iter() {
             entries.push_reserved((key.dup()?, content.dup()?));
         }
         Ok(Table { entries })
@@ -155,7 +173,7 @@ impl<K: Ord + Dup, C: Join> Dup for Table<K, C> {
 impl<K: Ord + Dup, C: Join> Join for Table<K, C> {
     ghost use Rattle.std.specs.Prelude.{Option};
     ghost use Rattle.pn_join.specs.Tables.{contents_at, key_by_key, IsTable};
-    ghost use Rattle.pn_join.specs.TableLaws.{key_by_key-laws};
+    ghost use Rattle.pn_join.specs.Proofs.TableLaws.{key_by_key-laws};
 
     ghost Meaning = { K → Option C.Meaning };
 

@@ -2,6 +2,7 @@
 use Rattle.std.proofs.Common.{◌≡◌, ℕ, zero, suc, ◌+◌, ◌-◌, ◌<◌, ◌≤◌, min, List, [], ◌∷◌, ◌++◌, length, take, refl, sym, ap, ◌∙◌, arith, append-nil, append_assoc, length-append}
 use Rattle.std.proofs.lemmas.List.{take_min, take_all, take-take, length-take}
 use Rattle.pn_line.specs.Line.{LineSoFar, longer, so_far, kept, most_kept}
+use Rattle.pn_line.specs.declared.line_buffer.TheConstants.{LONGEST_LINE, MOST_KEPT}
 
 -- two lines with the same front and as many bytes
 same_line : (f g : List ℕ) (m n : ℕ) → f ≡ g → m ≡ n → (let r : LineSoFar = record { front = f; count = m } in r) ≡ record { front = g; count = n }
@@ -47,18 +48,18 @@ so_far-append line bs =
     (omega (arith, length-append line bs))
 
 -- a line that is not too long is kept whole
-pub kept-short : (line : List ℕ) → length line ≤ 65536 → kept line ≡ line
+pub kept-short : (line : List ℕ) → length line ≤ LONGEST_LINE → kept line ≡ line
 unfolding most_kept
-kept-short line short = take_all 65537 line (omega arith)
+kept-short line short = take_all MOST_KEPT line (omega arith)
 
 -- of no byte none is kept
 pub kept-nil : kept [] ≡ []
 kept-nil = take_all most_kept [] (omega arith)
 
 -- of a line that is too long more is kept than a line may have
-pub length-kept_long : (line : List ℕ) → 65536 < length line → length (kept line) ≡ 65537
+pub length-kept_long : (line : List ℕ) → LONGEST_LINE < length line → length (kept line) ≡ MOST_KEPT
 unfolding most_kept
-length-kept_long line long = length-take 65537 line ∙ omega arith
+length-kept_long line long = length-take MOST_KEPT line ∙ omega arith
 
 -- what is kept of what is kept
 pub kept-kept : (line : List ℕ) → kept (kept line) ≡ kept line

@@ -1,9 +1,10 @@
 -- What is known of a line while it is read: its first bytes and its length.
 use Rattle.std.specs.Prelude.{ℕ, ◌+◌, ◌-◌, List, ◌++◌, length, take}
+use Rattle.pn_line.specs.declared.line_buffer.TheConstants.{MOST_KEPT}
 
 -- how many bytes of a line are kept: one more than a line may have, so that a longer line shows
 unfoldable pub most_kept : ℕ
-most_kept = 65537
+most_kept = MOST_KEPT
 
 -- the bytes of a line that are kept
 abbrev pub kept : List ℕ → List ℕ

@@ -40,4 +40,8 @@ impl Source for InMemory<'_> {
         self.rest = &self.rest[count..];
         Ok(piece)
     }
+
+    fn has_more(&mut self) -> io::Result<bool> {
+        Ok(!self.rest.is_empty())
+    }
 }

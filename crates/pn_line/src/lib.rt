@@ -1,6 +1,7 @@
 //! Bounded lines from any buffered reader, and a write loop that says how much went out.
 #![tactic(auto)]
 
+mod failing;
 mod in_memory;
 mod line_buffer;
 mod outbox;
@@ -10,6 +11,7 @@ mod sink;
 mod source;
 mod writing;
 
+pub use failing::{FailingSink, FailingSource};
 pub use in_memory::InMemory;
 pub use line_buffer::{ENDLESS, LONGEST_LINE, LineBuffer, MOST_KEPT};
 pub use outbox::{OUTBOX_ROOM, Outbox};

@@ -9,7 +9,7 @@ use std::marker::Model;
 pub const LONGEST_LINE: usize = 65_536;
 
 /// How many bytes of a line are kept: one more than it may have, so that a longer line shows.
-pub const MOST_KEPT: usize = 65_537;
+pub const MOST_KEPT: usize = LONGEST_LINE + 1;
 
 /// A line that has not ended after this many bytes has no end.
 pub const ENDLESS: usize = 1_000_000_000;

@@ -1,5 +1,5 @@
 //! Bytes that wait to be written together, in room that is taken once.
-ghost use Rattle.std.specs.Prelude.{◌≡◌, ◌+◌, ◌≤◌, ◌++◌, [], length, IfOk, IsOk, OnOk, OnErr};
+ghost use Rattle.std.specs.Prelude.{◌≡◌, ◌+◌, ◌<◌, ◌≤◌, ◌++◌, [], length, IfOk, IsOk, OnOk, OnErr};
 ghost use Rattle.std.specs.Io.KnownBytes.{Appends, Keeps};
 ghost use Rattle.pn_line.specs.Sent.{AppendsFront, Sends};
 
@@ -54,6 +54,16 @@ impl Outbox {
         ensures succeeds { length self.old + length bytes.now ≤ OUTBOX_ROOM → IsOk result }
         ensures waits { length self.old + length bytes.now ≤ OUTBOX_ROOM
             → self.new ≡ self.old ++ bytes.now }
+        ensures unsent { length self.old + length bytes.now ≤ OUTBOX_ROOM → writer.new ≡ writer.old }
+
+        // Bytes that fit alone wait once what waited was sent.
+        ensures alone { OUTBOX_ROOM < length self.old + length bytes.now → length bytes.now ≤ OUTBOX_ROOM
+            → OnOk result (self.new ≡ bytes.now) }
+        ensures sent { OUTBOX_ROOM < length self.old + length bytes.now → length bytes.now ≤ OUTBOX_ROOM
+            → OnOk result (Appends (W.contents writer.old) (W.contents writer.new) self.old) }
+
+        // Bytes that fit no outbox were sent, and nothing waits.
+        ensures whole { OUTBOX_ROOM < length bytes.now → OnOk result (self.new ≡ []) }
     {
         if bytes.len() > OUTBOX_ROOM - self.waiting.len() {
             self.send(writer)?;

@@ -1,6 +1,6 @@
 //! Where lines are read from: any buffered reader, whose reads may fail, or bytes in memory, whose
 //! reads do not.
-ghost use Rattle.std.specs.Prelude.{◌≡◌, ◌≢◌, ◌<◌, ℕ, List, IfOk, OnErr, OnSome, Option};
+ghost use Rattle.std.specs.Prelude.{◌≡◌, ◌≢◌, ◌<◌, ℕ, List, [], true, false, IfOk, OnErr, IfSome, OnSome, Option};
 ghost use Rattle.std.specs.Io.KnownBytes.{Keeps, IsAtEnd};
 ghost use Rattle.pn_line.specs.Reads.{Takes, newline_after};
 
@@ -31,6 +31,13 @@ pub trait Source {
         ensures fault { OnErr result may_fail }
         ensures kept { OnErr result (Keeps (left self.old) (left self.new)) }
         ensures line_kept { OnErr result (line.new ≡ line.old) };
+
+    /// Whether bytes are left, for which it waits where it has to. It takes none of them.
+    fn has_more(&mut self) -> io::Result<bool>
+        ensures more { result ≡ Ok true → IfSome (left self.old) (λ rest. rest ≢ []) }
+        ensures end { result ≡ Ok false → IfSome (left self.old) (λ rest. rest ≡ []) }
+        ensures fault { OnErr result may_fail }
+        ensures kept { Keeps (left self.old) (left self.new) };
 }
 
 impl<R: BufRead> Source for R {
@@ -43,5 +50,9 @@ impl<R: BufRead> Source for R {
         let (count, piece) = take_piece(line, shown);
         self.consume(count);
         Ok(piece)
+    }
+
+    fn has_more(&mut self) -> io::Result<bool> {
+        Ok(!self.fill_buf()?.is_empty())
     }
 }

@@ -1,0 +1,2 @@
+-- Proofs that definitions and contracts need.
+pub mod TableLaws

@@ -1,0 +1,49 @@
+//! A walk over the entries of a table, in key order.
+
+ghost use Rattle.std.specs.Prelude.{◌≡◌, length};
+ghost use Rattle.std.specs.Iterator.{at_most};
+ghost use Rattle.std.specs.Map.Iter.{TakesFirst, deref_pair};
+
+use std::iter::FusedIterator;
+use std::marker::Model;
+use std::slice;
+
+/// The entries of a table that are left to walk, in key order. A walk takes no memory.
+#[derive(Drop)]
+pub struct Entries<'t, K, C> {
+    left: slice::Iter<'t, (K, C)>,
+}
+
+impl<'t, K, C> Model for Entries<'t, K, C> {
+    ghost use Rattle.std.specs.Prelude.{List};
+    ghost use Rattle.std.specs.Slice.Iter.{iter_rest};
+
+    ghost Value = { List (K × C) };
+
+    ghost view = { λ entries. iter_rest entries.left };
+}
+
+impl<'t, K, C> Entries<'t, K, C> {
+    pub(crate) fn of(entries: &'t [(K, C)]) -> Self
+        ensures { result ≡ entries.now }
+    {
+        Entries {
+            left: entries.iter(),
+        }
+    }
+}
+
+impl<'t, K, C> Iterator for Entries<'t, K, C> {
+    type Item = (&'t K, &'t C);
+
+    ghost next_gives = { TakesFirst deref_pair };
+
+    ghost remaining = { λ left. at_most (length left) };
+
+    fn next(&mut self) -> Option<(&'t K, &'t C)> {
+        let (key, content) = self.left.next()?;
+        Some((key, content))
+    }
+}
+
+impl<'t, K, C> FusedIterator for Entries<'t, K, C> {}

@@ -1,0 +1,165 @@
+//! A source and a sink of which one call fails, for runs that are to break. Both tell their bytes, so that
+//! a contract says what a broken run read and wrote.
+ghost use Rattle.std.specs.Prelude.{◌≡◌, ◌≢◌, ◌-◌, ◌<◌, ◌≤◌, ◌↔◌, [], Ok, Some, IfOk, IsErr, OnErr, OnSome, length, max, min, take};
+ghost use Rattle.std.specs.Io.KnownBytes.{Appends, Keeps, IsAtEnd};
+ghost use Rattle.pn_line.specs.Reads.{Takes, newline_after};
+
+use crate::in_memory::InMemory;
+use crate::line_buffer::{ENDLESS, LineBuffer};
+use crate::piece::Piece;
+use crate::sink::Sink;
+use crate::source::Source;
+use crate::writing::WriteFault;
+use std::alloc::Global;
+use std::io;
+use std::marker::Model;
+
+/// Calls that are counted down to the one that fails.
+#[derive(Debug, Drop)]
+struct Countdown {
+    fails_at: usize,
+}
+
+impl Countdown {
+    // One call. It fails where it is the first of those that are left up to `fails_at`.
+    fn call(&mut self) -> io::Result<()>
+        ensures fails { IsErr result ↔ (self.old.fails_at ≡ 1) }
+        ensures counted { self.new.fails_at ≡ self.old.fails_at - 1 }
+    {
+        let fails = self.fails_at == 1;
+        self.fails_at = self.fails_at.saturating_sub(1);
+        if fails {
+            return Err(io::Error::from(io::ErrorKind::TimedOut));
+        }
+        Ok(())
+    }
+}
+
+/// Bytes in memory as a source of lines, of which one look fails. The looks behind that one go on.
+#[derive(Debug, Drop)]
+pub struct FailingSource<'a> {
+    bytes: InMemory<'a>,
+    looks: Countdown,
+}
+
+impl<'a> Model for FailingSource<'a> {
+    ghost use Rattle.pn_line.specs.Failing.{FailingSourceValue};
+
+    ghost Value = { FailingSourceValue };
+
+    ghost view = { λ source. record { left = source.bytes; fails_at = source.looks.fails_at } };
+}
+
+impl<'a> FailingSource<'a> {
+    /// A source with all of these bytes left. Its look number `fails_at` fails, the first being 1, or none
+    /// where that is 0.
+    pub fn new(bytes: &'a [u8], fails_at: usize) -> FailingSource<'a>
+        ensures left { result.left ≡ bytes.now }
+        ensures fails_at { result.fails_at ≡ fails_at }
+    {
+        FailingSource {
+            bytes: InMemory::new(bytes),
+            looks: Countdown { fails_at },
+        }
+    }
+}
+
+impl Source for FailingSource<'_> {
+    ghost left = { λ source. Some source.left };
+
+    ghost may_fail = { Unit {0} };
+
+    /// Looks as any source does, and fails at the look that was chosen, and at no other.
+    fn take_some(&mut self, line: &mut LineBuffer) -> io::Result<Piece>
+        requires { line.old.count < ENDLESS }
+        ensures takes { IfOk result
+            (λ piece. Takes line.old line.new (Some self.old.left) (Some self.new.left) (newline_after piece)) }
+        ensures part { result ≡ Ok Piece.Part → line.old.count < line.new.count }
+        ensures below { result ≢ Ok Piece.Part → line.new.count < ENDLESS }
+        ensures end { result ≡ Ok Piece.NoMore → OnSome (Some self.old.left) (IsAtEnd (Some self.new.left)) }
+        ensures fault { OnErr result (Unit {0}) }
+        ensures kept { OnErr result (Keeps (Some self.old.left) (Some self.new.left)) }
+        ensures line_kept { OnErr result (line.new ≡ line.old) }
+        ensures fails { IsErr result ↔ (self.old.fails_at ≡ 1) }
+        ensures counted { self.new.fails_at ≡ self.old.fails_at - 1 }
+    {
+        self.looks.call()?;
+        self.bytes.take_some(line)
+    }
+}
+
+/// A sink that keeps the bytes it takes, a few at a time, and of which one call fails: a write, or one that
+/// hands on. The calls behind that one go on.
+#[derive(Debug, Drop)]
+pub struct FailingSink {
+    taken: Vec<u8>,
+    most: usize,
+    calls: Countdown,
+}
+
+impl Model for FailingSink {
+    ghost use Rattle.pn_line.specs.Failing.{FailingSinkValue};
+
+    ghost Value = { FailingSinkValue };
+
+    ghost view = { λ sink. record { taken = sink.taken.items; most = sink.most; fails_at = sink.calls.fails_at } };
+}
+
+impl FailingSink {
+    /// A sink that took nothing yet. A write takes at most `most` bytes, and at least one. Call number
+    /// `fails_at` fails, the first being 1, or none where that is 0; writes and hand-ons count alike.
+    pub fn new(alloc: Global, most: usize, fails_at: usize) -> FailingSink
+        ensures taken { result.taken ≡ [] }
+        ensures most { result.most ≡ most }
+        ensures fails_at { result.fails_at ≡ fails_at }
+    {
+        FailingSink {
+            taken: Vec::new(alloc),
+            most,
+            calls: Countdown { fails_at },
+        }
+    }
+
+    /// The bytes that it took.
+    pub fn taken(&self) -> &[u8]
+        ensures { result.now ≡ self.now.taken }
+    {
+        &self.taken
+    }
+}
+
+impl Sink for FailingSink {
+    ghost contents = { λ sink. Some sink.taken };
+
+    ghost may_fail = { Unit {0} };
+
+    /// Takes what it takes of the bytes, or fails where this call was chosen. It fails without memory too.
+    fn write_some(&mut self, bytes: &[u8]) -> Result<usize, WriteFault>
+        ensures within { IfOk result (λ count. count ≤ length bytes.now) }
+        ensures some { IfOk result (λ count. 0 < length bytes.now → 0 < count) }
+        ensures written { IfOk result
+            (λ count. Appends (Some self.old.taken) (Some self.new.taken) (take count bytes.now)) }
+        ensures kept { OnErr result (Keeps (Some self.old.taken) (Some self.new.taken)) }
+        ensures takes { IfOk result (λ count. count ≡ min (length bytes.now) (max self.old.most 1)) }
+        ensures fails { self.old.fails_at ≡ 1 → IsErr result }
+        ensures counted { self.new.fails_at ≡ self.old.fails_at - 1 }
+        ensures most { self.new.most ≡ self.old.most }
+    {
+        self.calls.call().map_err(WriteFault::Failed)?;
+        let count = bytes.len().min(self.most.max(1));
+        match self.taken.extend_from_slice(&bytes[..count]) {
+            Ok(()) => Ok(count),
+            Err(error) => Err(WriteFault::Failed(io::Error::from(error))),
+        }
+    }
+
+    /// Fails where this call was chosen, and only there.
+    fn hand_on(&mut self) -> Result<(), WriteFault>
+        ensures kept { Keeps (Some self.old.taken) (Some self.new.taken) }
+        ensures fails { IsErr result ↔ (self.old.fails_at ≡ 1) }
+        ensures counted { self.new.fails_at ≡ self.old.fails_at - 1 }
+        ensures most { self.new.most ≡ self.old.most }
+    {
+        self.calls.call().map_err(WriteFault::Failed)
+    }
+}
