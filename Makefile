@@ -1,4 +1,4 @@
-# The front of the repository: what there is to run, test, build and measure.
+# What there is to run, test, build and measure.
 
 SHELL := /bin/bash
 .SHELLFLAGS := -euo pipefail -c
@@ -46,7 +46,7 @@ bench: build
 checks: build
 	@cd crates/pn_bench && rt run < stdin > /dev/null
 	@checks/exit-statuses "$(PROGRAM)"
-	@checks/want-of-memory "$(PROGRAM)" "$(STEPS)"
+	@checks/out-of-memory "$(PROGRAM)" "$(STEPS)"
 
 # Runs the worked rows through the built program, where they are at hand.
 rows:

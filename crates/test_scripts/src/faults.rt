@@ -1,4 +1,4 @@
-//! Readers and writers that fail in mid-stream: what is written is a front of the replies.
+//! Readers and writers that fail: what is written is a prefix of the replies.
 
 use crate::row::{first_lines, one_tablet};
 use crate::rows::FIRST_RUN;
@@ -26,21 +26,21 @@ fn a_reader_that_fails_leaves_the_replies_to_whole_lines(rt: HostRuntime) -> Res
 }
 
 fn newlines_in(text: &str, bytes: usize) -> usize {
-    let front = text.as_bytes().iter().take(bytes);
-    front.filter(|byte| **byte == b'\n').count()
+    let shown = text.as_bytes().iter().take(bytes);
+    shown.filter(|byte| **byte == b'\n').count()
 }
 
 #[test]
-fn a_writer_that_stops_has_a_front_of_the_replies(rt: HostRuntime) {
+fn a_writer_that_stops_has_a_prefix_of_the_replies(rt: HostRuntime) {
     for stop in [Stop::Fails, Stop::TakesNothing] {
         for taken in 0..FIRST_RUN.replies.len() {
             let mut output = Stopping::new(rt.alloc(), 1, taken.wrapping_add(1), stop);
             let mut input = InMemory::new(FIRST_RUN.script.as_bytes());
             let ended = run(rt.alloc(), &mut input, &mut output, one_tablet(rt.alloc()));
             assert_eq!(rt; ended, Err(RunFault::Write), "{stop:?} after {taken} bytes");
-            let front = FIRST_RUN.replies.as_bytes().iter().take(taken);
+            let prefix = FIRST_RUN.replies.as_bytes().iter().take(taken);
             assert!(rt;
-                output.taken.iter().eq(front),
+                output.taken.iter().eq(prefix),
                 "{stop:?} after {taken} bytes"
             );
         }

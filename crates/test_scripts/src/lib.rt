@@ -10,6 +10,8 @@ mod images;
 #[cfg(test)]
 mod limits;
 #[cfg(test)]
+mod out_of_memory;
+#[cfg(test)]
 mod readers;
 #[cfg(test)]
 mod row;
@@ -23,7 +25,5 @@ mod slow;
 mod tablets;
 #[cfg(test)]
 mod talk;
-#[cfg(test)]
-mod want;
 #[cfg(test)]
 mod writers;

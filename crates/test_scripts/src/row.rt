@@ -59,16 +59,20 @@ pub(crate) fn replies_with<S: Source>(
 }
 
 /// Runs a row from memory, and again from readers that show one, two and seven bytes at a time.
-pub(crate) fn assert_agrees<R: Abort + AllocGlobal>(rt: &R, row: Row) -> Result<(), Fail> {
+pub(crate) fn assert_agrees<R: Abort + AllocGlobal>(
+    rt: &R,
+    name: &str,
+    row: Row,
+) -> Result<(), Fail> {
     let script = row.script.as_bytes();
     let replies = replies_of(rt.alloc(), &mut InMemory::new(script))?;
-    assert_eq!(rt; replies.as_slice(), row.replies.as_bytes());
+    assert_eq!(rt; replies.as_slice(), row.replies.as_bytes(), "{name}");
     for size in [1, 2, 7] {
         let replies = replies_of(rt.alloc(), &mut Pieces::new(script, size))?;
         assert_eq!(rt;
             replies.as_slice(),
             row.replies.as_bytes(),
-            "in pieces of {size}"
+            "{name} in pieces of {size}"
         );
     }
     Ok(())

@@ -41,11 +41,11 @@ fn split_tablets_answer_alike_with_any_number_of_workers(rt: HostRuntime) -> Res
 
 #[test]
 fn there_are_1_to_16_workers(rt: HostRuntime) -> Result<(), Fail> {
-    for (workers, are_lawful) in [(0, false), (1, true), (16, true), (17, false)] {
+    for (workers, are_allowed) in [(0, false), (1, true), (16, true), (17, false)] {
         let layout = Layout::new(Vec::new(rt.alloc()))?;
         assert_eq!(rt;
             Settings::new(layout, workers).is_some(),
-            are_lawful,
+            are_allowed,
             "{workers} workers"
         );
     }

@@ -1,16 +1,16 @@
-//! Deliveries over two tablets, with some numbers of workers, and gates that count.
+//! Deliveries over two tablets, with some numbers of workers, and gates that note what comes.
 ghost use Rattle.std.specs.Prelude.{◌≡◌, map, IfOk};
 ghost use Rattle.std.specs.Option.{option_copied};
 ghost use Rattle.pn_apply.specs.Reducing.{ranges};
 
 use crate::given::{delivery, layout, marks};
-use pn_apply::{Gate, Open, apply_all, reduce, reduce_owned};
+use crate::notes::{Noted, Notes};
+use pn_apply::{Open, apply_all, reduce, reduce_owned};
 use pn_join::Dup;
 use pn_record::{Key, KeyFault};
 use pn_stream::Delivery;
 use pn_tablet::{Change, Layout, Range, TabletOp, TabletState};
 use std::alloc::Global;
-use std::cell::Cell;
 use std::test::Fail;
 
 fn copied(key: Option<&Key>) -> Result<Option<Key>, Fail>
@@ -29,14 +29,19 @@ fn range_of(from: Option<&Key>, to: Option<&Key>) -> Result<Range, Fail>
     Ok(Range::new(copied(from)?, copied(to)?).ok_or(KeyFault::OutOfRange)?)
 }
 
-// The layout's tablets, which have taken nothing.
-fn tablets_of(alloc: Global, layout: &Layout) -> Result<Vec<TabletState>, Fail>
+// The layout's tablets, which have taken nothing, and which note their work.
+fn tablets_of<'a>(alloc: Global, layout: &Layout, notes: &'a Notes) -> Result<Vec<Noted<'a>>, Fail>
     ensures { IfOk result (λ tablets. map (λ tablet. tablet.range) tablets.items ≡ ranges layout.now) }
 {
     let mut tablets = Vec::new(alloc);
     for tablet in 0..layout.count() {
         let (from, to) = layout.range(tablet);
-        tablets.push(TabletState::new(alloc, range_of(from, to)?))?;
+        let state = TabletState::new(alloc, range_of(from, to)?);
+        tablets.push(Noted {
+            state,
+            tablet,
+            notes,
+        })?;
     }
     Ok(tablets)
 }
@@ -81,31 +86,6 @@ fn told(alloc: Global, changes: &[Change]) -> Result<String, Fail> {
     Ok(text)
 }
 
-// Counts the tablets that are entered in rising order from 0.
-#[derive(Drop)]
-struct Counts {
-    next: Cell<usize>,
-    other: Cell<usize>,
-}
-
-impl Gate for Counts {
-    fn enter(&self, tablet: usize) {
-        if tablet == self.next.get() {
-            self.next.set(tablet.wrapping_add(1));
-        } else {
-            self.other.set(self.other.get().wrapping_add(1));
-        }
-    }
-}
-
-// Nobody has come yet.
-fn nobody() -> Counts {
-    Counts {
-        next: Cell::new(0),
-        other: Cell::new(0),
-    }
-}
-
 #[test]
 fn two_tablets_get_their_images_with_any_number_of_workers(rt: HostRuntime) -> Result<(), Fail> {
     let alloc = rt.alloc();
@@ -127,12 +107,12 @@ fn taken(
     alloc: Global,
     deliveries: &[Delivery],
     layout: &Layout,
-    first: &Counts,
-    second: &Counts,
+    first: &Notes,
+    second: &Notes,
 ) -> Result<Vec<Vec<Change>>, Fail> {
     let marks = marks(alloc, &["east"])?;
     let operations = reduce(alloc, deliveries, layout, &marks, 2, first)?;
-    let mut tablets = tablets_of(alloc, layout)?;
+    let mut tablets = tablets_of(alloc, layout, second)?;
     Ok(apply_all(alloc, tablets.as_mut_slice(), &operations, 2, second)?)
 }
 
@@ -144,7 +124,7 @@ fn changes_come_in_the_order_of_the_tablets(rt: HostRuntime) -> Result<(), Fail>
         delivery(alloc, "east", 1, &["n", "l"])?,
         delivery(alloc, "east", 1, &["m", "n"])?,
     ];
-    let changes = taken(alloc, &deliveries, &layout, &nobody(), &nobody())?;
+    let changes = taken(alloc, &deliveries, &layout, &Notes::new(), &Notes::new())?;
     assert_eq!(rt; changes.len(), 2);
     for (list, want) in changes.iter().zip(["l true ", "m true n true "]) {
         assert_eq!(rt; told(alloc, list)?.as_str(), want);
@@ -153,19 +133,17 @@ fn changes_come_in_the_order_of_the_tablets(rt: HostRuntime) -> Result<(), Fail>
 }
 
 #[test]
-fn each_tablet_is_entered_once_in_each_call_in_rising_order(rt: HostRuntime) -> Result<(), Fail> {
+fn each_tablet_is_entered_once_in_rising_order_and_then_worked(
+    rt: HostRuntime,
+) -> Result<(), Fail> {
     let alloc = rt.alloc();
     let layout = layout(alloc, &["c", "m", "x"])?;
-    let deliveries = [delivery(alloc, "east", 1, &["m", "z"])?];
-    let (first, second) = (nobody(), nobody());
-    assert_eq!(rt;
-        taken(alloc, &deliveries, &layout, &first, &second)?.len(),
-        4
-    );
-    for gate in [&first, &second] {
-        assert_eq!(rt; gate.next.get(), 4);
-        assert_eq!(rt; gate.other.get(), 0);
-    }
+    let deliveries = vec![in alloc; delivery(alloc, "east", 1, &["m", "z"])?]?;
+    let (first, second) = (Notes::new(), Notes::new());
+    let changes = taken(alloc, &deliveries, &layout, &first, &second)?;
+    assert_eq!(rt; changes.len(), 4);
+    assert_eq!(rt; first.told(), (4, 0, 0));
+    assert_eq!(rt; second.told(), (4, 4, 0));
     Ok(())
 }
 

@@ -6,6 +6,8 @@ mod apply;
 #[cfg(test)]
 mod given;
 #[cfg(test)]
+mod notes;
+#[cfg(test)]
 mod region;
 #[cfg(test)]
 mod tablet;

@@ -3,3 +3,4 @@
 mod layouts;
 mod ranges;
 mod states;
+mod steps;

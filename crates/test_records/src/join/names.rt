@@ -3,28 +3,35 @@
 use pn_join::{BadName, Dup, Name};
 use std::test::Fail;
 
+/// The longest name.
+const LONGEST: &str = "0123456789abcdef0123456789abcdef";
+
+// Whether the name and its copy have the text that was read.
+fn is_read(text: &str) -> Result<bool, Fail> {
+    let name = Name::read(text.as_bytes())?;
+    Ok(name.as_str() == text && name.dup()?.as_str() == text)
+}
+
 #[test]
 fn names_are_read(rt: HostRuntime) -> Result<(), Fail> {
-    assert_eq!(rt; Name::read(b"a")?.as_str(), "a");
-    assert_eq!(rt; Name::read(b"west-2")?.as_str(), "west-2");
-    let longest = b"0123456789abcdef0123456789abcdef";
-    assert_eq!(rt; Name::read(longest)?.as_str().len(), 32);
-    assert_eq!(rt; Name::read(b"west-2")?.dup()?.as_str(), "west-2");
+    for text in ["a", "west-2", LONGEST] {
+        assert!(rt; is_read(text)?, "{text}");
+    }
     Ok(())
 }
 
 #[test]
 fn other_texts_are_refused(rt: HostRuntime) {
-    assert!(rt; Name::read(b"").is_err());
-    assert!(rt; Name::read(b"0123456789abcdef0123456789abcdef0").is_err());
-    assert!(rt; Name::read(b"West").is_err());
-    assert!(rt; Name::read(b"west_2").is_err());
+    for text in ["", "0123456789abcdef0123456789abcdef0", "West", "west_2"] {
+        assert!(rt; Name::read(text.as_bytes()).is_err(), "{text}");
+    }
 }
 
 #[test]
 fn names_are_ordered_by_their_bytes(rt: HostRuntime) -> Result<(), Fail> {
-    assert!(rt; Name::read(b"b")? > Name::read(b"aa")?);
-    assert!(rt; Name::read(b"a")? < Name::read(b"aa")?);
+    for (lesser, greater) in [("a", "aa"), ("aa", "b")] {
+        assert!(rt; Name::read(lesser.as_bytes())? < Name::read(greater.as_bytes())?);
+    }
     Ok(())
 }
 

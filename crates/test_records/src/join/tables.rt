@@ -66,16 +66,25 @@ fn holds(table: &Table<Name, Greatest>, entries: &[(&str, u64)]) -> bool {
     table.len() == entries.len()
 }
 
+fn count_of(table: &Table<Name, Greatest>, text: &str) -> Result<Option<u64>, Fail> {
+    let name = name(text)?;
+    Ok(table.get(&name).map(|greatest| greatest.count))
+}
+
+fn lower_bound(table: &Table<Name, Greatest>, text: &str) -> Result<usize, Fail> {
+    let name = name(text)?;
+    Ok(table.lower_bound(&name))
+}
+
 #[test]
 fn entries_stand_in_key_order(rt: HostRuntime) -> Result<(), Fail> {
     let table = table(rt.alloc(), &[("b", 3), ("a", 5), ("b", 7), ("b", 4)])?;
     assert!(rt; holds(&table, &[("a", 5), ("b", 7)]));
-    assert_eq!(rt; table.get(&name("b")?), Some(&Greatest { count: 7 }));
-    assert_eq!(rt; table.get(&name("c")?), None);
-    assert_eq!(rt; table.lower_bound(&name("b")?), 1);
-    assert_eq!(rt; table.lower_bound(&name("aa")?), 1);
-    assert_eq!(rt; table.lower_bound(&name("c")?), 2);
     assert!(rt; table.entry_at(2).is_none());
+    for (text, count, place) in [("b", Some(7), 1), ("aa", None, 1), ("c", None, 2)] {
+        assert_eq!(rt; count_of(&table, text)?, count);
+        assert_eq!(rt; lower_bound(&table, text)?, place);
+    }
     Ok(())
 }
 
@@ -86,28 +95,34 @@ fn a_copy_has_the_same_entries(rt: HostRuntime) -> Result<(), Fail> {
     Ok(())
 }
 
+// The table of the entries, with other tables joined in their order.
+fn joined(
+    alloc: Global,
+    entries: &[(&str, u64)],
+    others: &[&[(&str, u64)]],
+) -> Result<Table<Name, Greatest>, Fail> {
+    let mut own = table(alloc, entries)?;
+    for other in others {
+        own.join_from(&table(alloc, other)?)?;
+    }
+    Ok(own)
+}
+
+/// What is joined to a, c and e.
+const OTHERS: &[(&str, u64)] = &[("b", 2), ("c", 9), ("d", 4), ("e", 2)];
+
 #[test]
 fn tables_join_key_by_key(rt: HostRuntime) -> Result<(), Fail> {
-    let mut own = table(rt.alloc(), &[("a", 1), ("c", 3), ("e", 5)])?;
-    own.join_from(&table(rt.alloc(), &[("b", 2), ("c", 9), ("d", 4), ("e", 2)])?)?;
+    let own = joined(rt.alloc(), &[("a", 1), ("c", 3), ("e", 5)], &[OTHERS])?;
     assert!(rt; holds(&own, &[("a", 1), ("b", 2), ("c", 9), ("d", 4), ("e", 5)]));
-    own.join_from(&table(rt.alloc(), &[])?)?;
-    own.join_from(&table(rt.alloc(), &[("f", 6)])?)?;
-    own.join_from(&table(rt.alloc(), &[("a", 2), ("g", 7)])?)?;
-    assert!(rt;
-        holds(
-            &own,
-            &[
-                ("a", 2),
-                ("b", 2),
-                ("c", 9),
-                ("d", 4),
-                ("e", 5),
-                ("f", 6),
-                ("g", 7)
-            ]
-        )
-    );
+    Ok(())
+}
+
+#[test]
+fn none_or_one_or_two_entries_are_joined(rt: HostRuntime) -> Result<(), Fail> {
+    let others: &[&[(&str, u64)]] = &[&[], &[("f", 6)], &[("a", 2), ("g", 7)]];
+    let own = joined(rt.alloc(), &[("a", 1), ("e", 5)], others)?;
+    assert!(rt; holds(&own, &[("a", 2), ("e", 5), ("f", 6), ("g", 7)]));
     Ok(())
 }
 

@@ -26,19 +26,26 @@ fn marked<S: Source>(alloc: Global, source: &mut S) -> io::Result<Vec<u8>> {
     Ok(out)
 }
 
+/// Lines, and how they are marked.
+const TEXT: &[u8] = b"one\n\ntwo\r\n{\"a\":1}\nlast";
+
+const MARKED: &[u8] = b"one||two\r|{\"a\":1}|last.";
+
 #[test]
 fn lines_come_whole_from_pieces(rt: HostRuntime) -> Result<(), Fail> {
-    let text = b"one\n\ntwo\r\n{\"a\":1}\nlast";
-    let want = b"one||two\r|{\"a\":1}|last.";
     for size in [1, 2, 7] {
-        let mut reader = Pieces::new(text, size);
-        let lines = marked(rt.alloc(), &mut reader)?;
-        assert_eq!(rt; lines.as_slice(), want.as_slice(), "in pieces of {size}");
+        let lines = marked(rt.alloc(), &mut Pieces::new(TEXT, size))?;
+        assert_eq!(rt; lines.as_slice(), MARKED, "in pieces of {size}");
     }
-    let lines = marked(rt.alloc(), &mut InMemory::new(text))?;
-    assert_eq!(rt; lines.as_slice(), want.as_slice());
-    let none = marked(rt.alloc(), &mut InMemory::new(b"a\n"))?;
-    assert_eq!(rt; none.as_slice(), b"a|.".as_slice());
+    Ok(())
+}
+
+#[test]
+fn lines_come_whole_from_memory(rt: HostRuntime) -> Result<(), Fail> {
+    for (text, want) in [(TEXT, MARKED), (b"a\n".as_slice(), b"a|.".as_slice())] {
+        let lines = marked(rt.alloc(), &mut InMemory::new(text))?;
+        assert_eq!(rt; lines.as_slice(), want);
+    }
     Ok(())
 }
 
@@ -46,17 +53,31 @@ fn lines_come_whole_from_pieces(rt: HostRuntime) -> Result<(), Fail> {
 fn a_newline_behind_the_line_is_told(rt: HostRuntime) -> Result<(), Fail> {
     let mut source = InMemory::new(b"a\nb\nc");
     let mut line = LineBuffer::new(rt.alloc())?;
-    assert_eq!(rt;
-        read_line(&mut line, &mut source)?,
-        LineEnd::Newline { more: true }
-    );
-    assert_eq!(rt;
-        read_line(&mut line, &mut source)?,
-        LineEnd::Newline { more: false }
-    );
-    assert_eq!(rt; read_line(&mut line, &mut source)?, LineEnd::EndOfInput);
+    for want in [
+        LineEnd::Newline { more: true },
+        LineEnd::Newline { more: false },
+        LineEnd::EndOfInput,
+    ] {
+        let end = read_line(&mut line, &mut source)?;
+        assert!(rt; end == want);
+    }
     assert_eq!(rt; line.bytes(), b"abc".as_slice());
     Ok(())
+}
+
+// Reads a line of so many bytes in pieces, and then a short one: how many bytes of the first were kept and
+// how many it had, whether it was too long, and whether it ended and the second came whole.
+fn read_long(alloc: Global, bytes: usize) -> Result<(usize, usize, bool, bool), Fail> {
+    let mut text = vec![in alloc; b'x'; bytes]?;
+    text.extend_from_slice(b"\nnext\n")?;
+    let mut reader = Pieces::new(&text, 10_000);
+    let mut line = LineBuffer::new(alloc)?;
+    let end = read_line(&mut line, &mut reader)?;
+    let (kept, len, is_too_long) = (line.bytes().len(), line.len(), line.is_too_long());
+    line.start();
+    let is_empty = line.is_empty() && matches!(end, LineEnd::Newline { .. });
+    read_line(&mut line, &mut reader)?;
+    Ok((kept, len, is_too_long, is_empty && line.bytes() == b"next"))
 }
 
 #[test]
@@ -66,19 +87,8 @@ fn a_line_one_byte_over_is_too_long(rt: HostRuntime) -> Result<(), Fail> {
         (65_537, 65_537, true),
         (200_000, 65_537, true),
     ] {
-        let mut text = vec![in rt.alloc(); b'x'; bytes]?;
-        text.extend_from_slice(b"\nnext\n")?;
-        let mut reader = Pieces::new(&text, 10_000);
-        let mut line = LineBuffer::new(rt.alloc())?;
-        let end = read_line(&mut line, &mut reader)?;
-        assert!(rt; matches!(end, LineEnd::Newline { .. }), "{bytes} bytes end");
-        assert_eq!(rt; line.bytes().len(), kept, "{bytes} bytes");
-        assert_eq!(rt; line.len(), bytes);
-        assert_eq!(rt; line.is_too_long(), is_too_long, "{bytes} bytes");
-        line.start();
-        assert!(rt; line.is_empty());
-        read_line(&mut line, &mut reader)?;
-        assert_eq!(rt; line.bytes(), b"next".as_slice());
+        let read = read_long(rt.alloc(), bytes)?;
+        assert_eq!(rt; read, (kept, bytes, is_too_long, true));
     }
     Ok(())
 }
@@ -114,19 +124,31 @@ fn a_line_of_a_billion_bytes_is_endless(rt: HostRuntime) -> Result<(), Fail> {
     Ok(())
 }
 
+// Whether the first of two reads of a line failed, and how many bytes the line had then.
+fn read_twice(alloc: Global, fails_at: usize) -> Result<(bool, usize), Fail> {
+    let mut reader = Pieces::failing(b"12345\n7", 2, fails_at);
+    let mut line = LineBuffer::new(alloc)?;
+    let failed = read_line(&mut line, &mut reader).is_err();
+    let count = line.len();
+    if failed && !matches!(read_line(&mut line, &mut reader)?, LineEnd::Newline { .. }) {
+        return Err(Fail::new("no end of the line"));
+    }
+    if line.bytes() != b"12345" {
+        return Err(Fail::new("another line"));
+    }
+    Ok((failed, count))
+}
+
 #[test]
 fn a_read_goes_on_after_an_error(rt: HostRuntime) -> Result<(), Fail> {
-    for fails_at in 1..6 {
-        let mut reader = Pieces::failing(b"12345\n7", 2, fails_at);
-        let mut line = LineBuffer::new(rt.alloc())?;
-        let first = read_line(&mut line, &mut reader);
-        assert_eq!(rt; first.is_err(), fails_at <= 3, "at {fails_at}");
-        if first.is_err() {
-            assert_eq!(rt; line.len(), 2 * fails_at.saturating_sub(1));
-            let end = read_line(&mut line, &mut reader)?;
-            assert!(rt; matches!(end, LineEnd::Newline { .. }), "at {fails_at}");
-        }
-        assert_eq!(rt; line.bytes(), b"12345".as_slice(), "at {fails_at}");
+    for (fails_at, want) in [
+        (1, (true, 0)),
+        (2, (true, 2)),
+        (3, (true, 4)),
+        (4, (false, 5)),
+        (5, (false, 5)),
+    ] {
+        assert_eq!(rt; read_twice(rt.alloc(), fails_at)?, want, "at {fails_at}");
     }
     Ok(())
 }

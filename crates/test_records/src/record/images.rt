@@ -195,7 +195,7 @@ fn faults_are_printed(rt: HostRuntime) -> Result<(), Fail> {
 
 // Run with each allocation refused in turn: an answer never changes in place of `Memory`.
 #[test]
-fn want_of_memory_is_said_as_such(rt: HostRuntime) {
+fn out_of_memory_is_said_as_such(rt: HostRuntime) {
     let line =
         "{\"fields\":{\"a\":\"1\",\"b\":\"2\"},\"key\":\"k\",\"master\":\"w\",\"version\":[1,0]}";
     match read_image(rt.alloc(), line.as_bytes()) {

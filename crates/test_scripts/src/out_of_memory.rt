@@ -1,4 +1,4 @@
-//! Scripts under want of memory: a refused line is answered when it comes again, and leaves what it would have left.
+//! Scripts that run out of memory: a line that is refused so is answered when it is retried, and leaves what it would have left.
 //!
 //! These tests hold as they are, and hold too where one allocation of theirs is refused, whichever it is.
 
@@ -20,17 +20,17 @@ const NO_CHANGE: &str = r#"{"changed":0}"#;
 
 #[test]
 fn first_run_twice_over(rt: HostRuntime) -> Result<(), Fail> {
-    assert_repeats(&rt, FIRST_RUN, one_tablet(rt.alloc()))
+    assert_retried(&rt, FIRST_RUN, one_tablet(rt.alloc()))
 }
 
 #[test]
 fn equal_versions_conflict_twice_over(rt: HostRuntime) -> Result<(), Fail> {
-    assert_repeats(&rt, EQUAL_VERSIONS_CONFLICT, one_tablet(rt.alloc()))
+    assert_retried(&rt, EQUAL_VERSIONS_CONFLICT, one_tablet(rt.alloc()))
 }
 
 #[test]
 fn overlap_taken_twice_over(rt: HostRuntime) -> Result<(), Fail> {
-    assert_repeats(&rt, OVERLAP_TAKEN, one_tablet(rt.alloc()))
+    assert_retried(&rt, OVERLAP_TAKEN, one_tablet(rt.alloc()))
 }
 
 #[test]
@@ -39,12 +39,12 @@ fn a_round_over_two_tablets_twice_over(rt: HostRuntime) -> Result<(), Fail> {
         script: SPLIT_TABLETS,
         replies: SPLIT_REPLIES,
     };
-    assert_repeats(&rt, row, settings(rt.alloc(), &["m"], 2)?)
+    assert_retried(&rt, row, settings(rt.alloc(), &["m"], 2)?)
 }
 
-// Gives each line of a row twice: the one has the row's reply and the other that of a line which comes
-// again, but a single line may be refused for want of memory.
-fn assert_repeats<R: Abort + AllocGlobal>(
+// Sends each line of a row twice: one has the row's reply and the other that of a retried line, but a single
+// line may run out of memory.
+fn assert_retried<R: Abort + AllocGlobal>(
     rt: &R,
     row: Row,
     settings: Settings,
@@ -87,11 +87,11 @@ fn is_change(reply: &str) -> bool {
 // Whether two equal lines in turn may have these replies, where the first has the wanted one if no
 // memory is refused.
 fn is_answered(wanted: &str, first: &str, second: &str) -> bool {
-    let again = if is_change(wanted) { NO_CHANGE } else { wanted };
+    let retried = if is_change(wanted) { NO_CHANGE } else { wanted };
     match (first, second) {
         // Of a round that ended without memory some tablets may have taken their part before.
         (NO_MEMORY, second) => second == wanted || is_change(wanted) && is_change(second),
         (first, NO_MEMORY) => first == wanted,
-        (first, second) => first == wanted && second == again,
+        (first, second) => first == wanted && second == retried,
     }
 }
