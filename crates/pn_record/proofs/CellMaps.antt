@@ -1,10 +1,9 @@
 -- Tables as the finite maps of lists of images.
-use Rattle.std.proofs.Common.{◌≡◌, ℕ, ◌<◌, Bool, true, false, ◌||◌, cond, List, [], ◌∷◌, ◌++◌, map, filter, length, Option, Some, None, IsTrue, refl, sym, ap, ◌∙◌, subst, arith}
-use Rattle.std.specs.declared.cmp.Ordering.TheVariants.{Less, Equal, Greater}
+use Rattle.std.proofs.Common.{◌≡◌, ℕ, ◌<◌, Bool, true, false, ◌||◌, cond, List, [], ◌∷◌, ◌++◌, map, length, Option, Some, None, IsTrue, refl, sym, ap, ◌∙◌, subst, arith}
 use Rattle.std.specs.Ordering.{eq_by_cmp, is_eq}
 use Rattle.std.specs.Option.{option_map}
 use Rattle.std.specs.List.{AllByRecursion, filter_map, list_any, cons_option}
-use Rattle.std.specs.FinMap.{get, find, entries, entries_sorted, from_entries, get-from_entries, get-entries, is_sorted, keys}
+use Rattle.std.specs.FinMap.{get, find, entries, entries_sorted, get-from_entries, get-entries, is_sorted, keys}
 use Rattle.std.specs.FinMap.Entries.{same_entries, below_all}
 use lib.Dec.{T}
 use Rattle.std.proofs.lemmas.Cmp.{nat_list_cmp_total, tied_itself}

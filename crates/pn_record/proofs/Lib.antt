@@ -11,7 +11,6 @@ pub mod Inverses
 pub mod LawProofs
 pub mod Limiting
 pub mod Lines
-pub mod LookUps
 pub mod MarksValues
 pub mod Members
 pub mod NeverOlder

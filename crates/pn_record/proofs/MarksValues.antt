@@ -21,15 +21,16 @@ use Rattle.serde_json.specs.Data.{Data, number, object, unsigned, Members, no_me
 use Rattle.serde_json.specs.Find.{as_object}
 use Rattle.serde_json.specs.View.{members_view}
 use Rattle.serde_json.specs.declared.value.Value.{Value}
-use Rattle.pn_record.specs.Checks.{Gives}
-use Rattle.pn_record.specs.Grammar.{whole_number, fields_of}
+use Rattle.pn_json.specs.Answers.{IsUnless}
+use Rattle.pn_json.specs.Members.{whole_number}
+use Rattle.pn_record.specs.Grammar.{fields_of}
 use Rattle.pn_record.specs.Limits.{names_rise}
 use Rattle.pn_record.specs.Marks.{IsMarks, is_mark, all_whole, positions_of, positions_data, positions_in, marks_in}
 use Rattle.pn_record.specs.declared.fault.ImageFault.{ImageFault}
-use Rattle.pn_record.specs.declared.fault.ImageFault.TheVariants.{BadShape, OutOfRange}
+use Rattle.pn_record.specs.declared.fault.ImageFault.TheVariants.{Memory, BadShape, OutOfRange}
 use Rattle.pn_record.specs.declared.fault.Member.TheVariants.{At}
 use Rattle.pn_record.proofs.Fields.{fields_rise}
-use Rattle.pn_record.proofs.Inverses.{bind_ok, ok_or_ok, number_from_whole, object_from_as_object}
+use Rattle.pn_json.proofs.Inverses.{bind_ok, ok_or_ok, number_from_whole, object_from_as_object}
 
 whole_again : (marks : Positions) → all_whole (positions_data marks) ≡ true
 whole_again [] = refl
@@ -76,7 +77,7 @@ marks_found d marks is =
     }
 
 -- an answer that is right is marks
-pub answer_marks : (d : Data) (answer : Result Positions ImageFault) → Gives answer (marks_in d) → IfOk answer (λ marks. IsMarks d marks)
+pub answer_marks : (d : Data) (answer : Result Positions ImageFault) → IsUnless Memory answer (marks_in d) → IfOk answer (λ marks. IsMarks d marks)
 answer_marks d (Ok marks) gives = marks_found d marks gives
 answer_marks d (Err fault) gives = tt
 

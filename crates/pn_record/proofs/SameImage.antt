@@ -9,12 +9,13 @@ use Rattle.serde_json.specs.Find.{get_member, as_object}
 use Rattle.serde_json.specs.View.{members_view}
 use Rattle.serde_json.specs.declared.value.Value.{Value}
 use Rattle.pn_record.specs.Limits.{Field}
-use Rattle.pn_record.specs.Grammar.{image_members, only_named, all_texts, fields_of, shape_in, image_in}
+use Rattle.pn_json.specs.Members.{only_named}
+use Rattle.pn_record.specs.Grammar.{image_members, all_texts, fields_of, shape_in, image_in}
 use Rattle.pn_record.specs.Writing.{version_data, fields_data, body_data, image_data}
 use Rattle.pn_record.specs.Canonical.{IsImage}
 use Rattle.pn_record.specs.declared.image.Image.{Image}
-use Rattle.pn_record.proofs.LookUps.{Rise, Rise-map, get_member-member, get_member-unnamed, same_members}
-use Rattle.pn_record.proofs.Inverses.{object_from_as_object}
+use Rattle.pn_json.proofs.LookUps.{Rise, Rise-map, get_member-member, get_member-unnamed, same_members}
+use Rattle.pn_json.proofs.Inverses.{object_from_as_object}
 use Rattle.pn_record.proofs.Limiting.{in_ranges}
 use Rattle.pn_record.proofs.ShapeParts.{Holds, holds, at_deleted, at_fields}
 

@@ -1,15 +1,16 @@
 -- What a value that has the shape of an image holds at each name.
-use Rattle.std.proofs.Common.{◌≡◌, ℕ, List, codes, Bool, true, false, cond, Option, Some, None, option_and_then, unwrap_or, Ok, Err, refl, sym, ap, ◌∙◌}
-use Rattle.std.specs.Option.{ok_or}
+use Rattle.std.proofs.Common.{◌≡◌, ℕ, List, codes, Bool, true, false, cond, Option, Some, None, unwrap_or, Ok, Err, refl, sym, ap, ◌∙◌}
 use Rattle.serde_json.specs.Data.{Data, boolean, string, object, Members}
 use Rattle.serde_json.specs.Find.{get_member, as_bool, as_object, as_str}
 use Rattle.pn_record.specs.Limits.{Field}
-use Rattle.pn_record.specs.Grammar.{numbers_in, only_named, image_members, all_texts, fields_of, deleted_in, object_fields, fields_in, text_in, shape_in}
+use Rattle.pn_json.specs.Members.{only_named, member_as, no_others}
+use Rattle.pn_record.specs.Grammar.{numbers_in, image_members, all_texts, fields_of, deleted_in, object_fields, fields_in, shape_in}
 use Rattle.pn_record.specs.Writing.{version_data, fields_data}
 use Rattle.pn_record.specs.declared.image.Image.{Image}
 use Rattle.pn_record.specs.declared.fault.Member.{Member}
 use Rattle.pn_record.specs.declared.fault.Member.TheVariants.{Fields, Key, Master, Version, Other}
-use Rattle.pn_record.proofs.Inverses.{bind_ok, ok_or_ok, and_then_some, true_from_as_bool, string_from_as_str, object_from_as_object, version_from_numbers, fields_data-fields_of}
+use Rattle.pn_json.proofs.Inverses.{bind_ok, ok_or_ok, and_then_some, true_from_as_bool, string_from_as_str, object_from_as_object}
+use Rattle.pn_record.proofs.Inverses.{version_from_numbers, fields_data-fields_of}
 
 -- what stands at `deleted`, and at `fields`
 abbrev pub at_deleted : Option (List Field) → Option Data
@@ -52,12 +53,12 @@ body_ok o (Some d) false f there is =
     let members : d ≡ object (fields_data (fields_of found.0)) = object_from_as_object d found.0 found.1 ∙ ap object (sym (fields_data-fields_of found.0 found.3)) in
     rw found.2 (deleted_ok o false there, ap Some members)
 
-text_ok : (name : Member) (o : Option Data) (text : List ℕ) → text_in name o ≡ Ok text → o ≡ Some (string text)
+text_ok : (name : Member) (o : Option Data) (text : List ℕ) → member_as as_str name o ≡ Ok text → o ≡ Some (string text)
 text_ok name o text is =
     let found = and_then_some o as_str text (ok_or_ok _ name text is) in
     found.1 ∙ ap Some (string_from_as_str found.0 text found.2)
 
-version_ok : (o : Option Data) (v : ℕ × ℕ) → ok_or (option_and_then numbers_in o) Version ≡ Ok v → o ≡ Some (version_data v)
+version_ok : (o : Option Data) (v : ℕ × ℕ) → member_as numbers_in Version o ≡ Ok v → o ≡ Some (version_data v)
 version_ok o v is =
     let found = and_then_some o numbers_in v (ok_or_ok _ Version v is) in
     found.1 ∙ ap Some (version_from_numbers found.0 v found.2)
@@ -67,16 +68,17 @@ unfolding shape_in
 holds ms image is =
     let deleted = bind_ok (deleted_in (get_member (codes "deleted") ms)) _ image is in
     let fields = bind_ok (fields_in deleted.0 (get_member (codes "fields") ms)) _ image deleted.2 in
-    let key = bind_ok (text_in Key (get_member (codes "key") ms)) _ image fields.2 in
-    let master = bind_ok (text_in Master (get_member (codes "master") ms)) _ image key.2 in
-    let version = bind_ok (ok_or (option_and_then numbers_in (get_member (codes "version") ms)) Version) _ image master.2 in
-    let whole = guard_ok (only_named image_members ms) _ image Other version.2 in
+    let key = bind_ok (member_as as_str Key (get_member (codes "key") ms)) _ image fields.2 in
+    let master = bind_ok (member_as as_str Master (get_member (codes "master") ms)) _ image key.2 in
+    let version = bind_ok (member_as numbers_in Version (get_member (codes "version") ms)) _ image master.2 in
+    let named = bind_ok (no_others image_members Other ms) _ image version.2 in
     let body = body_ok _ _ deleted.0 fields.0 deleted.1 fields.1 in
-    rw (← whole.1) (record {
+    let whole : record { key = key.0; version = version.0; content = (fields.0, master.0) } ≡ image = cc named.2 in
+    rw (← whole) (record {
       deleted = body.0;
       fields = body.1;
       key = text_ok Key _ key.0 key.1;
       master = text_ok Master _ master.0 master.1;
       version = version_ok _ version.0 version.1;
-      others = whole.0;
+      others = (guard_ok (only_named image_members ms) tt named.0 Other named.1).0;
     })

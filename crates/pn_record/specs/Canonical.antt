@@ -1,8 +1,8 @@
 -- The images that values are.
-use Rattle.std.specs.Prelude.{◌≡◌, ℕ, ◌≤◌, List, length, Bool, ◌&&◌, IsTrue, Some}
+use Rattle.std.specs.Prelude.{◌≡◌, ℕ, List, Bool, ◌&&◌, IsTrue}
 use Rattle.serde_json.specs.Data.{Data}
 use Rattle.pn_record.specs.Limits.{is_key, is_version, is_content}
-use Rattle.pn_record.specs.Reading.{reading}
+use Rattle.pn_record.specs.Reading.{IsLine}
 use Rattle.pn_record.specs.Writing.{image_data}
 use Rattle.pn_record.specs.declared.image.Image.{Image}
 
@@ -15,9 +15,6 @@ pub record IsImage (d : Data) (image : Image) : Type 0 where
   pub value : d ≡ image_data image
   pub limits : IsTrue (is_image image)
 
--- the line has at most 65,536 bytes, and `serde_json` reads it as the JSON of the image
-pub record IsImageLine (line : List ℕ) (image : Image) : Type 0 where
-  pub short : length line ≤ 65536
-  pub value : Data
-  pub read : reading line ≡ Some value
-  pub spelled : IsImage value image
+-- the line is that of the image
+abbrev pub IsImageLine : List ℕ → Image → Type 0
+IsImageLine line image = IsLine IsImage line image

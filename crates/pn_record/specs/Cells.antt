@@ -1,5 +1,5 @@
 -- The cell of a key in a list of images, and the images that spell the cells of a table.
-use Rattle.std.specs.Prelude.{◌≡◌, ℕ, List, [], ◌∷◌, ◌++◌, map, filter, Option, Some, None, option_map, Contains, All, ◌↔◌, false}
+use Rattle.std.specs.Prelude.{◌≡◌, ℕ, List, [], ◌∷◌, map, filter, Option, Some, None, option_map, Contains, All, ◌↔◌, false}
 use Rattle.std.specs.List.{flat_map}
 use Rattle.std.specs.Option.{option_map_or}
 use Rattle.std.specs.Str.{bytes_eq}
@@ -7,9 +7,8 @@ use Rattle.std.specs.Ordering.{is_gt, eq_by_cmp}
 use Rattle.std.specs.FinMap.{find, keys}
 use Rattle.std.specs.FinMap.Entries.{by_order}
 use Rattle.pn_record.specs.declared.image.Image.{Image}
-use Rattle.pn_record.specs.Limits.{ContentValue}
 use Rattle.pn_record.specs.Order.{bytes_cmp, version_cmp}
-use Rattle.pn_record.specs.Sets.{Stamp, Contents, CellValue, set_of, union}
+use Rattle.pn_record.specs.Sets.{Stamp, Contents, CellValue, set_of}
 
 -- the version is that of one of the images, and no image has a greater one
 pub record IsTop (version : Stamp) (images : List Image) : Type 0 where

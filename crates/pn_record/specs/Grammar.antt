@@ -1,22 +1,17 @@
 -- The image that a JSON value is: the shapes of its members one after another, and then their ranges.
 use Rattle.std.specs.Prelude.{ℕ, Bool, true, false, not, ◌&&◌, if◌then◌else◌, List, [], ◌∷◌, codes, Option, Some, None, option_map, option_and_then, unwrap_or, is_some, Result, Ok, Err}
 use Rattle.std.specs.Option.{ok_or}
-use Rattle.std.specs.List.{list_any}
-use Rattle.std.specs.Str.{bytes_eq}
 use Rattle.pn_join.specs.Naming.{is_name}
 use Rattle.serde_json.specs.Data.{Data, Items, no_items, item, Members, no_members, member}
-use Rattle.serde_json.specs.Find.{get, as_bool, as_number, as_u64, as_str, as_array, as_object}
+use Rattle.serde_json.specs.Find.{get, as_bool, as_str, as_array, as_object}
 use Rattle.pn_record.specs.Limits.{Field, is_key, is_version, fields_fit}
-use Rattle.pn_record.specs.Checks.{◌>>=◌, fault_as}
+use Rattle.pn_json.specs.Answers.{◌>>=◌, fault_as}
+use Rattle.pn_json.specs.Members.{whole_number, member_as, no_others}
 use Rattle.pn_record.specs.declared.image.Image.{Image}
 use Rattle.pn_record.specs.declared.fault.Member.{Member}
 use Rattle.pn_record.specs.declared.fault.Member.TheVariants.{Whole, Deleted, Fields, Key, Master, Version, Other}
 use Rattle.pn_record.specs.declared.fault.ImageFault.{ImageFault}
 use Rattle.pn_record.specs.declared.fault.ImageFault.TheVariants.{BadShape, OutOfRange}
-
--- a whole number, below 2^64
-abbrev pub whole_number : Data → Option ℕ
-whole_number d = option_and_then as_u64 (as_number d)
 
 -- the two whole numbers of an array of two
 abbrev pub two_numbers : Items → Option (ℕ × ℕ)
@@ -39,11 +34,6 @@ abbrev pub fields_of : Members → List Field
 fields_of no_members = []
 fields_of (member name d ms) = (name, unwrap_or (as_str d) []) ∷ fields_of ms
 
--- each member has one of the names
-abbrev pub only_named : List (List ℕ) → Members → Bool
-only_named names no_members = true
-only_named names (member name d ms) = list_any (bytes_eq name) names && only_named names ms
-
 -- the names of an image's members
 abbrev pub image_members : List (List ℕ)
 image_members = codes "deleted" ∷ codes "fields" ∷ codes "key" ∷ codes "master" ∷ codes "version" ∷ []
@@ -65,20 +55,17 @@ fields_in true (Some d) = Err Fields
 fields_in false None = Err Fields
 fields_in false (Some d) = object_fields (as_object d)
 
--- the text of a member
-abbrev pub text_in : Member → Option Data → Result (List ℕ) Member
-text_in name d = ok_or (option_and_then as_str d) name
-
 -- the image of which the value has the shape, or the first member of another shape
 unfoldable pub shape_in : Data → Result Image Member
 shape_in d = do
   members ← ok_or (as_object d) Whole
   deleted ← deleted_in (get (codes "deleted") d)
   fields ← fields_in deleted (get (codes "fields") d)
-  key ← text_in Key (get (codes "key") d)
-  master ← text_in Master (get (codes "master") d)
-  version ← ok_or (option_and_then numbers_in (get (codes "version") d)) Version
-  if only_named image_members members then Ok (record { key = key; version = version; content = (fields, master) }) else Err Other
+  key ← member_as as_str Key (get (codes "key") d)
+  master ← member_as as_str Master (get (codes "master") d)
+  version ← member_as numbers_in Version (get (codes "version") d)
+  named ← no_others image_members Other members
+  Ok (record { key = key; version = version; content = (fields, master) })
 
 -- the fields fit, where there are any
 abbrev pub body_fits : Option (List Field) → Bool

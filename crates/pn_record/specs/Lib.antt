@@ -1,8 +1,8 @@
 pub mod Canonical
 pub mod CellMap
 pub mod Cells
-pub mod Checks
 pub mod Coding
+pub mod Faults
 pub mod Grammar
 pub mod JoinedCells
 pub mod Limits
@@ -15,6 +15,7 @@ pub mod SameCells
 pub mod Sets
 pub mod Showing
 pub mod States
+pub mod Tokens
 pub mod Totals
 pub mod Unions
 pub mod Words

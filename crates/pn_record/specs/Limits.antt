@@ -6,13 +6,37 @@ use Rattle.std.specs.Ordering.{nat_cmp}
 use Rattle.std.specs.Cmp.Lexicographic.{slice_cmp}
 use Rattle.pn_join.specs.Naming.{is_name}
 
--- a generation of 1 to 10^15 and a number of 0 to 10^15
-abbrev pub is_version : ℕ × ℕ → Bool
-is_version version = nat_le 1 version.0 && nat_le version.0 (10 ^ 15) && nat_le version.1 (10 ^ 15)
+-- the greatest generation and the greatest number of a version, and the last position of a stream
+abbrev pub greatest : ℕ
+greatest = 10 ^ 15
 
--- 1 to 256 bytes
+-- how many bytes a line, a key, a field's name and a field's text have at most
+abbrev pub longest_line : ℕ
+longest_line = 65536
+
+abbrev pub longest_key : ℕ
+longest_key = 256
+
+abbrev pub longest_field_name : ℕ
+longest_field_name = 64
+
+abbrev pub longest_field_text : ℕ
+longest_field_text = 4096
+
+-- how many fields there are at most, and how many bytes all of them have
+abbrev pub most_fields : ℕ
+most_fields = 64
+
+abbrev pub most_field_bytes : ℕ
+most_field_bytes = 8192
+
+-- a generation from 1 on and a number, both at most the greatest
+abbrev pub is_version : ℕ × ℕ → Bool
+is_version version = nat_le 1 version.0 && nat_le version.0 greatest && nat_le version.1 greatest
+
+-- not empty, and not too long
 abbrev pub is_key : List ℕ → Bool
-is_key bytes = nat_le 1 (length bytes) && nat_le (length bytes) 256
+is_key bytes = nat_le 1 (length bytes) && nat_le (length bytes) longest_key
 
 -- a field: its name and its text
 abbrev pub Field : Type 0
@@ -22,17 +46,17 @@ Field = List ℕ × List ℕ
 abbrev pub ContentValue : Type 0
 ContentValue = Option (List Field) × List ℕ
 
--- a name of 1 to 64 bytes and a text of at most 4,096
+-- a name that is not empty, and a text, neither too long
 abbrev pub is_field : Field → Bool
-is_field field = nat_le 1 (length field.0) && nat_le (length field.0) 64 && nat_le (length field.1) 4096
+is_field field = nat_le 1 (length field.0) && nat_le (length field.0) longest_field_name && nat_le (length field.1) longest_field_text
 
 -- how many bytes a field's name and text have together
 abbrev pub field_size : Field → ℕ
 field_size field = length field.0 + length field.1
 
--- at most 64 fields, of at most 8,192 bytes together
+-- not too many fields, and not too many bytes together
 abbrev pub fields_fit : List Field → Bool
-fields_fit fields = nat_le (length fields) 64 && list_all is_field fields && nat_le (sum_by field_size fields) 8192
+fields_fit fields = nat_le (length fields) most_fields && list_all is_field fields && nat_le (sum_by field_size fields) most_field_bytes
 
 -- the names strictly rise by their bytes
 abbrev pub names_rise : List Field → Bool

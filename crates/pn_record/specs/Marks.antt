@@ -6,8 +6,8 @@ use Rattle.pn_join.specs.Naming.{is_name}
 use Rattle.pn_join.specs.Marks.{Positions, is_position}
 use Rattle.serde_json.specs.Data.{Data, number, object, unsigned, Members, no_members, member}
 use Rattle.serde_json.specs.Find.{as_object}
-use Rattle.pn_record.specs.Checks.{◌>>=◌}
-use Rattle.pn_record.specs.Grammar.{whole_number}
+use Rattle.pn_json.specs.Answers.{◌>>=◌}
+use Rattle.pn_json.specs.Members.{whole_number}
 use Rattle.pn_record.specs.declared.fault.Member.TheVariants.{At}
 use Rattle.pn_record.specs.declared.fault.ImageFault.{ImageFault}
 use Rattle.pn_record.specs.declared.fault.ImageFault.TheVariants.{BadShape, OutOfRange}

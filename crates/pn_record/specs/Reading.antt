@@ -1,11 +1,11 @@
 -- What lines and values are read as.
-use Rattle.std.specs.Prelude.{ℕ, List, length, nat_lt, if◌then◌else◌, Option, None, Result, Ok, Err}
+use Rattle.std.specs.Prelude.{◌≡◌, ℕ, ◌≤◌, List, length, nat_lt, if◌then◌else◌, Option, Some, None, Result, Ok, Err}
 use Rattle.std.specs.Option.{ok_or}
 use Rattle.std.specs.Str.{is_utf8}
 use Rattle.serde_json.specs.Data.{Data}
 use Rattle.serde_json.specs.Read.{read}
-use Rattle.pn_record.specs.Limits.{is_version}
-use Rattle.pn_record.specs.Checks.{◌>>=◌}
+use Rattle.pn_record.specs.Limits.{longest_line, is_version}
+use Rattle.pn_json.specs.Answers.{◌>>=◌}
 use Rattle.pn_record.specs.Grammar.{numbers_in, image_in}
 use Rattle.pn_record.specs.declared.image.Image.{Image}
 use Rattle.pn_record.specs.declared.fault.Member.TheVariants.{Version}
@@ -22,9 +22,16 @@ version_in d = do
 unfoldable pub reading : List ℕ → Option Data
 reading bytes = if is_utf8 bytes then read bytes else None
 
--- the value of a line of at most 65,536 bytes
+-- the value of a line that is not too long
 unfoldable pub value_at : List ℕ → Result Data ImageFault
-value_at line = if nat_lt 65536 (length line) then Err TooLong else ok_or (reading line) NotJson
+value_at line = if nat_lt longest_line (length line) then Err TooLong else ok_or (reading line) NotJson
+
+-- the line is not too long, and `serde_json` reads it as a value that spells this
+pub record IsLine {A : Type 0} (IsSpelled : Data → A → Type 0) (line : List ℕ) (meant : A) : Type 0 where
+  pub short : length line ≤ longest_line
+  pub value : Data
+  pub read : reading line ≡ Some value
+  pub spelled : IsSpelled value meant
 
 -- the image of a line
 unfoldable pub image_at : List ℕ → Result Image ImageFault

@@ -1,5 +1,5 @@
 -- Sets of contents, what a cell is, and how two cells join.
-use Rattle.std.specs.Prelude.{◌≡◌, ℕ, ◌<◌, List, ◌++◌, map, length, IsTrue}
+use Rattle.std.specs.Prelude.{ℕ, ◌<◌, List, ◌++◌, map, length, IsTrue}
 use Rattle.std.specs.FinMap.{FinMap, from_entries, entries, keys, is_sorted}
 use Rattle.std.specs.FinMap.Entries.{by_order}
 use Rattle.pn_record.specs.Limits.{ContentValue}

@@ -5,7 +5,7 @@ use Rattle.pn_record.specs.declared.content.Value.{Value}
 use Rattle.pn_record.specs.declared.content.Value.TheVariants.{Text}
 use Rattle.pn_record.specs.declared.content.Body.{Body}
 use Rattle.pn_record.specs.declared.content.Body.TheVariants.{Fields, Deleted}
-use Rattle.pn_record.specs.Limits.{Field, ContentValue}
+use Rattle.pn_record.specs.Limits.{Field}
 
 -- the bytes of a value
 abbrev pub shown_value : Value → List ℕ

@@ -1,13 +1,13 @@
 //! Contents of records: fields or a deletion, and the master.
 
-ghost use Rattle.std.specs.Prelude.{◌≡◌, IsTrue, ◌↔◌, IfSome, IsSome, IfOk, string_bytes, Option, Some, None};
-ghost use Rattle.std.specs.Prelude.{length, map};
+ghost use Rattle.std.specs.Prelude.{◌≡◌, IsTrue, ◌↔◌, IfSome, IsSome, IfOk, string_bytes, Option, Some, None, length, map};
 ghost use Rattle.std.specs.Ordering.{is_lt, nat_cmp};
 ghost use Rattle.std.specs.Cmp.Lexicographic.{slice_cmp};
 ghost use Rattle.pn_record.specs.Limits.{is_body, is_body as body_fits, fields_fit as all_fit, is_field as one_fits, names_rise as all_rise};
 ghost use Rattle.pn_record.specs.Showing.{shown_body, shown_field, shown_value};
 
-use pn_join::{Dup, Name, NoMemory};
+use crate::limits::{LONGEST_FIELD_NAME, LONGEST_FIELD_TEXT, MOST_FIELD_BYTES, MOST_FIELDS};
+use pn_join::Name;
 use std::marker::Model;
 
 /// The value of a field.
@@ -47,15 +47,6 @@ impl Model for Content {
     ghost invariant = { λ content. IsTrue (is_content (shown_body content.body, content.master)) };
 }
 
-/// The most fields, the longest name and text, and the most that all of them have together, in bytes.
-const MOST_FIELDS: usize = 64;
-
-const LONGEST_NAME: usize = 64;
-
-const LONGEST_TEXT: usize = 4_096;
-
-const MOST_BYTES: usize = 8_192;
-
 impl Content {
     /// None exactly where a limit is broken, or where the names of the fields do not strictly rise. It takes no memory.
     pub fn new(body: Body, master: Name) -> Option<Content>
@@ -87,18 +78,24 @@ fn fields_fit(fields: &[(String, Value)]) -> bool
     }
     let mut bytes = 0;
     for field in fields {
-        if !is_field(field) {
+        if !fits(field) {
             return false;
         }
         bytes += field.0.len() + field.1.len();
     }
-    bytes <= MOST_BYTES
+    bytes <= MOST_FIELD_BYTES
 }
 
-fn is_field(field: &(String, Value)) -> bool
+fn fits(field: &(String, Value)) -> bool
     ensures { result ≡ one_fits (shown_field field.now) }
 {
-    1 <= field.0.len() && field.0.len() <= LONGEST_NAME && field.1.len() <= LONGEST_TEXT
+    is_field(field.0.as_str(), field.1.as_str())
+}
+
+pub(crate) fn is_field(name: &str, text: &str) -> bool
+    ensures { result ≡ one_fits (name.now, text.now) }
+{
+    !name.is_empty() && name.len() <= LONGEST_FIELD_NAME && text.len() <= LONGEST_FIELD_TEXT
 }
 
 fn names_rise(fields: &[(String, Value)]) -> bool
@@ -119,11 +116,17 @@ fn is_below(field: &(String, Value), next: &(String, Value)) -> bool
 }
 
 impl Value {
+    pub(crate) fn as_str(&self) -> &str
+        ensures { result.now ≡ shown_value self.now }
+    {
+        match self {
+            Value::Text(text) => text.as_str(),
+        }
+    }
+
     fn len(&self) -> usize
         ensures { result ≡ length (shown_value self.now) }
     {
-        match self {
-            Value::Text(text) => text.len(),
-        }
+        self.as_str().len()
     }
 }

@@ -7,16 +7,14 @@ ghost use Rattle.std.specs.Cmp.{partial_order_from_own_ties};
 ghost use Rattle.std.specs.Cmp.Rules.{comparing};
 ghost use Rattle.std.specs.Cmp.Lexicographic.{slice_cmp};
 ghost use Rattle.std.proofs.Common.{rules};
-ghost use Rattle.pn_record.specs.Limits.{is_key};
+ghost use Rattle.pn_record.specs.Limits.{is_key as is_key_text};
 
+use crate::limits::LONGEST_KEY;
 use pn_join::{Dup, NoMemory};
 use std::alloc::Global;
 use std::cmp::Ordering;
 use std::marker::Model;
 use thiserror::Error;
-
-/// The longest key, in bytes.
-const LONGEST: usize = 256;
 
 /// A record's key: text of 1 to 256 bytes. Keys are ordered by their bytes.
 #[derive(Debug, Drop)]
@@ -47,10 +45,10 @@ impl Model for Key {
 impl Key {
     /// Copies the text. `OutOfRange` exactly where it has not 1 to 256 bytes.
     pub fn of(alloc: Global, text: &str) -> Result<Key, KeyFault>
-        ensures copied { IfOk result (λ key. (key ≡ text.now) × IsTrue (is_key text.now)) }
-        ensures out_of_range { IsErrOf result KeyFault.OutOfRange ↔ (is_key text.now ≡ false) }
+        ensures copied { IfOk result (λ key. (key ≡ text.now) × IsTrue (is_key_text text.now)) }
+        ensures out_of_range { IsErrOf result KeyFault.OutOfRange ↔ (is_key_text text.now ≡ false) }
     {
-        if text.is_empty() || text.len() > LONGEST {
+        if !is_key(text) {
             return Err(KeyFault::OutOfRange);
         }
         match String::from_str(alloc, text) {
@@ -62,10 +60,16 @@ impl Key {
     /// The key as text. It takes no memory.
     pub fn as_str(&self) -> &str
         ensures text { result.now ≡ self.now }
-        ensures is_key { IsTrue (is_key self.now) }
+        ensures is_key { IsTrue (is_key_text self.now) }
     {
         self.text.as_str()
     }
+}
+
+pub(crate) fn is_key(text: &str) -> bool
+    ensures { result ≡ is_key_text text.now }
+{
+    !text.is_empty() && text.len() <= LONGEST_KEY
 }
 
 impl Dup for Key {

@@ -3,6 +3,7 @@
 
 mod cell;
 mod content;
+mod content_writer;
 mod copy;
 mod fault;
 mod gather;
@@ -10,7 +11,9 @@ mod image;
 pub mod image_laws;
 mod key;
 pub mod laws;
+pub mod limits;
 mod marks;
+mod marks_writer;
 mod order;
 mod ranges;
 mod read;
@@ -21,10 +24,12 @@ mod write;
 
 pub use cell::{Cell, CellState};
 pub use content::{Body, Content, Value};
+pub use content_writer::{write_content, write_contents, write_version};
 pub use fault::{ImageFault, Member};
 pub use image::Image;
 pub use key::{Key, KeyFault};
 pub use marks::{marks_of, marks_value};
+pub use marks_writer::write_marks;
 pub use read::{image_of, read_image, read_value, version_of};
 pub use records::{Records, join_records, take_image};
 pub use shape::{Shape, numbers_of, shape_of};

@@ -6,27 +6,26 @@ ghost use Rattle.std.specs.BTreeMap.{IsOrdered};
 ghost use Rattle.serde_json.specs.View.{view, members_view};
 ghost use Rattle.pn_join.specs.Marks.{Positions, are_positions};
 ghost use Rattle.pn_join.specs.Naming.{is_name};
-ghost use Rattle.pn_record.specs.Checks.{Gives, IsOfValue};
-ghost use Rattle.pn_record.specs.Grammar.{whole_number};
+ghost use Rattle.pn_json.specs.Answers.{IsUnless};
+ghost use Rattle.pn_record.specs.Faults.{IsOfValue};
+ghost use Rattle.pn_json.specs.Members.{whole_number};
 ghost use Rattle.pn_record.specs.Marks.{IsMarks, is_mark as is_mark_of, all_whole, positions_of, positions_data, marks_data, marks_in};
 
+use crate::limits::GREATEST;
 use crate::{ImageFault, Member};
 use pn_join::{Highest, Marks, Name, NoMemory, Table};
 use serde_json::{Map, Value};
 use std::alloc::Global;
-
-/// The greatest position of a message.
-const GREATEST: u64 = 1_000_000_000_000_000;
 
 /// The marks that a value spells: an object from names to positions of 1 to 10^15, of any size.
 /// `BadShape` and `OutOfRange` name the member `at`; a bad name is out of range. `Memory` comes only where
 /// the value is marks.
 pub fn marks_of(alloc: Global, value: &Value) -> Result<Marks, ImageFault>
     ensures found { IfOk result (λ marks. IsMarks (view value.now) marks) }
-    ensures only { (marks : Positions) → IsMarks (view value.now) marks → Gives result (Ok marks) }
+    ensures only { (marks : Positions) → IsMarks (view value.now) marks → IsUnless ImageFault.Memory result (Ok marks) }
 
     // Which fault it is.
-    ensures exact { Gives result (marks_in (view value.now)) }
+    ensures exact { IsUnless ImageFault.Memory result (marks_in (view value.now)) }
     ensures memory { IsErrOf result ImageFault.Memory → IsOk (marks_in (view value.now)) }
     ensures faults { IfErr result IsOfValue }
 {
@@ -35,7 +34,7 @@ pub fn marks_of(alloc: Global, value: &Value) -> Result<Marks, ImageFault>
 
 #[tactic(auto, unfolding(crate::specs::Marks::marks_in))]
 fn checked_marks(alloc: Global, value: &Value) -> Result<Marks, ImageFault>
-    ensures exact { Gives result (marks_in (view value.now)) }
+    ensures exact { IsUnless ImageFault.Memory result (marks_in (view value.now)) }
     ensures memory { IsErrOf result ImageFault.Memory → IsOk (marks_in (view value.now)) }
     ensures faults { IfErr result IsOfValue }
 {
@@ -48,7 +47,7 @@ fn checked_marks(alloc: Global, value: &Value) -> Result<Marks, ImageFault>
     if !are_marks(members) {
         return Err(ImageFault::OutOfRange(Member::At));
     }
-    Ok(copied(alloc, members)?)
+    Ok(marks_from(alloc, members)?)
 }
 
 fn has_whole_numbers_alone(members: &Map<String, Value>) -> bool
@@ -86,7 +85,7 @@ fn number_of(value: &Value) -> u64
     value.as_u64().unwrap_or(0)
 }
 
-fn copied(alloc: Global, members: &Map<String, Value>) -> Result<Marks, NoMemory>
+fn marks_from(alloc: Global, members: &Map<String, Value>) -> Result<Marks, NoMemory>
     requires marks { IsTrue (list_all is_mark_of (positions_of (members_view members.now.entries))) }
     requires ordered { IsOrdered string_cmp members.now }
     ensures { IfOk result (λ marks. marks ≡ positions_of (members_view members.now.entries)) }

@@ -3,26 +3,17 @@
 ghost use Rattle.std.specs.Prelude.{◌≡◌, unwrap_or, []};
 ghost use Rattle.serde_json.specs.Find.{as_str};
 ghost use Rattle.serde_json.specs.View.{view, members_view};
-ghost use Rattle.pn_record.specs.Limits.{is_key as is_key_text, fields_fit as all_fit};
+ghost use Rattle.pn_record.specs.Limits.{fields_fit as all_fit};
 ghost use Rattle.pn_record.specs.Grammar.{fields_of, body_fits as body_in_range, ranges_in};
 ghost use Rattle.pn_record.specs.Seen.{seen_fields};
 
+use crate::content::is_field;
 use crate::fault::Member;
+use crate::key::is_key;
+use crate::limits::{MOST_FIELD_BYTES, MOST_FIELDS};
 use crate::{Shape, Version};
 use pn_join::Name;
 use serde_json::{Map, Value};
-
-/// The longest key, and the longest name and text of a field, in bytes; the most fields, and the most
-/// bytes that their names and texts have together.
-const LONGEST_KEY: usize = 256;
-
-const LONGEST_NAME: usize = 64;
-
-const LONGEST_TEXT: usize = 4_096;
-
-const MOST_FIELDS: usize = 64;
-
-const MOST_BYTES: usize = 8_192;
 
 impl Shape<'_> {
     /// The first member that breaks a limit, if one does: the fields, the key, the master, the version.
@@ -48,12 +39,6 @@ impl Shape<'_> {
     }
 }
 
-fn is_key(text: &str) -> bool
-    ensures { result ≡ is_key_text text.now }
-{
-    !text.is_empty() && text.len() <= LONGEST_KEY
-}
-
 fn body_fits(fields: Option<&Map<String, Value>>) -> bool
     ensures { result ≡ body_in_range (seen_fields fields.entry) }
 {
@@ -73,11 +58,11 @@ fn fields_fit(members: &Map<String, Value>) -> bool
     let mut bytes = 0;
     for (name, value) in members.iter() {
         let text = field_text(value);
-        if name.is_empty() || name.len() > LONGEST_NAME || text.len() > LONGEST_TEXT {
+        if !is_field(name.as_str(), text) {
             return false;
         }
         bytes += name.len() + text.len();
-        if bytes > MOST_BYTES {
+        if bytes > MOST_FIELD_BYTES {
             return false;
         }
     }

@@ -1,12 +1,13 @@
 //! Images and versions, read from lines and from parsed values.
 
-ghost use Rattle.std.specs.Prelude.{◌≡◌, ◌<◌, ◌↔◌, length, map, IfOk, IfErr, IsOk, IsErrOf, IsTrue};
+ghost use Rattle.std.specs.Prelude.{◌≡◌, ◌⊎◌, ◌<◌, ◌↔◌, length, map, IfOk, IfErr, IsOk, IsErrOf, IsTrue};
+ghost use Rattle.serde_json.specs.Errors.{IsMemory};
 ghost use Rattle.serde_json.specs.View.{view, members_view};
-ghost use Rattle.pn_record.specs.Limits.{names_rise as all_rise};
-ghost use Rattle.pn_record.specs.Seen.{body_rises};
+ghost use Rattle.pn_record.specs.Limits.{longest_line, names_rise as all_rise};
+ghost use Rattle.pn_record.specs.Seen.{body_rises, seen_fields};
 ghost use Rattle.pn_record.specs.Showing.{shown_field, shown_body};
-ghost use Rattle.pn_record.specs.Seen.{seen_fields};
-ghost use Rattle.pn_record.specs.Checks.{Gives, GivesAs, IsOfValue};
+ghost use Rattle.pn_json.specs.Answers.{IsUnless, ShowsUnless};
+ghost use Rattle.pn_record.specs.Faults.{IsOfValue};
 ghost use Rattle.pn_record.specs.Grammar.{fields_of, ranges_in, image_in};
 ghost use Rattle.pn_record.specs.Reading.{version_in, value_at, image_at};
 ghost use Rattle.pn_record.specs.Canonical.{IsImage, IsImageLine};
@@ -17,31 +18,34 @@ use crate::ranges::field_text;
 use crate::shape::{numbers_of, shape_of};
 use crate::{Body, Content, Image, ImageFault, Key, Member, Shape, Version};
 use pn_join::{Name, NoMemory};
-use serde_json::{Map, Value};
+use pn_line::LONGEST_LINE;
+use serde_json::{Error, Map, Value};
 use std::alloc::Global;
-
-/// The longest line, in bytes, without its newline.
-pub const LONGEST_LINE: usize = 65_536;
 
 /// The value of a line. `TooLong` where it has more than 65,536 bytes, `NotJson` where `serde_json` reads
 /// no value in it.
 #[tactic(auto, unfolding(crate::specs::Reading::value_at, crate::specs::Reading::reading))]
 pub fn read_value(alloc: Global, line: &[u8]) -> Result<Value, ImageFault>
-    ensures exact { GivesAs view result (value_at line.now) }
-    ensures too_long { IsErrOf result ImageFault.TooLong ↔ (LONGEST_LINE < length line.now) }
+    ensures exact { ShowsUnless ImageFault.Memory view result (value_at line.now) }
+    ensures too_long { IsErrOf result ImageFault.TooLong ↔ (longest_line < length line.now) }
 {
     if line.len() > LONGEST_LINE {
         return Err(ImageFault::TooLong);
     }
     match Value::from_slice(alloc, line) {
         Ok(value) => Ok(value),
-        Err(error) => {
-            if error.is_memory() {
-                Err(ImageFault::Memory)
-            } else {
-                Err(ImageFault::NotJson)
-            }
-        }
+        Err(error) => Err(fault_of(&error)),
+    }
+}
+
+// Why `serde_json` gave no value.
+fn fault_of(error: &Error) -> ImageFault
+    ensures { (IsMemory error.now × (result ≡ ImageFault.Memory)) ⊎ ((¬ IsMemory error.now) × (result ≡ ImageFault.NotJson)) }
+{
+    if error.is_memory() {
+        ImageFault::Memory
+    } else {
+        ImageFault::NotJson
     }
 }
 
@@ -60,10 +64,10 @@ pub fn version_of(value: &Value) -> Result<Version, ImageFault>
 /// first that breaks a limit where all have their shapes. `Memory` comes only where the value is an image.
 pub fn image_of(alloc: Global, value: &Value) -> Result<Image, ImageFault>
     ensures found { IfOk result (λ image. IsImage (view value.now) image) }
-    ensures only { (image : ImageRecord) → IsImage (view value.now) image → Gives result (Ok image) }
+    ensures only { (image : ImageRecord) → IsImage (view value.now) image → IsUnless ImageFault.Memory result (Ok image) }
 
     // Which fault it is.
-    ensures exact { Gives result (image_in (view value.now)) }
+    ensures exact { IsUnless ImageFault.Memory result (image_in (view value.now)) }
     ensures memory { IsErrOf result ImageFault.Memory → IsOk (image_in (view value.now)) }
     ensures faults { IfErr result IsOfValue }
 {
@@ -73,7 +77,7 @@ pub fn image_of(alloc: Global, value: &Value) -> Result<Image, ImageFault>
 #[tactic(auto, unfolding(crate::specs::Grammar::image_in))]
 fn checked_image(alloc: Global, value: &Value) -> Result<Image, ImageFault>
     ensures found { IfOk result (λ image. IsImage (view value.now) image) }
-    ensures exact { Gives result (image_in (view value.now)) }
+    ensures exact { IsUnless ImageFault.Memory result (image_in (view value.now)) }
     ensures memory { IsErrOf result ImageFault.Memory → IsOk (image_in (view value.now)) }
     ensures faults { IfErr result IsOfValue }
 {
@@ -86,22 +90,24 @@ fn checked_image(alloc: Global, value: &Value) -> Result<Image, ImageFault>
 /// `serde_json` reads no value in it; otherwise as `image_of` of its value.
 pub fn read_image(alloc: Global, line: &[u8]) -> Result<Image, ImageFault>
     ensures found { IfOk result (λ image. IsImageLine line.now image) }
-    ensures only { (image : ImageRecord) → IsImageLine line.now image → Gives result (Ok image) }
+    ensures only { (image : ImageRecord) → IsImageLine line.now image → IsUnless ImageFault.Memory result (Ok image) }
 
     // Which fault it is.
-    ensures exact { Gives result (image_at line.now) }
-    ensures too_long { IsErrOf result ImageFault.TooLong ↔ (LONGEST_LINE < length line.now) }
+    ensures exact { IsUnless ImageFault.Memory result (image_at line.now) }
+    ensures too_long { IsErrOf result ImageFault.TooLong ↔ (longest_line < length line.now) }
 {
-    line_image(alloc, line)
+    image_read(alloc, read_value(alloc, line))
 }
 
-#[tactic(auto, unfolding(crate::specs::Reading::image_at))]
-fn line_image(alloc: Global, line: &[u8]) -> Result<Image, ImageFault>
-    ensures found { IfOk result (λ image. IsImageLine line.now image) }
-    ensures exact { Gives result (image_at line.now) }
-    ensures too_long { IsErrOf result ImageFault.TooLong ↔ (LONGEST_LINE < length line.now) }
+// The image that was read, or why no value was.
+fn image_read(alloc: Global, read: Result<Value, ImageFault>) -> Result<Image, ImageFault>
+    ensures found { IfOk read (λ value. IfOk result (λ image. IsImage (view value) image)) }
+    ensures exact { IfOk read (λ value. IsUnless ImageFault.Memory result (image_in (view value))) }
+    ensures memory { IfOk read (λ value. IsErrOf result ImageFault.Memory → IsOk (image_in (view value))) }
+    ensures faults { IfOk read (λ value. IfErr result IsOfValue) }
+    ensures unread { IfErr read (λ fault. result ≡ Err fault) }
 {
-    let value = read_value(alloc, line)?;
+    let value = read?;
     image_of(alloc, &value)
 }
 
@@ -134,15 +140,15 @@ fn body_of(alloc: Global, fields: Option<&Map<String, Value>>) -> Result<Body, N
 {
     match fields {
         None => Ok(Body::Deleted),
-        Some(members) => Ok(Body::Fields(copied(alloc, members)?)),
+        Some(members) => Ok(Body::Fields(fields_from(alloc, members)?)),
     }
 }
 
-fn copied(
+fn fields_from(
     alloc: Global,
     members: &Map<String, Value>,
 ) -> Result<Vec<(String, FieldValue)>, NoMemory>
-    ensures copied { IfOk result
+    ensures fields { IfOk result
         (λ fields. map shown_field fields.items ≡ fields_of (members_view members.now.entries)) }
     ensures rising { IfOk result (λ fields. IsTrue (all_rise (map shown_field fields.items))) }
 {

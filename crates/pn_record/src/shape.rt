@@ -1,16 +1,16 @@
 //! The shapes of an image's members, looked at in the parsed value.
 
-ghost use Rattle.std.specs.Prelude.{◌≡◌, option_and_then, string_cmp, IsTrue, IfOk};
-ghost use Rattle.std.specs.Option.{ok_or};
-ghost use Rattle.std.specs.List.{list_any};
-ghost use Rattle.std.specs.Str.{bytes_eq};
+ghost use Rattle.std.specs.Prelude.{◌≡◌, string_cmp, IsTrue, IfOk};
 ghost use Rattle.std.specs.BTreeMap.{IsOrdered};
 ghost use Rattle.serde_json.specs.View.{view, items_view, members_view};
-ghost use Rattle.pn_record.specs.Grammar.{numbers_in, two_numbers, all_texts, only_named, image_members, deleted_in, fields_in, text_in, shape_in};
-ghost use Rattle.pn_record.specs.Seen.{seen, seen_fields, body_rises, Shows};
+ghost use Rattle.pn_json.specs.Members.{seen, member_as};
+ghost use Rattle.pn_json.specs.Answers.{Shows};
+ghost use Rattle.pn_record.specs.Grammar.{numbers_in, two_numbers, all_texts, deleted_in, fields_in, shape_in};
+ghost use Rattle.pn_record.specs.Seen.{seen_fields, body_rises};
 ghost use Rattle.pn_record.specs.Writing.{image_data};
 
 use crate::fault::Member;
+use pn_json::{check_names, text_of};
 use serde_json::{Map, Value};
 use std::marker::Model;
 
@@ -40,15 +40,6 @@ fn deleted_of(value: Option<&Value>) -> Result<bool, Member>
             Some(true) => Ok(true),
             _ => Err(Member::Deleted),
         },
-    }
-}
-
-fn text_of<'v>(name: Member, value: Option<&'v Value>) -> Result<&'v str, Member>
-    ensures { Shows (λ text. text.now) result (text_in name (seen value.entry)) }
-{
-    match value {
-        None => Err(name),
-        Some(value) => value.as_str().ok_or(name),
     }
 }
 
@@ -83,12 +74,11 @@ pub fn shape_of(value: &Value) -> Result<Shape<'_>, Member>
     let members = value.as_object().ok_or(Member::Whole)?;
     let is_deleted = deleted_of(value.get("deleted"))?;
     let fields = fields_of(is_deleted, value.get("fields"))?;
-    let key = text_of(Member::Key, value.get("key"))?;
-    let master = text_of(Member::Master, value.get("master"))?;
+    let key = text_of(value.get("key"), Member::Key)?;
+    let master = text_of(value.get("master"), Member::Master)?;
     let version = version_numbers(value.get("version"))?;
-    if !is_only_named(members) {
-        return Err(Member::Other);
-    }
+    let names = ["deleted", "fields", "key", "master", "version"];
+    check_names(members, &names, Member::Other)?;
     Ok(Shape {
         fields,
         key,
@@ -107,21 +97,15 @@ fn fields_of<'v>(
     match (is_deleted, value) {
         (true, None) => Ok(None),
         (false, Some(value)) => match value.as_object() {
-            Some(members) => {
-                if has_texts_alone(members) {
-                    Ok(Some(members))
-                } else {
-                    Err(Member::Fields)
-                }
-            }
-            None => Err(Member::Fields),
+            Some(members) if has_texts_alone(members) => Ok(Some(members)),
+            _ => Err(Member::Fields),
         },
         _ => Err(Member::Fields),
     }
 }
 
 fn version_numbers(value: Option<&Value>) -> Result<(u64, u64), Member>
-    ensures { result ≡ ok_or (option_and_then numbers_in (seen value.entry)) Member.Version }
+    ensures { result ≡ member_as numbers_in Member.Version (seen value.entry) }
 {
     value.and_then(numbers_of).ok_or(Member::Version)
 }
@@ -136,22 +120,4 @@ fn has_texts_alone(members: &Map<String, Value>) -> bool
         }
     }
     true
-}
-
-fn is_only_named(members: &Map<String, Value>) -> bool
-    ensures named { result ≡ only_named image_members (members_view members.now.entries) }
-    ensures ordered { IsOrdered string_cmp members.now }
-{
-    for (name, _) in members.iter() {
-        if !is_image_member(name.as_str()) {
-            return false;
-        }
-    }
-    true
-}
-
-fn is_image_member(name: &str) -> bool
-    ensures { result ≡ list_any (bytes_eq name.now) image_members }
-{
-    matches!(name, "deleted" | "fields" | "key" | "master" | "version")
 }

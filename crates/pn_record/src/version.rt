@@ -3,10 +3,8 @@
 ghost use Rattle.std.specs.Prelude.{◌≡◌, ◌≤◌, ◌^◌, IsTrue, ◌↔◌, IsSome, IfSome};
 ghost use Rattle.pn_record.specs.Limits.{is_version};
 
+use crate::limits::GREATEST;
 use std::marker::Model;
-
-/// The greatest generation and the greatest number.
-pub const GREATEST: u64 = 1_000_000_000_000_000;
 
 /// Which image of a record this is: a generation, one for each new insert of the record, and a number
 /// within it. Versions are ordered by generation, and then by number.

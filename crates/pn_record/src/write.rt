@@ -5,7 +5,7 @@ ghost use Rattle.serde_json.specs.Data.{object, string, member, no_members};
 ghost use Rattle.serde_json.specs.View.{view};
 ghost use Rattle.serde_json.specs.Written.{compact_text};
 ghost use Rattle.pn_record.specs.Limits.{names_rise, is_version, is_content};
-ghost use Rattle.pn_record.specs.Showing.{shown_field, shown_value};
+ghost use Rattle.pn_record.specs.Showing.{shown_field};
 ghost use Rattle.pn_record.specs.Reading.{image_at};
 ghost use Rattle.pn_record.specs.Canonical.{is_image, IsImageLine};
 ghost use Rattle.pn_record.specs.Writing.{version_data, fields_data, content_data, image_data};
@@ -102,16 +102,8 @@ fn fields_value(alloc: Global, fields: &[(String, FieldValue)]) -> Result<Value,
 {
     let mut members = Map::new(alloc);
     for (name, value) in fields {
-        let text = Value::try_from_str(alloc, field_text(value))?;
+        let text = Value::try_from_str(alloc, value.as_str())?;
         serde_json::put(&mut members, alloc, name.as_str(), text)?;
     }
     Ok(Value::Object(members))
-}
-
-fn field_text(value: &FieldValue) -> &str
-    ensures { result.now ≡ shown_value value.now }
-{
-    match value {
-        FieldValue::Text(text) => text.as_str(),
-    }
 }

@@ -13,7 +13,7 @@ use Rattle.pn_stream.specs.Faults.{Refuses, RefusedLine, LongLine, Stands, IsOfT
 use Rattle.pn_stream.specs.Batches.{Batch, Ends}
 use Rattle.pn_stream.specs.declared.fault.StreamFault.{StreamFault}
 use Rattle.pn_stream.specs.declared.fault.StreamFault.TheVariants.{Read, LineTooLong, BadMessage, OutOfStep, Memory, Failed}
-use Rattle.pn_stream.proofs.SameMessage.{line_again, line_unique}
+use Rattle.pn_stream.proofs.SameMessage.{message_line_again, message_line_unique}
 
 cons_parts : {A : Type 0} (x y : A) (xs ys : List A) → x ∷ xs ≡ y ∷ ys → (x ≡ y) × (xs ≡ ys)
 cons_parts x y xs ys is = (cc, cc)
@@ -43,13 +43,13 @@ longer_than (b ∷ front) behind (c ∷ line) rest unbroken long is =
 
 -- a line is not both a message and refused
 not_both : (line : List ℕ) (message : Message) (fault : ImageFault) → IsMessageLine line message → message_at line ≡ Err fault → ⊥
-not_both line message fault said refused = neither (sym (line_again line message said) ∙ refused)
+not_both line message fault said refused = neither (sym (message_line_again line message said) ∙ refused)
   where
     neither : ◌≡◌ {A = Result Message ImageFault} (Ok message) (Err fault) → ⊥
     neither is = cc
 
 not_another : (line : List ℕ) (wanted got : ℕ) (image other : Image) → IsMessageLine line (wanted, image) → IsMessageLine line (got, other) → got ≢ wanted → ⊥
-not_another line wanted got image other said stray apart = apart (ap (λ (m : Message). m.0) (line_unique line (got, other) (wanted, image) stray said))
+not_another line wanted got image other said stray apart = apart (ap (λ (m : Message). m.0) (message_line_unique line (got, other) (wanted, image) stray said))
 
 -- no message in step stands behind a batch that has room for it
 abbrev Stops : ℕ → ℕ → ℕ → List ℕ → Type 0
@@ -92,7 +92,7 @@ same_runs max position text (line ∷ lines) [] (image ∷ images) [] rest more 
     absurd (halt (position + 1) line (text_of lines ++ rest) image (omega arith) (begins more line lines rest run.0 (here ∙ is)) run.1 (omega (arith, within)))
 same_runs max position text (line ∷ lines) (other ∷ others) (image ∷ images) (show ∷ shown) rest more run again is also within inside stop halt =
     let (same, behind) = first_unique text line other (text_of lines ++ rest) (text_of others ++ more) (begins text line lines rest run.0 is) (begins text other others more again.0 also) in
-    let seen : image ≡ show = ap (λ (m : Message). m.1) (line_unique line (position + 1, image) (position + 1, show) run.1 (subst (λ (l : List ℕ). IsMessageLine l (position + 1, show)) (sym same) again.1)) in
+    let seen : image ≡ show = ap (λ (m : Message). m.1) (message_line_unique line (position + 1, image) (position + 1, show) run.1 (subst (λ (l : List ℕ). IsMessageLine l (position + 1, show)) (sym same) again.1)) in
     let (next, left) = same_runs (max - 1) (position + 1) (text_of lines ++ rest) lines others images shown rest more run.2 again.2 refl behind
     (omega (arith, within)) (omega (arith, inside))
     (λ wanted l r i e first said room. stop wanted l r i (omega (arith, e)) first said (omega (arith, room)))
@@ -131,7 +131,7 @@ one_refusal wanted line (BadMessage at fault) (BadMessage place other) a b one t
     ap (λ n. BadMessage n fault) (one.0 ∙ sym two.0) ∙ ap (BadMessage place) (same_error (message_at line) fault other one.1 two.1)
 one_refusal wanted line (OutOfStep named got) (OutOfStep name came) a b one two =
     ap (λ n. OutOfStep n got) (one.0 ∙ sym two.0)
-    ∙ ap (OutOfStep name) (ap (λ (m : Message). m.0) (line_unique line (got, one.2.0) (came, two.2.0) one.2.1 two.2.1))
+    ∙ ap (OutOfStep name) (ap (λ (m : Message). m.0) (message_line_unique line (got, one.2.0) (came, two.2.0) one.2.1 two.2.1))
 one_refusal wanted line (BadMessage at fault) (OutOfStep named got) a b one two = absurd (not_both line (got, two.2.0) fault two.2.1 one.1)
 one_refusal wanted line (OutOfStep named got) (BadMessage at fault) a b one two = absurd (not_both line (got, one.2.0) fault one.2.1 two.1)
 one_refusal wanted line Read other a b one two = absurd one

@@ -1,30 +1,26 @@
 -- A value that has the shape of a message is the JSON of that message, and that JSON has its shape.
-use Rattle.std.proofs.Common.{◌≡◌, ℕ, List, codes, length, Bool, true, false, cond, not, Some, option_and_then, Result, Ok, Err, IfOk, String, Global, string_cmp, bytes_eq, refl, sym, ap, ◌∙◌, subst, ltb}
-use Rattle.std.proofs.lemmas.Bool.{le-ltb, ltb-false}
+use Rattle.std.proofs.Common.{◌≡◌, ℕ, List, codes, Bool, true, false, cond, not, Some, option_and_then, Result, Ok, Err, String, Global, string_cmp, bytes_eq, refl, sym, ap, ◌∙◌}
 use Rattle.std.proofs.lemmas.Slice.Eq.{bytes_eq-Decides}
 use Rattle.std.specs.List.{list_any}
 use Rattle.std.specs.List.Sorted.{IsStrictlySortedBy}
 use Rattle.std.specs.Map.{keys_of}
-use Rattle.std.specs.Option.{ok_or}
 use Rattle.serde_json.specs.Data.{Data, number, unsigned, object, Members, no_members, member}
 use Rattle.serde_json.specs.Find.{get, get_member, as_object}
 use Rattle.serde_json.specs.View.{members_view}
 use Rattle.serde_json.specs.declared.value.Value.{Value}
-use Rattle.pn_record.specs.Checks.{Gives}
 use Rattle.pn_record.specs.Canonical.{is_image}
-use Rattle.pn_record.specs.Grammar.{whole_number, only_named, ranges_in as image_ranges_in}
-use Rattle.pn_record.specs.Reading.{reading, value_at}
+use Rattle.pn_join.specs.Marks.{is_position}
+use Rattle.pn_json.specs.Members.{whole_number, only_named}
+use Rattle.pn_record.specs.Grammar.{ranges_in as image_ranges_in}
 use Rattle.pn_record.specs.Seen.{body_rises}
 use Rattle.pn_record.specs.Writing.{image_data}
-use Rattle.pn_record.specs.declared.fault.ImageFault.{ImageFault}
-use Rattle.pn_record.specs.declared.fault.ImageFault.TheVariants.{TooLong, NotJson}
-use Rattle.pn_record.proofs.Inverses.{and_then_some, ok_or_ok, object_from_as_object, number_from_whole}
+use Rattle.pn_json.proofs.Inverses.{and_then_some, object_from_as_object, number_from_whole}
+use Rattle.pn_record.proofs.Lines.{line_again, line_unique}
 use Rattle.pn_record.proofs.Limiting.{in_ranges, image_from_ranges}
-use Rattle.pn_record.proofs.LookUps.{Rise, Rise-map, get_member-unnamed, same_members}
+use Rattle.pn_json.proofs.LookUps.{Rise, Rise-map, get_member-unnamed, same_members}
 use Rattle.pn_record.proofs.SameImage.{shape_again}
 use Rattle.pn_stream.specs.Messages.{Message, message_members, shape_in, ranges_in, message_in, message_at}
 use Rattle.pn_stream.specs.MessageLines.{message_data, IsMessage, IsMessageLine}
-use Rattle.pn_stream.specs.Positions.{is_position}
 
 -- the members of a message's JSON
 abbrev members_of : Data → Data → Members
@@ -86,34 +82,11 @@ pub message_again : (d : Data) (message : Message) → IsMessage d message → m
 unfolding message_in ranges_in
 message_again d message is = rw (is.value, shape_again_of message.0 message, is.position, in_ranges message.1 is.limits) refl
 
--- what is answered is right where the right answer is this one
-pub gives_same : (answer right : Result Message ImageFault) (message : Message) → Gives answer right → right ≡ Ok message → Gives answer (Ok message)
-gives_same answer right message gives is = subst (λ (r : Result Message ImageFault). Gives answer r) is gives
-
-short_ok : (b : Bool) (r : Result Data ImageFault) (d : Data) → cond b (Err TooLong) r ≡ Ok d → (b ≡ false) × (r ≡ Ok d)
-short_ok true r d is = absurd (cc)
-short_ok false r d is = (refl, is)
-
--- a line whose value is the message's
-line_found : (line : List ℕ) (d : Data) (message : Message) → value_at line ≡ Ok d → IsMessage d message → IsMessageLine line message
-unfolding value_at
-line_found line d message value is =
-    let parts = short_ok (ltb 65536 (length line)) (ok_or (reading line) NotJson) d value in
-    record { short = ltb-false _ _ parts.0; value = d; read = ok_or_ok (reading line) NotJson d parts.1; spelled = is }
-
 -- a message's line is read as the message
-pub line_again : (line : List ℕ) (message : Message) → IsMessageLine line message → message_at line ≡ Ok message
-unfolding value_at message_at
-line_again line message is = rw (le-ltb 65536 (length line) is.short, is.read) (message_again is.value message is.spelled)
-
--- the same of what was answered
-pub answer_found : (line : List ℕ) (d : Data) (answer : Result Message ImageFault) → value_at line ≡ Ok d → IfOk answer (λ message. IsMessage d message) → IfOk answer (λ message. IsMessageLine line message)
-answer_found line d (Ok message) value is = line_found line d message value is
-answer_found line d (Err fault) value is = tt
-
-same_ok : (a b : Message) → ◌≡◌ {A = Result Message ImageFault} (Ok a) (Ok b) → a ≡ b
-same_ok a b is = cc
+pub message_line_again : (line : List ℕ) (message : Message) → IsMessageLine line message → message_at line ≡ Ok message
+unfolding message_at
+message_line_again line message is = line_again IsMessage message_in message_again line message is
 
 -- no line is the line of two messages
-pub line_unique : (line : List ℕ) (one other : Message) → IsMessageLine line one → IsMessageLine line other → one ≡ other
-line_unique line one other first second = same_ok one other (sym (line_again line one first) ∙ line_again line other second)
+pub message_line_unique : (line : List ℕ) (one other : Message) → IsMessageLine line one → IsMessageLine line other → one ≡ other
+message_line_unique = line_unique IsMessage message_in message_again

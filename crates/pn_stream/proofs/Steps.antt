@@ -1,16 +1,22 @@
 -- What reading to the end of a line says of the text that is left of a stream.
-use Rattle.std.proofs.Common.{◌≡◌, ◌≢◌, ℕ, ◌≤◌, ◌^◌, List, [], ◌∷◌, ◌++◌, length, Option, None, Some, IfSome, nat_le, sym, ap, ◌∙◌, subst, arith, append_assoc}
-use Rattle.std.proofs.lemmas.Bool.{and_parts}
+use Rattle.std.proofs.Common.{◌≡◌, ◌≢◌, ℕ, ◌≤◌, ◌^◌, List, [], ◌∷◌, ◌++◌, length, ◌==◌, Bool, true, false, cond, Option, None, Some, IfSome, Result, Ok, Err, IfOk, IfErr, nat_le, refl, sym, ap, ◌∙◌, subst, arith, append_assoc}
+use Rattle.std.proofs.lemmas.Bool.{and_parts, eqb-true, eq-eqb, true≢false}
 use Rattle.std.proofs.lemmas.List.Elements.{All-nil, All-append}
 use Rattle.pn_line.specs.Line.{LineSoFar, longer, so_far}
 use Rattle.pn_line.specs.LineEnd.{ReadsTo}
 use Rattle.pn_line.specs.Reads.{IsUnbroken, Takes}
+use Rattle.pn_line.specs.declared.reading.BoundedEnd.{BoundedEnd}
 use Rattle.pn_line.specs.declared.reading.BoundedEnd.TheVariants.{Newline, EndOfInput, TooLong}
 use Rattle.pn_line.proofs.LineLaws.{kept-short, kept-nil, so_far-append}
 use Rattle.pn_line.proofs.ToldLaws.{ReadsPart-from_takes, text_of-read_end}
 use Rattle.pn_record.specs.declared.image.Image.{Image}
 use Rattle.pn_stream.specs.MessageLines.{IsMessageLine}
 use Rattle.pn_stream.specs.Streams.{FirstLine, NoLine}
+use Rattle.pn_record.specs.declared.fault.ImageFault.{ImageFault}
+use Rattle.pn_record.specs.declared.fault.ImageFault.TheVariants as image
+use Rattle.pn_json.specs.Answers.{IsUnless}
+use Rattle.pn_stream.specs.Messages.{Message, message_at}
+use Rattle.pn_stream.specs.Steps.{whole_line, image_in_step}
 use Rattle.pn_stream.specs.Faults.{Refuses, Stands}
 use Rattle.pn_stream.specs.Batches.{IsPart, IsNext, part_of}
 use Rattle.pn_stream.specs.declared.fault.StreamFault.{StreamFault}
@@ -122,3 +128,66 @@ position_within line wanted image said = grind (arith, (and_parts (nat_le 1 want
 pub part_within : (line : Option LineSoFar) → IfSome line IsPart → length (part_of line) ≤ 65536
 part_within None is = omega arith
 part_within (Some line) is = is.part.short
+
+-- ---- how reading a line ended
+
+-- at a newline
+pub newline_read : {E : Type 0} (end : Result BoundedEnd E) (ends : BoundedEnd → Type 0) → whole_line end ≡ Ok true → IfOk end ends → ends Newline
+newline_read (Ok Newline) ends is read = read
+newline_read (Ok EndOfInput) ends is read = cc
+newline_read (Ok TooLong) ends is read = cc
+newline_read (Err error) ends is read = cc
+
+-- at the end of the input
+pub input_ended : {E : Type 0} (end : Result BoundedEnd E) (ends : BoundedEnd → Type 0) → whole_line end ≡ Ok false → IfOk end ends → ends EndOfInput
+input_ended (Ok Newline) ends is read = cc
+input_ended (Ok EndOfInput) ends is read = read
+input_ended (Ok TooLong) ends is read = cc
+input_ended (Err error) ends is read = cc
+
+told : (P : List ℕ → Type 0) → ((text : List ℕ) → P text) → (left : Option (List ℕ)) → IfSome left P
+told P all None = tt
+told P all (Some text) = all text
+
+fault_same : {A : Type 0} (fault other : StreamFault) → ◌≡◌ {A = Result A StreamFault} (Err fault) (Err other) → fault ≡ other
+fault_same fault other is = cc
+
+-- with a fault, which stands next
+pub fault_stands : {E : Type 0} (end : Result BoundedEnd E) (fault : StreamFault) (wanted : ℕ) (line new : LineSoFar) (left leaves : Option (List ℕ)) → IsPart line → whole_line end ≡ Err fault
+    → IfOk end (λ e. ReadsTo e line new left leaves) → IfSome left (λ text. Stands wanted (line.front ++ text) fault)
+fault_stands (Ok Newline) fault wanted line new left leaves part is reads = cc
+fault_stands (Ok EndOfInput) fault wanted line new left leaves part is reads = cc
+fault_stands (Ok TooLong) fault wanted line new left leaves part is reads =
+    subst (λ (f : StreamFault). IfSome left (λ text. Stands wanted (line.front ++ text) f)) (fault_same {A = Bool} LineTooLong fault is) (next_long wanted line new left leaves part reads)
+fault_stands (Err error) fault wanted line new left leaves part is reads =
+    subst (λ (f : StreamFault). IfSome left (λ text. Stands wanted (line.front ++ text) f)) (fault_same {A = Bool} Read fault is) (told (λ text. Stands wanted (line.front ++ text) Read) (λ text. tt) left)
+
+-- ---- the message of a line
+
+step_at : (wanted at : ℕ) (image : Image) (b : Bool) → (at == wanted) ≡ b → image_in_step wanted (Ok (at, image)) ≡ cond b (Ok image) (Err (OutOfStep wanted at))
+step_at wanted at image b is = rw is refl
+
+by_step : {G : Type 0} (wanted at : ℕ) → ((at ≡ wanted) × ((at == wanted) ≡ true) → G) → ((at ≢ wanted) × ((at == wanted) ≡ false) → G) → G
+by_step {G} wanted at same apart = elim (at == wanted) as (λ b. (at == wanted) ≡ b → G) [
+  | true ↦ λ is. same (eqb-true at wanted is, is)
+  | false ↦ λ is. apart ((λ equal. true≢false (sym (eq-eqb at wanted equal) ∙ is)), is)
+] refl
+
+-- the message that was wanted
+pub step_found : (wanted : ℕ) (line : List ℕ) (read : Result Message ImageFault) → IfOk read (λ message. IsMessageLine line message) → IfOk (image_in_step wanted read) (λ image. IsMessageLine line (wanted, image))
+step_found wanted line (Err fault) found = tt
+step_found wanted line (Ok (at, image)) found = by_step wanted at
+    (λ (same, is). rw is (subst (λ (n : ℕ). IsMessageLine line (n, image)) same found))
+    (λ (apart, is). rw is tt)
+
+-- or why the line is refused
+pub step_refused : (wanted : ℕ) (line : List ℕ) (read : Result Message ImageFault) → IfOk read (λ message. IsMessageLine line message) → IsUnless image.Memory read (message_at line)
+    → IfErr (image_in_step wanted read) (λ fault. Refuses wanted line fault)
+step_refused wanted line (Ok (at, image)) found right = by_step wanted at
+    (λ (same, is). rw is tt)
+    (λ (apart, is). rw is (refl, apart, (image, found)))
+step_refused wanted line (Err image.Memory) found right = tt
+step_refused wanted line (Err image.TooLong) found right = (refl, right (λ is. cc))
+step_refused wanted line (Err image.NotJson) found right = (refl, right (λ is. cc))
+step_refused wanted line (Err (image.BadShape member)) found right = (refl, right (λ is. cc))
+step_refused wanted line (Err (image.OutOfRange member)) found right = (refl, right (λ is. cc))

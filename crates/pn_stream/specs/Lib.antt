@@ -4,4 +4,5 @@ pub mod Faults
 pub mod MessageLines
 pub mod Messages
 pub mod Positions
+pub mod Steps
 pub mod Streams

@@ -1,11 +1,11 @@
 -- The messages that values and lines are.
-use Rattle.std.specs.Prelude.{◌≡◌, ℕ, ◌≤◌, List, length, codes, IsTrue, Some}
+use Rattle.std.specs.Prelude.{◌≡◌, ℕ, List, codes, IsTrue}
 use Rattle.serde_json.specs.Data.{Data, number, object, unsigned, no_members, member}
+use Rattle.pn_join.specs.Marks.{is_position}
 use Rattle.pn_record.specs.Canonical.{is_image}
-use Rattle.pn_record.specs.Reading.{reading}
+use Rattle.pn_record.specs.Reading.{IsLine}
 use Rattle.pn_record.specs.Writing.{image_data}
 use Rattle.pn_stream.specs.Messages.{Message}
-use Rattle.pn_stream.specs.Positions.{is_position}
 
 -- the JSON of a message: the position and the image
 abbrev pub message_data : Message → Data
@@ -18,9 +18,6 @@ pub record IsMessage (d : Data) (message : Message) : Type 0 where
   pub position : IsTrue (is_position message.0)
   pub limits : IsTrue (is_image message.1)
 
--- the line has at most 65,536 bytes, and `serde_json` reads it as the JSON of the message
-pub record IsMessageLine (line : List ℕ) (message : Message) : Type 0 where
-  pub short : length line ≤ 65536
-  pub value : Data
-  pub read : reading line ≡ Some value
-  pub spelled : IsMessage value message
+-- the line is that of the message
+abbrev pub IsMessageLine : List ℕ → Message → Type 0
+IsMessageLine line message = IsLine IsMessage line message

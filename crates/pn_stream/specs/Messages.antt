@@ -1,17 +1,18 @@
 -- The message that a JSON value is: the shapes of its members one after another, and then their ranges.
-use Rattle.std.specs.Prelude.{ℕ, not, if◌then◌else◌, List, [], ◌∷◌, codes, option_and_then, Result, Ok, Err}
+use Rattle.std.specs.Prelude.{ℕ, not, if◌then◌else◌, List, [], ◌∷◌, codes, Result, Ok, Err}
 use Rattle.std.specs.Option.{ok_or}
 use Rattle.serde_json.specs.Data.{Data}
 use Rattle.serde_json.specs.Find.{get, as_object}
-use Rattle.pn_record.specs.Checks.{◌>>=◌, fault_as}
-use Rattle.pn_record.specs.Grammar.{whole_number, only_named, shape_in as image_shape_in, ranges_in as image_ranges_in}
+use Rattle.pn_json.specs.Answers.{◌>>=◌, fault_as}
+use Rattle.pn_json.specs.Members.{whole_number, member_as, no_others}
+use Rattle.pn_record.specs.Grammar.{shape_in as image_shape_in, ranges_in as image_ranges_in}
 use Rattle.pn_record.specs.Reading.{value_at}
 use Rattle.pn_record.specs.declared.image.Image.{Image}
 use Rattle.pn_record.specs.declared.fault.Member.{Member}
 use Rattle.pn_record.specs.declared.fault.Member.TheVariants as member
 use Rattle.pn_record.specs.declared.fault.ImageFault.{ImageFault}
 use Rattle.pn_record.specs.declared.fault.ImageFault.TheVariants.{BadShape, OutOfRange}
-use Rattle.pn_stream.specs.Positions.{is_position}
+use Rattle.pn_join.specs.Marks.{is_position}
 
 -- a message: its position in the stream, and its image
 abbrev pub Message : Type 0
@@ -25,10 +26,11 @@ message_members = codes "at" ∷ codes "image" ∷ []
 unfoldable pub shape_in : Data → Result Message Member
 shape_in d = do
   members ← ok_or (as_object d) member.Whole
-  at ← ok_or (option_and_then whole_number (get (codes "at") d)) member.At
+  at ← member_as whole_number member.At (get (codes "at") d)
   value ← ok_or (get (codes "image") d) member.Image
   image ← image_shape_in value
-  if only_named message_members members then Ok (at, image) else Err member.Other
+  named ← no_others message_members member.Other members
+  Ok (at, image)
 
 -- the first member that breaks a limit
 unfoldable pub ranges_in : Message → Result (Unit {0}) Member

@@ -3,8 +3,8 @@
 ghost use Rattle.std.specs.Prelude.{◌≡◌};
 ghost use Rattle.pn_stream.specs.declared.fault.StreamFault.TheVariants.{Memory};
 
+use pn_join::NoMemory;
 use pn_record::ImageFault;
-use std::alloc::{AllocError, AllocFailed};
 use thiserror::Error;
 
 /// Why a stream gives no further message.
@@ -29,18 +29,10 @@ pub enum StreamFault {
     Failed,
 }
 
-impl From<AllocError> for StreamFault {
+impl From<NoMemory> for StreamFault {
     ghost from_gives = { λ _ fault. fault ≡ Memory };
 
-    fn from(_error: AllocError) -> StreamFault {
-        StreamFault::Memory
-    }
-}
-
-impl<T: Drop> From<AllocFailed<T>> for StreamFault {
-    ghost from_gives = { λ _ fault. fault ≡ Memory };
-
-    fn from(_error: AllocFailed<T>) -> StreamFault {
+    fn from(_error: NoMemory) -> StreamFault {
         StreamFault::Memory
     }
 }

@@ -1,15 +1,20 @@
 //! The next messages of a stream, from the lines that its source has.
 
-ghost use Rattle.std.specs.Prelude.{◌≡◌, ◌+◌, ◌≤◌, ◌^◌, [], ◌++◌, length, IfOk, IfErr, IfSome, OnOk, IsErrOf, IsSome};
+ghost use Rattle.std.specs.Prelude.{◌≡◌, ◌+◌, ◌≤◌, [], ◌∷◌, ◌++◌, length, IfOk, IfErr, IfSome, OnOk, OnErr, IsErrOf, IsSome};
+ghost use Rattle.pn_line.specs.Line.{so_far};
+ghost use Rattle.pn_record.specs.Limits.{greatest};
+ghost use Rattle.pn_stream.specs.Steps.{whole_line, image_in_step};
 ghost use Rattle.pn_stream.specs.MessageLines.{IsMessageLine};
 ghost use Rattle.pn_stream.specs.Faults.{Refuses, Stands};
 ghost use Rattle.pn_stream.specs.Batches.{Batch, IsPart, IsNext, part_of};
 
 use crate::fault::StreamFault;
 use crate::message::read_message;
+use pn_join::NoMemory;
 use pn_line::{BoundedEnd, LineBuffer, Source, read_bounded_line};
 use pn_record::{Image, ImageFault};
 use std::alloc::Global;
+use std::io;
 
 // Adds the images of the next messages, until there are `max`, no whole line is left, or a fault stands
 // next. The part of a line that was taken is kept, and where there was none its room is taken first.
@@ -23,10 +28,10 @@ pub(crate) fn next_images<S: Source>(
 ) -> Result<(), StreamFault>
     requires part { IfSome held.old IsPart }
     requires none { images.old.items ≡ [] }
-    requires position { position ≤ 10 ^ 15 }
+    requires position { position ≤ greatest }
     requires some { 1 ≤ max }
     ensures within { length images.new.items ≤ max }
-    ensures positions { position + length images.new.items ≤ 10 ^ 15 }
+    ensures positions { position + length images.new.items ≤ greatest }
     ensures ok { OnOk result (IfSome (S.left source.old) (λ text.
         Batch max position (part_of held.old ++ text) images.new.items None (part_of held.new) (S.left source.new))) }
     ensures err { IfErr result (λ fault. IfSome (S.left source.old) (λ text.
@@ -51,8 +56,14 @@ fn held_line(alloc: Global, held: &mut Option<LineBuffer>) -> Result<LineBuffer,
 {
     match held.take() {
         Some(line) => Ok(line),
-        None => Ok(LineBuffer::new(alloc)?),
+        None => Ok(new_line(alloc)?),
     }
+}
+
+fn new_line(alloc: Global) -> Result<LineBuffer, NoMemory>
+    ensures { IfOk result (λ line. line ≡ so_far []) }
+{
+    Ok(LineBuffer::new(alloc)?)
 }
 
 // The same, with the line that holds the part.
@@ -66,9 +77,9 @@ fn gather<S: Source>(
 ) -> Result<(), StreamFault>
     requires part { IsPart line.old }
     requires none { images.old.items ≡ [] }
-    requires position { position ≤ 10 ^ 15 }
+    requires position { position ≤ greatest }
     ensures within { length images.new.items ≤ max }
-    ensures positions { position + length images.new.items ≤ 10 ^ 15 }
+    ensures positions { position + length images.new.items ≤ greatest }
     ensures ok { OnOk result (IfSome (S.left source.old) (λ text.
         Batch max position (line.old.front ++ text) images.new.items None line.new.front (S.left source.new))) }
     ensures err { IfErr result (λ fault. IfSome (S.left source.old) (λ text.
@@ -80,10 +91,19 @@ fn gather<S: Source>(
     'images: while images.len() < max {
         let wanted = position + images.len() as u64 + 1;
         match next_image(alloc, line, source, wanted)? {
-            Some(image) => images.push(image)?,
+            Some(image) => push_image(images, image)?,
             None => return Ok(()),
         }
     }
+    Ok(())
+}
+
+// An error leaves the images as they were.
+fn push_image(images: &mut Vec<Image>, image: Image) -> Result<(), NoMemory>
+    ensures ok { OnOk result (images.new.items ≡ images.old.items ++ image ∷ []) }
+    ensures err { OnErr result (images.new.items ≡ images.old.items) }
+{
+    images.push(image)?;
     Ok(())
 }
 
@@ -100,19 +120,27 @@ fn next_image<S: Source>(
     ensures stands { IfErr result (λ fault. IfSome (S.left source.old) (λ text.
         Stands wanted (line.old.front ++ text) fault)) }
     ensures part { OnOk result (IsPart line.new) }
-    ensures position { IfOk result (λ image. IsSome image → wanted ≤ 10 ^ 15) }
+    ensures position { IfOk result (λ image. IsSome image → wanted ≤ greatest) }
     ensures read { IsErrOf result StreamFault.Read → S.may_fail }
     ensures not_failed { IsErrOf result StreamFault.Failed → ⊥ }
 {
-    match read_bounded_line(line, source) {
-        Err(_) => Err(StreamFault::Read),
-        Ok(BoundedEnd::EndOfInput) => Ok(None),
+    if !is_whole(read_bounded_line(line, source))? {
+        return Ok(None);
+    }
+    let image = image_at(alloc, line.bytes(), wanted)?;
+    line.start();
+    Ok(Some(image))
+}
+
+// Whether a whole line was read, or why none comes.
+fn is_whole(end: io::Result<BoundedEnd>) -> Result<bool, StreamFault>
+    ensures { result ≡ whole_line end }
+{
+    match end {
+        Ok(BoundedEnd::Newline) => Ok(true),
+        Ok(BoundedEnd::EndOfInput) => Ok(false),
         Ok(BoundedEnd::TooLong) => Err(StreamFault::LineTooLong),
-        Ok(BoundedEnd::Newline) => {
-            let image = image_at(alloc, line.bytes(), wanted)?;
-            line.start();
-            Ok(Some(image))
-        }
+        Err(_) => Err(StreamFault::Read),
     }
 }
 
@@ -121,7 +149,14 @@ fn image_at(alloc: Global, line: &[u8], wanted: u64) -> Result<Image, StreamFaul
     ensures ok { IfOk result (λ image. IsMessageLine line.now (wanted, image)) }
     ensures err { IfErr result (λ fault. Refuses wanted line.now fault) }
 {
-    match read_message(alloc, line) {
+    in_step(wanted, read_message(alloc, line))
+}
+
+// The image of a message that was read, where it is the one that was wanted.
+fn in_step(wanted: u64, read: Result<(u64, Image), ImageFault>) -> Result<Image, StreamFault>
+    ensures { result ≡ image_in_step wanted read }
+{
+    match read {
         Ok((at, image)) => {
             if at == wanted {
                 Ok(image)

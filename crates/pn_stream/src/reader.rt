@@ -1,6 +1,7 @@
 //! Readers of streams: the next messages of a stream, in step, however its bytes come.
 
-ghost use Rattle.std.specs.Prelude.{◌≡◌, ◌≢◌, ◌+◌, ◌≤◌, ◌^◌, [], ◌++◌, length, min, IfOk, IfErr, IfSome, OnOk, OnErr, IsErrOf, IsTrue};
+ghost use Rattle.std.specs.Prelude.{◌≡◌, ◌≢◌, ◌+◌, ◌≤◌, [], ◌++◌, length, min, IfOk, IfErr, IfSome, OnOk, OnErr, IsErrOf, IsTrue};
+ghost use Rattle.pn_record.specs.Limits.{greatest, longest_line};
 ghost use Rattle.pn_stream.specs.Batches.{Batch};
 ghost use Rattle.pn_stream.specs.Faults.{Stands};
 
@@ -27,14 +28,15 @@ pub struct StreamReader<S: Drop> {
 }
 
 impl<S: Drop> Model for StreamReader<S> {
-    ghost use Rattle.std.specs.Prelude.{◌≤◌, ◌^◌, IfSome};
+    ghost use Rattle.std.specs.Prelude.{◌≤◌, IfSome};
+    ghost use Rattle.pn_record.specs.Limits.{greatest};
     ghost use Rattle.pn_stream.specs.Batches.{Stream, IsPart, part_of};
 
     ghost Value = { Stream S };
 
     ghost view = { λ r. record { name = r.name; position = r.position; part = part_of r.line; fault = r.fault; source = r.source } };
 
-    ghost invariant = { λ r. (r.position ≤ 10 ^ 15) × IfSome r.line IsPart };
+    ghost invariant = { λ r. (r.position ≤ greatest) × IfSome r.line IsPart };
 }
 
 #[tactic(auto, using(crate::proofs::Steps::part_within))]
@@ -42,7 +44,7 @@ impl<S: Source + Drop> StreamReader<S> {
     /// A reader of the stream `name`, from the message after the position `after` on, which is at most
     /// 10^15. It takes no memory; later calls take theirs from `alloc`.
     pub fn new(alloc: Global, name: StreamName, after: u64, source: S) -> StreamReader<S>
-        requires { after ≤ 10 ^ 15 }
+        requires { after ≤ greatest }
         ensures { result ≡ record { name = name; position = after; part = []; fault = None; source = source } }
     {
         StreamReader {
@@ -58,7 +60,7 @@ impl<S: Source + Drop> StreamReader<S> {
     /// The last position given, at first the one that `new` was given.
     pub fn position(&self) -> u64
         ensures position { result ≡ self.now.position }
-        ensures within { result ≤ 10 ^ 15 }
+        ensures within { result ≤ greatest }
     {
         self.position
     }
@@ -82,7 +84,7 @@ impl<S: Source + Drop> StreamReader<S> {
 
         // What is given.
         ensures delivery { IfOk result (λ delivery.
-            delivery ≡ record { stream = self.old.name; first = min (self.old.position + 1) (10 ^ 15); images = delivery.images }) }
+            delivery ≡ record { stream = self.old.name; first = min (self.old.position + 1) greatest; images = delivery.images }) }
         ensures within { IfOk result (λ delivery. length delivery.images ≤ max) }
         ensures longest { IfOk result (λ delivery. IfSome (S.left self.old.source) (λ text.
             Batch max self.old.position (self.old.part ++ text) delivery.images self.new.fault self.new.part (S.left self.new.source))) }
@@ -102,7 +104,7 @@ impl<S: Source + Drop> StreamReader<S> {
         ensures stays { OnErr result (self.new.position ≡ self.old.position) }
         ensures failed { OnErr result (self.new.fault ≡ Some StreamFault.Failed) }
         ensures name { self.new.name ≡ self.old.name }
-        ensures part { length self.new.part ≤ 65536 }
+        ensures part { length self.new.part ≤ longest_line }
     {
         if let Some(fault) = self.waiting() {
             return Err(self.fail(fault));
@@ -115,7 +117,7 @@ impl<S: Source + Drop> StreamReader<S> {
     // The fault that the next call answers.
     fn waiting(&self) -> Option<StreamFault>
         ensures fault { result ≡ self.now.fault }
-        ensures part { length self.now.part ≤ 65536 }
+        ensures part { length self.now.part ≤ longest_line }
     {
         self.fault
     }
@@ -133,7 +135,7 @@ impl<S: Source + Drop> StreamReader<S> {
     fn take_next(&mut self, max: usize) -> (Vec<Image>, Option<StreamFault>)
         requires { 1 ≤ max }
         ensures within { length result.0.items ≤ max }
-        ensures positions { self.old.position + length result.0.items ≤ 10 ^ 15 }
+        ensures positions { self.old.position + length result.0.items ≤ greatest }
         ensures longest { IfSome (S.left self.old.source) (λ text.
             Batch max self.old.position (self.old.part ++ text) result.0.items result.1 self.new.part (S.left self.new.source)) }
         ensures read { result.1 ≡ Some StreamFault.Read → S.may_fail }
@@ -141,7 +143,7 @@ impl<S: Source + Drop> StreamReader<S> {
         ensures name { self.new.name ≡ self.old.name }
         ensures position { self.new.position ≡ self.old.position }
         ensures fault { self.new.fault ≡ self.old.fault }
-        ensures part { length self.new.part ≤ 65536 }
+        ensures part { length self.new.part ≤ longest_line }
     {
         let mut images = Vec::new(self.alloc);
         let ended = next_images(
@@ -176,10 +178,10 @@ impl<S: Source + Drop> StreamReader<S> {
 
     // A delivery of the images after the last position, which is behind them then.
     fn deliver(&mut self, images: Vec<Image>) -> Delivery
-        requires { self.old.position + length images.items ≤ 10 ^ 15 }
+        requires { self.old.position + length images.items ≤ greatest }
         ensures moved { self.new ≡ record self.old { position = self.old.position + length images.items } }
         ensures delivery { result
-            ≡ record { stream = self.old.name; first = min (self.old.position + 1) (10 ^ 15); images = images.items } }
+            ≡ record { stream = self.old.name; first = min (self.old.position + 1) greatest; images = images.items } }
     {
         let first = (self.position + 1).min(LAST_POSITION);
         self.position += images.len() as u64;

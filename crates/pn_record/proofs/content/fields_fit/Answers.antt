@@ -5,15 +5,15 @@ use Rattle.pn_record.specs.Showing.{shown_field}
 use Rattle.pn_record.proofs.FieldSteps.{unfit, fit_more, size_more, size_bound}
 use Rattle.pn_record.proofs.content.fields_fit.Goals as goal
 
-pub returns-then-not-is_field : goal.returns-then-not-is_field
-returns-then-not-is_field c = sym (unfit shown_field c.args.fields.now c.loop-field.field-index c.field-item.result c.field-item.is c.loop-field-test.true (sym c.is_field.ensures ∙ c.if-not-is_field.true))
+pub returns-then-not-fits : goal.returns-then-not-fits
+returns-then-not-fits c = sym (unfit shown_field c.args.fields.now c.loop-field.field-index c.field-item.result c.field-item.is c.loop-field-test.true (sym c.fits.ensures ∙ c.if-not-fits.true))
 
 pub loop-field-preserved : goal.loop-field-preserved
 loop-field-preserved c =
     let fields = c.args.fields.now in
     let i = c.loop-field.field-index in
     let item = c.field-item.result in
-    let good : is_field (shown_field item) ≡ true = sym c.is_field.ensures ∙ c.if-not-is_field.false in
+    let good : is_field (shown_field item) ≡ true = sym c.fits.ensures ∙ c.if-not-fits.false in
     let more = size_more shown_field fields i item c.field-item.is c.loop-field-test.true in
     let bound = size_bound shown_field fields i item c.field-item.is c.loop-field-test.true good in
     record {

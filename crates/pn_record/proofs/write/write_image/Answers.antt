@@ -7,7 +7,7 @@ use Rattle.serde_json.specs.Written.{compact_text, has_float}
 use Rattle.pn_record.specs.Writing.{image_data}
 use Rattle.pn_record.specs.Canonical.{IsImageLine}
 use Rattle.pn_record.proofs.ImageText.{has_float-image_data, depth-image_data}
-use Rattle.pn_record.proofs.ImageLines.{line_again}
+use Rattle.pn_record.proofs.ImageLines.{image_line_again}
 use Rattle.pn_record.proofs.Written.{short_text, written_line}
 use Rattle.pn_record.proofs.write.write_image.Goals as goal
 
@@ -28,7 +28,7 @@ pub returns-clause-line : goal.returns-clause-line
 returns-clause-line c = line_of c
 
 pub returns-clause-reads_back : goal.returns-clause-reads_back
-returns-clause-reads_back c = line_again _ _ (line_of c)
+returns-clause-reads_back c = image_line_again _ _ (line_of c)
 
 pub returns-clause-short : goal.returns-clause-short
 returns-clause-short c = short_text _ _ c.in_ok-value.ensures.limits (text_is c)

@@ -25,8 +25,8 @@ pub images-preserved : goal.images-preserved
 images-preserved g c =
     let few : length c.images.images.items < c.args.max = search (rules, arith) in
     let is : c.args.position + c.len-in-images.result + 1 ≡ c.args.position + length c.images.images.items + 1 = search (rules, arith) in
-    let grown : c.push.new.self.items ≡ c.images.images.items ++ c.in-Some.image ∷ [] = search rules in
-    let count : length c.push.new.self.items ≡ length c.images.images.items + 1 = ap length grown ∙ length_push _ _ in
+    let grown : c.push_image.new.images.items ≡ c.images.images.items ++ c.in-Some.image ∷ [] = search rules in
+    let count : length c.push_image.new.images.items ≡ length c.images.images.items + 1 = ap length grown ∙ length_push _ _ in
     let last : c.args.position + c.len-in-images.result + 1 ≤ 10 ^ 15 = (rw c.in-Some.is at c.in_ok-image.ensures.position) refl in
     record {
       within = omega (arith, count, few);
@@ -35,11 +35,11 @@ images-preserved g c =
       so_far = rw grown (SoFar-push _ _ _ _ _ _ _ _ _ _ is c.images.invariant.so_far (rw c.in-Some.is at c.in_ok-image.ensures.next));
     }
 
-pub returns-in_err-push-in-Some-clause-err : goal.returns-in_err-push-in-Some-clause-err
-returns-in_err-push-in-Some-clause-err g c =
+pub returns-in_err-push_image-in-Some-clause-err : goal.returns-in_err-push_image-in-Some-clause-err
+returns-in_err-push_image-in-Some-clause-err g c =
     let few : length c.images.images.items < c.args.max = search (rules, arith) in
-    let same : c.push.new.self.items ≡ c.images.images.items = search rules in
-    handed_on c.from_residual-in_err-push-in-Some.result Memory _ c.from_residual-in_err-push-in-Some.ensures.1 (rw same (Batch-memory _ _ _ _ _ _ _ _ _ few c.images.invariant.so_far))
+    let same : c.push_image.new.images.items ≡ c.images.images.items = search rules in
+    handed_on c.from_residual-in_err-push_image-in-Some.result Memory _ c.from_residual-in_err-push_image-in-Some.ensures.1 (rw same (Batch-memory _ _ _ _ _ _ _ _ _ few c.images.invariant.so_far))
 
 pub returns-in-None-clause-ok : goal.returns-in-None-clause-ok
 returns-in-None-clause-ok g c =

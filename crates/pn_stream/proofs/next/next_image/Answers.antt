@@ -1,29 +1,34 @@
 -- Where the line's end was met, the line is the first of the text; and where not, none is.
+use Rattle.std.proofs.Common.{Ok, sym, ap, ◌∙◌}
+use Rattle.pn_line.specs.LineEnd.{ReadsTo}
 use Rattle.pn_stream.proofs.Runs.{handed_on}
-use Rattle.pn_stream.proofs.Steps.{next_end, next_long, next_line, next_ok, next_err, part-none, IsPart-more}
+use Rattle.pn_stream.proofs.Steps.{fault_stands, input_ended, newline_read, next_end, next_line, next_ok, next_err, part-none, IsPart-more}
 use Rattle.pn_stream.proofs.next.next_image.Goals as goal
 
-pub returns-in_err-image-in-Ok-Newline-clause-stands :
-    goal.returns-in_err-image-in-Ok-Newline-clause-stands
-returns-in_err-image-in-Ok-Newline-clause-stands g c =
-    let takes = next_line _ _ _ _ c.requires (rw c.in-Ok-Newline.field-0-is at c.in-Ok-Newline.ensures.takes) in
-    handed_on c.from_residual.result c.in_err-image-in-Ok-Newline.field-0.0 _ c.from_residual.ensures.1 (next_err _ _ _ _ _ _ takes (rw c.bytes.ensures at c.in_err-image-in-Ok-Newline.ensures.err))
+pub returns-in_err-is_whole-clause-stands : goal.returns-in_err-is_whole-clause-stands
+returns-in_err-is_whole-clause-stands g c =
+    handed_on c.from_residual.result c.in_err-is_whole.field-0.0 _ c.from_residual.ensures.1
+    (fault_stands c.read_bounded_line.result c.in_err-is_whole.field-0.0 c.args.wanted _ _ _ _ c.requires (sym c.in_err-is_whole.ensures) c.read_bounded_line.ensures.takes)
 
-pub returns-in-Ok-EndOfInput-clause-next : goal.returns-in-Ok-EndOfInput-clause-next
-returns-in-Ok-EndOfInput-clause-next g c =
-    next_end c.args.wanted _ _ _ _ c.requires (rw c.in-Ok-EndOfInput.field-0-is at c.in-Ok-EndOfInput.ensures.takes)
+pub returns-then-not-branch-clause-next : goal.returns-then-not-branch-clause-next
+returns-then-not-branch-clause-next g c =
+    let ended = sym c.in_ok-is_whole.ensures ∙ ap Ok c.if-not-branch.true in
+    next_end c.args.wanted _ _ _ _ c.requires (input_ended c.read_bounded_line.result (λ end. ReadsTo end c.args.line.now c.read_bounded_line.new.line _ _) ended c.read_bounded_line.ensures.takes)
 
-pub returns-in-Ok-EndOfInput-clause-part : goal.returns-in-Ok-EndOfInput-clause-part
-returns-in-Ok-EndOfInput-clause-part g c =
-    let reads = rw c.in-Ok-EndOfInput.field-0-is at c.in-Ok-EndOfInput.ensures.takes in
+pub returns-then-not-branch-clause-part : goal.returns-then-not-branch-clause-part
+returns-then-not-branch-clause-part g c =
+    let ended = sym c.in_ok-is_whole.ensures ∙ ap Ok c.if-not-branch.true in
+    let reads = input_ended c.read_bounded_line.result (λ end. ReadsTo end c.args.line.now c.read_bounded_line.new.line _ _) ended c.read_bounded_line.ensures.takes in
     IsPart-more _ _ _ _ c.requires reads.0 reads.2
 
-pub returns-in-Ok-TooLong-clause-stands : goal.returns-in-Ok-TooLong-clause-stands
-returns-in-Ok-TooLong-clause-stands g c =
-    next_long c.args.wanted _ _ _ _ c.requires (rw c.in-Ok-TooLong.field-0-is at c.in-Ok-TooLong.ensures.takes)
+pub returns-in_err-image-clause-stands : goal.returns-in_err-image-clause-stands
+returns-in_err-image-clause-stands g c =
+    let whole = sym c.in_ok-is_whole.ensures ∙ ap Ok c.if-not-branch.false in
+    let takes = next_line _ _ _ _ c.requires (newline_read c.read_bounded_line.result (λ end. ReadsTo end c.args.line.now c.read_bounded_line.new.line _ _) whole c.read_bounded_line.ensures.takes) in
+    handed_on c.from_residual-in_err-image.result c.in_err-image.field-0.0 _ c.from_residual-in_err-image.ensures.1 (next_err _ _ _ _ _ _ takes (rw c.bytes.ensures at c.in_err-image.ensures.err))
 
-pub returns-in_ok-image-in-Ok-Newline-clause-next :
-    goal.returns-in_ok-image-in-Ok-Newline-clause-next
-returns-in_ok-image-in-Ok-Newline-clause-next g c =
-    let takes = next_line _ _ _ _ c.requires (rw c.in-Ok-Newline.field-0-is at c.in-Ok-Newline.ensures.takes) in
-    next_ok _ _ _ _ _ _ _ takes (rw c.bytes.ensures at c.in_ok-image-in-Ok-Newline.ensures.ok) (part-none _ c.start.ensures)
+pub returns-clause-next : goal.returns-clause-next
+returns-clause-next g c =
+    let whole = sym c.in_ok-is_whole.ensures ∙ ap Ok c.if-not-branch.false in
+    let takes = next_line _ _ _ _ c.requires (newline_read c.read_bounded_line.result (λ end. ReadsTo end c.args.line.now c.read_bounded_line.new.line _ _) whole c.read_bounded_line.ensures.takes) in
+    next_ok _ _ _ _ _ _ _ takes (rw c.bytes.ensures at c.in_ok-image.ensures.ok) (part-none _ c.start.ensures)

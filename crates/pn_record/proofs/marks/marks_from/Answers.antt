@@ -6,7 +6,7 @@ use Rattle.serde_json.specs.View.{members_view}
 use Rattle.pn_join.specs.Marks.{Positions, name_cmp}
 use Rattle.pn_record.specs.Marks.{positions_of}
 use Rattle.pn_record.proofs.MarksValues.{mark_pushed, positions_rise}
-use Rattle.pn_record.proofs.marks.copied.Goals as goal
+use Rattle.pn_record.proofs.marks.marks_from.Goals as goal
 
 pub loop-name-preserved : goal.loop-name-preserved
 loop-name-preserved c =

@@ -3,7 +3,7 @@ use Rattle.serde_json.specs.View.{members_view}
 use Rattle.pn_record.specs.Showing.{shown_field}
 use Rattle.pn_record.specs.Grammar.{fields_of}
 use Rattle.pn_record.proofs.Fields.{fields_rise}
-use Rattle.pn_record.proofs.read.copied.Goals as goal
+use Rattle.pn_record.proofs.read.fields_from.Goals as goal
 
 pub returns-clause-rising : goal.returns-clause-rising
 returns-clause-rising c =

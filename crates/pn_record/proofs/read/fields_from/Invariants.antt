@@ -3,7 +3,7 @@ use Rattle.std.proofs.Common.{◌≡◌, ◌++◌, map}
 use Rattle.serde_json.specs.View.{members_view}
 use Rattle.pn_record.specs.Showing.{shown_field}
 use Rattle.pn_record.specs.Grammar.{fields_of}
-use Rattle.pn_record.proofs.read.copied.Given as goal
+use Rattle.pn_record.proofs.read.fields_from.Given as goal
 
 abbrev pub invariant-loop-name : goal.invariant-loop-name
 invariant-loop-name l =

@@ -14,7 +14,7 @@ use Rattle.serde_json.specs.Data.{Data, Members, no_members, member}
 use Rattle.serde_json.specs.Find.{get_member}
 use Rattle.serde_json.specs.View.{members_view}
 use Rattle.serde_json.specs.declared.value.Value.{Value}
-use Rattle.pn_record.specs.Grammar.{only_named}
+use Rattle.pn_json.specs.Members.{only_named}
 
 -- the members as a list
 abbrev pub entries_of : Members → List (List ℕ × Data)

@@ -2,7 +2,7 @@
 use Rattle.std.proofs.Common.{◌≡◌, ◌++◌}
 use Rattle.serde_json.specs.View.{members_view}
 use Rattle.pn_record.specs.Marks.{positions_of}
-use Rattle.pn_record.proofs.marks.copied.Given as goal
+use Rattle.pn_record.proofs.marks.marks_from.Given as goal
 
 abbrev pub invariant-loop-name : goal.invariant-loop-name
 invariant-loop-name l =

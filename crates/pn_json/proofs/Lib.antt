@@ -1,0 +1,4 @@
+pub mod Inverses
+pub mod LookUps
+pub mod Names
+pub mod TokenLists

@@ -1,0 +1,11 @@
+-- Which faults are of a value.
+use Rattle.pn_record.specs.declared.fault.ImageFault.{ImageFault}
+use Rattle.pn_record.specs.declared.fault.ImageFault.TheVariants.{TooLong, NotJson, Memory, BadShape, OutOfRange}
+
+-- a fault of a value, and not of the line that it came in
+abbrev pub IsOfValue : ImageFault → Type 0
+IsOfValue Memory = Unit {0}
+IsOfValue (BadShape member) = Unit {0}
+IsOfValue (OutOfRange member) = Unit {0}
+IsOfValue TooLong = ⊥
+IsOfValue NotJson = ⊥

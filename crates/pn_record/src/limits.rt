@@ -1,0 +1,19 @@
+//! The limits of records and of the lines that they come in.
+
+/// The greatest generation and the greatest number of a version, and the last position of a stream.
+pub const GREATEST: u64 = 1_000_000_000_000_000;
+
+/// The longest key, in bytes.
+pub const LONGEST_KEY: usize = 256;
+
+/// The most fields of a record.
+pub const MOST_FIELDS: usize = 64;
+
+/// The longest name of a field, in bytes.
+pub const LONGEST_FIELD_NAME: usize = 64;
+
+/// The longest text of a field, in bytes.
+pub const LONGEST_FIELD_TEXT: usize = 4_096;
+
+/// The most bytes that the names and the texts of all fields have together.
+pub const MOST_FIELD_BYTES: usize = 8_192;

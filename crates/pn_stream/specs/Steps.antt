@@ -1,0 +1,30 @@
+-- What a line that was read, and a message that was read, come to.
+use Rattle.std.specs.Prelude.{ℕ, ◌==◌, Bool, true, false, if◌then◌else◌, Result, Ok, Err}
+use Rattle.pn_line.specs.declared.reading.BoundedEnd.{BoundedEnd}
+use Rattle.pn_line.specs.declared.reading.BoundedEnd.TheVariants.{Newline, EndOfInput, TooLong}
+use Rattle.pn_record.specs.declared.image.Image.{Image}
+use Rattle.pn_record.specs.declared.fault.ImageFault.{ImageFault}
+use Rattle.pn_record.specs.declared.fault.ImageFault.TheVariants as image
+use Rattle.pn_stream.specs.Messages.{Message}
+use Rattle.pn_stream.specs.declared.fault.StreamFault.{StreamFault}
+use Rattle.pn_stream.specs.declared.fault.StreamFault.TheVariants.{Read, LineTooLong, BadMessage, OutOfStep, Memory}
+
+-- whether a whole line was read, or why none comes
+abbrev pub whole_line : {E : Type 0} → Result BoundedEnd E → Result Bool StreamFault
+whole_line (Ok Newline) = Ok true
+whole_line (Ok EndOfInput) = Ok false
+whole_line (Ok TooLong) = Err LineTooLong
+whole_line (Err error) = Err Read
+
+-- why there is no message where the one at this position is wanted
+abbrev pub fault_at : ℕ → ImageFault → StreamFault
+fault_at wanted image.Memory = Memory
+fault_at wanted image.TooLong = BadMessage wanted image.TooLong
+fault_at wanted image.NotJson = BadMessage wanted image.NotJson
+fault_at wanted (image.BadShape member) = BadMessage wanted (image.BadShape member)
+fault_at wanted (image.OutOfRange member) = BadMessage wanted (image.OutOfRange member)
+
+-- the image of a message, where it is at the position that is wanted
+abbrev pub image_in_step : ℕ → Result Message ImageFault → Result Image StreamFault
+image_in_step wanted (Ok message) = if message.0 == wanted then Ok message.1 else Err (OutOfStep wanted message.0)
+image_in_step wanted (Err fault) = Err (fault_at wanted fault)
