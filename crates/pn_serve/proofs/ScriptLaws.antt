@@ -35,7 +35,7 @@ use Rattle.pn_region.proofs.Together.{surely_together}
 use Rattle.pn_serve.specs.declared.refusal.Refusal.{Refusal}
 use Rattle.pn_serve.specs.Command.Meaning.{CommandValue, deliver, marks, read, scan, tablets}
 use Rattle.pn_serve.specs.Command.Lines.{command_at}
-use Rattle.pn_serve.specs.Command.Lookups.{IsLook}
+use Rattle.pn_serve.specs.Command.Lookups.{AsksForRecords}
 use Rattle.pn_serve.specs.Machine.{Outcome, done, line, call, round, Machine, saying, half_doing, some_stepped, half_by, half_taken, delivering, turn, serving}
 use Rattle.pn_serve.specs.Reply.Rows.{scan_data, line_of}
 use Rattle.pn_serve.specs.Script.{first_outcome, later_outcomes, deliveries_asked, accepted_images, images_taken, some_tablet, images_left, taken_from, left_from, taken, machine_after, region_after, AreRepeated}
@@ -203,7 +203,7 @@ cell_there region key (Some tablet) at is there = has_its_cell region key tablet
 cell_is : (region : RegionValue) (key : List ℕ) → IsRegion region → cell_at region key ≡ find bytes_cmp key (all_cells region)
 cell_is region key is = cell_there region key (slice_get region.tablets (tablet_of region.layout key)) refl is (has_tablet region key is)
 
-look_alike : (m n : Machine) (said : Result CommandValue Refusal) → IsLook said → IsRegion m.region → IsRegion n.region → all_cells m.region ≡ all_cells n.region → (saying m said).reply ≡ (saying n said).reply
+look_alike : (m n : Machine) (said : Result CommandValue Refusal) → AsksForRecords said → IsRegion m.region → IsRegion n.region → all_cells m.region ≡ all_cells n.region → (saying m said).reply ≡ (saying n said).reply
 look_alike m n (Ok (deliver deliveries)) looks is too same = absurd looks
 look_alike m n (Ok marks) looks is too same = absurd looks
 look_alike m n (Ok (read key)) looks is too same =
@@ -215,7 +215,7 @@ look_alike m n (Err refusal) looks is too same = absurd looks
 pub same_replies : (bounds others : Bounds) (one other : List ℕ) (went goes : List Outcome) → IsLayout bounds → IsLayout others
     → AreRepeated (new_region bounds) one went → AreRepeated (new_region others) other goes
     → SameImages (taken (new_region bounds) one went) (taken (new_region others) other goes)
-    → (text : List ℕ) → IsLook (command_at text)
+    → (text : List ℕ) → AsksForRecords (command_at text)
     → (turn (machine_after (serving (new_region bounds)) (lines_of one) went) done text).reply
     ≡ (turn (machine_after (serving (new_region others)) (lines_of other) goes) done text).reply
 same_replies bounds others one other went goes lawful lawful_too repeated repeats same text looks =

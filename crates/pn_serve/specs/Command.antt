@@ -1,5 +1,7 @@
 -- What a line says.
 pub mod Faults
+pub mod Json
+pub mod Limits
 pub mod Lines
 pub mod Lookups
 pub mod Meaning

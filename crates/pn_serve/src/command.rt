@@ -2,6 +2,7 @@
 
 pub(crate) mod batch;
 mod build;
+pub(crate) mod laws;
 pub(crate) mod parse;
 mod ranges;
 mod shapes;

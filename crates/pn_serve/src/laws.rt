@@ -10,7 +10,7 @@ ghost use Rattle.pn_record.specs.Order.{bytes_cmp};
 ghost use Rattle.pn_tablet.specs.Layouts.{Bounds, IsLayout};
 ghost use Rattle.pn_region.specs.Regions.{new_region, all_cells};
 ghost use Rattle.pn_serve.specs.Command.Lines.{command_at};
-ghost use Rattle.pn_serve.specs.Command.Lookups.{IsLook};
+ghost use Rattle.pn_serve.specs.Command.Lookups.{AsksForRecords};
 ghost use Rattle.pn_serve.specs.Machine.{Outcome, done, serving, turn};
 ghost use Rattle.pn_serve.specs.Script.{machine_after, region_after, taken, AreRepeated};
 
@@ -32,7 +32,7 @@ pub fn same_images_same_replies()
     ensures replies { (bounds others : Bounds) (one other : List ℕ) (went goes : List Outcome)
         → IsLayout bounds → IsLayout others → AreRepeated (new_region bounds) one went → AreRepeated (new_region others) other goes
         → SameImages (taken (new_region bounds) one went) (taken (new_region others) other goes)
-        → (text : List ℕ) → IsLook (command_at text)
+        → (text : List ℕ) → AsksForRecords (command_at text)
         → (turn (machine_after (serving (new_region bounds)) (lines_of one) went) done text).reply
         ≡ (turn (machine_after (serving (new_region others)) (lines_of other) goes) done text).reply }
 {}

@@ -1,12 +1,13 @@
 -- The command that a line is, or its first fault: its length, its reading, all shapes, and then the ranges.
-use Rattle.std.specs.Prelude.{ℕ, List, codes, option_and_then, Result, Ok}
+use Rattle.std.specs.Prelude.{◌≡◌, ◌⊎◌, ℕ, Bool, nat_lt, List, length, codes, Some, option_and_then, Result, Ok, IsOk}
 use Rattle.std.specs.Option.{ok_or}
-use Rattle.serde_json.specs.Data.{Data, Members}
+use Rattle.serde_json.specs.Data.{Data, string, Members}
 use Rattle.serde_json.specs.Find.{get, as_str, as_array, as_object}
 use Rattle.pn_record.specs.Checks.{◌>>=◌, fault_as}
 use Rattle.pn_record.specs.Reading.{value_at}
 use Rattle.pn_record.specs.declared.fault.ImageFault.{ImageFault}
 use Rattle.pn_record.specs.declared.fault.ImageFault.TheVariants as image
+use Rattle.pn_serve.specs.Command.Limits.{longest_line}
 use Rattle.pn_serve.specs.Command.Meaning.{CommandValue, deliver, marks, read, scan, tablets}
 use Rattle.pn_serve.specs.Command.Words.{word_of}
 use Rattle.pn_serve.specs.Command.Queries.{query_in}
@@ -19,6 +20,10 @@ use Rattle.pn_serve.specs.declared.refusal.Part.TheVariants.{Whole, Do, Batches,
 use Rattle.pn_serve.specs.declared.refusal.Part.TheVariants as part
 use Rattle.pn_serve.specs.declared.refusal.Refusal.{Refusal}
 use Rattle.pn_serve.specs.declared.refusal.Refusal.TheVariants.{TooLong, NotJson, BadShape, OutOfRange, Memory}
+
+-- the line has more than 65,536 bytes
+abbrev pub is_too_long : List ℕ → Bool
+is_too_long line = nat_lt longest_line (length line)
 
 -- the batches of a `deliver` command
 unfoldable pub deliver_in : Members → Data → Result CommandValue Refusal
@@ -70,6 +75,11 @@ command_in d = do
   members ← ok_or (as_object d) (BadShape Whole)
   word ← part_in Do (λ value. option_and_then word_of (as_str value)) (get (codes "do") d)
   command_as word members d
+
+-- memory may run out: the value is a command, or says `deliver`, so that its batches are gathered before their ranges
+-- are looked at
+abbrev pub TakesMemory : Data → Type 0
+TakesMemory d = IsOk (command_in d) ⊎ (get (codes "do") d ≡ Some (string (codes "deliver")))
 
 -- the refusal of a line for what is at fault in an image
 abbrev pub refusal_of : ImageFault → Refusal

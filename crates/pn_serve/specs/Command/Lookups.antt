@@ -1,13 +1,10 @@
 -- Lines that ask for records.
-use Rattle.std.specs.Prelude.{Result, Ok, Err}
+use Rattle.std.specs.Prelude.{Result, Ok}
 use Rattle.pn_serve.specs.declared.refusal.Refusal.{Refusal}
-use Rattle.pn_serve.specs.Command.Meaning.{CommandValue, deliver, marks, read, scan, tablets}
+use Rattle.pn_serve.specs.Command.Meaning.{CommandValue, read, scan}
 
--- the line is a scan, or the read of a key
-abbrev pub IsLook : Result CommandValue Refusal → Type 0
-IsLook (Ok (deliver deliveries)) = ⊥
-IsLook (Ok marks) = ⊥
-IsLook (Ok (read key)) = Unit {0}
-IsLook (Ok scan) = Unit {0}
-IsLook (Ok tablets) = ⊥
-IsLook (Err refusal) = ⊥
+-- the line says the read of a key, or a scan
+abbrev pub AsksForRecords : Result CommandValue Refusal → Type 0
+AsksForRecords (Ok (read key)) = Unit {0}
+AsksForRecords (Ok scan) = Unit {0}
+AsksForRecords said = ⊥

@@ -1,12 +1,12 @@
 -- The ranges of a line's parts, one after another.
-use Rattle.std.specs.Prelude.{◌≡◌, ℕ, Bool, ◌&&◌, nat_le, if◌then◌else◌, List, [], ◌∷◌, length, IsTrue, Result, Ok, Err}
+use Rattle.std.specs.Prelude.{ℕ, Bool, ◌&&◌, nat_le, if◌then◌else◌, List, [], ◌∷◌, length, Result, Ok, Err}
 use Rattle.pn_join.specs.Naming.{is_name}
 use Rattle.pn_record.specs.Checks.{◌>>=◌, fault_as}
 use Rattle.pn_record.specs.Grammar.{ranges_in}
 use Rattle.pn_record.specs.declared.image.Image.{Image}
 use Rattle.pn_record.specs.Limits.{is_key}
 use Rattle.pn_stream.specs.Positions.{DeliveryValue, are_positions}
-use Rattle.pn_serve.specs.Command.Meaning.{CommandValue, deliver, marks, read, scan, tablets}
+use Rattle.pn_serve.specs.Command.Limits.{most_batches}
 use Rattle.pn_serve.specs.declared.refusal.Part.{Part}
 use Rattle.pn_serve.specs.declared.refusal.Part.TheVariants.{Batches, First, Key, Stream}
 use Rattle.pn_serve.specs.declared.refusal.Part.TheVariants as part
@@ -38,17 +38,9 @@ batch_fits batch = do
 -- 1 to 64 batches in their ranges
 unfoldable pub batches_fit : List DeliveryValue → Result (Unit {0}) Refusal
 batches_fit batches = do
-  count ← fits Batches (nat_le 1 (length batches) && nat_le (length batches) 64)
+  count ← fits Batches (nat_le 1 (length batches) && nat_le (length batches) most_batches)
   each_fits batch_fits batches
 
 -- a key of 1 to 256 bytes
 abbrev pub fitting_key : List ℕ → Result (List ℕ) Refusal
 fitting_key key = if is_key key then Ok key else Err (OutOfRange Key)
-
--- what a command asks for is in its ranges
-abbrev pub IsInRanges : CommandValue → Type 0
-IsInRanges (deliver batches) = batches_fit batches ≡ Ok tt
-IsInRanges marks = Unit {0}
-IsInRanges (read key) = IsTrue (is_key key)
-IsInRanges scan = Unit {0}
-IsInRanges tablets = Unit {0}

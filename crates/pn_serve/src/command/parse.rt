@@ -1,17 +1,18 @@
 //! The command that a line is.
 
-ghost use Rattle.std.specs.Prelude.{◌≡◌, ◌<◌, length, option_and_then, IfOk, IsErrOf, IsTrue};
+ghost use Rattle.std.specs.Prelude.{◌≡◌, ◌<◌, false, Ok, length, option_and_then, IfOk, IsOk, IsErrOf, IsTrue};
 ghost use Rattle.serde_json.specs.Find.{as_str};
 ghost use Rattle.serde_json.specs.View.{view, members_view};
-ghost use Rattle.pn_record.specs.Seen.{seen};
+ghost use Rattle.pn_record.specs.Seen.{seen, Shows};
 ghost use Rattle.pn_serve.specs.Command.Faults.{AnswersAs};
-ghost use Rattle.pn_serve.specs.Command.Meaning.{command_value};
+ghost use Rattle.pn_serve.specs.Command.Json.{IsCommandLine};
+ghost use Rattle.pn_serve.specs.Command.Limits.{longest_line};
+ghost use Rattle.pn_serve.specs.Command.Meaning.{CommandValue, command_value};
 ghost use Rattle.pn_serve.specs.Command.Queries.{is_empty as no_members, query_in};
-ghost use Rattle.pn_record.specs.Limits.{is_key};
-ghost use Rattle.pn_serve.specs.Command.Ranges.{IsInRanges, fitting_key};
+ghost use Rattle.pn_serve.specs.Command.Ranges.{fitting_key};
 ghost use Rattle.pn_serve.specs.Command.Shapes.{part_in};
 ghost use Rattle.pn_serve.specs.Command.Words.{word_of as word_named};
-ghost use Rattle.pn_serve.specs.Command.Lines.{refusal_of, deliver_in, marks_in, read_in, scan_in, tablets_in, command_in as command_seen, command_at};
+ghost use Rattle.pn_serve.specs.Command.Lines.{refusal_of, deliver_in, marks_in, read_in, scan_in, tablets_in, command_in as command_seen, command_at, is_too_long, TakesMemory};
 ghost use Rattle.pn_serve.specs.declared.refusal.Part.TheVariants.{Do, Query};
 
 use crate::command::build::built_deliveries;
@@ -40,21 +41,33 @@ impl From<ImageFault> for Refusal {
 /// The command that a line is, or its first fault. `TooLong` where it has more than 65,536 bytes;
 /// otherwise `NotJson` where `serde_json` reads no value in it; otherwise `BadShape` with the first
 /// part that is absent or of another kind; otherwise `OutOfRange` with the first that breaks a limit.
-/// `Memory` may stand in place of any of these but the first, where a growth was refused.
-#[tactic(auto, unfolding(crate::specs::Command::Lines::command_at))]
+/// `Memory` may stand in place of any of these but the first, where memory ran out.
 pub fn command_of(alloc: Global, line: &[u8]) -> Result<Command, Refusal>
+    ensures found { IfOk result (λ command. IsCommandLine line.now (command_value command)) }
+    ensures only { (command : CommandValue) → IsCommandLine line.now command → AnswersAs command_value result (Ok command) }
+
+    // Which fault it is.
     ensures exact { AnswersAs command_value result (command_at line.now) }
-    ensures in_ranges { IfOk result (λ command. IsInRanges (command_value command)) }
-    ensures too_long { 65536 < length line.now → IsErrOf result Refusal.TooLong }
+    ensures too_long { IsTrue (is_too_long line.now) → IsErrOf result Refusal.TooLong }
+    ensures memory { IsErrOf result Refusal.Memory → is_too_long line.now ≡ false }
+{
+    line_command(alloc, line)
+}
+
+#[tactic(auto, unfolding(crate::specs::Command::Lines::command_at))]
+fn line_command(alloc: Global, line: &[u8]) -> Result<Command, Refusal>
+    ensures exact { AnswersAs command_value result (command_at line.now) }
+    ensures too_long { longest_line < length line.now → IsErrOf result Refusal.TooLong }
 {
     let value = read_value(alloc, line)?;
     command_in(alloc, &value)
 }
 
+// The command that a value is. Memory runs out only where it is one, or its batches are gathered.
 #[tactic(auto, unfolding(crate::specs::Command::Lines::command_in))]
 fn command_in(alloc: Global, value: &Value) -> Result<Command, Refusal>
     ensures exact { AnswersAs command_value result (command_seen (view value.now)) }
-    ensures in_ranges { IfOk result (λ command. IsInRanges (command_value command)) }
+    ensures memory { IsErrOf result Refusal.Memory → TakesMemory (view value.now) }
 {
     let members = value.as_object().ok_or(Refusal::BadShape(Part::Whole))?;
     match word_of(value.get("do"))? {
@@ -81,8 +94,7 @@ fn deliver_of(
     members: &Map<String, Value>,
     value: &Value,
 ) -> Result<Command, Refusal>
-    ensures exact { AnswersAs command_value result (deliver_in (members_view members.now.entries) (view value.now)) }
-    ensures in_ranges { IfOk result (λ command. IsInRanges (command_value command)) }
+    ensures { AnswersAs command_value result (deliver_in (members_view members.now.entries) (view value.now)) }
 {
     let items = items_of(Part::Batches, value.get("batches"))?;
     let shapes = batches_of(alloc, items)?;
@@ -93,8 +105,8 @@ fn deliver_of(
 
 #[tactic(auto, unfolding(crate::specs::Command::Lines::marks_in))]
 fn marks_of(members: &Map<String, Value>) -> Result<Command, Refusal>
-    ensures exact { AnswersAs command_value result (marks_in (members_view members.now.entries)) }
-    ensures in_ranges { IfOk result (λ command. IsInRanges (command_value command)) }
+    ensures exact { Shows command_value result (marks_in (members_view members.now.entries)) }
+    ensures memory { IsErrOf result Refusal.Memory → ⊥ }
 {
     check_names(Form::Command(Word::Marks), members)?;
     Ok(Command::Marks)
@@ -103,7 +115,7 @@ fn marks_of(members: &Map<String, Value>) -> Result<Command, Refusal>
 #[tactic(auto, unfolding(crate::specs::Command::Lines::read_in))]
 fn read_of(alloc: Global, members: &Map<String, Value>, value: &Value) -> Result<Command, Refusal>
     ensures exact { AnswersAs command_value result (read_in (members_view members.now.entries) (view value.now)) }
-    ensures in_ranges { IfOk result (λ command. IsInRanges (command_value command)) }
+    ensures memory { IsErrOf result Refusal.Memory → IsOk (read_in (members_view members.now.entries) (view value.now)) }
 {
     let text = text_of(Part::Key, value.get("key"))?;
     check_names(Form::Command(Word::Read), members)?;
@@ -112,7 +124,7 @@ fn read_of(alloc: Global, members: &Map<String, Value>, value: &Value) -> Result
 
 fn key_of(alloc: Global, text: &str) -> Result<Key, Refusal>
     ensures exact { AnswersAs (λ key. key) result (fitting_key text.now) }
-    ensures in_ranges { IfOk result (λ key. IsTrue (is_key key)) }
+    ensures memory { IsErrOf result Refusal.Memory → IsOk (fitting_key text.now) }
 {
     match Key::of(alloc, text) {
         Ok(key) => Ok(key),
@@ -123,8 +135,8 @@ fn key_of(alloc: Global, text: &str) -> Result<Key, Refusal>
 
 #[tactic(auto, unfolding(crate::specs::Command::Lines::tablets_in))]
 fn tablets_of(members: &Map<String, Value>) -> Result<Command, Refusal>
-    ensures exact { AnswersAs command_value result (tablets_in (members_view members.now.entries)) }
-    ensures in_ranges { IfOk result (λ command. IsInRanges (command_value command)) }
+    ensures exact { Shows command_value result (tablets_in (members_view members.now.entries)) }
+    ensures memory { IsErrOf result Refusal.Memory → ⊥ }
 {
     check_names(Form::Command(Word::Tablets), members)?;
     Ok(Command::Tablets)
@@ -132,8 +144,8 @@ fn tablets_of(members: &Map<String, Value>) -> Result<Command, Refusal>
 
 #[tactic(auto, unfolding(crate::specs::Command::Lines::scan_in))]
 fn scan_of(members: &Map<String, Value>, value: &Value) -> Result<Command, Refusal>
-    ensures exact { AnswersAs command_value result (scan_in (members_view members.now.entries) (view value.now)) }
-    ensures in_ranges { IfOk result (λ command. IsInRanges (command_value command)) }
+    ensures exact { Shows command_value result (scan_in (members_view members.now.entries) (view value.now)) }
+    ensures memory { IsErrOf result Refusal.Memory → ⊥ }
 {
     check_query(value.get("query"))?;
     check_names(Form::Command(Word::Scan), members)?;
@@ -141,7 +153,8 @@ fn scan_of(members: &Map<String, Value>, value: &Value) -> Result<Command, Refus
 }
 
 fn check_query(value: Option<&Value>) -> Result<(), Refusal>
-    ensures { result ≡ part_in Query query_in (seen value.entry) }
+    ensures exact { result ≡ part_in Query query_in (seen value.entry) }
+    ensures memory { IsErrOf result Refusal.Memory → ⊥ }
 {
     match value.and_then(Value::as_object) {
         Some(members) => {

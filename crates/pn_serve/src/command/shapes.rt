@@ -1,6 +1,6 @@
 //! The shapes of a line's parts, looked at in the parsed value.
 
-ghost use Rattle.std.specs.Prelude.{◌≡◌, List, map, IfOk, Ok, Err};
+ghost use Rattle.std.specs.Prelude.{◌≡◌, IsErrOf};
 ghost use Rattle.std.specs.Option.{ok_or};
 ghost use Rattle.serde_json.specs.Find.{as_str, as_array, as_object};
 ghost use Rattle.serde_json.specs.View.{view, items_view, members_view};
@@ -38,7 +38,8 @@ pub(crate) fn items_of(part: Part, value: Option<&Value>) -> Result<&[Value], Re
 }
 
 pub(crate) fn check_names(form: Form, members: &Map<String, Value>) -> Result<(), Refusal>
-    ensures { result ≡ no_others form (members_view members.now.entries) }
+    ensures exact { result ≡ no_others form (members_view members.now.entries) }
+    ensures memory { IsErrOf result Refusal.Memory → ⊥ }
 {
     if form.has_all(members) {
         Ok(())

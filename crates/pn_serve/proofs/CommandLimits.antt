@@ -1,0 +1,119 @@
+-- What is in its ranges keeps the limits, and what keeps the limits is in its ranges.
+use Rattle.std.proofs.Common.{◌≡◌, ℕ, List, [], ◌∷◌, length, map, codes, T, Bool, true, false, ◌&&◌, cond, Option, Some, None, Result, Ok, Err, nat_cmp, refl, sym, ap, ◌∙◌}
+use Rattle.std.proofs.lemmas.Bool.{and_parts, and_from}
+use Rattle.std.specs.Cmp.Lexicographic.{slice_cmp}
+use Rattle.std.specs.FinMap.Entries.{is_sorted, below_all}
+use Rattle.std.specs.List.{list_all}
+use Rattle.std.specs.Ordering.{is_lt}
+use Rattle.pn_join.specs.Naming.{is_name}
+use Rattle.serde_json.specs.Data.{Data, number, string, array, object, unsigned, Members, member, no_members}
+use Rattle.serde_json.specs.View.{items_of}
+use Rattle.pn_record.specs.Canonical.{is_image}
+use Rattle.pn_record.specs.Grammar.{ranges_in}
+use Rattle.pn_record.specs.Limits.{Field, names_rise, is_key}
+use Rattle.pn_record.specs.Checks.{fault_as}
+use Rattle.pn_record.specs.Seen.{body_rises}
+use Rattle.pn_record.specs.Writing.{fields_data, body_data, image_data, version_data}
+use Rattle.pn_record.specs.declared.image.Image.{Image}
+use Rattle.pn_record.proofs.Limiting.{in_ranges, image_from_ranges}
+use Rattle.pn_record.proofs.LookUps.{entries_of, Rise}
+use Rattle.pn_stream.specs.Positions.{DeliveryValue, are_positions}
+use Rattle.pn_serve.specs.Command.Json.{delivery_data, command_data}
+use Rattle.pn_serve.specs.Command.Limits.{is_delivery, is_command}
+use Rattle.pn_serve.specs.Command.Meaning.{CommandValue, deliver, marks, read, scan, tablets}
+use Rattle.pn_serve.specs.Command.Ranges.{fits, each_fits, image_fits, batch_fits, batches_fit}
+use Rattle.pn_serve.specs.declared.refusal.Part.{Part}
+use Rattle.pn_serve.specs.declared.refusal.Part.TheVariants.{Batches, First, Stream}
+use Rattle.pn_serve.specs.declared.refusal.Refusal.{Refusal}
+use Rattle.pn_serve.proofs.Fitting.{both_fit}
+use Rattle.pn_serve.proofs.ReadInOrder.{InOrder, ItemsInOrder, MembersInOrder, in_order-at}
+
+below_fields : (name : List ℕ) (fields : List Field) → below_all (slice_cmp nat_cmp) name (entries_of (fields_data fields)) ≡ below_all (slice_cmp nat_cmp) name fields
+below_fields name [] = refl
+below_fields name (field ∷ fields) = ap (λ b. is_lt (slice_cmp nat_cmp name field.0) && b) (below_fields name fields)
+
+sorted_fields : (fields : List Field) → is_sorted (slice_cmp nat_cmp) (entries_of (fields_data fields)) ≡ is_sorted (slice_cmp nat_cmp) fields
+sorted_fields [] = refl
+sorted_fields (field ∷ fields) = rw (below_fields field.0 fields, sorted_fields fields) refl
+
+true_of : (b : Bool) → T b → b ≡ true
+true_of true holds = refl
+true_of false holds = absurd holds
+
+members_in_order : (ms : Members) → InOrder (object ms) → MembersInOrder ms
+members_in_order ms order = order.1
+
+object_rises : (ms : Members) → InOrder (object ms) → Rise ms
+object_rises ms order = order.0
+
+-- the names of an image's fields rise in its JSON
+fields_rise : (f : Option (List Field)) (rest : Members) → InOrder (object (body_data f rest)) → body_rises f ≡ true
+fields_rise None rest order = refl
+fields_rise (Some fields) rest order =
+    let inside = in_order-at (codes "fields") (body_data (Some fields) rest) (object (fields_data fields)) (members_in_order (body_data (Some fields) rest) order) refl in
+    sym (sorted_fields fields) ∙ true_of _ (object_rises (fields_data fields) inside)
+
+passed : {E F : Type 0} (name : E → F) (r : Result (Unit {0}) E) → fault_as name r ≡ Ok tt → r ≡ Ok tt
+passed name (Ok tt) is = refl
+passed name (Err e) is = absurd (cc)
+
+image_kept : (image : Image) → InOrder (image_data image) → image_fits image ≡ Ok tt → is_image image ≡ true
+image_kept image order is = image_from_ranges image (passed _ (ranges_in image) is) (fields_rise image.content.0 _ order)
+
+image_again : (image : Image) → is_image image ≡ true → image_fits image ≡ Ok tt
+image_again image keeps = rw (in_ranges image keeps) refl
+
+kept_each : {A : Type 0} (written : A → Data) (check : A → Result (Unit {0}) Refusal) (test : A → Bool) → ((a : A) → InOrder (written a) → check a ≡ Ok tt → test a ≡ true)
+    → (xs : List A) → ItemsInOrder (items_of (map written xs)) → each_fits check xs ≡ Ok tt → list_all test xs ≡ true
+kept_each written check test so [] order is = refl
+kept_each written check test so (x ∷ xs) order is =
+    let parts = both_fit (check x) (each_fits check xs) is in
+    and_from (test x) (list_all test xs) (so x order.0 parts.0) (kept_each written check test so xs order.1 parts.1)
+
+fit_each : {A : Type 0} (check : A → Result (Unit {0}) Refusal) (test : A → Bool) → ((a : A) → test a ≡ true → check a ≡ Ok tt) → (xs : List A) → list_all test xs ≡ true → each_fits check xs ≡ Ok tt
+fit_each check test so [] keeps = refl
+fit_each check test so (x ∷ xs) keeps =
+    let parts = and_parts (test x) (list_all test xs) keeps in
+    rw (so x parts.0, fit_each check test so xs parts.1) refl
+
+fits_true : (part : Part) (test : Bool) → fits part test ≡ Ok tt → test ≡ true
+fits_true part true is = refl
+fits_true part false is = absurd (cc)
+
+abbrev pub delivery_members : DeliveryValue → Members
+delivery_members delivery =
+    member (codes "first") (number (unsigned delivery.first)) (member (codes "images") (array (items_of (map image_data delivery.images))) (member (codes "stream") (string delivery.stream) no_members))
+
+delivery_kept : (delivery : DeliveryValue) → InOrder (delivery_data delivery) → batch_fits delivery ≡ Ok tt → is_delivery delivery ≡ true
+unfolding batch_fits
+delivery_kept delivery order is =
+    let first = both_fit (fits First (are_positions delivery.first (length delivery.images))) _ is in
+    let rest = both_fit (each_fits image_fits delivery.images) (fits Stream (is_name delivery.stream)) first.1 in
+    let inside = in_order-at (codes "images") (delivery_members delivery) (array (items_of (map image_data delivery.images))) (members_in_order (delivery_members delivery) order) refl in
+    and_from _ _ (and_from _ _ (fits_true Stream _ rest.1) (fits_true First _ first.0)) (kept_each image_data image_fits is_image image_kept delivery.images inside rest.0)
+
+delivery_again : (delivery : DeliveryValue) → is_delivery delivery ≡ true → batch_fits delivery ≡ Ok tt
+unfolding batch_fits
+delivery_again delivery keeps =
+    let parts = and_parts (is_name delivery.stream && are_positions delivery.first (length delivery.images)) (list_all is_image delivery.images) keeps in
+    let places = and_parts (is_name delivery.stream) (are_positions delivery.first (length delivery.images)) parts.0 in
+    rw (places.0, places.1, fit_each image_fits is_image image_again delivery.images parts.1) refl
+
+abbrev pub deliver_members : List DeliveryValue → Members
+deliver_members deliveries =
+    member (codes "batches") (array (items_of (map delivery_data deliveries))) (member (codes "do") (string (codes "deliver")) no_members)
+
+-- deliveries whose JSON is in order, and that are in their ranges
+pub deliveries_kept : (deliveries : List DeliveryValue) → InOrder (command_data (deliver deliveries)) → batches_fit deliveries ≡ Ok tt → is_command (deliver deliveries) ≡ true
+unfolding batches_fit
+deliveries_kept deliveries order is =
+    let count = both_fit (fits Batches _) (each_fits batch_fits deliveries) is in
+    let inside = in_order-at (codes "batches") (deliver_members deliveries) (array (items_of (map delivery_data deliveries))) (members_in_order (deliver_members deliveries) order) refl in
+    and_from _ _ (fits_true Batches _ count.0) (kept_each delivery_data batch_fits is_delivery delivery_kept deliveries inside count.1)
+
+-- deliveries that keep their limits
+pub deliveries_again : (deliveries : List DeliveryValue) → is_command (deliver deliveries) ≡ true → batches_fit deliveries ≡ Ok tt
+unfolding batches_fit
+deliveries_again deliveries keeps =
+    let parts = and_parts _ (list_all is_delivery deliveries) keeps in
+    rw (parts.0, fit_each batch_fits is_delivery delivery_again deliveries parts.1) refl
