@@ -1,5 +1,5 @@
 -- What a look into a value found, the value is; and what was right stays right.
-use Rattle.std.proofs.Common.{◌≡◌, ℕ, List, true, false, Option, Some, None, option_map, option_and_then, unwrap_or, Result, Ok, Err, refl, ap, subst}
+use Rattle.std.proofs.Common.{◌≡◌, ℕ, List, Bool, true, false, cond, not, Option, Some, None, option_map, option_and_then, unwrap_or, Result, Ok, Err, refl, ap, subst}
 use Rattle.std.specs.Option.{ok_or}
 use Rattle.serde_json.specs.Data.{Num, unsigned, negative, float, Data, null, boolean, number, string, array, object, Items, Members}
 use Rattle.serde_json.specs.Find.{as_bool, as_u64, as_str, as_array, as_object}
@@ -10,6 +10,21 @@ use Rattle.pn_json.specs.Members.{whole_number}
 pub bind_ok : {A B E : Type 0} (first : Result A E) (next : A → Result B E) (b : B) → (first >>= next) ≡ Ok b → (a : A) × (first ≡ Ok a) × (next a ≡ Ok b)
 bind_ok (Ok a) next b is = (a, refl, is)
 bind_ok (Err e) next b is = cc
+
+-- a check that passed lets the next one decide
+pub passed : {A E : Type 0} (b : Bool) (e : E) (next : Result A E) (a : A) → cond (not b) (Err e) next ≡ Ok a → (b ≡ true) × (next ≡ Ok a)
+passed true e next a is = (refl, is)
+passed false e next a is = absurd (cc)
+
+-- and so does a fault that is not there
+pub no_fault : {A E : Type 0} (b : Bool) (e : E) (next : Result A E) (a : A) → cond b (Err e) next ≡ Ok a → (b ≡ false) × (next ≡ Ok a)
+no_fault true e next a is = absurd (cc)
+no_fault false e next a is = (refl, is)
+
+-- a value that is answered where a check passed
+pub guard_ok : {A E : Type 0} (b : Bool) (x y : A) (e : E) → cond b (Ok x) (Err e) ≡ Ok y → (b ≡ true) × (x ≡ y)
+guard_ok true x y e is = (refl, cc)
+guard_ok false x y e is = absurd (cc)
 
 pub ok_or_ok : {A E : Type 0} (o : Option A) (e : E) (a : A) → ok_or o e ≡ Ok a → o ≡ Some a
 ok_or_ok None e a is = cc

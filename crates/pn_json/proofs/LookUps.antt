@@ -86,3 +86,11 @@ pub Rise-map : (entries : List (String Global × Value)) → IsStrictlySortedBy 
 unfolding IsStrictlySortedBy
 Rise-map [] ordered = tt
 Rise-map (entry ∷ entries) ordered = both _ _ (below_members entry.0 entries ordered.0) (Rise-map entries ordered.1)
+
+-- at this name both have the same, so it is the other names that are left to look at
+pub or_elsewhere : (q name : List ℕ) (ms ns : Members) (o : Option Data) → get_member name ms ≡ o → get_member name ns ≡ o → (bytes_eq q name ≡ false → get_member q ms ≡ get_member q ns) → get_member q ms ≡ get_member q ns
+or_elsewhere q name ms ns o one two other = elim (bytes_eq q name) as (λ b. bytes_eq q name ≡ b → get_member q ms ≡ get_member q ns) [
+  | true ↦ λ is. let same : q ≡ name = (bytes_eq-Decides q name).0 is in
+      ap (λ x. get_member x ms) same ∙ one ∙ sym two ∙ ap (λ x. get_member x ns) (sym same)
+  | false ↦ other
+] refl

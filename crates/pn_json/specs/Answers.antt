@@ -1,4 +1,4 @@
--- Answers beside the right ones: checks one after another, of which the first fault stands.
+-- Checks one after another, where the first fault decides, and answers compared with the right ones.
 use Rattle.std.specs.Prelude.{◌≡◌, ◌≢◌, Result, Ok, Err}
 
 -- what the second gives on the value of the first, or the first's fault

@@ -29,7 +29,7 @@ pub record HasValue (line : Written) (value : Data) : Type 0 where
   pub before : line.before ≡ []
   pub tokens : line.tokens ≡ value_tokens value
 
--- these tokens were written behind what was there
+-- these tokens were written after what was there
 pub record Appends (old new : Written) (added : List Token) : Type 0 where
   pub before : new.before ≡ old.before
   pub tokens : new.tokens ≡ old.tokens ++ added

@@ -11,11 +11,11 @@ use Rattle.std.proofs.lemmas.List.Elements.{filter-append}
 use Rattle.pn_join.specs.Tables.{optional_joined}
 use Rattle.pn_record.specs.declared.image.Image.{Image}
 use Rattle.pn_record.specs.Order.{version_cmp}
-use Rattle.pn_record.specs.Totals.{version_cmp_total, version_cmp-exact}
+use Rattle.pn_record.specs.Laws.Totals.{version_cmp_total, version_cmp-exact}
 use Rattle.pn_record.specs.Cells.{SameImages, later, top, images_of, contents_with, cell_of, cells}
 use Rattle.pn_record.specs.Sets.{CellValue, Stamp, Contents, set_of, cell_joined}
-use Rattle.pn_record.specs.Unions.{set_of-append}
-use Rattle.pn_record.specs.JoinedCells.{cell_joined-laws, joined-less, joined-equal, joined-greater, turned-less, turned-greater, greater-trans, by_versions}
+use Rattle.pn_record.specs.Laws.Unions.{set_of-append}
+use Rattle.pn_record.specs.Laws.JoinedCells.{cell_joined-laws, joined-less, joined-equal, joined-greater, turned-less, turned-greater, greater-trans, by_versions}
 
 later-less : (v w : Stamp) → version_cmp v w ≡ Less → later v w ≡ w
 later-less v w e = ap (λ r. by_order r w w v) e

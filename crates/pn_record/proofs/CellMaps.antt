@@ -12,10 +12,10 @@ use Rattle.std.specs.Str.{bytes_eq}
 use Rattle.pn_record.specs.declared.image.Image.{Image}
 use Rattle.pn_record.specs.Limits.{ContentValue}
 use Rattle.pn_record.specs.Order.{bytes_cmp, content_cmp}
-use Rattle.pn_record.specs.Totals.{content_cmp_total}
+use Rattle.pn_record.specs.Laws.Totals.{content_cmp_total}
 use Rattle.pn_record.specs.Sets.{CellValue, Contents, HasContents, set_of, union, cell_joined}
-use Rattle.pn_record.specs.Unions.{either, get-union, some-set_of, set_of-one}
-use Rattle.pn_record.specs.JoinedCells.{by_versions, joined-less, joined-equal, joined-greater}
+use Rattle.pn_record.specs.Laws.Unions.{either, get-union, some-set_of, set_of-one}
+use Rattle.pn_record.specs.Laws.JoinedCells.{by_versions, joined-less, joined-equal, joined-greater}
 use Rattle.pn_record.specs.Cells.{Holds, cell_of, cells, images_of, spell}
 use Rattle.pn_record.specs.CellMap.{cells_map, Entries, table_of, adds}
 use Rattle.pn_record.proofs.CellLists.{both, cells-append, cell_of-cons}

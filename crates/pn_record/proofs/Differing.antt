@@ -12,7 +12,7 @@ use Rattle.std.proofs.lemmas.Cmp.{nat_list_cmp_total, tied_itself, eq_by_cmp_equ
 use Rattle.std.proofs.lemmas.Map.Lookups.{exact_bytes}
 use Rattle.pn_join.specs.Tables.{optional_joined}
 use Rattle.pn_record.specs.Order.{bytes_cmp, version_cmp, content_cmp}
-use Rattle.pn_record.specs.Totals.{version_cmp_total, content_cmp_total}
+use Rattle.pn_record.specs.Laws.Totals.{version_cmp_total, content_cmp_total}
 use Rattle.pn_record.specs.Sets.{CellValue, cell_joined}
 use Rattle.pn_record.specs.CellMap.{Entries}
 use Rattle.pn_record.specs.SameCells.{same_cell, same_at}

@@ -7,10 +7,10 @@ use Rattle.std.specs.FinMap.Entries.{below_all}
 use Rattle.std.proofs.lemmas.List.{length_push, length-append, append-nil}
 use Rattle.pn_record.specs.Limits.{ContentValue}
 use Rattle.pn_record.specs.Order.{content_cmp}
-use Rattle.pn_record.specs.Totals.{content_cmp_total, content_cmp-exact}
+use Rattle.pn_record.specs.Laws.Totals.{content_cmp_total, content_cmp-exact}
 use Rattle.pn_record.specs.Sets.{Contents, IsContents, as_entries, set_of, union}
 use Rattle.pn_record.proofs.Sorted.{both_true, first_true, second_true, below_lesser}
-use Rattle.pn_record.specs.Unions.{either, get-union, same, set_of-append, union-empty, union-assoc}
+use Rattle.pn_record.specs.Laws.Unions.{either, get-union, same, set_of-append, union-empty, union-assoc}
 
 -- the contents are in content order, each once
 abbrev pub Rises : List ContentValue → Type 0

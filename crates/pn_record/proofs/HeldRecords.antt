@@ -14,10 +14,10 @@ use Rattle.pn_join.specs.Tables.{contents_at, key_by_key}
 use Rattle.pn_record.specs.declared.image.Image.{Image}
 use Rattle.pn_record.specs.Limits.{ContentValue}
 use Rattle.pn_record.specs.Order.{bytes_cmp}
-use Rattle.pn_record.specs.Totals.{version_cmp_total}
+use Rattle.pn_record.specs.Laws.Totals.{version_cmp_total}
 use Rattle.pn_record.specs.Sets.{Stamp, CellValue, HasContents, set_of, cell_joined}
-use Rattle.pn_record.specs.Unions.{set_of-append, set_of-keys}
-use Rattle.pn_record.specs.JoinedCells.{joined-equal}
+use Rattle.pn_record.specs.Laws.Unions.{set_of-append, set_of-keys}
+use Rattle.pn_record.specs.Laws.JoinedCells.{joined-equal}
 use Rattle.pn_record.specs.Cells.{Holds, cell_of, cells, images_of, spell, spell_cell}
 use Rattle.pn_record.proofs.Sorted.{first_true, second_true, is_less}
 use Rattle.pn_record.proofs.CellLists.{both, cells-append, cell_of-cons}

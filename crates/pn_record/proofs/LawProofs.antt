@@ -11,9 +11,9 @@ use Rattle.std.proofs.lemmas.List.Elements.{All-from_recursion}
 use Rattle.std.proofs.lemmas.Map.Lookups.{exact_bytes}
 use Rattle.pn_record.specs.declared.image.Image.{Image}
 use Rattle.pn_record.specs.Order.{bytes_cmp, version_cmp}
-use Rattle.pn_record.specs.Totals.{version_cmp_total}
+use Rattle.pn_record.specs.Laws.Totals.{version_cmp_total}
 use Rattle.pn_record.specs.Sets.{Stamp, CellValue}
-use Rattle.pn_record.specs.JoinedCells.{by_versions, turned-greater}
+use Rattle.pn_record.specs.Laws.JoinedCells.{by_versions, turned-greater}
 use Rattle.pn_record.specs.Cells.{IsTop, Holds, SameImages, later, top}
 use Rattle.pn_record.proofs.CellLists.{cells-same}
 

@@ -1,7 +1,8 @@
 -- The members of an image keep the limits exactly where no range is broken.
-use Rattle.std.proofs.Common.{◌≡◌, List, Bool, true, false, not, ◌&&◌, cond, Option, Some, None, Result, Ok, Err, refl}
+use Rattle.std.proofs.Common.{◌≡◌, List, true, ◌&&◌, Option, Some, None, Ok, refl}
 use Rattle.std.proofs.lemmas.Bool.{and_parts, and_from}
 use Rattle.pn_join.specs.Naming.{is_name}
+use Rattle.pn_json.proofs.Inverses.{passed}
 use Rattle.pn_record.specs.Limits.{Field, is_key, is_version, is_body, is_content, fields_fit, names_rise}
 use Rattle.pn_record.specs.Grammar.{body_fits, ranges_in}
 use Rattle.pn_record.specs.Seen.{body_rises}
@@ -25,10 +26,6 @@ in_ranges image is =
     let two = and_parts (is_body image.content.0) (is_name image.content.1) parts.1 in
     let fits = (body_parts image.content.0 two.0).0 in
     rw (fits, one.0, two.1, one.1) refl
-
-passed : {A E : Type 0} (b : Bool) (e : E) (next : Result A E) (a : A) → cond (not b) (Err e) next ≡ Ok a → (b ≡ true) × (next ≡ Ok a)
-passed true e next a is = (refl, is)
-passed false e next a is = absurd (cc)
 
 -- what breaks no range is an image, if its names rise
 pub image_from_ranges : (image : Image) → ranges_in image ≡ Ok tt → body_rises image.content.0 ≡ true → is_image image ≡ true

@@ -10,7 +10,7 @@ use Rattle.pn_record.specs.Reading.{reading, value_at, IsLine}
 use Rattle.serde_json.specs.View.{view}
 use Rattle.serde_json.specs.declared.value.Value.{Value}
 use Rattle.pn_json.specs.Answers.{◌>>=◌, ShowsUnless, IsUnless}
-use Rattle.pn_json.proofs.Inverses.{ok_or_ok, right_same}
+use Rattle.pn_json.proofs.Inverses.{no_fault, ok_or_ok, right_same}
 use Rattle.pn_record.specs.Faults.{IsOfValue}
 use Rattle.pn_record.specs.declared.fault.ImageFault.{ImageFault}
 use Rattle.pn_record.specs.declared.fault.ImageFault.TheVariants.{TooLong, NotJson, Memory}
@@ -42,16 +42,12 @@ refused_short memory fault (inr not_json) is = let both = not_json.1 in cc
 
 -- ---- lines of values that spell something
 
-short_ok : (b : Bool) (r : Result Data ImageFault) (d : Data) → cond b (Err TooLong) r ≡ Ok d → (b ≡ false) × (r ≡ Ok d)
-short_ok true r d is = absurd (cc)
-short_ok false r d is = (refl, is)
-
 module _ {A : Type 0} (IsSpelled : Data → A → Type 0) where
   -- a line whose value spells it
   pub line_found : (line : List ℕ) (d : Data) (meant : A) → value_at line ≡ Ok d → IsSpelled d meant → IsLine IsSpelled line meant
   unfolding value_at
   line_found line d meant value is =
-      let parts = short_ok (ltb 65536 (length line)) (ok_or (reading line) NotJson) d value in
+      let parts = no_fault (ltb 65536 (length line)) TooLong (ok_or (reading line) NotJson) d value in
       record { short = ltb-false _ _ parts.0; value = d; read = ok_or_ok (reading line) NotJson d parts.1; spelled = is }
 
   -- the same of what was answered

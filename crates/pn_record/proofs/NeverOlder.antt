@@ -5,9 +5,9 @@ use Rattle.std.specs.FinMap.{find}
 use Rattle.std.proofs.lemmas.Cmp.{tied_itself}
 use Rattle.pn_record.specs.declared.image.Image.{Image}
 use Rattle.pn_record.specs.Order.{bytes_cmp, version_cmp}
-use Rattle.pn_record.specs.Totals.{version_cmp_total}
+use Rattle.pn_record.specs.Laws.Totals.{version_cmp_total}
 use Rattle.pn_record.specs.Sets.{CellValue, cell_joined}
-use Rattle.pn_record.specs.JoinedCells.{by_versions, joined-less, joined-equal, joined-greater}
+use Rattle.pn_record.specs.Laws.JoinedCells.{by_versions, joined-less, joined-equal, joined-greater}
 use Rattle.pn_record.specs.Cells.{cells}
 use Rattle.pn_record.specs.CellMap.{table_of}
 use Rattle.pn_record.specs.Older.{NotOlder}

@@ -1,6 +1,5 @@
 -- A value that has the shape of an image is the JSON of that image, and that JSON has its shape.
-use Rattle.std.proofs.Common.{◌≡◌, ℕ, List, [], ◌∷◌, codes, Bool, true, false, Option, Some, None, Ok, String, Global, string_cmp, bytes_eq, refl, sym, ap, ◌∙◌}
-use Rattle.std.proofs.lemmas.Slice.Eq.{bytes_eq-Decides}
+use Rattle.std.proofs.Common.{◌≡◌, ℕ, List, [], ◌∷◌, codes, true, false, Option, Some, None, Ok, String, Global, string_cmp, bytes_eq, refl, sym, ap, ◌∙◌}
 use Rattle.std.specs.List.{list_any}
 use Rattle.std.specs.List.Sorted.{IsStrictlySortedBy}
 use Rattle.std.specs.Map.{keys_of}
@@ -14,7 +13,7 @@ use Rattle.pn_record.specs.Grammar.{image_members, all_texts, fields_of, shape_i
 use Rattle.pn_record.specs.Writing.{version_data, fields_data, body_data, image_data}
 use Rattle.pn_record.specs.Canonical.{IsImage}
 use Rattle.pn_record.specs.declared.image.Image.{Image}
-use Rattle.pn_json.proofs.LookUps.{Rise, Rise-map, get_member-member, get_member-unnamed, same_members}
+use Rattle.pn_json.proofs.LookUps.{Rise, Rise-map, get_member-member, get_member-unnamed, same_members, or_elsewhere}
 use Rattle.pn_json.proofs.Inverses.{object_from_as_object}
 use Rattle.pn_record.proofs.Limiting.{in_ranges}
 use Rattle.pn_record.proofs.ShapeParts.{Holds, holds, at_deleted, at_fields}
@@ -56,22 +55,13 @@ image_holds image = record {
   others = no_others image image.content.0;
 }
 
-at_name : (q name : List ℕ) (ms ns : Members) (o : Option Data) → get_member name ms ≡ o → get_member name ns ≡ o → bytes_eq q name ≡ true → get_member q ms ≡ get_member q ns
-at_name q name ms ns o one two is =
-    let same : q ≡ name = (bytes_eq-Decides q name).0 is in
-    ap (λ x. get_member x ms) same ∙ one ∙ sym two ∙ ap (λ x. get_member x ns) (sym same)
-
-split : {A : Type 0} (b : Bool) → (b ≡ true → A) → (b ≡ false → A) → A
-split true here there = here refl
-split false here there = there refl
-
 same_found : (ms ns : Members) (image : Image) → Holds ms image → Holds ns image → (q : List ℕ) → get_member q ms ≡ get_member q ns
 same_found ms ns image one two q =
-    split (bytes_eq q (codes "deleted")) (at_name q (codes "deleted") ms ns _ one.deleted two.deleted) (λ d.
-    split (bytes_eq q (codes "fields")) (at_name q (codes "fields") ms ns _ one.fields two.fields) (λ f.
-    split (bytes_eq q (codes "key")) (at_name q (codes "key") ms ns _ one.key two.key) (λ k.
-    split (bytes_eq q (codes "master")) (at_name q (codes "master") ms ns _ one.master two.master) (λ m.
-    split (bytes_eq q (codes "version")) (at_name q (codes "version") ms ns _ one.version two.version) (λ v.
+    or_elsewhere q (codes "deleted") ms ns _ one.deleted two.deleted (λ d.
+    or_elsewhere q (codes "fields") ms ns _ one.fields two.fields (λ f.
+    or_elsewhere q (codes "key") ms ns _ one.key two.key (λ k.
+    or_elsewhere q (codes "master") ms ns _ one.master two.master (λ m.
+    or_elsewhere q (codes "version") ms ns _ one.version two.version (λ v.
     let apart : list_any (bytes_eq q) image_members ≡ false = rw (d, f, k, m, v) refl in
     get_member-unnamed image_members ms q one.others apart ∙ sym (get_member-unnamed image_members ns q two.others apart))))))
 

@@ -1,5 +1,5 @@
 -- What a value that has the shape of an image holds at each name.
-use Rattle.std.proofs.Common.{◌≡◌, ℕ, List, codes, Bool, true, false, cond, Option, Some, None, unwrap_or, Ok, Err, refl, sym, ap, ◌∙◌}
+use Rattle.std.proofs.Common.{◌≡◌, ℕ, List, codes, Bool, true, false, cond, Option, Some, None, unwrap_or, Ok, refl, sym, ap, ◌∙◌}
 use Rattle.serde_json.specs.Data.{Data, boolean, string, object, Members}
 use Rattle.serde_json.specs.Find.{get_member, as_bool, as_object, as_str}
 use Rattle.pn_record.specs.Limits.{Field}
@@ -9,7 +9,7 @@ use Rattle.pn_record.specs.Writing.{version_data, fields_data}
 use Rattle.pn_record.specs.declared.image.Image.{Image}
 use Rattle.pn_record.specs.declared.fault.Member.{Member}
 use Rattle.pn_record.specs.declared.fault.Member.TheVariants.{Fields, Key, Master, Version, Other}
-use Rattle.pn_json.proofs.Inverses.{bind_ok, ok_or_ok, and_then_some, true_from_as_bool, string_from_as_str, object_from_as_object}
+use Rattle.pn_json.proofs.Inverses.{bind_ok, guard_ok, ok_or_ok, and_then_some, true_from_as_bool, string_from_as_str, object_from_as_object}
 use Rattle.pn_record.proofs.Inverses.{version_from_numbers, fields_data-fields_of}
 
 -- what stands at `deleted`, and at `fields`
@@ -29,10 +29,6 @@ pub record Holds (ms : Members) (image : Image) : Type 0 where
   pub master : get_member (codes "master") ms ≡ Some (string image.content.1)
   pub version : get_member (codes "version") ms ≡ Some (version_data image.version)
   pub others : only_named image_members ms ≡ true
-
-guard_ok : {A E : Type 0} (b : Bool) (x y : A) (e : E) → cond b (Ok x) (Err e) ≡ Ok y → (b ≡ true) × (x ≡ y)
-guard_ok true x y e is = (refl, cc)
-guard_ok false x y e is = absurd (cc)
 
 deleted_ok : (o : Option Data) (b : Bool) → deleted_in o ≡ Ok b → o ≡ cond b (Some (boolean true)) None
 deleted_ok None true is = absurd (cc)
@@ -72,8 +68,8 @@ holds ms image is =
     let master = bind_ok (member_as as_str Master (get_member (codes "master") ms)) _ image key.2 in
     let version = bind_ok (member_as numbers_in Version (get_member (codes "version") ms)) _ image master.2 in
     let named = bind_ok (no_others image_members Other ms) _ image version.2 in
-    let body = body_ok _ _ deleted.0 fields.0 deleted.1 fields.1 in
     let whole : record { key = key.0; version = version.0; content = (fields.0, master.0) } ≡ image = cc named.2 in
+    let body = body_ok _ _ deleted.0 fields.0 deleted.1 fields.1 in
     rw (← whole) (record {
       deleted = body.0;
       fields = body.1;

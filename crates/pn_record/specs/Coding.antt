@@ -1,4 +1,4 @@
--- How what a content shows is told apart.
+-- How values of contents are encoded, so that different ones differ.
 use Rattle.std.specs.Coded.{Coded, coded×, coded_list, coded_option, coded_ℕ}
 use Rattle.pn_record.specs.Limits.{Field, ContentValue}
 

@@ -4,7 +4,7 @@ ghost use Rattle.std.specs.Prelude.{◌≡◌, ◌∷◌, [], ◌<◌, length, I
 ghost use Rattle.std.specs.FinMap.{keys};
 ghost use Rattle.std.specs.List.{list_all};
 ghost use Rattle.pn_record.specs.Sets.{CellValue, set_of, union, cell_joined, HasContents};
-ghost use Rattle.pn_record.specs.JoinedCells.{cell_joined-laws};
+ghost use Rattle.pn_record.specs.Laws.JoinedCells.{cell_joined-laws};
 ghost use Rattle.pn_record.specs.States.{state_of, is_deletion as deletes};
 
 use crate::gather::gathered;

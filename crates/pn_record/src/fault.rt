@@ -5,7 +5,6 @@ ghost use Rattle.pn_record.specs.Words.{word_of};
 ghost use Rattle.pn_record.specs.declared.fault.ImageFault.TheVariants.{Memory};
 
 use pn_join::NoMemory;
-use std::alloc::{AllocError, AllocFailed};
 use std::fmt;
 use thiserror::Error;
 
@@ -75,22 +74,6 @@ impl From<NoMemory> for ImageFault {
     ghost from_gives = { λ _ fault. fault ≡ Memory };
 
     fn from(_error: NoMemory) -> ImageFault {
-        ImageFault::Memory
-    }
-}
-
-impl From<AllocError> for ImageFault {
-    ghost from_gives = { λ _ fault. fault ≡ Memory };
-
-    fn from(_error: AllocError) -> ImageFault {
-        ImageFault::Memory
-    }
-}
-
-impl<T: Drop> From<AllocFailed<T>> for ImageFault {
-    ghost from_gives = { λ _ fault. fault ≡ Memory };
-
-    fn from(_error: AllocFailed<T>) -> ImageFault {
         ImageFault::Memory
     }
 }

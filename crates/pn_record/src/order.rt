@@ -9,7 +9,7 @@ ghost use Rattle.std.specs.Cmp.Lexicographic.{slice_cmp};
 ghost use Rattle.std.proofs.Common.{rules};
 ghost use Rattle.pn_record.specs.Order.{bytes_cmp, field_cmp, body_cmp, content_cmp};
 ghost use Rattle.pn_record.specs.Showing.{shown_value, shown_field, shown_body};
-ghost use Rattle.pn_record.specs.Totals.{content_cmp_total, value_cmp_total};
+ghost use Rattle.pn_record.specs.Laws.Totals.{content_cmp_total, value_cmp_total};
 
 use crate::{Body, Content, Value};
 use std::cmp::Ordering;

@@ -44,7 +44,7 @@ fn deleted_of(value: Option<&Value>) -> Result<bool, Member>
 }
 
 /// The members of a value that has the shape of an image, borrowed from it: its fields (none for a
-/// deletion), key, master and version, whose ranges are still to be looked at.
+/// deletion), key, master and version. Their ranges are not checked yet.
 #[derive(Drop)]
 pub struct Shape<'v> {
     pub(crate) fields: Option<&'v Map<String, Value>>,
@@ -63,8 +63,8 @@ impl<'v> Model for Shape<'v> {
     ghost view = { λ s. record { key = s.key.now; version = s.version; content = (seen_fields s.fields, s.master.now) } };
 }
 
-/// The image whose shape a value has; its texts stay in the value. Otherwise the first member of another
-/// shape. It takes no memory.
+/// The members of the image that a value has the shape of, borrowed from the value. Otherwise the first member
+/// of another shape. It takes no memory.
 #[tactic(auto, unfolding(crate::specs::Grammar::shape_in))]
 pub fn shape_of(value: &Value) -> Result<Shape<'_>, Member>
     ensures exact { result ≡ shape_in (view value.now) }

@@ -112,7 +112,7 @@ in_step_none position [] [] none run = text_of-nil
 in_step_none position (line ∷ lines) [] none run = absurd run
 in_step_none position lines (image ∷ images) none run = absurd (omega (arith, none))
 
--- a fault with no message before it stands at the front of the text
+-- a fault with no message before it stands at the start of the text
 pub Stands-first : (max position : ℕ) (part : List ℕ) (images : List Image) (fault : StreamFault) (now : List ℕ) (left leaves : Option (List ℕ)) → length images ≡ 0
     → IfSome left (λ text. Batch max position (part ++ text) images (Some fault) now leaves) → IfSome left (λ text. Stands (position + 1) (part ++ text) fault)
 Stands-first max position part images fault now None leaves none batch = tt

@@ -1,6 +1,5 @@
 -- A value that has the shape of a message is the JSON of that message, and that JSON has its shape.
-use Rattle.std.proofs.Common.{◌≡◌, ℕ, List, codes, Bool, true, false, cond, not, Some, option_and_then, Result, Ok, Err, String, Global, string_cmp, bytes_eq, refl, sym, ap, ◌∙◌}
-use Rattle.std.proofs.lemmas.Slice.Eq.{bytes_eq-Decides}
+use Rattle.std.proofs.Common.{◌≡◌, ℕ, List, codes, true, false, Some, option_and_then, Ok, String, Global, string_cmp, bytes_eq, refl, sym, ap, ◌∙◌}
 use Rattle.std.specs.List.{list_any}
 use Rattle.std.specs.List.Sorted.{IsStrictlySortedBy}
 use Rattle.std.specs.Map.{keys_of}
@@ -14,10 +13,10 @@ use Rattle.pn_json.specs.Members.{whole_number, only_named}
 use Rattle.pn_record.specs.Grammar.{ranges_in as image_ranges_in}
 use Rattle.pn_record.specs.Seen.{body_rises}
 use Rattle.pn_record.specs.Writing.{image_data}
-use Rattle.pn_json.proofs.Inverses.{and_then_some, object_from_as_object, number_from_whole}
+use Rattle.pn_json.proofs.Inverses.{passed, and_then_some, object_from_as_object, number_from_whole}
 use Rattle.pn_record.proofs.Lines.{line_again, line_unique}
 use Rattle.pn_record.proofs.Limiting.{in_ranges, image_from_ranges}
-use Rattle.pn_json.proofs.LookUps.{Rise, Rise-map, get_member-unnamed, same_members}
+use Rattle.pn_json.proofs.LookUps.{Rise, Rise-map, get_member-unnamed, same_members, or_elsewhere}
 use Rattle.pn_record.proofs.SameImage.{shape_again}
 use Rattle.pn_stream.specs.Messages.{Message, message_members, shape_in, ranges_in, message_in, message_at}
 use Rattle.pn_stream.specs.MessageLines.{message_data, IsMessage, IsMessageLine}
@@ -26,21 +25,12 @@ use Rattle.pn_stream.specs.MessageLines.{message_data, IsMessage, IsMessageLine}
 abbrev members_of : Data → Data → Members
 members_of at image = member (codes "at") at (member (codes "image") image no_members)
 
-at_name : (q name : List ℕ) (ms ns : Members) (d : Data) → get_member name ms ≡ Some d → get_member name ns ≡ Some d → bytes_eq q name ≡ true → get_member q ms ≡ get_member q ns
-at_name q name ms ns d one two is =
-    let same : q ≡ name = (bytes_eq-Decides q name).0 is in
-    ap (λ x. get_member x ms) same ∙ one ∙ sym two ∙ ap (λ x. get_member x ns) (sym same)
-
-split : {A : Type 0} (b : Bool) → (b ≡ true → A) → (b ≡ false → A) → A
-split true here there = here refl
-split false here there = there refl
-
 -- members of these two names alone, that rise, are the two
 two_members : (ms : Members) (at image : Data) → Rise ms → only_named message_members ms ≡ true → get_member (codes "at") ms ≡ Some at → get_member (codes "image") ms ≡ Some image → ms ≡ members_of at image
 two_members ms at image rise named is_at is_image =
     same_members ms (members_of at image) rise tt (λ q.
-    split (bytes_eq q (codes "at")) (at_name q (codes "at") ms (members_of at image) at is_at refl) (λ a.
-    split (bytes_eq q (codes "image")) (at_name q (codes "image") ms (members_of at image) image is_image refl) (λ i.
+    or_elsewhere q (codes "at") ms (members_of at image) _ is_at refl (λ a.
+    or_elsewhere q (codes "image") ms (members_of at image) _ is_image refl (λ i.
     let apart : list_any (bytes_eq q) message_members ≡ false = rw (a, i) refl in
     get_member-unnamed message_members ms q named apart ∙ sym (get_member-unnamed message_members (members_of at image) q refl apart))))
 
@@ -60,10 +50,6 @@ message_found d entries value message members ordered named at image is =
 shape_again_of : (at : ℕ) (message : Message) → shape_in (message_data message) ≡ Ok message
 unfolding shape_in
 shape_again_of at message = rw (shape_again message.1) refl
-
-passed : {A E : Type 0} (b : Bool) (e : E) (next : Result A E) (a : A) → cond (not b) (Err e) next ≡ Ok a → (b ≡ true) × (next ≡ Ok a)
-passed true e next a is = (refl, is)
-passed false e next a is = absurd (cc)
 
 -- a message whose shape breaks no range
 pub message_fits : (d : Data) (message : Message) → d ≡ message_data message → body_rises message.1.content.0 ≡ true → ranges_in message ≡ Ok tt → IsMessage d message

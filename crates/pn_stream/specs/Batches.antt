@@ -26,7 +26,7 @@ abbrev pub Ends : ℕ → ℕ → ℕ → List ℕ → Option StreamFault → Li
 Ends max count position text None part left = ((count ≡ max) ⊎ NoLine text) × IsLeft text part left
 Ends max count position text (Some fault) part left = (count < max) × Stands (position + count + 1) text fault
 
--- these images are the longest run, at most `max`, of messages in step from the front of the text
+-- these images are the longest run, at most `max`, of messages in step from the start of the text
 pub record Batch (max position : ℕ) (text : List ℕ) (images : List Image) (fault : Option StreamFault) (part : List ℕ) (left : Option (List ℕ)) : Type 0 where
   pub rest : List ℕ
   pub within : length images ≤ max

@@ -6,7 +6,7 @@ use Rattle.pn_record.specs.Limits.{longest_line}
 use Rattle.pn_record.specs.declared.image.Image.{Image}
 use Rattle.pn_stream.specs.MessageLines.{IsMessageLine}
 
--- these lines are the messages of these images, at the positions behind this one
+-- these lines are the messages of these images, at the positions after this one
 abbrev pub InStep : ℕ → List (List ℕ) → List Image → Type 0
 InStep position [] [] = Unit {0}
 InStep position (line ∷ lines) (image ∷ images) =
@@ -20,7 +20,7 @@ pub record Run (position : ℕ) (text : List ℕ) (images : List Image) (rest : 
   pub in_step : InStep position lines images
   pub text_is : text ≡ text_of lines ++ rest
 
--- the text's first line, and the text behind it
+-- the text's first line, and the text after it
 pub record FirstLine (text line rest : List ℕ) : Type 0 where
   pub unbroken : IsUnbroken line
   pub text_is : text ≡ line ++ 10 ∷ rest

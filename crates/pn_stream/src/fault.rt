@@ -16,10 +16,10 @@ pub enum StreamFault {
     /// More than 65,536 bytes came without a newline.
     #[error("a line of the stream is too long")]
     LineTooLong,
-    /// The line is no message. `at` is the position that was wanted.
+    /// The line is not a message. `at` is the position that was expected.
     #[error("no message at {at}: {fault}")]
     BadMessage { at: u64, fault: ImageFault },
-    /// The line is the message of another position. Behind the last position, 10^15, each is.
+    /// The line is the message of another position. After the last position, 10^15, every message is one.
     #[error("the message at {wanted} was wanted and that at {got} came")]
     OutOfStep { wanted: u64, got: u64 },
     #[error("out of memory")]

@@ -55,7 +55,7 @@ fn message_of(alloc: Global, value: &Value) -> Result<(u64, Image), ImageFault>
     Ok((at, shape.image(alloc)?))
 }
 
-// The message whose shape a value has; its texts stay in the value.
+// The position and the image of a message, borrowed from the value.
 #[tactic(auto, unfolding(crate::specs::Messages::shape_in))]
 fn message_shape(value: &Value) -> Result<(u64, Shape<'_>), Member>
     ensures exact { result ≡ shape_in (view value.now) }

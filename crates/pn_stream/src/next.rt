@@ -16,8 +16,8 @@ use pn_record::{Image, ImageFault};
 use std::alloc::Global;
 use std::io;
 
-// Adds the images of the next messages, until there are `max`, no whole line is left, or a fault stands
-// next. The part of a line that was taken is kept, and where there was none its room is taken first.
+// Adds the images of the next messages, until there are `max`, no whole line is left, or a fault comes.
+// The part of a line that was taken is kept. Where there was none, memory for a line is taken first.
 pub(crate) fn next_images<S: Source>(
     alloc: Global,
     held: &mut Option<LineBuffer>,
@@ -107,7 +107,7 @@ fn push_image(images: &mut Vec<Image>, image: Image) -> Result<(), NoMemory>
     Ok(())
 }
 
-// The image of the next message, whose position is to be `wanted`. None where no whole line is left.
+// The image of the next message, which must be at the position `wanted`. None where no whole line is left.
 fn next_image<S: Source>(
     alloc: Global,
     line: &mut LineBuffer,
@@ -152,7 +152,7 @@ fn image_at(alloc: Global, line: &[u8], wanted: u64) -> Result<Image, StreamFaul
     in_step(wanted, read_message(alloc, line))
 }
 
-// The image of a message that was read, where it is the one that was wanted.
+// The image of the message that was read, if it is at the position `wanted`.
 fn in_step(wanted: u64, read: Result<(u64, Image), ImageFault>) -> Result<Image, StreamFault>
     ensures { result ≡ image_in_step wanted read }
 {

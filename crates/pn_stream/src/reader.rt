@@ -122,7 +122,7 @@ impl<S: Source + Drop> StreamReader<S> {
         self.fault
     }
 
-    // The fault, behind which there are no more messages.
+    // Answers the fault. No messages come after it.
     fn fail(&mut self, fault: StreamFault) -> StreamFault
         ensures failed { self.new ≡ record self.old { fault = Some StreamFault.Failed } }
         ensures fault { result ≡ fault }
@@ -131,7 +131,7 @@ impl<S: Source + Drop> StreamReader<S> {
         fault
     }
 
-    // The images of the next messages, and the fault that stands next, if the search for them met one.
+    // The images of the next messages, and the fault that follows them, if there is one.
     fn take_next(&mut self, max: usize) -> (Vec<Image>, Option<StreamFault>)
         requires { 1 ≤ max }
         ensures within { length result.0.items ≤ max }
@@ -176,7 +176,7 @@ impl<S: Source + Drop> StreamReader<S> {
         }
     }
 
-    // A delivery of the images after the last position, which is behind them then.
+    // A delivery of the images that follow the last position, which is moved past them.
     fn deliver(&mut self, images: Vec<Image>) -> Delivery
         requires { self.old.position + length images.items ≤ greatest }
         ensures moved { self.new ≡ record self.old { position = self.old.position + length images.items } }

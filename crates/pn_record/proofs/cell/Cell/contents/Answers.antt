@@ -2,7 +2,7 @@
 use Rattle.std.proofs.Common.{sym, ap, ◌∙◌}
 use Rattle.std.specs.FinMap.{keys}
 use Rattle.pn_record.specs.Sets.{CellValue}
-use Rattle.pn_record.specs.Unions.{keys-set_of}
+use Rattle.pn_record.specs.Laws.Unions.{keys-set_of}
 use Rattle.pn_record.proofs.cell.Cell.contents.Goals as goal
 
 pub returns-clause-contents : goal.returns-clause-contents

@@ -2,7 +2,7 @@
 use Rattle.std.proofs.Common.{◌<◌, List, length, sym, ◌∙◌, subst}
 use Rattle.pn_record.specs.Limits.{ContentValue}
 use Rattle.pn_record.specs.Sets.{IsContents}
-use Rattle.pn_record.specs.Unions.{some-set_of, same_contents}
+use Rattle.pn_record.specs.Laws.Unions.{some-set_of, same_contents}
 use Rattle.pn_record.proofs.cell.Cell.gather.Goals as goal
 
 pub returns-in_ok-self-inside-clause-some : goal.returns-in_ok-self-inside-clause-some

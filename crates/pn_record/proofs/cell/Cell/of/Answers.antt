@@ -2,7 +2,7 @@
 use Rattle.std.proofs.Common.{◌≡◌, ◌∷◌, [], ◌++◌, List, sym, ap, ◌∙◌, subst}
 use Rattle.pn_record.specs.Limits.{ContentValue}
 use Rattle.pn_record.specs.Sets.{IsContents, set_of}
-use Rattle.pn_record.specs.Unions.{set_of-one, some-set_of}
+use Rattle.pn_record.specs.Laws.Unions.{set_of-one, some-set_of}
 use Rattle.pn_record.proofs.cell.Cell.of.Goals as goal
 
 module _ (c : goal.In_ok-new) where

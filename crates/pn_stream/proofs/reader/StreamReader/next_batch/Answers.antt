@@ -1,4 +1,4 @@
--- A fault with no message before it stands at the front of the text.
+-- A fault with no message before it stands at the start of the text.
 use Rattle.std.proofs.Common.{◌≡◌, length, rules}
 use Rattle.pn_stream.proofs.Runs.{Stands-first, handed_on}
 use Rattle.pn_stream.proofs.reader.StreamReader.next_batch.Goals as goal

@@ -9,7 +9,7 @@ use Rattle.std.specs.Cmp.Lexicographic.{pointwise}
 use Rattle.std.proofs.lemmas.List.{map-append}
 use Rattle.pn_record.specs.Limits.{ContentValue}
 use Rattle.pn_record.specs.Order.{content_cmp}
-use Rattle.pn_record.specs.Totals.{content_cmp_total, content_cmp-exact}
+use Rattle.pn_record.specs.Laws.Totals.{content_cmp_total, content_cmp-exact}
 use Rattle.pn_record.specs.Sets.{CellValue, Contents, IsContents, as_entries, set_of, union}
 
 -- the first of two answers, where there is one

@@ -6,9 +6,9 @@ use Rattle.std.specs.FinMap.Entries.{by_order}
 use Rattle.std.proofs.lemmas.Cmp.{tied_itself}
 use Rattle.pn_join.specs.Laws.{JoinLaws}
 use Rattle.pn_record.specs.Order.{version_cmp}
-use Rattle.pn_record.specs.Totals.{version_cmp_total, version_cmp-exact}
+use Rattle.pn_record.specs.Laws.Totals.{version_cmp_total, version_cmp-exact}
 use Rattle.pn_record.specs.Sets.{CellValue, Stamp, union, cell_joined}
-use Rattle.pn_record.specs.Unions.{union-comm, union-assoc, union-same}
+use Rattle.pn_record.specs.Laws.Unions.{union-comm, union-assoc, union-same}
 
 pub joined-less : (a b : CellValue) → version_cmp a.0 b.0 ≡ Less → cell_joined a b ≡ b
 joined-less a b e = ap (λ r. by_order r b (a.0, union a.1 b.1) a) e
