@@ -11,7 +11,7 @@ pub fn raised_positions_are_the_greater()
 {}
 
 /// In what order marks are raised, and how often, makes no difference. Their names rise, as those of all
-/// marks, and positions of 1 to 10^15 stay that.
+/// marks, and positions of 1 to `LAST_POSITION` stay that.
 pub fn raising_is_a_join()
     ensures commutes { (a b : Positions) → IsTrue (is_sorted name_cmp a) → IsTrue (is_sorted name_cmp b) → raised a b ≡ raised b a }
     ensures associates { (a b c : Positions) → IsTrue (is_sorted name_cmp a) → raised (raised a b) c ≡ raised a (raised b c) }
