@@ -77,7 +77,12 @@ fn read_long(alloc: Global, bytes: usize) -> Result<(usize, usize, bool, bool), 
     line.start();
     let is_empty = line.is_empty() && matches!(end, LineEnd::Newline { .. });
     read_line(&mut line, &mut reader)?;
-    Ok((kept, len, is_too_long, is_empty && line.bytes() == b"next"))
+    Ok((
+        kept,
+        len,
+        is_too_long,
+        is_empty && line.bytes() == b"next".as_slice(),
+    ))
 }
 
 #[test]
@@ -133,7 +138,7 @@ fn read_twice(alloc: Global, fails_at: usize) -> Result<(bool, usize), Fail> {
     if failed && !matches!(read_line(&mut line, &mut reader)?, LineEnd::Newline { .. }) {
         return Err(Fail::new("no end of the line"));
     }
-    if line.bytes() != b"12345" {
+    if line.bytes() != b"12345".as_slice() {
         return Err(Fail::new("another line"));
     }
     Ok((failed, count))

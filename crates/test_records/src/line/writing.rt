@@ -54,7 +54,7 @@ fn pushed(alloc: Global, bytes: usize) -> Result<(usize, usize), Fail> {
     let told = (writer.writes, writer.taken.len());
     outbox.flush(&mut writer)?;
     let (first, rest) = writer.taken.split_at(writer.taken.len().min(3));
-    if first == b"abc" && rest == block.as_slice() {
+    if first == b"abc".as_slice() && rest == block.as_slice() {
         return Ok(told);
     }
     Err(Fail::new("other bytes"))
