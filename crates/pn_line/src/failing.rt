@@ -1,6 +1,6 @@
 //! A source and a sink of which one call fails, for runs that are to break. Both tell their bytes, so that
 //! a contract says what a broken run read and wrote.
-ghost use Rattle.std.specs.Prelude.{◌≡◌, ◌≢◌, ◌-◌, ◌<◌, ◌≤◌, ◌↔◌, [], Ok, Some, IfOk, IsErr, OnErr, OnSome, length, max, min, take};
+ghost use Rattle.std.specs.Prelude.{◌≡◌, ◌≢◌, ◌-◌, ◌<◌, ◌≤◌, ◌↔◌, [], true, false, Ok, Some, IfOk, IfSome, IsErr, OnErr, OnSome, length, max, min, take};
 ghost use Rattle.std.specs.Io.KnownBytes.{Appends, Keeps, IsAtEnd};
 ghost use Rattle.pn_line.specs.Reads.{Takes, newline_after};
 
@@ -85,6 +85,19 @@ impl Source for FailingSource<'_> {
     {
         self.looks.call()?;
         self.bytes.take_some(line)
+    }
+
+    /// Counts as a look, and fails where this one was chosen.
+    fn has_more(&mut self) -> io::Result<bool>
+        ensures more { result ≡ Ok true → IfSome (Some self.old.left) (λ rest. rest ≢ []) }
+        ensures end { result ≡ Ok false → IfSome (Some self.old.left) (λ rest. rest ≡ []) }
+        ensures fault { OnErr result (Unit {0}) }
+        ensures kept { Keeps (Some self.old.left) (Some self.new.left) }
+        ensures fails { IsErr result ↔ (self.old.fails_at ≡ 1) }
+        ensures counted { self.new.fails_at ≡ self.old.fails_at - 1 }
+    {
+        self.looks.call()?;
+        self.bytes.has_more()
     }
 }
 
