@@ -1,5 +1,5 @@
 pub mod Cuts
-pub mod Fronts
+pub mod Prefixes
 pub mod ReduceLaws
 pub mod Sharing
 pub mod Tables

@@ -47,12 +47,13 @@ pub same_joins : (bounds : Bounds) (marks : Positions) (images others : List Ima
 same_joins bounds marks images others same =
     ap (λ (f : Ends → TabletOp). map f (ranges bounds)) (λ i range. Join (same_in range images others same i) marks)
 
-inside : (range : Ends) (images : List Image) → lie_in range (table_of (images_in range images)) ≡ true
-inside range images = ap (lie_in range) (table_that (in_range range) images) ∙ all_that (in_range range) (table_of images)
+-- the cells of the images in a range lie there
+pub cells_inside : (range : Ends) (images : List Image) → lie_in range (table_of (images_in range images)) ≡ true
+cells_inside range images = ap (lie_in range) (table_that (in_range range) images) ∙ all_that (in_range range) (table_of images)
 
 fit_own : (marks : Positions) (images : List Image) (tablets : List TabletStateValue) → AreJoinsIn tablets (map (join_in marks images) (map (λ (t : TabletStateValue). t.range) tablets))
 fit_own marks images [] = tt
-fit_own marks images (t ∷ tablets) = (inside t.range images, fit_own marks images tablets)
+fit_own marks images (t ∷ tablets) = (cells_inside t.range images, fit_own marks images tablets)
 
 pub joins_fit : (bounds : Bounds) (marks : Positions) (images : List Image) (tablets : List TabletStateValue) → map (λ (t : TabletStateValue). t.range) tablets ≡ ranges bounds → AreJoinsIn tablets (joins_of bounds marks images)
 joins_fit bounds marks images tablets is = subst (λ (rs : List Ends). AreJoinsIn tablets (map (join_in marks images) rs)) is (fit_own marks images tablets)

@@ -18,7 +18,7 @@ use Rattle.pn_tablet.specs.declared.op.TabletOp.TheVariants.{Join}
 use Rattle.pn_tablet.proofs.LayoutFacts.{key_in_tablet, tablet_of_key, tablet_of_within}
 use Rattle.pn_apply.specs.Reducing.{images_in, ranges, joins_of}
 use Rattle.pn_apply.specs.Shares.{lists, images_at, by_tablet}
-use Rattle.pn_apply.proofs.Fronts.{mapped_at}
+use Rattle.pn_apply.proofs.Prefixes.{mapped_at}
 
 abbrev pub Share : Type 0
 Share = Vec Image Global

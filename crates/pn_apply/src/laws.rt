@@ -22,7 +22,7 @@ pub fn cutting_loses_nothing()
 {}
 
 /// A range that joins the cells of more images in it has the cells of both lists in it.
-pub fn ranges_join_alone()
+pub fn a_range_joins_the_images_in_it()
     ensures { (range : Ends) (images more : List Image)
         → adds (table_of (images_in range images)) (spell (table_of (images_in range more)))
         ≡ table_of (images_in range (images ++ more)) }

@@ -159,7 +159,7 @@ pub round_keeps : (broker : BrokerRecord) (region : RegionValue) (deliveries : L
 round_keeps broker region deliveries marks is faithful honest accepted =
     all_keep broker region.marks marks deliveries honest accepted (ranges region.layout) region.tablets is.tablets faithful
 
--- and so does one that ended without memory
+-- and so does one that ran out of memory
 pub half_keeps : (broker : BrokerRecord) (old new : RegionValue) (deliveries : List DeliveryValue) → IsRegion old → AreFaithful broker old.tablets → AreHonest broker deliveries
     → IsHalfTaken old deliveries new → AreFaithful broker new.tablets
 half_keeps broker old new deliveries is faithful honest left =

@@ -1,4 +1,4 @@
--- What a round that ended without memory leaves in the tablets.
+-- What a round that ran out of memory leaves in the tablets.
 use Rattle.std.proofs.Common.{◌≡◌, List, Ok, Err, sym, subst}
 use Rattle.std.specs.Prelude.{Result, MatchResult}
 use Rattle.pn_join.specs.Marks.{Positions}

@@ -87,7 +87,7 @@ round_not_older region deliveries marks is key =
     none_older key region.marks marks rs region.tablets (all_stepped region.tablets (map (join_in marks images) rs)) (ranges_apart region.layout is.lawful) is.tablets
     (all_taken marks images region.marks rs region.tablets is.tablets) (each_taken key marks region.marks images rs region.tablets is.tablets)
 
--- nor does one that ended without memory
+-- nor does one that ran out of memory
 pub half_not_older : (old new : RegionValue) (deliveries : List DeliveryValue) → IsRegion old → IsHalfTaken old deliveries new → (key : List ℕ)
     → NotOlder (find bytes_cmp key (all_cells old)) (find bytes_cmp key (all_cells new))
 half_not_older old new deliveries is left key =

@@ -19,7 +19,7 @@ use Rattle.pn_apply.specs.Reducing.{images_in, ranges}
 use Rattle.pn_region.specs.Laws.{HasImages}
 use Rattle.pn_region.specs.Regions.{RegionValue, AreTabletsOf, IsRegion, all_cells}
 use Rattle.pn_region.proofs.Apart.{Outside, Apart, ranges_apart}
-use Rattle.pn_region.proofs.Pieces.{cells_of}
+use Rattle.pn_region.proofs.Pieces.{cells_of, not_in}
 use Rattle.pn_region.proofs.Spelled.{spelled_inside}
 use Rattle.pn_region.proofs.TakenImages.{cells_each, pieces_of}
 use Rattle.pn_region.proofs.Together.{together}
@@ -41,14 +41,6 @@ spelled_outside range other (e ∷ es) apart inside =
     ∙ (λ i. no_images range e.0 e.1.0 (keys e.1.1) (apart e.0 (first_true (in_range other e.0) (lie_in other es) inside)) i
     ++ spelled_outside range other es apart (second_true (in_range other e.0) (lie_in other es) inside) i)
 
--- a key of a range is not in one that is apart from it
-not_in_first : (range other : Ends) (key : List ℕ) → (in_range other key ≡ true → in_range range key ≡ false) → in_range range key ≡ true → in_range other key ≡ false
-not_in_first range other key apart lies =
-    elim (in_range other key) as (λ b. in_range other key ≡ b → b ≡ false) [
-      | true ↦ λ too. let both : true ≡ false = sym lies ∙ apart too in cc
-      | false ↦ λ not_there. refl
-    ] refl
-
 spell-append : (es others : Entries) → spell (es ++ others) ≡ spell es ++ spell others
 spell-append es others = flat_map-append spell_cell es others
 
@@ -68,7 +60,7 @@ behind_first range [] es images outside inside = refl
 behind_first range (r ∷ rs) es images outside inside =
     let here : images_in r (spell es ++ images) ≡ images_in r images =
     filter-append (λ (image : Image). in_range r image.key) (spell es) images
-    ∙ ap (λ (own : List Image). own ++ images_in r images) (spelled_outside r range es (λ key lies. not_in_first range r key (outside.0 key) lies) inside) in
+    ∙ ap (λ (own : List Image). own ++ images_in r images) (spelled_outside r range es (λ key lies. not_in range r key (outside.0 key) lies) inside) in
     λ i. table_of (here i) ∷ behind_first range rs es images outside.1 inside i
 
 own_pieces : (marks : Positions) (rs : List Ends) (ts : List TabletStateValue) → Apart rs → AreTabletsOf marks rs ts → cells_each ts ≡ pieces_of (spell (cells_of ts)) rs

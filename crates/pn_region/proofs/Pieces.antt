@@ -35,7 +35,7 @@ none_outside range (e ∷ es) key inside outside =
     outside_first (eq_by_cmp bytes_cmp key e.0) range key e (find bytes_cmp key es) refl (first_true (in_range range e.0) (lie_in range es) inside) outside
     (none_outside range es key (second_true (in_range range e.0) (lie_in range es) inside) outside)
 
--- what is not found in front is found behind, or not at all
+-- what is not found in the first is found in the other, or not at all
 pub found_behind : (key : List ℕ) (es more : Entries) → find bytes_cmp key es ≡ None → find bytes_cmp key (es ++ more) ≡ find bytes_cmp key more
 found_behind key [] more none = refl
 found_behind key (e ∷ es) more none =
@@ -44,12 +44,13 @@ found_behind key (e ∷ es) more none =
       | false ↦ λ later. found_behind key es more later
     ] none
 
--- what is not found behind is found in front, or not at all
+-- what is not found in the other is found in the first, or not at all
 pub found_before : (key : List ℕ) (es more : Entries) → find bytes_cmp key more ≡ None → find bytes_cmp key (es ++ more) ≡ find bytes_cmp key es
 found_before key [] more none = none
 found_before key (e ∷ es) more none = ap (λ (rest : Option CellValue). cond (eq_by_cmp bytes_cmp key e.0) (Some e.1) rest) (found_before key es more none)
 
-not_in : (range other : Ends) (key : List ℕ) → (in_range other key ≡ true → in_range range key ≡ false) → in_range range key ≡ true → in_range other key ≡ false
+-- a key of a range is not in one that is apart from it
+pub not_in : (range other : Ends) (key : List ℕ) → (in_range other key ≡ true → in_range range key ≡ false) → in_range range key ≡ true → in_range other key ≡ false
 not_in range other key apart lies =
     elim (in_range other key) as (λ b. in_range other key ≡ b → b ≡ false) [
       | true ↦ λ too. let no : true ≡ false = sym lies ∙ apart too in cc

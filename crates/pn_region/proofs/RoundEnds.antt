@@ -11,7 +11,7 @@ use Rattle.std.specs.List.{flat_map}
 use Rattle.std.specs.Result.{result_map_both}
 use Rattle.pn_apply.specs.Applying.{AreJoinsIn, all_stepped, all_changes, AreOldOrStepped, IsSomeOld}
 use Rattle.pn_apply.specs.Reducing.{all_images, joined_cells, ranges}
-use Rattle.pn_apply.proofs.Fronts.{all_old, old_or_stepped, stepped_whole}
+use Rattle.pn_apply.proofs.Prefixes.{all_old, old_or_stepped, stepped_whole}
 use Rattle.pn_apply.proofs.ReduceLaws.{joins_fit}
 use Rattle.pn_region.specs.Marking.{new_marks}
 use Rattle.pn_region.specs.Regions.{RegionValue, AreTabletsOf, IsRegion, all_cells}

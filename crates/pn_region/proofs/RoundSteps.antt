@@ -7,7 +7,7 @@ use Rattle.pn_join.proofs.MarksFacts.{position_of-raised}
 use Rattle.pn_record.specs.declared.image.Image.{Image}
 use Rattle.pn_record.specs.Cells.{spell}
 use Rattle.pn_record.specs.CellMap.{Entries, table_of}
-use Rattle.pn_tablet.specs.Ranges.{Ends, in_range}
+use Rattle.pn_tablet.specs.Ranges.{Ends}
 use Rattle.pn_tablet.specs.Tablets.{TabletStateValue, lie_in}
 use Rattle.pn_tablet.specs.Steps.{taking, after_step, stepped}
 use Rattle.pn_tablet.specs.Changes.{changes}
@@ -17,7 +17,7 @@ use Rattle.pn_tablet.specs.declared.fault.OpFault.TheVariants.{WrongRange}
 use Rattle.pn_tablet.proofs.Keeping.{spelled_adds}
 use Rattle.pn_apply.specs.Applying.{all_stepped, all_changes, AreOldOrStepped}
 use Rattle.pn_apply.specs.Reducing.{images_in, join_in}
-use Rattle.pn_apply.proofs.Tables.{table_that, all_that}
+use Rattle.pn_apply.proofs.ReduceLaws.{cells_inside}
 use Rattle.pn_region.specs.Regions.{IsTabletOf, AreTabletsOf}
 use Rattle.pn_region.proofs.Apart.{Apart}
 use Rattle.pn_region.proofs.Pieces.{cells_of, changes_by_tablet}
@@ -32,9 +32,6 @@ own_ranges marks [] [] are = refl
 own_ranges marks [] (t ∷ ts) are = absurd are
 own_ranges marks (r ∷ rs) [] are = absurd are
 own_ranges marks (r ∷ rs) (t ∷ ts) are = λ i. are.0.range i ∷ own_ranges marks rs ts are.1 i
-
-pub cells_inside : (range : Ends) (images : List Image) → lie_in range (table_of (images_in range images)) ≡ true
-cells_inside range images = ap (lie_in range) (table_that (in_range range) images) ∙ all_that (in_range range) (table_of images)
 
 -- the marks that a round may leave are reached once they are taken
 pub new_reached : (cover marks : Positions) → Reaches (raised cover marks) marks

@@ -134,7 +134,7 @@ round_takes region deliveries marks taken is has = all_take marks region.marks (
 pub round_surely_takes : (region : RegionValue) (deliveries : List DeliveryValue) (marks : Positions) (sure maybe : List Image) → IsRegion region → HasBetween sure maybe region → HasBetween (sure ++ all_images deliveries) maybe (taking region deliveries marks)
 round_surely_takes region deliveries marks sure maybe is has = all_surely marks region.marks (all_images deliveries) sure maybe (ranges region.layout) region.tablets is.tablets has
 
--- a round that ended without memory may have taken them
+-- a round that ran out of memory may have taken them
 pub round_may_take : (old new : RegionValue) (deliveries : List DeliveryValue) (sure maybe : List Image) → IsRegion old → HasBetween sure maybe old → IsHalfTaken old deliveries new → HasBetween sure (maybe ++ all_images deliveries) new
 round_may_take old new deliveries sure maybe is has left =
     left_as old new deliveries (HasBetween sure (maybe ++ all_images deliveries)) left

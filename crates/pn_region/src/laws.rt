@@ -27,14 +27,14 @@ ghost use Rattle.pn_region.specs.Rounds.{taking, IsHalfTaken};
 ghost use Rattle.pn_region.specs.declared.fault.RoundFault.TheVariants.{Gap, TooManyStreams, Memory};
 
 /// The new region of a layout is one, and has the cells of no image.
-pub fn new_regions()
+pub fn a_new_region_has_taken_nothing()
     ensures regions { (bounds : Bounds) → IsLayout bounds → IsRegion (new_region bounds) }
     ensures images { (bounds : Bounds) → HasImages (new_region bounds) [] }
     ensures between { (bounds : Bounds) → HasBetween [] [] (new_region bounds) }
 {}
 
 /// A region stays one in every round, also in one that ends out of memory.
-pub fn rounds_keep_regions()
+pub fn a_round_leaves_a_region()
     ensures taken { (region : RegionValue) (deliveries : List DeliveryValue) (marks : Positions)
         → IsRegion region → IsRegion (taking region deliveries marks) }
     ensures half_taken { (old new : RegionValue) (deliveries : List DeliveryValue)
@@ -64,7 +64,7 @@ pub fn all_cells_are_in_key_order()
 
 /// The cells of all tablets, one after another, are those of all images that were taken. So they are once
 /// each image that may have been taken surely was.
-pub fn all_tablets_together()
+pub fn all_cells_are_those_of_the_images_taken()
     ensures images { (region : RegionValue) (images : List Image)
         → IsLayout region.layout → HasImages region images → all_cells region ≡ table_of images }
     ensures surely { (region : RegionValue) (sure maybe : List Image)
@@ -108,7 +108,7 @@ pub fn marks_take_the_greatest()
         → last_position delivery ≤ position_of next delivery.stream }
 {}
 
-/// A gap is told exactly where a delivery begins past a position of its stream that was not taken before it:
+/// A gap is answered exactly where a delivery begins past a position of its stream that was not taken before it:
 /// the first such delivery, and the first position that it lacks.
 pub fn a_gap_is_a_missing_position()
     ensures none { (marks next : Positions) (deliveries : List DeliveryValue)
@@ -120,8 +120,8 @@ pub fn a_gap_is_a_missing_position()
 {}
 
 /// Over marks whose names rise: new marks have as many names as the marks and the deliveries with images name
-/// streams, and at most 16. Where there are too many streams they are more. Besides these two a gap alone is told.
-pub fn streams_are_counted()
+/// streams, and at most 16. Where there are too many streams they are more. Besides these two only a gap is answered.
+pub fn new_marks_name_at_most_16_streams()
     ensures few { (marks next : Positions) (deliveries : List DeliveryValue)
         → IsTrue (is_sorted name_cmp marks) → new_marks marks deliveries ≡ Ok next
         → (length next ≡ stream_count marks deliveries) × (stream_count marks deliveries ≤ 16) }

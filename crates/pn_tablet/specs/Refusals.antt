@@ -6,7 +6,7 @@ abbrev pub IsRight : {A E : Type 0} → Bool → E → Result A E → Type 0
 IsRight true fault right = IsOk right
 IsRight false fault right = right ≡ Err fault
 
--- the same, where it is told which faults say that memory ran out
+-- the same, by which faults say that memory ran out
 abbrev pub Refuses : {A E : Type 0} → (E → Bool) → E → Result A E → Type 0
 Refuses is_memory fault right = IsRight (is_memory fault) fault right
 

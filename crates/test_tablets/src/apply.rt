@@ -1,33 +1,14 @@
 //! Deliveries over two tablets, with some numbers of workers, and gates that note what comes.
 ghost use Rattle.std.specs.Prelude.{◌≡◌, map, IfOk};
-ghost use Rattle.std.specs.Option.{option_copied};
 ghost use Rattle.pn_apply.specs.Reducing.{ranges};
 
 use crate::given::{delivery, layout, marks};
 use crate::notes::{Noted, Notes};
 use pn_apply::{Open, apply_all, reduce, reduce_owned};
-use pn_join::Dup;
-use pn_record::{Key, KeyFault};
 use pn_stream::Delivery;
 use pn_tablet::{Change, Layout, Range, TabletOp, TabletState};
 use std::alloc::Global;
 use std::test::Fail;
-
-fn copied(key: Option<&Key>) -> Result<Option<Key>, Fail>
-    ensures { IfOk result (λ copy. copy ≡ option_copied key.entry) }
-{
-    match key {
-        Some(key) => Ok(Some(key.dup()?)),
-        None => Ok(None),
-    }
-}
-
-// The range of these ends.
-fn range_of(from: Option<&Key>, to: Option<&Key>) -> Result<Range, Fail>
-    ensures { IfOk result (λ range. range ≡ (option_copied from.entry, option_copied to.entry)) }
-{
-    Ok(Range::new(copied(from)?, copied(to)?).ok_or(KeyFault::OutOfRange)?)
-}
 
 // The layout's tablets, which have taken nothing, and which note their work.
 fn tablets_of<'a>(alloc: Global, layout: &Layout, notes: &'a Notes) -> Result<Vec<Noted<'a>>, Fail>
@@ -36,7 +17,7 @@ fn tablets_of<'a>(alloc: Global, layout: &Layout, notes: &'a Notes) -> Result<Ve
     let mut tablets = Vec::new(alloc);
     for tablet in 0..layout.count() {
         let (from, to) = layout.range(tablet);
-        let state = TabletState::new(alloc, range_of(from, to)?);
+        let state = TabletState::new(alloc, Range::copied(from, to)?);
         tablets.push(Noted {
             state,
             tablet,

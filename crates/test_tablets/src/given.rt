@@ -1,6 +1,9 @@
 //! What the tests of several crates are given: keys, layouts, marks and deliveries.
 
-use pn_join::{Highest, Marks, Name};
+ghost use Rattle.std.specs.Prelude.{IsTrue, IfOk};
+ghost use Rattle.pn_join.specs.Marks.{are_positions};
+
+use pn_join::{Marks, Name, raise_at};
 use pn_record::{Key, KeyFault, read_image};
 use pn_stream::Delivery;
 use pn_tablet::Layout;
@@ -21,10 +24,12 @@ pub(crate) fn layout(alloc: Global, bounds: &[&str]) -> Result<Layout, Fail> {
 }
 
 /// Marks of the streams, each with its first three positions taken.
-pub(crate) fn marks(alloc: Global, streams: &[&str]) -> Result<Marks, Fail> {
+pub(crate) fn marks(alloc: Global, streams: &[&str]) -> Result<Marks, Fail>
+    ensures { IfOk result (λ marks. IsTrue (are_positions marks)) }
+{
     let mut marks = Marks::new(alloc);
     for stream in streams {
-        marks.join_entry(Name::read(stream.as_bytes())?, Highest(3))?;
+        raise_at(&mut marks, Name::read(stream.as_bytes())?, 3)?;
     }
     Ok(marks)
 }

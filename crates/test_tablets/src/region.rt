@@ -1,5 +1,8 @@
 //! Rounds over two tablets, and the marks of deliveries.
 
+ghost use Rattle.std.specs.Prelude.{IsTrue};
+ghost use Rattle.pn_join.specs.Marks.{are_positions};
+
 use crate::given::{delivery, layout, marks};
 use pn_apply::Open;
 use pn_join::Marks;
@@ -21,7 +24,9 @@ fn text_of(alloc: Global, marks: &Marks) -> Result<String, Fail> {
 }
 
 // The marks after one delivery, or why it was refused.
-fn told(alloc: Global, marks: &Marks, delivery: Delivery) -> Result<String, Fail> {
+fn told(alloc: Global, marks: &Marks, delivery: Delivery) -> Result<String, Fail>
+    requires { IsTrue (are_positions marks.now) }
+{
     match next_marks(marks, &[delivery]) {
         Ok(next) => text_of(alloc, &next),
         Err(fault) => Ok(format!(in alloc; "{fault}")?),

@@ -1,5 +1,8 @@
 //! Tablets through losses and adoptions, at values worked out by hand.
 
+ghost use Rattle.std.specs.Prelude.{IfOk};
+ghost use Rattle.pn_tablet.specs.Operations.{HasPositions};
+
 use crate::tablet::steps::{
     ALL, ARRIVALS, FIVE, FIVE_LOST, FOUR_TAKEN, NEWER, NEWER_TAKEN, RECOVERING, SIX_TAKEN,
     Standing, Step, TWO, TWO_TAKEN, Taken, Told, after, join, marks, operation, stands, stands_at,
@@ -54,7 +57,9 @@ fn copy_after(alloc: Global, steps: &[Step], need: Option<u64>) -> Result<Tablet
 }
 
 // How such a copy is adopted.
-fn adoption(alloc: Global, steps: &[Step], need: Option<u64>) -> Result<TabletOp, Fail> {
+fn adoption(alloc: Global, steps: &[Step], need: Option<u64>) -> Result<TabletOp, Fail>
+    ensures { IfOk result (λ op. HasPositions op) }
+{
     Ok(TabletOp::Adopt(copy_after(alloc, steps, need)?))
 }
 
@@ -84,7 +89,9 @@ fn why_no_copy_after(alloc: Global, steps: &[Step], need: Option<u64>) -> Result
 }
 
 // Why an operation is refused, in words; nothing where it is taken.
-fn why_refused(state: &mut TabletState, alloc: Global, op: &TabletOp) -> Result<String, Fail> {
+fn why_refused(state: &mut TabletState, alloc: Global, op: &TabletOp) -> Result<String, Fail>
+    requires { HasPositions op.now }
+{
     match state.apply(op).err() {
         Some(fault) => fault_in_words(alloc, &fault),
         None => Ok(String::new(alloc)),
@@ -101,7 +108,9 @@ fn why_not_adopted(state: &mut TabletState, alloc: Global, steps: &[Step]) -> Re
     why_refused(state, alloc, &op)
 }
 
-fn is_of_another_range(state: &mut TabletState, op: &TabletOp) -> bool {
+fn is_of_another_range(state: &mut TabletState, op: &TabletOp) -> bool
+    requires { HasPositions op.now }
+{
     matches!(state.apply(op).err(), Some(OpFault::WrongRange))
 }
 

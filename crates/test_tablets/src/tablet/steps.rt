@@ -1,6 +1,10 @@
 //! What tablets are put through, and how they stand after it.
 
-use pn_join::{Highest, Marks, Name};
+ghost use Rattle.std.specs.Prelude.{IsTrue, IfOk};
+ghost use Rattle.pn_join.specs.Marks.{are_positions, is_position};
+ghost use Rattle.pn_tablet.specs.Operations.{HasPositions};
+
+use pn_join::{Marks, Name, raise_at};
 use pn_record::{Body, Cell, Image, Key, KeyFault, Records, Value, read_image, take_image};
 use pn_tablet::{Change, Range, Status, TabletOp, TabletState};
 use std::alloc::Global;
@@ -94,13 +98,28 @@ fn records(alloc: Global, rows: &[Row]) -> Result<Records, Fail> {
     Ok(records)
 }
 
-pub(crate) fn marks(alloc: Global, position: u64) -> Result<Marks, Fail> {
+// The position, where it is one of a message.
+fn lawful(position: u64) -> Result<u64, KeyFault>
+    ensures { IfOk result (λ position. IsTrue (is_position position)) }
+{
+    if position == 0 || position > 1_000_000_000_000_000 {
+        return Err(KeyFault::OutOfRange);
+    }
+    Ok(position)
+}
+
+pub(crate) fn marks(alloc: Global, position: u64) -> Result<Marks, Fail>
+    ensures { IfOk result (λ marks. IsTrue (are_positions marks)) }
+{
+    let position = lawful(position)?;
     let mut marks = Marks::new(alloc);
-    marks.join_entry(Name::read(b"east")?, Highest(position))?;
+    raise_at(&mut marks, Name::read(b"east")?, position)?;
     Ok(marks)
 }
 
-pub(crate) fn join(alloc: Global, rows: &[Row], position: u64) -> Result<TabletOp, Fail> {
+pub(crate) fn join(alloc: Global, rows: &[Row], position: u64) -> Result<TabletOp, Fail>
+    ensures { IfOk result (λ op. HasPositions op) }
+{
     let marks = marks(alloc, position)?;
     let cells = records(alloc, rows)?;
     Ok(TabletOp::Join { cells, marks })
@@ -180,7 +199,9 @@ fn take(state: &mut TabletState, alloc: Global, step: Step) -> Result<(), Fail> 
     Ok(())
 }
 
-pub(crate) fn operation(alloc: Global, step: Step) -> Result<TabletOp, Fail> {
+pub(crate) fn operation(alloc: Global, step: Step) -> Result<TabletOp, Fail>
+    ensures { IfOk result (λ op. HasPositions op) }
+{
     match step {
         Step::Join(rows, position) => join(alloc, rows, position),
         Step::Lose => Ok(TabletOp::Lose),

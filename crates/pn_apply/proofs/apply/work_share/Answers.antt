@@ -5,7 +5,7 @@ use Rattle.std.specs.declared.alloc.Global.{Global}
 use Rattle.std.proofs.lemmas.List.{map-append, length_push}
 use Rattle.pn_tablet.specs.declared.change.Change.{Change}
 use Rattle.pn_tablet.specs.Operations.{HasPositions}
-use Rattle.pn_apply.proofs.Fronts.{on_err, all_old, not_none, same_length, positions_at, slot_old, old_or_stepped, stepped_whole, changes_whole, slot_count, slot_within, slot_joins, slot_stepped, slot_changes, slot_failed}
+use Rattle.pn_apply.proofs.Prefixes.{on_err, all_old, not_none, same_length, positions_at, slot_old, old_or_stepped, stepped_whole, changes_whole, slot_count, slot_within, slot_joins, slot_stepped, slot_changes, slot_failed}
 use Rattle.pn_apply.proofs.apply.work_share.Goals as goal
 
 pub returns-in_err-results-clause-err : goal.returns-in_err-results-clause-err

@@ -6,7 +6,7 @@ use Rattle.std.proofs.lemmas.List.Folds.{flat_map-map}
 use Rattle.pn_tablet.specs.Tablets.{TabletStateValue}
 use Rattle.pn_tablet.specs.declared.change.Change.{Change}
 use Rattle.pn_apply.specs.Applying.{AreJoinsIn, all_changes}
-use Rattle.pn_apply.proofs.Fronts.{all_old}
+use Rattle.pn_apply.proofs.Prefixes.{all_old}
 use Rattle.pn_region.proofs.Counting.{all_told}
 use Rattle.pn_region.proofs.RoundEnds.{none_taken}
 use Rattle.pn_region.proofs.RoundSteps.{same_list}

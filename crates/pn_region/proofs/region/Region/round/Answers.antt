@@ -7,7 +7,7 @@ use Rattle.pn_tablet.specs.Tablets.{TabletStateValue}
 use Rattle.pn_tablet.specs.declared.change.Change.{Change}
 use Rattle.pn_apply.specs.Applying.{HavePositions, all_changes, IsSomeOld}
 use Rattle.pn_apply.specs.Reducing.{all_images}
-use Rattle.pn_apply.proofs.Fronts.{on_err}
+use Rattle.pn_apply.proofs.Prefixes.{on_err}
 use Rattle.pn_apply.proofs.ReduceLaws.{joins_have_positions}
 use Rattle.pn_region.specs.Marking.{new_marks}
 use Rattle.pn_region.specs.Regions.{RegionValue, IsRegion, IsLawfulRegion}

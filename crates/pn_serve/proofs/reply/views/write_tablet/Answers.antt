@@ -23,8 +23,8 @@ pub returns : goal.returns
 unfolding tablet_data
 returns c = λ shown there.
     let same : c.tablet-state.result.now ≡ shown = let here = c.tablet-state.ensures in cc in
-    let cover = c.cover.ensures ∙ ap (λ (t : TabletStateValue). t.cover) same in
-    let status = c.status.ensures ∙ ap (λ (t : TabletStateValue). t.status) same in
+    let cover = c.cover.ensures.cover ∙ ap (λ (t : TabletStateValue). t.cover) same in
+    let status = c.status.ensures.status ∙ ap (λ (t : TabletStateValue). t.status) same in
     let from = c.from.ensures.from ∙ ap (λ (ends : Ends). ends.0) c.range.ensures.range ∙ ap (λ (t : TabletStateValue). t.range.0) same in
     let to = c.to.ensures.to ∙ ap (λ (ends : Ends). ends.1) c.range-2.ensures.range ∙ ap (λ (t : TabletStateValue). t.range.1) same in
     appends_as (λ i. value_tokens (tablet_of (cover i) (from i) (status i) (to i)))

@@ -4,7 +4,7 @@ use Rattle.pn_tablet.specs.Tablets.{empty_tablet}
 use Rattle.pn_apply.specs.Reducing.{ranges}
 use Rattle.pn_region.proofs.NewRegion.{new_is}
 use Rattle.pn_region.proofs.TakenImages.{new_has, new_between}
-use Rattle.pn_region.proofs.laws.new_regions.Goals as goal
+use Rattle.pn_region.proofs.laws.a_new_region_has_taken_nothing.Goals as goal
 
 pub returns-clause-regions : goal.returns-clause-regions
 returns-clause-regions c = λ bounds lawful. new_is bounds (map empty_tablet (ranges bounds)) [] lawful refl refl

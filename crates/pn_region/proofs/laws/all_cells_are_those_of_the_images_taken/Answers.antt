@@ -1,6 +1,6 @@
 -- The laws are lemmas.
 use Rattle.pn_region.proofs.Together.{together, surely_together}
-use Rattle.pn_region.proofs.laws.all_tablets_together.Goals as goal
+use Rattle.pn_region.proofs.laws.all_cells_are_those_of_the_images_taken.Goals as goal
 
 pub returns-clause-images : goal.returns-clause-images
 returns-clause-images c = together

@@ -1,6 +1,6 @@
 -- The laws are lemmas.
 use Rattle.pn_region.proofs.StreamCount.{few_streams, many_streams, never_memory}
-use Rattle.pn_region.proofs.laws.streams_are_counted.Goals as goal
+use Rattle.pn_region.proofs.laws.new_marks_name_at_most_16_streams.Goals as goal
 
 pub returns-clause-few : goal.returns-clause-few
 returns-clause-few c = few_streams

@@ -11,11 +11,11 @@ use Rattle.pn_tablet.specs.declared.op.TabletOp.{TabletOp}
 use Rattle.pn_tablet.specs.Operations.{HasPositions}
 use Rattle.pn_apply.specs.Applying.{IsJoinIn, AreJoinsIn, HavePositions, all_stepped, all_changes, AreOldOrStepped, IsSomeOld}
 
-abbrev pub front_stepped : ℕ → List TabletStateValue → List TabletOp → List TabletStateValue
-front_stepped zero ts ops = ts
-front_stepped (suc n) [] ops = []
-front_stepped (suc n) (t ∷ ts) [] = t ∷ ts
-front_stepped (suc n) (t ∷ ts) (op ∷ ops) = stepped t op ∷ front_stepped n ts ops
+abbrev pub prefix_stepped : ℕ → List TabletStateValue → List TabletOp → List TabletStateValue
+prefix_stepped zero ts ops = ts
+prefix_stepped (suc n) [] ops = []
+prefix_stepped (suc n) (t ∷ ts) [] = t ∷ ts
+prefix_stepped (suc n) (t ∷ ts) (op ∷ ops) = stepped t op ∷ prefix_stepped n ts ops
 
 -- what is read of a mapped list
 pub mapped_at : {A B : Type 0} (f : A → B) (xs : List A) (n : ℕ) (d : A) (e : B) → n < length xs → get_or (map f xs) n e ≡ f (get_or xs n d)
@@ -60,14 +60,14 @@ all_old [] some = absurd (omega arith)
 all_old (t ∷ ts) some = inl refl
 
 -- the next tablet is as it was
-pub untouched : (ts : List TabletStateValue) (ops : List TabletOp) (n : ℕ) (t : TabletStateValue) → get_or (front_stepped n ts ops) n t ≡ get_or ts n t
+pub untouched : (ts : List TabletStateValue) (ops : List TabletOp) (n : ℕ) (t : TabletStateValue) → get_or (prefix_stepped n ts ops) n t ≡ get_or ts n t
 untouched ts ops zero t = refl
 untouched [] ops (suc n) t = refl
 untouched (u ∷ ts) [] (suc n) t = refl
 untouched (u ∷ ts) (o ∷ ops) (suc n) t = untouched ts ops n t
 
 next_stepped : (ts : List TabletStateValue) (ops : List TabletOp) (n : ℕ) (t : TabletStateValue) (op : TabletOp) → AreJoinsIn ts ops → n < length ops
-    → set (front_stepped n ts ops) n (stepped (get_or ts n t) (get_or ops n op)) ≡ front_stepped (suc n) ts ops
+    → set (prefix_stepped n ts ops) n (stepped (get_or ts n t) (get_or ops n op)) ≡ prefix_stepped (suc n) ts ops
 next_stepped [] [] n t op fit within = absurd (omega arith)
 next_stepped [] (o ∷ ops) n t op fit within = absurd fit
 next_stepped (u ∷ ts) [] n t op fit within = absurd fit
@@ -76,11 +76,11 @@ next_stepped (u ∷ ts) (o ∷ ops) (suc n) t op fit within = ap (λ rest. stepp
 
 -- one more takes its operation
 pub more_stepped : (ts : List TabletStateValue) (ops : List TabletOp) (n : ℕ) (t : TabletStateValue) (op : TabletOp) → AreJoinsIn ts ops → n < length ops
-    → set (front_stepped n ts ops) n (stepped (get_or ts n t) (get_or ops n op)) ≡ front_stepped (n + 1) ts ops
-more_stepped ts ops n t op fit within = next_stepped ts ops n t op fit within ∙ ap (λ k. front_stepped k ts ops) (sym (add-one n))
+    → set (prefix_stepped n ts ops) n (stepped (get_or ts n t) (get_or ops n op)) ≡ prefix_stepped (n + 1) ts ops
+more_stepped ts ops n t op fit within = next_stepped ts ops n t op fit within ∙ ap (λ k. prefix_stepped k ts ops) (sym (add-one n))
 
 -- in the end all have
-pub stepped_whole : (ts : List TabletStateValue) (ops : List TabletOp) (n : ℕ) → AreJoinsIn ts ops → length ops ≤ n → front_stepped n ts ops ≡ all_stepped ts ops
+pub stepped_whole : (ts : List TabletStateValue) (ops : List TabletOp) (n : ℕ) → AreJoinsIn ts ops → length ops ≤ n → prefix_stepped n ts ops ≡ all_stepped ts ops
 stepped_whole [] [] zero fit past = refl
 stepped_whole [] [] (suc n) fit past = refl
 stepped_whole [] (o ∷ ops) n fit past = absurd fit
@@ -89,7 +89,7 @@ stepped_whole (u ∷ ts) (o ∷ ops) zero fit past = absurd (omega arith)
 stepped_whole (u ∷ ts) (o ∷ ops) (suc n) fit past = ap (λ rest. stepped u o ∷ rest) (stepped_whole ts ops n fit.1 (omega arith))
 
 -- at any time each is as it was or as its operation leaves it
-pub old_or_stepped : (ts : List TabletStateValue) (ops : List TabletOp) (n : ℕ) → AreJoinsIn ts ops → AreOldOrStepped ts ops (front_stepped n ts ops)
+pub old_or_stepped : (ts : List TabletStateValue) (ops : List TabletOp) (n : ℕ) → AreJoinsIn ts ops → AreOldOrStepped ts ops (prefix_stepped n ts ops)
 old_or_stepped [] [] zero fit = tt
 old_or_stepped [] [] (suc n) fit = tt
 old_or_stepped [] (o ∷ ops) n fit = absurd fit
@@ -127,11 +127,11 @@ changes_whole (u ∷ ts) [] n fit past = absurd fit
 changes_whole (u ∷ ts) (o ∷ ops) zero fit past = absurd (omega arith)
 changes_whole (u ∷ ts) (o ∷ ops) (suc n) fit past = ap (λ rest. answer o u (stepped u o) ∷ rest) (changes_whole ts ops n fit.1 (omega arith))
 
-length-front : (ts : List TabletStateValue) (ops : List TabletOp) (n : ℕ) → length (front_stepped n ts ops) ≡ length ts
-length-front ts ops zero = refl
-length-front [] ops (suc n) = refl
-length-front (u ∷ ts) [] (suc n) = refl
-length-front (u ∷ ts) (o ∷ ops) (suc n) = ap suc (length-front ts ops n)
+length-prefix : (ts : List TabletStateValue) (ops : List TabletOp) (n : ℕ) → length (prefix_stepped n ts ops) ≡ length ts
+length-prefix ts ops zero = refl
+length-prefix [] ops (suc n) = refl
+length-prefix (u ∷ ts) [] (suc n) = refl
+length-prefix (u ∷ ts) (o ∷ ops) (suc n) = ap suc (length-prefix ts ops n)
 
 -- a fact that holds anyway holds after an error
 pub on_err : {T E : Type 0} (r : Result T E) {P : Type 0} → P → OnErr r P
@@ -139,9 +139,9 @@ on_err (Ok x) holds = tt
 on_err (Err e) holds = holds
 
 -- slots of which the first so many have taken their operations
-module _ {S : Type 0} (tablet : S → TabletStateValue) (ts : List TabletStateValue) (ops : List TabletOp) (fit : AreJoinsIn ts ops) (slots : List S) (n : ℕ) (so_far : map tablet slots ≡ front_stepped n ts ops) where
+module _ {S : Type 0} (tablet : S → TabletStateValue) (ts : List TabletStateValue) (ops : List TabletOp) (fit : AreJoinsIn ts ops) (slots : List S) (n : ℕ) (so_far : map tablet slots ≡ prefix_stepped n ts ops) where
   pub slot_count : length slots ≡ length ops
-  slot_count = sym (length-map slots tablet) ∙ ap length so_far ∙ length-front ts ops n ∙ same_length ts ops fit
+  slot_count = sym (length-map slots tablet) ∙ ap length so_far ∙ length-prefix ts ops n ∙ same_length ts ops fit
 
   pub slot_within : n < length ops → n < length slots
   slot_within within = omega (arith, within, slot_count)
@@ -158,7 +158,7 @@ module _ {S : Type 0} (tablet : S → TabletStateValue) (ts : List TabletStateVa
       (subst (λ (o : TabletOp). IsJoinIn (get_or ts n (tablet old)) o) (sym given) (join_at ts ops n (tablet old) op fit within))
 
   pub slot_stepped : (old new : S) (op : TabletOp) → n < length ops → old ≡ get_or slots n old → op ≡ get_or ops n op → tablet new ≡ stepped (tablet old) op
-      → map tablet (set slots n new) ≡ front_stepped (n + 1) ts ops
+      → map tablet (set slots n new) ≡ prefix_stepped (n + 1) ts ops
   slot_stepped old new op within read given took =
       map-set tablet slots n new
       ∙ ap (λ (t : TabletStateValue). set (map tablet slots) n t) (took ∙ ap (λ (t : TabletStateValue). stepped t op) (slot_before old within read) ∙ ap (λ (o : TabletOp). stepped (get_or ts n (tablet old)) o) given)
@@ -182,4 +182,4 @@ module _ {S : Type 0} (tablet : S → TabletStateValue) (ts : List TabletStateVa
   pub slot_old : (old new : S) → n < length ops → old ≡ get_or slots n old → tablet new ≡ tablet old → IsSomeOld ts (map tablet (set slots n new))
   slot_old old new within read same =
       subst (IsSomeOld ts) (sym (map-set_same tablet slots n new old (same ∙ ap tablet read) ∙ so_far))
-      (one_old ts (front_stepped n ts ops) n (tablet old) (omega (arith, within, same_length ts ops fit)) (omega (arith, within, same_length ts ops fit, length-front ts ops n)) (untouched ts ops n (tablet old)))
+      (one_old ts (prefix_stepped n ts ops) n (tablet old) (omega (arith, within, same_length ts ops fit)) (omega (arith, within, same_length ts ops fit, length-prefix ts ops n)) (untouched ts ops n (tablet old)))

@@ -4,7 +4,7 @@ use Rattle.pn_apply.specs.Applying.{all_stepped}
 use Rattle.pn_region.specs.Rounds.{joins}
 use Rattle.pn_region.proofs.HalfRounds.{half_taken_is}
 use Rattle.pn_region.proofs.RoundEnds.{new_region_is}
-use Rattle.pn_region.proofs.laws.rounds_keep_regions.Goals as goal
+use Rattle.pn_region.proofs.laws.a_round_leaves_a_region.Goals as goal
 
 pub returns-clause-taken : goal.returns-clause-taken
 returns-clause-taken c = λ region deliveries marks is. new_region_is region deliveries is marks (all_stepped region.tablets (joins region deliveries marks)) refl
