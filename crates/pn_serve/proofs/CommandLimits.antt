@@ -11,12 +11,12 @@ use Rattle.serde_json.specs.View.{items_of}
 use Rattle.pn_record.specs.Canonical.{is_image}
 use Rattle.pn_record.specs.Grammar.{ranges_in}
 use Rattle.pn_record.specs.Limits.{Field, names_rise, is_key}
-use Rattle.pn_record.specs.Checks.{fault_as}
+use Rattle.pn_json.specs.Answers.{fault_as}
 use Rattle.pn_record.specs.Seen.{body_rises}
 use Rattle.pn_record.specs.Writing.{fields_data, body_data, image_data, version_data}
 use Rattle.pn_record.specs.declared.image.Image.{Image}
 use Rattle.pn_record.proofs.Limiting.{in_ranges, image_from_ranges}
-use Rattle.pn_record.proofs.LookUps.{entries_of, Rise}
+use Rattle.pn_json.proofs.LookUps.{entries_of, Rise}
 use Rattle.pn_stream.specs.Positions.{DeliveryValue, are_positions}
 use Rattle.pn_serve.specs.Command.Json.{delivery_data, command_data}
 use Rattle.pn_serve.specs.Command.Limits.{is_delivery, is_command}

@@ -1,5 +1,4 @@
 -- What a line says.
-pub mod Faults
 pub mod Json
 pub mod Limits
 pub mod Lines

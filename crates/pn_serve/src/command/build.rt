@@ -31,13 +31,8 @@ fn built_delivery(alloc: Global, shape: &BatchShape<'_>) -> Result<Delivery, NoM
     ensures { IfOk result (λ delivery. delivery ≡ shape.now) }
 {
     let images = built_images(alloc, &shape.images)?;
-    let Ok(stream) = Name::read(shape.stream.as_bytes()) else {
-        unreachable!()
-    };
-    match Delivery::new(stream, shape.first, images) {
-        Some(delivery) => Ok(delivery),
-        None => unreachable!(),
-    }
+    let stream = Name::of(shape.stream.as_bytes());
+    Ok(Delivery::of(stream, shape.first, images))
 }
 
 fn built_images(alloc: Global, shapes: &[Shape<'_>]) -> Result<Vec<Image>, NoMemory>

@@ -34,7 +34,7 @@ fn check_batch(batch: &BatchShape<'_>) -> Result<(), Refusal>
         return Err(Refusal::OutOfRange(Part::First));
     }
     check_images(&batch.images)?;
-    if Name::read(batch.stream.as_bytes()).is_err() {
+    if !Name::fits(batch.stream.as_bytes()) {
         return Err(Refusal::OutOfRange(Part::Stream));
     }
     Ok(())
