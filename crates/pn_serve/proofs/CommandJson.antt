@@ -1,12 +1,11 @@
 -- A value that is read as a command is the JSON of that command, and that JSON is read as the command.
-use Rattle.std.proofs.Common.{◌≡◌, ℕ, ◌≤◌, List, [], ◌∷◌, length, map, codes, Bool, true, false, cond, Option, Some, None, option_and_then, Result, Ok, Err, IfOk, bytes_eq, refl, sym, ap, ◌∙◌, subst, ltb}
-use Rattle.std.proofs.lemmas.Bool.{le-ltb, ltb-false}
+use Rattle.std.proofs.Common.{◌≡◌, ℕ, List, [], ◌∷◌, map, codes, Bool, true, false, cond, Option, Some, None, Result, Ok, Err, bytes_eq, refl, sym, ap, ◌∙◌, subst}
 use Rattle.std.proofs.lemmas.Slice.Eq.{bytes_eq-Decides}
 use Rattle.std.specs.Option.{ok_or}
 use Rattle.serde_json.specs.Data.{Data, number, string, array, object, unsigned, Items, no_items, item, Members, no_members, member}
 use Rattle.serde_json.specs.Find.{get, get_member, as_str, as_array, as_object}
 use Rattle.serde_json.specs.View.{items_of}
-use Rattle.pn_json.specs.Answers.{◌>>=◌, fault_as}
+use Rattle.pn_json.specs.Answers.{fault_as}
 use Rattle.pn_json.specs.Members.{whole_number, member_as, each_in, only_named}
 use Rattle.pn_record.specs.Grammar.{shape_in}
 use Rattle.pn_record.specs.Limits.{is_key}
@@ -22,8 +21,8 @@ use Rattle.pn_serve.specs.Command.Lines.{deliver_in, marks_in, read_in, scan_in,
 use Rattle.pn_serve.specs.Command.Limits.{is_command}
 use Rattle.pn_serve.specs.Command.Meaning.{CommandValue, deliver, marks, read, scan, tablets}
 use Rattle.pn_serve.specs.Command.Queries.{is_empty, query_in}
-use Rattle.pn_serve.specs.Command.Ranges.{batches_fit, fitting_key}
-use Rattle.pn_serve.specs.Command.Shapes.{named_alone, image_shape, batch_shape}
+use Rattle.pn_serve.specs.Command.RangeChecks.{batches_fit, fitting_key}
+use Rattle.pn_serve.specs.Command.ShapeChecks.{named_alone, image_shape, batch_shape}
 use Rattle.pn_serve.specs.Command.Words.{word_of, word_in}
 use Rattle.pn_serve.specs.declared.command.word.Word.{Word}
 use Rattle.pn_serve.specs.declared.command.word.Word.TheVariants.{Deliver, Marks, Read, Scan, Tablets}

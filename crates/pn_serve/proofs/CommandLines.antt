@@ -1,9 +1,9 @@
 -- A line that is read as a command is the command's line, and a command's line is read as the command.
-use Rattle.std.proofs.Common.{◌≡◌, ℕ, ◌<◌, List, length, Bool, true, false, cond, Result, Ok, Err, IfOk, IsErrOf, IsTrue, refl, sym, ap, ◌∙◌, subst, ltb}
+use Rattle.std.proofs.Common.{◌≡◌, ℕ, ◌<◌, List, length, Bool, true, false, cond, Result, Ok, Err, IfOk, IsErrOf, IsTrue, refl, sym, ◌∙◌, ltb}
 use Rattle.std.proofs.lemmas.Bool.{le-ltb, ltb-false, ltb-true}
 use Rattle.std.specs.Option.{ok_or}
 use Rattle.serde_json.specs.Data.{Data}
-use Rattle.pn_json.specs.Answers.{◌>>=◌, fault_as, ShowsUnless}
+use Rattle.pn_json.specs.Answers.{fault_as, ShowsUnless}
 use Rattle.pn_record.specs.Reading.{reading, value_at}
 use Rattle.pn_record.specs.declared.fault.ImageFault.{ImageFault}
 use Rattle.pn_record.specs.declared.fault.ImageFault.TheVariants as image
@@ -11,7 +11,7 @@ use Rattle.pn_json.proofs.Inverses.{bind_ok, ok_or_ok, right_same}
 use Rattle.pn_serve.specs.Command.Json.{IsCommandLine}
 use Rattle.pn_serve.specs.Command.Lines.{is_too_long, refusal_of, command_in, command_at}
 use Rattle.pn_record.specs.Limits.{longest_line}
-use Rattle.pn_serve.specs.Command.Meaning.{CommandValue, command_value}
+use Rattle.pn_serve.specs.Command.Meaning.{CommandValue}
 use Rattle.pn_serve.specs.declared.refusal.Refusal.{Refusal}
 use Rattle.pn_serve.specs.declared.refusal.Refusal.TheVariants.{TooLong, Memory}
 use Rattle.pn_serve.proofs.CommandJson.{command_found, command_again}

@@ -5,6 +5,6 @@ pub mod Lines
 pub mod Lookups
 pub mod Meaning
 pub mod Queries
-pub mod Ranges
-pub mod Shapes
+pub mod RangeChecks
+pub mod ShapeChecks
 pub mod Words

@@ -1,5 +1,5 @@
 -- The limits of what commands say.
-use Rattle.std.specs.Prelude.{ℕ, Bool, true, ◌&&◌, nat_le, List, length}
+use Rattle.std.specs.Prelude.{ℕ, Bool, true, ◌&&◌, nat_le, length}
 use Rattle.std.specs.List.{list_all}
 use Rattle.pn_join.specs.Naming.{is_name}
 use Rattle.pn_record.specs.Canonical.{is_image}

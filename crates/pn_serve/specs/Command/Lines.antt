@@ -12,8 +12,8 @@ use Rattle.pn_record.specs.declared.fault.ImageFault.TheVariants as image
 use Rattle.pn_serve.specs.Command.Meaning.{CommandValue, deliver, marks, read, scan, tablets}
 use Rattle.pn_serve.specs.Command.Words.{word_in}
 use Rattle.pn_serve.specs.Command.Queries.{query_in}
-use Rattle.pn_serve.specs.Command.Shapes.{named_alone, batch_shape}
-use Rattle.pn_serve.specs.Command.Ranges.{batches_fit, fitting_key}
+use Rattle.pn_serve.specs.Command.ShapeChecks.{named_alone, batch_shape}
+use Rattle.pn_serve.specs.Command.RangeChecks.{batches_fit, fitting_key}
 use Rattle.pn_serve.specs.declared.command.word.Word.{Word}
 use Rattle.pn_serve.specs.declared.command.word.Word.TheVariants.{Deliver, Marks, Read, Scan, Tablets}
 use Rattle.pn_serve.specs.declared.refusal.Part.TheVariants.{Whole, Do, Batches, Key, Query}

@@ -8,7 +8,7 @@ ghost use Rattle.pn_record.specs.Limits.{longest_line};
 ghost use Rattle.pn_serve.specs.Command.Json.{IsCommandLine};
 ghost use Rattle.pn_serve.specs.Command.Meaning.{CommandValue, command_value};
 ghost use Rattle.pn_serve.specs.Command.Queries.{is_empty as no_members, query_in};
-ghost use Rattle.pn_serve.specs.Command.Ranges.{fitting_key};
+ghost use Rattle.pn_serve.specs.Command.RangeChecks.{fitting_key};
 ghost use Rattle.pn_serve.specs.Command.Lines.{refusal_of, deliver_in, marks_in, read_in, scan_in, tablets_in, command_in as command_seen, command_at, is_too_long, TakesMemory};
 ghost use Rattle.pn_serve.specs.declared.refusal.Part.TheVariants.{Query};
 

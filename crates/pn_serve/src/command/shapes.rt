@@ -4,7 +4,7 @@ ghost use Rattle.std.specs.Prelude.{◌≡◌, [], ◌∷◌, ◌++◌, IfOk, On
 ghost use Rattle.serde_json.specs.View.{view, items_view, members_view};
 ghost use Rattle.pn_json.specs.Answers.{ShowsUnless, IsUnless};
 ghost use Rattle.pn_json.specs.Members.{texts, each_in};
-ghost use Rattle.pn_serve.specs.Command.Shapes.{named_alone, image_shape, batch_shape};
+ghost use Rattle.pn_serve.specs.Command.ShapeChecks.{named_alone, image_shape, batch_shape};
 
 use crate::command::batch::BatchShape;
 use crate::{Part, Refusal};
@@ -55,7 +55,7 @@ fn images_of(alloc: Global, items: &[Value]) -> Result<Vec<Shape<'_>>, Refusal>
     Ok(images)
 }
 
-#[tactic(auto, unfolding(crate::specs::Command::Shapes::batch_shape))]
+#[tactic(auto, unfolding(crate::specs::Command::ShapeChecks::batch_shape))]
 fn batch_of(alloc: Global, value: &Value) -> Result<BatchShape<'_>, Refusal>
     ensures { IsUnless Refusal.Memory result (batch_shape (view value.now)) }
 {

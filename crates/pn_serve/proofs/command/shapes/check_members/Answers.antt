@@ -1,7 +1,7 @@
 use Rattle.std.proofs.Common.{sym, ◌∙◌}
 use Rattle.serde_json.specs.View.{members_view}
 use Rattle.pn_json.specs.Members.{texts}
-use Rattle.pn_serve.proofs.Fitting.{never_memory}
+use Rattle.pn_serve.proofs.EachFits.{never_memory}
 use Rattle.pn_serve.proofs.command.shapes.check_members.Goals as goal
 
 pub returns-clause-memory : goal.returns-clause-memory

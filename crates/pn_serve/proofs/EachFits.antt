@@ -5,8 +5,8 @@ use Rattle.serde_json.specs.Data.{Members}
 use Rattle.pn_json.specs.Members.{only_named}
 use Rattle.pn_record.specs.Grammar.{ranges_in}
 use Rattle.pn_record.specs.declared.image.Image.{Image}
-use Rattle.pn_serve.specs.Command.Ranges.{each_fits, image_fits}
-use Rattle.pn_serve.specs.Command.Shapes.{named_alone}
+use Rattle.pn_serve.specs.Command.RangeChecks.{each_fits, image_fits}
+use Rattle.pn_serve.specs.Command.ShapeChecks.{named_alone}
 use Rattle.pn_serve.specs.declared.refusal.Part.TheVariants.{Other}
 use Rattle.pn_serve.specs.declared.refusal.Refusal.{Refusal}
 use Rattle.pn_serve.specs.declared.refusal.Refusal.TheVariants.{BadShape, Memory}
