@@ -52,15 +52,30 @@ impl Name {
         ensures read { IfOk result (λ name. name ≡ text.now) }
         ensures exactly { IsOk result ↔ IsTrue (is_name text.now) }
     {
-        if !is_name(text) {
+        if !Name::fits(text) {
             return Err(BadName);
         }
+        Ok(Name::of(text))
+    }
+
+    /// Whether a text is a name.
+    pub fn fits(text: &[u8]) -> bool
+        ensures { result ≡ name_of text.now }
+    {
+        1 <= text.len() && text.len() <= LONGEST_NAME && has_name_bytes_alone(text)
+    }
+
+    /// The name that a text is, where `fits` says that it is one. It takes no memory.
+    pub fn of(text: &[u8]) -> Name
+        requires fits { IsTrue (is_name text.now) }
+        ensures named { result ≡ text.now }
+    {
         let mut bytes = [0; LONGEST_NAME];
         bytes[..text.len()].copy_from_slice(text);
-        Ok(Name {
+        Name {
             bytes,
             len: text.len(),
-        })
+        }
     }
 
     /// The name as text.
@@ -77,12 +92,6 @@ impl Name {
     {
         &self.bytes[..self.len]
     }
-}
-
-fn is_name(text: &[u8]) -> bool
-    ensures { result ≡ name_of text.now }
-{
-    1 <= text.len() && text.len() <= LONGEST_NAME && has_name_bytes_alone(text)
 }
 
 fn has_name_bytes_alone(text: &[u8]) -> bool

@@ -1,5 +1,5 @@
 -- What is in its ranges keeps the limits, and what keeps the limits is in its ranges.
-use Rattle.std.proofs.Common.{◌≡◌, ℕ, List, [], ◌∷◌, length, map, codes, T, Bool, true, false, ◌&&◌, cond, Option, Some, None, Result, Ok, Err, nat_cmp, refl, sym, ap, ◌∙◌}
+use Rattle.std.proofs.Common.{◌≡◌, ℕ, List, [], ◌∷◌, length, map, codes, T, Bool, true, false, ◌&&◌, Option, Some, None, Result, Ok, Err, nat_cmp, refl, sym, ap, ◌∙◌}
 use Rattle.std.proofs.lemmas.Bool.{and_parts, and_from}
 use Rattle.std.specs.Cmp.Lexicographic.{slice_cmp}
 use Rattle.std.specs.FinMap.Entries.{is_sorted, below_all}
@@ -10,22 +10,22 @@ use Rattle.serde_json.specs.Data.{Data, number, string, array, object, unsigned,
 use Rattle.serde_json.specs.View.{items_of}
 use Rattle.pn_record.specs.Canonical.{is_image}
 use Rattle.pn_record.specs.Grammar.{ranges_in}
-use Rattle.pn_record.specs.Limits.{Field, names_rise, is_key}
-use Rattle.pn_record.specs.Checks.{fault_as}
+use Rattle.pn_record.specs.Limits.{Field}
+use Rattle.pn_json.specs.Answers.{fault_as}
 use Rattle.pn_record.specs.Seen.{body_rises}
-use Rattle.pn_record.specs.Writing.{fields_data, body_data, image_data, version_data}
+use Rattle.pn_record.specs.Writing.{fields_data, body_data, image_data}
 use Rattle.pn_record.specs.declared.image.Image.{Image}
 use Rattle.pn_record.proofs.Limiting.{in_ranges, image_from_ranges}
-use Rattle.pn_record.proofs.LookUps.{entries_of, Rise}
+use Rattle.pn_json.proofs.LookUps.{entries_of, Rise}
 use Rattle.pn_stream.specs.Positions.{DeliveryValue, are_positions}
 use Rattle.pn_serve.specs.Command.Json.{delivery_data, command_data}
 use Rattle.pn_serve.specs.Command.Limits.{is_delivery, is_command}
-use Rattle.pn_serve.specs.Command.Meaning.{CommandValue, deliver, marks, read, scan, tablets}
-use Rattle.pn_serve.specs.Command.Ranges.{fits, each_fits, image_fits, batch_fits, batches_fit}
+use Rattle.pn_serve.specs.Command.Meaning.{deliver}
+use Rattle.pn_serve.specs.Command.RangeChecks.{fits, each_fits, image_fits, batch_fits, batches_fit}
 use Rattle.pn_serve.specs.declared.refusal.Part.{Part}
 use Rattle.pn_serve.specs.declared.refusal.Part.TheVariants.{Batches, First, Stream}
 use Rattle.pn_serve.specs.declared.refusal.Refusal.{Refusal}
-use Rattle.pn_serve.proofs.Fitting.{both_fit}
+use Rattle.pn_serve.proofs.EachFits.{both_fit}
 use Rattle.pn_serve.proofs.ReadInOrder.{InOrder, ItemsInOrder, MembersInOrder, in_order-at}
 
 below_fields : (name : List ℕ) (fields : List Field) → below_all (slice_cmp nat_cmp) name (entries_of (fields_data fields)) ≡ below_all (slice_cmp nat_cmp) name fields

@@ -1,18 +1,17 @@
 -- A line that is read as a command is the command's line, and a command's line is read as the command.
-use Rattle.std.proofs.Common.{◌≡◌, ℕ, ◌<◌, List, length, Bool, true, false, cond, Result, Ok, Err, IfOk, IsErrOf, IsTrue, refl, sym, ap, ◌∙◌, subst, ltb}
+use Rattle.std.proofs.Common.{◌≡◌, ℕ, ◌<◌, List, length, Bool, true, false, cond, Result, Ok, Err, IfOk, IsErrOf, IsTrue, refl, sym, ◌∙◌, ltb}
 use Rattle.std.proofs.lemmas.Bool.{le-ltb, ltb-false, ltb-true}
 use Rattle.std.specs.Option.{ok_or}
 use Rattle.serde_json.specs.Data.{Data}
-use Rattle.pn_record.specs.Checks.{◌>>=◌, fault_as}
+use Rattle.pn_json.specs.Answers.{fault_as, ShowsUnless}
 use Rattle.pn_record.specs.Reading.{reading, value_at}
 use Rattle.pn_record.specs.declared.fault.ImageFault.{ImageFault}
 use Rattle.pn_record.specs.declared.fault.ImageFault.TheVariants as image
-use Rattle.pn_record.proofs.Inverses.{bind_ok, ok_or_ok}
-use Rattle.pn_serve.specs.Command.Faults.{AnswersAs}
+use Rattle.pn_json.proofs.Inverses.{bind_ok, ok_or_ok, right_same}
 use Rattle.pn_serve.specs.Command.Json.{IsCommandLine}
 use Rattle.pn_serve.specs.Command.Lines.{is_too_long, refusal_of, command_in, command_at}
-use Rattle.pn_serve.specs.Command.Limits.{longest_line}
-use Rattle.pn_serve.specs.Command.Meaning.{CommandValue, command_value}
+use Rattle.pn_record.specs.Limits.{longest_line}
+use Rattle.pn_serve.specs.Command.Meaning.{CommandValue}
 use Rattle.pn_serve.specs.declared.refusal.Refusal.{Refusal}
 use Rattle.pn_serve.specs.declared.refusal.Refusal.TheVariants.{TooLong, Memory}
 use Rattle.pn_serve.proofs.CommandJson.{command_found, command_again}
@@ -41,13 +40,13 @@ unfolding command_at value_at
 line_again line command is = rw (le-ltb 65536 (length line) is.short, is.read) (command_again is.value command is.spelled)
 
 -- what was answered is the line of what is read
-pub answer_found : (line : List ℕ) {A : Type 0} (show : A → CommandValue) (answer : Result A Refusal) → AnswersAs show answer (command_at line) → IfOk answer (λ command. IsCommandLine line (show command))
+pub answer_found : (line : List ℕ) {A : Type 0} (show : A → CommandValue) (answer : Result A Refusal) → ShowsUnless Memory show answer (command_at line) → IfOk answer (λ command. IsCommandLine line (show command))
 answer_found line show (Ok command) right = line_found line (show command) right
 answer_found line show (Err refusal) right = tt
 
 -- a command's line was answered as the command
-pub answer_again : (line : List ℕ) {A : Type 0} (show : A → CommandValue) (answer : Result A Refusal) (command : CommandValue) → AnswersAs show answer (command_at line) → IsCommandLine line command → AnswersAs show answer (Ok command)
-answer_again line show answer command right is = subst (λ r. AnswersAs show answer r) (line_again line command is) right
+pub answer_again : (line : List ℕ) {A : Type 0} (show : A → CommandValue) (answer : Result A Refusal) (command : CommandValue) → ShowsUnless Memory show answer (command_at line) → IsCommandLine line command → ShowsUnless Memory show answer (Ok command)
+answer_again line show answer command right is = right_same Memory show answer (command_at line) (Ok command) right (line_again line command is)
 
 both_not : {A : Type 0} → ◌≡◌ {A = Result A Refusal} (Err TooLong) (Err Memory) → ⊥
 both_not is = cc

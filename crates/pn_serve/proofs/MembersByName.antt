@@ -4,8 +4,8 @@ use Rattle.std.proofs.lemmas.Slice.Eq.{bytes_eq-Decides}
 use Rattle.std.specs.List.{list_any}
 use Rattle.serde_json.specs.Data.{Members}
 use Rattle.serde_json.specs.Find.{get_member}
-use Rattle.pn_record.specs.Grammar.{only_named}
-use Rattle.pn_record.proofs.LookUps.{Rise, get_member-unnamed, same_members}
+use Rattle.pn_json.specs.Members.{only_named}
+use Rattle.pn_json.proofs.LookUps.{Rise, get_member-unnamed, same_members}
 
 -- the same is found at each of the names
 abbrev pub SameAt : List (List ℕ) → Members → Members → Type 0

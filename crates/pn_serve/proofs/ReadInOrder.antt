@@ -11,7 +11,7 @@ use Rattle.serde_json.specs.Data.{Data, null, boolean, number, string, array, ob
 use Rattle.serde_json.specs.Find.{get_member}
 use Rattle.serde_json.specs.Read.{number_of, of_json, of_items, of_members, max_depth, read}
 use Rattle.pn_record.specs.Reading.{reading}
-use Rattle.pn_record.proofs.LookUps.{entries_of, Rise}
+use Rattle.pn_json.proofs.LookUps.{entries_of, Rise}
 
 -- the members of each object in the value rise
 abbrev mutual

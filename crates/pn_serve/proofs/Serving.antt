@@ -15,7 +15,7 @@ use Rattle.pn_line.proofs.LineLaws.{kept-short, length-kept_long}
 use Rattle.pn_line.proofs.LinesReadLaws.{LinesRead-none, LinesRead-line, LinesRead-end}
 use Rattle.pn_line.proofs.SentLaws.{Sends-none, Sends-trans, Sends-all, Sends-flushed}
 use Rattle.pn_line.proofs.TextLaws.{lines_of-text, lines_of-nil}
-use Rattle.pn_record.specs.Checks.{◌>>=◌, fault_as}
+use Rattle.pn_json.specs.Answers.{◌>>=◌, fault_as}
 use Rattle.pn_region.specs.Regions.{RegionValue}
 use Rattle.pn_record.specs.Reading.{value_at, reading}
 use Rattle.pn_record.specs.declared.fault.ImageFault.TheVariants as image

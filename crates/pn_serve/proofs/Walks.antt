@@ -1,6 +1,6 @@
 -- Going through the items of an array, of which the first fault stands.
 use Rattle.std.proofs.Common.{List, ◌++◌, Result, Ok}
-use Rattle.pn_record.specs.Checks.{◌>>=◌}
+use Rattle.pn_json.specs.Answers.{◌>>=◌}
 use Rattle.pn_serve.specs.declared.refusal.Refusal.{Refusal}
 
 -- the values so far, before those of what is left

@@ -1,11 +1,10 @@
 -- What a line says.
-pub mod Faults
 pub mod Json
 pub mod Limits
 pub mod Lines
 pub mod Lookups
 pub mod Meaning
 pub mod Queries
-pub mod Ranges
-pub mod Shapes
+pub mod RangeChecks
+pub mod ShapeChecks
 pub mod Words

@@ -6,7 +6,6 @@ ghost use Rattle.pn_serve.specs.declared.refusal.Refusal.TheVariants.{Memory};
 
 use pn_join::NoMemory;
 use pn_record::Member;
-use std::alloc::{AllocError, AllocFailed};
 
 /// The part of a line that is at fault.
 #[derive(Clone, Copy, Debug, PartialEq, Eq)]
@@ -57,7 +56,7 @@ pub enum Refusal {
     BadShape(Part),
     /// All parts are of their kinds, and this one breaks a limit.
     OutOfRange(Part),
-    /// A growth was refused. It may stand in place of any check that follows.
+    /// Memory ran out. It may stand in place of any check that follows.
     Memory,
 }
 
@@ -65,22 +64,6 @@ impl From<NoMemory> for Refusal {
     ghost from_gives = { λ _ refusal. refusal ≡ Memory };
 
     fn from(_error: NoMemory) -> Refusal {
-        Refusal::Memory
-    }
-}
-
-impl From<AllocError> for Refusal {
-    ghost from_gives = { λ _ refusal. refusal ≡ Memory };
-
-    fn from(_error: AllocError) -> Refusal {
-        Refusal::Memory
-    }
-}
-
-impl<T: Drop> From<AllocFailed<T>> for Refusal {
-    ghost from_gives = { λ _ refusal. refusal ≡ Memory };
-
-    fn from(_error: AllocFailed<T>) -> Refusal {
         Refusal::Memory
     }
 }

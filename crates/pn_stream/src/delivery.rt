@@ -42,11 +42,19 @@ impl Delivery {
         if !positions_fit(first, images.len()) {
             return None;
         }
-        Some(Delivery {
+        Some(Delivery::of(stream, first, images))
+    }
+
+    /// The images from the position `first` on, where `positions_fit` says that they fit.
+    pub fn of(stream: StreamName, first: u64, images: Vec<Image>) -> Delivery
+        requires fit { IsTrue (are_positions first (length images.items)) }
+        ensures made { result ≡ record { stream = stream; first = first; images = images.items } }
+    {
+        Delivery {
             stream,
             first,
             images,
-        })
+        }
     }
 
     /// The name of the stream.

@@ -1,11 +1,11 @@
 -- The JSON of commands, and the lines that commands are.
-use Rattle.std.specs.Prelude.{◌≡◌, ℕ, ◌≤◌, List, length, map, codes, IsTrue, Some}
+use Rattle.std.specs.Prelude.{◌≡◌, ℕ, List, map, codes, IsTrue}
 use Rattle.serde_json.specs.Data.{Data, number, string, array, object, unsigned, no_members, member}
 use Rattle.serde_json.specs.View.{items_of}
-use Rattle.pn_record.specs.Reading.{reading}
+use Rattle.pn_record.specs.Reading.{IsLine}
 use Rattle.pn_record.specs.Writing.{image_data}
 use Rattle.pn_stream.specs.Positions.{DeliveryValue}
-use Rattle.pn_serve.specs.Command.Limits.{longest_line, is_command}
+use Rattle.pn_serve.specs.Command.Limits.{is_command}
 use Rattle.pn_serve.specs.Command.Meaning.{CommandValue, deliver, marks, read, scan, tablets}
 
 -- a delivery: the position of its first image, its images, and its stream
@@ -35,9 +35,6 @@ pub record IsCommand (d : Data) (command : CommandValue) : Type 0 where
   pub value : d ≡ command_data command
   pub limits : IsTrue (is_command command)
 
--- the line has at most 65,536 bytes, and `serde_json` reads it as the JSON of the command
-pub record IsCommandLine (line : List ℕ) (command : CommandValue) : Type 0 where
-  pub short : length line ≤ longest_line
-  pub value : Data
-  pub read : reading line ≡ Some value
-  pub spelled : IsCommand value command
+-- the line is not too long, and `serde_json` reads it as the JSON of the command
+abbrev pub IsCommandLine : List ℕ → CommandValue → Type 0
+IsCommandLine line command = IsLine IsCommand line command

@@ -1,15 +1,11 @@
--- The limits of lines, and of what commands say.
-use Rattle.std.specs.Prelude.{ℕ, Bool, true, ◌&&◌, nat_le, List, length}
+-- The limits of what commands say.
+use Rattle.std.specs.Prelude.{ℕ, Bool, true, ◌&&◌, nat_le, length}
 use Rattle.std.specs.List.{list_all}
 use Rattle.pn_join.specs.Naming.{is_name}
 use Rattle.pn_record.specs.Canonical.{is_image}
 use Rattle.pn_record.specs.Limits.{is_key}
 use Rattle.pn_stream.specs.Positions.{DeliveryValue, are_positions}
 use Rattle.pn_serve.specs.Command.Meaning.{CommandValue, deliver, read}
-
--- the bytes of the longest line, without its newline
-abbrev pub longest_line : ℕ
-longest_line = 65536
 
 -- the most batches of a command
 abbrev pub most_batches : ℕ

@@ -1,64 +1,64 @@
 -- The command that a line is, or its first fault: its length, its reading, all shapes, and then the ranges.
-use Rattle.std.specs.Prelude.{◌≡◌, ◌⊎◌, ℕ, Bool, nat_lt, List, length, codes, Some, option_and_then, Result, Ok, IsOk}
+use Rattle.std.specs.Prelude.{◌≡◌, ◌⊎◌, ℕ, Bool, nat_lt, List, [], ◌∷◌, length, codes, Some, Result, Ok, IsOk}
 use Rattle.std.specs.Option.{ok_or}
 use Rattle.serde_json.specs.Data.{Data, string, Members}
 use Rattle.serde_json.specs.Find.{get, as_str, as_array, as_object}
-use Rattle.pn_record.specs.Checks.{◌>>=◌, fault_as}
+use Rattle.pn_json.specs.Answers.{◌>>=◌, fault_as}
+use Rattle.pn_json.specs.Members.{member_as, each_in}
+use Rattle.pn_record.specs.Limits.{longest_line}
 use Rattle.pn_record.specs.Reading.{value_at}
 use Rattle.pn_record.specs.declared.fault.ImageFault.{ImageFault}
 use Rattle.pn_record.specs.declared.fault.ImageFault.TheVariants as image
-use Rattle.pn_serve.specs.Command.Limits.{longest_line}
 use Rattle.pn_serve.specs.Command.Meaning.{CommandValue, deliver, marks, read, scan, tablets}
-use Rattle.pn_serve.specs.Command.Words.{word_of}
+use Rattle.pn_serve.specs.Command.Words.{word_in}
 use Rattle.pn_serve.specs.Command.Queries.{query_in}
-use Rattle.pn_serve.specs.Command.Shapes.{each_in, part_in, no_others, batch_shape}
-use Rattle.pn_serve.specs.Command.Ranges.{batches_fit, fitting_key}
+use Rattle.pn_serve.specs.Command.ShapeChecks.{named_alone, batch_shape}
+use Rattle.pn_serve.specs.Command.RangeChecks.{batches_fit, fitting_key}
 use Rattle.pn_serve.specs.declared.command.word.Word.{Word}
 use Rattle.pn_serve.specs.declared.command.word.Word.TheVariants.{Deliver, Marks, Read, Scan, Tablets}
-use Rattle.pn_serve.specs.declared.command.word.Form.TheVariants.{Command}
 use Rattle.pn_serve.specs.declared.refusal.Part.TheVariants.{Whole, Do, Batches, Key, Query}
 use Rattle.pn_serve.specs.declared.refusal.Part.TheVariants as part
 use Rattle.pn_serve.specs.declared.refusal.Refusal.{Refusal}
 use Rattle.pn_serve.specs.declared.refusal.Refusal.TheVariants.{TooLong, NotJson, BadShape, OutOfRange, Memory}
 
--- the line has more than 65,536 bytes
+-- the line has more bytes than a line may have, 65,536
 abbrev pub is_too_long : List ℕ → Bool
 is_too_long line = nat_lt longest_line (length line)
 
 -- the batches of a `deliver` command
 unfoldable pub deliver_in : Members → Data → Result CommandValue Refusal
 deliver_in members d = do
-  items ← part_in Batches as_array (get (codes "batches") d)
+  items ← member_as as_array (BadShape Batches) (get (codes "batches") d)
   batches ← each_in batch_shape items
-  named ← no_others (Command Deliver) members
+  named ← named_alone (codes "batches" ∷ codes "do" ∷ []) members
   fit ← batches_fit batches
   Ok (deliver batches)
 
 -- a `marks` command
 unfoldable pub marks_in : Members → Result CommandValue Refusal
 marks_in members = do
-  named ← no_others (Command Marks) members
+  named ← named_alone (codes "do" ∷ []) members
   Ok marks
 
 -- a `read` command
 unfoldable pub read_in : Members → Data → Result CommandValue Refusal
 read_in members d = do
-  text ← part_in Key as_str (get (codes "key") d)
-  named ← no_others (Command Read) members
+  text ← member_as as_str (BadShape Key) (get (codes "key") d)
+  named ← named_alone (codes "do" ∷ codes "key" ∷ []) members
   key ← fitting_key text
   Ok (read key)
 
 -- a `scan` command
 unfoldable pub scan_in : Members → Data → Result CommandValue Refusal
 scan_in members d = do
-  query ← part_in Query query_in (get (codes "query") d)
-  named ← no_others (Command Scan) members
+  query ← member_as query_in (BadShape Query) (get (codes "query") d)
+  named ← named_alone (codes "do" ∷ codes "query" ∷ []) members
   Ok scan
 
 -- a `tablets` command
 unfoldable pub tablets_in : Members → Result CommandValue Refusal
 tablets_in members = do
-  named ← no_others (Command Tablets) members
+  named ← named_alone (codes "do" ∷ []) members
   Ok tablets
 
 -- the command of a word
@@ -73,7 +73,7 @@ command_as Tablets members d = tablets_in members
 unfoldable pub command_in : Data → Result CommandValue Refusal
 command_in d = do
   members ← ok_or (as_object d) (BadShape Whole)
-  word ← part_in Do (λ value. option_and_then word_of (as_str value)) (get (codes "do") d)
+  word ← member_as word_in (BadShape Do) (get (codes "do") d)
   command_as word members d
 
 -- memory may run out: the value is a command, or says `deliver`, so that its batches are gathered before their ranges

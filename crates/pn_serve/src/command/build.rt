@@ -1,7 +1,7 @@
 //! Batches in their ranges, copied out of the parsed value as deliveries.
 
 ghost use Rattle.std.specs.Prelude.{◌≡◌, IfOk, Ok};
-ghost use Rattle.pn_serve.specs.Command.Ranges.{each_fits, image_fits, batch_fits, batches_fit};
+ghost use Rattle.pn_serve.specs.Command.RangeChecks.{each_fits, image_fits, batch_fits, batches_fit};
 
 use crate::command::batch::BatchShape;
 use pn_join::{Name, NoMemory};
@@ -10,7 +10,7 @@ use pn_stream::Delivery;
 use std::alloc::Global;
 
 /// The deliveries of the batches, with each text copied once.
-#[tactic(auto, unfolding(crate::specs::Command::Ranges::batches_fit))]
+#[tactic(auto, unfolding(crate::specs::Command::RangeChecks::batches_fit))]
 pub(crate) fn built_deliveries(
     alloc: Global,
     shapes: &[BatchShape<'_>],
@@ -25,19 +25,14 @@ pub(crate) fn built_deliveries(
     Ok(deliveries)
 }
 
-#[tactic(auto, unfolding(crate::specs::Command::Ranges::batch_fits))]
+#[tactic(auto, unfolding(crate::specs::Command::RangeChecks::batch_fits))]
 fn built_delivery(alloc: Global, shape: &BatchShape<'_>) -> Result<Delivery, NoMemory>
     requires { batch_fits shape.now ≡ Ok tt }
     ensures { IfOk result (λ delivery. delivery ≡ shape.now) }
 {
     let images = built_images(alloc, &shape.images)?;
-    let Ok(stream) = Name::read(shape.stream.as_bytes()) else {
-        unreachable!()
-    };
-    match Delivery::new(stream, shape.first, images) {
-        Some(delivery) => Ok(delivery),
-        None => unreachable!(),
-    }
+    let stream = Name::of(shape.stream.as_bytes());
+    Ok(Delivery::of(stream, shape.first, images))
 }
 
 fn built_images(alloc: Global, shapes: &[Shape<'_>]) -> Result<Vec<Image>, NoMemory>

@@ -1,25 +1,23 @@
 //! The command that a line is.
 
-ghost use Rattle.std.specs.Prelude.{◌≡◌, ◌<◌, false, Ok, length, option_and_then, IfOk, IsOk, IsErrOf, IsTrue};
-ghost use Rattle.serde_json.specs.Find.{as_str};
+ghost use Rattle.std.specs.Prelude.{◌≡◌, ◌<◌, false, Ok, length, IfOk, IsOk, IsErrOf, IsTrue};
 ghost use Rattle.serde_json.specs.View.{view, members_view};
-ghost use Rattle.pn_record.specs.Seen.{seen, Shows};
-ghost use Rattle.pn_serve.specs.Command.Faults.{AnswersAs};
+ghost use Rattle.pn_json.specs.Answers.{Shows, ShowsUnless, IsUnless};
+ghost use Rattle.pn_json.specs.Members.{seen, member_as};
+ghost use Rattle.pn_record.specs.Limits.{longest_line};
 ghost use Rattle.pn_serve.specs.Command.Json.{IsCommandLine};
-ghost use Rattle.pn_serve.specs.Command.Limits.{longest_line};
 ghost use Rattle.pn_serve.specs.Command.Meaning.{CommandValue, command_value};
 ghost use Rattle.pn_serve.specs.Command.Queries.{is_empty as no_members, query_in};
-ghost use Rattle.pn_serve.specs.Command.Ranges.{fitting_key};
-ghost use Rattle.pn_serve.specs.Command.Shapes.{part_in};
-ghost use Rattle.pn_serve.specs.Command.Words.{word_of as word_named};
+ghost use Rattle.pn_serve.specs.Command.RangeChecks.{fitting_key};
 ghost use Rattle.pn_serve.specs.Command.Lines.{refusal_of, deliver_in, marks_in, read_in, scan_in, tablets_in, command_in as command_seen, command_at, is_too_long, TakesMemory};
-ghost use Rattle.pn_serve.specs.declared.refusal.Part.TheVariants.{Do, Query};
+ghost use Rattle.pn_serve.specs.declared.refusal.Part.TheVariants.{Query};
 
 use crate::command::build::built_deliveries;
 use crate::command::ranges::check_batches;
-use crate::command::shapes::{batches_of, check_names, items_of, text_of};
-use crate::command::word::{Form, Word};
+use crate::command::shapes::{batches_of, check_members};
+use crate::command::word::{Word, word_of};
 use crate::{Command, Part, Refusal};
+use pn_json::{items_of, text_of};
 use pn_record::{ImageFault, Key, KeyFault, read_value};
 use serde_json::{Map, Value};
 use std::alloc::Global;
@@ -44,10 +42,10 @@ impl From<ImageFault> for Refusal {
 /// `Memory` may stand in place of any of these but the first, where memory ran out.
 pub fn command_of(alloc: Global, line: &[u8]) -> Result<Command, Refusal>
     ensures found { IfOk result (λ command. IsCommandLine line.now (command_value command)) }
-    ensures only { (command : CommandValue) → IsCommandLine line.now command → AnswersAs command_value result (Ok command) }
+    ensures only { (command : CommandValue) → IsCommandLine line.now command → ShowsUnless Refusal.Memory command_value result (Ok command) }
 
     // Which fault it is.
-    ensures exact { AnswersAs command_value result (command_at line.now) }
+    ensures exact { ShowsUnless Refusal.Memory command_value result (command_at line.now) }
     ensures too_long { IsTrue (is_too_long line.now) → IsErrOf result Refusal.TooLong }
     ensures memory { IsErrOf result Refusal.Memory → is_too_long line.now ≡ false }
 {
@@ -56,7 +54,7 @@ pub fn command_of(alloc: Global, line: &[u8]) -> Result<Command, Refusal>
 
 #[tactic(auto, unfolding(crate::specs::Command::Lines::command_at))]
 fn line_command(alloc: Global, line: &[u8]) -> Result<Command, Refusal>
-    ensures exact { AnswersAs command_value result (command_at line.now) }
+    ensures exact { ShowsUnless Refusal.Memory command_value result (command_at line.now) }
     ensures too_long { longest_line < length line.now → IsErrOf result Refusal.TooLong }
 {
     let value = read_value(alloc, line)?;
@@ -66,7 +64,7 @@ fn line_command(alloc: Global, line: &[u8]) -> Result<Command, Refusal>
 // The command that a value is. Memory runs out only where it is one, or its batches are gathered.
 #[tactic(auto, unfolding(crate::specs::Command::Lines::command_in))]
 fn command_in(alloc: Global, value: &Value) -> Result<Command, Refusal>
-    ensures exact { AnswersAs command_value result (command_seen (view value.now)) }
+    ensures exact { ShowsUnless Refusal.Memory command_value result (command_seen (view value.now)) }
     ensures memory { IsErrOf result Refusal.Memory → TakesMemory (view value.now) }
 {
     let members = value.as_object().ok_or(Refusal::BadShape(Part::Whole))?;
@@ -79,26 +77,17 @@ fn command_in(alloc: Global, value: &Value) -> Result<Command, Refusal>
     }
 }
 
-fn word_of(value: Option<&Value>) -> Result<Word, Refusal>
-    ensures { result ≡ part_in Do (λ d. option_and_then word_named (as_str d)) (seen value.entry) }
-{
-    match value.and_then(Value::as_str) {
-        Some(text) => Word::read(text).ok_or(Refusal::BadShape(Part::Do)),
-        None => Err(Refusal::BadShape(Part::Do)),
-    }
-}
-
 #[tactic(auto, unfolding(crate::specs::Command::Lines::deliver_in))]
 fn deliver_of(
     alloc: Global,
     members: &Map<String, Value>,
     value: &Value,
 ) -> Result<Command, Refusal>
-    ensures { AnswersAs command_value result (deliver_in (members_view members.now.entries) (view value.now)) }
+    ensures { ShowsUnless Refusal.Memory command_value result (deliver_in (members_view members.now.entries) (view value.now)) }
 {
-    let items = items_of(Part::Batches, value.get("batches"))?;
+    let items = items_of(value.get("batches"), Refusal::BadShape(Part::Batches))?;
     let shapes = batches_of(alloc, items)?;
-    check_names(Form::Command(Word::Deliver), members)?;
+    check_members(members, &["batches", "do"])?;
     check_batches(&shapes)?;
     Ok(Command::Deliver(built_deliveries(alloc, &shapes)?))
 }
@@ -108,22 +97,22 @@ fn marks_of(members: &Map<String, Value>) -> Result<Command, Refusal>
     ensures exact { Shows command_value result (marks_in (members_view members.now.entries)) }
     ensures memory { IsErrOf result Refusal.Memory → ⊥ }
 {
-    check_names(Form::Command(Word::Marks), members)?;
+    check_members(members, &["do"])?;
     Ok(Command::Marks)
 }
 
 #[tactic(auto, unfolding(crate::specs::Command::Lines::read_in))]
 fn read_of(alloc: Global, members: &Map<String, Value>, value: &Value) -> Result<Command, Refusal>
-    ensures exact { AnswersAs command_value result (read_in (members_view members.now.entries) (view value.now)) }
+    ensures exact { ShowsUnless Refusal.Memory command_value result (read_in (members_view members.now.entries) (view value.now)) }
     ensures memory { IsErrOf result Refusal.Memory → IsOk (read_in (members_view members.now.entries) (view value.now)) }
 {
-    let text = text_of(Part::Key, value.get("key"))?;
-    check_names(Form::Command(Word::Read), members)?;
+    let text = text_of(value.get("key"), Refusal::BadShape(Part::Key))?;
+    check_members(members, &["do", "key"])?;
     Ok(Command::Read(key_of(alloc, text)?))
 }
 
 fn key_of(alloc: Global, text: &str) -> Result<Key, Refusal>
-    ensures exact { AnswersAs (λ key. key) result (fitting_key text.now) }
+    ensures exact { IsUnless Refusal.Memory result (fitting_key text.now) }
     ensures memory { IsErrOf result Refusal.Memory → IsOk (fitting_key text.now) }
 {
     match Key::of(alloc, text) {
@@ -138,7 +127,7 @@ fn tablets_of(members: &Map<String, Value>) -> Result<Command, Refusal>
     ensures exact { Shows command_value result (tablets_in (members_view members.now.entries)) }
     ensures memory { IsErrOf result Refusal.Memory → ⊥ }
 {
-    check_names(Form::Command(Word::Tablets), members)?;
+    check_members(members, &["do"])?;
     Ok(Command::Tablets)
 }
 
@@ -148,12 +137,12 @@ fn scan_of(members: &Map<String, Value>, value: &Value) -> Result<Command, Refus
     ensures memory { IsErrOf result Refusal.Memory → ⊥ }
 {
     check_query(value.get("query"))?;
-    check_names(Form::Command(Word::Scan), members)?;
+    check_members(members, &["do", "query"])?;
     Ok(Command::Scan)
 }
 
 fn check_query(value: Option<&Value>) -> Result<(), Refusal>
-    ensures exact { result ≡ part_in Query query_in (seen value.entry) }
+    ensures exact { result ≡ member_as query_in (Refusal.BadShape Query) (seen value.entry) }
     ensures memory { IsErrOf result Refusal.Memory → ⊥ }
 {
     match value.and_then(Value::as_object) {

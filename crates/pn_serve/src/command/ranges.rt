@@ -1,7 +1,7 @@
 //! The ranges of a line's parts, looked at in their shapes. It takes no memory.
 
 ghost use Rattle.std.specs.Prelude.{◌≡◌};
-ghost use Rattle.pn_serve.specs.Command.Ranges.{each_fits, image_fits, batch_fits, batches_fit};
+ghost use Rattle.pn_serve.specs.Command.RangeChecks.{each_fits, image_fits, batch_fits, batches_fit};
 
 use crate::command::batch::BatchShape;
 use crate::{Part, Refusal};
@@ -13,7 +13,7 @@ use pn_stream::positions_fit;
 const MOST_BATCHES: usize = 64;
 
 /// Whether there are 1 to 64 batches, each in its ranges; otherwise the first fault.
-#[tactic(auto, unfolding(crate::specs::Command::Ranges::batches_fit))]
+#[tactic(auto, unfolding(crate::specs::Command::RangeChecks::batches_fit))]
 pub(crate) fn check_batches(batches: &[BatchShape<'_>]) -> Result<(), Refusal>
     ensures { result ≡ batches_fit batches.now }
 {
@@ -26,7 +26,7 @@ pub(crate) fn check_batches(batches: &[BatchShape<'_>]) -> Result<(), Refusal>
     Ok(())
 }
 
-#[tactic(auto, unfolding(crate::specs::Command::Ranges::batch_fits))]
+#[tactic(auto, unfolding(crate::specs::Command::RangeChecks::batch_fits))]
 fn check_batch(batch: &BatchShape<'_>) -> Result<(), Refusal>
     ensures { result ≡ batch_fits batch.now }
 {
@@ -34,7 +34,7 @@ fn check_batch(batch: &BatchShape<'_>) -> Result<(), Refusal>
         return Err(Refusal::OutOfRange(Part::First));
     }
     check_images(&batch.images)?;
-    if Name::read(batch.stream.as_bytes()).is_err() {
+    if !Name::fits(batch.stream.as_bytes()) {
         return Err(Refusal::OutOfRange(Part::Stream));
     }
     Ok(())

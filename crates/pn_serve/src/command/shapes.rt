@@ -1,51 +1,39 @@
 //! The shapes of a line's parts, looked at in the parsed value.
 
-ghost use Rattle.std.specs.Prelude.{◌≡◌, IsErrOf};
-ghost use Rattle.std.specs.Option.{ok_or};
-ghost use Rattle.serde_json.specs.Find.{as_str, as_array, as_object};
+ghost use Rattle.std.specs.Prelude.{◌≡◌, [], ◌∷◌, ◌++◌, IfOk, OnOk, IsErrOf};
 ghost use Rattle.serde_json.specs.View.{view, items_view, members_view};
-ghost use Rattle.pn_record.specs.Grammar.{whole_number};
-ghost use Rattle.pn_record.specs.Seen.{seen, Shows};
-ghost use Rattle.pn_serve.specs.Command.Faults.{AnswersAs};
-ghost use Rattle.pn_serve.specs.Command.Shapes.{each_in, part_in, no_others, image_shape, batch_shape};
+ghost use Rattle.pn_json.specs.Answers.{ShowsUnless, IsUnless};
+ghost use Rattle.pn_json.specs.Members.{texts, each_in};
+ghost use Rattle.pn_serve.specs.Command.ShapeChecks.{named_alone, image_shape, batch_shape};
 
 use crate::command::batch::BatchShape;
-use crate::command::word::Form;
 use crate::{Part, Refusal};
+use pn_join::NoMemory;
+use pn_json::{check_names, items_of, text_of, whole_number_of};
 use pn_record::{Shape, shape_of};
 use serde_json::{Map, Value};
 use std::alloc::Global;
 
-fn number_of(part: Part, value: Option<&Value>) -> Result<u64, Refusal>
-    ensures { result ≡ part_in part whole_number (seen value.entry) }
-{
-    value.and_then(Value::as_u64).ok_or(Refusal::BadShape(part))
-}
-
-pub(crate) fn text_of(part: Part, value: Option<&Value>) -> Result<&str, Refusal>
-    ensures { Shows (λ text. text.now) result (part_in part as_str (seen value.entry)) }
-{
-    value.and_then(Value::as_str).ok_or(Refusal::BadShape(part))
-}
-
-pub(crate) fn items_of(part: Part, value: Option<&Value>) -> Result<&[Value], Refusal>
-    ensures { Shows (λ items. items_view items.now) result (part_in part as_array (seen value.entry)) }
-{
-    match value.and_then(Value::as_array) {
-        Some(items) => Ok(items),
-        None => Err(Refusal::BadShape(part)),
-    }
-}
-
-pub(crate) fn check_names(form: Form, members: &Map<String, Value>) -> Result<(), Refusal>
-    ensures exact { result ≡ no_others form (members_view members.now.entries) }
+/// Whether each member has one of the names.
+pub(crate) fn check_members(members: &Map<String, Value>, names: &[&str]) -> Result<(), Refusal>
+    ensures exact { result ≡ named_alone (texts names.now) (members_view members.now.entries) }
     ensures memory { IsErrOf result Refusal.Memory → ⊥ }
 {
-    if form.has_all(members) {
-        Ok(())
-    } else {
-        Err(Refusal::BadShape(Part::Other))
-    }
+    check_names(members, names, Refusal::BadShape(Part::Other))
+}
+
+// An empty vector with room for this many.
+fn room<T: Drop>(alloc: Global, count: usize) -> Result<Vec<T>, NoMemory>
+    ensures { IfOk result (λ items. items.items ≡ []) }
+{
+    Ok(Vec::with_capacity(alloc, count)?)
+}
+
+fn push<T: Drop>(items: &mut Vec<T>, item: T) -> Result<(), NoMemory>
+    ensures { OnOk result (items.new.items ≡ items.old.items ++ item ∷ []) }
+{
+    items.push(item)?;
+    Ok(())
 }
 
 fn image_of(value: &Value) -> Result<Shape<'_>, Refusal>
@@ -58,25 +46,25 @@ fn image_of(value: &Value) -> Result<Shape<'_>, Refusal>
 }
 
 fn images_of(alloc: Global, items: &[Value]) -> Result<Vec<Shape<'_>>, Refusal>
-    ensures { AnswersAs (λ images. images.items) result (each_in image_shape (items_view items.now)) }
+    ensures { ShowsUnless Refusal.Memory (λ images. images.items) result (each_in image_shape (items_view items.now)) }
 {
-    let mut images = Vec::with_capacity(alloc, items.len())?;
+    let mut images = room(alloc, items.len())?;
     for item in items {
-        images.push(image_of(item)?)?;
+        push(&mut images, image_of(item)?)?;
     }
     Ok(images)
 }
 
-#[tactic(auto, unfolding(crate::specs::Command::Shapes::batch_shape))]
+#[tactic(auto, unfolding(crate::specs::Command::ShapeChecks::batch_shape))]
 fn batch_of(alloc: Global, value: &Value) -> Result<BatchShape<'_>, Refusal>
-    ensures { AnswersAs (λ batch. batch) result (batch_shape (view value.now)) }
+    ensures { IsUnless Refusal.Memory result (batch_shape (view value.now)) }
 {
     let members = value.as_object().ok_or(Refusal::BadShape(Part::Batches))?;
-    let first = number_of(Part::First, value.get("first"))?;
-    let items = items_of(Part::Images, value.get("images"))?;
+    let first = whole_number_of(value.get("first"), Refusal::BadShape(Part::First))?;
+    let items = items_of(value.get("images"), Refusal::BadShape(Part::Images))?;
     let images = images_of(alloc, items)?;
-    let stream = text_of(Part::Stream, value.get("stream"))?;
-    check_names(Form::Batch, members)?;
+    let stream = text_of(value.get("stream"), Refusal::BadShape(Part::Stream))?;
+    check_members(members, &["first", "images", "stream"])?;
     Ok(BatchShape {
         first,
         images,
@@ -86,11 +74,11 @@ fn batch_of(alloc: Global, value: &Value) -> Result<BatchShape<'_>, Refusal>
 
 /// The shapes of all batches, or the first fault of the first batch that has one.
 pub(crate) fn batches_of(alloc: Global, items: &[Value]) -> Result<Vec<BatchShape<'_>>, Refusal>
-    ensures { AnswersAs (λ batches. batches.items) result (each_in batch_shape (items_view items.now)) }
+    ensures { ShowsUnless Refusal.Memory (λ batches. batches.items) result (each_in batch_shape (items_view items.now)) }
 {
-    let mut batches = Vec::with_capacity(alloc, items.len())?;
+    let mut batches = room(alloc, items.len())?;
     for item in items {
-        batches.push(batch_of(alloc, item)?)?;
+        push(&mut batches, batch_of(alloc, item)?)?;
     }
     Ok(batches)
 }

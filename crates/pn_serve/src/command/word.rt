@@ -1,13 +1,12 @@
-//! The words of commands, and the members that their objects have.
+//! The words of commands.
 
 ghost use Rattle.std.specs.Prelude.{◌≡◌};
-ghost use Rattle.std.specs.List.{list_any};
-ghost use Rattle.std.specs.Str.{bytes_eq};
-ghost use Rattle.serde_json.specs.View.{members_view};
-ghost use Rattle.pn_record.specs.Grammar.{only_named};
-ghost use Rattle.pn_serve.specs.Command.Words.{word_of as word_named, names_of};
+ghost use Rattle.pn_json.specs.Members.{seen, member_as};
+ghost use Rattle.pn_serve.specs.Command.Words.{word_of as word_named, word_in};
+ghost use Rattle.pn_serve.specs.declared.refusal.Part.TheVariants.{Do};
 
-use serde_json::{Map, Value};
+use crate::{Part, Refusal};
+use serde_json::Value;
 
 /// What a command's `do` says.
 #[derive(Clone, Copy)]
@@ -19,15 +18,8 @@ pub(crate) enum Word {
     Tablets,
 }
 
-/// An object of a line, which may have the members that go with it.
-#[derive(Clone, Copy)]
-pub(crate) enum Form {
-    Batch,
-    Command(Word),
-}
-
 impl Word {
-    pub(crate) fn read(text: &str) -> Option<Word>
+    fn read(text: &str) -> Option<Word>
         ensures { result ≡ word_named text.now }
     {
         match text {
@@ -41,28 +33,12 @@ impl Word {
     }
 }
 
-impl Form {
-    fn has(self, name: &str) -> bool
-        ensures { result ≡ list_any (bytes_eq name.now) (names_of self) }
-    {
-        match self {
-            Form::Batch => matches!(name, "first" | "images" | "stream"),
-            Form::Command(Word::Deliver) => matches!(name, "batches" | "do"),
-            Form::Command(Word::Marks | Word::Tablets) => matches!(name, "do"),
-            Form::Command(Word::Read) => matches!(name, "do" | "key"),
-            Form::Command(Word::Scan) => matches!(name, "do" | "query"),
-        }
-    }
-
-    /// Whether each of the members has a name that goes with the form.
-    pub(crate) fn has_all(self, members: &Map<String, Value>) -> bool
-        ensures { result ≡ only_named (names_of self) (members_view members.now.entries) }
-    {
-        for (name, _) in members.iter() {
-            if !self.has(name.as_str()) {
-                return false;
-            }
-        }
-        true
+/// The word that the value of `do` is.
+pub(crate) fn word_of(value: Option<&Value>) -> Result<Word, Refusal>
+    ensures { result ≡ member_as word_in (Refusal.BadShape Do) (seen value.entry) }
+{
+    match value.and_then(Value::as_str) {
+        Some(text) => Word::read(text).ok_or(Refusal::BadShape(Part::Do)),
+        None => Err(Refusal::BadShape(Part::Do)),
     }
 }

@@ -1,5 +1,5 @@
-use Rattle.pn_serve.specs.Command.Ranges.{each_fits, batch_fits, batches_fit}
-use Rattle.pn_serve.proofs.Fitting.{both_fit, fits_at}
+use Rattle.pn_serve.specs.Command.RangeChecks.{each_fits, batch_fits, batches_fit}
+use Rattle.pn_serve.proofs.EachFits.{both_fit, fits_at}
 use Rattle.pn_serve.proofs.command.build.built_deliveries.Goals as goal
 
 pub built_delivery-requires : goal.built_delivery-requires

@@ -1,5 +1,5 @@
-use Rattle.pn_serve.specs.Command.Ranges.{image_fits}
-use Rattle.pn_serve.proofs.Fitting.{fits_at, in_ranges}
+use Rattle.pn_serve.specs.Command.RangeChecks.{image_fits}
+use Rattle.pn_serve.proofs.EachFits.{fits_at, in_ranges}
 use Rattle.pn_serve.proofs.command.build.built_images.Goals as goal
 
 pub image-requires : goal.image-requires

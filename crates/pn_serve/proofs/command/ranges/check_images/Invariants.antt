@@ -1,6 +1,6 @@
 -- What is left fits, or has the first fault, exactly as all.
 use Rattle.std.proofs.Common.{◌≡◌, drop}
-use Rattle.pn_serve.specs.Command.Ranges.{each_fits, image_fits}
+use Rattle.pn_serve.specs.Command.RangeChecks.{each_fits, image_fits}
 use Rattle.pn_serve.proofs.command.ranges.check_images.Given as goal
 
 abbrev pub invariant-loop-image : goal.invariant-loop-image

@@ -1,7 +1,8 @@
 -- The shapes so far, before those of what is left, are the shapes of all.
 use Rattle.std.proofs.Common.{◌≡◌, drop}
 use Rattle.serde_json.specs.View.{items_view}
-use Rattle.pn_serve.specs.Command.Shapes.{each_in, batch_shape}
+use Rattle.pn_json.specs.Members.{each_in}
+use Rattle.pn_serve.specs.Command.ShapeChecks.{batch_shape}
 use Rattle.pn_serve.proofs.Walks.{onto}
 use Rattle.pn_serve.proofs.command.shapes.batches_of.Given as goal
 

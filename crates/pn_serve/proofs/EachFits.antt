@@ -1,10 +1,15 @@
 -- What fits of all fits of each.
-use Rattle.std.proofs.Common.{◌≡◌, ℕ, zero, suc, ◌<◌, List, [], ◌∷◌, length, get_or, Result, Ok, Err, IsOk, refl, ap, ◌∙◌, arith, rules}
-use Rattle.pn_record.specs.Checks.{◌>>=◌, fault_as}
+use Rattle.std.proofs.Common.{◌≡◌, ℕ, zero, suc, ◌<◌, Bool, true, false, cond, List, [], ◌∷◌, length, get_or, Result, Ok, Err, IsOk, refl, ap, ◌∙◌, arith, rules}
+use Rattle.pn_json.specs.Answers.{◌>>=◌, fault_as}
+use Rattle.serde_json.specs.Data.{Members}
+use Rattle.pn_json.specs.Members.{only_named}
 use Rattle.pn_record.specs.Grammar.{ranges_in}
 use Rattle.pn_record.specs.declared.image.Image.{Image}
-use Rattle.pn_serve.specs.Command.Ranges.{each_fits, image_fits}
+use Rattle.pn_serve.specs.Command.RangeChecks.{each_fits, image_fits}
+use Rattle.pn_serve.specs.Command.ShapeChecks.{named_alone}
+use Rattle.pn_serve.specs.declared.refusal.Part.TheVariants.{Other}
 use Rattle.pn_serve.specs.declared.refusal.Refusal.{Refusal}
+use Rattle.pn_serve.specs.declared.refusal.Refusal.TheVariants.{BadShape, Memory}
 
 -- both of two checks passed
 pub both_fit : (first second : Result (Unit {0}) Refusal) → (first >>= λ passed. second) ≡ Ok tt → (first ≡ Ok tt) × (second ≡ Ok tt)
@@ -24,3 +29,11 @@ passed name (Err e) is = absurd (cc)
 -- an image that fits breaks no range
 pub in_ranges : (image : Image) → image_fits image ≡ Ok tt → IsOk (ranges_in image)
 in_ranges image is = passed _ (ranges_in image) is
+
+-- a member by another name is not that memory ran out
+pub never_memory : (names : List (List ℕ)) (ms : Members) → named_alone names ms ≡ Err Memory → ⊥
+never_memory names ms is = by_test (only_named names ms) is
+  where
+    by_test : (b : Bool) → ◌≡◌ {A = Result (Unit {0}) Refusal} (cond b (Ok tt) (Err (BadShape Other))) (Err Memory) → ⊥
+    by_test true is = cc
+    by_test false is = cc

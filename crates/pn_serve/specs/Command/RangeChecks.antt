@@ -1,7 +1,7 @@
 -- The ranges of a line's parts, one after another.
 use Rattle.std.specs.Prelude.{ℕ, Bool, ◌&&◌, nat_le, if◌then◌else◌, List, [], ◌∷◌, length, Result, Ok, Err}
 use Rattle.pn_join.specs.Naming.{is_name}
-use Rattle.pn_record.specs.Checks.{◌>>=◌, fault_as}
+use Rattle.pn_json.specs.Answers.{◌>>=◌, fault_as}
 use Rattle.pn_record.specs.Grammar.{ranges_in}
 use Rattle.pn_record.specs.declared.image.Image.{Image}
 use Rattle.pn_record.specs.Limits.{is_key}

@@ -1,0 +1,33 @@
+-- The shapes of a line's parts, one after another.
+use Rattle.std.specs.Prelude.{ℕ, List, [], ◌∷◌, codes, Result, Ok}
+use Rattle.std.specs.Option.{ok_or}
+use Rattle.serde_json.specs.Data.{Data, Members}
+use Rattle.serde_json.specs.Find.{get, as_str, as_array, as_object}
+use Rattle.pn_json.specs.Answers.{◌>>=◌, fault_as}
+use Rattle.pn_json.specs.Members.{whole_number, member_as, each_in, no_others}
+use Rattle.pn_record.specs.Grammar.{shape_in}
+use Rattle.pn_record.specs.declared.image.Image.{Image}
+use Rattle.pn_stream.specs.Positions.{DeliveryValue}
+use Rattle.pn_serve.specs.declared.refusal.Part.TheVariants.{Batches, First, Images, Stream, Other}
+use Rattle.pn_serve.specs.declared.refusal.Part.TheVariants as part
+use Rattle.pn_serve.specs.declared.refusal.Refusal.{Refusal}
+use Rattle.pn_serve.specs.declared.refusal.Refusal.TheVariants.{BadShape}
+
+-- the members have no other names than these
+abbrev pub named_alone : List (List ℕ) → Members → Result (Unit {0}) Refusal
+named_alone names members = no_others names (BadShape Other) members
+
+-- an image of the right shape
+abbrev pub image_shape : Data → Result Image Refusal
+image_shape d = fault_as (λ member. BadShape (part.Image member)) (shape_in d)
+
+-- a batch of the right shape
+unfoldable pub batch_shape : Data → Result DeliveryValue Refusal
+batch_shape d = do
+  members ← ok_or (as_object d) (BadShape Batches)
+  first ← member_as whole_number (BadShape First) (get (codes "first") d)
+  items ← member_as as_array (BadShape Images) (get (codes "images") d)
+  images ← each_in image_shape items
+  stream ← member_as as_str (BadShape Stream) (get (codes "stream") d)
+  named ← named_alone (codes "first" ∷ codes "images" ∷ codes "stream" ∷ []) members
+  Ok (record { stream = stream; first = first; images = images })
