@@ -12,7 +12,7 @@ use Rattle.pn_record.specs.Limits.{is_key}
 use Rattle.pn_record.specs.Writing.{image_data}
 use Rattle.pn_record.specs.declared.fault.Member.TheVariants as fault
 use Rattle.pn_record.specs.declared.image.Image.{Image}
-use Rattle.pn_json.proofs.Inverses.{bind_ok, ok_or_ok, and_then_some, string_from_as_str, array_from_as_array, object_from_as_object, number_from_whole}
+use Rattle.pn_json.proofs.Inverses.{bind_ok, guard_ok, ok_or_ok, and_then_some, string_from_as_str, array_from_as_array, object_from_as_object, number_from_whole}
 use Rattle.pn_json.proofs.LookUps.{Rise}
 use Rattle.pn_record.proofs.SameImage.{shape_found, shape_again}
 use Rattle.pn_stream.specs.Positions.{DeliveryValue}
@@ -31,6 +31,7 @@ use Rattle.pn_serve.specs.declared.refusal.Part.TheVariants.{Whole, Do, Batches,
 use Rattle.pn_serve.specs.declared.refusal.Refusal.{Refusal}
 use Rattle.pn_serve.specs.declared.refusal.Refusal.TheVariants.{BadShape}
 use Rattle.pn_serve.proofs.CommandLimits.{delivery_members, deliver_members, deliveries_kept, deliveries_again}
+use Rattle.pn_serve.proofs.EachFits.{as_ok}
 use Rattle.pn_serve.proofs.MembersByName.{same_by_name}
 use Rattle.pn_serve.proofs.ReadInOrder.{InOrder, ItemsInOrder, MembersInOrder, in_order-at}
 
@@ -49,14 +50,6 @@ array_at : (part : Part) (o : Option Data) (ds : Items) → member_as as_array (
 array_at part o ds is =
     let found = and_then_some o as_array ds (ok_or_ok _ (BadShape part) ds is) in
     found.1 ∙ ap Some (array_from_as_array found.0 ds found.2)
-
-guard_ok : {A E : Type 0} (b : Bool) (x y : A) (e : E) → cond b (Ok x) (Err e) ≡ Ok y → (b ≡ true) × (x ≡ y)
-guard_ok true x y e is = (refl, cc)
-guard_ok false x y e is = absurd (cc)
-
-as_ok : {A E F : Type 0} (name : E → F) (r : Result A E) (a : A) → fault_as name r ≡ Ok a → r ≡ Ok a
-as_ok name (Ok x) a is = cc
-as_ok name (Err e) a is = absurd (cc)
 
 object_of : (d : Data) (e : Refusal) (ms : Members) → ok_or (as_object d) e ≡ Ok ms → d ≡ object ms
 object_of d e ms is = object_from_as_object d ms (ok_or_ok (as_object d) e ms is)

@@ -25,7 +25,7 @@ use Rattle.pn_serve.specs.Command.RangeChecks.{fits, each_fits, image_fits, batc
 use Rattle.pn_serve.specs.declared.refusal.Part.{Part}
 use Rattle.pn_serve.specs.declared.refusal.Part.TheVariants.{Batches, First, Stream}
 use Rattle.pn_serve.specs.declared.refusal.Refusal.{Refusal}
-use Rattle.pn_serve.proofs.EachFits.{both_fit}
+use Rattle.pn_serve.proofs.EachFits.{both_fit, as_ok}
 use Rattle.pn_serve.proofs.ReadInOrder.{InOrder, ItemsInOrder, MembersInOrder, in_order-at}
 
 below_fields : (name : List ℕ) (fields : List Field) → below_all (slice_cmp nat_cmp) name (entries_of (fields_data fields)) ≡ below_all (slice_cmp nat_cmp) name fields
@@ -53,12 +53,8 @@ fields_rise (Some fields) rest order =
     let inside = in_order-at (codes "fields") (body_data (Some fields) rest) (object (fields_data fields)) (members_in_order (body_data (Some fields) rest) order) refl in
     sym (sorted_fields fields) ∙ true_of _ (object_rises (fields_data fields) inside)
 
-passed : {E F : Type 0} (name : E → F) (r : Result (Unit {0}) E) → fault_as name r ≡ Ok tt → r ≡ Ok tt
-passed name (Ok tt) is = refl
-passed name (Err e) is = absurd (cc)
-
 image_kept : (image : Image) → InOrder (image_data image) → image_fits image ≡ Ok tt → is_image image ≡ true
-image_kept image order is = image_from_ranges image (passed _ (ranges_in image) is) (fields_rise image.content.0 _ order)
+image_kept image order is = image_from_ranges image (as_ok _ (ranges_in image) tt is) (fields_rise image.content.0 _ order)
 
 image_again : (image : Image) → is_image image ≡ true → image_fits image ≡ Ok tt
 image_again image keeps = rw (in_ranges image keeps) refl

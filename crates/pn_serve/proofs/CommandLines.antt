@@ -7,7 +7,7 @@ use Rattle.pn_json.specs.Answers.{fault_as, ShowsUnless}
 use Rattle.pn_record.specs.Reading.{reading, value_at}
 use Rattle.pn_record.specs.declared.fault.ImageFault.{ImageFault}
 use Rattle.pn_record.specs.declared.fault.ImageFault.TheVariants as image
-use Rattle.pn_json.proofs.Inverses.{bind_ok, ok_or_ok, right_same}
+use Rattle.pn_json.proofs.Inverses.{bind_ok, no_fault, ok_or_ok, right_same}
 use Rattle.pn_serve.specs.Command.Json.{IsCommandLine}
 use Rattle.pn_serve.specs.Command.Lines.{is_too_long, refusal_of, command_in, command_at}
 use Rattle.pn_record.specs.Limits.{longest_line}
@@ -15,22 +15,15 @@ use Rattle.pn_serve.specs.Command.Meaning.{CommandValue}
 use Rattle.pn_serve.specs.declared.refusal.Refusal.{Refusal}
 use Rattle.pn_serve.specs.declared.refusal.Refusal.TheVariants.{TooLong, Memory}
 use Rattle.pn_serve.proofs.CommandJson.{command_found, command_again}
+use Rattle.pn_serve.proofs.EachFits.{as_ok}
 use Rattle.pn_serve.proofs.ReadInOrder.{in_order}
-
-as_ok : {A E F : Type 0} (name : E → F) (r : Result A E) (a : A) → fault_as name r ≡ Ok a → r ≡ Ok a
-as_ok name (Ok x) a is = cc
-as_ok name (Err e) a is = absurd (cc)
-
-short_ok : (b : Bool) (r : Result Data ImageFault) (d : Data) → cond b (Err image.TooLong) r ≡ Ok d → (b ≡ false) × (r ≡ Ok d)
-short_ok true r d is = absurd (cc)
-short_ok false r d is = (refl, is)
 
 -- the line of what is read
 pub line_found : (line : List ℕ) (command : CommandValue) → command_at line ≡ Ok command → IsCommandLine line command
 unfolding command_at value_at
 line_found line command is =
     let value = bind_ok (fault_as refusal_of (value_at line)) command_in command is in
-    let parts = short_ok (ltb 65536 (length line)) (ok_or (reading line) image.NotJson) value.0 (as_ok refusal_of (value_at line) value.0 value.1) in
+    let parts = no_fault (ltb 65536 (length line)) image.TooLong (ok_or (reading line) image.NotJson) value.0 (as_ok refusal_of (value_at line) value.0 value.1) in
     let read = ok_or_ok (reading line) image.NotJson value.0 parts.1 in
     record { short = ltb-false _ _ parts.0; value = value.0; read = read; spelled = command_found value.0 command (in_order line value.0 read) value.2 }
 

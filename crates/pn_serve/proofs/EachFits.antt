@@ -22,6 +22,11 @@ fits_at check (y ∷ xs) zero x inside here is = ap check here ∙ (both_fit (ch
 fits_at check (y ∷ xs) (suc i) x inside here is =
     fits_at check xs i x (omega arith) here (both_fit (check y) (each_fits check xs) is).1
 
+-- what has no fault under another name has none
+pub as_ok : {A E F : Type 0} (name : E → F) (r : Result A E) (a : A) → fault_as name r ≡ Ok a → r ≡ Ok a
+as_ok name (Ok x) a is = cc
+as_ok name (Err e) a is = absurd (cc)
+
 passed : {E F : Type 0} (name : E → F) (r : Result (Unit {0}) E) → fault_as name r ≡ Ok tt → IsOk r
 passed name (Ok tt) is = search rules
 passed name (Err e) is = absurd (cc)
