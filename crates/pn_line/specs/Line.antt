@@ -1,10 +1,13 @@
 -- What is known of a line while it is read: its first bytes and its length.
 use Rattle.std.specs.Prelude.{ℕ, ◌+◌, ◌-◌, List, ◌++◌, length, take}
-use Rattle.pn_line.specs.declared.line_buffer.TheConstants.{MOST_KEPT}
+
+-- how many bytes a line may have without its newline
+abbrev pub longest_line : ℕ
+longest_line = 65536
 
 -- how many bytes of a line are kept: one more than a line may have, so that a longer line shows
 unfoldable pub most_kept : ℕ
-most_kept = MOST_KEPT
+most_kept = longest_line + 1
 
 -- the bytes of a line that are kept
 abbrev pub kept : List ℕ → List ℕ

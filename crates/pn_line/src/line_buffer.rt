@@ -1,6 +1,6 @@
 //! A line while it is read: its first bytes, in room that is taken once, and its length.
 ghost use Rattle.std.specs.Prelude.{◌≡◌, ◌+◌, ◌<◌, ◌≤◌, ◌↔◌, [], length, IfOk, IsTrue};
-ghost use Rattle.pn_line.specs.Line.{so_far, longer};
+ghost use Rattle.pn_line.specs.Line.{so_far, longer, longest_line};
 
 use std::alloc::{AllocError, Global};
 use std::marker::Model;
@@ -78,7 +78,7 @@ impl LineBuffer {
 
     /// Whether the line has more bytes than a line may have.
     pub fn is_too_long(&self) -> bool
-        ensures { IsTrue result ↔ (LONGEST_LINE < self.now.count) }
+        ensures { IsTrue result ↔ (longest_line < self.now.count) }
     {
         self.count > LONGEST_LINE
     }

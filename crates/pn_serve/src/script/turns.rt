@@ -30,7 +30,7 @@ pub(crate) struct Run {
 
 impl Model for Run {
     ghost use Rattle.std.specs.Prelude.{◌≤◌};
-    ghost use Rattle.pn_serve.specs.declared.settings.TheConstants.{MOST_WORKERS};
+    ghost use Rattle.pn_apply.specs.Limits.{most_workers};
     ghost use Rattle.pn_serve.specs.Machine.Outcomes.{serving};
     ghost use Rattle.pn_serve.specs.Runs.Served.{RunValue};
 
@@ -42,7 +42,7 @@ impl Model for Run {
 
     ghost view = { λ run. record { machine = serving run.region; line = run.line; waits = run.outbox; counts = run.counts } };
 
-    ghost invariant = { λ run. (1 ≤ run.workers) × (run.workers ≤ MOST_WORKERS) × (run.counts.refused ≤ run.counts.lines) };
+    ghost invariant = { λ run. (1 ≤ run.workers) × (run.workers ≤ most_workers) × (run.counts.refused ≤ run.counts.lines) };
 }
 
 /// What comes after a line.
