@@ -1,24 +1,32 @@
 -- What was written where a script is not answered to its end.
-use Rattle.std.proofs.Common.{◌≡◌, ◌≢◌, ℕ, ◌+◌, ◌<◌, ◌≤◌, Option, None, Some, List, [], ◌∷◌, ◌++◌, length, IfSome, OnSome, inl, inr, refl, sym, ap, ◌∙◌, subst, arith, append-nil, append_assoc}
+use Rattle.std.proofs.Common.{◌≡◌, ◌≢◌, ℕ, ◌<◌, ◌≤◌, Option, List, [], ◌∷◌, ◌++◌, length, IfSome, OnSome, inl, inr, refl, sym, ap, ◌∙◌, subst, arith, append-nil, append_assoc}
+use Rattle.std.specs.Prelude.{Result, Err, IsErrAnd}
+use Rattle.std.proofs.lemmas.Result.{err_from_is_err_and}
 use Rattle.std.specs.Io.KnownBytes.{Appends, IsAtEnd, Keeps}
 use Rattle.std.proofs.lemmas.Bool.{cases_eq}
 use Rattle.std.proofs.lemmas.List.{length_push}
 use Rattle.std.proofs.lemmas.List.Elements.{All-nil}
 use Rattle.pn_line.specs.Line.{LineSoFar, so_far}
+use Rattle.pn_line.specs.LinesRead.{LinesRead, PartRead}
 use Rattle.pn_line.specs.Reads.{Takes, IsUnbroken}
 use Rattle.pn_line.specs.Sent.{AppendsFront}
 use Rattle.pn_line.specs.Text.{lines_of, onto_first}
 use Rattle.pn_line.proofs.LinesReadLaws.{LinesRead-line, LinesRead-end, LinesRead-part}
 use Rattle.pn_line.proofs.SentLaws.{Sends-flushed, Sends-cut, Sends-cut_flush, AppendsFront-more}
 use Rattle.pn_line.proofs.TextLaws.{lines_of-line, lines_of-byte, lines_of-text, lines_of-begun}
-use Rattle.pn_region.specs.Regions.{RegionValue}
-use Rattle.pn_serve.specs.AnsweredLine.{Answered, AnsweredInPart}
-use Rattle.pn_serve.specs.Machine.{Outcome, Machine, turn, serving}
-use Rattle.pn_serve.specs.Answers.{reply_text, is_refusal}
+use Rattle.pn_serve.specs.Machine.Outcomes.{Outcome, Machine, serving}
+use Rattle.pn_serve.specs.Machine.Turns.{turn, Answers}
+use Rattle.pn_serve.specs.Reply.Texts.{reply_text}
+use Rattle.pn_serve.specs.Runs.Ends.{Broken, Cut, Exceeded, Ends, IsAtBound, lines_within}
+use Rattle.pn_serve.specs.Runs.Served.{RunValue, Begun, Answered, AnsweredInPart, AllAnswered, Between}
+use Rattle.pn_serve.specs.Runs.Turning.{TurnsTo}
 use Rattle.pn_serve.specs.declared.script.Counts.{Counts}
-use Rattle.pn_serve.specs.Runs.{Broken, Cut, Exceeded}
-use Rattle.pn_serve.specs.Script.{replies_from, machine_after, one_if}
-use Rattle.pn_serve.proofs.Serving.{Answers, Answers-line, Served, replies_from-push, turned_kept, lines_left, some_same, one_line}
+use Rattle.pn_serve.specs.declared.script.RunFault.{RunFault}
+use Rattle.pn_serve.specs.declared.script.RunFault.TheVariants.{Write}
+use Rattle.pn_serve.specs.declared.script.turns.Next.{Next}
+use Rattle.pn_serve.specs.Script.Written.{replies_from, machine_after}
+use Rattle.pn_serve.proofs.LongLines.{answers_kept}
+use Rattle.pn_serve.proofs.Serving.{AllAnswered-line, replies_from-push, lines_left, one_line, stays, of_known}
 use Rattle.pn_serve.proofs.Within.{within-million, within-endless, not_all}
 
 -- the replies to lines, and then to more of them
@@ -50,130 +58,163 @@ begun_line [] rest unbroken long = absurd (omega (arith, long))
 begun_line (b ∷ part) rest unbroken long =
     let (line, more, is, longer) = lines_of-begun b part rest unbroken in (line, more, is, omega (arith, long, longer))
 
--- from a region on
-module _ (from : RegionValue) where
-  -- a front of the replies to the first lines is one of the replies to all
-  front_of_all : (text : List ℕ) (texts more : List (List ℕ)) (outcomes : List Outcome) (a c : Option (List ℕ)) → lines_of text ≡ texts ++ more → length outcomes ≡ length texts
-      → AppendsFront a c (replies_from (serving from) texts outcomes) → Cut from text a c
-  front_of_all text texts more outcomes a c all same front = record {
-    outcomes = outcomes;
-    front = subst (λ (r : List ℕ). AppendsFront a c r)
-        (sym (replies_from-more (serving from) texts outcomes more same) ∙ ap (λ (l : List (List ℕ)). replies_from (serving from) l outcomes) (sym all))
-        (AppendsFront-more (replies_from (machine_after (serving from) texts outcomes) more []) front);
-  }
+-- no part of the next line was read
+no_part : {text : List ℕ} {left : Option (List ℕ)} {lines : List (List ℕ)} → LinesRead text left lines → PartRead text left lines []
+no_part read = record {
+  rest = read.rest;
+  unbroken = read.unbroken;
+  part_unbroken = All-nil (λ (b : ℕ). b ≢ 10);
+  text_is = read.text_is;
+  left_is = read.left_is;
+}
 
-  -- the writer failed between two lines
-  Answers-cut : (text : List ℕ) (texts more : List (List ℕ)) (a b c : Option (List ℕ)) (waits : List ℕ) (region : RegionValue) (lines refused : ℕ) → lines_of text ≡ texts ++ more
-      → Answers from texts a b waits region lines refused → AppendsFront b c waits → Cut from text a c
-  Answers-cut text texts more a b c waits region lines refused all is front = front_of_all text texts more is.outcomes a c all is.paired (Sends-cut_flush is.sends front)
+still : {text : List ℕ} {left : Option (List ℕ)} {lines : List (List ℕ)} (leaves : Option (List ℕ)) → LinesRead text left lines → Keeps left leaves → LinesRead text leaves lines
+still {left = left} leaves read kept = record {
+  rest = read.rest;
+  unbroken = read.unbroken;
+  text_is = read.text_is;
+  left_is = stays left leaves read.rest read.left_is kept;
+}
+
+module _ (begun : Begun) where
+  -- a prefix of the replies to the first lines is one of the replies to all
+  cut : (script : List ℕ) (leaves : Option (List ℕ)) (lines : List (List ℕ)) (part : List ℕ) → PartRead script leaves lines part
+      → (answered more : List (List ℕ)) (outcomes : List Outcome) (written : Option (List ℕ)) → lines_of script ≡ answered ++ more → length outcomes ≡ length answered
+      → AppendsFront begun.written written (replies_from (serving begun.region) answered outcomes) → Cut begun script leaves written
+  cut script leaves lines part read answered more outcomes written all same sent = record {
+    lines = lines;
+    part = part;
+    read = read;
+    outcomes = outcomes;
+    prefix = subst (λ (r : List ℕ). AppendsFront begun.written written r)
+        (sym (replies_from-more (serving begun.region) answered outcomes more same) ∙ ap (λ (l : List (List ℕ)). replies_from (serving begun.region) l outcomes) (sym all))
+        (AppendsFront-more (replies_from (machine_after (serving begun.region) answered outcomes) more []) sent);
+  }
 
   -- the writer failed at the reply to a line
-  Answers-cut_line : (text : List ℕ) (texts : List (List ℕ)) (taken : List ℕ) (more : List (List ℕ)) (a b c : Option (List ℕ)) (waits : List ℕ) (old new : RegionValue) (lines refused : ℕ) (line : LineSoFar)
-      → lines_of text ≡ texts ++ taken ∷ more → Answers from texts a b waits old lines refused → line ≡ so_far taken → AnsweredInPart old new line.front b c waits → Cut from text a c
-  Answers-cut_line text texts taken more a b c waits old new lines refused line all is at part =
-      let turned = turned_kept old new line taken part.reply at part.turned in
+  cut_line : (script : List ℕ) (leaves : Option (List ℕ)) (read_lines : List (List ℕ)) (part : List ℕ) → PartRead script leaves read_lines part
+      → (lines : List (List ℕ)) (taken : List ℕ) (more : List (List ℕ)) (b c : Option (List ℕ)) (run new : RunValue) (line : LineSoFar)
+      → lines_of script ≡ lines ++ taken ∷ more → AllAnswered begun lines b run → line ≡ so_far taken → AnsweredInPart (record run { line = line }) new b c → Cut begun script leaves c
+  cut_line script leaves read_lines part read lines taken more b c run new line all is at answered =
+      let from = serving begun.region in
+      let turned : Answers run.machine taken new.machine answered.reply = answers_kept run.machine new.machine line taken answered.reply at answered.turned in
       let outcomes = is.outcomes ++ turned.outcome ∷ [] in
-      let said : replies_from (serving from) (texts ++ taken ∷ []) outcomes ≡ replies_from (serving from) texts is.outcomes ++ reply_text part.reply =
-      replies_from-push (serving from) texts is.outcomes taken turned.outcome is.paired
-      ∙ ap (λ (m : Machine). replies_from (serving from) texts is.outcomes ++ (turn m turned.outcome taken).reply) is.machine
-      ∙ ap (λ (r : List ℕ). replies_from (serving from) texts is.outcomes ++ r) turned.replied in
-      front_of_all text (texts ++ taken ∷ []) more outcomes a c (all ∙ sym (append_assoc texts (taken ∷ []) more))
-      (omega (arith, is.paired, length_push is.outcomes turned.outcome, length_push texts taken))
-      (subst (λ (r : List ℕ). AppendsFront a c r) (sym said) (Sends-cut (reply_text part.reply) is.sends part.front))
+      let said : replies_from from (lines ++ taken ∷ []) outcomes ≡ replies_from from lines is.outcomes ++ reply_text answered.reply =
+      replies_from-push from lines is.outcomes taken turned.outcome is.paired
+      ∙ ap (λ (m : Machine). replies_from from lines is.outcomes ++ (turn m turned.outcome taken).reply) is.machine
+      ∙ ap (λ (r : List ℕ). replies_from from lines is.outcomes ++ r) turned.replied in
+      cut script leaves read_lines part read (lines ++ taken ∷ []) more outcomes c (all ∙ sym (append_assoc lines (taken ∷ []) more))
+      (omega (arith, is.paired, length_push is.outcomes turned.outcome, length_push lines taken))
+      (subst (λ (r : List ℕ). AppendsFront begun.written c r) (sym said) (Sends-cut (reply_text answered.reply) is.sends answered.prefix))
 
-  -- the writer failed where what waited was to go out
-  pub Served-cut : (text : List ℕ) (left a b c : Option (List ℕ)) (waits : List ℕ) (region : RegionValue) (lines refused : ℕ) → Served from text left a b waits region lines refused → AppendsFront b c waits → Cut from text a c
-  Served-cut text left a b c waits region lines refused served front =
-      Answers-cut text served.texts (lines_of served.read.rest) a b c waits region lines refused (lines_left served.read) served.answers front
+  -- the writer failed between two lines, where what waited was to go out
+  pub Cut_between : (script : List ℕ) (left b c : Option (List ℕ)) (run : RunValue) → Between begun script left b run → AppendsFront b c run.waits → Cut begun script left c
+  Cut_between script left b c run between sent =
+      cut script left between.lines [] (no_part between.read) between.lines (lines_of between.read.rest) between.answered.outcomes c (lines_left between.read) between.answered.paired
+      (Sends-cut_flush between.answered.sends sent)
+
+  -- the same behind a part of a line
+  pub Cut_part : (script : List ℕ) (left leaves b c : Option (List ℕ)) (run : RunValue) (line : LineSoFar) → Between begun script left b run
+      → Takes (so_far []) line left leaves [] → AppendsFront b c run.waits → Cut begun script leaves c
+  Cut_part script left leaves b c run line between takes sent =
+      let (part, is, read) = LinesRead-part between.read takes in
+      cut script leaves between.lines part read between.lines (lines_of between.read.rest) between.answered.outcomes c (lines_left between.read) between.answered.paired
+      (Sends-cut_flush between.answered.sends sent)
 
   -- the writer failed at the reply to a line with its newline
-  pub Served-cut_line : (text : List ℕ) (left leaves a b c : Option (List ℕ)) (waits : List ℕ) (old new : RegionValue) (lines refused : ℕ) (line : LineSoFar) → Served from text left a b waits old lines refused
-      → Takes (so_far []) line left leaves (10 ∷ []) → AnsweredInPart old new line.front b c waits → Cut from text a c
-  Served-cut_line text left leaves a b c waits old new lines refused line served takes part =
-      let (taken, is, read) = LinesRead-line served.read takes in
-      Answers-cut_line text served.texts taken (lines_of read.rest) a b c waits old new lines refused line
-      (lines_left read ∙ append_assoc served.texts (taken ∷ []) (lines_of read.rest)) served.answers is part
+  pub Cut_line : (script : List ℕ) (left leaves b c : Option (List ℕ)) (run new : RunValue) (line : LineSoFar) → Between begun script left b run
+      → Takes (so_far []) line left leaves (10 ∷ []) → AnsweredInPart (record run { line = line }) new b c → Cut begun script leaves c
+  Cut_line script left leaves b c run new line between takes answered =
+      let (taken, is, read) = LinesRead-line between.read takes in
+      cut_line script leaves (between.lines ++ taken ∷ []) [] (no_part read) between.lines taken (lines_of read.rest) b c run new line
+      (lines_left read ∙ append_assoc between.lines (taken ∷ []) (lines_of read.rest)) between.answered is answered
 
   -- the writer failed at the reply to the last line
-  pub Served-cut_last : (text : List ℕ) (left leaves a b c : Option (List ℕ)) (waits : List ℕ) (old new : RegionValue) (lines refused : ℕ) (line : LineSoFar) → Served from text left a b waits old lines refused
-      → Takes (so_far []) line left leaves [] → OnSome left (IsAtEnd leaves) → line.count ≢ 0 → AnsweredInPart old new line.front b c waits → Cut from text a c
-  Served-cut_last text left leaves a b c waits old new lines refused line served takes end some part =
-      let (taken, is, all) = LinesRead-end leaves served.read takes end in
+  pub Cut_last : (script : List ℕ) (left leaves b c : Option (List ℕ)) (run new : RunValue) (line : LineSoFar) → Between begun script left b run
+      → Takes (so_far []) line left leaves [] → OnSome left (IsAtEnd leaves) → line.count ≢ 0 → AnsweredInPart (record run { line = line }) new b c → Cut begun script leaves c
+  Cut_last script left leaves b c run new line between takes end some answered =
+      let (part, same, read) = LinesRead-part between.read takes in
+      let (taken, is, all) = LinesRead-end leaves between.read takes end in
       let full : length taken ≢ 0 = λ none. some (ap (λ (l : LineSoFar). l.count) is ∙ none) in
-      Answers-cut_line text served.texts taken [] a b c waits old new lines refused line (all ∙ ap (λ (l : List (List ℕ)). served.texts ++ l) (one_line taken full)) served.answers is part
-
-  -- a read failed in a line
-  pub Served-broken : (text : List ℕ) (left leaves a b c : Option (List ℕ)) (waits : List ℕ) (region : RegionValue) (lines refused : ℕ) (line : LineSoFar) → Served from text left a b waits region lines refused
-      → Takes (so_far []) line left leaves [] → Appends b c waits → Broken from text leaves a c
-  Served-broken text left leaves a b c waits region lines refused line served takes sent =
-      let (part, is, read) = LinesRead-part served.read takes in
-      record { lines = served.texts; part = part; read = read; outcomes = served.answers.outcomes; wrote = Sends-flushed c served.answers.sends sent }
-
-  -- a read failed behind the last line that may be answered
-  pub Served-broken_end : (text : List ℕ) (left leaves a b c : Option (List ℕ)) (waits : List ℕ) (region : RegionValue) (lines refused : ℕ) → Served from text left a b waits region lines refused
-      → Keeps left leaves → Appends b c waits → Broken from text leaves a c
-  Served-broken_end text left leaves a b c waits region lines refused served kept sent = record {
-    lines = served.texts;
-    part = [];
-    read = record {
-      rest = served.read.rest;
-      unbroken = served.read.unbroken;
-      part_unbroken = All-nil (λ (b : ℕ). b ≢ 10);
-      text_is = served.read.text_is;
-      left_is = stays left leaves served.read.rest served.read.left_is kept;
-    };
-    outcomes = served.answers.outcomes;
-    wrote = Sends-flushed c served.answers.sends sent;
-  }
-    where
-      stays : (left leaves : Option (List ℕ)) (rest : List ℕ) → left ≡ Some rest → Keeps left leaves → leaves ≡ Some rest
-      stays None leaves rest is kept = absurd (untold rest is)
-        where
-          untold : (rest : List ℕ) → None ≡ Some rest → ⊥
-          untold rest is = cc
-      stays (Some x) None rest is kept = absurd kept
-      stays (Some x) (Some y) rest is kept = ap Some kept ∙ is
-
-  -- there are more than a million lines
-  pub Served-exceeded : (text rest : List ℕ) (a b c : Option (List ℕ)) (waits : List ℕ) (region : RegionValue) (lines refused : ℕ) → Served from text (Some rest) a b waits region lines refused
-      → rest ≢ [] → lines ≡ 1000000 → Appends b c waits → Exceeded from text a c
-  Served-exceeded text rest a b c waits region lines refused served some many sent =
-      let (line, more, is) = some_line served.read.rest (λ none. some (some_same rest served.read.rest served.read.left_is ∙ none)) in
-      let all : lines_of text ≡ served.texts ++ line ∷ more = lines_left served.read ∙ ap (λ (l : List (List ℕ)). served.texts ++ l) is in
-      let within = within-million text served.texts (line ∷ more) all served.short (sym served.answers.counted ∙ many) in record {
-        outcomes = served.answers.outcomes;
-        wrote = subst (λ (l : List (List ℕ)). Appends a c (replies_from (serving from) l served.answers.outcomes)) (sym within) (Sends-flushed c served.answers.sends sent);
-        more = not_all text served.texts line more all within;
-      }
-
-  -- a line has no end
-  pub Served-endless : (text : List ℕ) (left leaves a b c : Option (List ℕ)) (waits : List ℕ) (region : RegionValue) (lines refused : ℕ) (line : LineSoFar) → Served from text left a b waits region lines refused
-      → Takes (so_far []) line left leaves [] → line.count ≡ 1000000000 → lines < 1000000 → Appends b c waits → Exceeded from text a c
-  Served-endless text left leaves a b c waits region lines refused line served takes endless few sent =
-      let (part, is, read) = LinesRead-part served.read takes in
-      let (first, more, all, long) = begun_line part read.rest read.part_unbroken (sym (ap (λ (l : LineSoFar). l.count) is) ∙ endless) in
-      let lines_are : lines_of text ≡ served.texts ++ first ∷ more = ap lines_of read.text_is ∙ lines_of-text served.texts (part ++ read.rest) served.read.unbroken ∙ ap (λ (l : List (List ℕ)). served.texts ++ l) all in
-      let within = within-endless text served.texts first more lines_are served.short (omega (arith, few, served.answers.counted)) long in record {
-        outcomes = served.answers.outcomes;
-        wrote = subst (λ (l : List (List ℕ)). Appends a c (replies_from (serving from) l served.answers.outcomes)) (sym within) (Sends-flushed c served.answers.sends sent);
-        more = not_all text served.texts first more lines_are within;
-      }
+      cut_line script leaves between.lines part read between.lines taken [] b c run new line (all ∙ ap (λ (l : List (List ℕ)). between.lines ++ l) (one_line taken full)) between.answered is answered
 
   -- the writer failed behind the reply to the last line
-  pub Last-cut : (text : List ℕ) (left leaves a b c d : Option (List ℕ)) (waits now : List ℕ) (old new : RegionValue) (had has : Counts) (line : LineSoFar) → Served from text left a b waits old had.lines had.refused
-      → Takes (so_far []) line left leaves [] → OnSome left (IsAtEnd leaves) → line.count ≢ 0 → Answered old new line.front b c waits now had has → AppendsFront c d now → Cut from text a d
-  Last-cut text left leaves a b c d waits now old new had has line served takes end some answered front =
-      let (taken, is, all) = LinesRead-end leaves served.read takes end in
+  pub Cut_after : (script : List ℕ) (left leaves b c d : Option (List ℕ)) (run new : RunValue) (line : LineSoFar) → Between begun script left b run
+      → Takes (so_far []) line left leaves [] → OnSome left (IsAtEnd leaves) → line.count ≢ 0 → Answered (record run { line = line }) new b c → AppendsFront c d new.waits → Cut begun script leaves d
+  Cut_after script left leaves b c d run new line between takes end some answered sent =
+      let (part, same, read) = LinesRead-part between.read takes in
+      let (taken, is, all) = LinesRead-end leaves between.read takes end in
       let full : length taken ≢ 0 = λ none. some (ap (λ (l : LineSoFar). l.count) is ∙ none) in
-      let lines_are : lines_of text ≡ (served.texts ++ taken ∷ []) ++ [] = all ∙ ap (λ (l : List (List ℕ)). served.texts ++ l) (one_line taken full) ∙ sym (append-nil (served.texts ++ taken ∷ [])) in
-      Answers-cut text (served.texts ++ taken ∷ []) [] a c d now new (had.lines + 1) (one_if (is_refusal answered.reply) + had.refused) lines_are
-      (Answers-line from served.texts a b c waits now old new had.lines had.refused taken answered.reply served.answers (turned_kept old new line taken answered.reply is answered.turned) answered.sends) front
+      let whole : lines_of script ≡ (between.lines ++ taken ∷ []) ++ [] = all ∙ ap (λ (l : List (List ℕ)). between.lines ++ l) (one_line taken full) ∙ sym (append-nil (between.lines ++ taken ∷ [])) in
+      let answers = AllAnswered-line begun between.lines b c run new line taken between.answered is answered in
+      cut script leaves between.lines part read (between.lines ++ taken ∷ []) [] answers.outcomes d whole answers.paired (Sends-cut_flush answers.sends sent)
 
-  -- there are more than a million lines, by cases on what is told
-  pub Exceeds : (first left a b c : Option (List ℕ)) (waits : List ℕ) (region : RegionValue) (lines refused : ℕ) → IfSome first (λ text. Served from text left a b waits region lines refused) → IfSome left (λ rest. rest ≢ []) → lines ≡ 1000000 → Appends b c waits → IfSome first (λ text. Exceeded from text a c)
-  Exceeds None left a b c waits region lines refused served some many sent = tt
-  Exceeds (Some text) (Some rest) a b c waits region lines refused served some many sent = Served-exceeded text rest a b c waits region lines refused served some many sent
-  Exceeds (Some text) None a b c waits region lines refused served some many sent = absurd (untold served.read.rest served.read.left_is)
-    where
-      untold : (rest : List ℕ) → None ≡ Some rest → ⊥
-      untold rest is = cc
+  -- a read failed in a line
+  pub Broken_in : (script : List ℕ) (left leaves b c : Option (List ℕ)) (run : RunValue) (line : LineSoFar) → Between begun script left b run
+      → Takes (so_far []) line left leaves [] → Appends b c run.waits → Broken begun script leaves c
+  Broken_in script left leaves b c run line between takes sent =
+      let (part, is, read) = LinesRead-part between.read takes in
+      record { lines = between.lines; part = part; read = read; outcomes = between.answered.outcomes; wrote = Sends-flushed c between.answered.sends sent }
+
+  -- a read failed behind the last line that may be answered
+  pub Broken_after : (script : List ℕ) (left leaves b c : Option (List ℕ)) (run : RunValue) → Between begun script left b run
+      → Keeps left leaves → Appends b c run.waits → Broken begun script leaves c
+  Broken_after script left leaves b c run between kept sent = record {
+    lines = between.lines;
+    part = [];
+    read = no_part (still leaves between.read kept);
+    outcomes = between.answered.outcomes;
+    wrote = Sends-flushed c between.answered.sends sent;
+  }
+
+  exceeded : (script : List ℕ) (leaves b c : Option (List ℕ)) (run : RunValue) (lines : List (List ℕ)) (part : List ℕ) → AllAnswered begun lines b run → PartRead script leaves lines part
+      → IsAtBound lines part → lines_within script ≡ lines → lines_within script ≢ lines_of script → Appends b c run.waits → Exceeded begun script leaves c
+  exceeded script leaves b c run lines part is read bound within more sent = record {
+    part = part;
+    read = subst (λ (l : List (List ℕ)). PartRead script leaves l part) (sym within) read;
+    stopped = subst (λ (l : List (List ℕ)). IsAtBound l part) (sym within) bound;
+    outcomes = is.outcomes;
+    wrote = subst (λ (l : List (List ℕ)). Appends begun.written c (replies_from (serving begun.region) l is.outcomes)) (sym within) (Sends-flushed c is.sends sent);
+    more = more;
+  }
+
+  -- there are more than a million lines
+  pub Exceeded_lines : (script : List ℕ) (left leaves b c : Option (List ℕ)) (run : RunValue) → Between begun script left b run
+      → IfSome left (λ rest. rest ≢ []) → Keeps left leaves → run.counts.lines ≡ 1000000 → Appends b c run.waits → Exceeded begun script leaves c
+  Exceeded_lines script left leaves b c run between some kept many sent =
+      let rest = between.read.rest in
+      let (line, more, is) = some_line rest (of_known left rest (λ (r : List ℕ). r ≢ []) between.read.left_is some) in
+      let all : lines_of script ≡ between.lines ++ line ∷ more = lines_left between.read ∙ ap (λ (l : List (List ℕ)). between.lines ++ l) is in
+      let count : length between.lines ≡ 1000000 = sym between.answered.lines_are ∙ many in
+      let within = within-million script between.lines (line ∷ more) all between.short count in
+      exceeded script leaves b c run between.lines [] between.answered (no_part (still leaves between.read kept)) (inl (count, refl)) within (not_all script between.lines line more all within) sent
+
+  -- a line has no end
+  pub Exceeded_bytes : (script : List ℕ) (left leaves b c : Option (List ℕ)) (run : RunValue) (line : LineSoFar) → Between begun script left b run
+      → Takes (so_far []) line left leaves [] → line.count ≡ 1000000000 → run.counts.lines < 1000000 → Appends b c run.waits → Exceeded begun script leaves c
+  Exceeded_bytes script left leaves b c run line between takes endless few sent =
+      let (part, is, read) = LinesRead-part between.read takes in
+      let long : length part ≡ 1000000000 = sym (ap (λ (l : LineSoFar). l.count) is) ∙ endless in
+      let (first, more, all, longer) = begun_line part read.rest read.part_unbroken long in
+      let lines_are : lines_of script ≡ between.lines ++ first ∷ more = ap lines_of read.text_is ∙ lines_of-text between.lines (part ++ read.rest) between.read.unbroken ∙ ap (λ (l : List (List ℕ)). between.lines ++ l) all in
+      let within = within-endless script between.lines first more lines_are between.short (omega (arith, few, between.answered.lines_are)) longer in
+      exceeded script leaves b c run between.lines part between.answered read (inr long) within (not_all script between.lines first more lines_are within) sent
+
+  -- a write fault, as an answer
+  pub Turn_write : (left written : Option (List ℕ)) (run : RunValue) (result : Result Next RunFault) → IsErrAnd result (λ fault. fault ≡ Write)
+      → IfSome begun.left (λ script. Cut begun script left written) → TurnsTo begun left written run result
+  Turn_write left written run result answered ends =
+      let (fault, is, write) = err_from_is_err_and result answered in
+      subst (TurnsTo begun left written run) (sym is) (subst (λ (f : RunFault). Ends begun left written (Err f)) (sym write) ends)
+
+  pub Run_write : (left written : Option (List ℕ)) (result : Result Counts RunFault) → IsErrAnd result (λ fault. fault ≡ Write)
+      → IfSome begun.left (λ script. Cut begun script left written) → Ends begun left written result
+  Run_write left written result answered ends =
+      let (fault, is, write) = err_from_is_err_and result answered in
+      subst (Ends begun left written) (sym is) (subst (λ (f : RunFault). Ends begun left written (Err f)) (sym write) ends)
+
+  -- a fault that is handed on
+  pub Handed_on : (left written : Option (List ℕ)) (fault : RunFault) (result : Result Counts RunFault) → IsErrAnd result (λ other. other ≡ fault) → Ends begun left written (Err fault) → Ends begun left written result
+  Handed_on left written fault result answered ends =
+      let (other, is, same) = err_from_is_err_and result answered in
+      subst (Ends begun left written) (sym is) (subst (λ (f : RunFault). Ends begun left written (Err f)) (sym same) ends)

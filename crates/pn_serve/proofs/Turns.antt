@@ -1,5 +1,7 @@
 -- What lines that say something do, by what the program did.
-use Rattle.std.proofs.Common.{◌≡◌, ℕ, Bool, true, false, List, [], ◌∷◌, refl, sym, ap, ◌∙◌, inl, inr}
+use Rattle.std.proofs.Common.{◌≡◌, ℕ, Bool, true, false, if◌then◌else◌, List, [], ◌∷◌, length, refl, sym, ap, ◌∙◌, subst, inl, inr, arith}
+use Rattle.std.proofs.lemmas.Bool.{cases_lt}
+use Rattle.std.proofs.lemmas.Bool.Decides.{nat_tests}
 use Rattle.std.specs.Prelude.{Result, Ok, Err, Vec, MatchResult}
 use Rattle.std.specs.declared.alloc.Global.{Global}
 use Rattle.pn_join.specs.Marks.{Positions}
@@ -12,44 +14,83 @@ use Rattle.pn_region.specs.Regions.{RegionValue}
 use Rattle.pn_region.specs.Rounds.{joins, changed, IsHalfTaken}
 use Rattle.pn_region.specs.Rounds.{round as taken_round}
 use Rattle.pn_region.specs.declared.fault.RoundFault.{RoundFault}
+use Rattle.pn_serve.specs.declared.reply.Reply.{Reply}
 use Rattle.pn_serve.specs.declared.reply.Reply.TheVariants.{Changed, Text, Refused, NotTaken}
 use Rattle.pn_serve.specs.declared.refusal.Refusal.{Refusal}
 use Rattle.pn_serve.specs.declared.refusal.Refusal.TheVariants.{Memory}
 use Rattle.pn_serve.specs.Command.Meaning.{CommandValue, deliver}
-use Rattle.pn_serve.specs.Machine.{done, line, round, Turn, doing, delivering, some_stepped, half_by, serving, showing}
-use Rattle.pn_serve.specs.Reply.Short.{changed_data, fault_data}
-use Rattle.pn_serve.specs.Answers.{Turned}
-use Rattle.pn_serve.specs.Reply.Rows.{line_of}
+use Rattle.pn_serve.specs.Command.Lines.{command_at, is_too_long}
+use Rattle.pn_serve.proofs.LongLines.{too_long}
+use Rattle.pn_serve.specs.Machine.Outcomes.{Outcome, Machine, done, line, round, Turn, serving, showing}
+use Rattle.pn_serve.specs.Machine.PartRounds.{some_stepped, partly_marked}
+use Rattle.pn_serve.specs.Machine.Turns.{doing, delivering, turn_of, Turned, Answers, Obeys}
+use Rattle.pn_serve.specs.Reply.Faults.{fault_data}
+use Rattle.pn_serve.specs.Reply.Short.{changed_data}
+use Rattle.pn_json.specs.Lines.{line_of}
 
 -- memory ran out, and nothing changed
-pub turned_line : (old new : RegionValue) (said : Result CommandValue Refusal) → new ≡ old → Turned old said new (Refused Memory)
-turned_line old new said same = record { outcome = line; machine = ap serving (sym same); replied = refl; refused = refl }
+pub turned_line : (old new : RegionValue) (command : CommandValue) → new ≡ old → Obeys (serving old) command (serving new) (Refused Memory)
+turned_line old new command same = record { outcome = line; machine_is = ap serving (sym same); replied = refl; refused = refl }
+
+-- the command that a line is was obeyed
+pub turned_said : (text : List ℕ) (command : CommandValue) (old new : Machine) (reply : Reply) → command_at text ≡ Ok command → Obeys old command new reply → Answers old text new reply
+turned_said text command old new reply said obeys =
+    subst (λ (said : Result CommandValue Refusal). Turned (λ outcome. turn_of old (if is_too_long text then done else outcome) said) new reply) (sym said)
+    (subst (λ (test : Bool). Turned (λ outcome. turn_of old (if test then done else outcome) (Ok command)) new reply) (sym (within text command said)) obeys)
+  where
+    within : (text : List ℕ) (command : CommandValue) → command_at text ≡ Ok command → is_too_long text ≡ false
+    within text command said = elim (cases_lt 65536 (length text)) [
+      | inl long ↦ absurd (let refused = too_long text long in cc)
+      | inr short ↦ grind (arith, nat_tests)
+    ]
+
+-- memory ran out before a command was found, in a line that is not too long
+pub turned_unread : (text : List ℕ) (machine : Machine) → is_too_long text ≡ false → Answers machine text machine (Refused Memory)
+turned_unread text machine test =
+    subst (λ (test : Bool). Turned (λ outcome. turn_of machine (if test then done else outcome) (command_at text)) machine (Refused Memory)) (sym test)
+    (record { outcome = line; machine_is = refl; replied = refl; refused = refl })
+
+-- done is done, whatever the length
+pub as_said : (test : Bool) → (if test then done else done) ≡ done
+as_said true = refl
+as_said false = refl
+
+-- the line was refused
+pub turned_fault : (text : List ℕ) (machine : Machine) (refusal : Refusal) → command_at text ≡ Err refusal → Answers machine text machine (Refused refusal)
+turned_fault text machine refusal said =
+    subst (λ (said : Result CommandValue Refusal). Turned (λ outcome. turn_of machine (if is_too_long text then done else outcome) said) machine (Refused refusal)) (sym said)
+    (record {
+      outcome = done;
+      machine_is = ap (λ (outcome : Outcome). (turn_of machine outcome (Err refusal)).machine) (as_said (is_too_long text));
+      replied = ap (λ (outcome : Outcome). (turn_of machine outcome (Err refusal)).reply) (as_said (is_too_long text));
+      refused = ap (λ (outcome : Outcome). (turn_of machine outcome (Err refusal)).refused) (as_said (is_too_long text));
+    })
 
 -- a text was shown, and nothing changed
 pub turned_text : (old new : RegionValue) (command : CommandValue) (reply : List ℕ) (text : Vec ℕ Global) → doing (serving old) command ≡ showing (serving old) reply → new ≡ old → text.items ≡ reply
-    → Turned old (Ok command) new (Text text)
+    → Obeys (serving old) command (serving new) (Text text)
 turned_text old new command reply text shows same is = record {
   outcome = done;
-  machine = ap (λ (t : Turn). t.machine) shows ∙ ap serving (sym same);
+  machine_is = ap (λ (t : Turn). t.machine) shows ∙ ap serving (sym same);
   replied = ap (λ (t : Turn). t.reply) shows ∙ sym is;
   refused = ap (λ (t : Turn). t.refused) shows;
 }
 
 module _ (old new : RegionValue) (deliveries : List DeliveryValue) where
   -- the round ended
-  pub turned_ok : (count : ℕ) → taken_round old deliveries ≡ Ok new → count ≡ changed old new → Turned old (Ok (deliver deliveries)) new (Changed count)
+  pub turned_ok : (count : ℕ) → taken_round old deliveries ≡ Ok new → count ≡ changed old new → Obeys (serving old) (deliver deliveries) (serving new) (Changed count)
   turned_ok count ended counted = record {
     outcome = done;
-    machine = ap (λ (r : Result RegionValue RoundFault). (delivering (serving old) r).machine) ended;
+    machine_is = ap (λ (r : Result RegionValue RoundFault). (delivering (serving old) r).machine) ended;
     replied = ap (λ (r : Result RegionValue RoundFault). (delivering (serving old) r).reply) ended ∙ ap (λ (n : ℕ). line_of (changed_data n)) (sym counted);
     refused = ap (λ (r : Result RegionValue RoundFault). (delivering (serving old) r).refused) ended;
   }
 
   -- the round was refused
-  pub turned_refused : (fault : RoundFault) (text : Vec ℕ Global) → taken_round old deliveries ≡ Err fault → new ≡ old → text.items ≡ line_of (fault_data fault) → Turned old (Ok (deliver deliveries)) new (NotTaken text)
+  pub turned_refused : (fault : RoundFault) (text : Vec ℕ Global) → taken_round old deliveries ≡ Err fault → new ≡ old → text.items ≡ line_of (fault_data fault) → Obeys (serving old) (deliver deliveries) (serving new) (NotTaken text)
   turned_refused fault text refused same is = record {
     outcome = done;
-    machine = ap (λ (r : Result RegionValue RoundFault). (delivering (serving old) r).machine) refused ∙ ap serving (sym same);
+    machine_is = ap (λ (r : Result RegionValue RoundFault). (delivering (serving old) r).machine) refused ∙ ap serving (sym same);
     replied = ap (λ (r : Result RegionValue RoundFault). (delivering (serving old) r).reply) refused ∙ sym is;
     refused = ap (λ (r : Result RegionValue RoundFault). (delivering (serving old) r).refused) refused;
   }
@@ -77,14 +118,14 @@ which (t ∷ ts) (u ∷ us) (op ∷ ops) half =
 
 half_found : (old new : RegionValue) (deliveries : List DeliveryValue) (right : Result Positions RoundFault) → new.layout ≡ old.layout → new.marks ≡ old.marks
     → MatchResult right (λ next. AreOldOrStepped old.tablets (joins old deliveries next) new.tablets) (λ fault. new.tablets ≡ old.tablets)
-    → (flags : List Bool) × (half_by old deliveries flags right ≡ new)
+    → (flags : List Bool) × (partly_marked old deliveries flags right ≡ new)
 half_found old new deliveries (Ok next) layout positions half =
     let (flags, is) = which old.tablets new.tablets (joins old deliveries next) half in
     (flags, λ i. record { layout = sym layout i; tablets = sym is i; marks = sym positions i })
 half_found old new deliveries (Err fault) layout positions same = ([], λ i. record { layout = sym layout i; tablets = sym same i; marks = sym positions i })
 
--- the round ended without memory
-pub turned_half : (old new : RegionValue) (deliveries : List DeliveryValue) → IsHalfTaken old deliveries new → Turned old (Ok (deliver deliveries)) new (Refused Memory)
+-- the round ran out of memory
+pub turned_half : (old new : RegionValue) (deliveries : List DeliveryValue) → IsHalfTaken old deliveries new → Obeys (serving old) (deliver deliveries) (serving new) (Refused Memory)
 turned_half old new deliveries half =
     let (flags, is) = half_found old new deliveries (new_marks old.marks deliveries) half.0 half.1 half.2 in
-    record { outcome = round flags; machine = ap serving is; replied = refl; refused = refl }
+    record { outcome = round flags; machine_is = ap serving is; replied = refl; refused = refl }

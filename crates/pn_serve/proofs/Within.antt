@@ -6,14 +6,14 @@ use Rattle.std.proofs.lemmas.Bool.Decides.{nat_tests}
 use Rattle.std.proofs.lemmas.List.Elements.{All-head, All-tail}
 use Rattle.std.proofs.lemmas.List.Sums.{take_while-cons}
 use Rattle.pn_line.specs.Text.{lines_of}
-use Rattle.pn_serve.specs.Runs.{lines_within}
-
--- a line with fewer than a billion bytes
-abbrev pub IsShort : List ℕ → Type 0
-IsShort line = nat_lt (length line) 1000000000 ≡ true
+use Rattle.pn_serve.specs.Runs.Ends.{lines_within}
+use Rattle.pn_serve.specs.Runs.Served.{IsShort}
 
 abbrev test : List ℕ → Bool
 test line = nat_lt (length line) 1000000000
+
+passes : (line : List ℕ) → IsShort line → test line ≡ true
+passes line short = grind (arith, nat_tests, short)
 
 -- short lines, as many as there may be, come through
 front : (n : ℕ) (lines more : List (List ℕ)) → All IsShort lines → length lines ≤ n
@@ -23,7 +23,7 @@ front zero (line ∷ lines) more are few = absurd (omega (arith, few))
 front (suc n) (line ∷ lines) more are few =
     let left : suc n - length (line ∷ lines) ≡ n - length lines = omega arith in
     take_while-cons test line (take n (lines ++ more))
-    ∙ ap (λ b. cond b (line ∷ take_while test (take n (lines ++ more))) []) (All-head IsShort line lines are)
+    ∙ ap (λ b. cond b (line ∷ take_while test (take n (lines ++ more))) []) (passes line (All-head IsShort line lines are))
     ∙ ap (λ l. line ∷ l) (front n lines more (All-tail IsShort line lines are) (omega (arith, few)))
     ∙ ap (λ k. line ∷ (lines ++ take_while test (take k more))) (sym left)
 

@@ -1,5 +1,3 @@
-pub mod AnsweredLine
-pub mod Answers
 pub mod Command
 pub mod Machine
 pub mod Reply

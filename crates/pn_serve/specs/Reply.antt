@@ -1,5 +1,9 @@
 -- What is answered.
+pub mod Faults
+pub mod Marks
+pub mod Record
 pub mod Rows
+pub mod Scan
 pub mod Short
-pub mod Tokens
-pub mod Views
+pub mod Tablets
+pub mod Texts

@@ -22,4 +22,4 @@ pub use reply::faults::fault_reply;
 pub use reply::scan::scan_reply;
 pub use reply::short::{ShortReply, changed_reply, refusal_reply};
 pub use script::{Counts, MOST_LINES, RunFault, run};
-pub use settings::Settings;
+pub use settings::{MOST_WORKERS, Settings};

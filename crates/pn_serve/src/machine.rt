@@ -1,13 +1,16 @@
 //! What one line does: the region after it, and its reply.
 
-ghost use Rattle.std.specs.Prelude.{◌≡◌, ◌≤◌, Ok, MatchResult};
+ghost use Rattle.std.specs.Prelude.{◌≡◌, ◌≤◌, MatchResult};
 ghost use Rattle.pn_serve.specs.declared.reply.Reply.TheVariants.{Text, Refused};
 ghost use Rattle.pn_serve.specs.declared.refusal.Refusal.TheVariants.{Memory as no_memory};
 ghost use Rattle.pn_serve.specs.Command.Meaning.{command_value, deliver as asking};
-ghost use Rattle.pn_serve.specs.Command.Lines.{command_at};
-ghost use Rattle.pn_serve.specs.Answers.{Turned};
+ghost use Rattle.pn_serve.specs.Machine.Outcomes.{serving};
+ghost use Rattle.pn_serve.specs.Machine.Turns.{Answers, Obeys};
 
-use crate::reply::views::{marks_reply, read_reply, tablets_reply};
+use crate::reply::marks::marks_reply;
+use crate::reply::record::read_reply;
+use crate::reply::tablets::tablets_reply;
+use crate::settings::MOST_WORKERS;
 use crate::{Command, Refusal, Reply, command_of, fault_reply, scan_reply};
 use pn_apply::Open;
 use pn_join::NoMemory;
@@ -16,10 +19,10 @@ use pn_stream::Delivery;
 use std::alloc::Global;
 
 /// Answers one line and does what it asks for, with 1 to 16 workers. A refusal leaves the region as it was;
-/// but after want of memory in a round, each tablet is as it was or has taken its part.
+/// but after a round that ran out of memory, each tablet is as it was or has taken its part.
 pub fn answer(alloc: Global, region: &mut Region, workers: usize, line: &[u8]) -> Reply
-    requires workers { (1 ≤ workers) × (workers ≤ 16) }
-    ensures { Turned region.old (command_at line.now) region.new result }
+    requires workers { (1 ≤ workers) × (workers ≤ MOST_WORKERS) }
+    ensures { Answers (serving region.old) line.now (serving region.new) result }
 {
     match command_of(alloc, line) {
         Ok(command) => obey(alloc, region, workers, command),
@@ -28,8 +31,8 @@ pub fn answer(alloc: Global, region: &mut Region, workers: usize, line: &[u8]) -
 }
 
 fn obey(alloc: Global, region: &mut Region, workers: usize, command: Command) -> Reply
-    requires workers { (1 ≤ workers) × (workers ≤ 16) }
-    ensures { Turned region.old (Ok (command_value command)) region.new result }
+    requires workers { (1 ≤ workers) × (workers ≤ MOST_WORKERS) }
+    ensures { Obeys (serving region.old) (command_value command) (serving region.new) result }
 {
     match command {
         Command::Deliver(deliveries) => deliver(alloc, region, workers, deliveries),
@@ -42,8 +45,8 @@ fn obey(alloc: Global, region: &mut Region, workers: usize, command: Command) ->
 
 // One round of the deliveries.
 fn deliver(alloc: Global, region: &mut Region, workers: usize, deliveries: Vec<Delivery>) -> Reply
-    requires workers { (1 ≤ workers) × (workers ≤ 16) }
-    ensures { Turned region.old (Ok (asking deliveries.items)) region.new result }
+    requires workers { (1 ≤ workers) × (workers ≤ MOST_WORKERS) }
+    ensures { Obeys (serving region.old) (asking deliveries.items) (serving region.new) result }
 {
     match region.round(deliveries, workers, &Open) {
         Ok(round) => Reply::Changed(round.changed),

@@ -1,11 +1,12 @@
 //! What lines are answered.
 
 pub(crate) mod faults;
+pub(crate) mod marks;
+pub(crate) mod record;
 mod rows;
 pub(crate) mod scan;
 pub(crate) mod short;
-mod text;
-pub(crate) mod views;
+pub(crate) mod tablets;
 
 use crate::Refusal;
 

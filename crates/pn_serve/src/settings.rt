@@ -1,12 +1,13 @@
 //! How a script is answered.
 
 ghost use Rattle.std.specs.Prelude.{◌≡◌, ◌≤◌, ◌↔◌, IfSome, IsSome};
+ghost use Rattle.pn_tablet.specs.Layouts.{IsLayout};
 
 use pn_tablet::Layout;
 use std::marker::Model;
 
 /// The most workers of a round.
-const MOST_WORKERS: usize = 16;
+pub const MOST_WORKERS: usize = 16;
 
 /// How the keys are divided into tablets, and how many workers a round has.
 #[derive(Debug, Drop)]
@@ -17,24 +18,44 @@ pub struct Settings {
 
 impl Model for Settings {
     ghost use Rattle.std.specs.Prelude.{◌≤◌};
+    ghost use Rattle.pn_tablet.specs.Layouts.{IsLayout};
+    ghost use Rattle.pn_serve.specs.declared.settings.TheConstants.{MOST_WORKERS};
     ghost use Rattle.pn_serve.specs.Settings.{SettingsValue};
 
     ghost Value = { SettingsValue };
 
-    ghost view = { λ settings. (settings.layout, settings.workers) };
+    ghost view = { λ settings. record { layout = settings.layout; workers = settings.workers } };
 
-    ghost invariant = { λ settings. (1 ≤ settings.workers) × (settings.workers ≤ 16) };
+    ghost invariant = { λ settings. IsLayout settings.layout × (1 ≤ settings.workers) × (settings.workers ≤ MOST_WORKERS) };
 }
 
 impl Settings {
     /// None where there are not 1 to 16 workers. It takes no memory.
     pub fn new(layout: Layout, workers: usize) -> Option<Settings>
-        ensures made { IfSome result (λ settings. settings ≡ (layout, workers)) }
-        ensures exactly { IsSome result ↔ ((1 ≤ workers) × (workers ≤ 16)) }
+        ensures made { IfSome result (λ settings. settings ≡ record { layout = layout; workers = workers }) }
+        ensures exactly { IsSome result ↔ ((1 ≤ workers) × (workers ≤ MOST_WORKERS)) }
     {
         if workers < 1 || workers > MOST_WORKERS {
             return None;
         }
+        // The layout says of itself that it is lawful.
+        let _ = layout.count();
         Some(Settings { layout, workers })
+    }
+
+    /// How the keys are divided into tablets. It takes no memory.
+    pub fn layout(&self) -> &Layout
+        ensures layout { result.now ≡ self.now.layout }
+        ensures lawful { IsLayout self.now.layout }
+    {
+        &self.layout
+    }
+
+    /// How many workers a round has. It takes no memory.
+    pub fn workers(&self) -> usize
+        ensures workers { result ≡ self.now.workers }
+        ensures within { (1 ≤ result) × (result ≤ MOST_WORKERS) }
+    {
+        self.workers
     }
 }

@@ -1,13 +1,13 @@
 //! The replies to deliveries whose round was refused.
 
 ghost use Rattle.std.specs.Prelude.{◌≡◌, IfOk, OnOk};
-ghost use Rattle.pn_serve.specs.Reply.Rows.{line_of};
-ghost use Rattle.pn_serve.specs.Reply.Short.{fault_data};
-ghost use Rattle.pn_serve.specs.Reply.Tokens.{Appends, error_tokens, fault_tokens, gap_tokens, value_tokens};
+ghost use Rattle.pn_json.specs.Lines.{line_of};
+ghost use Rattle.pn_json.specs.Tokens.{Appends, value_tokens};
+ghost use Rattle.pn_serve.specs.Reply.Faults.{fault_data, error_tokens, fault_tokens, gap_tokens};
 
-use crate::reply::text::{begun, finished};
 use json::Writer;
 use pn_join::{NoMemory, StreamName};
+use pn_json::{begin_line, finish_line, write_number_member, write_text_member};
 use pn_region::RoundFault;
 use std::alloc::Global;
 
@@ -15,9 +15,9 @@ use std::alloc::Global;
 pub fn fault_reply(alloc: Global, fault: &RoundFault) -> Result<Vec<u8>, NoMemory>
     ensures { IfOk result (λ text. text.items ≡ line_of (fault_data fault.now)) }
 {
-    let mut writer = begun(alloc)?;
+    let mut writer = begin_line(alloc)?;
     write_fault(&mut writer, fault)?;
-    finished(writer)
+    finish_line(writer)
 }
 
 fn write_fault(writer: &mut Writer, fault: &RoundFault) -> Result<(), NoMemory>
@@ -49,9 +49,7 @@ fn write_why(writer: &mut Writer, fault: &RoundFault) -> Result<(), NoMemory>
 fn write_error(writer: &mut Writer, name: &str) -> Result<(), NoMemory>
     ensures { OnOk result (Appends writer.old writer.new (error_tokens name.now)) }
 {
-    writer.key("error")?;
-    writer.string(name)?;
-    Ok(())
+    write_text_member(writer, "error", name)
 }
 
 fn write_gap(
@@ -62,11 +60,8 @@ fn write_gap(
 ) -> Result<(), NoMemory>
     ensures { OnOk result (Appends writer.old writer.new (gap_tokens stream.now wanted got)) }
 {
-    writer.key("got")?;
-    writer.u64(got)?;
-    writer.key("stream")?;
-    writer.string(stream.as_str())?;
-    writer.key("wanted")?;
-    writer.u64(wanted)?;
+    write_number_member(writer, "got", got)?;
+    write_text_member(writer, "stream", stream.as_str())?;
+    write_number_member(writer, "wanted", wanted)?;
     Ok(())
 }

@@ -4,13 +4,15 @@ ghost use Rattle.std.specs.Prelude.{◌≡◌, [], ◌∷◌, map, IfOk, OnOk, o
 ghost use Rattle.serde_json.specs.Data.{array};
 ghost use Rattle.serde_json.specs.View.{items_of};
 ghost use Rattle.pn_region.specs.Regions.{all_cells};
-ghost use Rattle.pn_serve.specs.Reply.Rows.{has_fields as with_fields, is_shown as shows, row_data, shown_rows, scan_data, line_of};
-ghost use Rattle.pn_serve.specs.Reply.Tokens.{Appends, value_tokens, values_tokens};
+ghost use Rattle.pn_json.specs.Lines.{line_of};
+ghost use Rattle.pn_json.specs.Tokens.{Appends, value_tokens, values_tokens};
+ghost use Rattle.pn_serve.specs.Reply.Rows.{row_data};
+ghost use Rattle.pn_serve.specs.Reply.Scan.{has_fields as with_fields, is_shown as shows, shown_rows, scan_data};
 
 use crate::reply::rows::write_row;
-use crate::reply::text::{begun, finished};
 use json::Writer;
 use pn_join::NoMemory;
+use pn_json::{begin_line, finish_line, write_null_member};
 use pn_record::{Body, Cell, Content, Key, Records};
 use pn_region::Region;
 use std::alloc::Global;
@@ -20,18 +22,17 @@ use std::alloc::Global;
 pub fn scan_reply(alloc: Global, region: &Region) -> Result<Vec<u8>, NoMemory>
     ensures { IfOk result (λ text. text.items ≡ line_of (scan_data (all_cells region.now))) }
 {
-    let mut writer = begun(alloc)?;
+    let mut writer = begin_line(alloc)?;
     write_scan(&mut writer, region)?;
-    finished(writer)
+    finish_line(writer)
 }
 
-#[tactic(auto, unfolding(crate::specs::Reply::Rows::scan_data))]
+#[tactic(auto, unfolding(crate::specs::Reply::Scan::scan_data))]
 fn write_scan(writer: &mut Writer, region: &Region) -> Result<(), NoMemory>
     ensures { OnOk result (Appends writer.old writer.new (value_tokens (scan_data (all_cells region.now)))) }
 {
     writer.begin_object()?;
-    writer.key("next")?;
-    writer.null()?;
+    write_null_member(writer, "next")?;
     writer.key("rows")?;
     write_tablets_rows(writer, region)?;
     writer.end_object()?;

@@ -1,7 +1,7 @@
 //! Replies of fixed texts, names and numbers, which take no memory.
 
 ghost use Rattle.std.specs.Prelude.{◌≡◌, ◌+◌, ◌≤◌, [], ◌++◌, length};
-ghost use Rattle.pn_serve.specs.Reply.Rows.{line_of};
+ghost use Rattle.pn_json.specs.Lines.{line_of};
 ghost use Rattle.pn_serve.specs.Reply.Short.{refusal_data, changed_data};
 
 use crate::Refusal;
@@ -55,7 +55,7 @@ impl ShortReply {
 }
 
 /// The reply to a line that was refused, as `{"error":"bad-shape","member":"key"}`.
-#[tactic(auto, unfolding(crate::specs::Reply::Rows::line_of, crate::specs::Reply::Short::refusal_data, serde_json::proofs::OnLiterals::serde_json_on_literals))]
+#[tactic(auto, unfolding(pn_json::specs::Lines::line_of, crate::specs::Reply::Short::refusal_data, serde_json::proofs::OnLiterals::serde_json_on_literals))]
 pub fn refusal_reply(refusal: &Refusal) -> ShortReply
     ensures { result ≡ line_of (refusal_data refusal.now) }
 {
@@ -79,7 +79,7 @@ pub fn refusal_reply(refusal: &Refusal) -> ShortReply
 }
 
 /// The reply to a delivery, `{"changed":N}`: how many records it changed.
-#[tactic(auto, unfolding(crate::specs::Reply::Rows::line_of, crate::specs::Reply::Short::changed_data, serde_json::proofs::OnLiterals::serde_json_on_literals))]
+#[tactic(auto, unfolding(pn_json::specs::Lines::line_of, crate::specs::Reply::Short::changed_data, serde_json::proofs::OnLiterals::serde_json_on_literals))]
 pub fn changed_reply(count: u64) -> ShortReply
     ensures { result ≡ line_of (changed_data count) }
 {

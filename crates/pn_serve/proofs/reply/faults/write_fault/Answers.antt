@@ -3,9 +3,10 @@ use Rattle.std.proofs.Common.{◌≡◌, [], ◌∷◌, ◌++◌, refl}
 use Rattle.json.specs.Token.{begin_object, end_object}
 use Rattle.pn_region.specs.declared.fault.RoundFault.{RoundFault}
 use Rattle.pn_region.specs.declared.fault.RoundFault.TheVariants.{Gap, TooManyStreams, Memory}
-use Rattle.pn_serve.specs.Reply.Short.{fault_data}
-use Rattle.pn_serve.specs.Reply.Tokens.{fault_tokens, value_tokens}
-use Rattle.pn_serve.proofs.RowTokens.{appends_token, appends_both, appends_as}
+use Rattle.pn_serve.specs.Reply.Faults.{fault_data}
+use Rattle.pn_json.specs.Tokens.{value_tokens}
+use Rattle.pn_serve.specs.Reply.Faults.{fault_tokens}
+use Rattle.pn_json.proofs.TokenLists.{appends_token, appends_both, appends_as}
 use Rattle.pn_serve.proofs.reply.faults.write_fault.Goals as goal
 
 whole : (fault : RoundFault) → begin_object ∷ (fault_tokens fault ++ end_object ∷ []) ≡ value_tokens (fault_data fault)

@@ -5,8 +5,8 @@ use Rattle.serde_json.specs.View.{items_of}
 use Rattle.pn_record.specs.Limits.{ContentValue}
 use Rattle.pn_record.specs.Writing.{version_data, content_data}
 use Rattle.pn_serve.specs.Reply.Rows.{row_data, state_word}
-use Rattle.pn_serve.specs.Reply.Tokens.{value_tokens}
-use Rattle.pn_serve.proofs.RowTokens.{appends_token, appends_both, appends_as}
+use Rattle.pn_json.specs.Tokens.{value_tokens}
+use Rattle.pn_json.proofs.TokenLists.{appends_token, appends_both, appends_as}
 use Rattle.pn_serve.proofs.reply.rows.write_row.Goals as goal
 
 -- a row of these parts
@@ -25,7 +25,7 @@ returns c =
     (appends_both (appends_token c.in_ok-begin_object.ensures)
     (appends_both (appends_token c.in_ok-key.ensures)
     (appends_both c.in_ok-write_contents.ensures
-    (appends_both c.in_ok-write_text.ensures
-    (appends_both c.in_ok-write_text-2.ensures
+    (appends_both c.in_ok-write_text_member.ensures
+    (appends_both c.in_ok-write_text_member-2.ensures
     (appends_both (appends_token c.in_ok-key-2.ensures)
     (appends_both c.in_ok-write_version.ensures (appends_token c.in_ok-end_object.ensures))))))))

@@ -1,7 +1,7 @@
 -- The row is that of the one entry, which is shown.
 use Rattle.std.proofs.Common.{◌≡◌, true, sym, ◌∙◌, append-nil}
-use Rattle.pn_serve.specs.Reply.Rows.{is_shown}
-use Rattle.pn_serve.proofs.RowTokens.{appends_as}
+use Rattle.pn_serve.specs.Reply.Scan.{is_shown}
+use Rattle.pn_json.proofs.TokenLists.{appends_as}
 use Rattle.pn_serve.proofs.reply.scan.write_if_shown.Goals as goal
 
 pub returns-in_ok-write_row : goal.returns-in_ok-write_row

@@ -1,9 +1,11 @@
 -- The row of one entry more is written where it is shown, and at the end all.
 use Rattle.std.proofs.Common.{◌≤◌, length, map, ap, arith}
 use Rattle.std.proofs.lemmas.List.{take_all}
-use Rattle.pn_serve.specs.Reply.Rows.{row_data, shown_rows}
-use Rattle.pn_serve.specs.Reply.Tokens.{values_tokens}
-use Rattle.pn_serve.proofs.RowTokens.{appends_none, appends_both, appends_as, one_more_row}
+use Rattle.pn_serve.specs.Reply.Rows.{row_data}
+use Rattle.pn_serve.specs.Reply.Scan.{shown_rows}
+use Rattle.pn_json.specs.Tokens.{values_tokens}
+use Rattle.pn_json.proofs.TokenLists.{appends_none, appends_both, appends_as}
+use Rattle.pn_serve.proofs.RowLists.{one_more_row}
 use Rattle.pn_serve.proofs.reply.scan.write_rows.Goals as goal
 
 pub loop-place-init : goal.loop-place-init

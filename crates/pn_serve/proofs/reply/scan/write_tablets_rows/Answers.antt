@@ -7,10 +7,11 @@ use Rattle.pn_tablet.specs.Layouts.{Bounds}
 use Rattle.pn_tablet.specs.Tablets.{TabletStateValue}
 use Rattle.pn_region.specs.Regions.{all_cells}
 use Rattle.pn_region.proofs.NewRegion.{tablet_count}
-use Rattle.pn_serve.specs.Reply.Rows.{row_data, shown_rows}
-use Rattle.pn_serve.specs.Reply.Tokens.{values_tokens}
-use Rattle.pn_serve.proofs.RowTokens.{appends_none, appends_token, appends_both, appends_as, whole_array}
-use Rattle.pn_serve.proofs.TabletTokens.{one_more_tablet}
+use Rattle.pn_serve.specs.Reply.Rows.{row_data}
+use Rattle.pn_serve.specs.Reply.Scan.{shown_rows}
+use Rattle.pn_json.specs.Tokens.{values_tokens}
+use Rattle.pn_json.proofs.TokenLists.{appends_none, appends_token, appends_both, appends_as, whole_array}
+use Rattle.pn_serve.proofs.RowLists.{one_more_tablet}
 use Rattle.pn_serve.proofs.reply.scan.write_tablets_rows.Goals as goal
 
 pub loop-tablet-init : goal.loop-tablet-init

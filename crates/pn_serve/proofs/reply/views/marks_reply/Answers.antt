@@ -1,9 +1,0 @@
--- The text is the line of the value that was written.
-use Rattle.std.proofs.lemmas.Result.{IfOk-weaker}
-use Rattle.pn_serve.specs.Reply.Views.{shown_marks}
-use Rattle.pn_serve.proofs.TabletTokens.{whole_line}
-use Rattle.pn_serve.proofs.reply.views.marks_reply.Goals as goal
-
-pub returns : goal.returns
-returns c =
-    IfOk-weaker c.finished.result _ _ (λ text is. whole_line (shown_marks c.args.marks.now) _ _ text.items c.in_ok-writer.ensures c.in_ok-write_marks_shown.ensures is) c.finished.ensures

@@ -1,0 +1,42 @@
+-- How lines go, and what they leave.
+use Rattle.std.specs.Prelude.{ℕ, Bool, true, false, List}
+use Rattle.pn_region.specs.Regions.{RegionValue}
+use Rattle.pn_serve.specs.declared.refusal.Refusal.{Refusal}
+use Rattle.pn_json.specs.Lines.{line_of}
+use Rattle.pn_serve.specs.Reply.Short.{refusal_data}
+
+-- how a line went: as it says; out of memory, so that the lines that it announced, if any, are commands of
+-- their own (`line`), or still belong to it (`call`); or as a round that ran out of memory after the tablets
+-- that have a flag, in their order, took their part
+pub data Outcome : Type 0 where
+  done : Outcome
+  line : Outcome
+  call : Outcome
+  round : List Bool → Outcome
+
+-- what the next line is for: a command of its own. Commands that announce lines will add to this
+pub data Mode : Type 0 where
+  idle : Mode
+
+-- what is served, and what the next line is for
+pub record Machine : Type 0 where
+  pub mode : Mode
+  pub region : RegionValue
+
+-- what a line did: the machine after it, its reply, and whether that is a refusal
+pub record Turn : Type 0 where
+  pub machine : Machine
+  pub reply : List ℕ
+  pub refused : Bool
+
+-- a machine that waits for a command
+abbrev pub serving : RegionValue → Machine
+serving region = record { mode = idle; region = region }
+
+-- the line was refused, and nothing changed
+abbrev pub refusing : Machine → Refusal → Turn
+refusing machine refusal = record { machine = machine; reply = line_of (refusal_data refusal); refused = true }
+
+-- the line was answered, and nothing changed
+abbrev pub showing : Machine → List ℕ → Turn
+showing machine reply = record { machine = machine; reply = reply; refused = false }

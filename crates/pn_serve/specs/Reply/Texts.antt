@@ -1,0 +1,19 @@
+-- The bytes of replies.
+use Rattle.std.specs.Prelude.{ℕ, Bool, true, false, List}
+use Rattle.pn_serve.specs.declared.reply.Reply.{Reply}
+use Rattle.pn_serve.specs.declared.reply.Reply.TheVariants.{Changed, Text, Refused, NotTaken}
+use Rattle.pn_json.specs.Lines.{line_of}
+use Rattle.pn_serve.specs.Reply.Short.{refusal_data, changed_data}
+
+-- the bytes of a reply
+abbrev pub reply_text : Reply → List ℕ
+reply_text (Changed count) = line_of (changed_data count)
+reply_text (Text text) = text.items
+reply_text (Refused refusal) = line_of (refusal_data refusal)
+reply_text (NotTaken text) = text.items
+
+-- whether a reply is a refusal
+abbrev pub is_refusal : Reply → Bool
+is_refusal (Refused refusal) = true
+is_refusal (NotTaken text) = true
+is_refusal reply = false

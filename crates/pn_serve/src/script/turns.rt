@@ -1,0 +1,184 @@
+//! A run from line to line: each is read, takes its turn, and its reply waits or goes out.
+
+ghost use Rattle.std.specs.Prelude.{◌≡◌, ◌+◌, ◌<◌, ◌≤◌, ◌++◌, Ok, IfOk, OnOk, OnErr, IsErrOf};
+ghost use Rattle.pn_line.specs.Sent.{Sends, AppendsFront};
+ghost use Rattle.pn_region.specs.Regions.{new_region};
+ghost use Rattle.pn_serve.specs.Reply.Texts.{reply_text, is_refusal};
+ghost use Rattle.pn_serve.specs.Runs.Ends.{Ends};
+ghost use Rattle.pn_serve.specs.Runs.Served.{Begun, Served, Answered, AnsweredInPart, new_run};
+ghost use Rattle.pn_serve.specs.Runs.Turning.{TurnsTo};
+ghost use Rattle.pn_serve.specs.Script.Written.{one_if};
+
+use crate::script::MOST_LINES;
+use crate::{Counts, Reply, RunFault, Settings, answer, changed_reply, refusal_reply};
+use pn_join::NoMemory;
+use pn_line::{LineBuffer, LineEnd, Outbox, Sink, Source, WriteFault, read_line};
+use pn_region::Region;
+use std::alloc::Global;
+use std::marker::Model;
+
+/// What a run has between two lines.
+#[derive(Drop)]
+pub(crate) struct Run {
+    alloc: Global,
+    region: Region,
+    workers: usize,
+    line: LineBuffer,
+    outbox: Outbox,
+    counts: Counts,
+}
+
+impl Model for Run {
+    ghost use Rattle.std.specs.Prelude.{◌≤◌};
+    ghost use Rattle.pn_serve.specs.declared.settings.TheConstants.{MOST_WORKERS};
+    ghost use Rattle.pn_serve.specs.Machine.Outcomes.{serving};
+    ghost use Rattle.pn_serve.specs.Runs.Served.{RunValue};
+
+    ghost Value = { RunValue };
+
+    ghost use Rattle.pn_serve.specs.Runs.Coding.{run_code};
+
+    ghost coded = { run_code };
+
+    ghost view = { λ run. record { machine = serving run.region; line = run.line; waits = run.outbox; counts = run.counts } };
+
+    ghost invariant = { λ run. (1 ≤ run.workers) × (run.workers ≤ MOST_WORKERS) × (run.counts.refused ≤ run.counts.lines) };
+}
+
+/// What comes after a line.
+#[derive(Clone, Copy, Debug, PartialEq, Eq)]
+pub(crate) enum Next {
+    /// Another line, or the end of the input.
+    Line,
+    /// Nothing: the input is at its end, and all replies went out.
+    End,
+}
+
+impl Run {
+    /// A run that has answered no line.
+    pub(crate) fn new(alloc: Global, settings: Settings) -> Result<Run, NoMemory>
+        ensures { IfOk result (λ run. run ≡ new_run (new_region settings.layout)) }
+    {
+        let Settings { layout, workers } = settings;
+        Ok(Run {
+            alloc,
+            line: LineBuffer::new(alloc)?,
+            outbox: Outbox::new(alloc)?,
+            region: Region::new(alloc, layout)?,
+            workers,
+            counts: Counts {
+                lines: 0,
+                refused: 0,
+            },
+        })
+    }
+
+    /// How many lines were answered, and how many of them refused.
+    pub(crate) fn counts(&self) -> Counts
+        ensures { result ≡ self.now.counts }
+    {
+        self.counts
+    }
+
+    /// Reads a line and answers it. Where no further line is there to be read, all replies go out.
+    pub(crate) fn turn<S: Source, W: Sink>(
+        &mut self,
+        input: &mut S,
+        output: &mut W,
+    ) -> Result<Next, RunFault>
+        requires few { self.old.counts.lines < MOST_LINES }
+        ensures turns { (begun : Begun) → Served begun (S.left input.old) (W.contents output.old) self.old
+            → TurnsTo begun (S.left input.new) (W.contents output.new) self.new result }
+        ensures counted { result ≡ Ok Next.Line → self.new.counts.lines ≡ self.old.counts.lines + 1 }
+        ensures read { IsErrOf result RunFault.Read → S.may_fail }
+        ensures write { IsErrOf result RunFault.Write → W.may_fail }
+    {
+        self.line.start();
+        let Ok(end) = read_line(&mut self.line, input) else {
+            self.outbox.flush(output)?;
+            return Err(RunFault::Read);
+        };
+        match end {
+            LineEnd::Newline { more } => {
+                self.answer_line(output)?;
+                if !more {
+                    self.outbox.flush(output)?;
+                }
+                Ok(Next::Line)
+            }
+            LineEnd::EndOfInput => {
+                if self.line.is_empty() {
+                    self.outbox.flush(output)?;
+                    return Ok(Next::End);
+                }
+                self.answer_line(output)?;
+                self.outbox.flush(output)?;
+                Ok(Next::End)
+            }
+            LineEnd::Endless => {
+                self.outbox.flush(output)?;
+                Err(RunFault::TooManyTurns)
+            }
+        }
+    }
+
+    // Answers the line that was read: its reply waits or goes out, and it is counted.
+    fn answer_line<W: Sink>(&mut self, output: &mut W) -> Result<(), WriteFault>
+        requires few { self.old.counts.lines < MOST_LINES }
+        ensures ok { OnOk result (Answered self.old self.new (W.contents output.old) (W.contents output.new)) }
+        ensures err { OnErr result (AnsweredInPart self.old self.new (W.contents output.old) (W.contents output.new)) }
+        ensures fault { OnErr result W.may_fail }
+    {
+        let line = self.line.bytes();
+        let reply = answer(self.alloc, &mut self.region, self.workers, line);
+        count(&mut self.counts, &reply);
+        push_reply(&reply, &mut self.outbox, output)
+    }
+
+    /// Sends all replies, and looks whether the input is at its end, where no more lines may be answered.
+    pub(crate) fn finish<S: Source, W: Sink>(
+        &mut self,
+        input: &mut S,
+        output: &mut W,
+    ) -> Result<Counts, RunFault>
+        requires all { self.old.counts.lines ≡ MOST_LINES }
+        ensures ends { (begun : Begun) → Served begun (S.left input.old) (W.contents output.old) self.old
+            → Ends begun (S.left input.new) (W.contents output.new) result }
+        ensures read { IsErrOf result RunFault.Read → S.may_fail }
+        ensures write { IsErrOf result RunFault.Write → W.may_fail }
+    {
+        self.outbox.flush(output)?;
+        let Ok(more) = input.has_more() else {
+            return Err(RunFault::Read);
+        };
+        if more {
+            return Err(RunFault::TooManyTurns);
+        }
+        Ok(self.counts)
+    }
+}
+
+fn count(counts: &mut Counts, reply: &Reply)
+    requires few { counts.old.lines < MOST_LINES }
+    requires bounded { counts.old.refused ≤ counts.old.lines }
+    ensures lines { counts.new.lines ≡ counts.old.lines + 1 }
+    ensures refused { counts.new.refused ≡ one_if (is_refusal reply.now) + counts.old.refused }
+{
+    counts.lines += 1;
+    if let Reply::Refused(_) | Reply::NotTaken(_) = reply {
+        counts.refused += 1;
+    }
+}
+
+// The reply waits or goes out.
+fn push_reply<W: Sink>(reply: &Reply, outbox: &mut Outbox, output: &mut W) -> Result<(), WriteFault>
+    ensures ok { OnOk result (Sends (W.contents output.old) (W.contents output.new) outbox.old outbox.new (reply_text reply.now)) }
+    ensures err { OnErr result (AppendsFront (W.contents output.old) (W.contents output.new) (outbox.old ++ reply_text reply.now)) }
+    ensures fault { OnErr result W.may_fail }
+{
+    match reply {
+        Reply::Changed(count) => outbox.push(output, changed_reply(*count).as_bytes()),
+        Reply::Text(text) | Reply::NotTaken(text) => outbox.push(output, text),
+        Reply::Refused(refusal) => outbox.push(output, refusal_reply(refusal).as_bytes()),
+    }
+}
