@@ -1,5 +1,5 @@
 -- Marks: positions of streams by their names, where an absent name counts as 0.
-use Rattle.std.specs.Prelude.{ℕ, ◌≤◌, max, Bool, ◌&&◌, nat_lt, nat_le, List, [], ◌∷◌, Option, unwrap_or}
+use Rattle.std.specs.Prelude.{ℕ, ◌≤◌, ◌^◌, max, Bool, ◌&&◌, nat_lt, nat_le, List, [], ◌∷◌, Option, unwrap_or}
 use Rattle.std.specs.declared.cmp.Ordering.{Ordering}
 use Rattle.std.specs.Ordering.{nat_cmp}
 use Rattle.std.specs.Cmp.Lexicographic.{slice_cmp}
