@@ -74,14 +74,3 @@ pub few_changes : (old more new : Entries) → Joins old more new → length (ch
 few_changes old more new joins =
     subst (λ (list : List Change). length list ≤ length more) (joined_changes old more new joins)
     (few_kept (λ entry. change_by (find bytes_cmp entry.0 old) entry) more)
-
-take_next : {X : Type 0} (es : List X) (i : ℕ) (e : X) → Some e ≡ slice_get es i → take (suc i) es ≡ take i es ++ e ∷ []
-take_next [] i e there = cc
-take_next (f ∷ es) zero e there = cc
-take_next (f ∷ es) (suc i) e there = ap (λ rest. f ∷ rest) (take_next es i e there)
-
--- one more entry
-pub changes_more : (f : List ℕ × CellValue → Option Change) (es : Entries) (i : ℕ) (e : List ℕ × CellValue) (so_far : List Change) (o : Option Change)
-    → Some e ≡ slice_get es i → so_far ≡ filter_map f (take i es) → o ≡ f e → so_far ++ cons_option o [] ≡ filter_map f (take (i + 1) es)
-changes_more f es i e so_far o there is one =
-    (λ j. is j ++ cons_option (one j) []) ∙ sym (filter_map-append f (take i es) (e ∷ [])) ∙ ap (filter_map f) (sym (take_next es i e there)) ∙ ap (λ n. filter_map f (take n es)) (sym (add-one i))

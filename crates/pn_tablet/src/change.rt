@@ -29,10 +29,7 @@ pub fn changes_of(
         change_by (find bytes_cmp entry.0 records.now) entry) cells.now) }
 {
     let mut changes = Vec::new(alloc);
-    for place in 0..cells.len() {
-        let Some((key, cell)) = cells.entry_at(place) else {
-            unreachable!()
-        };
+    for (key, cell) in cells.iter() {
         if let Some(change) = change_of(records.get(key), key, cell)? {
             changes.push(change)?;
         }
