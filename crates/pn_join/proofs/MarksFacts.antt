@@ -8,8 +8,7 @@ use Rattle.std.specs.List.{list_any}
 use Rattle.std.specs.Ordering.{eq_by_cmp}
 use Rattle.std.specs.FinMap.{find, put, is_sorted}
 use Rattle.std.specs.FinMap.Entries.{by_order, find-put, find_tied, is_sorted-put, same_entries}
-use Rattle.pn_join.specs.Marks.{Positions, is_position, are_positions, name_cmp, position_of, Reaches, falls_short, raised}
-use Rattle.pn_join.specs.declared.marks.TheConstants.{LAST_POSITION}
+use Rattle.pn_join.specs.Marks.{Positions, last_position, is_position, are_positions, name_cmp, position_of, Reaches, falls_short, raised}
 use Rattle.pn_join.specs.Tables.{contents_at, optional_joined, key_by_key}
 use Rattle.pn_join.proofs.Places.{not_found_below}
 use Rattle.pn_join.proofs.Puts.{tie}
@@ -70,12 +69,12 @@ is_sorted-raised a [] rising = rising
 is_sorted-raised a (e ∷ es) rising =
     is_so _ (is_sorted-put name_cmp nat_list_cmp_total e.0 (max (position_of a e.0) e.1) (raised a es) (subst T (sym (is_sorted-raised a es rising)) tt))
 
-within_most : (marks : Positions) (name : List ℕ) → IsTrue (are_positions marks) → position_of marks name ≤ LAST_POSITION
+within_most : (marks : Positions) (name : List ℕ) → IsTrue (are_positions marks) → position_of marks name ≤ last_position
 within_most [] name are = zero-le
 within_most (e ∷ es) name are =
     let parts = and_parts (is_position e.1) (are_positions es) are in
-    let here : e.1 ≤ LAST_POSITION = grind (arith, nat_tests) in
-    elim (eq_by_cmp name_cmp name e.0) as (λ b. unwrap_or (cond b (Some e.1) (find name_cmp name es)) 0 ≤ LAST_POSITION) [
+    let here : e.1 ≤ last_position = grind (arith, nat_tests) in
+    elim (eq_by_cmp name_cmp name e.0) as (λ b. unwrap_or (cond b (Some e.1) (find name_cmp name es)) 0 ≤ last_position) [
       | true ↦ here
       | false ↦ within_most es name parts.1
     ]
@@ -95,7 +94,7 @@ pub are_positions-raised : (a b : Positions) → IsTrue (are_positions a) → Is
 are_positions-raised a [] are other = are
 are_positions-raised a (e ∷ es) are others =
     let parts = and_parts (is_position e.1) (are_positions es) others in
-    let most : position_of a e.0 ≤ LAST_POSITION = within_most a e.0 are in
+    let most : position_of a e.0 ≤ last_position = within_most a e.0 are in
     let greater : IsTrue (is_position (max (position_of a e.0) e.1)) = grind (arith, nat_tests) in
     put_position e.0 (max (position_of a e.0) e.1) (raised a es) greater (are_positions-raised a es are parts.1)
 

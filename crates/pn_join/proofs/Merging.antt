@@ -9,7 +9,7 @@ use Rattle.pn_join.specs.Changes.{first_place, items_of, with_entries}
 use Rattle.pn_join.specs.Places.{place_of}
 use Rattle.pn_join.proofs.Each.{each_prefix, each_back, each_by_both}
 use Rattle.pn_join.proofs.Gaps.{IsBelowFirst, IsGap, IsGap-from_place, gap_within, put_in_gap, IsGap-take, gap_before}
-use Rattle.pn_join.proofs.Rising.{Below, Rising, Rising-front}
+use Rattle.pn_join.proofs.Rising.{Below, Rising, Rising-prefix}
 
 module _ {K X : Type 0} (cmp : K → K → Ordering) where
   pub with_entries_push : (added : List (K × X)) (a : K × X) (es : List (K × X)) → with_entries cmp (added ++ a ∷ []) es ≡ with_entries cmp added (put cmp a.0 a.1 es)
@@ -36,7 +36,7 @@ module _ {K X : Type 0} (cmp : K → K → Ordering) where
     last_below k (b ∷ prefix) a h = last_below k prefix a h.1
 
   pub rising_prefix : (prefix : List (Placed (K × X))) (a : Placed (K × X)) → Rising cmp (items_of (prefix ++ a ∷ [])) → Rising cmp (items_of prefix)
-  rising_prefix prefix a h = Rising-front cmp (items_of prefix) (a.item ∷ []) (rw map_push at h)
+  rising_prefix prefix a h = Rising-prefix cmp (items_of prefix) (a.item ∷ []) (rw map_push at h)
 
   pub gaps_prefix : IsTotalOrder cmp → (prefix : List (Placed (K × X))) (a : Placed (K × X)) (es : List (K × X)) → Rising cmp (items_of (prefix ++ a ∷ [])) → AllByRecursion (λ b. IsGap cmp b.item.0 es b.place) (prefix ++ a ∷ []) → AllByRecursion (λ b. IsGap cmp b.item.0 (take a.place es) b.place) prefix
   gaps_prefix o prefix a es rising gaps =

@@ -69,9 +69,9 @@ module _ {K X : Type 0} (cmp : K → K → Ordering) where
   Below-back k [] ys h = h
   Below-back k (x ∷ xs) ys h = Below-back k xs ys h.1
 
-  pub Rising-front : (xs ys : List (K × X)) → Rising (xs ++ ys) → Rising xs
-  Rising-front [] ys h = tt
-  Rising-front (x ∷ xs) ys h = (Below-prefix x.0 xs ys h.0, Rising-front xs ys h.1)
+  pub Rising-prefix : (xs ys : List (K × X)) → Rising (xs ++ ys) → Rising xs
+  Rising-prefix [] ys h = tt
+  Rising-prefix (x ∷ xs) ys h = (Below-prefix x.0 xs ys h.0, Rising-prefix xs ys h.1)
 
   pub Rising-back : (xs ys : List (K × X)) → Rising (xs ++ ys) → Rising ys
   Rising-back [] ys h = h

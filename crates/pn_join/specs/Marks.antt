@@ -1,11 +1,10 @@
 -- Marks: positions of streams by their names, where an absent name counts as 0.
-use Rattle.std.specs.Prelude.{ℕ, ◌≤◌, max, Bool, ◌&&◌, nat_lt, nat_le, List, [], ◌∷◌, Option, unwrap_or}
+use Rattle.std.specs.Prelude.{ℕ, ◌≤◌, ◌^◌, max, Bool, ◌&&◌, nat_lt, nat_le, List, [], ◌∷◌, Option, unwrap_or}
 use Rattle.std.specs.declared.cmp.Ordering.{Ordering}
 use Rattle.std.specs.Ordering.{nat_cmp}
 use Rattle.std.specs.Cmp.Lexicographic.{slice_cmp}
 use Rattle.std.specs.List.{list_all, position}
 use Rattle.std.specs.FinMap.{find, put}
-use Rattle.pn_join.specs.declared.marks.TheConstants.{LAST_POSITION}
 
 -- names and their positions, in byte order of names
 abbrev pub Positions : Type 0
@@ -36,9 +35,13 @@ abbrev pub raised : Positions → Positions → Positions
 raised marks [] = marks
 raised marks (other ∷ others) = put name_cmp other.0 (max (position_of marks other.0) other.1) (raised marks others)
 
+-- the last position that a stream can have
+abbrev pub last_position : ℕ
+last_position = 10 ^ 15
+
 -- a position of a message: 1 to the last that a stream can have
 abbrev pub is_position : ℕ → Bool
-is_position n = nat_le 1 n && nat_le n LAST_POSITION
+is_position n = nat_le 1 n && nat_le n last_position
 
 -- each is the position of a message
 abbrev pub are_positions : Positions → Bool

@@ -1,12 +1,15 @@
 -- Which bytes are a name.
 use Rattle.std.specs.Prelude.{ℕ, Bool, ◌&&◌, ◌||◌, nat_le, ◌==◌, List, length}
 use Rattle.std.specs.List.{list_all}
-use Rattle.pn_join.specs.declared.name.TheConstants.{LONGEST_NAME}
 
 -- `a` to `z`, `0` to `9`, or `-`
 abbrev pub is_name_byte : ℕ → Bool
 is_name_byte b = (nat_le 97 b && nat_le b 122) || (nat_le 48 b && nat_le b 57) || b == 45
 
+-- how many bytes a name may have
+abbrev pub longest_name : ℕ
+longest_name = 32
+
 -- at least one such byte, and at most as many as a name may have
 abbrev pub is_name : List ℕ → Bool
-is_name bytes = nat_le 1 (length bytes) && nat_le (length bytes) LONGEST_NAME && list_all is_name_byte bytes
+is_name bytes = nat_le 1 (length bytes) && nat_le (length bytes) longest_name && list_all is_name_byte bytes

@@ -36,14 +36,13 @@ pub struct BadName;
 
 impl Model for Name {
     ghost use Rattle.std.specs.Prelude.{ℕ, List, take, ◌≡◌, ◌≤◌, IsTrue};
-    ghost use Rattle.pn_join.specs.declared.name.TheConstants.{LONGEST_NAME};
-    ghost use Rattle.pn_join.specs.Naming.{is_name};
+    ghost use Rattle.pn_join.specs.Naming.{is_name, longest_name};
 
     ghost Value = { List ℕ };
 
     ghost view = { λ name. take name.len name.bytes };
 
-    ghost invariant = { λ name. (name.len ≤ LONGEST_NAME) × IsTrue (is_name (take name.len name.bytes)) };
+    ghost invariant = { λ name. (name.len ≤ longest_name) × IsTrue (is_name (take name.len name.bytes)) };
 }
 
 impl Name {

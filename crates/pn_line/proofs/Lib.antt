@@ -4,4 +4,4 @@ pub mod PieceLaws
 pub mod ReadLaws
 pub mod SentLaws
 pub mod TextLaws
-pub mod ToldLaws
+pub mod KnownLaws

@@ -1,25 +1,25 @@
 -- What stays known of a line as it grows.
 use Rattle.std.proofs.Common.{◌≡◌, ℕ, zero, suc, ◌+◌, ◌-◌, ◌<◌, ◌≤◌, min, List, [], ◌∷◌, ◌++◌, length, take, refl, sym, ap, ◌∙◌, arith, append-nil, append_assoc, length-append}
 use Rattle.std.proofs.lemmas.List.{take_min, take_all, take-take, length-take}
-use Rattle.pn_line.specs.Line.{LineSoFar, longer, so_far, kept, most_kept}
+use Rattle.pn_line.specs.Line.{LineBufferValue, longer, so_far, kept, most_kept}
 use Rattle.pn_line.specs.declared.line_buffer.TheConstants.{LONGEST_LINE, MOST_KEPT}
 
 -- two lines that keep the same bytes and as many bytes
-same_line : (f g : List ℕ) (m n : ℕ) → f ≡ g → m ≡ n → (let r : LineSoFar = record { front = f; count = m } in r) ≡ record { front = g; count = n }
+same_line : (f g : List ℕ) (m n : ℕ) → f ≡ g → m ≡ n → (let r : LineBufferValue = record { bytes = f; count = m } in r) ≡ record { bytes = g; count = n }
 same_line f g m n fronts counts = cc
 
 -- a line that takes what it has room for
-pub longer-filled : (line : LineSoFar) (bs new : List ℕ) (m : ℕ) → m ≡ min (length bs) (most_kept - length line.front) → new ≡ line.front ++ take m bs
-    → record { front = new; count = line.count + length bs } ≡ longer line bs
+pub longer-filled : (line : LineBufferValue) (bs new : List ℕ) (m : ℕ) → m ≡ min (length bs) (most_kept - length line.bytes) → new ≡ line.bytes ++ take m bs
+    → record { bytes = new; count = line.count + length bs } ≡ longer line bs
 longer-filled line bs new m least filled =
-    let room = most_kept - length line.front in
+    let room = most_kept - length line.bytes in
     let turned : min (length bs) room ≡ min room (length bs) = omega arith in
     let taken : take m bs ≡ take room bs = ap (λ k. take k bs) (least ∙ turned) ∙ take_min room bs in
-    same_line _ _ _ _ (filled ∙ ap (λ l. line.front ++ l) taken) refl
+    same_line _ _ _ _ (filled ∙ ap (λ l. line.bytes ++ l) taken) refl
 
 -- no byte more
-pub longer-nil : (line : LineSoFar) → longer line [] ≡ line
-longer-nil line = same_line _ _ _ _ (ap (λ l. line.front ++ l) (take_all (most_kept - length line.front) [] (omega arith)) ∙ append-nil line.front) (omega arith)
+pub longer-nil : (line : LineBufferValue) → longer line [] ≡ line
+longer-nil line = same_line _ _ _ _ (ap (λ l. line.bytes ++ l) (take_all (most_kept - length line.bytes) [] (omega arith)) ∙ append-nil line.bytes) (omega arith)
 
 -- the first bytes of two lists, one behind the other
 take-append_split : (n : ℕ) (a b : List ℕ) → take n (a ++ b) ≡ take n a ++ take (n - length a) b
@@ -30,13 +30,13 @@ take-append_split (suc n) (x ∷ a) b =
     ap (λ l. x ∷ l) (take-append_split n a b ∙ ap (λ k. take n a ++ take k b) next)
 
 -- some bytes and then others
-pub longer-append : (line : LineSoFar) (a b : List ℕ) → longer (longer line a) b ≡ longer line (a ++ b)
+pub longer-append : (line : LineBufferValue) (a b : List ℕ) → longer (longer line a) b ≡ longer line (a ++ b)
 longer-append line a b =
-    let room = most_kept - length line.front in
-    let left : most_kept - length (line.front ++ take room a) ≡ room - length a =
-    omega (arith, length-append line.front (take room a), length-take room a) in
+    let room = most_kept - length line.bytes in
+    let left : most_kept - length (line.bytes ++ take room a) ≡ room - length a =
+    omega (arith, length-append line.bytes (take room a), length-take room a) in
     same_line _ _ _ _
-    (append_assoc line.front (take room a) _ ∙ ap (λ k. line.front ++ (take room a ++ take k b)) left ∙ ap (λ l. line.front ++ l) (sym (take-append_split room a b)))
+    (append_assoc line.bytes (take room a) _ ∙ ap (λ k. line.bytes ++ (take room a ++ take k b)) left ∙ ap (λ l. line.bytes ++ l) (sym (take-append_split room a b)))
     (omega (arith, length-append a b))
 
 -- a whole line that goes on

@@ -3,16 +3,16 @@ use Rattle.std.proofs.Common.{◌≢◌, ℕ, Option, List, [], ◌++◌, sym, a
 use Rattle.std.proofs.lemmas.List.Elements.{All-nil, All-append}
 use Rattle.std.specs.Io.KnownBytes.{Consumes}
 use Rattle.std.proofs.KnownBytes.{Consumes-nil, Consumes-trans}
-use Rattle.pn_line.specs.Line.{LineSoFar, longer}
+use Rattle.pn_line.specs.Line.{LineBufferValue, longer}
 use Rattle.pn_line.specs.Reads.{Takes}
 use Rattle.pn_line.proofs.LineLaws.{longer-nil, longer-append}
 
 -- before the first piece nothing is taken
-pub Takes-none : (line : LineSoFar) (a : Option (List ℕ)) → Takes line line a a []
+pub Takes-none : (line : LineBufferValue) (a : Option (List ℕ)) → Takes line line a a []
 Takes-none line a = record { taken = []; unbroken = All-nil (λ b. b ≢ 10); line = sym (longer-nil line); source = Consumes-nil a }
 
 -- some bytes of the line, and then others with what is behind them
-pub Takes-trans : {l m n : LineSoFar} {a b c : Option (List ℕ)} {behind : List ℕ} → Takes l m a b [] → Takes m n b c behind → Takes l n a c behind
+pub Takes-trans : {l m n : LineBufferValue} {a b c : Option (List ℕ)} {behind : List ℕ} → Takes l m a b [] → Takes m n b c behind → Takes l n a c behind
 Takes-trans {l = l} {a = a} {b = b} {c = c} {behind = behind} first second =
     let P : List ℕ → Type 0 = Consumes a c in
     record {

@@ -3,7 +3,7 @@ use Rattle.std.proofs.Common.{◌≡◌, ℕ, ◌-◌, Option, List, [], ◌++�
 use Rattle.std.proofs.lemmas.List.{take_rest}
 use Rattle.std.specs.Io.KnownBytes.{Appends}
 use Rattle.std.proofs.KnownBytes.{Appends-nil, Appends-trans}
-use Rattle.pn_line.specs.Sent.{AppendsFront, Sends}
+use Rattle.pn_line.specs.Sent.{AppendsPrefix, Sends}
 
 -- one more write, of the first n bytes of what was left
 pub goes_on : (a b c : Option (List ℕ)) (all done rest : List ℕ) (n : ℕ) → Appends a b done → done ++ rest ≡ all → Appends b c (take n rest)
@@ -15,8 +15,8 @@ goes_on a b c all done rest n sent whole more = (
 )
 
 -- a prefix of some bytes is a prefix of those and more
-pub AppendsFront-more : {a b : Option (List ℕ)} {bs : List ℕ} (cs : List ℕ) → AppendsFront a b bs → AppendsFront a b (bs ++ cs)
-AppendsFront-more cs prefix = record {
+pub AppendsPrefix-more : {a b : Option (List ℕ)} {bs : List ℕ} (cs : List ℕ) → AppendsPrefix a b bs → AppendsPrefix a b (bs ++ cs)
+AppendsPrefix-more cs prefix = record {
   sent = prefix.sent;
   back = prefix.back ++ cs;
   appends = prefix.appends;
@@ -24,8 +24,8 @@ AppendsFront-more cs prefix = record {
 }
 
 -- some bytes whole, and then a prefix of others
-pub AppendsFront-after : (a b c : Option (List ℕ)) (bs : List ℕ) {cs : List ℕ} → Appends a b bs → AppendsFront b c cs → AppendsFront a c (bs ++ cs)
-AppendsFront-after a b c bs sent prefix = record {
+pub AppendsPrefix-after : (a b c : Option (List ℕ)) (bs : List ℕ) {cs : List ℕ} → Appends a b bs → AppendsPrefix b c cs → AppendsPrefix a c (bs ++ cs)
+AppendsPrefix-after a b c bs sent prefix = record {
   sent = bs ++ prefix.sent;
   back = prefix.back;
   appends = Appends-trans a b c _ _ sent prefix.appends;
@@ -33,8 +33,8 @@ AppendsFront-after a b c bs sent prefix = record {
 }
 
 -- bytes that went out whole are a prefix of themselves
-pub AppendsFront-whole : (a b : Option (List ℕ)) (bs : List ℕ) → Appends a b bs → AppendsFront a b bs
-AppendsFront-whole a b bs sent = record { sent = bs; back = []; appends = sent; whole = append-nil bs }
+pub AppendsPrefix-whole : (a b : Option (List ℕ)) (bs : List ℕ) → Appends a b bs → AppendsPrefix a b bs
+AppendsPrefix-whole a b bs sent = record { sent = bs; back = []; appends = sent; whole = append-nil bs }
 
 -- before the first push nothing went out and nothing waits
 pub Sends-none : (a : Option (List ℕ)) → Sends a a [] [] []
@@ -69,8 +69,8 @@ Sends-flushed {a = a} {b = b} c first sent =
     let P : List ℕ → Type 0 = Appends a c in subst P first.whole (Appends-trans a b c _ _ first.appends sent)
 
 -- where the writer fails after some pushes, a prefix of all the bytes went out
-pub Sends-cut : {a b c : Option (List ℕ)} {waited between bs : List ℕ} (cs : List ℕ) → Sends a b waited between bs → AppendsFront b c (between ++ cs)
-    → AppendsFront a c (waited ++ (bs ++ cs))
+pub Sends-cut : {a b c : Option (List ℕ)} {waited between bs : List ℕ} (cs : List ℕ) → Sends a b waited between bs → AppendsPrefix b c (between ++ cs)
+    → AppendsPrefix a c (waited ++ (bs ++ cs))
 Sends-cut {waited = waited} {between = between} {bs = bs} cs first prefix = record {
   sent = first.sent ++ prefix.sent;
   back = prefix.back;
@@ -80,7 +80,7 @@ Sends-cut {waited = waited} {between = between} {bs = bs} cs first prefix = reco
 }
 
 -- the same where the writer fails at a flush
-pub Sends-cut_flush : {a b c : Option (List ℕ)} {waited between bs : List ℕ} → Sends a b waited between bs → AppendsFront b c between → AppendsFront a c (waited ++ bs)
+pub Sends-cut_flush : {a b c : Option (List ℕ)} {waited between bs : List ℕ} → Sends a b waited between bs → AppendsPrefix b c between → AppendsPrefix a c (waited ++ bs)
 Sends-cut_flush {waited = waited} {bs = bs} first prefix = record {
   sent = first.sent ++ prefix.sent;
   back = prefix.back;

@@ -1,24 +1,27 @@
 -- What is known of a line while it is read: its first bytes and its length.
 use Rattle.std.specs.Prelude.{ℕ, ◌+◌, ◌-◌, List, ◌++◌, length, take}
-use Rattle.pn_line.specs.declared.line_buffer.TheConstants.{MOST_KEPT}
+
+-- how many bytes a line may have without its newline
+abbrev pub longest_line : ℕ
+longest_line = 65536
 
 -- how many bytes of a line are kept: one more than a line may have, so that a longer line shows
 unfoldable pub most_kept : ℕ
-most_kept = MOST_KEPT
+most_kept = longest_line + 1
 
 -- the bytes of a line that are kept
 abbrev pub kept : List ℕ → List ℕ
 kept line = take most_kept line
 
 -- a line so far: its kept bytes, and how many bytes it has
-pub record LineSoFar : Type 0 where
-  pub front : List ℕ
+pub record LineBufferValue : Type 0 where
+  pub bytes : List ℕ
   pub count : ℕ
 
 -- what is known of a line with these bytes
-abbrev pub so_far : List ℕ → LineSoFar
-so_far line = record { front = kept line; count = length line }
+abbrev pub so_far : List ℕ → LineBufferValue
+so_far line = record { bytes = kept line; count = length line }
 
 -- the line goes on with these bytes, of which it keeps as many as there is room for
-abbrev pub longer : LineSoFar → List ℕ → LineSoFar
-longer line bs = record { front = line.front ++ take (most_kept - length line.front) bs; count = line.count + length bs }
+abbrev pub longer : LineBufferValue → List ℕ → LineBufferValue
+longer line bs = record { bytes = line.bytes ++ take (most_kept - length line.bytes) bs; count = line.count + length bs }

@@ -1,9 +1,8 @@
 -- The end of a line that was read.
 use Rattle.std.specs.Prelude.{ℕ, ◌<◌, ◌≤◌, List, [], ◌∷◌, Option, OnSome}
 use Rattle.std.specs.Io.KnownBytes.{IsAtEnd}
-use Rattle.pn_line.specs.Line.{LineSoFar}
+use Rattle.pn_line.specs.Line.{LineBufferValue, longest_line}
 use Rattle.pn_line.specs.Reads.{Takes}
-use Rattle.pn_line.specs.declared.line_buffer.TheConstants.{LONGEST_LINE}
 use Rattle.pn_line.specs.declared.reading.LineEnd.{LineEnd}
 use Rattle.pn_line.specs.declared.reading.LineEnd.TheVariants.{Newline, EndOfInput, Endless}
 use Rattle.pn_line.specs.declared.reading.BoundedEnd.{BoundedEnd}
@@ -16,7 +15,7 @@ newline_behind EndOfInput = []
 newline_behind Endless = []
 
 -- the line was read to its newline, or to the end of the input, and is not too long; or it is, with or without its newline
-abbrev pub ReadsTo : BoundedEnd → LineSoFar → LineSoFar → Option (List ℕ) → Option (List ℕ) → Type 0
-ReadsTo bounded.Newline old new left leaves = Takes old new left leaves (10 ∷ []) × (new.count ≤ LONGEST_LINE)
-ReadsTo bounded.EndOfInput old new left leaves = Takes old new left leaves [] × OnSome left (IsAtEnd leaves) × (new.count ≤ LONGEST_LINE)
-ReadsTo bounded.TooLong old new left leaves = ((behind : List ℕ) × Takes old new left leaves behind) × (LONGEST_LINE < new.count)
+abbrev pub ReadsTo : BoundedEnd → LineBufferValue → LineBufferValue → Option (List ℕ) → Option (List ℕ) → Type 0
+ReadsTo bounded.Newline old new left leaves = Takes old new left leaves (10 ∷ []) × (new.count ≤ longest_line)
+ReadsTo bounded.EndOfInput old new left leaves = Takes old new left leaves [] × OnSome left (IsAtEnd leaves) × (new.count ≤ longest_line)
+ReadsTo bounded.TooLong old new left leaves = ((behind : List ℕ) × Takes old new left leaves behind) × (longest_line < new.count)

@@ -1,7 +1,7 @@
 -- What reading takes of a source for a line, and the newline behind it.
 use Rattle.std.specs.Prelude.{◌≡◌, ◌≢◌, ℕ, List, [], ◌∷◌, ◌++◌, Option, All}
 use Rattle.std.specs.Io.KnownBytes.{Consumes}
-use Rattle.pn_line.specs.Line.{LineSoFar, longer}
+use Rattle.pn_line.specs.Line.{LineBufferValue, longer}
 use Rattle.pn_line.specs.declared.piece.Piece.{Piece}
 use Rattle.pn_line.specs.declared.piece.Piece.TheVariants.{Part, Ended, NoMore}
 
@@ -10,14 +10,14 @@ abbrev pub IsUnbroken : List ℕ → Type 0
 IsUnbroken bs = All (λ b. b ≢ 10) bs
 
 -- of these bytes the line got all but what is behind them, and none of its bytes is a newline
-pub record Splits (old new : LineSoFar) (bs behind : List ℕ) : Type 0 where
+pub record Splits (old new : LineBufferValue) (bs behind : List ℕ) : Type 0 where
   pub taken : List ℕ
   pub unbroken : IsUnbroken taken
   pub line : new ≡ longer old taken
   pub whole : bs ≡ taken ++ behind
 
 -- the source lost such bytes
-pub record Takes (old new : LineSoFar) (left leaves : Option (List ℕ)) (behind : List ℕ) : Type 0 where
+pub record Takes (old new : LineBufferValue) (left leaves : Option (List ℕ)) (behind : List ℕ) : Type 0 where
   pub taken : List ℕ
   pub unbroken : IsUnbroken taken
   pub line : new ≡ longer old taken

@@ -3,7 +3,7 @@ use Rattle.std.specs.Prelude.{◌≡◌, ℕ, List, ◌++◌, Option}
 use Rattle.std.specs.Io.KnownBytes.{Appends}
 
 -- a prefix of these bytes went out, and the writer took no other byte
-pub record AppendsFront (old new : Option (List ℕ)) (bs : List ℕ) : Type 0 where
+pub record AppendsPrefix (old new : Option (List ℕ)) (bs : List ℕ) : Type 0 where
   pub sent : List ℕ
   pub back : List ℕ
   pub appends : Appends old new sent

@@ -1,6 +1,6 @@
 //! A line while it is read: its first bytes, in room that is taken once, and its length.
 ghost use Rattle.std.specs.Prelude.{◌≡◌, ◌+◌, ◌<◌, ◌≤◌, ◌↔◌, [], length, IfOk, IsTrue};
-ghost use Rattle.pn_line.specs.Line.{so_far, longer};
+ghost use Rattle.pn_line.specs.Line.{so_far, longer, longest_line};
 
 use std::alloc::{AllocError, Global};
 use std::marker::Model;
@@ -25,11 +25,11 @@ pub struct LineBuffer {
 impl Model for LineBuffer {
     ghost use Rattle.std.specs.Prelude.{◌≡◌, vec_len, vec_capacity, min, ◌≤◌};
     ghost use Rattle.pn_line.specs.declared.line_buffer.TheConstants.{MOST_KEPT, ENDLESS};
-    ghost use Rattle.pn_line.specs.Line.{LineSoFar};
+    ghost use Rattle.pn_line.specs.Line.{LineBufferValue};
 
-    ghost Value = { LineSoFar };
+    ghost Value = { LineBufferValue };
 
-    ghost view = { λ line. record { front = line.kept.items; count = line.count } };
+    ghost view = { λ line. record { bytes = line.kept.items; count = line.count } };
 
     ghost invariant = { λ line. (vec_len line.kept ≡ min line.count MOST_KEPT)
         × (MOST_KEPT ≤ vec_capacity line.kept) × (line.count ≤ ENDLESS) };
@@ -56,7 +56,7 @@ impl LineBuffer {
 
     /// The first bytes of the line, all of them where it is not too long.
     pub fn bytes(&self) -> &[u8]
-        ensures { result.now ≡ self.now.front }
+        ensures { result.now ≡ self.now.bytes }
     {
         &self.kept
     }
@@ -78,7 +78,7 @@ impl LineBuffer {
 
     /// Whether the line has more bytes than a line may have.
     pub fn is_too_long(&self) -> bool
-        ensures { IsTrue result ↔ (LONGEST_LINE < self.now.count) }
+        ensures { IsTrue result ↔ (longest_line < self.now.count) }
     {
         self.count > LONGEST_LINE
     }

@@ -1,7 +1,7 @@
 //! Bytes that wait to be written together, in room that is taken once.
 ghost use Rattle.std.specs.Prelude.{◌≡◌, ◌+◌, ◌<◌, ◌≤◌, ◌++◌, [], length, IfOk, IsOk, OnOk, OnErr};
 ghost use Rattle.std.specs.Io.KnownBytes.{Appends, Keeps};
-ghost use Rattle.pn_line.specs.Sent.{AppendsFront, Sends};
+ghost use Rattle.pn_line.specs.Sent.{AppendsPrefix, Sends};
 
 use crate::sink::Sink;
 use crate::writing::{WriteFault, write_all_of};
@@ -46,7 +46,7 @@ impl Outbox {
         ensures ok { OnOk result
             (Sends (W.contents writer.old) (W.contents writer.new) self.old self.new bytes.now) }
         ensures err { OnErr result
-            (AppendsFront (W.contents writer.old) (W.contents writer.new) (self.old ++ bytes.now)) }
+            (AppendsPrefix (W.contents writer.old) (W.contents writer.new) (self.old ++ bytes.now)) }
         ensures fault { OnErr result W.may_fail }
         ensures given_up { OnErr result (self.new ≡ []) }
 
@@ -79,7 +79,7 @@ impl Outbox {
     pub fn flush<W: Sink>(&mut self, writer: &mut W) -> Result<(), WriteFault>
         ensures ok { OnOk result (Appends (W.contents writer.old) (W.contents writer.new) self.old) }
         ensures err { OnErr result
-            (AppendsFront (W.contents writer.old) (W.contents writer.new) self.old) }
+            (AppendsPrefix (W.contents writer.old) (W.contents writer.new) self.old) }
         ensures fault { OnErr result W.may_fail }
         ensures empty { self.new ≡ [] }
     {
@@ -91,7 +91,7 @@ impl Outbox {
     fn send<W: Sink>(&mut self, writer: &mut W) -> Result<(), WriteFault>
         ensures ok { OnOk result (Appends (W.contents writer.old) (W.contents writer.new) self.old) }
         ensures err { OnErr result
-            (AppendsFront (W.contents writer.old) (W.contents writer.new) self.old) }
+            (AppendsPrefix (W.contents writer.old) (W.contents writer.new) self.old) }
         ensures fault { OnErr result W.may_fail }
         ensures empty { self.new ≡ [] }
     {

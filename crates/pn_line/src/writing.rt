@@ -1,7 +1,7 @@
 //! A write loop of our own, which says how much of the bytes went out where a write failed.
 ghost use Rattle.std.specs.Prelude.{◌≡◌, length, IsOk, OnOk, OnErr};
 ghost use Rattle.std.specs.Io.KnownBytes.{Appends};
-ghost use Rattle.pn_line.specs.Sent.{AppendsFront};
+ghost use Rattle.pn_line.specs.Sent.{AppendsPrefix};
 
 use crate::sink::Sink;
 use std::error::Error;
@@ -33,7 +33,7 @@ impl Error for WriteFault {}
 pub fn write_all_of<W: Sink>(writer: &mut W, bytes: &[u8]) -> Result<(), WriteFault>
     ensures ok { OnOk result (Appends (W.contents writer.old) (W.contents writer.new) bytes.now) }
     ensures err { OnErr result
-        (AppendsFront (W.contents writer.old) (W.contents writer.new) bytes.now) }
+        (AppendsPrefix (W.contents writer.old) (W.contents writer.new) bytes.now) }
     ensures fault { OnErr result W.may_fail }
     ensures nothing { length bytes.now ≡ 0 → IsOk result }
 {

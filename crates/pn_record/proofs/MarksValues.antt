@@ -15,7 +15,7 @@ use Rattle.pn_join.specs.Naming.{is_name}
 use Rattle.pn_join.specs.Marks.{Positions, name_cmp, is_position, are_positions}
 use Rattle.pn_join.specs.Tables.{contents_at, key_by_key}
 use Rattle.pn_join.proofs.JoinSteps.{not_found_before, contents_at_push}
-use Rattle.pn_join.proofs.Rising.{Rising, Rising-from_sorted, sorted_from_Rising, Rising-front}
+use Rattle.pn_join.proofs.Rising.{Rising, Rising-from_sorted, sorted_from_Rising, Rising-prefix}
 use Rattle.pn_join.proofs.TableFacts.{same_tables}
 use Rattle.serde_json.specs.Data.{Data, number, object, unsigned, Members, no_members, member}
 use Rattle.serde_json.specs.Find.{as_object}
@@ -106,6 +106,6 @@ pub mark_pushed : (old : Positions) (mark : List ℕ × ℕ) (rest new : Positio
     → contents_at name_cmp (λ position. position) new ≡ key_by_key max (contents_at name_cmp (λ position. position) old) (contents_at name_cmp (λ position. position) (mark ∷ [])) → new ≡ old ++ mark ∷ []
 mark_pushed old mark rest new rising risen is =
     let rises : Rising name_cmp (old ++ mark ∷ rest) = Rising-from_sorted name_cmp _ rising in
-    let front : Rising name_cmp (old ++ mark ∷ []) = Rising-front name_cmp (old ++ mark ∷ []) rest (subst (Rising name_cmp) (sym (append_assoc old (mark ∷ []) rest)) rises) in
+    let front : Rising name_cmp (old ++ mark ∷ []) = Rising-prefix name_cmp (old ++ mark ∷ []) rest (subst (Rising name_cmp) (sym (append_assoc old (mark ∷ []) rest)) rises) in
     same_tables name_cmp (λ position. position) nat_list_cmp_total (λ x y tied. exact_bytes x y tied) (λ x y same. same) new (old ++ mark ∷ []) risen (sorted_from_Rising name_cmp _ front)
     (is ∙ sym (contents_at_push name_cmp nat_list_cmp_total (λ position. position) max old mark (not_found_before name_cmp nat_list_cmp_total old mark rest rises)))

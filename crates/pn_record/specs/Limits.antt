@@ -4,6 +4,7 @@ use Rattle.std.specs.List.{list_all}
 use Rattle.std.specs.FinMap.{is_sorted}
 use Rattle.std.specs.Ordering.{nat_cmp}
 use Rattle.std.specs.Cmp.Lexicographic.{slice_cmp}
+use Rattle.pn_line.specs.Line as line
 use Rattle.pn_join.specs.Naming.{is_name}
 
 -- the greatest generation and the greatest number of a version, and the last position of a stream
@@ -12,7 +13,7 @@ greatest = 10 ^ 15
 
 -- how many bytes a line, a key, a field's name and a field's text have at most
 abbrev pub longest_line : ℕ
-longest_line = 65536
+longest_line = line.longest_line
 
 abbrev pub longest_key : ℕ
 longest_key = 256

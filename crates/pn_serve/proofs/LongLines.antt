@@ -4,7 +4,7 @@ use Rattle.std.specs.Prelude.{Err}
 use Rattle.std.proofs.lemmas.Bool.{cases_lt}
 use Rattle.std.specs.Option.{ok_or}
 use Rattle.std.proofs.lemmas.Bool.Decides.{nat_tests}
-use Rattle.pn_line.specs.Line.{LineSoFar, so_far, kept}
+use Rattle.pn_line.specs.Line.{LineBufferValue, so_far, kept}
 use Rattle.pn_line.proofs.LineLaws.{kept-short, length-kept_long}
 use Rattle.pn_json.specs.Answers.{◌>>=◌, fault_as}
 use Rattle.pn_record.specs.Reading.{value_at, reading}
@@ -34,6 +34,6 @@ turn-kept machine outcome line = elim (cases_lt 65536 (length line)) [
   | inr short ↦ ap (turn machine outcome) (kept-short line short)
 ]
 
-pub answers_kept : (old new : Machine) (line : LineSoFar) (taken : List ℕ) (reply : Reply) → line ≡ so_far taken → Answers old line.front new reply → Answers old taken new reply
+pub answers_kept : (old new : Machine) (line : LineBufferValue) (taken : List ℕ) (reply : Reply) → line ≡ so_far taken → Answers old line.bytes new reply → Answers old taken new reply
 answers_kept old new line taken reply is answers =
-    subst (λ (turns : Outcome → Turn). Turned turns new reply) (λ i outcome. (ap (λ (l : LineSoFar). turn old outcome l.front) is ∙ turn-kept old outcome taken) i) answers
+    subst (λ (turns : Outcome → Turn). Turned turns new reply) (λ i outcome. (ap (λ (l : LineBufferValue). turn old outcome l.bytes) is ∙ turn-kept old outcome taken) i) answers

@@ -3,7 +3,7 @@ use Rattle.std.proofs.Common.{◌≡◌, ℕ, ◌+◌, ◌<◌, ◌≤◌, ◌�
 use Rattle.std.specs.Io.KnownBytes.{Appends, Consumes, Keeps, IsAtEnd}
 use Rattle.std.proofs.lemmas.List.{length_push}
 use Rattle.std.proofs.lemmas.List.Elements.{All-nil, All-cons, All-append}
-use Rattle.pn_line.specs.Line.{LineSoFar, so_far}
+use Rattle.pn_line.specs.Line.{LineBufferValue, so_far}
 use Rattle.pn_line.specs.LinesRead.{LinesRead}
 use Rattle.pn_line.specs.Reads.{Takes}
 use Rattle.pn_line.specs.Text.{lines_of, last_line}
@@ -49,9 +49,9 @@ refusals_from-push machine (t ∷ texts) (o ∷ outcomes) text outcome same =
     let rest = refusals_from-push (turn machine o t).machine texts outcomes text outcome (omega arith) in omega (arith, rest)
 
 -- one more short line
-pub are_short : (lines : List (List ℕ)) (line : LineSoFar) (taken : List ℕ) → All IsShort lines → line ≡ so_far taken → line.count < 1000000000 → All IsShort (lines ++ taken ∷ [])
+pub are_short : (lines : List (List ℕ)) (line : LineBufferValue) (taken : List ℕ) → All IsShort lines → line ≡ so_far taken → line.count < 1000000000 → All IsShort (lines ++ taken ∷ [])
 are_short lines line taken short is ends =
-    let below : length taken < 1000000000 = omega (arith, ap (λ (l : LineSoFar). l.count) is, ends) in
+    let below : length taken < 1000000000 = omega (arith, ap (λ (l : LineBufferValue). l.count) is, ends) in
     All-append IsShort lines (taken ∷ []) short (All-cons IsShort taken [] below (All-nil IsShort))
 
 no_line : (taken : List ℕ) → length taken ≡ 0 → last_line taken ≡ []
@@ -106,7 +106,7 @@ Begins region (Some text) written = record {
 
 module _ (begun : Begun) where
   -- one more line was answered
-  pub AllAnswered-line : (lines : List (List ℕ)) (b c : Option (List ℕ)) (run new : RunValue) (line : LineSoFar) (text : List ℕ) → AllAnswered begun lines b run → line ≡ so_far text
+  pub AllAnswered-line : (lines : List (List ℕ)) (b c : Option (List ℕ)) (run new : RunValue) (line : LineBufferValue) (text : List ℕ) → AllAnswered begun lines b run → line ≡ so_far text
       → Answered (record run { line = line }) new b c → AllAnswered begun (lines ++ text ∷ []) c new
   AllAnswered-line lines b c run new line text is here answered =
       let from = serving begun.region in
@@ -152,7 +152,7 @@ module _ (begun : Begun) where
       }
 
   -- a line was read and answered
-  pub Goes_on : (script : List ℕ) (left leaves b c : Option (List ℕ)) (run new : RunValue) (line : LineSoFar) → Between begun script left b run
+  pub Goes_on : (script : List ℕ) (left leaves b c : Option (List ℕ)) (run new : RunValue) (line : LineBufferValue) → Between begun script left b run
       → Takes (so_far []) line left leaves (10 ∷ []) → line.count < 1000000000 → Answered (record run { line = line }) new b c → Between begun script leaves c new
   Goes_on script left leaves b c run new line between takes ends answered =
       let (taken, is, read) = LinesRead-line between.read takes in record {
@@ -175,21 +175,21 @@ module _ (begun : Begun) where
   }
 
   -- the input ended behind a newline
-  pub Ends_after : (script : List ℕ) (left leaves b c : Option (List ℕ)) (run : RunValue) (line : LineSoFar) → Between begun script left b run
+  pub Ends_after : (script : List ℕ) (left leaves b c : Option (List ℕ)) (run : RunValue) (line : LineBufferValue) → Between begun script left b run
       → Takes (so_far []) line left leaves [] → OnSome left (IsAtEnd leaves) → line.count ≡ 0 → run.counts.lines < 1000000 → Appends b c run.waits → Ended begun script leaves c run.counts
   Ends_after script left leaves b c run line between takes end none few sent =
       let (taken, is, all) = LinesRead-end leaves between.read takes end in
-      let empty : length taken ≡ 0 = ap (λ (l : LineSoFar). l.count) (sym is) ∙ none in
+      let empty : length taken ≡ 0 = ap (λ (l : LineBufferValue). l.count) (sym is) ∙ none in
       let whole : lines_of script ≡ between.lines = all ∙ ap (λ (l : List (List ℕ)). between.lines ++ l) (no_line taken empty) ∙ append-nil between.lines in
       all_ended script between.lines leaves b c run whole between.short (omega (arith, few, between.answered.lines_are)) (nothing_left left leaves _ _ between.read.left_is takes.source end) between.answered sent
 
   -- the input ended in a last line
-  pub Ends_in : (script : List ℕ) (left leaves b c d : Option (List ℕ)) (run new : RunValue) (line : LineSoFar) → Between begun script left b run
+  pub Ends_in : (script : List ℕ) (left leaves b c d : Option (List ℕ)) (run new : RunValue) (line : LineBufferValue) → Between begun script left b run
       → Takes (so_far []) line left leaves [] → OnSome left (IsAtEnd leaves) → line.count ≢ 0 → line.count < 1000000000 → run.counts.lines < 1000000
       → Answered (record run { line = line }) new b c → Appends c d new.waits → Ended begun script leaves d new.counts
   Ends_in script left leaves b c d run new line between takes end some ends few answered sent =
       let (taken, is, all) = LinesRead-end leaves between.read takes end in
-      let full : length taken ≢ 0 = λ none. some (ap (λ (l : LineSoFar). l.count) is ∙ none) in
+      let full : length taken ≢ 0 = λ none. some (ap (λ (l : LineBufferValue). l.count) is ∙ none) in
       let whole : lines_of script ≡ between.lines ++ taken ∷ [] = all ∙ ap (λ (l : List (List ℕ)). between.lines ++ l) (one_line taken full) in
       all_ended script (between.lines ++ taken ∷ []) leaves c d new whole (are_short between.lines line taken between.short is ends)
       (omega (arith, few, between.answered.lines_are, length_push between.lines taken)) (nothing_left left leaves _ _ between.read.left_is takes.source end)

@@ -6,13 +6,13 @@ use Rattle.std.specs.Io.KnownBytes.{Appends, IsAtEnd, Keeps}
 use Rattle.std.proofs.lemmas.Bool.{cases_eq}
 use Rattle.std.proofs.lemmas.List.{length_push}
 use Rattle.std.proofs.lemmas.List.Elements.{All-nil}
-use Rattle.pn_line.specs.Line.{LineSoFar, so_far}
+use Rattle.pn_line.specs.Line.{LineBufferValue, so_far}
 use Rattle.pn_line.specs.LinesRead.{LinesRead, PartRead}
 use Rattle.pn_line.specs.Reads.{Takes, IsUnbroken}
-use Rattle.pn_line.specs.Sent.{AppendsFront}
+use Rattle.pn_line.specs.Sent.{AppendsPrefix}
 use Rattle.pn_line.specs.Text.{lines_of, onto_first}
 use Rattle.pn_line.proofs.LinesReadLaws.{LinesRead-line, LinesRead-end, LinesRead-part}
-use Rattle.pn_line.proofs.SentLaws.{Sends-flushed, Sends-cut, Sends-cut_flush, AppendsFront-more}
+use Rattle.pn_line.proofs.SentLaws.{Sends-flushed, Sends-cut, Sends-cut_flush, AppendsPrefix-more}
 use Rattle.pn_line.proofs.TextLaws.{lines_of-line, lines_of-byte, lines_of-text, lines_of-begun}
 use Rattle.pn_serve.specs.Machine.Outcomes.{Outcome, Machine, serving}
 use Rattle.pn_serve.specs.Machine.Turns.{turn, Answers}
@@ -80,20 +80,20 @@ module _ (begun : Begun) where
   -- a prefix of the replies to the first lines is one of the replies to all
   cut : (script : List ℕ) (leaves : Option (List ℕ)) (lines : List (List ℕ)) (part : List ℕ) → PartRead script leaves lines part
       → (answered more : List (List ℕ)) (outcomes : List Outcome) (written : Option (List ℕ)) → lines_of script ≡ answered ++ more → length outcomes ≡ length answered
-      → AppendsFront begun.written written (replies_from (serving begun.region) answered outcomes) → Cut begun script leaves written
+      → AppendsPrefix begun.written written (replies_from (serving begun.region) answered outcomes) → Cut begun script leaves written
   cut script leaves lines part read answered more outcomes written all same sent = record {
     lines = lines;
     part = part;
     read = read;
     outcomes = outcomes;
-    prefix = subst (λ (r : List ℕ). AppendsFront begun.written written r)
+    prefix = subst (λ (r : List ℕ). AppendsPrefix begun.written written r)
         (sym (replies_from-more (serving begun.region) answered outcomes more same) ∙ ap (λ (l : List (List ℕ)). replies_from (serving begun.region) l outcomes) (sym all))
-        (AppendsFront-more (replies_from (machine_after (serving begun.region) answered outcomes) more []) sent);
+        (AppendsPrefix-more (replies_from (machine_after (serving begun.region) answered outcomes) more []) sent);
   }
 
   -- the writer failed at the reply to a line
   cut_line : (script : List ℕ) (leaves : Option (List ℕ)) (read_lines : List (List ℕ)) (part : List ℕ) → PartRead script leaves read_lines part
-      → (lines : List (List ℕ)) (taken : List ℕ) (more : List (List ℕ)) (b c : Option (List ℕ)) (run new : RunValue) (line : LineSoFar)
+      → (lines : List (List ℕ)) (taken : List ℕ) (more : List (List ℕ)) (b c : Option (List ℕ)) (run new : RunValue) (line : LineBufferValue)
       → lines_of script ≡ lines ++ taken ∷ more → AllAnswered begun lines b run → line ≡ so_far taken → AnsweredInPart (record run { line = line }) new b c → Cut begun script leaves c
   cut_line script leaves read_lines part read lines taken more b c run new line all is at answered =
       let from = serving begun.region in
@@ -105,24 +105,24 @@ module _ (begun : Begun) where
       ∙ ap (λ (r : List ℕ). replies_from from lines is.outcomes ++ r) turned.replied in
       cut script leaves read_lines part read (lines ++ taken ∷ []) more outcomes c (all ∙ sym (append_assoc lines (taken ∷ []) more))
       (omega (arith, is.paired, length_push is.outcomes turned.outcome, length_push lines taken))
-      (subst (λ (r : List ℕ). AppendsFront begun.written c r) (sym said) (Sends-cut (reply_text answered.reply) is.sends answered.prefix))
+      (subst (λ (r : List ℕ). AppendsPrefix begun.written c r) (sym said) (Sends-cut (reply_text answered.reply) is.sends answered.prefix))
 
   -- the writer failed between two lines, where what waited was to go out
-  pub Cut_between : (script : List ℕ) (left b c : Option (List ℕ)) (run : RunValue) → Between begun script left b run → AppendsFront b c run.waits → Cut begun script left c
+  pub Cut_between : (script : List ℕ) (left b c : Option (List ℕ)) (run : RunValue) → Between begun script left b run → AppendsPrefix b c run.waits → Cut begun script left c
   Cut_between script left b c run between sent =
       cut script left between.lines [] (no_part between.read) between.lines (lines_of between.read.rest) between.answered.outcomes c (lines_left between.read) between.answered.paired
       (Sends-cut_flush between.answered.sends sent)
 
   -- the same behind a part of a line
-  pub Cut_part : (script : List ℕ) (left leaves b c : Option (List ℕ)) (run : RunValue) (line : LineSoFar) → Between begun script left b run
-      → Takes (so_far []) line left leaves [] → AppendsFront b c run.waits → Cut begun script leaves c
+  pub Cut_part : (script : List ℕ) (left leaves b c : Option (List ℕ)) (run : RunValue) (line : LineBufferValue) → Between begun script left b run
+      → Takes (so_far []) line left leaves [] → AppendsPrefix b c run.waits → Cut begun script leaves c
   Cut_part script left leaves b c run line between takes sent =
       let (part, is, read) = LinesRead-part between.read takes in
       cut script leaves between.lines part read between.lines (lines_of between.read.rest) between.answered.outcomes c (lines_left between.read) between.answered.paired
       (Sends-cut_flush between.answered.sends sent)
 
   -- the writer failed at the reply to a line with its newline
-  pub Cut_line : (script : List ℕ) (left leaves b c : Option (List ℕ)) (run new : RunValue) (line : LineSoFar) → Between begun script left b run
+  pub Cut_line : (script : List ℕ) (left leaves b c : Option (List ℕ)) (run new : RunValue) (line : LineBufferValue) → Between begun script left b run
       → Takes (so_far []) line left leaves (10 ∷ []) → AnsweredInPart (record run { line = line }) new b c → Cut begun script leaves c
   Cut_line script left leaves b c run new line between takes answered =
       let (taken, is, read) = LinesRead-line between.read takes in
@@ -130,27 +130,27 @@ module _ (begun : Begun) where
       (lines_left read ∙ append_assoc between.lines (taken ∷ []) (lines_of read.rest)) between.answered is answered
 
   -- the writer failed at the reply to the last line
-  pub Cut_last : (script : List ℕ) (left leaves b c : Option (List ℕ)) (run new : RunValue) (line : LineSoFar) → Between begun script left b run
+  pub Cut_last : (script : List ℕ) (left leaves b c : Option (List ℕ)) (run new : RunValue) (line : LineBufferValue) → Between begun script left b run
       → Takes (so_far []) line left leaves [] → OnSome left (IsAtEnd leaves) → line.count ≢ 0 → AnsweredInPart (record run { line = line }) new b c → Cut begun script leaves c
   Cut_last script left leaves b c run new line between takes end some answered =
       let (part, same, read) = LinesRead-part between.read takes in
       let (taken, is, all) = LinesRead-end leaves between.read takes end in
-      let full : length taken ≢ 0 = λ none. some (ap (λ (l : LineSoFar). l.count) is ∙ none) in
+      let full : length taken ≢ 0 = λ none. some (ap (λ (l : LineBufferValue). l.count) is ∙ none) in
       cut_line script leaves between.lines part read between.lines taken [] b c run new line (all ∙ ap (λ (l : List (List ℕ)). between.lines ++ l) (one_line taken full)) between.answered is answered
 
   -- the writer failed behind the reply to the last line
-  pub Cut_after : (script : List ℕ) (left leaves b c d : Option (List ℕ)) (run new : RunValue) (line : LineSoFar) → Between begun script left b run
-      → Takes (so_far []) line left leaves [] → OnSome left (IsAtEnd leaves) → line.count ≢ 0 → Answered (record run { line = line }) new b c → AppendsFront c d new.waits → Cut begun script leaves d
+  pub Cut_after : (script : List ℕ) (left leaves b c d : Option (List ℕ)) (run new : RunValue) (line : LineBufferValue) → Between begun script left b run
+      → Takes (so_far []) line left leaves [] → OnSome left (IsAtEnd leaves) → line.count ≢ 0 → Answered (record run { line = line }) new b c → AppendsPrefix c d new.waits → Cut begun script leaves d
   Cut_after script left leaves b c d run new line between takes end some answered sent =
       let (part, same, read) = LinesRead-part between.read takes in
       let (taken, is, all) = LinesRead-end leaves between.read takes end in
-      let full : length taken ≢ 0 = λ none. some (ap (λ (l : LineSoFar). l.count) is ∙ none) in
+      let full : length taken ≢ 0 = λ none. some (ap (λ (l : LineBufferValue). l.count) is ∙ none) in
       let whole : lines_of script ≡ (between.lines ++ taken ∷ []) ++ [] = all ∙ ap (λ (l : List (List ℕ)). between.lines ++ l) (one_line taken full) ∙ sym (append-nil (between.lines ++ taken ∷ [])) in
       let answers = AllAnswered-line begun between.lines b c run new line taken between.answered is answered in
       cut script leaves between.lines part read (between.lines ++ taken ∷ []) [] answers.outcomes d whole answers.paired (Sends-cut_flush answers.sends sent)
 
   -- a read failed in a line
-  pub Broken_in : (script : List ℕ) (left leaves b c : Option (List ℕ)) (run : RunValue) (line : LineSoFar) → Between begun script left b run
+  pub Broken_in : (script : List ℕ) (left leaves b c : Option (List ℕ)) (run : RunValue) (line : LineBufferValue) → Between begun script left b run
       → Takes (so_far []) line left leaves [] → Appends b c run.waits → Broken begun script leaves c
   Broken_in script left leaves b c run line between takes sent =
       let (part, is, read) = LinesRead-part between.read takes in
@@ -190,11 +190,11 @@ module _ (begun : Begun) where
       exceeded script leaves b c run between.lines [] between.answered (no_part (still leaves between.read kept)) (inl (count, refl)) within (not_all script between.lines line more all within) sent
 
   -- a line has no end
-  pub Exceeded_bytes : (script : List ℕ) (left leaves b c : Option (List ℕ)) (run : RunValue) (line : LineSoFar) → Between begun script left b run
+  pub Exceeded_bytes : (script : List ℕ) (left leaves b c : Option (List ℕ)) (run : RunValue) (line : LineBufferValue) → Between begun script left b run
       → Takes (so_far []) line left leaves [] → line.count ≡ 1000000000 → run.counts.lines < 1000000 → Appends b c run.waits → Exceeded begun script leaves c
   Exceeded_bytes script left leaves b c run line between takes endless few sent =
       let (part, is, read) = LinesRead-part between.read takes in
-      let long : length part ≡ 1000000000 = sym (ap (λ (l : LineSoFar). l.count) is) ∙ endless in
+      let long : length part ≡ 1000000000 = sym (ap (λ (l : LineBufferValue). l.count) is) ∙ endless in
       let (first, more, all, longer) = begun_line part read.rest read.part_unbroken long in
       let lines_are : lines_of script ≡ between.lines ++ first ∷ more = ap lines_of read.text_is ∙ lines_of-text between.lines (part ++ read.rest) between.read.unbroken ∙ ap (λ (l : List (List ℕ)). between.lines ++ l) all in
       let within = within-endless script between.lines first more lines_are between.short (omega (arith, few, between.answered.lines_are)) longer in

@@ -1,6 +1,7 @@
 //! What one line does: the region after it, and its reply.
 
 ghost use Rattle.std.specs.Prelude.{◌≡◌, ◌≤◌, MatchResult};
+ghost use Rattle.pn_apply.specs.Limits.{most_workers};
 ghost use Rattle.pn_serve.specs.declared.reply.Reply.TheVariants.{Text, Refused};
 ghost use Rattle.pn_serve.specs.declared.refusal.Refusal.TheVariants.{Memory as no_memory};
 ghost use Rattle.pn_serve.specs.Command.Meaning.{command_value, deliver as asking};
@@ -10,7 +11,6 @@ ghost use Rattle.pn_serve.specs.Machine.Turns.{Answers, Obeys};
 use crate::reply::marks::marks_reply;
 use crate::reply::record::read_reply;
 use crate::reply::tablets::tablets_reply;
-use crate::settings::MOST_WORKERS;
 use crate::{Command, Refusal, Reply, command_of, fault_reply, scan_reply};
 use pn_apply::Open;
 use pn_join::NoMemory;
@@ -21,7 +21,7 @@ use std::alloc::Global;
 /// Answers one line and does what it asks for, with 1 to 16 workers. A refusal leaves the region as it was;
 /// but after a round that ran out of memory, each tablet is as it was or has taken its part.
 pub fn answer(alloc: Global, region: &mut Region, workers: usize, line: &[u8]) -> Reply
-    requires workers { (1 ≤ workers) × (workers ≤ MOST_WORKERS) }
+    requires workers { (1 ≤ workers) × (workers ≤ most_workers) }
     ensures { Answers (serving region.old) line.now (serving region.new) result }
 {
     match command_of(alloc, line) {
@@ -31,7 +31,7 @@ pub fn answer(alloc: Global, region: &mut Region, workers: usize, line: &[u8]) -
 }
 
 fn obey(alloc: Global, region: &mut Region, workers: usize, command: Command) -> Reply
-    requires workers { (1 ≤ workers) × (workers ≤ MOST_WORKERS) }
+    requires workers { (1 ≤ workers) × (workers ≤ most_workers) }
     ensures { Obeys (serving region.old) (command_value command) (serving region.new) result }
 {
     match command {
@@ -45,7 +45,7 @@ fn obey(alloc: Global, region: &mut Region, workers: usize, command: Command) ->
 
 // One round of the deliveries.
 fn deliver(alloc: Global, region: &mut Region, workers: usize, deliveries: Vec<Delivery>) -> Reply
-    requires workers { (1 ≤ workers) × (workers ≤ MOST_WORKERS) }
+    requires workers { (1 ≤ workers) × (workers ≤ most_workers) }
     ensures { Obeys (serving region.old) (asking deliveries.items) (serving region.new) result }
 {
     match region.round(deliveries, workers, &Open) {

@@ -2,13 +2,13 @@
 use Rattle.std.proofs.Common.{◌≡◌, ◌≢◌, ℕ, ◌≤◌, ◌^◌, List, [], ◌∷◌, ◌++◌, length, ◌==◌, Bool, true, false, cond, Option, None, Some, IfSome, Result, Ok, Err, IfOk, IfErr, nat_le, refl, sym, ap, ◌∙◌, subst, arith, append_assoc}
 use Rattle.std.proofs.lemmas.Bool.{and_parts, eqb-true, eq-eqb, true≢false}
 use Rattle.std.proofs.lemmas.List.Elements.{All-nil, All-append}
-use Rattle.pn_line.specs.Line.{LineSoFar, longer, so_far}
+use Rattle.pn_line.specs.Line.{LineBufferValue, longer, so_far}
 use Rattle.pn_line.specs.LineEnd.{ReadsTo}
 use Rattle.pn_line.specs.Reads.{IsUnbroken, Takes}
 use Rattle.pn_line.specs.declared.reading.BoundedEnd.{BoundedEnd}
 use Rattle.pn_line.specs.declared.reading.BoundedEnd.TheVariants.{Newline, EndOfInput, TooLong}
 use Rattle.pn_line.proofs.LineLaws.{kept-short, kept-nil, so_far-append}
-use Rattle.pn_line.proofs.ToldLaws.{ReadsPart-from_takes, text_of-read_end}
+use Rattle.pn_line.proofs.KnownLaws.{ReadsPart-from_takes, text_of-read_end}
 use Rattle.pn_record.specs.declared.image.Image.{Image}
 use Rattle.pn_stream.specs.MessageLines.{IsMessageLine}
 use Rattle.pn_stream.specs.Streams.{FirstLine, NoLine}
@@ -23,62 +23,62 @@ use Rattle.pn_stream.specs.declared.fault.StreamFault.{StreamFault}
 use Rattle.pn_stream.specs.declared.fault.StreamFault.TheVariants.{Read, LineTooLong, BadMessage, OutOfStep, Memory, Failed}
 
 -- a line that holds a part, by its bytes
-held : (line new : LineSoFar) (left leaves : Option (List ℕ)) (behind : List ℕ) → IsPart line → Takes line new left leaves behind → Takes (so_far line.front) new left leaves behind
-held line new left leaves behind is takes = subst (λ (l : LineSoFar). Takes l new left leaves behind) is.line_is takes
+held : (line new : LineBufferValue) (left leaves : Option (List ℕ)) (behind : List ℕ) → IsPart line → Takes line new left leaves behind → Takes (so_far line.bytes) new left leaves behind
+held line new left leaves behind is takes = subst (λ (l : LineBufferValue). Takes l new left leaves behind) is.line_is takes
 
 -- a line that is not too long is kept whole
-whole : (new : LineSoFar) (bytes : List ℕ) → new ≡ so_far bytes → new.count ≤ 65536 → (new.front ≡ bytes) × (length bytes ≤ 65536)
+whole : (new : LineBufferValue) (bytes : List ℕ) → new ≡ so_far bytes → new.count ≤ 65536 → (new.bytes ≡ bytes) × (length bytes ≤ 65536)
 whole new bytes is short =
-    let count : new.count ≡ length bytes = ap (λ (l : LineSoFar). l.count) is in
+    let count : new.count ≡ length bytes = ap (λ (l : LineBufferValue). l.count) is in
     let fits : length bytes ≤ 65536 = omega (arith, count, short) in
-    (ap (λ (l : LineSoFar). l.front) is ∙ kept-short bytes fits, fits)
+    (ap (λ (l : LineBufferValue). l.bytes) is ∙ kept-short bytes fits, fits)
 
 -- a line with these bytes, none of them a newline, is a part of one
-part_from : (new : LineSoFar) (bytes : List ℕ) → new ≡ so_far bytes → new.count ≤ 65536 → IsUnbroken bytes → IsPart new
+part_from : (new : LineBufferValue) (bytes : List ℕ) → new ≡ so_far bytes → new.count ≤ 65536 → IsUnbroken bytes → IsPart new
 part_from new bytes is short unbroken =
     let (front, fits) = whole new bytes is short in
     record { line_is = is ∙ ap so_far (sym front); part = rw front (record { unbroken = unbroken; short = fits }) }
 
 -- what a part grows to is a part
-pub IsPart-more : (line new : LineSoFar) (left leaves : Option (List ℕ)) → IsPart line → Takes line new left leaves [] → new.count ≤ 65536 → IsPart new
+pub IsPart-more : (line new : LineBufferValue) (left leaves : Option (List ℕ)) → IsPart line → Takes line new left leaves [] → new.count ≤ 65536 → IsPart new
 IsPart-more line new left leaves is takes short =
-    let grown : new ≡ so_far (line.front ++ takes.taken) = takes.line ∙ ap (λ (l : LineSoFar). longer l takes.taken) is.line_is ∙ so_far-append line.front takes.taken in
-    part_from new (line.front ++ takes.taken) grown short (All-append (λ b. b ≢ 10) line.front takes.taken is.part.unbroken takes.unbroken)
+    let grown : new ≡ so_far (line.bytes ++ takes.taken) = takes.line ∙ ap (λ (l : LineBufferValue). longer l takes.taken) is.line_is ∙ so_far-append line.bytes takes.taken in
+    part_from new (line.bytes ++ takes.taken) grown short (All-append (λ b. b ≢ 10) line.bytes takes.taken is.part.unbroken takes.unbroken)
 
 -- before its first byte a line is a part
-pub IsPart-none : (line : LineSoFar) → line ≡ so_far [] → IsPart line
+pub IsPart-none : (line : LineBufferValue) → line ≡ so_far [] → IsPart line
 IsPart-none line is = part_from line [] is (rw is (omega arith)) (All-nil (λ b. b ≢ 10))
 
 -- and holds nothing
-pub part-none : (line : LineSoFar) → line ≡ so_far [] → line.front ≡ []
-part-none line is = ap (λ (l : LineSoFar). l.front) is ∙ kept-nil
+pub part-none : (line : LineBufferValue) → line ≡ so_far [] → line.bytes ≡ []
+part-none line is = ap (λ (l : LineBufferValue). l.bytes) is ∙ kept-nil
 
 -- at the end of the input no whole line is left
-pub next_end : (wanted : ℕ) (line new : LineSoFar) (left leaves : Option (List ℕ)) → IsPart line → ReadsTo EndOfInput line new left leaves → IfSome left (λ text. IsNext wanted (line.front ++ text) None new.front leaves)
+pub next_end : (wanted : ℕ) (line new : LineBufferValue) (left leaves : Option (List ℕ)) → IsPart line → ReadsTo EndOfInput line new left leaves → IfSome left (λ text. IsNext wanted (line.bytes ++ text) None new.bytes leaves)
 next_end wanted line new None leaves is reads = tt
 next_end wanted line new (Some text) leaves is reads =
-    let read = ReadsPart-from_takes line.front text is.part.unbroken (held line new (Some text) leaves [] is reads.0) in
-    let (front, fits) = whole new (line.front ++ read.taken) read.line reads.2 in
-    let all : text ≡ read.taken = text_of-read_end line.front text leaves read reads.1 in
-    let rest : line.front ++ text ≡ new.front ++ read.rest =
-    ap (λ t. line.front ++ t) read.text_is ∙ sym (append_assoc line.front read.taken read.rest) ∙ ap (λ t. t ++ read.rest) (sym front) in (
-      subst (λ (t : List ℕ). NoLine (line.front ++ t)) (sym all) (record { unbroken = read.unbroken; short = fits }),
+    let read = ReadsPart-from_takes line.bytes text is.part.unbroken (held line new (Some text) leaves [] is reads.0) in
+    let (front, fits) = whole new (line.bytes ++ read.taken) read.line reads.2 in
+    let all : text ≡ read.taken = text_of-read_end line.bytes text leaves read reads.1 in
+    let rest : line.bytes ++ text ≡ new.bytes ++ read.rest =
+    ap (λ t. line.bytes ++ t) read.text_is ∙ sym (append_assoc line.bytes read.taken read.rest) ∙ ap (λ t. t ++ read.rest) (sym front) in (
+      subst (λ (t : List ℕ). NoLine (line.bytes ++ t)) (sym all) (record { unbroken = read.unbroken; short = fits }),
       (read.rest, read.leaves_is, rest),
     )
 
 -- a line that is too long stands next
-pub next_long : (wanted : ℕ) (line new : LineSoFar) (left leaves : Option (List ℕ)) → IsPart line → ReadsTo TooLong line new left leaves → IfSome left (λ text. Stands wanted (line.front ++ text) LineTooLong)
+pub next_long : (wanted : ℕ) (line new : LineBufferValue) (left leaves : Option (List ℕ)) → IsPart line → ReadsTo TooLong line new left leaves → IfSome left (λ text. Stands wanted (line.bytes ++ text) LineTooLong)
 next_long wanted line new None leaves is reads = tt
 next_long wanted line new (Some text) leaves is reads =
     let (behind, takes) = reads.0 in
-    let read = ReadsPart-from_takes line.front text is.part.unbroken (held line new (Some text) leaves behind is takes) in
-    let count : new.count ≡ length (line.front ++ read.taken) = ap (λ (l : LineSoFar). l.count) read.line in
+    let read = ReadsPart-from_takes line.bytes text is.part.unbroken (held line new (Some text) leaves behind is takes) in
+    let count : new.count ≡ length (line.bytes ++ read.taken) = ap (λ (l : LineBufferValue). l.count) read.line in
     record {
-      front = line.front ++ read.taken;
+      front = line.bytes ++ read.taken;
       rest = behind ++ read.rest;
       unbroken = read.unbroken;
       long = omega (arith, count, reads.1);
-      text_is = ap (λ t. line.front ++ t) read.text_is ∙ sym (append_assoc line.front read.taken (behind ++ read.rest));
+      text_is = ap (λ t. line.bytes ++ t) read.text_is ∙ sym (append_assoc line.bytes read.taken (behind ++ read.rest));
     }
 
 -- the text's first line was taken, and is not too long
@@ -89,13 +89,13 @@ pub record TakesLine (text line : List ℕ) (leaves : Option (List ℕ)) : Type 
   pub short : length line ≤ 65536
 
 -- the line that was read to its newline
-pub next_line : (line new : LineSoFar) (left leaves : Option (List ℕ)) → IsPart line → ReadsTo Newline line new left leaves → IfSome left (λ text. TakesLine (line.front ++ text) new.front leaves)
+pub next_line : (line new : LineBufferValue) (left leaves : Option (List ℕ)) → IsPart line → ReadsTo Newline line new left leaves → IfSome left (λ text. TakesLine (line.bytes ++ text) new.bytes leaves)
 next_line line new None leaves is reads = tt
 next_line line new (Some text) leaves is reads =
-    let read = ReadsPart-from_takes line.front text is.part.unbroken (held line new (Some text) leaves (10 ∷ []) is reads.0) in
-    let (front, fits) = whole new (line.front ++ read.taken) read.line reads.1 in
-    let whole_text : line.front ++ text ≡ (line.front ++ read.taken) ++ 10 ∷ read.rest =
-    ap (λ t. line.front ++ t) read.text_is ∙ sym (append_assoc line.front read.taken (10 ∷ read.rest)) in
+    let read = ReadsPart-from_takes line.bytes text is.part.unbroken (held line new (Some text) leaves (10 ∷ []) is reads.0) in
+    let (front, fits) = whole new (line.bytes ++ read.taken) read.line reads.1 in
+    let whole_text : line.bytes ++ text ≡ (line.bytes ++ read.taken) ++ 10 ∷ read.rest =
+    ap (λ t. line.bytes ++ t) read.text_is ∙ sym (append_assoc line.bytes read.taken (10 ∷ read.rest)) in
     rw front (record {
       rest = read.rest;
       first = record { unbroken = read.unbroken; text_is = whole_text };
@@ -125,7 +125,7 @@ pub position_within : (line : List ℕ) (wanted : ℕ) (image : Image) → IsMes
 position_within line wanted image said = grind (arith, (and_parts (nat_le 1 wanted) (nat_le wanted (10 ^ 15)) said.spelled.position).1)
 
 -- a part that is held is not too long
-pub part_within : (line : Option LineSoFar) → IfSome line IsPart → length (part_of line) ≤ 65536
+pub part_within : (line : Option LineBufferValue) → IfSome line IsPart → length (part_of line) ≤ 65536
 part_within None is = omega arith
 part_within (Some line) is = is.part.short
 
@@ -153,14 +153,14 @@ fault_same : {A : Type 0} (fault other : StreamFault) → ◌≡◌ {A = Result 
 fault_same fault other is = cc
 
 -- with a fault, which stands next
-pub fault_stands : {E : Type 0} (end : Result BoundedEnd E) (fault : StreamFault) (wanted : ℕ) (line new : LineSoFar) (left leaves : Option (List ℕ)) → IsPart line → whole_line end ≡ Err fault
-    → IfOk end (λ e. ReadsTo e line new left leaves) → IfSome left (λ text. Stands wanted (line.front ++ text) fault)
+pub fault_stands : {E : Type 0} (end : Result BoundedEnd E) (fault : StreamFault) (wanted : ℕ) (line new : LineBufferValue) (left leaves : Option (List ℕ)) → IsPart line → whole_line end ≡ Err fault
+    → IfOk end (λ e. ReadsTo e line new left leaves) → IfSome left (λ text. Stands wanted (line.bytes ++ text) fault)
 fault_stands (Ok Newline) fault wanted line new left leaves part is reads = cc
 fault_stands (Ok EndOfInput) fault wanted line new left leaves part is reads = cc
 fault_stands (Ok TooLong) fault wanted line new left leaves part is reads =
-    subst (λ (f : StreamFault). IfSome left (λ text. Stands wanted (line.front ++ text) f)) (fault_same {A = Bool} LineTooLong fault is) (next_long wanted line new left leaves part reads)
+    subst (λ (f : StreamFault). IfSome left (λ text. Stands wanted (line.bytes ++ text) f)) (fault_same {A = Bool} LineTooLong fault is) (next_long wanted line new left leaves part reads)
 fault_stands (Err error) fault wanted line new left leaves part is reads =
-    subst (λ (f : StreamFault). IfSome left (λ text. Stands wanted (line.front ++ text) f)) (fault_same {A = Bool} Read fault is) (told (λ text. Stands wanted (line.front ++ text) Read) (λ text. tt) left)
+    subst (λ (f : StreamFault). IfSome left (λ text. Stands wanted (line.bytes ++ text) f)) (fault_same {A = Bool} Read fault is) (told (λ text. Stands wanted (line.bytes ++ text) Read) (λ text. tt) left)
 
 -- ---- the message of a line
 

@@ -1,6 +1,6 @@
 -- What a call for the next messages of a stream gives.
 use Rattle.std.specs.Prelude.{◌≡◌, ℕ, ◌+◌, ◌<◌, ◌≤◌, List, [], length, Option, Some, None, ◌⊎◌}
-use Rattle.pn_line.specs.Line.{LineSoFar, so_far}
+use Rattle.pn_line.specs.Line.{LineBufferValue, so_far}
 use Rattle.pn_record.specs.declared.image.Image.{Image}
 use Rattle.pn_stream.specs.MessageLines.{IsMessageLine}
 use Rattle.pn_stream.specs.Streams.{Run, FirstLine, NoLine, IsLeft}
@@ -17,9 +17,9 @@ pub record Stream (S : Type 0) : Type 0 where
   pub source : S
 
 -- the part that a line holds, if there is a line
-abbrev pub part_of : Option LineSoFar → List ℕ
+abbrev pub part_of : Option LineBufferValue → List ℕ
 part_of None = []
-part_of (Some line) = line.front
+part_of (Some line) = line.bytes
 
 -- a batch of so many images ends before this text: it is full, or no whole line is left; or this fault stands next
 abbrev pub Ends : ℕ → ℕ → ℕ → List ℕ → Option StreamFault → List ℕ → Option (List ℕ) → Type 0
@@ -40,9 +40,9 @@ pub record SoFar (position : ℕ) (text : List ℕ) (images : List Image) (part 
   pub is_left : IsLeft rest part left
 
 -- a line that is read holds this part of it, and is not too long
-pub record IsPart (line : LineSoFar) : Type 0 where
-  pub line_is : line ≡ so_far line.front
-  pub part : NoLine line.front
+pub record IsPart (line : LineBufferValue) : Type 0 where
+  pub line_is : line ≡ so_far line.bytes
+  pub part : NoLine line.bytes
 
 -- the next message of the text, if a whole line is there, and what is left then
 abbrev pub IsNext : ℕ → List ℕ → Option Image → List ℕ → Option (List ℕ) → Type 0

@@ -3,13 +3,9 @@
 ghost use Rattle.std.specs.Prelude.{◌≡◌, ◌↔◌, length, IfSome, IsSome, IsTrue};
 ghost use Rattle.pn_stream.specs.Positions.{are_positions};
 
-use pn_join::StreamName;
+use pn_join::{LAST_POSITION, StreamName};
 use pn_record::Image;
-use pn_record::limits::GREATEST;
 use std::marker::Model;
-
-/// The last position of a stream. The first is 1.
-pub const LAST_POSITION: u64 = GREATEST;
 
 /// Images that stand in a stream at consecutive positions. Where there are none, the first position is
 /// that of the image that would come next, or the last position of all.

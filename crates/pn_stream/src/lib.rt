@@ -8,7 +8,7 @@ mod message;
 mod next;
 mod reader;
 
-pub use delivery::{Delivery, LAST_POSITION, positions_fit};
+pub use delivery::{Delivery, positions_fit};
 pub use fault::StreamFault;
 pub use message::read_message;
 pub use reader::StreamReader;

@@ -10,7 +10,7 @@ ghost use Rattle.pn_record.specs.Limits.{longest_line};
 ghost use Rattle.pn_stream.specs.Messages.{Message, shape_in, ranges_in, message_in, message_at};
 ghost use Rattle.pn_stream.specs.MessageLines.{IsMessage, IsMessageLine, message_data};
 
-use crate::delivery::LAST_POSITION;
+use pn_join::LAST_POSITION;
 use pn_json::{check_names, whole_number_of};
 use pn_record::{Image, ImageFault, Member, Shape, read_value, shape_of};
 use serde_json::Value;

@@ -50,7 +50,7 @@ pub(crate) fn next_images<S: Source>(
 fn held_line(alloc: Global, held: &mut Option<LineBuffer>) -> Result<LineBuffer, StreamFault>
     requires { IfSome held.old IsPart }
     ensures part { IfOk result IsPart }
-    ensures front { IfOk result (λ line. line.front ≡ part_of held.old) }
+    ensures front { IfOk result (λ line. line.bytes ≡ part_of held.old) }
     ensures memory { IfErr result (λ fault. fault ≡ StreamFault.Memory) }
     ensures taken { held.new ≡ None }
 {
@@ -81,9 +81,9 @@ fn gather<S: Source>(
     ensures within { length images.new.items ≤ max }
     ensures positions { position + length images.new.items ≤ greatest }
     ensures ok { OnOk result (IfSome (S.left source.old) (λ text.
-        Batch max position (line.old.front ++ text) images.new.items None line.new.front (S.left source.new))) }
+        Batch max position (line.old.bytes ++ text) images.new.items None line.new.bytes (S.left source.new))) }
     ensures err { IfErr result (λ fault. IfSome (S.left source.old) (λ text.
-        Batch max position (line.old.front ++ text) images.new.items (Some fault) [] (S.left source.new))) }
+        Batch max position (line.old.bytes ++ text) images.new.items (Some fault) [] (S.left source.new))) }
     ensures part { OnOk result (IsPart line.new) }
     ensures read { IsErrOf result StreamFault.Read → S.may_fail }
     ensures not_failed { IsErrOf result StreamFault.Failed → ⊥ }
@@ -116,9 +116,9 @@ fn next_image<S: Source>(
 ) -> Result<Option<Image>, StreamFault>
     requires { IsPart line.old }
     ensures next { IfOk result (λ image. IfSome (S.left source.old) (λ text.
-        IsNext wanted (line.old.front ++ text) image line.new.front (S.left source.new))) }
+        IsNext wanted (line.old.bytes ++ text) image line.new.bytes (S.left source.new))) }
     ensures stands { IfErr result (λ fault. IfSome (S.left source.old) (λ text.
-        Stands wanted (line.old.front ++ text) fault)) }
+        Stands wanted (line.old.bytes ++ text) fault)) }
     ensures part { OnOk result (IsPart line.new) }
     ensures position { IfOk result (λ image. IsSome image → wanted ≤ greatest) }
     ensures read { IsErrOf result StreamFault.Read → S.may_fail }

@@ -5,10 +5,10 @@ ghost use Rattle.pn_record.specs.Limits.{greatest, longest_line};
 ghost use Rattle.pn_stream.specs.Batches.{Batch};
 ghost use Rattle.pn_stream.specs.Faults.{Stands};
 
-use crate::delivery::{Delivery, LAST_POSITION};
+use crate::delivery::Delivery;
 use crate::fault::StreamFault;
 use crate::next::next_images;
-use pn_join::{Dup, StreamName};
+use pn_join::{Dup, LAST_POSITION, StreamName};
 use pn_line::{LineBuffer, Source};
 use pn_record::Image;
 use std::alloc::Global;

@@ -1,7 +1,7 @@
 //! Messages and deliveries at the edge of their limits.
-use pn_join::{Name, StreamName};
+use pn_join::{LAST_POSITION, Name, StreamName};
 use pn_record::{ImageFault, Member};
-use pn_stream::{Delivery, LAST_POSITION, StreamFault, read_message};
+use pn_stream::{Delivery, StreamFault, read_message};
 use std::alloc::Global;
 use std::test::Fail;
 

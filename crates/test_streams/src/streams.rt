@@ -1,8 +1,9 @@
 //! Streams that come in pieces, fail, or are out of step.
 use crate::messages::{east, message, messages, push_batch, push_keys};
 use crate::sources::{Halves, Pipe};
+use pn_join::LAST_POSITION;
 use pn_line::{InMemory, Source};
-use pn_stream::{LAST_POSITION, StreamReader};
+use pn_stream::StreamReader;
 use std::alloc::Global;
 use std::test::Fail;
 use test_io::Pieces;

@@ -18,6 +18,6 @@ machine_code = code_by RegionValue region_code (λ m. m.region) serving (λ m i.
 abbrev pub run_code : Coded RunValue
 run_code =
     code_by (((Machine × (List ℕ × ℕ)) × List ℕ) × (ℕ × ℕ)) (coded× (coded× (coded× machine_code (coded× (coded_list coded_ℕ) coded_ℕ)) (coded_list coded_ℕ)) (coded× coded_ℕ coded_ℕ))
-    (λ r. (((r.machine, (r.line.front, r.line.count)), r.waits), (r.counts.lines, r.counts.refused)))
-    (λ p. record { machine = p.0.0.0; line = record { front = p.0.0.1.0; count = p.0.0.1.1 }; waits = p.0.1; counts = record { lines = p.1.0; refused = p.1.1 } })
+    (λ r. (((r.machine, (r.line.bytes, r.line.count)), r.waits), (r.counts.lines, r.counts.refused)))
+    (λ p. record { machine = p.0.0.0; line = record { bytes = p.0.0.1.0; count = p.0.0.1.1 }; waits = p.0.1; counts = record { lines = p.1.0; refused = p.1.1 } })
     (λ _. refl)

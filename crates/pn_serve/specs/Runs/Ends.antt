@@ -3,7 +3,7 @@ use Rattle.std.specs.Prelude.{◌≡◌, ◌≢◌, ℕ, List, [], length, take,
 use Rattle.std.specs.List.{take_while}
 use Rattle.std.specs.Io.KnownBytes.{Appends, Keeps}
 use Rattle.pn_line.specs.LinesRead.{PartRead}
-use Rattle.pn_line.specs.Sent.{AppendsFront}
+use Rattle.pn_line.specs.Sent.{AppendsPrefix}
 use Rattle.pn_line.specs.Text.{lines_of}
 use Rattle.pn_serve.specs.declared.script.Counts.{Counts}
 use Rattle.pn_serve.specs.declared.script.RunFault.{RunFault}
@@ -44,7 +44,7 @@ pub record Cut (begun : Begun) (script : List ℕ) (left written : Option (List 
   pub part : List ℕ
   pub read : PartRead script left lines part
   pub outcomes : List Outcome
-  pub prefix : AppendsFront begun.written written (replies begun.region script outcomes)
+  pub prefix : AppendsPrefix begun.written written (replies begun.region script outcomes)
 
 -- the lines that may be answered were read, and of the next one a part: nothing after a million lines, and else a
 -- billion bytes. The replies to the lines were written, and there are more lines

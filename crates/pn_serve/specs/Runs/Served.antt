@@ -1,8 +1,8 @@
 -- What a run has, and what it has done between two lines.
 use Rattle.std.specs.Prelude.{◌≡◌, ◌<◌, ℕ, ◌+◌, List, [], ◌++◌, length, All, Option, IfSome}
-use Rattle.pn_line.specs.Line.{LineSoFar, so_far}
+use Rattle.pn_line.specs.Line.{LineBufferValue, so_far}
 use Rattle.pn_line.specs.LinesRead.{LinesRead}
-use Rattle.pn_line.specs.Sent.{Sends, AppendsFront}
+use Rattle.pn_line.specs.Sent.{Sends, AppendsPrefix}
 use Rattle.pn_region.specs.Regions.{RegionValue, new_region}
 use Rattle.pn_serve.specs.declared.reply.Reply.{Reply}
 use Rattle.pn_serve.specs.declared.script.Counts.{Counts}
@@ -15,7 +15,7 @@ use Rattle.pn_serve.specs.Script.Written.{replies_from, machine_after, refusals_
 -- what a run has: its machine, the line that is read, the replies that wait, and its counts
 pub record RunValue : Type 0 where
   pub machine : Machine
-  pub line : LineSoFar
+  pub line : LineBufferValue
   pub waits : List ℕ
   pub counts : Counts
 
@@ -36,7 +36,7 @@ new_run region = record { machine = serving region; line = so_far []; waits = []
 -- the line took its turn, its reply went out or waits, and it is counted
 pub record Answered (old new : RunValue) (before after : Option (List ℕ)) : Type 0 where
   pub reply : Reply
-  pub turned : Answers old.machine old.line.front new.machine reply
+  pub turned : Answers old.machine old.line.bytes new.machine reply
   pub sends : Sends before after old.waits new.waits (reply_text reply)
   pub lines : new.counts.lines ≡ old.counts.lines + 1
   pub refused : new.counts.refused ≡ one_if (is_refusal reply) + old.counts.refused
@@ -44,8 +44,8 @@ pub record Answered (old new : RunValue) (before after : Option (List ℕ)) : Ty
 -- the line took its turn, and of what waited and its reply a prefix went out
 pub record AnsweredInPart (old new : RunValue) (before after : Option (List ℕ)) : Type 0 where
   pub reply : Reply
-  pub turned : Answers old.machine old.line.front new.machine reply
-  pub prefix : AppendsFront before after (old.waits ++ reply_text reply)
+  pub turned : Answers old.machine old.line.bytes new.machine reply
+  pub prefix : AppendsPrefix before after (old.waits ++ reply_text reply)
 
 -- by one list of outcomes these lines were answered: the machine is the one after them, their replies went out or
 -- wait, and they are counted

@@ -1,7 +1,7 @@
 //! A run from line to line: each is read, takes its turn, and its reply waits or goes out.
 
 ghost use Rattle.std.specs.Prelude.{◌≡◌, ◌+◌, ◌<◌, ◌≤◌, ◌++◌, Ok, IfOk, OnOk, OnErr, IsErrOf};
-ghost use Rattle.pn_line.specs.Sent.{Sends, AppendsFront};
+ghost use Rattle.pn_line.specs.Sent.{Sends, AppendsPrefix};
 ghost use Rattle.pn_region.specs.Regions.{new_region};
 ghost use Rattle.pn_serve.specs.Reply.Texts.{reply_text, is_refusal};
 ghost use Rattle.pn_serve.specs.Runs.Ends.{Ends};
@@ -30,7 +30,7 @@ pub(crate) struct Run {
 
 impl Model for Run {
     ghost use Rattle.std.specs.Prelude.{◌≤◌};
-    ghost use Rattle.pn_serve.specs.declared.settings.TheConstants.{MOST_WORKERS};
+    ghost use Rattle.pn_apply.specs.Limits.{most_workers};
     ghost use Rattle.pn_serve.specs.Machine.Outcomes.{serving};
     ghost use Rattle.pn_serve.specs.Runs.Served.{RunValue};
 
@@ -42,7 +42,7 @@ impl Model for Run {
 
     ghost view = { λ run. record { machine = serving run.region; line = run.line; waits = run.outbox; counts = run.counts } };
 
-    ghost invariant = { λ run. (1 ≤ run.workers) × (run.workers ≤ MOST_WORKERS) × (run.counts.refused ≤ run.counts.lines) };
+    ghost invariant = { λ run. (1 ≤ run.workers) × (run.workers ≤ most_workers) × (run.counts.refused ≤ run.counts.lines) };
 }
 
 /// What comes after a line.
@@ -173,7 +173,7 @@ fn count(counts: &mut Counts, reply: &Reply)
 // The reply waits or goes out.
 fn push_reply<W: Sink>(reply: &Reply, outbox: &mut Outbox, output: &mut W) -> Result<(), WriteFault>
     ensures ok { OnOk result (Sends (W.contents output.old) (W.contents output.new) outbox.old outbox.new (reply_text reply.now)) }
-    ensures err { OnErr result (AppendsFront (W.contents output.old) (W.contents output.new) (outbox.old ++ reply_text reply.now)) }
+    ensures err { OnErr result (AppendsPrefix (W.contents output.old) (W.contents output.new) (outbox.old ++ reply_text reply.now)) }
     ensures fault { OnErr result W.may_fail }
 {
     match reply {

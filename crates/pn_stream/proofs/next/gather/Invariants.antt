@@ -8,7 +8,7 @@ invariant-images g l = record {
   within : length l.images.items ≤ l.max;
   positions : l.position + length l.images.items ≤ 10 ^ 15;
   part : IsPart l.line;
-  so_far : IfSome (g.S.Source.left l.initial.source) (λ text. SoFar l.position (l.initial.line.front ++ text) l.images.items l.line.front (g.S.Source.left l.source));
+  so_far : IfSome (g.S.Source.left l.initial.source) (λ text. SoFar l.position (l.initial.line.bytes ++ text) l.images.items l.line.bytes (g.S.Source.left l.source));
 }
 
 abbrev pub decreases-images : goal.decreases-images

@@ -1,11 +1,11 @@
 use Rattle.std.proofs.lemmas.Result.{err_from_is_err_and, on_ok_weaker, on_err_weaker}
-use Rattle.pn_line.proofs.SentLaws.{AppendsFront-more, AppendsFront-after, Sends-direct}
+use Rattle.pn_line.proofs.SentLaws.{AppendsPrefix-more, AppendsPrefix-after, Sends-direct}
 use Rattle.pn_line.proofs.outbox.Outbox.push.Goals as goal
 
 pub returns-in_err-send-clause-err : goal.returns-in_err-send-clause-err
 returns-in_err-send-clause-err g c =
     let gave = err_from_is_err_and c.from_residual.result c.from_residual.ensures.1 in
-    rw gave.1 (AppendsFront-more _ c.in_err-send.ensures.err)
+    rw gave.1 (AppendsPrefix-more _ c.in_err-send.ensures.err)
 
 pub returns-then-bytes-gt-OUTBOX_ROOM-clause-ok : goal.returns-then-bytes-gt-OUTBOX_ROOM-clause-ok
 returns-then-bytes-gt-OUTBOX_ROOM-clause-ok g c =
@@ -14,4 +14,4 @@ returns-then-bytes-gt-OUTBOX_ROOM-clause-ok g c =
 pub returns-then-bytes-gt-OUTBOX_ROOM-clause-err :
     goal.returns-then-bytes-gt-OUTBOX_ROOM-clause-err
 returns-then-bytes-gt-OUTBOX_ROOM-clause-err g c =
-    on_err_weaker _ (AppendsFront-after _ _ _ _ c.in_ok-send.ensures.ok) c.write_all_of.ensures.err
+    on_err_weaker _ (AppendsPrefix-after _ _ _ _ c.in_ok-send.ensures.ok) c.write_all_of.ensures.err

@@ -2,14 +2,14 @@
 use Rattle.std.proofs.Common.{◌≡◌, ◌≢◌, ℕ, Option, None, Some, List, [], ◌∷◌, ◌++◌, refl, ap, ◌∙◌, append_assoc, append-nil, sym}
 use Rattle.std.proofs.lemmas.List.Elements.{All-append}
 use Rattle.std.specs.Io.KnownBytes.{Consumes, IsAtEnd}
-use Rattle.pn_line.specs.Line.{LineSoFar, so_far}
+use Rattle.pn_line.specs.Line.{LineBufferValue, so_far}
 use Rattle.pn_line.specs.Reads.{IsUnbroken, Takes}
 use Rattle.pn_line.specs.Text.{lines_of, last_line}
 use Rattle.pn_line.proofs.LineLaws.{so_far-append}
 use Rattle.pn_line.proofs.TextLaws.{lines_of-nil, lines_of-line, lines_of-last}
 
 -- of a line with this part and this text behind it: what was taken, and the text that is left
-pub record ReadsPart (part text : List ℕ) (new : LineSoFar) (leaves : Option (List ℕ)) (behind : List ℕ) : Type 0 where
+pub record ReadsPart (part text : List ℕ) (new : LineBufferValue) (leaves : Option (List ℕ)) (behind : List ℕ) : Type 0 where
   pub taken : List ℕ
   pub rest : List ℕ
   pub unbroken : IsUnbroken (part ++ taken)
@@ -22,7 +22,7 @@ still_known : (xs bs : List ℕ) (leaves : Option (List ℕ)) → Consumes (Some
 still_known xs bs None consumed = absurd consumed
 still_known xs bs (Some ys) consumed = (ys, refl, consumed)
 
-pub ReadsPart-from_takes : (part text : List ℕ) {new : LineSoFar} {leaves : Option (List ℕ)} {behind : List ℕ} → IsUnbroken part
+pub ReadsPart-from_takes : (part text : List ℕ) {new : LineBufferValue} {leaves : Option (List ℕ)} {behind : List ℕ} → IsUnbroken part
     → Takes (so_far part) new (Some text) leaves behind → ReadsPart part text new leaves behind
 ReadsPart-from_takes part text {behind = behind} unbroken takes =
     let (rest, leaves_is, text_is) = still_known text _ _ takes.source in
@@ -36,7 +36,7 @@ ReadsPart-from_takes part text {behind = behind} unbroken takes =
     }
 
 -- a line with its newline is the first line
-pub lines_of-read : (part text : List ℕ) {new : LineSoFar} {leaves : Option (List ℕ)} (read : ReadsPart part text new leaves (10 ∷ []))
+pub lines_of-read : (part text : List ℕ) {new : LineBufferValue} {leaves : Option (List ℕ)} (read : ReadsPart part text new leaves (10 ∷ []))
     → lines_of (part ++ text) ≡ (part ++ read.taken) ∷ lines_of read.rest
 lines_of-read part text read =
     ap (λ t. lines_of (part ++ t)) read.text_is ∙ ap lines_of (sym (append_assoc part read.taken (10 ∷ read.rest)))
@@ -48,7 +48,7 @@ lines_of-unbroken [] unbroken = lines_of-nil
 lines_of-unbroken (b ∷ line) unbroken = lines_of-last b line unbroken
 
 -- at the end of the input all the text is in the line
-pub text_of-read_end : (part text : List ℕ) {new : LineSoFar} (leaves : Option (List ℕ)) (read : ReadsPart part text new leaves []) → IsAtEnd leaves → text ≡ read.taken
+pub text_of-read_end : (part text : List ℕ) {new : LineBufferValue} (leaves : Option (List ℕ)) (read : ReadsPart part text new leaves []) → IsAtEnd leaves → text ≡ read.taken
 text_of-read_end part text None read end = absurd (none read.leaves_is)
   where
     none : None ≡ Some read.rest → ⊥
@@ -57,7 +57,7 @@ text_of-read_end part text (Some ys) read end =
     let rest : read.rest ≡ [] = cc in read.text_is ∙ ap (λ l. read.taken ++ l) rest ∙ append-nil read.taken
 
 -- and the line is the last one, if it has a byte
-pub lines_of-read_end : (part text : List ℕ) {new : LineSoFar} (leaves : Option (List ℕ)) (read : ReadsPart part text new leaves []) → IsAtEnd leaves
+pub lines_of-read_end : (part text : List ℕ) {new : LineBufferValue} (leaves : Option (List ℕ)) (read : ReadsPart part text new leaves []) → IsAtEnd leaves
     → lines_of (part ++ text) ≡ last_line (part ++ read.taken)
 lines_of-read_end part text leaves read end =
     ap (λ t. lines_of (part ++ t)) (text_of-read_end part text leaves read end) ∙ lines_of-unbroken (part ++ read.taken) read.unbroken
