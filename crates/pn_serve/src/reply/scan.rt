@@ -1,6 +1,6 @@
 //! The reply to a scan: the rows of all records that are shown.
 
-ghost use Rattle.std.specs.Prelude.{◌≡◌, [], ◌∷◌, map, IfOk, OnOk, option_to_list, slice_get};
+ghost use Rattle.std.specs.Prelude.{◌≡◌, [], ◌∷◌, map, IfOk, OnOk};
 ghost use Rattle.serde_json.specs.Data.{array};
 ghost use Rattle.serde_json.specs.View.{items_of};
 ghost use Rattle.pn_region.specs.Regions.{all_cells};
@@ -55,21 +55,10 @@ fn write_tablets_rows(writer: &mut Writer, region: &Region) -> Result<(), NoMemo
 fn write_rows(writer: &mut Writer, records: &Records) -> Result<(), NoMemory>
     ensures { OnOk result (Appends writer.old writer.new (values_tokens (map row_data (shown_rows records.now)))) }
 {
-    for place in 0..records.len() {
-        write_row_at(writer, records, place)?;
+    for (key, cell) in records.iter() {
+        write_if_shown(writer, key, cell)?;
     }
     Ok(())
-}
-
-// Nothing where the entry is not shown, or there is none.
-fn write_row_at(writer: &mut Writer, records: &Records, place: usize) -> Result<(), NoMemory>
-    ensures { OnOk result (Appends writer.old writer.new (values_tokens (map row_data
-        (shown_rows (option_to_list (slice_get records.now place)))))) }
-{
-    match records.entry_at(place) {
-        Some((key, cell)) => write_if_shown(writer, key, cell),
-        None => Ok(()),
-    }
 }
 
 fn write_if_shown(writer: &mut Writer, key: &Key, cell: &Cell) -> Result<(), NoMemory>

@@ -1,21 +1,34 @@
--- The row of one entry more is written where it is shown, and at the end all.
-use Rattle.std.proofs.Common.{◌≤◌, length, map, ap, arith}
-use Rattle.std.proofs.lemmas.List.{take_all}
-use Rattle.pn_serve.specs.Reply.Rows.{row_data}
-use Rattle.pn_serve.specs.Reply.Scan.{shown_rows}
-use Rattle.pn_json.specs.Tokens.{values_tokens}
-use Rattle.pn_json.proofs.TokenLists.{appends_none, appends_both, appends_as}
-use Rattle.pn_serve.proofs.RowLists.{one_more_row}
+-- One entry more is gone through, and at the end none is left.
+use Rattle.std.proofs.Common.{List, ◌++◌, refl, sym, ap, ◌∙◌, append_assoc, append-nil}
+use Rattle.pn_record.specs.CellMap.{Entries}
+use Rattle.json.specs.Token.{Token}
+use Rattle.pn_serve.proofs.RowLists.{row_tokens, rows_first}
 use Rattle.pn_serve.proofs.reply.scan.write_rows.Goals as goal
 
-pub loop-place-init : goal.loop-place-init
-loop-place-init c = appends_none _
+pub loop-key-init : goal.loop-key-init
+loop-key-init c = record {
+  before = refl;
+  tokens = ap (λ (es : Entries). c.args.writer.now.tokens ++ row_tokens es) (c.into_iter-key-iterator.ensures.into_iter_gives ∙ c.iter-key-items.ensures.all);
+}
 
-pub loop-place-preserved : goal.loop-place-preserved
-loop-place-preserved c = appends_as (one_more_row c.args.records.now c.loop-place.place) (appends_both c.loop-place.invariant c.in_ok-write_row_at.ensures)
+pub loop-key-preserved : goal.loop-key-preserved
+loop-key-preserved c =
+    let written = c.in_ok-write_if_shown.ensures in
+    record {
+      before = written.before ∙ c.loop-key.invariant.before;
+      tokens =
+          ap (λ (l : List Token). l ++ row_tokens c.next.new.self) written.tokens
+          ∙ append_assoc c.loop-key.writer.tokens _ _
+          ∙ ap (λ (l : List Token). c.loop-key.writer.tokens ++ l) (rows_first _ c.next.new.self)
+          ∙ ap (λ (es : Entries). c.loop-key.writer.tokens ++ row_tokens es) (sym c.in-Some.ensures.steps)
+          ∙ c.loop-key.invariant.tokens;
+    }
 
 pub returns : goal.returns
-returns c =
-    let entries = c.args.records.now in
-    let passed : length entries ≤ c.loop-place.place = omega (arith, c.len-place-end.ensures.count) in
-    appends_as (ap (λ es. values_tokens (map row_data (shown_rows es))) (take_all c.loop-place.place entries passed)) c.loop-place.invariant
+returns c = record {
+  before = c.loop-key.invariant.before;
+  tokens =
+      sym (append-nil c.loop-key.writer.tokens)
+      ∙ ap (λ (es : Entries). c.loop-key.writer.tokens ++ row_tokens es) (sym c.in-None.ensures.steps.0)
+      ∙ c.loop-key.invariant.tokens;
+}

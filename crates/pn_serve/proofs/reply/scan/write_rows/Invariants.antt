@@ -1,9 +1,10 @@
--- The rows of the entries so far were written.
-use Rattle.std.proofs.Common.{map, take}
-use Rattle.pn_serve.specs.Reply.Rows.{row_data}
-use Rattle.pn_serve.specs.Reply.Scan.{shown_rows}
-use Rattle.pn_json.specs.Tokens.{Appends, values_tokens}
+-- The rows so far, and those of the entries that are left, are all rows.
+use Rattle.std.proofs.Common.{◌≡◌, ◌++◌}
+use Rattle.pn_serve.proofs.RowLists.{row_tokens}
 use Rattle.pn_serve.proofs.reply.scan.write_rows.Given as goal
 
-abbrev pub invariant-loop-place : goal.invariant-loop-place
-invariant-loop-place l = Appends l.initial.writer l.writer (values_tokens (map row_data (shown_rows (take l.place l.records))))
+abbrev pub invariant-loop-key : goal.invariant-loop-key
+invariant-loop-key l = record {
+  before : l.writer.before ≡ l.initial.writer.before;
+  tokens : l.writer.tokens ++ row_tokens l.key-iterator ≡ l.initial.writer.tokens ++ row_tokens l.records;
+}
