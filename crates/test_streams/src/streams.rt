@@ -1,4 +1,7 @@
 //! Streams that come in pieces, fail, or are out of step.
+
+ghost use Rattle.std.specs.Prelude.{◌≤◌, ◌^◌};
+
 use crate::messages::{east, message, messages, push_batch, push_keys};
 use crate::sources::{Halves, Pipe};
 use pn_join::LAST_POSITION;
@@ -14,7 +17,9 @@ fn told<S: Source + Drop>(
     reader: &mut StreamReader<S>,
     calls: usize,
     most: usize,
-) -> Result<String, Fail> {
+) -> Result<String, Fail>
+    requires most { (1 ≤ most) × (most ≤ 1000) }
+{
     let mut told = String::new(alloc);
     for _ in 0..calls {
         match reader.next_batch(most) {
@@ -34,7 +39,10 @@ fn told_after<S: Source + Drop>(
     source: S,
     calls: usize,
     most: usize,
-) -> Result<String, Fail> {
+) -> Result<String, Fail>
+    requires position { position ≤ 10 ^ 15 }
+    requires most { (1 ≤ most) × (most ≤ 1000) }
+{
     let mut reader = StreamReader::new(alloc, east()?, position, source);
     told(alloc, &mut reader, calls, most)
 }

@@ -1,7 +1,5 @@
 //! A gate and slots that note, in one place, which tablets are entered and which are worked.
 
-ghost use Rattle.pn_tablet.specs.Tablets.{TabletStateValue};
-
 use pn_apply::{Gate, Slot};
 use pn_tablet::{Change, OpFault, TabletOp, TabletState};
 use std::cell::Cell;
@@ -59,7 +57,12 @@ pub(crate) struct Noted<'a> {
 }
 
 impl<'a> Model for Noted<'a> {
+    ghost use Rattle.pn_tablet.specs.Proofs.Coding.{tablet_code};
+    ghost use Rattle.pn_tablet.specs.Tablets.{TabletStateValue};
+
     ghost Value = { TabletStateValue };
+
+    ghost coded = { tablet_code };
 
     ghost view = { λ noted. noted.state };
 }

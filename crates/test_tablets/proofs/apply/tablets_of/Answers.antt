@@ -9,8 +9,8 @@ use Rattle.test_tablets.proofs.apply.tablets_of.Goals as goal
 pub loop-tablet-preserved : goal.loop-tablet-preserved
 loop-tablet-preserved c =
     let was = c.loop-tablet in
-    let tablet = c.new.result in
-    let ranged = ap (λ (t : TabletStateValue). t.range) c.new.ensures ∙ c.in_ok-copied.ensures ∙ c.range.ensures.ends in
+    let tablet = c.new-state.result in
+    let ranged = ap (λ (t : TabletStateValue). t.range) c.new-state.ensures ∙ c.in_ok-copied.ensures ∙ c.range.ensures.ends in
     ap (map (λ (t : TabletStateValue). t.range)) c.in_ok-push.ensures.items
     ∙ map-append (λ (t : TabletStateValue). t.range) was.tablets.items (tablet ∷ [])
     ∙ (λ i. was.invariant i ++ ranged i ∷ [])
