@@ -1,6 +1,6 @@
 //! The names that the members of an object may have.
 
-ghost use Rattle.std.specs.Prelude.{◌≡◌, map, string_cmp};
+ghost use Rattle.std.specs.Prelude.{◌≡◌, is_some, string_cmp};
 ghost use Rattle.std.specs.BTreeMap.{IsOrdered};
 ghost use Rattle.std.specs.List.{list_any};
 ghost use Rattle.std.specs.Str.{bytes_eq};
@@ -21,29 +21,40 @@ pub fn check_names<F: Drop>(members: &Map<String, Value>, names: &[&str], fault:
     }
 }
 
-/// Whether each member has one of the names.
+/// Whether each member has one of the names. Members in the order of the names are found at the first look.
 pub fn is_only_named(members: &Map<String, Value>, names: &[&str]) -> bool
     ensures named { result ≡ only_named (texts names.now) (members_view members.now.entries) }
     ensures ordered { IsOrdered string_cmp members.now }
 {
+    let mut expected = 0;
     for (name, _) in members.iter() {
-        if !is_among(name.as_str(), names) {
-            return false;
+        match place_among(names, name.as_str(), expected) {
+            Some(place) => expected = place.saturating_add(1),
+            None => return false,
         }
     }
     true
 }
 
-fn is_among(name: &str, names: &[&str]) -> bool
-    ensures { result ≡ list_any (bytes_eq name.now) (texts names.now) }
+/// A place of the name, which is looked for first where it is expected.
+fn place_among(names: &[&str], name: &str, expected: usize) -> Option<usize>
+    ensures { is_some result ≡ list_any (bytes_eq name.now) (texts names.now) }
 {
-    has_same(names, name)
+    match names.get(expected) {
+        Some(other) if is_same(name, other) => Some(expected),
+        _ => first_place(names, name),
+    }
 }
 
-fn has_same(names: &[&str], name: &str) -> bool
-    ensures { result ≡ list_any (λ other. bytes_eq name.now other.now) names.now }
+fn first_place(names: &[&str], name: &str) -> Option<usize>
+    ensures { is_some result ≡ list_any (bytes_eq name.now) (texts names.now) }
 {
-    names.iter().any(|other| is_same(name, other))
+    for (place, other) in names.iter().enumerate() {
+        if is_same(name, other) {
+            return Some(place);
+        }
+    }
+    None
 }
 
 fn is_same(name: &str, other: &str) -> bool
