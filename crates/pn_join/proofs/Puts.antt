@@ -5,7 +5,6 @@ use Rattle.std.specs.Ordering.{eq_by_cmp}
 use Rattle.std.specs.Cmp.{IsTotalOrder}
 use Rattle.std.specs.FinMap.{find, put}
 use Rattle.std.specs.FinMap.Entries.{by_order, find-put, find_tied, is_sorted-put}
-use Rattle.pn_join.specs.Changes.{with_entries}
 use Rattle.pn_join.specs.Tables.{IsTable, contents_at, optional_joined, key_by_key}
 
 is_so : (b : Bool) → T b → b ≡ true
@@ -42,10 +41,6 @@ module _ {K X : Type 0} (cmp : K → K → Ordering) where
       rising = is_so _ (is_sorted-put cmp o key v es (subst T (sym h.rising) tt));
       contents = contents_put valid key v es is h.contents;
     }
-
-    pub IsTable-with_entries : (valid : X → Type 0) (added es : List (K × X)) → AllByRecursion (λ e. valid e.1) added → IsTable cmp valid es → IsTable cmp valid (with_entries cmp added es)
-    IsTable-with_entries valid [] es are h = h
-    IsTable-with_entries valid (a ∷ added) es are h = IsTable-put valid a.0 a.1 (with_entries cmp added es) are.0 (IsTable-with_entries valid added es are.1 h)
 
     module _ {M : Type 0} (meaning : X → M) (joined : M → M → M) where
       unchanged : (a : Option M) → a ≡ optional_joined joined a None

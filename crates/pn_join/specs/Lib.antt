@@ -1,7 +1,10 @@
-pub mod Changes
 pub mod Laws
+pub mod LeafEntries
+pub mod Leaves
 pub mod Marks
 pub mod Naming
 pub mod Places
 pub mod Proofs
+pub mod PutInLeaves
+pub mod RowChanges
 pub mod Tables

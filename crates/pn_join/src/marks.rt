@@ -76,9 +76,15 @@ impl Table<StreamName, Highest> {
     pub fn shortfall(&self, need: &Marks) -> Option<usize>
         ensures { result ≡ shortfall self.now need.now }
     {
-        need.entries()
-            .iter()
-            .position(|wanted| self.falls_short(wanted))
+        let count = need.len();
+        let mut left = count;
+        for (name, position) in need.iter() {
+            if self.position(name) < position.0 {
+                return Some(count - left);
+            }
+            left -= 1;
+        }
+        None
     }
 
     fn falls_short_of(&self, need: &Marks) -> bool
@@ -91,13 +97,6 @@ impl Table<StreamName, Highest> {
             }
         }
         false
-    }
-
-    fn falls_short(&self, wanted: &(StreamName, Highest)) -> bool
-        ensures { result ≡ falls_short self.now wanted.now }
-    {
-        let (name, position) = wanted;
-        self.position(name) < position.0
     }
 
     /// The position at a name, 0 where it is absent. It takes no memory.
@@ -127,6 +126,6 @@ pub fn raise_at(marks: &mut Marks, name: StreamName, position: u64) -> Result<()
     ensures err { OnErr result (marks.new ≡ marks.old) }
 {
     // Only a table that has been looked into is known to be one.
-    let _ = marks.entries();
+    let _ = marks.len();
     marks.join_entry(name, Highest(position))
 }

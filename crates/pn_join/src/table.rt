@@ -1,37 +1,40 @@
 //! Tables: finite maps in key order that join key by key.
 
-ghost use Rattle.std.specs.Prelude.{◌≡◌, ℕ, ◌∷◌, [], length, map, option_map, slice_get, drop, count_by, IsTrue, IfOk, IfSome, OnOk, OnErr, MatchResult};
+ghost use Rattle.std.specs.Prelude.{◌≡◌, ℕ, ◌∷◌, [], List, length, map, option_map, slice_get, drop, count_by, IsTrue, IfOk, IfSome, OnOk, OnErr};
 ghost use Rattle.std.specs.Option.{option_copied};
 ghost use Rattle.std.specs.Ordering.{is_lt};
 ghost use Rattle.std.specs.FinMap.{find, put, is_sorted};
 ghost use Rattle.pn_join.specs.Tables.{contents_at, key_by_key, IsTable};
-ghost use Rattle.pn_join.specs.Places.{place_of};
-ghost use Rattle.pn_join.specs.Changes.{IsJoinOf};
+ghost use Rattle.pn_join.specs.Leaves.{all_entries, IsLeaf, AreLeavesOf};
+ghost use Rattle.pn_join.specs.PutInLeaves.{ChangesOneLeaf};
 
-mod changes;
+mod ends;
 mod entries;
+mod leaf;
+mod row;
+mod single;
 
 use crate::{Dup, Join, NoMemory};
-use changes::{Changes, Placed, put_in};
 pub use entries::Entries;
+use row::Row;
 use std::alloc::Global;
 use std::marker::Model;
 
 /// A finite map whose keys are kept in rising order, each once.
+///
+/// Its entries stand in leaves, one after another. No leaf is empty, and none has more than 64.
 #[derive(Drop)]
 pub struct Table<K: Ord + Dup, C: Join> {
-    entries: Vec<(K, C)>,
+    row: Row<K, C>,
 }
 
 impl<K: Ord + Dup, C: Join> Model for Table<K, C> {
     ghost use Rattle.std.specs.Prelude.{List};
-    ghost use Rattle.pn_join.specs.Tables.{IsTable};
+    ghost use Rattle.pn_join.specs.Leaves.{all_entries};
 
     ghost Value = { List (K × C) };
 
-    ghost view = { λ table. table.entries.items };
-
-    ghost invariant = { λ table. IsTable K.cmp C.valid table.entries.items };
+    ghost view = { λ table. all_entries table.row };
 }
 
 impl<K: Ord + Dup, C: Join> Table<K, C> {
@@ -40,7 +43,7 @@ impl<K: Ord + Dup, C: Join> Table<K, C> {
         ensures { result ≡ [] }
     {
         Table {
-            entries: Vec::new(alloc),
+            row: Row::new(alloc),
         }
     }
 
@@ -49,7 +52,7 @@ impl<K: Ord + Dup, C: Join> Table<K, C> {
         ensures count { result ≡ length self.now }
         ensures rising { IsTrue (is_sorted K.cmp self.now) }
     {
-        self.entries.len()
+        self.row.len()
     }
 
     /// The content at a key, if the key is there. It takes no memory.
@@ -57,10 +60,7 @@ impl<K: Ord + Dup, C: Join> Table<K, C> {
         ensures found { option_copied result ≡ find K.cmp key.now self.now }
         ensures is_valid { IfSome result (λ content. C.valid content.now) }
     {
-        match self.place_of(key) {
-            Ok(place) => Some(&self.entries[place].1),
-            Err(_) => None,
-        }
+        self.row.get(key)
     }
 
     /// The entry at a place in the order of the keys, the first at 0. None past the end.
@@ -68,8 +68,18 @@ impl<K: Ord + Dup, C: Join> Table<K, C> {
         ensures entry { option_map (λ e. (e.0.now, e.1.now)) result ≡ slice_get self.now place }
         ensures is_valid { IfSome result (λ e. C.valid e.1.now) }
     {
-        let (key, content) = self.entries.get(place)?;
+        let (key, content) = self.row.entry_at(place)?;
         Some((key, content))
+    }
+
+    /// The entries of a leaf, the first at 0. None past the last. It takes no memory.
+    ///
+    /// The leaves in order are the table's entries.
+    pub fn leaf(&self, place: usize) -> Option<&[(K, C)]>
+        ensures { (leaves : List (List (K × C))) × AreLeavesOf self.now leaves
+            × (option_map (λ leaf. leaf.now) result ≡ slice_get leaves place) }
+    {
+        self.row.leaf(place)
     }
 
     /// Walks all entries in key order, each as its key and content. It takes no memory.
@@ -77,7 +87,7 @@ impl<K: Ord + Dup, C: Join> Table<K, C> {
         ensures all { result ≡ self.now }
         ensures table { IsTable K.cmp C.valid self.now }
     {
-        Entries::of(&self.entries)
+        self.row.iter()
     }
 
     /// Walks the entries from a place on, in key order. It takes no memory.
@@ -85,21 +95,14 @@ impl<K: Ord + Dup, C: Join> Table<K, C> {
         ensures rest { result ≡ drop place self.now }
         ensures table { IsTable K.cmp C.valid self.now }
     {
-        Entries::of(self.entries.get(place..).unwrap_or_default())
-    }
-
-    pub(crate) fn entries(&self) -> &[(K, C)]
-        ensures entries { result.now ≡ self.now }
-        ensures table { IsTable K.cmp C.valid self.now }
-    {
-        &self.entries
+        self.row.iter_from(place)
     }
 
     /// How many keys are less than this one: the place of the first that is not.
     pub fn lower_bound(&self, key: &K) -> usize
         ensures { result ≡ count_by (λ e. is_lt (K.cmp e.0 key.now)) self.now }
     {
-        match self.place_of(key) {
+        match self.row.place_of(key) {
             Ok(place) => place,
             Err(place) => place,
         }
@@ -107,6 +110,8 @@ impl<K: Ord + Dup, C: Join> Table<K, C> {
 
     /// Joins a content into what is at the key. Where a key that ties is there, that key stays.
     /// An error leaves the table as it was.
+    ///
+    /// One leaf is changed, cut in two, or the first, and all others stay as they were.
     ///
     /// Every content that code can make is valid; its value in a contract does not show it.
     pub fn join_entry(&mut self, key: K, content: C) -> Result<(), NoMemory>
@@ -118,55 +123,18 @@ impl<K: Ord + Dup, C: Join> Table<K, C> {
             ≡ map (λ e. e.0) (put K.cmp key content self.old)) }
         ensures err { OnErr result (self.new ≡ self.old) }
         ensures table { IsTable K.cmp C.valid self.new }
+        ensures leaves { OnOk result ((before after : List (List (K × C)))
+            × AreLeavesOf self.old before × AreLeavesOf self.new after × ChangesOneLeaf before after) }
     {
-        match self.place_of(&key) {
-            Ok(place) => self.entries[place].1.join_from(&content),
-            Err(place) => Ok(self.entries.insert(place, (key, content))?),
-        }
-    }
-
-    fn place_of(&self, key: &K) -> Result<usize, usize>
-        ensures place { result ≡ place_of K.cmp key.now self.now }
-        ensures table { IsTable K.cmp C.valid self.now }
-    {
-        self.entries.binary_search_by(|(other, _)| other.cmp(key))
-    }
-
-    /// What a join with the other brings: a content for each of its keys that is here, and an entry
-    /// for each that is not.
-    fn changes_from(&self, other: &Self) -> Result<Changes<K, C>, NoMemory>
-        ensures { IfOk result (λ changes. IsJoinOf K.cmp C.meaning C.joined C.valid self.now other.now
-            changes.contents.items changes.added.items) }
-    {
-        let alloc = *self.entries.allocator();
-        let mut changes = Changes {
-            contents: Vec::new(alloc),
-            added: Vec::new(alloc),
-        };
-        for (key, content) in &other.entries {
-            match self.place_of(key) {
-                Ok(place) => {
-                    let mut item = self.entries[place].1.dup()?;
-                    item.join_from(content)?;
-                    changes.contents.push(Placed { place, item })?;
-                }
-                Err(place) => {
-                    let item = (key.dup()?, content.dup()?);
-                    changes.added.push(Placed { place, item })?;
-                }
-            }
-        }
-        Ok(changes)
+        self.row.join_entry(key, content)
     }
 }
 
 impl<K: Ord + Dup, C: Join> Dup for Table<K, C> {
     fn dup(&self) -> Result<Self, NoMemory> {
-        let mut entries = Vec::with_capacity(*self.entries.allocator(), self.len())?;
-        for (key, content) in self.iter() {
-            entries.push_reserved((key.dup()?, content.dup()?));
-        }
-        Ok(Table { entries })
+        Ok(Table {
+            row: self.row.share()?,
+        })
     }
 }
 
@@ -186,12 +154,37 @@ impl<K: Ord + Dup, C: Join> Join for Table<K, C> {
     ghost laws = { key_by_key-laws C.laws };
 
     fn join_from(&mut self, other: &Self) -> Result<(), NoMemory> {
-        // Only a table that has been looked into is known to be one.
-        let _ = &self.entries;
-        if let [(key, content)] = other.entries.as_slice() {
-            return self.join_entry(key.dup()?, content.dup()?);
+        self.is_table();
+        other.is_table();
+        if other.len() == 1 {
+            if let Some((key, content)) = other.entry_at(0) {
+                return self.join_entry(key.dup()?, content.dup()?);
+            }
         }
-        let changes = self.changes_from(other)?;
-        put_in(&mut self.entries, changes)
+        *self = self.joined_with(other)?;
+        Ok(())
+    }
+}
+
+impl<K: Ord + Dup, C: Join> Table<K, C> {
+    /// Only a table that has been looked into is known to be one.
+    fn is_table(&self)
+        ensures { IsTable K.cmp C.valid self.now }
+    {
+        self.row.count();
+    }
+
+    /// The join of both. It shares the leaves into which no key of the other falls.
+    fn joined_with(&self, other: &Self) -> Result<Self, NoMemory>
+        ensures { IfOk result (λ joined. (contents_at K.cmp C.meaning joined
+            ≡ key_by_key C.joined (contents_at K.cmp C.meaning self.now)
+            (contents_at K.cmp C.meaning other.now)) × IsTable K.cmp C.valid joined) }
+    {
+        self.is_table();
+        let mut joined = self.dup()?;
+        for (key, content) in other.iter() {
+            joined.join_entry(key.dup()?, content.dup()?)?;
+        }
+        Ok(joined)
     }
 }

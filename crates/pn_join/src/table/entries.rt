@@ -1,9 +1,12 @@
 //! A walk over the entries of a table, in key order.
 
-ghost use Rattle.std.specs.Prelude.{◌≡◌, length};
+ghost use Rattle.std.specs.Prelude.{◌≡◌, ◌++◌, length};
 ghost use Rattle.std.specs.Iterator.{at_most};
 ghost use Rattle.std.specs.Map.Iter.{TakesFirst, deref_pair};
+ghost use Rattle.pn_join.specs.LeafEntries.{leaves_of};
+ghost use Rattle.pn_join.specs.Leaves.{all_entries};
 
+use crate::table::leaf::Leaf;
 use std::iter::FusedIterator;
 use std::marker::Model;
 use std::slice;
@@ -12,23 +15,29 @@ use std::slice;
 #[derive(Drop)]
 pub struct Entries<'t, K, C> {
     left: slice::Iter<'t, (K, C)>,
+    leaves: slice::Iter<'t, Leaf<K, C>>,
 }
 
 impl<'t, K, C> Model for Entries<'t, K, C> {
-    ghost use Rattle.std.specs.Prelude.{List};
+    ghost use Rattle.std.specs.Prelude.{List, ◌++◌};
     ghost use Rattle.std.specs.Slice.Iter.{iter_rest};
 
     ghost Value = { List (K × C) };
 
-    ghost view = { λ entries. iter_rest entries.left };
+    ghost use Rattle.pn_join.specs.LeafEntries.{leaves_of};
+    ghost use Rattle.pn_join.specs.Leaves.{all_entries};
+
+    ghost view = { λ entries. iter_rest entries.left ++ all_entries (leaves_of (iter_rest entries.leaves)) };
 }
 
 impl<'t, K, C> Entries<'t, K, C> {
-    pub(crate) fn of(entries: &'t [(K, C)]) -> Self
-        ensures { result ≡ entries.now }
+    /// Walks entries, and then those of leaves.
+    pub(crate) fn of(entries: &'t [(K, C)], leaves: &'t [Leaf<K, C>]) -> Self
+        ensures { result ≡ entries.now ++ all_entries (leaves_of leaves.now) }
     {
         Entries {
             left: entries.iter(),
+            leaves: leaves.iter(),
         }
     }
 }
@@ -41,8 +50,12 @@ impl<'t, K, C> Iterator for Entries<'t, K, C> {
     ghost remaining = { λ left. at_most (length left) };
 
     fn next(&mut self) -> Option<(&'t K, &'t C)> {
-        let (key, content) = self.left.next()?;
-        Some((key, content))
+        loop {
+            if let Some((key, content)) = self.left.next() {
+                return Some((key, content));
+            }
+            self.left = self.leaves.next()?.entries().iter();
+        }
     }
 }
 

@@ -1,23 +1,16 @@
-use Rattle.std.proofs.Common.{◌≡◌, Result, Ok, Err, OnOk, OnErr, sym, subst}
-use Rattle.pn_join.specs.Changes.{items_of, with_contents}
-use Rattle.pn_join.specs.Tables.{IsTable}
-use Rattle.pn_join.proofs.Puts.{IsTable-with_entries}
+-- The other has one entry alone.
+use Rattle.std.proofs.Common.{◌≡◌, [], ◌∷◌, length, slice_get, Some, ap, ◌∙◌, sym, arith}
+use Rattle.std.proofs.lemmas.Result.{on_ok_weaker}
+use Rattle.pn_join.specs.Tables.{contents_at, key_by_key}
+use Rattle.pn_join.proofs.Singles.{only_one}
 use Rattle.pn_join.proofs.table.TableJoin.join_from.Goals as goal
 
--- what holds of what each outcome leaves
-left_by_both : {T E A : Type 0} (r : Result T E) (P : A → Type 0) {x a b : A} → OnOk r (x ≡ a) → OnErr r (x ≡ b) → P a → P b → P x
-left_by_both (Ok t) P ok err at_a at_b = subst P (sym ok) at_a
-left_by_both (Err e) P ok err at_a at_b = subst P (sym err) at_b
-
-table_after : (g : _) (c : goal.After-put_in g) → IsTable g.K.Ord.cmp g.C.Join.valid c.put_in.new.entries.items
-table_after g c =
-    let changes = c.in_ok-changes.ensures in
-    left_by_both c.put_in.result (IsTable g.K.Ord.cmp g.C.Join.valid) c.put_in.ensures.ok c.put_in.ensures.err
-    (rw c.self.view_is (IsTable-with_entries g.K.Ord.cmp g.met.K.Ord.total g.C.Join.valid (items_of c.in_ok-changes.changes.added.items) (with_contents c.in_ok-changes.changes.contents.items c.args.self.now) changes.are_valid changes.table))
-    c.self.invariant
-
-pub invariant_of-self : goal.invariant_of-self
-invariant_of-self g c = table_after g c
-
-pub returns-clause-are_valid : goal.returns-clause-are_valid
-returns-clause-are_valid g c = (rw c.self.view_is at c.self.invariant, rw c.other.view_is at c.other.invariant, table_after g c)
+pub returns-in-Some-clause-ok : goal.returns-in-Some-clause-ok
+returns-in-Some-clause-ok g c =
+    let cmp = g.K.Ord.cmp in
+    let meaning = g.C.Join.meaning in
+    let other = c.args.other.now in
+    let one : length other ≡ 1 = omega (arith, c.len.ensures.count, c.if-len-eq1.true) in
+    let entry : Some (c.in-Some.key.now, c.in-Some.content.now) ≡ slice_get other 0 = c.in-Some.ensures.entry in
+    let same : (c.in_ok-dup.field-0, c.in_ok-dup-2.field-0) ∷ [] ≡ other = (λ i. (c.in_ok-dup.ensures i, c.in_ok-dup-2.ensures i) ∷ []) ∙ sym (only_one other (c.in-Some.key.now, c.in-Some.content.now) one entry) in
+    on_ok_weaker c.join_entry.result (λ is. is ∙ ap (λ es. key_by_key g.C.Join.joined (contents_at cmp meaning c.args.self.now) (contents_at cmp meaning es)) same) c.join_entry.ensures.ok

@@ -1,0 +1,114 @@
+-- A leaf of a row changes, and the ends beside the leaves with it.
+use Rattle.std.proofs.Common.{◌≡◌, ℕ, zero, suc, ◌+◌, ◌^◌, ◌<◌, ◌≤◌, List, [], ◌∷◌, ◌++◌, length, get_or, take, drop, set, insert, refl, sym, ap, ◌∙◌, arith, append-nil, append_assoc}
+use Rattle.std.specs.List.{AllByRecursion}
+use Rattle.std.proofs.lemmas.List.{length-append}
+use Rattle.pn_join.specs.Leaves.{all_entries, ends_after}
+use Rattle.pn_join.specs.PutInLeaves.{ChangesOneLeaf}
+use Rattle.pn_join.specs.RowChanges.{raised_from, FitFrom, with_back, ends_with}
+
+pub fit_at : (i by : ℕ) (ns : List ℕ) → FitFrom i by ns → (d : ℕ) → i < length ns → get_or ns i d + by < 2 ^ 64
+fit_at i by [] h d lt = absurd (omega (arith, lt))
+fit_at zero by (n ∷ ns) h d lt = h.0
+fit_at (suc i) by (n ∷ ns) h d lt = fit_at i by ns h d (omega (arith, lt))
+
+pub fit_next : (i by : ℕ) (ns : List ℕ) (v : ℕ) → FitFrom i by ns → FitFrom (suc i) by (set ns i v)
+fit_next i by [] v h = tt
+fit_next zero by (n ∷ ns) v h = h.1
+fit_next (suc i) by (n ∷ ns) v h = fit_next i by ns v h
+
+pub raise_next : (i by : ℕ) (ns : List ℕ) (d : ℕ) → raised_from (suc i) by (set ns i (get_or ns i d + by)) ≡ raised_from i by ns
+raise_next i by [] d = refl
+raise_next zero by (n ∷ ns) d = refl
+raise_next (suc i) by (n ∷ ns) d = ap (λ ms. n ∷ ms) (raise_next i by ns d)
+
+pub raise_end : (i by : ℕ) (ns : List ℕ) → length ns ≤ i → raised_from i by ns ≡ ns
+raise_end i by [] le = refl
+raise_end zero by (n ∷ ns) le = absurd (omega (arith, le))
+raise_end (suc i) by (n ∷ ns) le = ap (λ ms. n ∷ ms) (raise_end i by ns (omega (arith, le)))
+
+pub length-raised : (i by : ℕ) (ns : List ℕ) → length (raised_from i by ns) ≡ length ns
+length-raised i by [] = refl
+length-raised zero by (n ∷ ns) = ap suc (length-raised zero by ns)
+length-raised (suc i) by (n ∷ ns) = ap suc (length-raised i by ns)
+
+module _ {A : Type 0} where
+  pub fit_ends : (m by : ℕ) (rows : List (List A)) → (m + length (all_entries rows)) + by < 2 ^ 64 → (i : ℕ) → FitFrom i by (ends_after m rows)
+  fit_ends m by [] lt i = tt
+  fit_ends m by (l ∷ ls) lt zero = (omega (arith, lt, length-append l (all_entries ls)), fit_ends (m + length l) by ls (omega (arith, lt, length-append l (all_entries ls))) zero)
+  fit_ends m by (l ∷ ls) lt (suc i) = fit_ends (m + length l) by ls (omega (arith, lt, length-append l (all_entries ls))) i
+
+  ends_shift : (m by : ℕ) (rows : List (List A)) → ends_after (m + by) rows ≡ raised_from zero by (ends_after m rows)
+  ends_shift m by [] = refl
+  ends_shift m by (l ∷ ls) =
+      let at : (m + by) + length l ≡ (m + length l) + by = omega arith in
+      ap (λ n. n ∷ ends_after n ls) at ∙ ap (λ es. ((m + length l) + by) ∷ es) (ends_shift (m + length l) by ls)
+
+  module _ (front back : List A) (by : ℕ) where
+    ends_grown : (m : ℕ) (rows : List (List A)) (i : ℕ) → i < length rows → length front ≡ length (get_or rows i []) + by → ends_after m (set rows i front) ≡ raised_from i by (ends_after m rows)
+    ends_grown m [] i lt is = absurd (omega (arith, lt))
+    ends_grown m (l ∷ ls) zero lt is =
+        let at : m + length front ≡ (m + length l) + by = omega (arith, is) in
+        ap (λ n. n ∷ ends_after n ls) at ∙ ap (λ es. ((m + length l) + by) ∷ es) (ends_shift (m + length l) by ls)
+    ends_grown m (l ∷ ls) (suc i) lt is = ap (λ es. (m + length l) ∷ es) (ends_grown (m + length l) ls i (omega (arith, lt)) is)
+
+    ends_cut : (m : ℕ) (rows : List (List A)) (i : ℕ) → i < length rows → length front + length back ≡ length (get_or rows i []) + by → ends_after m (insert (set rows i front) (suc i) back) ≡ insert (raised_from i by (ends_after m rows)) i ((m + length (all_entries (take i rows))) + length front)
+    ends_cut m [] i lt is = absurd (omega (arith, lt))
+    ends_cut m (l ∷ ls) zero lt is =
+        let first : m + length front ≡ (m + 0) + length front = omega arith in
+        let at : (m + length front) + length back ≡ (m + length l) + by = omega (arith, is) in
+        ap (λ n. n ∷ (((m + length front) + length back) ∷ ends_after ((m + length front) + length back) ls)) first
+        ∙ ap (λ n. ((m + 0) + length front) ∷ (n ∷ ends_after n ls)) at
+        ∙ ap (λ es. ((m + 0) + length front) ∷ (((m + length l) + by) ∷ es)) (ends_shift (m + length l) by ls)
+    ends_cut m (l ∷ ls) (suc i) lt is =
+        let at : ((m + length l) + length (all_entries (take i ls))) + length front ≡ (m + length (l ++ all_entries (take i ls))) + length front = omega (arith, length-append l (all_entries (take i ls))) in
+        ap (λ es. (m + length l) ∷ es) (ends_cut (m + length l) ls i (omega (arith, lt)) is ∙ ap (insert (raised_from i by (ends_after (m + length l) ls)) i) at)
+
+  pub ends_with_back : (rows : List (List A)) (i : ℕ) (front back : List A) (by : ℕ) → i < length rows → length front + length back ≡ length (get_or rows i []) + by → ends_after 0 (with_back i back (set rows i front)) ≡ ends_with i by (length (all_entries (take i rows)) + length front) back (ends_after 0 rows)
+  ends_with_back rows i front [] by lt is = ends_grown front [] by 0 rows i lt (omega (arith, is))
+  ends_with_back rows i front (b ∷ bs) by lt is =
+      let at : (0 + length (all_entries (take i rows))) + length front ≡ length (all_entries (take i rows)) + length front = omega arith in
+      ends_cut front (b ∷ bs) by 0 rows i lt is ∙ ap (insert (raised_from i by (ends_after 0 rows)) i) at
+
+  pub all_with_back : (rows : List (List A)) (i : ℕ) (front back : List A) → i < length rows → all_entries (with_back i back (set rows i front)) ≡ all_entries (take i rows) ++ ((front ++ back) ++ all_entries (drop (suc i) rows))
+  all_with_back [] i front back lt = absurd (omega (arith, lt))
+  all_with_back (l ∷ ls) zero front [] lt = ap (λ es. es ++ all_entries ls) (sym (append-nil front))
+  all_with_back (l ∷ ls) zero front (b ∷ bs) lt = sym (append_assoc front (b ∷ bs) (all_entries ls))
+  all_with_back (l ∷ ls) (suc i) front [] lt =
+      ap (λ es. l ++ es) (all_with_back ls i front [] (omega (arith, lt))) ∙ sym (append_assoc l (all_entries (take i ls)) ((front ++ []) ++ all_entries (drop (suc i) ls)))
+  all_with_back (l ∷ ls) (suc i) front (b ∷ bs) lt =
+      ap (λ es. l ++ es) (all_with_back ls i front (b ∷ bs) (omega (arith, lt))) ∙ sym (append_assoc l (all_entries (take i ls)) ((front ++ b ∷ bs) ++ all_entries (drop (suc i) ls)))
+
+  module _ (P : List A → Type 0) (front : List A) (is : P front) where
+    pub each_with_back : (rows : List (List A)) (i : ℕ) (back : List A) → i < length rows → AllByRecursion P rows → (0 < length back → P back) → AllByRecursion P (with_back i back (set rows i front))
+    each_with_back [] i back lt h some = absurd (omega (arith, lt))
+    each_with_back (l ∷ ls) zero [] lt h some = (is, h.1)
+    each_with_back (l ∷ ls) zero (b ∷ bs) lt h some = (is, (some (omega arith), h.1))
+    each_with_back (l ∷ ls) (suc i) [] lt h some = (h.0, each_with_back ls i [] (omega (arith, lt)) h.1 some)
+    each_with_back (l ∷ ls) (suc i) (b ∷ bs) lt h some = (h.0, each_with_back ls i (b ∷ bs) (omega (arith, lt)) h.1 some)
+
+  -- the leaves that stand for one
+  abbrev pieces_of : List A → List A → List (List A)
+  pieces_of front [] = front ∷ []
+  pieces_of front (b ∷ bs) = front ∷ (b ∷ bs) ∷ []
+
+  leaf_between : (rows : List (List A)) (i : ℕ) → i < length rows → rows ≡ take i rows ++ ((get_or rows i [] ∷ []) ++ drop (suc i) rows)
+  leaf_between [] i lt = absurd (omega (arith, lt))
+  leaf_between (l ∷ ls) zero lt = refl
+  leaf_between (l ∷ ls) (suc i) lt = ap (λ es. l ∷ es) (leaf_between ls i (omega (arith, lt)))
+
+  pieces_between : (rows : List (List A)) (i : ℕ) (front back : List A) → i < length rows → with_back i back (set rows i front) ≡ take i rows ++ (pieces_of front back ++ drop (suc i) rows)
+  pieces_between [] i front back lt = absurd (omega (arith, lt))
+  pieces_between (l ∷ ls) zero front [] lt = refl
+  pieces_between (l ∷ ls) zero front (b ∷ bs) lt = refl
+  pieces_between (l ∷ ls) (suc i) front [] lt = ap (λ es. l ∷ es) (pieces_between ls i front [] (omega (arith, lt)))
+  pieces_between (l ∷ ls) (suc i) front (b ∷ bs) lt = ap (λ es. l ∷ es) (pieces_between ls i front (b ∷ bs) (omega (arith, lt)))
+
+  pub one_leaf : (rows : List (List A)) (i : ℕ) (front back : List A) → i < length rows → ChangesOneLeaf rows (with_back i back (set rows i front))
+  one_leaf rows i front back lt = record {
+    before = take i rows;
+    after = drop (suc i) rows;
+    was = get_or rows i [] ∷ [];
+    is = pieces_of front back;
+    old_leaves = leaf_between rows i lt;
+    new_leaves = pieces_between rows i front back lt;
+  }
