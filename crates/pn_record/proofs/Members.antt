@@ -1,8 +1,8 @@
 -- Members that are put in one after another, by rising names.
-use Rattle.std.proofs.Common.{◌≡◌, ℕ, zero, suc, ◌+◌, ◌<◌, List, [], ◌∷◌, length, get_or, take, map, IsTrue, true, Ordering, Less, Equal, Greater, nat_cmp, String, Global, string_bytes, refl, sym, ap, ◌∙◌, add-one, arith}
+use Rattle.std.proofs.Common.{◌≡◌, ℕ, zero, suc, ◌+◌, ◌<◌, List, [], ◌∷◌, length, get_or, take, map, ◌++◌, IsTrue, true, Ordering, Less, Equal, Greater, nat_cmp, String, Global, string_bytes, refl, sym, ap, ◌∙◌, subst, append-nil, add-one, arith}
 use Rattle.std.proofs.lemmas.Bool.{and_parts}
 use Rattle.std.proofs.lemmas.Cmp.{nat_list_cmp_total}
-use Rattle.std.proofs.lemmas.List.{get_or-map, length-map}
+use Rattle.std.proofs.lemmas.List.{append_assoc, get_or-map, get_or_at, length-append, length-map, take_at}
 use Rattle.std.specs.Cmp.Lexicographic.{slice_cmp}
 use Rattle.std.specs.FinMap.{is_sorted}
 use Rattle.std.specs.FinMap.Entries.{below_all}
@@ -50,8 +50,23 @@ put_next_shown fields i field within is rising =
     let here : shown_field field ≡ get_or (map shown_field fields) i (shown_field field) = ap shown_field is ∙ sym (get_or-map shown_field fields i field (shown_field field) within) in
     rw add-one (put_next string fields_data refl (λ e es. refl) (map shown_field fields) i (shown_field field) inside here rising)
 
--- the same of marks
-pub put_next_mark : (marks : Positions) (i : ℕ) (mark : List ℕ × ℕ) → i < length marks → mark ≡ get_or marks i mark → IsTrue (is_sorted name_cmp marks)
-    → put mark.0 (number (unsigned mark.1)) (positions_data (take i marks)) ≡ positions_data (take (i + 1) marks)
-put_next_mark marks i mark within is rising =
-    rw add-one (put_next (λ n. number (unsigned n)) positions_data refl (λ e es. refl) marks i mark within is rising)
+-- the members after all entries were put to them, one after another
+abbrev pub put_all : Members → Positions → Members
+put_all members [] = members
+put_all members (mark ∷ marks) = put_all (put mark.0 (number (unsigned mark.1)) members) marks
+
+-- marks by rising names, put to those before them, are the members of all
+pub put_behind : (front back : Positions) → IsTrue (is_sorted name_cmp (front ++ back)) → put_all (positions_data front) back ≡ positions_data (front ++ back)
+put_behind front [] rising = ap positions_data (sym (append-nil front))
+put_behind front (mark ∷ back) rising =
+    let marks = front ++ mark ∷ back in
+    let within : length front < length marks = simp length-append (omega arith) in
+    let here : mark ≡ get_or marks (length front) mark = sym (get_or_at front mark back mark (length front) refl) in
+    let whole : (front ++ mark ∷ []) ++ back ≡ marks = append_assoc front (mark ∷ []) back in
+    let before : take (length front) marks ≡ front = take_at front (mark ∷ back) (length front) refl in
+    let behind : take (suc (length front)) marks ≡ front ++ mark ∷ [] =
+    ap (take (suc (length front))) (sym whole) ∙ take_at (front ++ mark ∷ []) back (suc (length front)) (simp length-append (omega arith)) in
+    let next = put_next (λ n. number (unsigned n)) positions_data refl (λ e es. refl) marks (length front) mark within here rising in
+    ap (λ (ms : Members). put_all ms back) (ap (λ (f : Positions). put mark.0 (number (unsigned mark.1)) (positions_data f)) (sym before) ∙ next ∙ ap positions_data behind)
+    ∙ put_behind (front ++ mark ∷ []) back (subst (λ (ms : Positions). IsTrue (is_sorted name_cmp ms)) (sym whole) rising)
+    ∙ ap positions_data whole

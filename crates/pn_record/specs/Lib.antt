@@ -4,6 +4,7 @@ pub mod Cells
 pub mod Coding
 pub mod Faults
 pub mod Grammar
+pub mod Held
 pub mod Laws
 pub mod Limits
 pub mod Marks

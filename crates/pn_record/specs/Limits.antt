@@ -31,6 +31,10 @@ most_fields = 64
 abbrev pub most_field_bytes : ℕ
 most_field_bytes = 8192
 
+-- how many bytes a key has at most that is held in place, without memory of its own
+abbrev pub longest_short : ℕ
+longest_short = 31
+
 -- a generation from 1 on and a number, both at most the greatest
 abbrev pub is_version : ℕ × ℕ → Bool
 is_version version = nat_le 1 version.0 && nat_le version.0 greatest && nat_le version.1 greatest

@@ -8,6 +8,7 @@ ghost use Rattle.pn_record.specs.Laws.JoinedCells.{cell_joined-laws};
 ghost use Rattle.pn_record.specs.States.{state_of, is_deletion as deletes};
 
 use crate::gather::gathered;
+use crate::held_contents::HeldContents;
 use crate::{Body, Content, Version};
 use pn_join::{Dup, Join, NoMemory};
 use std::alloc::Global;
@@ -20,7 +21,7 @@ use std::sync::Arc;
 #[derive(Debug, Drop)]
 pub struct Cell {
     version: Version,
-    contents: Arc<Vec<Content>>,
+    contents: Arc<HeldContents>,
     alloc: Global,
 }
 
@@ -41,15 +42,16 @@ impl Model for Cell {
     ghost use Rattle.std.specs.FinMap as map;
     ghost use base.Stored.{coded_unit};
     ghost use Rattle.pn_record.specs.Coding.{shown_code};
+    ghost use Rattle.pn_record.specs.Held.{held_contents};
     ghost use Rattle.pn_record.specs.Sets.{CellValue, set_of, IsContents};
 
     ghost Value = { CellValue };
 
     ghost coded = { coded× (coded× coded_ℕ coded_ℕ) (map.code shown_code coded_unit) };
 
-    ghost view = { λ cell. (cell.version, set_of cell.contents.value.items) };
+    ghost view = { λ cell. (cell.version, set_of (held_contents cell.contents.value)) };
 
-    ghost invariant = { λ cell. IsContents cell.contents.value.items };
+    ghost invariant = { λ cell. IsContents (held_contents cell.contents.value) };
 }
 
 impl Cell {
@@ -57,11 +59,9 @@ impl Cell {
     pub fn of(alloc: Global, version: Version, content: Content) -> Result<Cell, NoMemory>
         ensures { IfOk result (λ cell. (cell ≡ (version, set_of (content ∷ []))) × HasContents cell) }
     {
-        let mut contents = Vec::with_capacity(alloc, 1)?;
-        contents.push(content)?;
         Ok(Cell {
             version,
-            contents: Arc::new(alloc, contents)?,
+            contents: Arc::new(alloc, HeldContents::One(content))?,
             alloc,
         })
     }
@@ -79,7 +79,7 @@ impl Cell {
         ensures contents { result.now ≡ keys self.now.1 }
         ensures some { 0 < length result.now }
     {
-        &self.contents
+        self.contents.as_slice()
     }
 
     /// What its contents say together. It takes no memory.
@@ -162,8 +162,12 @@ impl Cell {
         ensures some { HasContents self.old × HasContents other.now × HasContents self.new }
     {
         if !are_same(self.contents(), other.contents()) {
-            let contents = gathered(self.alloc, &self.contents, &other.contents)?;
-            self.contents = Arc::new(self.alloc, contents)?;
+            let contents = gathered(
+                self.alloc,
+                self.contents.as_slice(),
+                other.contents.as_slice(),
+            )?;
+            self.contents = Arc::new(self.alloc, HeldContents::Many(contents))?;
         }
         Ok(())
     }

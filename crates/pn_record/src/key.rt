@@ -9,6 +9,7 @@ ghost use Rattle.std.specs.Cmp.Lexicographic.{slice_cmp};
 ghost use Rattle.std.proofs.Common.{rules};
 ghost use Rattle.pn_record.specs.Limits.{is_key as is_key_text};
 
+use crate::key_text::KeyText;
 use crate::limits::LONGEST_KEY;
 use pn_join::{Dup, NoMemory};
 use std::alloc::Global;
@@ -16,10 +17,11 @@ use std::cmp::Ordering;
 use std::marker::Model;
 use thiserror::Error;
 
-/// A record's key: text of 1 to 256 bytes. Keys are ordered by their bytes.
+/// A record's key: text of 1 to 256 bytes. Keys are ordered by their bytes. One of at most 31 bytes
+/// takes no memory of its own.
 #[derive(Debug, Drop)]
 pub struct Key {
-    text: String,
+    text: KeyText,
 }
 
 /// Why a text was not taken as a key.
@@ -32,14 +34,15 @@ pub enum KeyFault {
 }
 
 impl Model for Key {
-    ghost use Rattle.std.specs.Prelude.{ℕ, List, IsTrue, string_bytes};
+    ghost use Rattle.std.specs.Prelude.{ℕ, List, IsTrue};
     ghost use Rattle.pn_record.specs.Limits.{is_key};
+    ghost use Rattle.pn_record.specs.Held.{held_text};
 
     ghost Value = { List ℕ };
 
-    ghost view = { λ key. string_bytes key.text };
+    ghost view = { λ key. held_text key.text };
 
-    ghost invariant = { λ key. IsTrue (is_key (string_bytes key.text)) };
+    ghost invariant = { λ key. IsTrue (is_key (held_text key.text)) };
 }
 
 impl Key {
@@ -51,7 +54,7 @@ impl Key {
         if !is_key(text) {
             return Err(KeyFault::OutOfRange);
         }
-        match String::from_str(alloc, text) {
+        match KeyText::of(alloc, text) {
             Ok(text) => Ok(Key { text }),
             Err(_) => Err(KeyFault::Memory),
         }
@@ -77,7 +80,7 @@ impl Dup for Key {
         ensures { IfOk result (λ copy. copy ≡ self.now) }
     {
         Ok(Key {
-            text: self.text.clone()?,
+            text: self.text.copied()?,
         })
     }
 }

@@ -76,7 +76,7 @@ fn are_marks(members: &Map<String, Value>) -> bool
 fn is_mark(name: &str, position: u64) -> bool
     ensures { result ≡ is_mark_of (name.now, position) }
 {
-    Name::read(name.as_bytes()).is_ok() && 1 <= position && position <= GREATEST
+    Name::fits(name.as_bytes()) && 1 <= position && position <= GREATEST
 }
 
 fn number_of(value: &Value) -> u64
@@ -92,9 +92,7 @@ fn marks_from(alloc: Global, members: &Map<String, Value>) -> Result<Marks, NoMe
 {
     let mut marks = Table::new(alloc);
     for (name, value) in members.iter() {
-        let Ok(name) = Name::read(name.as_str().as_bytes()) else {
-            unreachable!()
-        };
+        let name = Name::of(name.as_str().as_bytes());
         marks.join_entry(name, Highest(number_of(value)))?;
     }
     Ok(marks)
@@ -114,10 +112,7 @@ fn members_of(alloc: Global, marks: &Marks) -> Result<Map<String, Value>, NoMemo
     ensures names { OnOk result (IsTrue (list_all (λ mark. is_name mark.0) marks.now)) }
 {
     let mut members = Map::new(alloc);
-    for place in 0..marks.len() {
-        let Some((name, position)) = marks.entry_at(place) else {
-            unreachable!()
-        };
+    for (name, position) in marks.iter() {
         serde_json::put(&mut members, alloc, name.as_str(), Value::from(position.0))?;
     }
     Ok(members)

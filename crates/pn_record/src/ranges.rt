@@ -28,7 +28,7 @@ impl Shape<'_> {
         if !is_key(self.key) {
             return Err(Member::Key);
         }
-        if Name::read(self.master.as_bytes()).is_err() {
+        if !Name::fits(self.master.as_bytes()) {
             return Err(Member::Master);
         }
         let (generation, number) = self.version;

@@ -122,9 +122,7 @@ impl Shape<'_> {
             return Err(NoMemory);
         };
         let body = body_of(alloc, self.fields)?;
-        let Ok(master) = Name::read(self.master.as_bytes()) else {
-            unreachable!()
-        };
+        let master = Name::of(self.master.as_bytes());
         let (generation, number) = self.version;
         Ok(Image {
             key,

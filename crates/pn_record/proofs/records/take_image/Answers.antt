@@ -11,7 +11,4 @@ returns-clause-ok c =
     let image = c.args.image in
     let entry = (image.key, c.in_ok-of.field-0) ∷ [] in
     let one : Holds entry (image ∷ []) = subst (λ (cell : CellValue). Holds ((image.key, cell) ∷ []) (image ∷ [])) (sym c.in_ok-of.ensures.0) (Holds-one image) in
-    on_ok_weaker c.join_entry.result (λ is. λ taken held. Holds-joined c.args.records.now entry c.join_entry.new.self is taken (image ∷ []) held one) c.join_entry.ensures.ok
-
-pub returns-clause-rising : goal.returns-clause-rising
-returns-clause-rising c = on_ok_weaker c.join_entry.result (λ _. c.join_entry.ensures.table.rising) c.join_entry.ensures.ok
+    on_ok_weaker c.join_entry-2.result (λ is. λ taken held. Holds-joined c.args.records.now entry c.join_entry-2.new.self is taken (image ∷ []) held one) c.join_entry-2.ensures.ok

@@ -1,0 +1,55 @@
+//! What a key holds: its text, a short one in place.
+
+ghost use Rattle.std.specs.Prelude.{◌≡◌, nat_le, length, IsTrue, IfOk, IsOk};
+ghost use Rattle.pn_record.specs.Held.{held_text, is_in_place};
+ghost use Rattle.pn_record.specs.Limits.{longest_short};
+
+use crate::short_text::{LONGEST_SHORT, ShortText};
+use pn_join::NoMemory;
+use std::alloc::Global;
+
+/// A text, in place where it is short.
+#[derive(Debug, Drop)]
+pub enum KeyText {
+    /// At most 31 bytes.
+    Short(ShortText),
+    /// More than 31 bytes.
+    Long(String),
+}
+
+impl KeyText {
+    /// Copies a text. A short one takes no memory, so that it always succeeds.
+    pub fn of(alloc: Global, text: &str) -> Result<KeyText, NoMemory>
+        ensures copied { IfOk result (λ held. held_text held ≡ text.now) }
+        ensures in_place { IfOk result (λ held. is_in_place held ≡ nat_le (length text.now) longest_short) }
+        ensures always { IsTrue (nat_le (length text.now) longest_short) → IsOk result }
+    {
+        if text.len() <= LONGEST_SHORT {
+            Ok(KeyText::Short(ShortText::of(text)))
+        } else {
+            Ok(KeyText::Long(String::from_str(alloc, text)?))
+        }
+    }
+
+    /// The text.
+    pub fn as_str(&self) -> &str
+        ensures { result.now ≡ held_text self.now }
+    {
+        match self {
+            KeyText::Short(text) => text.as_str(),
+            KeyText::Long(text) => text.as_str(),
+        }
+    }
+
+    /// The same text. A short one takes no memory, so that it always succeeds.
+    pub fn copied(&self) -> Result<KeyText, NoMemory>
+        ensures equal { IfOk result (λ copy. held_text copy ≡ held_text self.now) }
+        ensures in_place { IfOk result (λ copy. is_in_place copy ≡ is_in_place self.now) }
+        ensures always { IsTrue (is_in_place self.now) → IsOk result }
+    {
+        match self {
+            KeyText::Short(text) => Ok(KeyText::Short(text.copied())),
+            KeyText::Long(text) => Ok(KeyText::Long(text.clone()?)),
+        }
+    }
+}

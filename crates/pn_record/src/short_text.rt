@@ -1,0 +1,67 @@
+//! Short texts, held in place.
+
+ghost use Rattle.std.specs.Prelude.{◌≡◌, ◌≤◌, length, IsUtf8};
+ghost use Rattle.pn_record.specs.Limits.{longest_short as most};
+
+use std::marker::Model;
+use std::str;
+
+/// How many bytes a short text may have.
+pub const LONGEST_SHORT: usize = 31;
+
+/// A text of at most 31 bytes, without memory of its own.
+#[derive(Debug, Drop)]
+pub struct ShortText {
+    bytes: [u8; LONGEST_SHORT],
+    length: u8,
+}
+
+impl Model for ShortText {
+    ghost use Rattle.std.specs.Prelude.{ℕ, List, take, ◌≤◌, IsUtf8};
+    ghost use Rattle.pn_record.specs.Limits.{longest_short};
+
+    ghost Value = { List ℕ };
+
+    ghost view = { λ text. take text.length text.bytes };
+
+    ghost invariant = { λ text. (text.length ≤ longest_short) × IsUtf8 (take text.length text.bytes) };
+}
+
+impl ShortText {
+    /// A copy of a text that is short.
+    pub fn of(text: &str) -> ShortText
+        requires short { length text.now ≤ most }
+        ensures copied { result ≡ text.now }
+    {
+        let mut bytes = [0; LONGEST_SHORT];
+        bytes[..text.len()].copy_from_slice(text.as_bytes());
+        ShortText {
+            bytes,
+            length: text.len() as u8,
+        }
+    }
+
+    /// The text.
+    pub fn as_str(&self) -> &str
+        ensures text { result.now ≡ self.now }
+    {
+        unsafe { str::from_utf8_unchecked(self.as_bytes()) }
+    }
+
+    fn as_bytes(&self) -> &[u8]
+        ensures bytes { result.now ≡ self.now }
+        ensures text { IsUtf8 self.now }
+    {
+        &self.bytes[..self.length as usize]
+    }
+
+    /// The same text. It takes no memory.
+    pub fn copied(&self) -> ShortText
+        ensures { result ≡ self.now }
+    {
+        ShortText {
+            bytes: self.bytes,
+            length: self.length,
+        }
+    }
+}
