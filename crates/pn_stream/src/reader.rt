@@ -188,6 +188,6 @@ impl<S: Source + Drop> StreamReader<S> {
         let Ok(stream) = self.name.dup() else {
             unreachable!()
         };
-        Delivery::new(stream, first, images).unwrap()
+        Delivery::of(stream, first, images)
     }
 }

@@ -1,5 +1,5 @@
 -- The state of a tablet.
-use Rattle.std.specs.Prelude.{ℕ, Bool, ◌&&◌, ◌≡◌, IsTrue, List, [], Option, None, Some}
+use Rattle.std.specs.Prelude.{Bool, ◌&&◌, ◌≡◌, IsTrue, [], Option, None, Some}
 use Rattle.std.specs.Option.{option_eq}
 use Rattle.std.specs.Str.{bytes_eq}
 use Rattle.std.specs.List.{list_all}
