@@ -1,0 +1,141 @@
+-- What a continuation asks for is what stands behind the page.
+use Rattle.std.proofs.Common.{◌≡◌, ℕ, zero, suc, Bool, true, false, ◌&&◌, cond, List, [], ◌∷◌, ◌++◌, take, drop, Option, Some, None, Ordering, Less, Equal, Greater, is_lt, refl, sym, ap, ◌∙◌, subst}
+use Rattle.std.specs.Prelude.{filter}
+use Rattle.std.specs.List.{list_all, last_or}
+use Rattle.std.specs.Ordering.{ordering_reverse}
+use Rattle.std.proofs.lemmas.Cmp.{nat_list_cmp_total}
+use Rattle.std.proofs.lemmas.List.{take-append-drop}
+use Rattle.std.proofs.lemmas.List.Elements.{filter_agree}
+use Rattle.pn_join.proofs.Rising.{Below, Rising, Below-prefix}
+use Rattle.pn_record.specs.CellMap.{Entries}
+use Rattle.pn_record.specs.Order.{bytes_cmp}
+use Rattle.pn_record.specs.Sets.{CellValue}
+use Rattle.pn_record.proofs.Sorted.{is_less, both_true, first_true, second_true}
+use Rattle.pn_tablet.specs.Ranges.{is_below, is_from, is_before}
+use Rattle.pn_scan.specs.Queries.{QueryValue, continued}
+use Rattle.pn_scan.specs.Shown.{is_after, is_shown, has_shown, shown_rows}
+use Rattle.pn_scan.proofs.Numbers.{keeps_all, kept_pass}
+
+abbrev pub Row : Type 0
+Row = List ℕ × CellValue
+
+-- rows above a key
+abbrev above : List ℕ → Row → Bool
+above key row = is_below key row.0
+
+not_above : (low high : List ℕ) → bytes_cmp low high ≡ Less → is_below high low ≡ false
+not_above low high rises = ap is_lt (nat_list_cmp_total.antisymm high low ∙ ap ordering_reverse rises)
+
+not_turned : (o : Ordering) → o ≡ ordering_reverse o → is_lt o ≡ false
+not_turned Less turned = cc
+not_turned Equal turned = refl
+not_turned Greater turned = refl
+
+not_itself : (key : List ℕ) → is_below key key ≡ false
+not_itself key = not_turned (bytes_cmp key key) (nat_list_cmp_total.antisymm key key)
+
+all_above : (key : List ℕ) (rows : Entries) → Below bytes_cmp key rows → list_all (above key) rows ≡ true
+all_above key [] rises = refl
+all_above key (row ∷ rows) rises = both_true _ _ (ap is_lt rises.0) (all_above key rows rises.1)
+
+-- the last of rows above a key is above it
+pub last_above : (key : List ℕ) (first : Row) (rows : Entries) (row : Row) → Below bytes_cmp key (first ∷ rows) → last_or (Some first) rows ≡ Some row → bytes_cmp key row.0 ≡ Less
+last_above key first [] row rises is = let same : first ≡ row = cc in ap (λ (r : Row). bytes_cmp key r.0) (sym same) ∙ rises.0
+last_above key first (next ∷ rows) row rises is = last_above key next rows row rises.1 is
+
+kept_none : (key : List ℕ) (first : Row) (rows : Entries) → is_below key first.0 ≡ false → filter (above key) (first ∷ rows) ≡ filter (above key) rows
+kept_none key first rows low = ap (λ b. cond b (first ∷ filter (above key) rows) (filter (above key) rows)) low
+
+behind_from : (first : Row) (rows back : Entries) (row : Row) → Rising bytes_cmp (first ∷ rows ++ back) → last_or (Some first) rows ≡ Some row → filter (above row.0) (first ∷ rows ++ back) ≡ back
+behind_from first [] back row rises is =
+    let same : first ≡ row = cc in
+    subst (λ (r : Row). filter (above r.0) (first ∷ back) ≡ back) same
+    (kept_none first.0 first back (not_itself first.0) ∙ keeps_all (above first.0) back (all_above first.0 back rises.0))
+behind_from first (next ∷ rows) back row rises is =
+    kept_none row.0 first (next ∷ rows ++ back) (not_above first.0 row.0 (last_above first.0 next rows row (Below-prefix bytes_cmp first.0 (next ∷ rows) back rises.0) is))
+    ∙ behind_from next rows back row rises.1 is
+
+-- the rows above the last of the first rows are those behind it
+pub behind_last : (front back : Entries) (row : Row) → Rising bytes_cmp (front ++ back) → last_or None front ≡ Some row → filter (above row.0) (front ++ back) ≡ back
+behind_last [] back row rises is = cc
+behind_last (first ∷ rows) back row rises is = behind_from first rows back row rises is
+
+-- rows that a test keeps rise
+below_kept : (p : Row → Bool) (key : List ℕ) (rows : Entries) → Below bytes_cmp key rows → Below bytes_cmp key (filter p rows)
+below_kept p key [] rises = tt
+below_kept p key (row ∷ rows) rises =
+    elim (p row) as (λ b. Below bytes_cmp key (cond b (row ∷ filter p rows) (filter p rows))) [
+      | true ↦ (rises.0, below_kept p key rows rises.1)
+      | false ↦ below_kept p key rows rises.1
+    ]
+
+pub rising_kept : (p : Row → Bool) (rows : Entries) → Rising bytes_cmp rows → Rising bytes_cmp (filter p rows)
+rising_kept p [] rises = tt
+rising_kept p (row ∷ rows) rises =
+    elim (p row) as (λ b. Rising bytes_cmp (cond b (row ∷ filter p rows) (filter p rows))) [
+      | true ↦ (below_kept p row.0 rows rises.0, rising_kept p rows rises.1)
+      | false ↦ rising_kept p rows rises.1
+    ]
+
+-- the last of rows that all pass a test passes it
+last_passes : (p : Row → Bool) (first : Row) (rows : Entries) (row : Row) → list_all p (first ∷ rows) ≡ true → last_or (Some first) rows ≡ Some row → p row ≡ true
+last_passes p first [] row all is = let same : first ≡ row = cc in ap p (sym same) ∙ first_true (p first) true all
+last_passes p first (next ∷ rows) row all is = last_passes p next rows row (second_true (p first) (list_all p (next ∷ rows)) all) is
+
+all_front : (p : Row → Bool) (n : ℕ) (rows : Entries) → list_all p rows ≡ true → list_all p (take n rows) ≡ true
+all_front p zero rows all = refl
+all_front p (suc n) [] all = refl
+all_front p (suc n) (row ∷ rows) all = both_true _ _ (first_true (p row) (list_all p rows) all) (all_front p n rows (second_true (p row) (list_all p rows) all))
+
+last_shown : (query : QueryValue) (front : Entries) (row : Row) → list_all (is_shown query) front ≡ true → last_or None front ≡ Some row → is_shown query row ≡ true
+last_shown query [] row all is = cc
+last_shown query (first ∷ rows) row all is = last_passes (is_shown query) first rows row all is
+
+pub third_true : (a b c d : Bool) → ((a && b && c) && d) ≡ true → c ≡ true
+third_true true true true d h = refl
+third_true true true false d h = h
+third_true true false c d h = cc
+third_true false b c d h = cc
+
+-- a key above one that is asked for is above what that one is above
+pub after_too : (after : Option (List ℕ)) (key other : List ℕ) → is_after after key ≡ true → is_below key other ≡ true → is_after after other ≡ true
+after_too None key other asked higher = refl
+after_too (Some after) key other asked higher = ap is_lt (nat_list_cmp_total.trans after key other (is_less (bytes_cmp after key) asked) (is_less (bytes_cmp key other) higher))
+
+-- the tests of a continuation, by those of the query
+mixed : (a b c x d : Bool) → (x ≡ true → c ≡ true) → ((a && b && x) && d) ≡ (x && ((a && b && c) && d))
+mixed a b c true d implies = ap (λ t. (a && b && t) && d) (sym (implies refl))
+mixed true true c false d implies = refl
+mixed true false c false d implies = refl
+mixed false b c false d implies = refl
+
+continued_shown : (query : QueryValue) (key : List ℕ) (row : Row) → is_after query.after key ≡ true → is_shown (continued query key) row ≡ (above key row && is_shown query row)
+continued_shown query key row asked =
+    mixed (is_from query.from row.0) (is_before query.to row.0) (is_after query.after row.0) (is_below key row.0) (has_shown query.conditions row.1) (after_too query.after key row.0 asked)
+
+both_kept : (p q : Row → Bool) (rows : Entries) → filter (λ row. p row && q row) rows ≡ filter p (filter q rows)
+both_kept p q [] = refl
+both_kept p q (row ∷ rows) =
+    elim (q row) as (λ b. cond (p row && b) (row ∷ filter (λ row. p row && q row) rows) (filter (λ row. p row && q row) rows) ≡ filter p (cond b (row ∷ filter q rows) (filter q rows))) [
+      | true ↦ elim (p row) as (λ a. cond (a && true) (row ∷ filter (λ row. p row && q row) rows) (filter (λ row. p row && q row) rows) ≡ cond a (row ∷ filter p (filter q rows)) (filter p (filter q rows))) [
+        | true ↦ ap (λ (l : Entries). row ∷ l) (both_kept p q rows)
+        | false ↦ both_kept p q rows
+      ]
+      | false ↦ elim (p row) as (λ a. cond (a && false) (row ∷ filter (λ row. p row && q row) rows) (filter (λ row. p row && q row) rows) ≡ filter p (filter q rows)) [
+        | true ↦ both_kept p q rows
+        | false ↦ both_kept p q rows
+      ]
+    ]
+
+-- the continuation behind the first rows shows the others
+pub shown_behind : (query : QueryValue) (cells : Entries) (n : ℕ) (row : Row) → Rising bytes_cmp cells → last_or None (take n (shown_rows query cells)) ≡ Some row
+    → shown_rows (continued query row.0) cells ≡ drop n (shown_rows query cells)
+shown_behind query cells n row rises is =
+    let rows = shown_rows query cells in
+    let shown = last_shown query (take n rows) row (all_front (is_shown query) n rows (kept_pass (is_shown query) cells)) is in
+    let asked : is_after query.after row.0 ≡ true = third_true (is_from query.from row.0) (is_before query.to row.0) (is_after query.after row.0) (has_shown query.conditions row.1) shown in
+    let parts : take n rows ++ drop n rows ≡ rows = take-append-drop n rows in
+    filter_agree (is_shown (continued query row.0)) (λ other. above row.0 other && is_shown query other) (λ other. continued_shown query row.0 other asked) cells
+    ∙ both_kept (above row.0) (is_shown query) cells
+    ∙ ap (filter (above row.0)) (sym parts)
+    ∙ behind_last (take n rows) (drop n rows) row (subst (Rising bytes_cmp) (sym parts) (rising_kept (is_shown query) cells rises)) is

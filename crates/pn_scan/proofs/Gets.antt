@@ -1,0 +1,105 @@
+-- A get that looks up one key after another.
+use Rattle.std.proofs.Common.{◌≡◌, ℕ, ◌+◌, ◌<◌, ◌≤◌, List, [], ◌∷◌, ◌++◌, length, map, take, get_or, true, Option, None, Ok, Err, refl, sym, ap, ◌∙◌, subst, arith, length-append}
+use Rattle.std.specs.List.{AllByRecursion}
+use Rattle.std.specs.FinMap.{find}
+use Rattle.std.proofs.lemmas.List.{map-append, take_more, take-append-le}
+use Rattle.pn_record.specs.Order.{bytes_cmp}
+use Rattle.pn_record.specs.Sets.{CellValue}
+use Rattle.pn_tablet.specs.Layouts.{Bounds, tablet_of}
+use Rattle.pn_tablet.specs.Refusals.{IsRight, Refuses}
+use Rattle.pn_scan.specs.Candidates.{Look, cells_in}
+use Rattle.pn_scan.specs.Pages.{refusal, first_refusal, unless}
+use Rattle.pn_scan.specs.Views.{IsFoundIn, Looks, is_memory, cell_at}
+use Rattle.pn_scan.specs.Reads.{IsGet, cells_got}
+use Rattle.pn_scan.specs.declared.fault.ScanFault.{ScanFault}
+use Rattle.pn_scan.proofs.Scans.{looks_more, found_more, refused_last, none_refused_front, is_right_too, ok_value}
+
+none_got : (keys : List (List ℕ)) → [] ≡ cells_got keys []
+none_got [] = refl
+none_got (key ∷ keys) = refl
+
+-- the cell of one key more
+got_more : (keys : List (List ℕ)) (seen : List Look) (key : List ℕ) (look : Look) → length seen < length keys → key ≡ get_or keys (length seen) key → cells_got keys (seen ++ look ∷ []) ≡ cells_got keys seen ++ find bytes_cmp key (cells_in look.1) ∷ []
+got_more [] seen key look inside here = absurd (omega arith)
+got_more (k ∷ ks) [] key look inside here = λ i. find bytes_cmp (sym here i) (cells_in look.1) ∷ sym (none_got ks) i
+got_more (k ∷ ks) (first ∷ seen) key look inside here = ap (λ (cells : List (Option CellValue)). find bytes_cmp k (cells_in first.1) ∷ cells) (got_more ks seen key look (omega arith) here)
+
+-- a get so far: one key after another was found
+pub record IsGetting {V : Type 0} (looks : V → Look → V → Type 0) (bounds : Bounds) (keys : List (List ℕ)) (place : ℕ) (old now : V) (cells : List (Option CellValue)) (seen : List Look) : Type 0 where
+  pub looked : Looks looks old seen now
+  pub found : AllByRecursion (IsFoundIn bounds) seen
+  pub count : length seen ≡ place
+  pub order : map (λ look. look.0) seen ≡ map (tablet_of bounds) (take (length seen) keys)
+  pub none_refused : first_refusal seen ≡ None
+  pub got : cells ≡ cells_got keys seen
+
+pub getting_none : {V : Type 0} (looks : V → Look → V → Type 0) (bounds : Bounds) (keys : List (List ℕ)) (now : V) → IsGetting looks bounds keys 0 now now [] []
+getting_none looks bounds keys now = record { looked = refl; found = tt; count = refl; order = refl; none_refused = refl; got = none_got keys }
+
+-- before the first look nothing but memory can fail
+pub get_fails_at_once : {V A : Type 0} (looks : V → Look → V → Type 0) (bounds : Bounds) (keys : List (List ℕ)) (now : V) (show : A → List (Option CellValue)) (why : ScanFault) → is_memory why ≡ true → IsGet looks bounds keys now now show (Err why) []
+get_fails_at_once looks bounds keys now show why memory = record {
+  looked = refl;
+  found = tt;
+  order = refl;
+  only = λ n inside. absurd (omega (arith, inside));
+  answers = subst (λ b. IsRight b why (Ok (cells_got keys []))) (sym memory) refl;
+  whole = tt;
+}
+
+module _ {V : Type 0} (looks : V → Look → V → Type 0) (bounds : Bounds) (keys : List (List ℕ)) (place : ℕ) (old now : V) (cells : List (Option CellValue)) (seen : List Look) (getting : IsGetting looks bounds keys place old now cells seen) where
+  module _ (key : List ℕ) (inside : place < length keys) (at : key ≡ get_or keys place key) (look : Look) (here : look.0 ≡ tablet_of bounds key) (new : V) (looked : looks now look new) (found : IsFoundIn bounds look) where
+    size : length (seen ++ look ∷ []) ≡ length seen + 1
+    size = length-append seen (look ∷ [])
+
+    at_end : key ≡ get_or keys (length seen) key
+    at_end = at ∙ ap (λ n. get_or keys n key) (sym getting.count)
+
+    order : map (λ look. look.0) (seen ++ look ∷ []) ≡ map (tablet_of bounds) (take (length (seen ++ look ∷ [])) keys)
+    order =
+        map-append (λ (other : Look). other.0) seen (look ∷ [])
+        ∙ (λ i. getting.order i ++ (here ∙ ap (tablet_of bounds) at_end) i ∷ [])
+        ∙ sym (map-append (tablet_of bounds) (take (length seen) keys) (get_or keys (length seen) key ∷ []))
+        ∙ ap (map (tablet_of bounds)) (sym (take_more keys (length seen) key (omega (arith, getting.count))) ∙ ap (λ n. take n keys) (sym size))
+
+    only : (n : ℕ) → n < length (seen ++ look ∷ []) → first_refusal (take n (seen ++ look ∷ [])) ≡ None
+    only n within =
+        let short : n ≤ length seen = omega (arith, size, within) in
+        ap first_refusal (take-append-le n seen (look ∷ []) short) ∙ none_refused_front n seen getting.none_refused
+
+    refused : first_refusal (seen ++ look ∷ []) ≡ refusal look
+    refused = refused_last seen look getting.none_refused
+
+    pub get_fails : {A : Type 0} (show : A → List (Option CellValue)) (why : ScanFault) → Refuses is_memory why (cell_at key look) → IsGet looks bounds keys old new show (Err why) (seen ++ look ∷ [])
+    get_fails show why refuses = record {
+      looked = looks_more looks old now new seen look getting.looked looked;
+      found = found_more bounds seen look getting.found found;
+      order = order;
+      only = only;
+      answers = subst (λ (o : Option ScanFault). Refuses is_memory why (unless o (cells_got keys (seen ++ look ∷ [])))) (sym refused)
+          (is_right_too (is_memory why) why (refusal look) _ (cells_got keys (seen ++ look ∷ [])) refuses);
+      whole = tt;
+    }
+
+    pub getting_more : (cell : Option CellValue) → cell_at key look ≡ Ok cell → IsGetting looks bounds keys (place + 1) old new (cells ++ cell ∷ []) (seen ++ look ∷ [])
+    getting_more cell right =
+        let parts = ok_value (refusal look) _ cell right in
+        record {
+          looked = looks_more looks old now new seen look getting.looked looked;
+          found = found_more bounds seen look getting.found found;
+          count = size ∙ ap (λ n. n + 1) getting.count;
+          order = order;
+          none_refused = refused ∙ parts.0;
+          got = (λ i. getting.got i ++ parts.1 i ∷ []) ∙ sym (got_more keys seen key look (omega (arith, getting.count)) at_end);
+        }
+
+  -- where every key was found, all are
+  pub get_ends : {A : Type 0} (show : A → List (Option CellValue)) (answer : A) → show answer ≡ cells → length keys ≡ place → IsGet looks bounds keys old now show (Ok answer) seen
+  get_ends show answer shows all = record {
+    looked = getting.looked;
+    found = getting.found;
+    order = getting.order;
+    only = λ n inside. none_refused_front n seen getting.none_refused;
+    answers = ap (λ (o : Option ScanFault). unless o (cells_got keys seen)) getting.none_refused ∙ ap (λ (l : List (Option CellValue)). Ok l) (sym getting.got ∙ sym shows);
+    whole = getting.count ∙ sym all;
+  }

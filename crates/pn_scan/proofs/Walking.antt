@@ -1,0 +1,135 @@
+-- A walk over rising entries, from the first that may be shown to the end of the keys that are asked for.
+use Rattle.std.proofs.Common.{◌≡◌, ℕ, zero, suc, ◌+◌, ◌≤◌, Bool, true, false, not, ◌&&◌, cond, List, [], ◌∷◌, ◌++◌, length, take, drop, max, Option, Some, None, Less, is_lt, count_by, nat_lt, refl, sym, ap, ◌∙◌, subst, inl, inr, arith, append-nil, length-append}
+use Rattle.std.specs.Option.{option_map_or}
+use Rattle.std.specs.Ordering.{ordering_reverse}
+use Rattle.std.proofs.lemmas.Bool.{cases_lt}
+use Rattle.std.proofs.lemmas.List.{take_all, take-append-le}
+use Rattle.std.proofs.lemmas.Bool.Decides.{nat_tests}
+use Rattle.std.proofs.lemmas.Cmp.{nat_list_cmp_total}
+use Rattle.std.proofs.lemmas.List.Sums.{sum_by-cons}
+use Rattle.pn_join.proofs.Rising.{Below, Rising}
+use Rattle.pn_record.proofs.Sorted.{is_less}
+use Rattle.pn_record.specs.CellMap.{Entries}
+use Rattle.pn_record.specs.Order.{bytes_cmp}
+use Rattle.pn_record.specs.Sets.{CellValue}
+use Rattle.pn_tablet.specs.Ranges.{is_below, is_from, is_before}
+use Rattle.pn_scan.specs.Queries.{QueryValue}
+use Rattle.pn_scan.specs.Shown.{is_after, is_asked, is_shown, has_shown, shown_rows}
+
+and_mid : (a b c : Bool) → b ≡ false → (a && b && c) ≡ false
+and_mid true b c p = ap (λ x. x && c) p
+and_mid false b c p = refl
+
+and_first : (a b c : Bool) → a ≡ false → (a && b && c) ≡ false
+and_first a b c p = ap (λ x. x && b && c) p
+
+and_last : (a b c : Bool) → c ≡ false → (a && b && c) ≡ false
+and_last true true c p = p
+and_last true false c p = refl
+and_last false b c p = refl
+
+pub not_asked : (q : QueryValue) (e : List ℕ × CellValue) → is_asked q e.0 ≡ false → is_shown q e ≡ false
+not_asked q e outside = ap (λ b. b && has_shown q.conditions e.1) outside
+
+-- a record that is shown, and one that is not
+pub shown_first : (q : QueryValue) (e : List ℕ × CellValue) (es : Entries) → is_shown q e ≡ true → shown_rows q (e ∷ es) ≡ e ∷ shown_rows q es
+shown_first q e es shown = ap (λ b. cond b (e ∷ shown_rows q es) (shown_rows q es)) shown
+
+pub hidden_first : (q : QueryValue) (e : List ℕ × CellValue) (es : Entries) → is_shown q e ≡ false → shown_rows q (e ∷ es) ≡ shown_rows q es
+hidden_first q e es hidden = ap (λ b. cond b (e ∷ shown_rows q es) (shown_rows q es)) hidden
+
+-- a key above one that is not below the end is not below it either
+past_end : (to : Option (List ℕ)) (key other : List ℕ) → bytes_cmp key other ≡ Less → is_before to key ≡ false → is_before to other ≡ false
+past_end None key other rises past = past
+past_end (Some to) key other rises past =
+    elim (is_below other to) as (λ b. is_below other to ≡ b → b ≡ false) [
+      | true ↦ λ p. let there : is_below key to ≡ true = ap is_lt (nat_list_cmp_total.trans key other to rises (is_less (bytes_cmp other to) p)) in sym there ∙ past
+      | false ↦ λ p. refl
+    ] refl
+
+none_later : (q : QueryValue) (key : List ℕ) (es : Entries) → is_before q.to key ≡ false → Below bytes_cmp key es → shown_rows q es ≡ []
+none_later q key [] past below = refl
+none_later q key (e ∷ es) past below =
+    hidden_first q e es (not_asked q e (and_mid (is_from q.from e.0) _ (is_after q.after e.0) (past_end q.to key e.0 below.0 past)))
+    ∙ none_later q key es past below.1
+
+-- behind the end none is shown
+pub none_past : (q : QueryValue) (e : List ℕ × CellValue) (es : Entries) → is_before q.to e.0 ≡ false → Rising bytes_cmp (e ∷ es) → shown_rows q (e ∷ es) ≡ []
+none_past q e es past rising =
+    hidden_first q e es (not_asked q e (and_mid (is_from q.from e.0) _ (is_after q.after e.0) past)) ∙ none_later q e.0 es past rising.0
+
+-- the keys that are less than a key
+abbrev pub lesser : List ℕ → Entries → ℕ
+lesser key es = count_by (λ e. is_below e.0 key) es
+
+lesser-cons : (key : List ℕ) (e : List ℕ × CellValue) (es : Entries) (b : Bool) → is_below e.0 key ≡ b → lesser key (e ∷ es) ≡ cond b 1 0 + lesser key es
+lesser-cons key e es b is = sum_by-cons _ e es ∙ ap (λ t. cond t 1 0 + lesser key es) is
+
+none_lesser : (key low : List ℕ) (es : Entries) → is_below low key ≡ false → Below bytes_cmp low es → lesser key es ≡ 0
+none_lesser key low [] above below = refl
+none_lesser key low (e ∷ es) above below =
+    let above_too : is_below e.0 key ≡ false = past_end (Some key) low e.0 below.0 above in
+    omega (arith, lesser-cons key e es false above_too, none_lesser key low es above below.1)
+
+-- where what is less than a key is not shown, the walk may begin behind it
+begin_behind : (q : QueryValue) (key : List ℕ) (es : Entries) (n : ℕ) → ((e : List ℕ × CellValue) → is_below e.0 key ≡ true → is_shown q e ≡ false)
+    → Rising bytes_cmp es → n ≤ lesser key es → shown_rows q (drop n es) ≡ shown_rows q es
+begin_behind q key es zero hidden rising few = refl
+begin_behind q key [] (suc n) hidden rising few = refl
+begin_behind q key (e ∷ es) (suc n) hidden rising few =
+    elim (is_below e.0 key) as (λ b. is_below e.0 key ≡ b → shown_rows q (drop n es) ≡ shown_rows q (e ∷ es)) [
+      | true ↦ λ p. begin_behind q key es n hidden rising.1 (omega (arith, lesser-cons key e es true p)) ∙ sym (hidden_first q e es (hidden e p))
+      | false ↦ λ p. absurd (omega (arith, few, lesser-cons key e es false p, none_lesser key e.0 es p rising.0))
+    ] refl
+
+-- how many keys are less than a key, none where there is no key
+abbrev pub lesser_at : Option (List ℕ) → Entries → ℕ
+lesser_at end es = option_map_or (λ key. lesser key es) end 0
+
+begin_from : (q : QueryValue) (es : Entries) → Rising bytes_cmp es → (end : Option (List ℕ)) → q.from ≡ end → shown_rows q (drop (lesser_at end es) es) ≡ shown_rows q es
+begin_from q es rising None is = refl
+begin_from q es rising (Some from) is =
+    begin_behind q from es (lesser from es) (λ e p. not_asked q e (and_first _ (is_before q.to e.0) (is_after q.after e.0) (ap (λ o. is_from o e.0) is ∙ ap not p))) rising (omega arith)
+
+pub below_not : (a b : List ℕ) → is_below a b ≡ true → is_below b a ≡ false
+below_not a b p = ap is_lt (nat_list_cmp_total.antisymm b a ∙ ap ordering_reverse (is_less (bytes_cmp a b) p))
+
+begin_after : (q : QueryValue) (es : Entries) → Rising bytes_cmp es → (end : Option (List ℕ)) → q.after ≡ end → shown_rows q (drop (lesser_at end es) es) ≡ shown_rows q es
+begin_after q es rising None is = refl
+begin_after q es rising (Some after) is =
+    begin_behind q after es (lesser after es) (λ e p. not_asked q e (and_last (is_from q.from e.0) (is_before q.to e.0) _ (ap (λ o. is_after o e.0) is ∙ below_not e.0 after p))) rising (omega arith)
+
+greater_of : (m n : ℕ) (P : ℕ → Type 0) → P m → P n → P (max m n)
+greater_of m n P at_m at_n =
+    elim (cases_lt m n) [
+      | inl less ↦ let e : n ≡ max m n = omega arith in subst P e at_n
+      | inr more ↦ let e : m ≡ max m n = omega arith in subst P e at_m
+    ]
+
+-- before the greater of the two places none is shown
+pub begin_there : (q : QueryValue) (es : Entries) (a b : ℕ) → Rising bytes_cmp es → a ≡ lesser_at q.from es → b ≡ lesser_at q.after es → shown_rows q (drop (max a b) es) ≡ shown_rows q es
+begin_there q es a b rising is_a is_b =
+    greater_of a b (λ n. shown_rows q (drop n es) ≡ shown_rows q es)
+    (ap (λ n. shown_rows q (drop n es)) is_a ∙ begin_from q es rising q.from refl)
+    (ap (λ n. shown_rows q (drop n es)) is_b ∙ begin_after q es rising q.after refl)
+
+-- the rows that were found are the first, and whether there are more
+module _ {A : Type 0} where
+  pub all_found : (rows all : List A) (room : ℕ) → rows ++ [] ≡ all → length rows ≤ room → (rows ≡ take room all) × (false ≡ nat_lt room (length all))
+  all_found rows all room is few =
+      let same : rows ≡ all = sym (append-nil rows) ∙ is in
+      let size = ap (λ (l : List A). length l) same in
+      let short : length all ≤ room = omega arith in
+      (same ∙ sym (take_all room all short), grind (arith, nat_tests))
+
+  pub more_found : (rows : List A) (row : A) (more all : List A) (room : ℕ) → rows ++ row ∷ more ≡ all → length rows ≡ room → (rows ≡ take room all) × (true ≡ nat_lt room (length all))
+  more_found rows row more all room is full =
+      let size : length rows + suc (length more) ≡ length all = sym (length-append rows (row ∷ more)) ∙ ap (λ (l : List A). length l) is in
+      let front : take room (rows ++ row ∷ more) ≡ take room rows = take-append-le room rows (row ∷ more) (omega arith) in
+      (sym (take_all room rows (omega arith)) ∙ sym front ∙ ap (λ (l : List A). take room l) is, grind (arith, nat_tests))
+
+-- what is left of rising entries rises
+pub rising_drop : (n : ℕ) (es : Entries) → Rising bytes_cmp es → Rising bytes_cmp (drop n es)
+rising_drop zero es rising = rising
+rising_drop (suc n) [] rising = rising
+rising_drop (suc n) (e ∷ es) rising = rising_drop n es rising.1

@@ -1,0 +1,13 @@
+pub mod Candidates
+pub mod ConditionReading
+pub mod Pages
+pub mod Queries
+pub mod QueryGrammar
+pub mod QueryJson
+pub mod QueryReading
+pub mod QueryShapes
+pub mod Reads
+pub mod Shown
+pub mod Views
+pub mod Visits
+pub mod Walks

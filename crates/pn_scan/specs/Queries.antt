@@ -1,0 +1,58 @@
+-- Queries, their conditions and their limits.
+use Rattle.std.specs.Prelude.{ℕ, Bool, ◌&&◌, nat_le, List, [], length, Option, Some, string_bytes}
+use Rattle.std.specs.List.{list_all}
+use Rattle.pn_record.specs.Limits.{is_field}
+use Rattle.pn_record.specs.Showing.{shown_value}
+use Rattle.pn_scan.specs.declared.condition.Condition.{Condition}
+use Rattle.pn_scan.specs.declared.condition.Condition.TheVariants.{Has, Eq, Lt, Gt, Prefix}
+
+-- the most rows of a page, and the most conditions of a query
+abbrev pub largest_page : ℕ
+largest_page = 1000
+
+abbrev pub most_conditions : ℕ
+most_conditions = 16
+
+-- what is asked of a field, by its name: that it is there; that its value is this one, less, greater, or begins with it
+pub data ConditionValue : Type 0 where
+  has : List ℕ → ConditionValue
+  eq : List ℕ → List ℕ → ConditionValue
+  lt : List ℕ → List ℕ → ConditionValue
+  gt : List ℕ → List ℕ → ConditionValue
+  prefix : List ℕ → List ℕ → ConditionValue
+
+-- the keys asked for are not below `from`, below `to` and above `after`; their records meet all conditions
+pub record QueryValue : Type 0 where
+  pub from : Option (List ℕ)
+  pub to : Option (List ℕ)
+  pub after : Option (List ℕ)
+  pub conditions : List ConditionValue
+  pub limit : ℕ
+
+-- what a condition of the program asks
+abbrev pub shown_condition : Condition → ConditionValue
+shown_condition (Has field) = has (string_bytes field)
+shown_condition (Eq field value) = eq (string_bytes field) (shown_value value)
+shown_condition (Lt field value) = lt (string_bytes field) (shown_value value)
+shown_condition (Gt field value) = gt (string_bytes field) (shown_value value)
+shown_condition (Prefix field value) = prefix (string_bytes field) (shown_value value)
+
+-- the field's name and the value keep the limits of fields
+abbrev pub is_condition : ConditionValue → Bool
+is_condition (has field) = is_field (field, [])
+is_condition (eq field value) = is_field (field, value)
+is_condition (lt field value) = is_field (field, value)
+is_condition (gt field value) = is_field (field, value)
+is_condition (prefix field value) = is_field (field, value)
+
+-- a page of at least one row, and not too many
+abbrev pub is_limit : ℕ → Bool
+is_limit limit = nat_le 1 limit && nat_le limit largest_page
+
+-- not too many conditions, each within its limits, and a limit of a page
+abbrev pub query_fits : List ConditionValue → ℕ → Bool
+query_fits conditions limit = is_limit limit && nat_le (length conditions) most_conditions && list_all is_condition conditions
+
+-- the same query for what stands after a key
+abbrev pub continued : QueryValue → List ℕ → QueryValue
+continued query last = record { from = query.from; to = query.to; after = Some last; conditions = query.conditions; limit = query.limit }

@@ -1,0 +1,137 @@
+//! Which records meet the conditions of a query.
+
+ghost use Rattle.std.specs.Prelude.{◌≡◌, map, option_map, IsTrue};
+ghost use Rattle.std.specs.FinMap.{find};
+ghost use Rattle.std.specs.List.{list_all};
+ghost use Rattle.std.specs.Option.{option_copied};
+ghost use Rattle.pn_record.specs.Limits.{names_rise};
+ghost use Rattle.pn_record.specs.Order.{bytes_cmp};
+ghost use Rattle.pn_record.specs.Showing.{shown_field, shown_value};
+ghost use Rattle.pn_tablet.specs.Ranges.{is_from as from_end, is_before as before_end};
+ghost use Rattle.pn_scan.specs.Queries.{shown_condition};
+ghost use Rattle.pn_scan.specs.Shown.{field_of as name_of, is_met as text_met, meets as one_met, shows as all_met, has_shown as some_shown, is_asked as key_asked, is_shown as row_shown, is_after as after_end};
+
+use crate::{Condition, Query};
+use pn_record::{Body, Cell, Content, Key, Value};
+
+/// Whether the query shows the record of a key. It takes no memory.
+pub(crate) fn is_shown(query: &Query, key: &Key, cell: &Cell) -> bool
+    ensures { result ≡ row_shown query.now (key.now, cell.now) }
+{
+    is_asked(query, key) && has_shown(query.conditions(), cell)
+}
+
+fn is_asked(query: &Query, key: &Key) -> bool
+    ensures { result ≡ key_asked query.now key.now }
+{
+    is_from(query.from(), key) && is_before(query.to(), key) && is_after(query.after(), key)
+}
+
+fn is_from(from: Option<&Key>, key: &Key) -> bool
+    ensures { result ≡ from_end (option_copied from.entry) key.now }
+{
+    match from {
+        None => true,
+        Some(from) => key >= from,
+    }
+}
+
+pub(crate) fn is_before(to: Option<&Key>, key: &Key) -> bool
+    ensures { result ≡ before_end (option_copied to.entry) key.now }
+{
+    match to {
+        None => true,
+        Some(to) => key < to,
+    }
+}
+
+fn is_after(after: Option<&Key>, key: &Key) -> bool
+    ensures { result ≡ after_end (option_copied after.entry) key.now }
+{
+    match after {
+        None => true,
+        Some(after) => after < key,
+    }
+}
+
+fn has_shown(conditions: &[Condition], cell: &Cell) -> bool
+    ensures { result ≡ some_shown (map shown_condition conditions.now) cell.now }
+{
+    cell.contents()
+        .iter()
+        .any(|content| shows(conditions, content))
+}
+
+fn shows(conditions: &[Condition], content: &Content) -> bool
+    ensures { result ≡ all_met (map shown_condition conditions.now) content.now.0 }
+{
+    match &content.body {
+        Body::Fields(fields) => meet_all(fields, conditions),
+        Body::Deleted => false,
+    }
+}
+
+fn meet_all(fields: &[(String, Value)], conditions: &[Condition]) -> bool
+    requires { IsTrue (names_rise (map shown_field fields.now)) }
+    ensures { result ≡ list_all (one_met (map shown_field fields.now)) (map shown_condition conditions.now) }
+{
+    for condition in conditions {
+        if !meet(fields, condition) {
+            return false;
+        }
+    }
+    true
+}
+
+fn meet(fields: &[(String, Value)], condition: &Condition) -> bool
+    requires { IsTrue (names_rise (map shown_field fields.now)) }
+    ensures { result ≡ one_met (map shown_field fields.now) (shown_condition condition.now) }
+{
+    match text_of(fields, field_of(condition)) {
+        Some(text) => is_met(condition, text),
+        None => false,
+    }
+}
+
+// The text of a field, found by a search among the names, which rise.
+fn text_of<'f>(fields: &'f [(String, Value)], name: &str) -> Option<&'f str>
+    requires { IsTrue (names_rise (map shown_field fields.now)) }
+    ensures { option_map (λ text. text.now) result ≡ find bytes_cmp name.now (map shown_field fields.now) }
+{
+    match fields.binary_search_by(|(other, _)| other.as_str().cmp(name)) {
+        Ok(place) => Some(text_in(&fields[place].1)),
+        Err(_) => None,
+    }
+}
+
+fn text_in(value: &Value) -> &str
+    ensures { result.now ≡ shown_value value.now }
+{
+    match value {
+        Value::Text(text) => text.as_str(),
+    }
+}
+
+fn field_of(condition: &Condition) -> &str
+    ensures { result.now ≡ name_of (shown_condition condition.now) }
+{
+    match condition {
+        Condition::Has { field } => field.as_str(),
+        Condition::Eq { field, .. } => field.as_str(),
+        Condition::Lt { field, .. } => field.as_str(),
+        Condition::Gt { field, .. } => field.as_str(),
+        Condition::Prefix { field, .. } => field.as_str(),
+    }
+}
+
+fn is_met(condition: &Condition, text: &str) -> bool
+    ensures { result ≡ text_met (shown_condition condition.now) text.now }
+{
+    match condition {
+        Condition::Has { .. } => true,
+        Condition::Eq { value, .. } => text == text_in(value),
+        Condition::Lt { value, .. } => text < text_in(value),
+        Condition::Gt { value, .. } => text_in(value) < text,
+        Condition::Prefix { value, .. } => text.as_bytes().starts_with(text_in(value).as_bytes()),
+    }
+}

@@ -1,0 +1,41 @@
+//! Why a read was refused.
+
+ghost use Rattle.std.specs.Prelude.{◌≡◌};
+ghost use Rattle.pn_scan.specs.declared.fault.ScanFault.TheVariants.{Memory};
+
+use pn_join::NoMemory;
+use pn_record::Version;
+use std::alloc::AllocError;
+use thiserror::Error;
+
+/// Why a page, a get or a read was refused.
+#[derive(Debug, Drop, Error)]
+pub enum ScanFault {
+    /// The tablet of this number is recovering.
+    #[error("tablet {0} is recovering")]
+    Recovering(usize),
+    /// The record has a lesser version than the required one, or is absent. Only `read_at_least` answers it.
+    #[error("behind")]
+    Behind { has: Option<Version> },
+    #[error("out of memory")]
+    Memory,
+    /// The view was refused an entry into a tablet. A view of plain states never is.
+    #[error("no entry")]
+    NoEntry,
+}
+
+impl From<NoMemory> for ScanFault {
+    ghost from_gives = { λ _ fault. fault ≡ Memory };
+
+    fn from(_error: NoMemory) -> ScanFault {
+        ScanFault::Memory
+    }
+}
+
+impl From<AllocError> for ScanFault {
+    ghost from_gives = { λ _ fault. fault ≡ Memory };
+
+    fn from(_error: AllocError) -> ScanFault {
+        ScanFault::Memory
+    }
+}

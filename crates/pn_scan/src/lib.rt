@@ -1,0 +1,31 @@
+//! Queries, and the pages and records that they ask for.
+#![tactic(auto)]
+
+mod condition;
+mod condition_shape;
+mod conditions;
+mod fault;
+pub mod laws;
+mod pages;
+mod part;
+mod query;
+mod query_fault;
+pub mod query_laws;
+mod query_reading;
+mod query_shape;
+mod query_writing;
+mod reads;
+mod row;
+mod view;
+
+pub use condition::Condition;
+pub use fault::ScanFault;
+pub use pages::page;
+pub use part::{cell_of, part_of};
+pub use query::{LARGEST_PAGE, MOST_CONDITIONS, Query};
+pub use query_fault::QueryFault;
+pub use query_reading::read_query;
+pub use query_writing::{query_value, write_query};
+pub use reads::{get, read_at_least};
+pub use row::{Page, Row};
+pub use view::View;

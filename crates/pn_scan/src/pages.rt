@@ -1,0 +1,146 @@
+//! Pages of what a query shows, tablet by tablet.
+
+ghost use Rattle.std.specs.Prelude.{◌≡◌, ℕ, ◌+◌, ◌-◌, ◌≤◌, ◌++◌, List, length, take, max, option_map, nat_lt, Option, Some, None, IfOk};
+ghost use Rattle.std.specs.List.{range_with_len, last_or};
+ghost use Rattle.std.specs.Option.{option_copied};
+ghost use Rattle.pn_record.specs.CellMap.{Entries};
+ghost use Rattle.pn_tablet.specs.Layouts.{tablet_ends};
+ghost use Rattle.pn_tablet.specs.Tablets.{TabletStateValue};
+ghost use Rattle.pn_scan.specs.Queries.{continued};
+ghost use Rattle.pn_scan.specs.Candidates.{Look, candidates as all_candidates, first_tablet as named_tablet, begins_before as bound_before};
+ghost use Rattle.pn_scan.specs.Pages.{first_page};
+ghost use Rattle.pn_scan.specs.Views.{LooksOnce};
+ghost use Rattle.pn_scan.specs.Visits.{IsScan, rows_behind};
+
+use crate::{Page, Query, Row, ScanFault, View};
+use pn_join::NoMemory;
+use pn_record::Key;
+use pn_tablet::Layout;
+use std::alloc::Global;
+
+/// The first rows that a query shows, at most as many as its limit, and the query for what stands behind them
+/// exactly where there is more.
+///
+/// It reads one tablet after another, in rising number and each once: those that may have rows, until they show
+/// more than a page has. `Recovering` names the first that it reads and that is recovering, so a page that is
+/// full may still be refused by the next tablet. After an error the view can be used again.
+pub fn page<V: View>(alloc: Global, view: &mut V, query: &Query) -> Result<Page, ScanFault>
+    ensures scan { (seen : List Look) × IsScan V.looks (V.bounds view.old) query.now view.old view.new (λ page. (page.rows.items, page.next)) result
+        (first_page query.now) seen }
+    ensures layout { V.bounds view.new ≡ V.bounds view.old }
+{
+    let rows = gathered(alloc, view, query)?;
+    Ok(page_of(alloc, query, rows)?)
+}
+
+// The rows of a page, and one more where there is more.
+fn gathered<V: View>(alloc: Global, view: &mut V, query: &Query) -> Result<Vec<Row>, ScanFault>
+    ensures scan { (seen : List Look) × IsScan V.looks (V.bounds view.old) query.now view.old view.new (λ rows. rows.items) result
+        (take (query.now.limit + 1)) seen }
+    ensures layout { V.bounds view.new ≡ V.bounds view.old }
+{
+    let (first, end) = candidates(view.layout(), query);
+    let mut rows = Vec::new(alloc);
+    for tablet in first..end {
+        rows = read_on(alloc, view, tablet, query, rows)?;
+        if rows.len() > query.limit() {
+            return Ok(rows);
+        }
+    }
+    Ok(rows)
+}
+
+// The rows with those of one tablet more, as long as there is room for a page and one more.
+fn read_on<V: View>(
+    alloc: Global,
+    view: &mut V,
+    tablet: usize,
+    query: &Query,
+    rows: Vec<Row>,
+) -> Result<Vec<Row>, ScanFault>
+    requires tablet { tablet ≤ length (V.bounds view.old) }
+    requires few { length rows.items ≤ query.now.limit }
+    ensures look { (found : Option TabletStateValue) × LooksOnce V.looks (V.bounds view.old) view.old view.new (λ rows. rows.items) result
+        (rows_behind query.now rows.items) (tablet, found) }
+    ensures layout { V.bounds view.new ≡ V.bounds view.old }
+{
+    let room = query.limit() + 1 - rows.len();
+    let (part, _more) = view.part(alloc, tablet, query, room)?;
+    Ok(put_behind(rows, part)?)
+}
+
+fn put_behind(mut rows: Vec<Row>, mut more: Vec<Row>) -> Result<Vec<Row>, NoMemory>
+    ensures { IfOk result (λ all. all.items ≡ rows.items ++ more.items) }
+{
+    if rows.is_empty() {
+        return Ok(more);
+    }
+    rows.append(&mut more)?;
+    Ok(rows)
+}
+
+// The candidates of a query, from the first number up to the second.
+fn candidates(layout: &Layout, query: &Query) -> (usize, usize)
+    ensures all { all_candidates layout.now query.now ≡ range_with_len result.0 (result.1 - result.0) }
+    ensures within { result.1 ≤ length layout.now + 1 }
+{
+    let from = first_tablet(layout, query.from());
+    let after = first_tablet(layout, query.after());
+    (from.max(after), end_of(layout, query.to()))
+}
+
+fn first_tablet(layout: &Layout, key: Option<&Key>) -> usize
+    ensures { result ≡ named_tablet layout.now (option_copied key.entry) }
+{
+    match key {
+        Some(key) => layout.tablet_of(key),
+        None => 0,
+    }
+}
+
+// The number of the first tablet that does not begin before the end.
+fn end_of(layout: &Layout, to: Option<&Key>) -> usize
+    ensures within { result ≤ length layout.now + 1 }
+    ensures exact { (t : ℕ) → t ≤ length layout.now → bound_before (tablet_ends layout.now t).0 (option_copied to.entry) ≡ nat_lt t result }
+{
+    let count = layout.count();
+    let Some(to) = to else {
+        return count;
+    };
+    let tablet = layout.tablet_of(to);
+    if begins_before(layout.range(tablet).0, to) {
+        tablet + 1
+    } else {
+        tablet
+    }
+}
+
+fn begins_before(from: Option<&Key>, to: &Key) -> bool
+    ensures { result ≡ bound_before (option_copied from.entry) (Some to.now) }
+{
+    match from {
+        Some(from) => from < to,
+        None => true,
+    }
+}
+
+// The page of rows, of which one more than the limit may be there.
+fn page_of(alloc: Global, query: &Query, mut rows: Vec<Row>) -> Result<Page, NoMemory>
+    ensures { IfOk result (λ page. (all : Entries) → rows.items ≡ take (query.now.limit + 1) all → (page.rows.items, page.next) ≡ first_page query.now all) }
+{
+    if rows.len() <= query.limit() {
+        return Ok(Page { rows, next: None });
+    }
+    rows.pop();
+    let next = next_query(alloc, query, &rows)?;
+    Ok(Page { rows, next })
+}
+
+fn next_query(alloc: Global, query: &Query, rows: &[Row]) -> Result<Option<Query>, NoMemory>
+    ensures { IfOk result (λ next. next ≡ option_map (λ row. continued query.now row.0) (last_or None rows.now)) }
+{
+    match rows.last() {
+        Some(row) => Ok(Some(query.continued(alloc, &row.key)?)),
+        None => Ok(None),
+    }
+}

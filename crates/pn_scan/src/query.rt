@@ -1,0 +1,132 @@
+//! Queries: which records of a table are asked for, and how many.
+
+ghost use Rattle.std.specs.Prelude.{◌≡◌, Some, map, ◌↔◌, IsTrue, IsSome, IfSome, IfOk, option_map};
+ghost use Rattle.std.specs.Option.{option_copied};
+ghost use Rattle.pn_scan.specs.Queries.{query_fits, is_limit as in_limit, shown_condition, continued};
+
+use crate::Condition;
+use crate::condition::{are_conditions, copied_conditions};
+use pn_join::{Dup, NoMemory};
+use pn_record::Key;
+use std::alloc::Global;
+use std::marker::Model;
+
+/// The most rows of a page.
+pub const LARGEST_PAGE: usize = 1_000;
+
+/// The most conditions of a query.
+pub const MOST_CONDITIONS: usize = 16;
+
+/// A query of the records whose keys are not below `from`, below `to` and above `after`, and which meet all
+/// conditions: at most 16, each on a field of 1 to 64 bytes and with a value of at most 4,096. An answer has
+/// at most `limit` rows, from 1 to 1,000.
+#[derive(Debug, Drop)]
+pub struct Query {
+    pub(crate) from: Option<Key>,
+    pub(crate) to: Option<Key>,
+    pub(crate) after: Option<Key>,
+    pub(crate) conditions: Vec<Condition>,
+    pub(crate) limit: usize,
+}
+
+impl Model for Query {
+    ghost use Rattle.std.specs.Prelude.{map, IsTrue};
+    ghost use Rattle.pn_scan.specs.Queries.{QueryValue, query_fits, shown_condition};
+
+    ghost Value = { QueryValue };
+
+    ghost view = { λ q. record { from = q.from; to = q.to; after = q.after; conditions = map shown_condition q.conditions.items; limit = q.limit } };
+
+    ghost invariant = { λ q. IsTrue (query_fits (map shown_condition q.conditions.items) q.limit) };
+}
+
+impl Query {
+    /// None where the limit is not from 1 to 1,000, there are more than 16 conditions, or one breaks its
+    /// limits. Any three keys will do. It takes no memory.
+    pub fn new(
+        from: Option<Key>,
+        to: Option<Key>,
+        after: Option<Key>,
+        conditions: Vec<Condition>,
+        limit: usize,
+    ) -> Option<Query>
+        ensures made { IfSome result
+            (λ query. query ≡ record { from = from; to = to; after = after; conditions = map shown_condition conditions.items; limit = limit }) }
+        ensures exactly { IsSome result ↔ IsTrue (query_fits (map shown_condition conditions.items) limit) }
+    {
+        if !is_limit(limit) || conditions.len() > MOST_CONDITIONS || !are_conditions(&conditions) {
+            return None;
+        }
+        Some(Query {
+            from,
+            to,
+            after,
+            conditions,
+            limit,
+        })
+    }
+
+    /// The key that no answer is below. It takes no memory.
+    pub fn from(&self) -> Option<&Key>
+        ensures { option_copied result ≡ self.now.from }
+    {
+        self.from.as_ref()
+    }
+
+    /// The key that each answer is below. It takes no memory.
+    pub fn to(&self) -> Option<&Key>
+        ensures { option_copied result ≡ self.now.to }
+    {
+        self.to.as_ref()
+    }
+
+    /// The key that each answer is above. It takes no memory.
+    pub fn after(&self) -> Option<&Key>
+        ensures { option_copied result ≡ self.now.after }
+    {
+        self.after.as_ref()
+    }
+
+    /// The conditions, all of which an answer meets. It takes no memory.
+    pub fn conditions(&self) -> &[Condition]
+        ensures { map shown_condition result.now ≡ self.now.conditions }
+    {
+        &self.conditions
+    }
+
+    /// The most rows of an answer, from 1 to 1,000. It takes no memory.
+    pub fn limit(&self) -> usize
+        ensures limit { result ≡ self.now.limit }
+        ensures fits { IsTrue (query_fits self.now.conditions self.now.limit) }
+    {
+        self.limit
+    }
+
+    /// The same query for what stands after the key.
+    pub fn continued(&self, alloc: Global, last: &Key) -> Result<Query, NoMemory>
+        ensures { IfOk result (λ query. query ≡ continued self.now last.now) }
+    {
+        Ok(Query {
+            from: copied_key(self.from())?,
+            to: copied_key(self.to())?,
+            after: Some(last.dup()?),
+            conditions: copied_conditions(alloc, &self.conditions)?,
+            limit: self.limit,
+        })
+    }
+}
+
+pub(crate) fn is_limit(limit: usize) -> bool
+    ensures { result ≡ in_limit limit }
+{
+    1 <= limit && limit <= LARGEST_PAGE
+}
+
+fn copied_key(key: Option<&Key>) -> Result<Option<Key>, NoMemory>
+    ensures { IfOk result (λ copy. copy ≡ option_copied key.entry) }
+{
+    match key {
+        None => Ok(None),
+        Some(key) => Ok(Some(key.dup()?)),
+    }
+}

@@ -1,0 +1,138 @@
+//! Queries as JSON: as values, and written straight into a line.
+
+ghost use Rattle.std.specs.Prelude.{◌≡◌, map, IfOk, OnOk, IsTrue};
+ghost use Rattle.std.specs.Option.{option_copied};
+ghost use Rattle.serde_json.specs.Data.{put};
+ghost use Rattle.serde_json.specs.View.{view, members_view};
+ghost use Rattle.pn_json.specs.Tokens.{Appends, member_tokens, value_tokens};
+ghost use Rattle.pn_scan.specs.Queries.{shown_condition};
+ghost use Rattle.pn_scan.specs.QueryGrammar.{is_end, IsQuery};
+ghost use Rattle.pn_scan.specs.QueryJson.{condition_data, conditions_data, key_data, query_data};
+ghost use Rattle.pn_scan.specs.QueryShapes.{seen_text, operand_tokens};
+
+use crate::condition::parts_of;
+use crate::{Condition, Query};
+use json::Writer;
+use pn_join::NoMemory;
+use pn_json::{write_null_member, write_number_member, write_text_member};
+use pn_record::Key;
+use serde_json::{Map, Value, json};
+use std::alloc::Global;
+
+/// The query as JSON, with all five members; it is read as the same query.
+#[tactic(auto, using(crate::proofs::SameQuery::query_written))]
+pub fn query_value(alloc: Global, query: &Query) -> Result<Value, NoMemory>
+    ensures value { IfOk result (λ value. view value ≡ query_data query.now) }
+    ensures reads_back { IfOk result (λ value. IsQuery (view value) query.now) }
+{
+    let mut members = Map::new(alloc);
+    put_key(&mut members, alloc, "after", query.after())?;
+    put_key(&mut members, alloc, "from", query.from())?;
+    serde_json::put(&mut members, alloc, "limit", Value::from(query.limit()))?;
+    put_key(&mut members, alloc, "to", query.to())?;
+    let conditions = conditions_value(alloc, query.conditions())?;
+    serde_json::put(&mut members, alloc, "where", conditions)?;
+    Ok(Value::Object(members))
+}
+
+fn put_key(
+    members: &mut Map<String, Value>,
+    alloc: Global,
+    name: &str,
+    key: Option<&Key>,
+) -> Result<(), NoMemory>
+    ensures put { OnOk result (members_view members.new.entries
+        ≡ put name.now (key_data (option_copied key.entry)) (members_view members.old.entries)) }
+    ensures limits { OnOk result (IsTrue (is_end (option_copied key.entry))) }
+{
+    let value = key_value(alloc, key)?;
+    serde_json::put(members, alloc, name, value)?;
+    Ok(())
+}
+
+fn key_value(alloc: Global, key: Option<&Key>) -> Result<Value, NoMemory>
+    ensures value { IfOk result (λ value. view value ≡ key_data (option_copied key.entry)) }
+    ensures limits { OnOk result (IsTrue (is_end (option_copied key.entry))) }
+{
+    match key {
+        None => Ok(Value::Null),
+        Some(key) => Ok(Value::try_from_str(alloc, key.as_str())?),
+    }
+}
+
+fn conditions_value(alloc: Global, conditions: &[Condition]) -> Result<Value, NoMemory>
+    ensures { IfOk result (λ value. view value ≡ conditions_data (map shown_condition conditions.now)) }
+{
+    let mut values = Vec::with_capacity(alloc, conditions.len())?;
+    for condition in conditions {
+        values.push(condition_value(alloc, condition)?)?;
+    }
+    Ok(Value::Array(values))
+}
+
+fn condition_value(alloc: Global, condition: &Condition) -> Result<Value, NoMemory>
+    ensures { IfOk result (λ value. view value ≡ condition_data (shown_condition condition.now)) }
+{
+    let (word, field, value) = parts_of(condition);
+    match value {
+        None => Ok(json!(in alloc; [word, field])?),
+        Some(value) => Ok(json!(in alloc; [word, field, value])?),
+    }
+}
+
+/// Writes a query, with all five members.
+pub fn write_query(writer: &mut Writer, query: &Query) -> Result<(), NoMemory>
+    ensures { OnOk result (Appends writer.old writer.new (value_tokens (query_data query.now))) }
+{
+    writer.begin_object()?;
+    write_key_member(writer, "after", query.after())?;
+    write_key_member(writer, "from", query.from())?;
+    write_number_member(writer, "limit", query.limit() as u64)?;
+    write_key_member(writer, "to", query.to())?;
+    writer.key("where")?;
+    write_conditions(writer, query.conditions())?;
+    writer.end_object()?;
+    Ok(())
+}
+
+fn write_key_member(writer: &mut Writer, name: &str, key: Option<&Key>) -> Result<(), NoMemory>
+    ensures { OnOk result (Appends writer.old writer.new (member_tokens name.now (key_data (option_copied key.entry)))) }
+{
+    match key {
+        None => write_null_member(writer, name),
+        Some(key) => write_text_member(writer, name, key.as_str()),
+    }
+}
+
+fn write_conditions(writer: &mut Writer, conditions: &[Condition]) -> Result<(), NoMemory>
+    ensures { OnOk result (Appends writer.old writer.new
+        (value_tokens (conditions_data (map shown_condition conditions.now)))) }
+{
+    writer.begin_array()?;
+    for condition in conditions {
+        write_condition(writer, condition)?;
+    }
+    writer.end_array()?;
+    Ok(())
+}
+
+fn write_condition(writer: &mut Writer, condition: &Condition) -> Result<(), NoMemory>
+    ensures { OnOk result (Appends writer.old writer.new (value_tokens (condition_data (shown_condition condition.now)))) }
+{
+    let (word, field, value) = parts_of(condition);
+    writer.begin_array()?;
+    writer.string(word)?;
+    writer.string(field)?;
+    write_operand(writer, value)?;
+    writer.end_array()?;
+    Ok(())
+}
+
+fn write_operand(writer: &mut Writer, value: Option<&str>) -> Result<(), NoMemory>
+    ensures { OnOk result (Appends writer.old writer.new (operand_tokens (seen_text value.entry))) }
+{
+    if let Some(value) = value {
+        writer.string(value)?;
+    }
+    Ok(())
+}
