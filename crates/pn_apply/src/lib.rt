@@ -11,5 +11,5 @@ mod slot;
 
 pub use apply::apply_all;
 pub use gate::{Gate, Open};
-pub use reducing::{reduce, reduce_owned};
+pub use reducing::{MOST_WORKERS, reduce, reduce_owned};
 pub use slot::Slot;

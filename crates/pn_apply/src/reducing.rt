@@ -16,6 +16,9 @@ use pn_tablet::{Layout, TabletOp};
 use std::alloc::Global;
 use std::mem;
 
+/// The most workers of a call.
+pub const MOST_WORKERS: usize = 16;
+
 /// What the deliveries bring to each tablet of the layout, in the order of the tablets: the join of the
 /// cells of all images whose keys lie in the tablet's range, with the marks, whose positions are 1 to 10^15.
 /// Each image is copied. Between 1 and 16 workers are asked for; their number makes no difference to the

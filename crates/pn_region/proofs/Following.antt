@@ -1,5 +1,5 @@
 -- Marks that follow one delivery more.
-use Rattle.std.proofs.Common.{◌≡◌, ℕ, zero, suc, ◌+◌, ◌-◌, ◌<◌, ◌≤◌, ◌^◌, min, max, pred, Bool, true, false, T, cond, not, eqb, nat_lt, List, [], ◌∷◌, length, take, get_or, Option, Some, None, unwrap_or, is_some, fold, refl, sym, ap, ◌∙◌, subst, arith}
+use Rattle.std.proofs.Common.{◌≡◌, ℕ, ◌+◌, ◌-◌, ◌<◌, ◌≤◌, ◌^◌, min, max, Bool, true, false, T, cond, not, eqb, nat_lt, List, [], ◌∷◌, length, take, get_or, Some, None, unwrap_or, is_some, fold, refl, sym, ap, ◌∙◌, subst, arith}
 use Rattle.std.specs.Prelude.{Ok, Err}
 use Rattle.std.specs.Int.{from_bool}
 use Rattle.std.specs.Ordering.{eq_by_cmp}

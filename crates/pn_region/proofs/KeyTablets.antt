@@ -39,7 +39,7 @@ found_there marks key (q ∷ rs) (u ∷ ts) (suc n) r t apart are at lies there 
     found_there marks key rs ts n r t apart.1 are.1 at lies there
     ∙ sym (found_behind key u.cells (cells_of ts) (none_outside q u.cells key are.0.inside (outside_of q rs n r key apart.0 at lies)))
 
-range_at : (bounds : Bounds) (n : ℕ) → n ≤ length bounds → slice_get (ranges bounds) n ≡ Some (tablet_ends bounds n)
+pub range_at : (bounds : Bounds) (n : ℕ) → n ≤ length bounds → slice_get (ranges bounds) n ≡ Some (tablet_ends bounds n)
 range_at bounds n within =
     slice_get_read (ranges bounds) (length bounds + 1) n (tablet_ends bounds n) (sym (length-map-range_with_len (tablet_ends bounds) 0 (length bounds + 1)))
     (omega (arith, within)) (sym (get_or-map-range_with_len (tablet_ends bounds) 0 (length bounds + 1) n n (tablet_ends bounds n) (omega (arith, within)) (omega arith)))
@@ -51,7 +51,7 @@ has_its_cell region key tablet is there =
     found_there region.marks key (ranges region.layout) region.tablets n (tablet_ends region.layout n) tablet (ranges_apart region.layout is.lawful) is.tablets
     (range_at region.layout n (tablet_of_within region.layout key)) (key_in_tablet region.layout key is.lawful.rising) there
 
-some_within : (ts : List TabletStateValue) (n : ℕ) → n < length ts → IsSome (slice_get ts n)
+pub some_within : (ts : List TabletStateValue) (n : ℕ) → n < length ts → IsSome (slice_get ts n)
 some_within [] n within = absurd (omega (arith, within))
 some_within (t ∷ ts) zero within = refl
 some_within (t ∷ ts) (suc n) within = some_within ts n (omega (arith, within))

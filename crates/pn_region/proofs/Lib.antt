@@ -11,10 +11,15 @@ pub mod MarkSteps
 pub mod NeverBack
 pub mod NewRegion
 pub mod Ordered
+pub mod PageWalks
 pub mod Pieces
+pub mod ReadLaws
+pub mod Reading
 pub mod RoundEnds
 pub mod RoundSteps
+pub mod ServingTablets
 pub mod Spelled
+pub mod Standing
 pub mod StreamCount
 pub mod TakenImages
 pub mod Together

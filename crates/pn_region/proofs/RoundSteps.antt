@@ -1,5 +1,5 @@
 -- What a round makes of tablets.
-use Rattle.std.proofs.Common.{◌≡◌, Bool, true, List, [], ◌∷◌, ◌++◌, map, if◌then◌else◌, Ok, Err, refl, sym, ap, ◌∙◌, subst, arith, ◌⊎◌, inl, inr}
+use Rattle.std.proofs.Common.{◌≡◌, Bool, List, [], ◌∷◌, ◌++◌, map, if◌then◌else◌, Ok, Err, refl, sym, ap, ◌∙◌, subst, arith, ◌⊎◌, inl, inr}
 use Rattle.std.specs.Prelude.{zip}
 use Rattle.std.specs.List.{flat_map}
 use Rattle.pn_join.specs.Marks.{Positions, Reaches, raised}

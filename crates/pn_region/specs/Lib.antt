@@ -4,5 +4,7 @@ pub mod Laws
 pub mod Limits
 pub mod Marking
 pub mod Proofs
+pub mod Reads
 pub mod Regions
 pub mod Rounds
+pub mod Serving

@@ -1,11 +1,13 @@
 //! A region: the tablets of a layout, and the marks of the streams that were taken into them. It takes
-//! deliveries of streams in rounds.
+//! deliveries of streams in rounds, and answers reads of single records, gets and queries.
 
 #![tactic(auto)]
 
 mod fault;
 pub mod laws;
 mod marking;
+pub mod read_laws;
+mod reads;
 mod region;
 
 pub use fault::RoundFault;

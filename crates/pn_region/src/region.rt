@@ -9,6 +9,7 @@ ghost use Rattle.pn_tablet.specs.Tablets.{empty_tablet};
 ghost use Rattle.pn_apply.specs.Applying.{AreJoinsIn, HavePositions, all_stepped, all_changes, AreOldOrStepped, IsSomeOld};
 ghost use Rattle.pn_apply.specs.Limits.{most_workers};
 ghost use Rattle.pn_apply.specs.Reducing.{joined_cells, ranges};
+ghost use Rattle.pn_scan.specs.Views.{IsStateOf};
 ghost use Rattle.pn_region.specs.Limits.{most_streams};
 ghost use Rattle.pn_region.specs.Marking.{is_memory};
 ghost use Rattle.pn_region.specs.Regions.{IsRegion, new_region};
@@ -28,7 +29,7 @@ pub struct Region {
     layout: Layout,
     tablets: Vec<TabletState>,
     marks: Marks,
-    alloc: Global,
+    pub(crate) alloc: Global,
 }
 
 /// What a round did.
@@ -87,6 +88,15 @@ impl Region {
     pub fn tablet(&self, tablet: usize) -> &TabletState
         requires { tablet ≤ length self.now.layout }
         ensures { slice_get self.now.tablets tablet ≡ Some result.now }
+    {
+        self.state(tablet)
+    }
+
+    // The same, which is one of the layout's tablets.
+    pub(crate) fn state(&self, tablet: usize) -> &TabletState
+        requires { tablet ≤ length self.now.layout }
+        ensures there { slice_get self.now.tablets tablet ≡ Some result.now }
+        ensures of { IsStateOf self.now.layout tablet result.now }
     {
         &self.tablets[tablet]
     }

@@ -1,7 +1,6 @@
 -- One delivery more is followed, or the first gap is met.
 use Rattle.std.proofs.Common.{◌≡◌, ◌+◌, true, [], ◌∷◌, length, take, get_or, sym, ap, ◌∙◌, subst}
 use Rattle.std.specs.Prelude.{Ok, Err}
-use Rattle.std.specs.Int.{from_bool}
 use Rattle.std.specs.FinMap.{is_sorted}
 use Rattle.pn_join.specs.Marks.{Positions, name_cmp, are_positions}
 use Rattle.pn_stream.specs.Positions.{DeliveryValue}

@@ -1,5 +1,5 @@
 -- One delivery more may take the stream on.
-use Rattle.std.proofs.Common.{◌≡◌, max, unwrap_or, get_or, take, sym, ap, ◌∙◌}
+use Rattle.std.proofs.Common.{max, unwrap_or, get_or, take, sym, ap, ◌∙◌}
 use Rattle.pn_join.specs.Marks.{Positions, position_of}
 use Rattle.pn_stream.specs.Positions.{DeliveryValue}
 use Rattle.pn_region.specs.Marking.{last_of_stream, all_marked}

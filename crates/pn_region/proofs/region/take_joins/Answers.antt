@@ -1,11 +1,10 @@
 -- Each tablet takes its join, and what changes is counted.
-use Rattle.std.proofs.Common.{◌≡◌, Vec, List, length, sym, ap, ◌∙◌, subst, arith}
+use Rattle.std.proofs.Common.{Vec, List, length, sym, ap, ◌∙◌, subst, arith}
 use Rattle.std.specs.declared.alloc.Global.{Global}
 use Rattle.std.specs.List.{flat_map}
-use Rattle.std.proofs.lemmas.List.Folds.{flat_map-map}
 use Rattle.pn_tablet.specs.Tablets.{TabletStateValue}
 use Rattle.pn_tablet.specs.declared.change.Change.{Change}
-use Rattle.pn_apply.specs.Applying.{AreJoinsIn, all_changes}
+use Rattle.pn_apply.specs.Applying.{AreJoinsIn}
 use Rattle.pn_apply.proofs.Prefixes.{all_old}
 use Rattle.pn_region.proofs.Counting.{all_told}
 use Rattle.pn_region.proofs.RoundEnds.{none_taken}

@@ -1,0 +1,17 @@
+-- Regions of which no tablet is recovering, and pages of a region that follow one another.
+use Rattle.std.specs.Prelude.{◌≡◌, List, Option, Ok}
+use Rattle.std.specs.List.{AllByRecursion}
+use Rattle.pn_tablet.specs.declared.state.Status.TheVariants.{Serving}
+use Rattle.pn_scan.specs.Queries.{QueryValue}
+use Rattle.pn_scan.specs.Pages.{PageValue}
+use Rattle.pn_scan.specs.Walks.{ArePages}
+use Rattle.pn_region.specs.Regions.{RegionValue}
+use Rattle.pn_region.specs.Reads.{page_in}
+
+-- every tablet serves
+abbrev pub AllServe : RegionValue → Type 0
+AllServe region = AllByRecursion (λ tablet. tablet.status ≡ Serving) region.tablets
+
+-- pages of the region, each that of the continuation before it
+abbrev pub ArePagesOf : RegionValue → Option QueryValue → List PageValue → Type 0
+ArePagesOf region asked pages = ArePages (λ query page. page_in region query ≡ Ok page) asked pages

@@ -1,0 +1,69 @@
+//! The laws of what is read of regions, as contracts. A call does nothing.
+
+ghost use Rattle.std.specs.Prelude.{◌≡◌, ◌≢◌, ℕ, ◌<◌, List, map, Option, Some, None, Ok, Err};
+ghost use Rattle.std.specs.FinMap.{find};
+ghost use Rattle.pn_join.specs.Marks.{Positions};
+ghost use Rattle.pn_record.specs.Order.{bytes_cmp};
+ghost use Rattle.pn_record.specs.Sets.{Stamp};
+ghost use Rattle.pn_stream.specs.Positions.{DeliveryValue};
+ghost use Rattle.pn_tablet.specs.Layouts.{Bounds};
+ghost use Rattle.pn_scan.specs.Queries.{QueryValue};
+ghost use Rattle.pn_scan.specs.Shown.{shown_rows};
+ghost use Rattle.pn_scan.specs.Pages.{PageValue, first_page};
+ghost use Rattle.pn_scan.specs.Reads.{unless_behind};
+ghost use Rattle.pn_scan.specs.Walks.{left_by, rows_of};
+ghost use Rattle.pn_scan.specs.declared.fault.ScanFault.TheVariants.{NoEntry};
+ghost use Rattle.pn_region.specs.Reads.{read_in, get_in, page_in};
+ghost use Rattle.pn_region.specs.Regions.{RegionValue, IsRegion, new_region, all_cells};
+ghost use Rattle.pn_region.specs.Rounds.{taking, IsHalfTaken};
+ghost use Rattle.pn_region.specs.Serving.{AllServe, ArePagesOf};
+
+/// No read of a region is refused an entry.
+pub fn no_entry_is_refused()
+    ensures read { (region : RegionValue) (key : List ℕ) (wanted : Option Stamp)
+        → IsRegion region → read_in region key wanted ≢ Err NoEntry }
+    ensures get { (region : RegionValue) (keys : List (List ℕ)) → IsRegion region → get_in region keys ≢ Err NoEntry }
+    ensures page { (region : RegionValue) (query : QueryValue) → IsRegion region → page_in region query ≢ Err NoEntry }
+{}
+
+/// The tablets of a new region serve, and rounds leave tablets serving that served, those that end out of memory too.
+pub fn rounds_leave_tablets_serving()
+    ensures new { (bounds : Bounds) → AllServe (new_region bounds) }
+    ensures taken { (region : RegionValue) (deliveries : List DeliveryValue) (marks : Positions)
+        → AllServe region → AllServe (taking region deliveries marks) }
+    ensures half_taken { (old new : RegionValue) (deliveries : List DeliveryValue)
+        → AllServe old → IsHalfTaken old deliveries new → AllServe new }
+{}
+
+/// Where every tablet serves, what is read depends on the cells of all tablets together alone: a read is the cell of
+/// the key there, unless it is behind; a get has the cells of the keys there; a page is cut from the rows shown there.
+pub fn reads_depend_on_the_cells_alone()
+    ensures read { (region : RegionValue) (key : List ℕ) (wanted : Option Stamp) → IsRegion region → AllServe region
+        → read_in region key wanted ≡ unless_behind wanted (find bytes_cmp key (all_cells region)) }
+    ensures get { (region : RegionValue) (keys : List (List ℕ)) → IsRegion region → AllServe region
+        → get_in region keys ≡ Ok (map (λ key. find bytes_cmp key (all_cells region)) keys) }
+    ensures page { (region : RegionValue) (query : QueryValue) → IsRegion region → AllServe region
+        → page_in region query ≡ Ok (first_page query (shown_rows query (all_cells region))) }
+{}
+
+/// Two regions that have the same cells, and whose tablets all serve, answer every read, get and query alike,
+/// whatever their layouts.
+pub fn regions_of_the_same_cells_answer_alike()
+    ensures read { (one other : RegionValue) (key : List ℕ) (wanted : Option Stamp) → IsRegion one → IsRegion other
+        → AllServe one → AllServe other → all_cells one ≡ all_cells other
+        → read_in one key wanted ≡ read_in other key wanted }
+    ensures get { (one other : RegionValue) (keys : List (List ℕ)) → IsRegion one → IsRegion other
+        → AllServe one → AllServe other → all_cells one ≡ all_cells other → get_in one keys ≡ get_in other keys }
+    ensures page { (one other : RegionValue) (query : QueryValue) → IsRegion one → IsRegion other
+        → AllServe one → AllServe other → all_cells one ≡ all_cells other → page_in one query ≡ page_in other query }
+{}
+
+/// The pages of a region that stays as it is, each asked for by the continuation of the one before, have together the
+/// rows that its cells show, each once. Where every tablet serves, such a walk comes to its end.
+pub fn pages_together_are_the_shown_rows()
+    ensures walked { (region : RegionValue) (query : QueryValue) (pages : List PageValue) → IsRegion region → 0 < query.limit
+        → ArePagesOf region (Some query) pages → left_by (Some query) pages ≡ None
+        → rows_of pages ≡ shown_rows query (all_cells region) }
+    ensures ends { (region : RegionValue) (query : QueryValue) → IsRegion region → AllServe region → 0 < query.limit
+        → (pages : List PageValue) × ArePagesOf region (Some query) pages × (left_by (Some query) pages ≡ None) }
+{}

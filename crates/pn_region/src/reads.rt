@@ -1,0 +1,81 @@
+//! Reads of a region.
+
+ghost use Rattle.std.specs.Prelude.{◌≡◌, Err};
+ghost use Rattle.pn_json.specs.Answers.{ShowsUnless};
+ghost use Rattle.pn_scan.specs.Reads.{AnswersAfter};
+ghost use Rattle.pn_scan.specs.Views.{cell_at};
+ghost use Rattle.pn_scan.specs.declared.fault.ScanFault.TheVariants.{Memory, NoEntry};
+ghost use Rattle.pn_region.specs.Reads.{IsThere, look_for, read_in, get_in, page_in};
+
+use crate::Region;
+use pn_record::{Cell, Key, Version};
+use pn_scan::{Page, Query, Row, ScanFault, View, cell_of, get, page, part_of, read_at_least};
+use pn_tablet::Layout;
+use std::alloc::Global;
+
+/// A view of the region's own tablets, which do not change. It is never refused an entry.
+impl View for &Region {
+    ghost bounds = { λ view. view.now.layout };
+
+    ghost looks = { λ old look new. (new ≡ old) × IsThere old.now look };
+
+    fn layout(&self) -> &Layout {
+        Region::layout(self)
+    }
+
+    fn part(
+        &mut self,
+        alloc: Global,
+        tablet: usize,
+        query: &Query,
+        room: usize,
+    ) -> Result<(Vec<Row>, bool), ScanFault> {
+        part_of(alloc, self.state(tablet), tablet, query, room)
+    }
+
+    fn cell(&mut self, key: &Key) -> Result<Option<Cell>, ScanFault> {
+        let tablet = Region::layout(self).tablet_of(key);
+        cell_of(self.state(tablet), tablet, key)
+    }
+}
+
+impl Region {
+    /// The cell of a key, or none where there is no record. Where a version is required, the record is there, in
+    /// that version or a later one.
+    ///
+    /// `Recovering` comes exactly where the key's tablet is recovering; else `Behind` exactly where a version is
+    /// required and the record is absent or older. `Memory` comes only where the tablet is not recovering, and
+    /// `NoEntry` never.
+    pub fn read(&self, key: &Key, version: Option<Version>) -> Result<Option<Cell>, ScanFault>
+        ensures read { AnswersAfter (cell_at key.now (look_for self.now key.now)) result (read_in self.now key.now version) }
+        ensures entered { result ≡ Err NoEntry → ⊥ }
+    {
+        let mut view = self;
+        read_at_least(&mut view, key, version)
+    }
+
+    /// The cells of keys, in the order of the keys, repeats included; none where there is no record.
+    ///
+    /// `Recovering` names the tablet of the first key whose tablet is recovering. `Memory` may come before such a
+    /// tablet is found, and `NoEntry` never comes.
+    pub fn get(&self, keys: &[Key]) -> Result<Vec<Option<Cell>>, ScanFault>
+        ensures get { ShowsUnless Memory (λ cells. cells.items) result (get_in self.now keys.now) }
+        ensures entered { result ≡ Err NoEntry → ⊥ }
+    {
+        let mut view = self;
+        get(self.alloc, &mut view, keys)
+    }
+
+    /// The first rows that a query shows of all tablets together, at most as many as its limit, and the query for
+    /// what stands behind them exactly where there is more.
+    ///
+    /// `Recovering` names the first tablet that may have rows, stands behind at most a page of them, and is
+    /// recovering. `Memory` may come before such a tablet is found, and `NoEntry` never comes.
+    pub fn scan(&self, query: &Query) -> Result<Page, ScanFault>
+        ensures page { ShowsUnless Memory (λ page. (page.rows.items, page.next)) result (page_in self.now query.now) }
+        ensures entered { result ≡ Err NoEntry → ⊥ }
+    {
+        let mut view = self;
+        page(self.alloc, &mut view, query)
+    }
+}
