@@ -10,6 +10,7 @@ use pn_join::{Name, NoMemory};
 use pn_line::{LineBuffer, LineEnd, Source, read_line};
 use pn_record::{Image, Key, read_image};
 use pn_region::Region;
+use pn_scan::{LARGEST_PAGE, Query};
 use pn_serve::{Settings, run, scan_reply};
 use pn_stream::{Delivery, StreamReader};
 use pn_tablet::Layout;
@@ -178,13 +179,22 @@ fn write_rows(alloc: Global, way: Way, region: &Region, times: u32) -> Result<us
 fn write_scans(alloc: Global, region: &Region, times: u32) -> Result<usize, NoMemory> {
     let mut bytes = 0usize;
     for _ in 0..times {
-        bytes = bytes.saturating_add(scan_reply(alloc, region)?.len());
+        bytes = bytes.saturating_add(scanned(alloc, region)?.len());
     }
     Ok(bytes)
 }
 
+// The reply to a scan of the first rows, as many as a page may have.
+fn scanned(alloc: Global, region: &Region) -> Result<Vec<u8>, NoMemory> {
+    let query = Query::new(None, None, None, Vec::new(alloc), LARGEST_PAGE).ok_or(NoMemory)?;
+    match region.scan(&query) {
+        Ok(page) => scan_reply(alloc, &page),
+        Err(_) => Err(NoMemory),
+    }
+}
+
 fn write_values(alloc: Global, region: &Region, times: u32) -> Result<usize, NoMemory> {
-    let reply = scan_reply(alloc, region)?;
+    let reply = scanned(alloc, region)?;
     let Ok(value) = Value::from_slice(alloc, &reply) else {
         return Ok(0);
     };

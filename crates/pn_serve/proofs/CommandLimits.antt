@@ -1,30 +1,34 @@
 -- What is in its ranges keeps the limits, and what keeps the limits is in its ranges.
-use Rattle.std.proofs.Common.{◌≡◌, ℕ, List, [], ◌∷◌, length, map, codes, T, Bool, true, false, ◌&&◌, Option, Some, None, Result, Ok, Err, nat_cmp, refl, sym, ap, ◌∙◌}
+use Rattle.std.proofs.Common.{◌≡◌, ◌<◌, ℕ, zero, suc, arith, slice_index_or, IsTrue, List, [], ◌∷◌, length, map, codes, T, Bool, true, false, ◌&&◌, Option, Some, None, Result, Ok, nat_cmp, refl, sym, ap, ◌∙◌}
 use Rattle.std.proofs.lemmas.Bool.{and_parts, and_from}
 use Rattle.std.specs.Cmp.Lexicographic.{slice_cmp}
 use Rattle.std.specs.FinMap.Entries.{is_sorted, below_all}
+use Rattle.std.specs.Borrow.{Bor}
 use Rattle.std.specs.List.{list_all}
+use Rattle.pn_json.specs.Members.{texts}
 use Rattle.std.specs.Ordering.{is_lt}
 use Rattle.pn_join.specs.Naming.{is_name}
 use Rattle.serde_json.specs.Data.{Data, number, string, array, object, unsigned, Members, member, no_members}
 use Rattle.serde_json.specs.View.{items_of}
 use Rattle.pn_record.specs.Canonical.{is_image}
 use Rattle.pn_record.specs.Grammar.{ranges_in}
-use Rattle.pn_record.specs.Limits.{Field}
-use Rattle.pn_json.specs.Answers.{fault_as}
+use Rattle.pn_record.specs.Limits.{Field, is_key, is_version}
+use Rattle.pn_record.specs.Sets.{Stamp}
 use Rattle.pn_record.specs.Seen.{body_rises}
 use Rattle.pn_record.specs.Writing.{fields_data, body_data, image_data}
 use Rattle.pn_record.specs.declared.image.Image.{Image}
+use Rattle.pn_json.proofs.Inverses.{guard_ok}
 use Rattle.pn_record.proofs.Limiting.{in_ranges, image_from_ranges}
 use Rattle.pn_json.proofs.LookUps.{entries_of, Rise}
 use Rattle.pn_stream.specs.Positions.{DeliveryValue, are_positions}
-use Rattle.pn_serve.specs.Command.Json.{delivery_data, command_data}
-use Rattle.pn_serve.specs.Command.Limits.{is_delivery, is_command}
-use Rattle.pn_serve.specs.Command.Meaning.{deliver}
-use Rattle.pn_serve.specs.Command.RangeChecks.{fits, each_fits, image_fits, batch_fits, batches_fit}
+use Rattle.pn_serve.specs.Command.Json.{delivery_data, deliver_command}
+use Rattle.pn_serve.specs.Command.Limits.{is_delivery, may_be_required, is_command}
+use Rattle.pn_serve.specs.Command.Meaning.{deliver, get, read}
+use Rattle.pn_serve.specs.Command.RangeChecks.{fits, each_fits, image_fits, batch_fits, batches_fit, key_fits, keys_fit, fitting_version}
 use Rattle.pn_serve.specs.declared.refusal.Part.{Part}
-use Rattle.pn_serve.specs.declared.refusal.Part.TheVariants.{Batches, First, Stream}
+use Rattle.pn_serve.specs.declared.refusal.Part.TheVariants.{Batches, First, Key, Keys, Stream, Version}
 use Rattle.pn_serve.specs.declared.refusal.Refusal.{Refusal}
+use Rattle.pn_serve.specs.declared.refusal.Refusal.TheVariants.{OutOfRange}
 use Rattle.pn_serve.proofs.EachFits.{both_fit, as_ok}
 use Rattle.pn_serve.proofs.ReadInOrder.{InOrder, ItemsInOrder, MembersInOrder, in_order-at}
 
@@ -100,7 +104,7 @@ deliver_members deliveries =
     member (codes "batches") (array (items_of (map delivery_data deliveries))) (member (codes "do") (string (codes "deliver")) no_members)
 
 -- deliveries whose JSON is in order, and that are in their ranges
-pub deliveries_kept : (deliveries : List DeliveryValue) → InOrder (command_data (deliver deliveries)) → batches_fit deliveries ≡ Ok tt → is_command (deliver deliveries) ≡ true
+pub deliveries_kept : (deliveries : List DeliveryValue) → InOrder (deliver_command deliveries) → batches_fit deliveries ≡ Ok tt → is_command (deliver deliveries) ≡ true
 unfolding batches_fit
 deliveries_kept deliveries order is =
     let count = both_fit (fits Batches _) (each_fits batch_fits deliveries) is in
@@ -113,3 +117,52 @@ unfolding batches_fit
 deliveries_again deliveries keeps =
     let parts = and_parts _ (list_all is_delivery deliveries) keeps in
     rw (parts.0, fit_each batch_fits is_delivery delivery_again deliveries parts.1) refl
+
+all_keys : (keys : List (List ℕ)) → each_fits key_fits keys ≡ Ok tt → list_all is_key keys ≡ true
+all_keys [] is = refl
+all_keys (key ∷ keys) is =
+    let parts = both_fit (key_fits key) (each_fits key_fits keys) is in
+    and_from (is_key key) (list_all is_key keys) (fits_true Keys (is_key key) parts.0) (all_keys keys parts.1)
+
+key_again : (key : List ℕ) → is_key key ≡ true → key_fits key ≡ Ok tt
+key_again key keeps = rw keeps refl
+
+-- each of texts that are keys in their ranges
+pub key_at : (keys : List (Bor (List ℕ))) (i : ℕ) (other : Bor (List ℕ)) → i < length keys → keys_fit (texts keys) ≡ Ok tt → IsTrue (is_key (slice_index_or keys i other).now)
+unfolding keys_fit
+key_at keys i other inside is = fit_at keys i inside (both_fit (fits Keys _) (each_fits key_fits (texts keys)) is).1
+  where
+    fit_at : (keys : List (Bor (List ℕ))) (i : ℕ) → i < length keys → each_fits key_fits (texts keys) ≡ Ok tt → IsTrue (is_key (slice_index_or keys i other).now)
+    fit_at [] i inside is = absurd (omega (arith, inside))
+    fit_at (key ∷ keys) zero inside is = fits_true Keys (is_key key.now) (both_fit (key_fits key.now) (each_fits key_fits (texts keys)) is).0
+    fit_at (key ∷ keys) (suc i) inside is = fit_at keys i (omega (arith, inside)) (both_fit (key_fits key.now) (each_fits key_fits (texts keys)) is).1
+
+-- keys that are in their ranges
+pub keys_kept : (keys : List (List ℕ)) → keys_fit keys ≡ Ok tt → is_command (get keys) ≡ true
+unfolding keys_fit
+keys_kept keys is =
+    let count = both_fit (fits Keys _) (each_fits key_fits keys) is in
+    and_from _ _ (fits_true Keys _ count.0) (all_keys keys count.1)
+
+-- keys that keep their limits
+pub keys_again : (keys : List (List ℕ)) → is_command (get keys) ≡ true → keys_fit keys ≡ Ok tt
+unfolding keys_fit
+keys_again keys keeps =
+    let parts = and_parts _ (list_all is_key keys) keeps in
+    rw (parts.0, fit_each key_fits is_key key_again keys parts.1) refl
+
+version_kept : (required version : Option Stamp) → fitting_version required ≡ Ok version → (required ≡ version) × (may_be_required required ≡ true)
+version_kept None version is = (cc, refl)
+version_kept (Some required) version is =
+    let kept = guard_ok (is_version required) (Some required) version (OutOfRange Version) is in (kept.1, kept.0)
+
+-- a key and a version that are in their ranges
+pub read_kept : (key : List ℕ) (required version : Option Stamp) → fits Key (is_key key) ≡ Ok tt → fitting_version required ≡ Ok version → (required ≡ version) × (is_command (read key required) ≡ true)
+read_kept key required version key_fits is =
+    let kept = version_kept required version is in
+    (kept.0, and_from (is_key key) (may_be_required required) (fits_true Key (is_key key) key_fits) kept.1)
+
+-- a version that keeps its limits
+pub version_again : (required : Option Stamp) → may_be_required required ≡ true → fitting_version required ≡ Ok required
+version_again None keeps = refl
+version_again (Some required) keeps = rw keeps refl

@@ -1,11 +1,9 @@
 -- A line that is read as a command is the command's line, and a command's line is read as the command.
-use Rattle.std.proofs.Common.{◌≡◌, ℕ, ◌<◌, List, length, Bool, true, false, cond, Result, Ok, Err, IfOk, IsErrOf, IsTrue, refl, sym, ◌∙◌, ltb}
+use Rattle.std.proofs.Common.{◌≡◌, ℕ, ◌<◌, List, length, Bool, true, false, Result, Ok, Err, IfOk, IsErrOf, IsTrue, refl, sym, ◌∙◌, ltb}
 use Rattle.std.proofs.lemmas.Bool.{le-ltb, ltb-false, ltb-true}
 use Rattle.std.specs.Option.{ok_or}
-use Rattle.serde_json.specs.Data.{Data}
 use Rattle.pn_json.specs.Answers.{fault_as, ShowsUnless}
 use Rattle.pn_record.specs.Reading.{reading, value_at}
-use Rattle.pn_record.specs.declared.fault.ImageFault.{ImageFault}
 use Rattle.pn_record.specs.declared.fault.ImageFault.TheVariants as image
 use Rattle.pn_json.proofs.Inverses.{bind_ok, no_fault, ok_or_ok, right_same}
 use Rattle.pn_serve.specs.Command.Json.{IsCommandLine}

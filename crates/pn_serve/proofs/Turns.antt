@@ -2,7 +2,11 @@
 use Rattle.std.proofs.Common.{◌≡◌, ℕ, Bool, true, false, if◌then◌else◌, List, [], ◌∷◌, length, refl, sym, ap, ◌∙◌, subst, inl, inr, arith}
 use Rattle.std.proofs.lemmas.Bool.{cases_lt}
 use Rattle.std.proofs.lemmas.Bool.Decides.{nat_tests}
-use Rattle.std.specs.Prelude.{Result, Ok, Err, Vec, MatchResult}
+use Rattle.std.specs.Prelude.{◌≢◌, Result, Ok, Err, Vec, IfOk, MatchResult}
+use Rattle.serde_json.specs.Data.{Data}
+use Rattle.pn_scan.specs.Reads.{AnswersAfter}
+use Rattle.pn_scan.specs.declared.fault.ScanFault.{ScanFault}
+use Rattle.pn_scan.specs.declared.fault.ScanFault.TheVariants as scan
 use Rattle.std.specs.declared.alloc.Global.{Global}
 use Rattle.pn_join.specs.Marks.{Positions}
 use Rattle.pn_stream.specs.Positions.{DeliveryValue}
@@ -23,7 +27,7 @@ use Rattle.pn_serve.specs.Command.Lines.{command_at, is_too_long}
 use Rattle.pn_serve.proofs.LongLines.{too_long}
 use Rattle.pn_serve.specs.Machine.Outcomes.{Outcome, Machine, done, line, round, Turn, serving, showing}
 use Rattle.pn_serve.specs.Machine.PartRounds.{some_stepped, partly_marked}
-use Rattle.pn_serve.specs.Machine.Turns.{doing, delivering, turn_of, Turned, Answers, Obeys}
+use Rattle.pn_serve.specs.Machine.Turns.{doing, delivering, looking, turn_of, Turned, Answers, Obeys, Refuses}
 use Rattle.pn_serve.specs.Reply.Faults.{fault_data}
 use Rattle.pn_serve.specs.Reply.Short.{changed_data}
 use Rattle.pn_json.specs.Lines.{line_of}
@@ -75,6 +79,39 @@ turned_text old new command reply text shows same is = record {
   replied = ap (λ (t : Turn). t.reply) shows ∙ sym is;
   refused = ap (λ (t : Turn). t.refused) shows;
 }
+
+-- a lookup of the region, and what is right for it
+module _ {A : Type 0} (region : RegionValue) (command : CommandValue) (show : A → Data) (right : Result A ScanFault) (does : doing (serving region) command ≡ looking (serving region) show right) where
+  -- what it found was shown, or there was no memory for the text
+  pub turned_found : {E : Type 0} (found : A) (text : Result (Vec ℕ Global) E) (reply : Reply) → right ≡ Ok found → IfOk text (λ t. t.items ≡ line_of (show found))
+      → MatchResult text (λ t. reply ≡ Text t) (λ _. reply ≡ Refused Memory) → Obeys (serving region) command (serving region) reply
+  turned_found found (Ok text) reply is says shown =
+      subst (λ (r : Reply). Obeys (serving region) command (serving region) r) (sym shown) (turned_text region region command (line_of (show found)) text (does ∙ ap (looking (serving region) show) is) refl says)
+  turned_found found (Err e) reply is says shown =
+      subst (λ (r : Reply). Obeys (serving region) command (serving region) r) (sym shown) (turned_line region region command refl)
+
+  no_memory : (reply : Reply) → reply ≡ Refused Memory → Obeys (serving region) command (serving region) reply
+  no_memory reply is = subst (λ (r : Reply). Obeys (serving region) command (serving region) r) (sym is) (turned_line region region command refl)
+
+  -- it was refused
+  pub turned_why : (fault : ScanFault) (reply : Reply) → (fault ≢ scan.Memory → right ≡ Err fault) → Refuses fault reply → Obeys (serving region) command (serving region) reply
+  turned_why fault (NotTaken text) is (other, says) =
+      let all : doing (serving region) command ≡ looking (serving region) show (Err fault) = does ∙ ap (looking (serving region) show) (is other) in record {
+        outcome = done;
+        machine_is = ap (λ (t : Turn). t.machine) all;
+        replied = ap (λ (t : Turn). t.reply) all ∙ sym says;
+        refused = ap (λ (t : Turn). t.refused) all;
+      }
+  turned_why fault (Changed count) is says = no_memory (Changed count) says
+  turned_why fault (Text text) is says = no_memory (Text text) says
+  turned_why fault (Refused refusal) is says = no_memory (Refused refusal) says
+
+-- what is right where the region answered a fault
+pub read_fault : {A : Type 0} (before right : Result A ScanFault) (fault : ScanFault) → AnswersAfter before (Err fault) right → fault ≢ scan.Memory → right ≡ Err fault
+read_fault before right scan.Memory is other = absurd (other refl)
+read_fault before right (scan.Recovering tablet) is other = is
+read_fault before right (scan.Behind has) is other = is
+read_fault before right scan.NoEntry is other = is
 
 module _ (old new : RegionValue) (deliveries : List DeliveryValue) where
   -- the round ended

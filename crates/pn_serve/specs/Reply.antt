@@ -1,5 +1,6 @@
 -- What is answered.
 pub mod Faults
+pub mod Lookups
 pub mod Marks
 pub mod Record
 pub mod Rows

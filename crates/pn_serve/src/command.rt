@@ -3,12 +3,14 @@
 pub(crate) mod batch;
 mod build;
 pub(crate) mod laws;
+mod lookups;
 pub(crate) mod parse;
 mod ranges;
 mod shapes;
 pub(crate) mod word;
 
-use pn_record::Key;
+use pn_record::{Key, Version};
+use pn_scan::Query;
 use pn_stream::Delivery;
 
 /// What a line asks for.
@@ -16,12 +18,14 @@ use pn_stream::Delivery;
 pub enum Command {
     /// Take these deliveries, in one round.
     Deliver(Vec<Delivery>),
+    /// Show the records of these keys, in this order.
+    Get(Vec<Key>),
     /// Show how far streams were taken.
     Marks,
-    /// Show the record of a key.
-    Read(Key),
-    /// Show all records that are not deleted.
-    Scan,
+    /// Show the record of a key: in this version or a later one, where a version is required.
+    Read { key: Key, version: Option<Version> },
+    /// Show the records that a query asks for, up to its limit.
+    Scan(Query),
     /// Show the tablets.
     Tablets,
 }

@@ -1,20 +1,24 @@
 //! What one line does: the region after it, and its reply.
 
-ghost use Rattle.std.specs.Prelude.{◌≡◌, ◌≤◌, MatchResult};
+ghost use Rattle.std.specs.Prelude.{◌≡◌, ◌≤◌, MatchResult, IfOk};
+ghost use Rattle.pn_json.specs.Lines.{line_of};
 ghost use Rattle.pn_apply.specs.Limits.{most_workers};
 ghost use Rattle.pn_serve.specs.declared.reply.Reply.TheVariants.{Text, Refused};
 ghost use Rattle.pn_serve.specs.declared.refusal.Refusal.TheVariants.{Memory as no_memory};
-ghost use Rattle.pn_serve.specs.Command.Meaning.{command_value, deliver as asking};
+ghost use Rattle.pn_serve.specs.Command.Meaning.{command_value, deliver as asking, get as get_asked, read as read_asked, scan as scan_asked};
 ghost use Rattle.pn_serve.specs.Machine.Outcomes.{serving};
-ghost use Rattle.pn_serve.specs.Machine.Turns.{Answers, Obeys};
+ghost use Rattle.pn_serve.specs.Machine.Turns.{Answers, Obeys, Refuses};
+ghost use Rattle.pn_serve.specs.Reply.Scan.{scan_data};
 
 use crate::reply::marks::marks_reply;
-use crate::reply::record::read_reply;
+use crate::reply::record::{get_reply, read_reply};
 use crate::reply::tablets::tablets_reply;
-use crate::{Command, Refusal, Reply, command_of, fault_reply, scan_reply};
+use crate::{Command, Refusal, Reply, command_of, fault_reply, refused_reply, scan_reply};
 use pn_apply::Open;
 use pn_join::NoMemory;
+use pn_record::{Key, Version};
 use pn_region::{Region, RoundFault};
+use pn_scan::{Page, Query, ScanFault};
 use pn_stream::Delivery;
 use std::alloc::Global;
 
@@ -36,9 +40,10 @@ fn obey(alloc: Global, region: &mut Region, workers: usize, command: Command) ->
 {
     match command {
         Command::Deliver(deliveries) => deliver(alloc, region, workers, deliveries),
+        Command::Get(keys) => get(alloc, region, &keys),
         Command::Marks => shown(marks_reply(alloc, region.marks())),
-        Command::Read(key) => shown(read_reply(alloc, region, &key)),
-        Command::Scan => shown(scan_reply(alloc, region)),
+        Command::Read { key, version } => read(alloc, region, &key, version),
+        Command::Scan(query) => scan(alloc, region, &query),
         Command::Tablets => shown(tablets_reply(alloc, region)),
     }
 }
@@ -55,6 +60,53 @@ fn deliver(alloc: Global, region: &mut Region, workers: usize, deliveries: Vec<D
             Ok(text) => Reply::NotTaken(text),
             Err(_) => Reply::Refused(Refusal::Memory),
         },
+    }
+}
+
+fn get(alloc: Global, region: &Region, keys: &[Key]) -> Reply
+    ensures { Obeys (serving region.now) (get_asked keys.now) (serving region.now) result }
+{
+    match region.get(keys) {
+        Ok(cells) => shown(get_reply(alloc, keys, &cells)),
+        Err(fault) => refused(alloc, &fault),
+    }
+}
+
+fn read(alloc: Global, region: &Region, key: &Key, version: Option<Version>) -> Reply
+    ensures { Obeys (serving region.now) (read_asked key.now version) (serving region.now) result }
+{
+    match region.read(key, version) {
+        Ok(cell) => shown(read_reply(alloc, key, cell.as_ref())),
+        Err(fault) => refused(alloc, &fault),
+    }
+}
+
+fn scan(alloc: Global, region: &Region, query: &Query) -> Reply
+    ensures { Obeys (serving region.now) (scan_asked query.now) (serving region.now) result }
+{
+    match region.scan(query) {
+        Ok(page) => shown(page_reply(alloc, page)),
+        Err(fault) => refused(alloc, &fault),
+    }
+}
+
+// The reply to a scan, of a page that nobody needs behind it.
+fn page_reply(alloc: Global, page: Page) -> Result<Vec<u8>, NoMemory>
+    ensures { IfOk result (λ text. text.items ≡ line_of (scan_data (page.rows.items, page.next))) }
+{
+    scan_reply(alloc, &page)
+}
+
+// The reply to a lookup that was refused, where there was memory for it.
+fn refused(alloc: Global, fault: &ScanFault) -> Reply
+    ensures { Refuses fault.now result }
+{
+    if let ScanFault::Memory = fault {
+        return Reply::Refused(Refusal::Memory);
+    }
+    match refused_reply(alloc, fault) {
+        Ok(text) => Reply::NotTaken(text),
+        Err(_) => Reply::Refused(Refusal::Memory),
     }
 }
 

@@ -17,8 +17,10 @@ pub enum Part {
     First,
     Images,
     Key,
+    Keys,
     Stream,
     Query,
+    Version,
     /// A member by a name that has no meaning there.
     Other,
     /// A part of an image.
@@ -37,8 +39,10 @@ impl Part {
             Part::First => "first",
             Part::Images => "images",
             Part::Key => "key",
+            Part::Keys => "keys",
             Part::Stream => "stream",
             Part::Query => "query",
+            Part::Version => "version",
             Part::Other => "other",
             Part::Image(member) => member.word(),
         }

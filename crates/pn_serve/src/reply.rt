@@ -1,6 +1,7 @@
 //! What lines are answered.
 
 pub(crate) mod faults;
+pub(crate) mod lookups;
 pub(crate) mod marks;
 pub(crate) mod record;
 mod rows;
@@ -19,6 +20,6 @@ pub enum Reply {
     Text(Vec<u8>),
     /// The line was refused.
     Refused(Refusal),
-    /// The text of why the round of its deliveries was refused.
+    /// The text of why the round of its deliveries, or its lookup, was refused.
     NotTaken(Vec<u8>),
 }

@@ -4,11 +4,9 @@ ghost use Rattle.std.specs.Prelude.{◌≡◌, ◌≤◌, ◌↔◌, IfSome, IsS
 ghost use Rattle.pn_tablet.specs.Layouts.{IsLayout};
 ghost use Rattle.pn_apply.specs.Limits.{most_workers};
 
+use pn_apply::MOST_WORKERS;
 use pn_tablet::Layout;
 use std::marker::Model;
-
-/// The most workers of a round.
-pub const MOST_WORKERS: usize = 16;
 
 /// How the keys are divided into tablets, and how many workers a round has.
 #[derive(Debug, Drop)]

@@ -1,12 +1,14 @@
 -- The JSON of commands, and the lines that commands are.
-use Rattle.std.specs.Prelude.{◌≡◌, ℕ, List, map, codes, IsTrue}
-use Rattle.serde_json.specs.Data.{Data, number, string, array, object, unsigned, no_members, member}
+use Rattle.std.specs.Prelude.{◌≡◌, ◌⊎◌, ℕ, List, Option, Some, None, map, codes, IsTrue}
+use Rattle.serde_json.specs.Data.{Data, null, number, string, array, object, unsigned, Members, no_members, member}
 use Rattle.serde_json.specs.View.{items_of}
 use Rattle.pn_record.specs.Reading.{IsLine}
-use Rattle.pn_record.specs.Writing.{image_data}
+use Rattle.pn_record.specs.Sets.{Stamp}
+use Rattle.pn_record.specs.Writing.{image_data, version_data}
+use Rattle.pn_scan.specs.QueryGrammar.{HasShape}
 use Rattle.pn_stream.specs.Positions.{DeliveryValue}
 use Rattle.pn_serve.specs.Command.Limits.{is_command}
-use Rattle.pn_serve.specs.Command.Meaning.{CommandValue, deliver, marks, read, scan, tablets}
+use Rattle.pn_serve.specs.Command.Meaning.{CommandValue, deliver, get, marks, read, scan, tablets}
 
 -- a delivery: the position of its first image, its images, and its stream
 abbrev pub delivery_data : DeliveryValue → Data
@@ -15,24 +17,45 @@ delivery_data delivery =
     (member (codes "images") (array (items_of (map image_data delivery.images)))
     (member (codes "stream") (string delivery.stream) no_members)))
 
--- a command: what to do, and with what
-abbrev pub command_data : CommandValue → Data
-command_data (deliver deliveries) =
+-- a command's object: its word, and the members behind `do`
+abbrev pub command_data : List ℕ → Members → Data
+command_data word others = object (member (codes "do") (string word) others)
+
+-- a `deliver` command, whose batches stand before `do`
+abbrev pub deliver_command : List DeliveryValue → Data
+deliver_command deliveries =
     object (member (codes "batches") (array (items_of (map delivery_data deliveries)))
     (member (codes "do") (string (codes "deliver")) no_members))
-command_data marks = object (member (codes "do") (string (codes "marks")) no_members)
-command_data (read key) =
-    object (member (codes "do") (string (codes "read"))
-    (member (codes "key") (string key) no_members))
-command_data scan =
-    object (member (codes "do") (string (codes "scan"))
-    (member (codes "query") (object no_members) no_members))
-command_data tablets = object (member (codes "do") (string (codes "tablets")) no_members)
 
--- the value is the JSON of the command, which keeps the limits. A command with members that may be absent will have
--- a case here for each way to write it
+-- a `get` command
+abbrev pub get_command : List (List ℕ) → Data
+get_command keys = command_data (codes "get") (member (codes "keys") (array (items_of (map string keys))) no_members)
+
+-- a `read` command, with what stands behind its key
+abbrev pub read_command : List ℕ → Members → Data
+read_command key others = command_data (codes "read") (member (codes "key") (string key) others)
+
+-- behind the key stands the version that is required; where none is, it is absent or null
+abbrev pub IsRequired : Members → Option Stamp → Type 0
+IsRequired others None = (others ≡ no_members) ⊎ (others ≡ member (codes "version") null no_members)
+IsRequired others (Some version) = others ≡ member (codes "version") (version_data version) no_members
+
+-- a `scan` command, with the value of its query
+abbrev pub scan_command : Data → Data
+scan_command query = command_data (codes "scan") (member (codes "query") query no_members)
+
+-- the value says the command; no limit is looked at
+abbrev pub Says : Data → CommandValue → Type 0
+Says d (deliver deliveries) = d ≡ deliver_command deliveries
+Says d (get keys) = d ≡ get_command keys
+Says d marks = d ≡ command_data (codes "marks") no_members
+Says d (read key version) = (others : Members) × IsRequired others version × (d ≡ read_command key others)
+Says d (scan query) = (asked : Data) × HasShape asked query × (d ≡ scan_command asked)
+Says d tablets = d ≡ command_data (codes "tablets") no_members
+
+-- the value is the JSON of the command, which keeps the limits
 pub record IsCommand (d : Data) (command : CommandValue) : Type 0 where
-  pub value : d ≡ command_data command
+  pub value : Says d command
   pub limits : IsTrue (is_command command)
 
 -- the line is not too long, and `serde_json` reads it as the JSON of the command

@@ -1,24 +1,41 @@
 -- The limits of what commands say.
-use Rattle.std.specs.Prelude.{ℕ, Bool, true, ◌&&◌, nat_le, length}
+use Rattle.std.specs.Prelude.{ℕ, Bool, true, ◌&&◌, nat_le, List, length, Option, Some, None}
 use Rattle.std.specs.List.{list_all}
 use Rattle.pn_join.specs.Naming.{is_name}
 use Rattle.pn_record.specs.Canonical.{is_image}
-use Rattle.pn_record.specs.Limits.{is_key}
+use Rattle.pn_record.specs.Limits.{is_key, is_version}
+use Rattle.pn_record.specs.Sets.{Stamp}
+use Rattle.pn_scan.specs.QueryGrammar.{is_query}
 use Rattle.pn_stream.specs.Positions.{DeliveryValue, are_positions}
-use Rattle.pn_serve.specs.Command.Meaning.{CommandValue, deliver, read}
+use Rattle.pn_serve.specs.Command.Meaning.{CommandValue, deliver, get, read, scan}
 
 -- the most batches of a command
 abbrev pub most_batches : ℕ
 most_batches = 64
+
+-- the most keys of a command
+abbrev pub most_keys : ℕ
+most_keys = 100
 
 -- the stream has a name, the positions are 1 to 10^15, and the images keep their limits
 abbrev pub is_delivery : DeliveryValue → Bool
 is_delivery delivery =
     is_name delivery.stream && are_positions delivery.first (length delivery.images) && list_all is_image delivery.images
 
--- 1 to 64 deliveries that keep their limits, or a key of 1 to 256 bytes; another command has no limits
+-- at least one, and not more than so many
+abbrev pub are_few : {A : Type 0} → ℕ → List A → Bool
+are_few most list = nat_le 1 (length list) && nat_le (length list) most
+
+-- the version that is required, if one is, keeps its limits
+abbrev pub may_be_required : Option Stamp → Bool
+may_be_required None = true
+may_be_required (Some version) = is_version version
+
+-- 1 to 64 deliveries that keep their limits, 1 to 100 keys, each of 1 to 256 bytes, a key and a version, or a query;
+-- another command has no limits
 abbrev pub is_command : CommandValue → Bool
-is_command (deliver deliveries) =
-    nat_le 1 (length deliveries) && nat_le (length deliveries) most_batches && list_all is_delivery deliveries
-is_command (read key) = is_key key
+is_command (deliver deliveries) = are_few most_batches deliveries && list_all is_delivery deliveries
+is_command (get keys) = are_few most_keys keys && list_all is_key keys
+is_command (read key version) = is_key key && may_be_required version
+is_command (scan query) = is_query query
 is_command command = true

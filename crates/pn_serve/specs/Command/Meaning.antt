@@ -1,21 +1,25 @@
 -- What lines ask for.
-use Rattle.std.specs.Prelude.{ℕ, List}
+use Rattle.std.specs.Prelude.{ℕ, List, Option}
+use Rattle.pn_record.specs.Sets.{Stamp}
+use Rattle.pn_scan.specs.Queries.{QueryValue}
 use Rattle.pn_stream.specs.Positions.{DeliveryValue}
 use Rattle.pn_serve.specs.declared.command.Command.{Command}
-use Rattle.pn_serve.specs.declared.command.Command.TheVariants.{Deliver, Marks, Read, Scan, Tablets}
+use Rattle.pn_serve.specs.declared.command.Command.TheVariants.{Deliver, Get, Marks, Read, Scan, Tablets}
 
--- a command
+-- a command; a read may say which version it requires
 pub data CommandValue : Type 0 where
   deliver : List DeliveryValue → CommandValue
+  get : List (List ℕ) → CommandValue
   marks : CommandValue
-  read : List ℕ → CommandValue
-  scan : CommandValue
+  read : List ℕ → Option Stamp → CommandValue
+  scan : QueryValue → CommandValue
   tablets : CommandValue
 
 -- what a command of the program asks for
 abbrev pub command_value : Command → CommandValue
 command_value (Deliver deliveries) = deliver deliveries.items
+command_value (Get keys) = get keys.items
 command_value Marks = marks
-command_value (Read key) = read key
-command_value Scan = scan
+command_value (Read key version) = read key version
+command_value (Scan query) = scan query
 command_value Tablets = tablets

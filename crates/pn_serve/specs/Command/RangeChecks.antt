@@ -1,14 +1,15 @@
 -- The ranges of a line's parts, one after another.
-use Rattle.std.specs.Prelude.{ℕ, Bool, ◌&&◌, nat_le, if◌then◌else◌, List, [], ◌∷◌, length, Result, Ok, Err}
+use Rattle.std.specs.Prelude.{ℕ, Bool, if◌then◌else◌, List, [], ◌∷◌, length, Option, Some, None, Result, Ok, Err}
 use Rattle.pn_join.specs.Naming.{is_name}
 use Rattle.pn_json.specs.Answers.{◌>>=◌, fault_as}
 use Rattle.pn_record.specs.Grammar.{ranges_in}
 use Rattle.pn_record.specs.declared.image.Image.{Image}
-use Rattle.pn_record.specs.Limits.{is_key}
+use Rattle.pn_record.specs.Limits.{is_key, is_version}
+use Rattle.pn_record.specs.Sets.{Stamp}
 use Rattle.pn_stream.specs.Positions.{DeliveryValue, are_positions}
-use Rattle.pn_serve.specs.Command.Limits.{most_batches}
+use Rattle.pn_serve.specs.Command.Limits.{most_batches, most_keys, are_few}
 use Rattle.pn_serve.specs.declared.refusal.Part.{Part}
-use Rattle.pn_serve.specs.declared.refusal.Part.TheVariants.{Batches, First, Key, Stream}
+use Rattle.pn_serve.specs.declared.refusal.Part.TheVariants.{Batches, First, Keys, Stream, Version}
 use Rattle.pn_serve.specs.declared.refusal.Part.TheVariants as part
 use Rattle.pn_serve.specs.declared.refusal.Refusal.{Refusal}
 use Rattle.pn_serve.specs.declared.refusal.Refusal.TheVariants.{OutOfRange}
@@ -38,9 +39,20 @@ batch_fits batch = do
 -- 1 to 64 batches in their ranges
 unfoldable pub batches_fit : List DeliveryValue → Result (Unit {0}) Refusal
 batches_fit batches = do
-  count ← fits Batches (nat_le 1 (length batches) && nat_le (length batches) most_batches)
+  count ← fits Batches (are_few most_batches batches)
   each_fits batch_fits batches
 
--- a key of 1 to 256 bytes
-abbrev pub fitting_key : List ℕ → Result (List ℕ) Refusal
-fitting_key key = if is_key key then Ok key else Err (OutOfRange Key)
+-- one of several keys, of 1 to 256 bytes
+abbrev pub key_fits : List ℕ → Result (Unit {0}) Refusal
+key_fits key = fits Keys (is_key key)
+
+-- 1 to 100 keys in their ranges
+unfoldable pub keys_fit : List (List ℕ) → Result (Unit {0}) Refusal
+keys_fit keys = do
+  count ← fits Keys (are_few most_keys keys)
+  each_fits key_fits keys
+
+-- the version that is required, if one is, in its ranges
+abbrev pub fitting_version : Option Stamp → Result (Option Stamp) Refusal
+fitting_version None = Ok None
+fitting_version (Some version) = if is_version version then Ok (Some version) else Err (OutOfRange Version)

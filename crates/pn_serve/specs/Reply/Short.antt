@@ -3,7 +3,7 @@ use Rattle.std.specs.Prelude.{ℕ, List, codes}
 use Rattle.serde_json.specs.Data.{Data, number, string, object, unsigned, Members, no_members, member}
 use Rattle.pn_record.specs.Words.{word_of}
 use Rattle.pn_serve.specs.declared.refusal.Part.{Part}
-use Rattle.pn_serve.specs.declared.refusal.Part.TheVariants.{Whole, Do, Batches, First, Images, Key, Stream, Query, Other, Image}
+use Rattle.pn_serve.specs.declared.refusal.Part.TheVariants.{Whole, Do, Batches, First, Images, Key, Keys, Stream, Query, Version, Other, Image}
 use Rattle.pn_serve.specs.declared.refusal.Refusal.{Refusal}
 use Rattle.pn_serve.specs.Reply.Faults.{error_data}
 use Rattle.pn_serve.specs.declared.refusal.Refusal.TheVariants.{TooLong, NotJson, BadShape, OutOfRange, Memory}
@@ -16,8 +16,10 @@ part_word Batches = codes "batches"
 part_word First = codes "first"
 part_word Images = codes "images"
 part_word Key = codes "key"
+part_word Keys = codes "keys"
 part_word Stream = codes "stream"
 part_word Query = codes "query"
+part_word Version = codes "version"
 part_word Other = codes "other"
 part_word (Image part) = word_of part
 

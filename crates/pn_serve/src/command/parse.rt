@@ -2,23 +2,20 @@
 
 ghost use Rattle.std.specs.Prelude.{◌≡◌, ◌<◌, false, Ok, length, IfOk, IsOk, IsErrOf, IsTrue};
 ghost use Rattle.serde_json.specs.View.{view, members_view};
-ghost use Rattle.pn_json.specs.Answers.{Shows, ShowsUnless, IsUnless};
-ghost use Rattle.pn_json.specs.Members.{seen, member_as};
+ghost use Rattle.pn_json.specs.Answers.{Shows, ShowsUnless};
 ghost use Rattle.pn_record.specs.Limits.{longest_line};
 ghost use Rattle.pn_serve.specs.Command.Json.{IsCommandLine};
 ghost use Rattle.pn_serve.specs.Command.Meaning.{CommandValue, command_value};
-ghost use Rattle.pn_serve.specs.Command.Queries.{is_empty as no_members, query_in};
-ghost use Rattle.pn_serve.specs.Command.RangeChecks.{fitting_key};
-ghost use Rattle.pn_serve.specs.Command.Lines.{refusal_of, deliver_in, marks_in, read_in, scan_in, tablets_in, command_in as command_seen, command_at, is_too_long, TakesMemory};
-ghost use Rattle.pn_serve.specs.declared.refusal.Part.TheVariants.{Query};
+ghost use Rattle.pn_serve.specs.Command.Lines.{refusal_of, deliver_in, marks_in, tablets_in, command_in as command_seen, command_at, is_too_long, TakesMemory};
 
 use crate::command::build::built_deliveries;
+use crate::command::lookups::{get_of, read_of, scan_of};
 use crate::command::ranges::check_batches;
 use crate::command::shapes::{batches_of, check_members};
 use crate::command::word::{Word, word_of};
 use crate::{Command, Part, Refusal};
-use pn_json::{items_of, text_of};
-use pn_record::{ImageFault, Key, KeyFault, read_value};
+use pn_json::items_of;
+use pn_record::{ImageFault, read_value};
 use serde_json::{Map, Value};
 use std::alloc::Global;
 
@@ -61,7 +58,7 @@ fn line_command(alloc: Global, line: &[u8]) -> Result<Command, Refusal>
     command_in(alloc, &value)
 }
 
-// The command that a value is. Memory runs out only where it is one, or its batches are gathered.
+// The command that a value is. Memory runs out only where it is one, or its batches or keys are gathered.
 #[tactic(auto, unfolding(crate::specs::Command::Lines::command_in))]
 fn command_in(alloc: Global, value: &Value) -> Result<Command, Refusal>
     ensures exact { ShowsUnless Refusal.Memory command_value result (command_seen (view value.now)) }
@@ -70,9 +67,10 @@ fn command_in(alloc: Global, value: &Value) -> Result<Command, Refusal>
     let members = value.as_object().ok_or(Refusal::BadShape(Part::Whole))?;
     match word_of(value.get("do"))? {
         Word::Deliver => deliver_of(alloc, members, value),
+        Word::Get => get_of(alloc, members, value),
         Word::Marks => marks_of(members),
         Word::Read => read_of(alloc, members, value),
-        Word::Scan => scan_of(members, value),
+        Word::Scan => scan_of(alloc, members, value),
         Word::Tablets => tablets_of(members),
     }
 }
@@ -101,27 +99,6 @@ fn marks_of(members: &Map<String, Value>) -> Result<Command, Refusal>
     Ok(Command::Marks)
 }
 
-#[tactic(auto, unfolding(crate::specs::Command::Lines::read_in))]
-fn read_of(alloc: Global, members: &Map<String, Value>, value: &Value) -> Result<Command, Refusal>
-    ensures exact { ShowsUnless Refusal.Memory command_value result (read_in (members_view members.now.entries) (view value.now)) }
-    ensures memory { IsErrOf result Refusal.Memory → IsOk (read_in (members_view members.now.entries) (view value.now)) }
-{
-    let text = text_of(value.get("key"), Refusal::BadShape(Part::Key))?;
-    check_members(members, &["do", "key"])?;
-    Ok(Command::Read(key_of(alloc, text)?))
-}
-
-fn key_of(alloc: Global, text: &str) -> Result<Key, Refusal>
-    ensures exact { IsUnless Refusal.Memory result (fitting_key text.now) }
-    ensures memory { IsErrOf result Refusal.Memory → IsOk (fitting_key text.now) }
-{
-    match Key::of(alloc, text) {
-        Ok(key) => Ok(key),
-        Err(KeyFault::OutOfRange) => Err(Refusal::OutOfRange(Part::Key)),
-        Err(KeyFault::Memory) => Err(Refusal::Memory),
-    }
-}
-
 #[tactic(auto, unfolding(crate::specs::Command::Lines::tablets_in))]
 fn tablets_of(members: &Map<String, Value>) -> Result<Command, Refusal>
     ensures exact { Shows command_value result (tablets_in (members_view members.now.entries)) }
@@ -129,36 +106,4 @@ fn tablets_of(members: &Map<String, Value>) -> Result<Command, Refusal>
 {
     check_members(members, &["do"])?;
     Ok(Command::Tablets)
-}
-
-#[tactic(auto, unfolding(crate::specs::Command::Lines::scan_in))]
-fn scan_of(members: &Map<String, Value>, value: &Value) -> Result<Command, Refusal>
-    ensures exact { Shows command_value result (scan_in (members_view members.now.entries) (view value.now)) }
-    ensures memory { IsErrOf result Refusal.Memory → ⊥ }
-{
-    check_query(value.get("query"))?;
-    check_members(members, &["do", "query"])?;
-    Ok(Command::Scan)
-}
-
-fn check_query(value: Option<&Value>) -> Result<(), Refusal>
-    ensures exact { result ≡ member_as query_in (Refusal.BadShape Query) (seen value.entry) }
-    ensures memory { IsErrOf result Refusal.Memory → ⊥ }
-{
-    match value.and_then(Value::as_object) {
-        Some(members) => {
-            if is_empty(members) {
-                Ok(())
-            } else {
-                Err(Refusal::BadShape(Part::Query))
-            }
-        }
-        None => Err(Refusal::BadShape(Part::Query)),
-    }
-}
-
-fn is_empty(members: &Map<String, Value>) -> bool
-    ensures { result ≡ no_members (members_view members.now.entries) }
-{
-    members.is_empty()
 }

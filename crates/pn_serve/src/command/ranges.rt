@@ -1,16 +1,22 @@
 //! The ranges of a line's parts, looked at in their shapes. It takes no memory.
 
-ghost use Rattle.std.specs.Prelude.{◌≡◌};
-ghost use Rattle.pn_serve.specs.Command.RangeChecks.{each_fits, image_fits, batch_fits, batches_fit};
+ghost use Rattle.std.specs.Prelude.{◌≡◌, IsErrOf};
+ghost use Rattle.pn_json.specs.Members.{texts};
+ghost use Rattle.pn_record.specs.Limits.{is_key};
+ghost use Rattle.pn_serve.specs.Command.RangeChecks.{fits, each_fits, image_fits, batch_fits, batches_fit, keys_fit};
 
 use crate::command::batch::BatchShape;
 use crate::{Part, Refusal};
 use pn_join::Name;
 use pn_record::Shape;
+use pn_record::limits::LONGEST_KEY;
 use pn_stream::positions_fit;
 
 /// The most batches of a command.
 const MOST_BATCHES: usize = 64;
+
+/// The most keys of a command.
+const MOST_KEYS: usize = 100;
 
 /// Whether there are 1 to 64 batches, each in its ranges; otherwise the first fault.
 #[tactic(auto, unfolding(crate::specs::Command::RangeChecks::batches_fit))]
@@ -56,4 +62,29 @@ fn check_image(image: &Shape<'_>) -> Result<(), Refusal>
         Ok(()) => Ok(()),
         Err(member) => Err(Refusal::OutOfRange(Part::Image(member))),
     }
+}
+
+/// Whether there are 1 to 100 keys, each of 1 to 256 bytes.
+#[tactic(auto, unfolding(crate::specs::Command::RangeChecks::keys_fit))]
+pub(crate) fn check_keys(keys: &[&str]) -> Result<(), Refusal>
+    ensures { result ≡ keys_fit (texts keys.now) }
+{
+    if keys.is_empty() || keys.len() > MOST_KEYS {
+        return Err(Refusal::OutOfRange(Part::Keys));
+    }
+    for key in keys {
+        check_key(key, Part::Keys)?;
+    }
+    Ok(())
+}
+
+/// Whether the text has 1 to 256 bytes; otherwise the part is at fault.
+pub(crate) fn check_key(text: &str, part: Part) -> Result<(), Refusal>
+    ensures exact { result ≡ fits part (is_key text.now) }
+    ensures memory { IsErrOf result Refusal.Memory → ⊥ }
+{
+    if text.is_empty() || text.len() > LONGEST_KEY {
+        return Err(Refusal::OutOfRange(part));
+    }
+    Ok(())
 }

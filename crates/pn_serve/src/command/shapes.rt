@@ -2,15 +2,15 @@
 
 ghost use Rattle.std.specs.Prelude.{◌≡◌, [], ◌∷◌, ◌++◌, IfOk, OnOk, IsErrOf};
 ghost use Rattle.serde_json.specs.View.{view, items_view, members_view};
-ghost use Rattle.pn_json.specs.Answers.{ShowsUnless, IsUnless};
-ghost use Rattle.pn_json.specs.Members.{texts, each_in};
-ghost use Rattle.pn_serve.specs.Command.ShapeChecks.{named_alone, image_shape, batch_shape};
+ghost use Rattle.pn_json.specs.Answers.{Shows, ShowsUnless, IsUnless};
+ghost use Rattle.pn_json.specs.Members.{seen, texts, each_in};
+ghost use Rattle.pn_serve.specs.Command.ShapeChecks.{named_alone, image_shape, batch_shape, key_shape, required_in, version_shape};
 
 use crate::command::batch::BatchShape;
 use crate::{Part, Refusal};
 use pn_join::NoMemory;
 use pn_json::{check_names, items_of, text_of, whole_number_of};
-use pn_record::{Shape, shape_of};
+use pn_record::{Shape, numbers_of, shape_of};
 use serde_json::{Map, Value};
 use std::alloc::Global;
 
@@ -81,4 +81,41 @@ pub(crate) fn batches_of(alloc: Global, items: &[Value]) -> Result<Vec<BatchShap
         push(&mut batches, batch_of(alloc, item)?)?;
     }
     Ok(batches)
+}
+
+fn key_text(value: &Value) -> Result<&str, Refusal>
+    ensures { Shows (λ text. text.now) result (key_shape (view value.now)) }
+{
+    value.as_str().ok_or(Refusal::BadShape(Part::Keys))
+}
+
+/// The texts that the items of `keys` are.
+pub(crate) fn key_texts<'v>(alloc: Global, items: &'v [Value]) -> Result<Vec<&'v str>, Refusal>
+    ensures { ShowsUnless Refusal.Memory (λ keys. texts keys.items) result (each_in key_shape (items_view items.now)) }
+{
+    let mut keys = room(alloc, items.len())?;
+    for item in items {
+        push(&mut keys, key_text(item)?)?;
+    }
+    Ok(keys)
+}
+
+/// The numbers of the version that `version` requires. None where it is absent or null.
+pub(crate) fn version_numbers(value: Option<&Value>) -> Result<Option<(u64, u64)>, Refusal>
+    ensures exact { result ≡ version_shape (seen value.entry) }
+    ensures memory { IsErrOf result Refusal.Memory → ⊥ }
+{
+    match value {
+        None => Ok(None),
+        Some(value) => numbers_required(value).ok_or(Refusal::BadShape(Part::Version)),
+    }
+}
+
+fn numbers_required(value: &Value) -> Option<Option<(u64, u64)>>
+    ensures { result ≡ required_in (view value.now) }
+{
+    match value {
+        Value::Null => Some(None),
+        _ => Some(Some(numbers_of(value)?)),
+    }
 }

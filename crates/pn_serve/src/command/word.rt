@@ -12,6 +12,7 @@ use serde_json::Value;
 #[derive(Clone, Copy)]
 pub(crate) enum Word {
     Deliver,
+    Get,
     Marks,
     Read,
     Scan,
@@ -24,6 +25,7 @@ impl Word {
     {
         match text {
             "deliver" => Some(Word::Deliver),
+            "get" => Some(Word::Get),
             "marks" => Some(Word::Marks),
             "read" => Some(Word::Read),
             "scan" => Some(Word::Scan),

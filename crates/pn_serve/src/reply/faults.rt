@@ -46,7 +46,7 @@ fn write_why(writer: &mut Writer, fault: &RoundFault) -> Result<(), NoMemory>
     }
 }
 
-fn write_error(writer: &mut Writer, name: &str) -> Result<(), NoMemory>
+pub(crate) fn write_error(writer: &mut Writer, name: &str) -> Result<(), NoMemory>
     ensures { OnOk result (Appends writer.old writer.new (error_tokens name.now)) }
 {
     write_text_member(writer, "error", name)

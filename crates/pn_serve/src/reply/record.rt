@@ -1,34 +1,27 @@
-//! The reply that shows the record of a key.
+//! The replies that show the records of keys.
 
 ghost use Rattle.std.specs.Prelude.{◌≡◌, IfOk, OnOk};
 ghost use Rattle.std.specs.Option.{option_copied};
+ghost use Rattle.serde_json.specs.Data.{array};
+ghost use Rattle.serde_json.specs.View.{items_of};
 ghost use Rattle.pn_json.specs.Lines.{line_of};
-ghost use Rattle.pn_json.specs.Tokens.{Appends, value_tokens};
-ghost use Rattle.pn_serve.specs.Reply.Record.{cell_at, row_or_null, read_data};
+ghost use Rattle.pn_json.specs.Tokens.{Appends, value_tokens, values_tokens};
+ghost use Rattle.pn_serve.specs.Reply.Record.{row_or_null, read_data, rows_or_nulls, get_data};
 
 use crate::reply::rows::write_row;
 use json::Writer;
 use pn_join::NoMemory;
 use pn_json::{begin_line, finish_line};
 use pn_record::{Cell, Key};
-use pn_region::Region;
 use std::alloc::Global;
 
 /// The record of a key: `{"row":R}`, or `{"row":null}` where there is none.
-pub(crate) fn read_reply(alloc: Global, region: &Region, key: &Key) -> Result<Vec<u8>, NoMemory>
-    ensures { IfOk result (λ text. text.items ≡ line_of (read_data key.now (cell_at region.now key.now))) }
+pub(crate) fn read_reply(alloc: Global, key: &Key, cell: Option<&Cell>) -> Result<Vec<u8>, NoMemory>
+    ensures { IfOk result (λ text. text.items ≡ line_of (read_data key.now (option_copied cell.entry))) }
 {
     let mut writer = begin_line(alloc)?;
-    write_read(&mut writer, key, cell_of(region, key))?;
+    write_read(&mut writer, key, cell)?;
     finish_line(writer)
-}
-
-// The cell of a key, in its own tablet.
-fn cell_of<'r>(region: &'r Region, key: &Key) -> Option<&'r Cell>
-    ensures { option_copied result ≡ cell_at region.now key.now }
-{
-    let tablet = region.layout().tablet_of(key);
-    region.tablet(tablet).cells().get(key)
 }
 
 #[tactic(auto, unfolding(crate::specs::Reply::Record::read_data))]
@@ -49,4 +42,47 @@ fn write_row_or_null(writer: &mut Writer, key: &Key, cell: Option<&Cell>) -> Res
         Some(cell) => write_row(writer, key, cell),
         None => Ok(writer.null()?),
     }
+}
+
+/// The records of keys, in the order of the keys: `{"rows":[R or null,..]}`.
+pub(crate) fn get_reply(
+    alloc: Global,
+    keys: &[Key],
+    cells: &[Option<Cell>],
+) -> Result<Vec<u8>, NoMemory>
+    ensures { IfOk result (λ text. text.items ≡ line_of (get_data keys.now cells.now)) }
+{
+    let mut writer = begin_line(alloc)?;
+    write_get(&mut writer, keys, cells)?;
+    finish_line(writer)
+}
+
+#[tactic(auto, unfolding(crate::specs::Reply::Record::get_data))]
+fn write_get(writer: &mut Writer, keys: &[Key], cells: &[Option<Cell>]) -> Result<(), NoMemory>
+    ensures { OnOk result (Appends writer.old writer.new (value_tokens (get_data keys.now cells.now))) }
+{
+    writer.begin_object()?;
+    writer.key("rows")?;
+    write_found(writer, keys, cells)?;
+    writer.end_object()?;
+    Ok(())
+}
+
+fn write_found(writer: &mut Writer, keys: &[Key], cells: &[Option<Cell>]) -> Result<(), NoMemory>
+    ensures { OnOk result (Appends writer.old writer.new
+        (value_tokens (array (items_of (rows_or_nulls keys.now cells.now))))) }
+{
+    writer.begin_array()?;
+    write_each(writer, keys, cells)?;
+    writer.end_array()?;
+    Ok(())
+}
+
+fn write_each(writer: &mut Writer, keys: &[Key], cells: &[Option<Cell>]) -> Result<(), NoMemory>
+    ensures { OnOk result (Appends writer.old writer.new (values_tokens (rows_or_nulls keys.now cells.now))) }
+{
+    for (key, cell) in keys.iter().zip(cells) {
+        write_row_or_null(writer, key, cell.as_ref())?;
+    }
+    Ok(())
 }

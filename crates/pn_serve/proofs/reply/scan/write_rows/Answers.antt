@@ -1,34 +1,21 @@
--- One entry more is gone through, and at the end none is left.
-use Rattle.std.proofs.Common.{List, ◌++◌, refl, sym, ap, ◌∙◌, append_assoc, append-nil}
-use Rattle.pn_record.specs.CellMap.{Entries}
-use Rattle.json.specs.Token.{Token}
-use Rattle.pn_serve.proofs.RowLists.{row_tokens, rows_first}
+-- One row more is written, and at the end all.
+use Rattle.std.proofs.Common.{map, ap}
+use Rattle.std.proofs.lemmas.List.{take_all}
+use Rattle.pn_json.specs.Tokens.{value_tokens, values_tokens}
+use Rattle.pn_json.proofs.TokenLists.{appends_none, appends_token, appends_both, appends_as, whole_array, one_more}
+use Rattle.pn_serve.specs.Reply.Rows.{row_data}
 use Rattle.pn_serve.proofs.reply.scan.write_rows.Goals as goal
 
-pub loop-key-init : goal.loop-key-init
-loop-key-init c = record {
-  before = refl;
-  tokens = ap (λ (es : Entries). c.args.writer.now.tokens ++ row_tokens es) (c.into_iter-key-iterator.ensures.into_iter_gives ∙ c.iter-key-items.ensures.all);
-}
+pub loop-row-init : goal.loop-row-init
+loop-row-init c = appends_none _
 
-pub loop-key-preserved : goal.loop-key-preserved
-loop-key-preserved c =
-    let written = c.in_ok-write_if_shown.ensures in
-    record {
-      before = written.before ∙ c.loop-key.invariant.before;
-      tokens =
-          ap (λ (l : List Token). l ++ row_tokens c.next.new.self) written.tokens
-          ∙ append_assoc c.loop-key.writer.tokens _ _
-          ∙ ap (λ (l : List Token). c.loop-key.writer.tokens ++ l) (rows_first _ c.next.new.self)
-          ∙ ap (λ (es : Entries). c.loop-key.writer.tokens ++ row_tokens es) (sym c.in-Some.ensures.steps)
-          ∙ c.loop-key.invariant.tokens;
-    }
+pub loop-row-preserved : goal.loop-row-preserved
+loop-row-preserved c =
+    appends_as (one_more row_data value_tokens c.args.rows.now c.loop-row.row-index c.row-item.result c.row-item.is c.loop-row-test.true)
+    (appends_both c.loop-row.invariant c.in_ok-write_shown.ensures)
 
 pub returns : goal.returns
-returns c = record {
-  before = c.loop-key.invariant.before;
-  tokens =
-      sym (append-nil c.loop-key.writer.tokens)
-      ∙ ap (λ (es : Entries). c.loop-key.writer.tokens ++ row_tokens es) (sym c.in-None.ensures.steps.0)
-      ∙ c.loop-key.invariant.tokens;
-}
+returns c =
+    let rows = c.args.rows.now in
+    let all = ap (λ rs. values_tokens (map row_data rs)) (take_all c.loop-row.row-index rows c.loop-row-test.false) in
+    whole_array (map row_data rows) (appends_token c.in_ok-begin_array.ensures) (appends_as all c.loop-row.invariant) (appends_token c.in_ok-end_array.ensures)

@@ -1,10 +1,8 @@
--- The rows so far, and those of the entries that are left, are all rows.
-use Rattle.std.proofs.Common.{◌≡◌, ◌++◌}
-use Rattle.pn_serve.proofs.RowLists.{row_tokens}
+-- The rows so far were written.
+use Rattle.std.proofs.Common.{map, take}
+use Rattle.pn_json.specs.Tokens.{Appends, values_tokens}
+use Rattle.pn_serve.specs.Reply.Rows.{row_data}
 use Rattle.pn_serve.proofs.reply.scan.write_rows.Given as goal
 
-abbrev pub invariant-loop-key : goal.invariant-loop-key
-invariant-loop-key l = record {
-  before : l.writer.before ≡ l.initial.writer.before;
-  tokens : l.writer.tokens ++ row_tokens l.key-iterator ≡ l.initial.writer.tokens ++ row_tokens l.records;
-}
+abbrev pub invariant-loop-row : goal.invariant-loop-row
+invariant-loop-row l = Appends l.initial.writer l.writer (values_tokens (map row_data (take l.row-index l.rows)))
