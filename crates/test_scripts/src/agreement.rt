@@ -8,6 +8,7 @@ use pn_join::Name;
 use pn_line::InMemory;
 use pn_record::{KeyFault, read_image};
 use pn_region::Region;
+use pn_scan::{Query, QueryFault};
 use pn_serve::scan_reply;
 use pn_stream::Delivery;
 use std::alloc::Global;
@@ -87,7 +88,9 @@ fn have_slow_rows(
 
 fn rows_of(alloc: Global, lists: &[&[PlainImage]]) -> Result<Vec<u8>, Fail> {
     let region = region_of(alloc, lists)?;
-    Ok(scan_reply(alloc, &region)?)
+    let query = Query::new(None, None, None, Vec::new(alloc), 1_000);
+    let page = region.scan(&query.ok_or(QueryFault::OutOfRange)?)?;
+    Ok(scan_reply(alloc, &page)?)
 }
 
 // A region over three tablets that took each list in a round of its own, from a stream of its own.

@@ -4,7 +4,9 @@
 
 use crate::readers::Twice;
 use crate::row::{Row, one_tablet, settings};
-use crate::rows::{EQUAL_VERSIONS_CONFLICT, FIRST_RUN, OVERLAP_TAKEN};
+use crate::rows::{
+    EQUAL_VERSIONS_CONFLICT, FIRST_RUN, GET_AND_BEHIND, OVERLAP_TAKEN, PAGES_AND_CONTINUATIONS,
+};
 use crate::tablets::{SPLIT_REPLIES, SPLIT_TABLETS};
 use crate::writers::Room;
 use pn_serve::{RunFault, Settings, run};
@@ -31,6 +33,16 @@ fn equal_versions_conflict_twice_over(rt: HostRuntime) -> Result<(), Fail> {
 #[test]
 fn overlap_taken_twice_over(rt: HostRuntime) -> Result<(), Fail> {
     assert_retried(&rt, OVERLAP_TAKEN, one_tablet(rt.alloc()))
+}
+
+#[test]
+fn get_and_behind_twice_over(rt: HostRuntime) -> Result<(), Fail> {
+    assert_retried(&rt, GET_AND_BEHIND, one_tablet(rt.alloc()))
+}
+
+#[test]
+fn pages_and_continuations_twice_over(rt: HostRuntime) -> Result<(), Fail> {
+    assert_retried(&rt, PAGES_AND_CONTINUATIONS, one_tablet(rt.alloc()))
 }
 
 #[test]

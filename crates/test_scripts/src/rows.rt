@@ -209,8 +209,42 @@ const SIZES_AT_THE_EDGE_B: Row = Row {
 "#,
 };
 
+// Keys in the order asked, and a record that is behind the version that is required.
+pub(crate) const GET_AND_BEHIND: Row = Row {
+    script: r#"{"batches":[{"first":1,"images":[{"fields":{"v":"x"},"key":"k","master":"w","version":[1,0]}],"stream":"east"}],"do":"deliver"}
+{"do":"get","keys":["k","z","k"]}
+{"do":"read","key":"z"}
+{"do":"read","key":"z","version":[1,0]}
+{"do":"read","key":"k","version":[1,0]}
+{"do":"read","key":"k","version":[1,1]}
+"#,
+    replies: r#"{"changed":1}
+{"rows":[{"contents":[{"fields":{"v":"x"},"master":"w"}],"key":"k","state":"one","version":[1,0]},null,{"contents":[{"fields":{"v":"x"},"master":"w"}],"key":"k","state":"one","version":[1,0]}]}
+{"row":null}
+{"error":"behind","has":null}
+{"row":{"contents":[{"fields":{"v":"x"},"master":"w"}],"key":"k","state":"one","version":[1,0]}}
+{"error":"behind","has":[1,0]}
+"#,
+};
+
+// A page of two rows, and the one that its continuation asks for.
+pub(crate) const PAGES_AND_CONTINUATIONS: Row = Row {
+    script: r#"{"batches":[{"first":1,"images":[{"fields":{"v":"x"},"key":"a","master":"w","version":[1,0]},{"fields":{"v":"x"},"key":"b","master":"w","version":[1,0]},{"fields":{"v":"x"},"key":"c","master":"w","version":[1,0]}],"stream":"east"}],"do":"deliver"}
+{"do":"scan","query":{"limit":2}}
+{"do":"scan","query":{"after":"b","from":null,"limit":2,"to":null,"where":[]}}
+{"do":"scan","query":{"limit":3,"where":[["eq","v","x"]]}}
+{"do":"scan","query":{"from":"b","to":"b"}}
+"#,
+    replies: r#"{"changed":3}
+{"next":{"after":"b","from":null,"limit":2,"to":null,"where":[]},"rows":[{"contents":[{"fields":{"v":"x"},"master":"w"}],"key":"a","state":"one","version":[1,0]},{"contents":[{"fields":{"v":"x"},"master":"w"}],"key":"b","state":"one","version":[1,0]}]}
+{"next":null,"rows":[{"contents":[{"fields":{"v":"x"},"master":"w"}],"key":"c","state":"one","version":[1,0]}]}
+{"next":null,"rows":[{"contents":[{"fields":{"v":"x"},"master":"w"}],"key":"a","state":"one","version":[1,0]},{"contents":[{"fields":{"v":"x"},"master":"w"}],"key":"b","state":"one","version":[1,0]},{"contents":[{"fields":{"v":"x"},"master":"w"}],"key":"c","state":"one","version":[1,0]}]}
+{"next":null,"rows":[]}
+"#,
+};
+
 /// Each row with its name.
-const ROWS: [(&str, Row); 13] = [
+const ROWS: [(&str, Row); 15] = [
     ("empty scan", EMPTY_SCAN),
     ("first run", FIRST_RUN),
     ("generation first", GENERATION_FIRST),
@@ -224,6 +258,8 @@ const ROWS: [(&str, Row); 13] = [
     ("overlap taken", OVERLAP_TAKEN),
     ("gap refused", GAP_REFUSED),
     ("seventeenth stream", SEVENTEENTH_STREAM),
+    ("get and behind", GET_AND_BEHIND),
+    ("pages and continuations", PAGES_AND_CONTINUATIONS),
     ("faulty lines", FAULTY_LINES),
     ("sizes at the edge a", SIZES_AT_THE_EDGE_A),
     ("sizes at the edge b", SIZES_AT_THE_EDGE_B),

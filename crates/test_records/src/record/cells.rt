@@ -26,9 +26,10 @@ fn content(body: Body, master: &str) -> Result<Content, Fail> {
 #[test]
 fn keys_are_copied_and_compared_by_their_bytes(rt: HostRuntime) -> Result<(), Fail> {
     let short = Key::of(rt.alloc(), "a")?;
-    let long = Key::of(rt.alloc(), "aa")?;
+    let long = Key::of(rt.alloc(), "a-key-of-thirty-two-bytes-in-all")?;
     assert_eq!(rt; short.as_str(), "a");
     assert_eq!(rt; short.dup()?.as_str(), "a");
+    assert_eq!(rt; long.dup()?.as_str(), "a-key-of-thirty-two-bytes-in-all");
     assert_eq!(rt; short.cmp(&long), Ordering::Less);
     assert_eq!(rt; Key::of(rt.alloc(), "").err(), Some(KeyFault::OutOfRange));
     Ok(())

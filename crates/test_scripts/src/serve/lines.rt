@@ -1,6 +1,6 @@
 //! Lines and the commands or refusals that they are.
 
-use pn_record::Member;
+use pn_record::{Key, Member, Version};
 use pn_serve::{Command, Part, Refusal, command_of};
 use pn_stream::Delivery;
 use std::alloc::Global;
@@ -13,11 +13,30 @@ const DELIVER: &[u8] =
 fn told(alloc: Global, line: &[u8]) -> Result<String, Fail> {
     match command_of(alloc, line)? {
         Command::Deliver(deliveries) => told_deliveries(alloc, &deliveries),
-        Command::Read(key) => Ok(format!(in alloc; "read {}", key.as_str())?),
-        Command::Scan => Ok(String::from_str(alloc, "scan")?),
+        Command::Get(keys) => told_keys(alloc, &keys),
+        Command::Read { key, version } => told_read(alloc, &key, version),
+        Command::Scan(query) => Ok(format!(in alloc; "scan {}", query.limit())?),
         Command::Marks => Ok(String::from_str(alloc, "marks")?),
         Command::Tablets => Ok(String::from_str(alloc, "tablets")?),
     }
+}
+
+fn told_read(alloc: Global, key: &Key, version: Option<Version>) -> Result<String, Fail> {
+    let mut told = format!(in alloc; "read {}", key.as_str())?;
+    if let Some(version) = version {
+        let Version { generation, number } = version;
+        told.push_str(format!(in alloc; " {generation} {number}")?.as_str())?;
+    }
+    Ok(told)
+}
+
+fn told_keys(alloc: Global, keys: &[Key]) -> Result<String, Fail> {
+    let mut told = String::from_str(alloc, "get")?;
+    for key in keys {
+        told.push_str(" ")?;
+        told.push_str(key.as_str())?;
+    }
+    Ok(told)
 }
 
 fn told_deliveries(alloc: Global, deliveries: &[Delivery]) -> Result<String, Fail> {
@@ -34,10 +53,14 @@ fn told_deliveries(alloc: Global, deliveries: &[Delivery]) -> Result<String, Fai
 
 #[test]
 fn commands_are_read(rt: HostRuntime) -> Result<(), Fail> {
-    let lines: [(&[u8], &str); 5] = [
+    let lines: [(&[u8], &str); 9] = [
         (DELIVER, "deliver east 1:k"),
+        (br#"{"do":"get","keys":["k","z","k"]}"#, "get k z k"),
         (br#"{"do":"read","key":"k"}"#, "read k"),
-        (br#"{"do":"scan","query":{}}"#, "scan"),
+        (br#"{"do":"read","key":"k","version":null}"#, "read k"),
+        (br#"{"do":"read","key":"k","version":[1,0]}"#, "read k 1 0"),
+        (br#"{"do":"scan","query":{}}"#, "scan 100"),
+        (br#"{"do":"scan","query":{"limit":5}}"#, "scan 5"),
         (br#"{"do":"marks"}"#, "marks"),
         (br#"{"do":"tablets"}"#, "tablets"),
     ];
@@ -49,14 +72,40 @@ fn commands_are_read(rt: HostRuntime) -> Result<(), Fail> {
 
 #[test]
 fn names_the_first_fault(rt: HostRuntime) -> Result<(), Fail> {
-    let lines: [(&[u8], Refusal); 11] = [
+    let lines: [(&[u8], Refusal); 19] = [
         (br#""#, Refusal::NotJson),
         (br#"[]"#, Refusal::BadShape(Part::Whole)),
         (br#"{"do":"fly"}"#, Refusal::BadShape(Part::Do)),
         (br#"{"do":"read","key":7}"#, Refusal::BadShape(Part::Key)),
         (
-            br#"{"do":"read","key":"k","version":[1,0]}"#,
+            br#"{"do":"read","key":"","version":[1]}"#,
+            Refusal::BadShape(Part::Version),
+        ),
+        (
+            br#"{"do":"read","key":"","version":[0,1]}"#,
+            Refusal::OutOfRange(Part::Key),
+        ),
+        (
+            br#"{"do":"read","key":"k","version":[0,1]}"#,
+            Refusal::OutOfRange(Part::Version),
+        ),
+        (br#"{"do":"get","keys":"k"}"#, Refusal::BadShape(Part::Keys)),
+        (
+            br#"{"do":"get","keys":["",7]}"#,
+            Refusal::BadShape(Part::Keys),
+        ),
+        (
+            br#"{"do":"get","keys":[]}"#,
+            Refusal::OutOfRange(Part::Keys),
+        ),
+        (br#"{"do":"scan"}"#, Refusal::BadShape(Part::Query)),
+        (
+            br#"{"do":"scan","key":"k","query":{"limit":0}}"#,
             Refusal::BadShape(Part::Other),
+        ),
+        (
+            br#"{"do":"scan","query":{"limit":0}}"#,
+            Refusal::OutOfRange(Part::Query),
         ),
         (br#"{"do":"read","key":""}"#, Refusal::OutOfRange(Part::Key)),
         (

@@ -1,9 +1,12 @@
 //! Replies against texts that were written down by hand.
 use pn_apply::Open;
 use pn_join::Name;
-use pn_record::{KeyFault, Member, read_image};
+use pn_record::{KeyFault, Member, Version, read_image};
 use pn_region::{Region, RoundFault};
-use pn_serve::{Part, Refusal, ShortReply, changed_reply, fault_reply, refusal_reply, scan_reply};
+use pn_scan::{Query, QueryFault, ScanFault};
+use pn_serve::{
+    Part, Refusal, ShortReply, changed_reply, fault_reply, refusal_reply, refused_reply, scan_reply,
+};
 use pn_stream::Delivery;
 use pn_tablet::Layout;
 use std::alloc::Global;
@@ -23,7 +26,9 @@ fn delivery(alloc: Global, images: &[&str]) -> Result<Delivery, Fail> {
 fn scanned(alloc: Global, images: &[&str]) -> Result<Vec<u8>, Fail> {
     let mut region = Region::new(alloc, Layout::new(Vec::new(alloc))?)?;
     region.round(vec![in alloc; delivery(alloc, images)?]?, 1, &Open)?;
-    Ok(scan_reply(alloc, &region)?)
+    let query = Query::new(None, None, None, Vec::new(alloc), 1_000);
+    let page = region.scan(&query.ok_or(QueryFault::OutOfRange)?)?;
+    Ok(scan_reply(alloc, &page)?)
 }
 
 fn assert_scan(rt: &impl Abort, alloc: Global, images: &[&str], want: &str) -> Result<(), Fail> {
@@ -102,4 +107,29 @@ fn a_refused_round_says_why(rt: HostRuntime) -> Result<(), Fail> {
     let want = "{\"error\":\"too-many-streams\"}\n";
     assert_eq!(rt; reply.as_slice(), want.as_bytes());
     Ok(())
+}
+
+fn assert_why(rt: &impl Abort, alloc: Global, fault: &ScanFault, want: &str) -> Result<(), Fail> {
+    let reply = refused_reply(alloc, fault)?;
+    assert_eq!(rt; reply.as_slice(), want.as_bytes());
+    Ok(())
+}
+
+#[test]
+fn refused_lookups_say_why(rt: HostRuntime) -> Result<(), Fail> {
+    let alloc = rt.alloc();
+    let absent = ScanFault::Behind { has: None };
+    let older = ScanFault::Behind {
+        has: Version::new(2, 7),
+    };
+    let recovering = "{\"error\":\"recovering\",\"tablet\":1}\n";
+    assert_why(&rt, alloc, &ScanFault::Recovering(1), recovering)?;
+    assert_why(&rt, alloc, &absent, "{\"error\":\"behind\",\"has\":null}\n")?;
+    assert_why(&rt, alloc, &older, "{\"error\":\"behind\",\"has\":[2,7]}\n")?;
+    assert_why(
+        &rt,
+        alloc,
+        &ScanFault::NoEntry,
+        "{\"error\":\"no-entry\"}\n",
+    )
 }
