@@ -29,7 +29,7 @@ test: toolchain
 	@rt ci
 
 # Tries all wrong bodies, and not only those that the gate tries: the prover must refuse each.
-edits: toolchain
+edits: build
 	@checks/edits $(CRATE)
 
 # Proves the program, and leaves it built with optimisation.
