@@ -1,10 +1,11 @@
 -- A value that is read as a command is the JSON of that command, and that JSON is read as the command.
 use Rattle.std.proofs.Common.{◌≡◌, inl, inr, ℕ, List, [], ◌∷◌, map, codes, true, Option, Some, None, Ok, refl, sym, ap, ◌∙◌, subst}
+use Rattle.std.specs.List.{list_all}
 use Rattle.std.specs.Option.{ok_or}
-use Rattle.serde_json.specs.Data.{Data, string, array, object, Members, no_members, member}
+use Rattle.serde_json.specs.Data.{Data, number, string, array, object, unsigned, Members, no_members, member}
 use Rattle.serde_json.specs.Find.{get, get_member, as_str, as_array, as_object}
 use Rattle.serde_json.specs.View.{items_of}
-use Rattle.pn_json.specs.Members.{member_as, each_in, only_named}
+use Rattle.pn_json.specs.Members.{whole_number, member_as, each_in, only_named}
 use Rattle.pn_record.specs.Limits.{is_key}
 use Rattle.pn_json.proofs.Inverses.{bind_ok}
 use Rattle.std.proofs.lemmas.Bool.{and_parts}
@@ -12,24 +13,29 @@ use Rattle.pn_scan.proofs.SameQuery.{query_again}
 use Rattle.pn_scan.specs.Queries.{QueryValue}
 use Rattle.pn_record.specs.Sets.{Stamp}
 use Rattle.pn_json.proofs.LookUps.{Rise}
-use Rattle.pn_serve.specs.Command.Json.{delivery_data, deliver_command, get_command, read_command, scan_command, IsRequired, Says, IsCommand}
+use Rattle.pn_join.specs.Marks.{Positions}
+use Rattle.pn_record.specs.Marks.{is_mark}
+use Rattle.pn_serve.specs.Command.Json.{delivery_data, tablet_member, adopt_command, copy_command, deliver_command, get_command, read_command, scan_command, IsNeed, IsRequired, Says, IsCommand}
 use Rattle.pn_serve.specs.Command.Lines.{deliver_in, get_in, marks_in, read_in, scan_in, tablets_in, command_as, command_in}
-use Rattle.pn_serve.specs.Command.Limits.{may_be_required, is_command}
-use Rattle.pn_serve.specs.Command.Meaning.{CommandValue, deliver, marks, read, scan, tablets}
+use Rattle.pn_serve.specs.Command.Limits.{may_announce, may_be_required, is_command}
+use Rattle.pn_serve.specs.Command.Meaning.{CommandValue, adopt, copy, deliver, lose, marks, read, scan, tablets}
 use Rattle.pn_serve.specs.Command.Meaning as meaning
+use Rattle.pn_serve.specs.Command.Needs.{need_at, need_shape}
+use Rattle.pn_serve.specs.Command.Recovery.{adopt_in, copy_in, lose_in}
 use Rattle.pn_serve.specs.Command.Queries.{query_at, query_shape, fitting_query}
 use Rattle.pn_serve.specs.Command.RangeChecks.{fits, batches_fit, keys_fit, fitting_version}
 use Rattle.pn_serve.specs.Command.ShapeChecks.{named_alone, batch_shape, key_shape, version_shape}
 use Rattle.pn_serve.specs.Command.Words.{word_in}
 use Rattle.pn_serve.specs.declared.command.word.Word.{Word}
-use Rattle.pn_serve.specs.declared.command.word.Word.TheVariants.{Deliver, Get, Marks, Read, Scan, Tablets}
-use Rattle.pn_serve.specs.declared.refusal.Part.TheVariants.{Whole, Do, Batches, Key, Keys}
+use Rattle.pn_serve.specs.declared.command.word.Word.TheVariants.{Adopt, Copy, Deliver, Get, Lose, Marks, Read, Scan, Tablets}
+use Rattle.pn_serve.specs.declared.refusal.Part.TheVariants.{Whole, Do, Batches, Key, Keys, Lines, Tablet}
 use Rattle.pn_serve.specs.declared.refusal.Refusal.TheVariants.{BadShape}
-use Rattle.pn_serve.proofs.CommandLimits.{deliver_members, deliveries_kept, deliveries_again, keys_kept, keys_again, read_kept, version_again}
+use Rattle.pn_serve.proofs.CommandNeeds.{need_found, need_again}
+use Rattle.pn_serve.proofs.CommandLimits.{fits_true, deliver_members, deliveries_kept, deliveries_again, keys_kept, keys_again, read_kept, version_again}
 use Rattle.pn_serve.proofs.EachFits.{as_ok}
 use Rattle.pn_serve.proofs.MembersByName.{SameAt, same_by_name}
 use Rattle.pn_serve.proofs.ReadInOrder.{InOrder}
-use Rattle.pn_serve.proofs.CommandParts.{text_at, array_at, object_of, names_of, are_named, rises, in_order, each_found, each_again, array_in_order, batch_found, batch_again, text_of, word_at, key_found, key_again, behind_key, version_required, query_there}
+use Rattle.pn_serve.proofs.CommandParts.{text_at, number_at, array_at, object_of, names_of, are_named, rises, in_order, each_found, each_again, array_in_order, batch_found, batch_again, text_of, word_at, key_found, key_again, behind_key, version_required, query_there}
 
 -- what the members of a word's object say
 module _ (ms : Members) (order : InOrder (object ms)) where
@@ -40,6 +46,36 @@ module _ (ms : Members) (order : InOrder (object ms)) where
   -- an object of these members alone
   named_object : (names : List (List ℕ)) (ns : Members) → named_alone names ms ≡ Ok tt → Rise ns → only_named names ns ≡ true → SameAt names ms ns → object ms ≡ object ns
   named_object names ns named rise also same = ap object (same_by_name names ms ns (rises (object ms) ms refl order) rise (are_named names ms named) also same)
+
+  adopt_found : Found Adopt
+  unfolding adopt_in
+  adopt_found command says is =
+      let lines = bind_ok (member_as whole_number (BadShape Lines) (get_member (codes "lines") ms)) _ command is in
+      let named = bind_ok (named_alone (names_of Adopt) ms) _ command lines.2 in
+      let fit = bind_ok (fits Lines (may_announce lines.0)) _ command named.2 in
+      let same : adopt lines.0 ≡ command = cc in
+      let whole = named_object (names_of Adopt) (member (codes "do") (string (codes "adopt")) (member (codes "lines") (number (unsigned lines.0)) no_members)) named.1 tt refl
+      (says, (number_at Lines _ lines.0 lines.1, tt)) in
+      subst (λ c. IsCommand (object ms) c) same (record { value = whole; limits = fits_true Lines (may_announce lines.0) fit.1 })
+
+  copy_members : (tablet : ℕ) (o : Option Data) → get_member (codes "need") ms ≡ o → get_member (codes "do") ms ≡ Some (string (codes "copy")) → get_member (codes "tablet") ms ≡ Some (number (unsigned tablet))
+      → named_alone (names_of Copy) ms ≡ Ok tt → object ms ≡ copy_command o tablet
+  copy_members tablet None at says there named =
+      named_object (names_of Copy) (member (codes "do") (string (codes "copy")) (tablet_member tablet)) named tt refl (says, (at, (there, tt)))
+  copy_members tablet (Some d) at says there named =
+      named_object (names_of Copy) (member (codes "do") (string (codes "copy")) (member (codes "need") d (tablet_member tablet))) named tt refl (says, (at, (there, tt)))
+
+  copy_found : Found Copy
+  unfolding copy_in
+  copy_found command says is =
+      let shape = bind_ok (need_shape (need_at (get_member (codes "need") ms))) _ command is in
+      let tablet = bind_ok (member_as whole_number (BadShape Tablet) (get_member (codes "tablet") ms)) _ command shape.2 in
+      let named = bind_ok (named_alone (names_of Copy) ms) _ command tablet.2 in
+      let need = bind_ok (need_at (get_member (codes "need") ms)) _ command named.2 in
+      let same : copy need.0 tablet.0 ≡ command = cc in
+      let there = need_found (get_member (codes "need") ms) need.0 need.1 in
+      let whole = copy_members tablet.0 _ refl says (number_at Tablet _ tablet.0 tablet.1) named.1 in
+      subst (λ c. IsCommand (object ms) c) same (record { value = (get_member (codes "need") ms, there.0, whole); limits = there.1 })
 
   deliver_found : Found Deliver
   unfolding deliver_in
@@ -70,6 +106,15 @@ module _ (ms : Members) (order : InOrder (object ms)) where
       named_object (names_of Get) (member (codes "do") (string (codes "get")) (member (codes "keys") (array (items_of (map string keys.0))) no_members)) named.1 tt refl
       (says, (at_keys ∙ ap (λ ds. Some (array ds)) (each_found key_shape string key_found items.0 keys.0 inside keys.1), tt)) in
       subst (λ c. IsCommand (object ms) c) same (record { value = value; limits = keys_kept keys.0 fit.1 })
+
+  lose_found : Found Lose
+  unfolding lose_in
+  lose_found command says is =
+      let tablet = bind_ok (member_as whole_number (BadShape Tablet) (get_member (codes "tablet") ms)) _ command is in
+      let named = bind_ok (named_alone (names_of Lose) ms) _ command tablet.2 in
+      let same : lose tablet.0 ≡ command = cc in
+      let whole = named_object (names_of Lose) (member (codes "do") (string (codes "lose")) (tablet_member tablet.0)) named.1 tt refl (says, (number_at Tablet _ tablet.0 tablet.1, tt)) in
+      subst (λ c. IsCommand (object ms) c) same (record { value = whole; limits = refl })
 
   alone_found : (word : Word) (said : CommandValue) → names_of word ≡ codes "do" ∷ [] → Says (object (member (codes "do") (string (text_of word)) no_members)) said → is_command said ≡ true
       → get_member (codes "do") ms ≡ Some (string (text_of word)) → named_alone (codes "do" ∷ []) ms ≡ Ok tt → IsCommand (object ms) said
@@ -124,8 +169,11 @@ module _ (ms : Members) (order : InOrder (object ms)) where
       subst (λ c. IsCommand (object ms) c) same (alone_found Tablets tablets refl refl refl says named.1)
 
   word_found : (word : Word) → Found word
+  word_found Adopt = adopt_found
+  word_found Copy = copy_found
   word_found Deliver = deliver_found
   word_found Get = get_found
+  word_found Lose = lose_found
   word_found Marks = marks_found
   word_found Read = read_found
   word_found Scan = scan_found
@@ -152,11 +200,23 @@ scan_again : (asked : Data) (query : QueryValue) → query_at (Some asked) ≡ O
 unfolding command_in scan_in
 scan_again asked query is = rw is refl
 
+adopt_again : (lines : ℕ) → may_announce lines ≡ true → command_in (adopt_command lines) ≡ Ok (adopt lines)
+unfolding command_in adopt_in
+adopt_again lines keeps = rw keeps refl
+
+copy_again : (said : Option Data) (need : Positions) (tablet : ℕ) → need_at said ≡ Ok need → command_in (copy_command said tablet) ≡ Ok (copy need tablet)
+unfolding command_in copy_in
+copy_again None need tablet is = rw is refl
+copy_again (Some d) need tablet is = rw is refl
+
 -- a command's value is read as the command
 says_again : (d : Data) (command : CommandValue) → Says d command → is_command command ≡ true → command_in d ≡ Ok command
-unfolding command_in deliver_in get_in marks_in tablets_in
+unfolding command_in deliver_in get_in lose_in marks_in tablets_in
+says_again d (adopt lines) says keeps = ap command_in says ∙ adopt_again lines keeps
+says_again d (copy need tablet) (said, is, says) keeps = ap command_in says ∙ copy_again said need tablet (need_again said need is keeps)
 says_again d (deliver deliveries) says keeps = ap command_in says ∙ rw (each_again batch_shape delivery_data batch_again deliveries, deliveries_again deliveries keeps) refl
 says_again d (meaning.get keys) says keeps = ap command_in says ∙ rw (each_again key_shape string key_again keys, keys_again keys keeps) refl
+says_again d (lose tablet) says keeps = ap command_in says
 says_again d marks says keeps = ap command_in says
 says_again d (read key required) (others, about, says) keeps =
     let parts = and_parts (is_key key) (may_be_required required) keeps in

@@ -76,7 +76,7 @@ fit_each check test so (x ∷ xs) keeps =
     let parts = and_parts (test x) (list_all test xs) keeps in
     rw (so x parts.0, fit_each check test so xs parts.1) refl
 
-fits_true : (part : Part) (test : Bool) → fits part test ≡ Ok tt → test ≡ true
+pub fits_true : (part : Part) (test : Bool) → fits part test ≡ Ok tt → test ≡ true
 fits_true part true is = refl
 fits_true part false is = absurd (cc)
 

@@ -24,7 +24,7 @@ use Rattle.pn_serve.specs.Command.Queries.{query_at}
 use Rattle.pn_serve.specs.Command.ShapeChecks.{named_alone, image_shape, batch_shape, key_shape, required_in, version_shape}
 use Rattle.pn_serve.specs.Command.Words.{word_of, word_in}
 use Rattle.pn_serve.specs.declared.command.word.Word.{Word}
-use Rattle.pn_serve.specs.declared.command.word.Word.TheVariants.{Deliver, Get, Marks, Read, Scan, Tablets}
+use Rattle.pn_serve.specs.declared.command.word.Word.TheVariants.{Adopt, Copy, Deliver, Get, Lose, Marks, Read, Scan, Tablets}
 use Rattle.pn_serve.specs.declared.refusal.Part.{Part}
 use Rattle.pn_serve.specs.declared.refusal.Part.TheVariants.{Do, Batches, First, Images, Keys, Stream, Version, Other}
 use Rattle.pn_serve.specs.declared.refusal.Refusal.{Refusal}
@@ -40,7 +40,7 @@ text_at part o text is =
     let found = and_then_some o as_str text (ok_or_ok _ (BadShape part) text is) in
     found.1 ∙ ap Some (string_from_as_str found.0 text found.2)
 
-number_at : (part : Part) (o : Option Data) (n : ℕ) → member_as whole_number (BadShape part) o ≡ Ok n → o ≡ Some (number (unsigned n))
+pub number_at : (part : Part) (o : Option Data) (n : ℕ) → member_as whole_number (BadShape part) o ≡ Ok n → o ≡ Some (number (unsigned n))
 number_at part o n is =
     let found = and_then_some o whole_number n (ok_or_ok _ (BadShape part) n is) in
     found.1 ∙ ap Some (number_from_whole found.0 n found.2)
@@ -58,8 +58,11 @@ abbrev batch_names : List (List ℕ)
 batch_names = codes "first" ∷ codes "images" ∷ codes "stream" ∷ []
 
 abbrev pub names_of : Word → List (List ℕ)
+names_of Adopt = codes "do" ∷ codes "lines" ∷ []
+names_of Copy = codes "do" ∷ codes "need" ∷ codes "tablet" ∷ []
 names_of Deliver = codes "batches" ∷ codes "do" ∷ []
 names_of Get = codes "do" ∷ codes "keys" ∷ []
+names_of Lose = codes "do" ∷ codes "tablet" ∷ []
 names_of Marks = codes "do" ∷ []
 names_of Read = codes "do" ∷ codes "key" ∷ codes "version" ∷ []
 names_of Scan = codes "do" ∷ codes "query" ∷ []
@@ -133,8 +136,11 @@ batch_again batch = rw (each_again image_shape image_data image_again batch.imag
 
 -- the text of a word
 abbrev pub text_of : Word → List ℕ
+text_of Adopt = codes "adopt"
+text_of Copy = codes "copy"
 text_of Deliver = codes "deliver"
 text_of Get = codes "get"
+text_of Lose = codes "lose"
 text_of Marks = codes "marks"
 text_of Read = codes "read"
 text_of Scan = codes "scan"
@@ -146,9 +152,10 @@ this_or_next false text one word next is found further = further found
 
 text_from_word : (text : List ℕ) (word : Word) → word_of text ≡ Some word → text ≡ text_of word
 text_from_word text word found =
-    this_or_next _ text Deliver word _ refl found (λ found. this_or_next _ text Get word _ refl found (λ found. this_or_next _ text Marks word _ refl found (λ found.
+    this_or_next _ text Adopt word _ refl found (λ found. this_or_next _ text Copy word _ refl found (λ found. this_or_next _ text Deliver word _ refl found (λ found.
+    this_or_next _ text Get word _ refl found (λ found. this_or_next _ text Lose word _ refl found (λ found. this_or_next _ text Marks word _ refl found (λ found.
     this_or_next _ text Read word _ refl found (λ found. this_or_next _ text Scan word _ refl found (λ found.
-    this_or_next _ text Tablets word _ refl found (λ none. absurd (cc)))))))
+    this_or_next _ text Tablets word _ refl found (λ none. absurd (cc))))))))))
 
 pub word_at : (o : Option Data) (word : Word) → member_as word_in (BadShape Do) o ≡ Ok word → o ≡ Some (string (text_of word))
 word_at o word is =

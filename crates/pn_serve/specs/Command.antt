@@ -4,7 +4,9 @@ pub mod Limits
 pub mod Lines
 pub mod Lookups
 pub mod Meaning
+pub mod Needs
 pub mod Queries
 pub mod RangeChecks
+pub mod Recovery
 pub mod ShapeChecks
 pub mod Words

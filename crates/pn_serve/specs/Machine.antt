@@ -1,4 +1,7 @@
 -- What a line does.
+pub mod Announced
+pub mod Doing
 pub mod Outcomes
 pub mod PartRounds
+pub mod Recovering
 pub mod Turns

@@ -1,8 +1,10 @@
 -- What is answered.
+pub mod About
 pub mod Faults
 pub mod Lookups
 pub mod Marks
 pub mod Record
+pub mod Recovery
 pub mod Rows
 pub mod Scan
 pub mod Short

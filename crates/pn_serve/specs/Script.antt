@@ -1,3 +1,4 @@
 -- What lines do, one after another.
+pub mod Parts
 pub mod Taken
 pub mod Written

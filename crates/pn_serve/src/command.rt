@@ -6,9 +6,11 @@ pub(crate) mod laws;
 mod lookups;
 pub(crate) mod parse;
 mod ranges;
+mod recovery;
 mod shapes;
 pub(crate) mod word;
 
+use pn_join::Marks;
 use pn_record::{Key, Version};
 use pn_scan::Query;
 use pn_stream::Delivery;
@@ -16,10 +18,16 @@ use pn_stream::Delivery;
 /// What a line asks for.
 #[derive(Debug, Drop)]
 pub enum Command {
+    /// Adopt the copy of a tablet whose text the next lines are, 1 to 1,000,000 of them.
+    Adopt { lines: u64 },
+    /// Show a copy of the tablet of this number that reaches these marks.
+    Copy { need: Marks, tablet: u64 },
     /// Take these deliveries, in one round.
     Deliver(Vec<Delivery>),
     /// Show the records of these keys, in this order.
     Get(Vec<Key>),
+    /// Lose what the tablet of this number holds.
+    Lose { tablet: u64 },
     /// Show how far streams were taken.
     Marks,
     /// Show the record of a key: in this version or a later one, where a version is required.

@@ -1,14 +1,16 @@
 -- The JSON of commands, and the lines that commands are.
-use Rattle.std.specs.Prelude.{◌≡◌, ◌⊎◌, ℕ, List, Option, Some, None, map, codes, IsTrue}
+use Rattle.std.specs.Prelude.{◌≡◌, ◌⊎◌, ℕ, List, [], Option, Some, None, map, codes, IsTrue}
 use Rattle.serde_json.specs.Data.{Data, null, number, string, array, object, unsigned, Members, no_members, member}
 use Rattle.serde_json.specs.View.{items_of}
+use Rattle.pn_join.specs.Marks.{Positions}
+use Rattle.pn_record.specs.Marks.{marks_data}
 use Rattle.pn_record.specs.Reading.{IsLine}
 use Rattle.pn_record.specs.Sets.{Stamp}
 use Rattle.pn_record.specs.Writing.{image_data, version_data}
 use Rattle.pn_scan.specs.QueryGrammar.{HasShape}
 use Rattle.pn_stream.specs.Positions.{DeliveryValue}
 use Rattle.pn_serve.specs.Command.Limits.{is_command}
-use Rattle.pn_serve.specs.Command.Meaning.{CommandValue, deliver, get, marks, read, scan, tablets}
+use Rattle.pn_serve.specs.Command.Meaning.{CommandValue, adopt, copy, deliver, get, lose, marks, read, scan, tablets}
 
 -- a delivery: the position of its first image, its images, and its stream
 abbrev pub delivery_data : DeliveryValue → Data
@@ -21,6 +23,24 @@ delivery_data delivery =
 abbrev pub command_data : List ℕ → Members → Data
 command_data word others = object (member (codes "do") (string word) others)
 
+-- an `adopt` command: how many lines it announces
+abbrev pub adopt_command : ℕ → Data
+adopt_command lines = command_data (codes "adopt") (member (codes "lines") (number (unsigned lines)) no_members)
+
+-- a tablet's number, as the last member
+abbrev pub tablet_member : ℕ → Members
+tablet_member tablet = member (codes "tablet") (number (unsigned tablet)) no_members
+
+-- a `copy` command, with the value of its need, if that is there
+abbrev pub copy_command : Option Data → ℕ → Data
+copy_command None tablet = command_data (codes "copy") (tablet_member tablet)
+copy_command (Some need) tablet = command_data (codes "copy") (member (codes "need") need (tablet_member tablet))
+
+-- what a copy has to reach; where that is nothing, it may also be absent or null
+abbrev pub IsNeed : Option Data → Positions → Type 0
+IsNeed None need = need ≡ []
+IsNeed (Some d) need = ((d ≡ null) × (need ≡ [])) ⊎ (d ≡ marks_data need)
+
 -- a `deliver` command, whose batches stand before `do`
 abbrev pub deliver_command : List DeliveryValue → Data
 deliver_command deliveries =
@@ -30,6 +50,10 @@ deliver_command deliveries =
 -- a `get` command
 abbrev pub get_command : List (List ℕ) → Data
 get_command keys = command_data (codes "get") (member (codes "keys") (array (items_of (map string keys))) no_members)
+
+-- a `lose` command
+abbrev pub lose_command : ℕ → Data
+lose_command tablet = command_data (codes "lose") (tablet_member tablet)
 
 -- a `read` command, with what stands behind its key
 abbrev pub read_command : List ℕ → Members → Data
@@ -46,8 +70,11 @@ scan_command query = command_data (codes "scan") (member (codes "query") query n
 
 -- the value says the command; no limit is looked at
 abbrev pub Says : Data → CommandValue → Type 0
+Says d (adopt lines) = d ≡ adopt_command lines
+Says d (copy need tablet) = (said : Option Data) × IsNeed said need × (d ≡ copy_command said tablet)
 Says d (deliver deliveries) = d ≡ deliver_command deliveries
 Says d (get keys) = d ≡ get_command keys
+Says d (lose tablet) = d ≡ lose_command tablet
 Says d marks = d ≡ command_data (codes "marks") no_members
 Says d (read key version) = (others : Members) × IsRequired others version × (d ≡ read_command key others)
 Says d (scan query) = (asked : Data) × HasShape asked query × (d ≡ scan_command asked)

@@ -12,11 +12,12 @@ use Rattle.pn_record.specs.declared.fault.ImageFault.TheVariants as image
 use Rattle.pn_serve.specs.Command.Meaning.{CommandValue, deliver, marks, read, scan, tablets}
 use Rattle.pn_serve.specs.Command.Meaning as command
 use Rattle.pn_serve.specs.Command.Words.{word_in}
+use Rattle.pn_serve.specs.Command.Recovery.{adopt_in, copy_in, lose_in}
 use Rattle.pn_serve.specs.Command.Queries.{query_at, query_shape, fitting_query}
 use Rattle.pn_serve.specs.Command.ShapeChecks.{named_alone, batch_shape, key_shape, version_shape}
 use Rattle.pn_serve.specs.Command.RangeChecks.{fits, batches_fit, keys_fit, fitting_version}
 use Rattle.pn_serve.specs.declared.command.word.Word.{Word}
-use Rattle.pn_serve.specs.declared.command.word.Word.TheVariants.{Deliver, Get, Marks, Read, Scan, Tablets}
+use Rattle.pn_serve.specs.declared.command.word.Word.TheVariants.{Adopt, Copy, Deliver, Get, Lose, Marks, Read, Scan, Tablets}
 use Rattle.pn_serve.specs.declared.refusal.Part.TheVariants.{Whole, Do, Batches, Key, Keys}
 use Rattle.pn_serve.specs.declared.refusal.Part.TheVariants as part
 use Rattle.pn_serve.specs.declared.refusal.Refusal.{Refusal}
@@ -76,8 +77,11 @@ tablets_in members = do
 
 -- the command of a word
 abbrev pub command_as : Word → Members → Data → Result CommandValue Refusal
+command_as Adopt members d = adopt_in members d
+command_as Copy members d = copy_in members d
 command_as Deliver members d = deliver_in members d
 command_as Get members d = get_in members d
+command_as Lose members d = lose_in members d
 command_as Marks members d = marks_in members
 command_as Read members d = read_in members d
 command_as Scan members d = scan_in members d

@@ -1,5 +1,5 @@
 -- How lines go, and what they leave.
-use Rattle.std.specs.Prelude.{ℕ, Bool, true, false, List}
+use Rattle.std.specs.Prelude.{ℕ, Bool, true, false, List, [], Option}
 use Rattle.pn_region.specs.Regions.{RegionValue}
 use Rattle.pn_serve.specs.declared.refusal.Refusal.{Refusal}
 use Rattle.pn_json.specs.Lines.{line_of}
@@ -14,9 +14,11 @@ pub data Outcome : Type 0 where
   call : Outcome
   round : List Bool → Outcome
 
--- what the next line is for: a command of its own. Commands that announce lines will add to this
+-- what the next line is for: a command of its own, or the text of a copy that an `adopt` line announced. So many lines of that
+-- are still to come; with the text that came, or none since memory ran out
 pub data Mode : Type 0 where
   idle : Mode
+  announced : ℕ → Option (List ℕ) → Mode
 
 -- what is served, and what the next line is for
 pub record Machine : Type 0 where
@@ -36,6 +38,10 @@ serving region = record { mode = idle; region = region }
 -- the line was refused, and nothing changed
 abbrev pub refusing : Machine → Refusal → Turn
 refusing machine refusal = record { machine = machine; reply = line_of (refusal_data refusal); refused = true }
+
+-- there is no reply, yet or at all
+abbrev pub silent : Machine → Turn
+silent machine = record { machine = machine; reply = []; refused = false }
 
 -- the line was answered, and nothing changed
 abbrev pub showing : Machine → List ℕ → Turn

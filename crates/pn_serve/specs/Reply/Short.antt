@@ -3,7 +3,7 @@ use Rattle.std.specs.Prelude.{ℕ, List, codes}
 use Rattle.serde_json.specs.Data.{Data, number, string, object, unsigned, Members, no_members, member}
 use Rattle.pn_record.specs.Words.{word_of}
 use Rattle.pn_serve.specs.declared.refusal.Part.{Part}
-use Rattle.pn_serve.specs.declared.refusal.Part.TheVariants.{Whole, Do, Batches, First, Images, Key, Keys, Stream, Query, Version, Other, Image}
+use Rattle.pn_serve.specs.declared.refusal.Part.TheVariants.{Whole, Do, Batches, First, Images, Key, Keys, Lines, Need, Stream, Query, Tablet, Version, Other, Image}
 use Rattle.pn_serve.specs.declared.refusal.Refusal.{Refusal}
 use Rattle.pn_serve.specs.Reply.Faults.{error_data}
 use Rattle.pn_serve.specs.declared.refusal.Refusal.TheVariants.{TooLong, NotJson, BadShape, OutOfRange, Memory}
@@ -17,8 +17,11 @@ part_word First = codes "first"
 part_word Images = codes "images"
 part_word Key = codes "key"
 part_word Keys = codes "keys"
+part_word Lines = codes "lines"
+part_word Need = codes "need"
 part_word Stream = codes "stream"
 part_word Query = codes "query"
+part_word Tablet = codes "tablet"
 part_word Version = codes "version"
 part_word Other = codes "other"
 part_word (Image part) = word_of part
@@ -35,6 +38,20 @@ refusal_data (BadShape part) = error_data (codes "bad-shape") (about_part part)
 refusal_data (OutOfRange part) = error_data (codes "out-of-range") (about_part part)
 refusal_data Memory = error_data (codes "memory") no_members
 
--- the reply to a delivery: how many records it changed
+-- a number, as the one member of an object
+abbrev pub number_data : List ℕ → ℕ → Data
+number_data name count = object (member name (number (unsigned count)) no_members)
+
+-- the replies to a delivery: how many records it changed; to an adoption and a loss: which tablet's; to a copy: how many lines
+-- follow
 unfoldable pub changed_data : ℕ → Data
-changed_data count = object (member (codes "changed") (number (unsigned count)) no_members)
+changed_data count = number_data (codes "changed") count
+
+unfoldable pub adopted_data : ℕ → Data
+adopted_data tablet = number_data (codes "adopted") tablet
+
+unfoldable pub lost_data : ℕ → Data
+lost_data tablet = number_data (codes "lost") tablet
+
+unfoldable pub lines_data : ℕ → Data
+lines_data count = number_data (codes "lines") count

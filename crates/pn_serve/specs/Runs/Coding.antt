@@ -1,18 +1,31 @@
 -- How what a run has is stored in a proof.
-use Rattle.std.specs.Prelude.{◌≡◌, ℕ, List, refl}
-use Rattle.std.specs.Coded.{Coded, code_by, coded×, coded_ℕ, coded_list}
+use Rattle.std.specs.Prelude.{◌≡◌, ℕ, List, Option, None, Some, refl}
+use Rattle.std.specs.Coded.{Coded, code_by, coded×, coded_ℕ, coded_list, coded_option}
 use Rattle.pn_region.specs.Proofs.Coding.{region_code}
 use Rattle.pn_region.specs.Regions.{RegionValue}
-use Rattle.pn_serve.specs.Machine.Outcomes.{Mode, idle, Machine, serving}
+use Rattle.pn_serve.specs.Machine.Outcomes.{Mode, idle, announced, Machine}
 use Rattle.pn_serve.specs.Runs.Served.{RunValue}
 
--- there is one mode
-abbrev pub only_idle : (mode : Mode) → idle ≡ mode
-only_idle idle = refl
+-- a mode as what was announced
+abbrev pub mode_in : Mode → Option (ℕ × Option (List ℕ))
+mode_in idle = None
+mode_in (announced left text) = Some (left, text)
 
--- a machine as its region
+abbrev pub mode_from : Option (ℕ × Option (List ℕ)) → Mode
+mode_from None = idle
+mode_from (Some (left, text)) = announced left text
+
+abbrev pub same_mode : (mode : Mode) → mode_from (mode_in mode) ≡ mode
+same_mode idle = refl
+same_mode (announced left text) = refl
+
+abbrev pub mode_code : Coded Mode
+mode_code = code_by (Option (ℕ × Option (List ℕ))) (coded_option (coded× coded_ℕ (coded_option (coded_list coded_ℕ)))) mode_in mode_from same_mode
+
+-- a machine as its mode and its region
 abbrev pub machine_code : Coded Machine
-machine_code = code_by RegionValue region_code (λ m. m.region) serving (λ m i. record { mode = only_idle m.mode i; region = m.region })
+machine_code =
+    code_by (Mode × RegionValue) (coded× mode_code region_code) (λ m. (m.mode, m.region)) (λ p. record { mode = p.0; region = p.1 }) (λ _. refl)
 
 -- what a run has as pairs
 abbrev pub run_code : Coded RunValue

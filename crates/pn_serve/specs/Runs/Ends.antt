@@ -20,13 +20,14 @@ lines_within script = take_while (λ line. nat_lt (length line) 1000000000) (tak
 abbrev pub IsAtBound : List (List ℕ) → List ℕ → Type 0
 IsAtBound lines part = ((length lines ≡ 1000000) × (part ≡ [])) ⊎ (length part ≡ 1000000000)
 
--- the script was read to its end, by one list of outcomes the replies to it were written, and its lines and its
+-- the script was read to its end, by one list of outcomes, and one for the end, the replies to it were written, and its lines and its
 -- refusals were counted
 pub record Ended (begun : Begun) (script : List ℕ) (left written : Option (List ℕ)) (counts : Counts) : Type 0 where
   pub outcomes : List Outcome
-  pub wrote : Appends begun.written written (replies begun.region script outcomes)
+  pub last : Outcome
+  pub wrote : Appends begun.written written (replies begun.region script outcomes last)
   pub lines_are : counts.lines ≡ length (lines_of script)
-  pub refused_are : counts.refused ≡ refusals begun.region script outcomes
+  pub refused_are : counts.refused ≡ refusals begun.region script outcomes last
   pub within : lines_within script ≡ lines_of script
   pub at_end : left ≡ Some []
 
@@ -44,7 +45,8 @@ pub record Cut (begun : Begun) (script : List ℕ) (left written : Option (List 
   pub part : List ℕ
   pub read : PartRead script left lines part
   pub outcomes : List Outcome
-  pub prefix : AppendsPrefix begun.written written (replies begun.region script outcomes)
+  pub last : Outcome
+  pub prefix : AppendsPrefix begun.written written (replies begun.region script outcomes last)
 
 -- the lines that may be answered were read, and of the next one a part: nothing after a million lines, and else a
 -- billion bytes. The replies to the lines were written, and there are more lines

@@ -1,5 +1,5 @@
 -- What a run has, and what it has done between two lines.
-use Rattle.std.specs.Prelude.{◌≡◌, ◌<◌, ℕ, ◌+◌, List, [], ◌++◌, length, All, Option, IfSome}
+use Rattle.std.specs.Prelude.{◌≡◌, ◌<◌, ℕ, ◌+◌, nat_lt, List, [], ◌++◌, length, All, Option, IfSome}
 use Rattle.pn_line.specs.Line.{LineBufferValue, so_far}
 use Rattle.pn_line.specs.LinesRead.{LinesRead}
 use Rattle.pn_line.specs.Sent.{Sends, AppendsPrefix}
@@ -7,7 +7,7 @@ use Rattle.pn_region.specs.Regions.{RegionValue, new_region}
 use Rattle.pn_serve.specs.declared.reply.Reply.{Reply}
 use Rattle.pn_serve.specs.declared.script.Counts.{Counts}
 use Rattle.pn_serve.specs.Machine.Outcomes.{Outcome, Machine, serving}
-use Rattle.pn_serve.specs.Machine.Turns.{Answers}
+use Rattle.pn_serve.specs.Machine.Turns.{Answers, Ends}
 use Rattle.pn_serve.specs.Reply.Texts.{reply_text, is_refusal}
 use Rattle.pn_serve.specs.Settings.{SettingsValue}
 use Rattle.pn_serve.specs.Script.Written.{replies_from, machine_after, refusals_from, one_if}
@@ -45,6 +45,20 @@ pub record Answered (old new : RunValue) (before after : Option (List ℕ)) : Ty
 pub record AnsweredInPart (old new : RunValue) (before after : Option (List ℕ)) : Type 0 where
   pub reply : Reply
   pub turned : Answers old.machine old.line.bytes new.machine reply
+  pub prefix : AppendsPrefix before after (old.waits ++ reply_text reply)
+
+-- the input came to its end behind the part that was read: what there is to reply went out or waits, and it is counted
+pub record Closed (old new : RunValue) (before after : Option (List ℕ)) (counts : Counts) : Type 0 where
+  pub reply : Reply
+  pub turned : Ends old.machine old.line.bytes new.machine reply
+  pub sends : Sends before after old.waits new.waits (reply_text reply)
+  pub lines : counts.lines ≡ old.counts.lines + one_if (nat_lt 0 old.line.count)
+  pub refused : counts.refused ≡ one_if (is_refusal reply) + old.counts.refused
+
+-- the same, where of what waited and the reply a prefix went out
+pub record ClosedInPart (old new : RunValue) (before after : Option (List ℕ)) : Type 0 where
+  pub reply : Reply
+  pub turned : Ends old.machine old.line.bytes new.machine reply
   pub prefix : AppendsPrefix before after (old.waits ++ reply_text reply)
 
 -- by one list of outcomes these lines were answered: the machine is the one after them, their replies went out or

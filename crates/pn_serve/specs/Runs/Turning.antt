@@ -9,5 +9,5 @@ use Rattle.pn_serve.specs.Runs.Served.{RunValue, Begun, Served}
 -- the run goes on to the next line, or ends
 abbrev pub TurnsTo : Begun → Option (List ℕ) → Option (List ℕ) → RunValue → Result Next RunFault → Type 0
 TurnsTo begun left written run (Ok Line) = Served begun left written run
-TurnsTo begun left written run (Ok End) = Ends begun left written (Ok run.counts)
+TurnsTo begun left written run (Ok (End counts)) = Ends begun left written (Ok counts)
 TurnsTo begun left written run (Err fault) = Ends begun left written (Err fault)

@@ -1,9 +1,9 @@
 -- The replies to lines, one after another, and the machine after them.
 use Rattle.std.specs.Prelude.{ℕ, ◌+◌, Bool, true, false, List, [], ◌∷◌, ◌++◌}
-use Rattle.pn_line.specs.Text.{lines_of}
 use Rattle.pn_region.specs.Regions.{RegionValue}
-use Rattle.pn_serve.specs.Machine.Outcomes.{Outcome, done, Machine, serving}
-use Rattle.pn_serve.specs.Machine.Turns.{turn}
+use Rattle.pn_serve.specs.Machine.Outcomes.{Outcome, done, Machine, Turn, serving}
+use Rattle.pn_serve.specs.Machine.Turns.{turn, end_turn}
+use Rattle.pn_serve.specs.Script.Parts.{parts_of}
 
 -- a line's outcome: lines beyond the list go as they say
 abbrev pub first_outcome : List Outcome → Outcome
@@ -40,10 +40,14 @@ refusals_from machine [] outcomes = 0
 refusals_from machine (text ∷ lines) outcomes =
     one_if (turn machine (first_outcome outcomes) text).refused + refusals_from (turn machine (first_outcome outcomes) text).machine lines (later_outcomes outcomes)
 
+-- what the end of a script does, by an outcome of its own: behind its last newline stands a part of a line, or nothing
+abbrev pub end_of : RegionValue → List ℕ → List Outcome → Outcome → Turn
+end_of region script outcomes last = end_turn (machine_after (serving region) (parts_of script).0 outcomes) last (parts_of script).1
+
 -- the replies to a script
-abbrev pub replies : RegionValue → List ℕ → List Outcome → List ℕ
-replies region script outcomes = replies_from (serving region) (lines_of script) outcomes
+abbrev pub replies : RegionValue → List ℕ → List Outcome → Outcome → List ℕ
+replies region script outcomes last = replies_from (serving region) (parts_of script).0 outcomes ++ (end_of region script outcomes last).reply
 
 -- how many replies to a script are refusals
-abbrev pub refusals : RegionValue → List ℕ → List Outcome → ℕ
-refusals region script outcomes = refusals_from (serving region) (lines_of script) outcomes
+abbrev pub refusals : RegionValue → List ℕ → List Outcome → Outcome → ℕ
+refusals region script outcomes last = refusals_from (serving region) (parts_of script).0 outcomes + one_if (end_of region script outcomes last).refused

@@ -11,6 +11,7 @@ ghost use Rattle.pn_serve.specs.Command.Lines.{refusal_of, deliver_in, marks_in,
 use crate::command::build::built_deliveries;
 use crate::command::lookups::{get_of, read_of, scan_of};
 use crate::command::ranges::check_batches;
+use crate::command::recovery::{adopt_of, copy_of, lose_of};
 use crate::command::shapes::{batches_of, check_members};
 use crate::command::word::{Word, word_of};
 use crate::{Command, Part, Refusal};
@@ -66,8 +67,11 @@ fn command_in(alloc: Global, value: &Value) -> Result<Command, Refusal>
 {
     let members = value.as_object().ok_or(Refusal::BadShape(Part::Whole))?;
     match word_of(value.get("do"))? {
+        Word::Adopt => adopt_of(members, value),
+        Word::Copy => copy_of(alloc, members, value),
         Word::Deliver => deliver_of(alloc, members, value),
         Word::Get => get_of(alloc, members, value),
+        Word::Lose => lose_of(members, value),
         Word::Marks => marks_of(members),
         Word::Read => read_of(alloc, members, value),
         Word::Scan => scan_of(alloc, members, value),

@@ -11,8 +11,11 @@ use serde_json::Value;
 /// What a command's `do` says.
 #[derive(Clone, Copy)]
 pub(crate) enum Word {
+    Adopt,
+    Copy,
     Deliver,
     Get,
+    Lose,
     Marks,
     Read,
     Scan,
@@ -24,8 +27,11 @@ impl Word {
         ensures { result ≡ word_named text.now }
     {
         match text {
+            "adopt" => Some(Word::Adopt),
+            "copy" => Some(Word::Copy),
             "deliver" => Some(Word::Deliver),
             "get" => Some(Word::Get),
+            "lose" => Some(Word::Lose),
             "marks" => Some(Word::Marks),
             "read" => Some(Word::Read),
             "scan" => Some(Word::Scan),

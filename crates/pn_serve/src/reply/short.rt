@@ -2,7 +2,7 @@
 
 ghost use Rattle.std.specs.Prelude.{◌≡◌, ◌+◌, ◌≤◌, [], ◌++◌, length};
 ghost use Rattle.pn_json.specs.Lines.{line_of};
-ghost use Rattle.pn_serve.specs.Reply.Short.{refusal_data, changed_data};
+ghost use Rattle.pn_serve.specs.Reply.Short.{refusal_data, adopted_data, changed_data, lines_data, lost_data};
 
 use crate::Refusal;
 use std::marker::Model;
@@ -85,6 +85,42 @@ pub fn changed_reply(count: u64) -> ShortReply
 {
     let mut reply = ShortReply::new();
     reply.push("{\"changed\":");
+    reply.push(itoa::Buffer::new().format(count));
+    reply.push("}\n");
+    reply
+}
+
+/// The reply to an adoption, `{"adopted":T}`: the number of the tablet that took the copy.
+#[tactic(auto, unfolding(pn_json::specs::Lines::line_of, crate::specs::Reply::Short::adopted_data, serde_json::proofs::OnLiterals::serde_json_on_literals))]
+pub fn adopted_reply(tablet: u64) -> ShortReply
+    ensures { result ≡ line_of (adopted_data tablet) }
+{
+    let mut reply = ShortReply::new();
+    reply.push("{\"adopted\":");
+    reply.push(itoa::Buffer::new().format(tablet));
+    reply.push("}\n");
+    reply
+}
+
+/// The reply to a loss, `{"lost":T}`: the number of the tablet.
+#[tactic(auto, unfolding(pn_json::specs::Lines::line_of, crate::specs::Reply::Short::lost_data, serde_json::proofs::OnLiterals::serde_json_on_literals))]
+pub fn lost_reply(tablet: u64) -> ShortReply
+    ensures { result ≡ line_of (lost_data tablet) }
+{
+    let mut reply = ShortReply::new();
+    reply.push("{\"lost\":");
+    reply.push(itoa::Buffer::new().format(tablet));
+    reply.push("}\n");
+    reply
+}
+
+/// The line before a copy, `{"lines":L}`: how many lines the copy has.
+#[tactic(auto, unfolding(pn_json::specs::Lines::line_of, crate::specs::Reply::Short::lines_data, serde_json::proofs::OnLiterals::serde_json_on_literals))]
+pub fn lines_reply(count: u64) -> ShortReply
+    ensures { result ≡ line_of (lines_data count) }
+{
+    let mut reply = ShortReply::new();
+    reply.push("{\"lines\":");
     reply.push(itoa::Buffer::new().format(count));
     reply.push("}\n");
     reply

@@ -1,0 +1,71 @@
+//! What losses and copies of tablets are answered.
+
+ghost use Rattle.std.specs.Prelude.{◌≡◌, ◌≢◌, ◌≤◌, length, Some, Ok, Err, slice_get};
+ghost use Rattle.pn_serve.specs.Command.Meaning.{copy as copy_asked, lose as lose_asked};
+ghost use Rattle.pn_serve.specs.Machine.Copies.{Copies, CopiesNot};
+ghost use Rattle.pn_serve.specs.Machine.Outcomes.{serving};
+ghost use Rattle.pn_serve.specs.Machine.Turns.{Obeys};
+
+use crate::{Part, Refusal, Reply, no_copy_reply};
+use pn_join::Marks;
+use pn_region::Region;
+use pn_tablet::{CopyFault, TabletCopy, write_copy};
+use std::alloc::Global;
+
+pub(crate) fn lose(region: &mut Region, tablet: u64) -> Reply
+    ensures { Obeys (serving region.old) (lose_asked tablet) (serving region.new) result }
+{
+    if tablet >= region.layout().count() as u64 {
+        return Reply::Refused(Refusal::OutOfRange(Part::Tablet));
+    }
+    region.lose(tablet as usize);
+    Reply::Lost(tablet)
+}
+
+pub(crate) fn copy(alloc: Global, region: &Region, need: &Marks, tablet: u64) -> Reply
+    ensures { Obeys (serving region.now) (copy_asked need.now tablet) (serving region.now) result }
+{
+    if tablet >= region.layout().count() as u64 {
+        return Reply::Refused(Refusal::OutOfRange(Part::Tablet));
+    }
+    match region.copy(tablet as usize, need) {
+        Ok(copy) => copied(alloc, &copy),
+        Err(fault) => no_copy(alloc, tablet as usize, &fault),
+    }
+}
+
+// The text of a copy, where there was memory for it.
+fn copied(alloc: Global, copy: &TabletCopy) -> Reply
+    ensures { Copies copy.now result }
+{
+    match write_copy(alloc, copy) {
+        Ok(text) => Reply::Copied {
+            lines: line_count(&text),
+            text,
+        },
+        Err(_) => Reply::Refused(Refusal::Memory),
+    }
+}
+
+// How many lines the text has, each of which ends in a newline.
+fn line_count(text: &str) -> u64
+    ensures { result ≡ count_of 10 text.now }
+{
+    let mut count = 0;
+    for byte in text.as_bytes() {
+        if *byte == b'\n' {
+            count += 1;
+        }
+    }
+    count
+}
+
+// Why there is no copy, where there was memory to say it.
+fn no_copy(alloc: Global, tablet: usize, fault: &CopyFault) -> Reply
+    ensures { CopiesNot tablet fault.now result }
+{
+    if let CopyFault::Memory = fault {
+        return Reply::Refused(Refusal::Memory);
+    }
+    not_done(no_copy_reply(alloc, tablet, fault))
+}
