@@ -5,6 +5,7 @@ pub mod Limits
 pub mod Marking
 pub mod Proofs
 pub mod Reads
+pub mod Recovery
 pub mod Regions
 pub mod Rounds
 pub mod Serving

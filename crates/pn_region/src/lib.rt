@@ -1,5 +1,6 @@
 //! A region: the tablets of a layout, and the marks of the streams that were taken into them. It takes
-//! deliveries of streams in rounds, and answers reads of single records, gets and queries.
+//! deliveries of streams in rounds, loses tablets and takes copies of them, and answers reads of single records, gets
+//! and queries.
 
 #![tactic(auto)]
 
@@ -10,6 +11,6 @@ pub mod read_laws;
 mod reads;
 mod region;
 
-pub use fault::RoundFault;
+pub use fault::{AdoptFault, RoundFault};
 pub use marking::next_marks;
 pub use region::{Region, Round};
