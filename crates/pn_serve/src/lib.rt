@@ -15,12 +15,14 @@ pub use command::parse::command_of;
 pub use laws::{
     no_line_makes_a_record_older, records_are_what_was_taken, same_images_same_replies,
 };
-pub use machine::answer;
 pub use refusal::{Part, Refusal};
 pub use reply::Reply;
 pub use reply::faults::fault_reply;
 pub use reply::lookups::refused_reply;
+pub use reply::recovery::{bad_text_reply, no_copy_reply, not_adopted_reply};
 pub use reply::scan::scan_reply;
-pub use reply::short::{ShortReply, changed_reply, refusal_reply};
+pub use reply::short::{
+    ShortReply, adopted_reply, changed_reply, lines_reply, lost_reply, refusal_reply,
+};
 pub use script::{Counts, MOST_LINES, RunFault, run};
 pub use settings::Settings;

@@ -2,10 +2,11 @@
 
 ghost use Rattle.std.specs.Prelude.{◌≡◌, ◌≤◌};
 ghost use Rattle.pn_apply.specs.Limits.{most_workers};
+ghost use Rattle.pn_serve.specs.Command.Lines.{command_at};
 ghost use Rattle.pn_serve.specs.Command.Meaning.{command_value, deliver as asking};
 ghost use Rattle.pn_serve.specs.Machine.Modes.{with_mode};
 ghost use Rattle.pn_serve.specs.Machine.Outcomes.{serving};
-ghost use Rattle.pn_serve.specs.Machine.Turns.{Answers, Ends, Obeys};
+ghost use Rattle.pn_serve.specs.Machine.Turns.{last_of, outcome_at, Turned, Answers, Concludes, Obeys};
 
 pub(crate) mod announced;
 mod lookups;
@@ -64,7 +65,7 @@ pub(crate) fn end(
     part: &[u8],
 ) -> Reply
     requires workers { (1 ≤ workers) × (workers ≤ most_workers) }
-    ensures { Ends (with_mode announced region.old) part.now (serving region.new) result }
+    ensures { Concludes (with_mode announced region.old) part.now (serving region.new) result }
 {
     match announced {
         Some(announced) => finish(alloc, region, announced, part),
@@ -76,7 +77,7 @@ pub(crate) fn end(
 // A last line without newline, behind which no announced line stands.
 fn last_command(alloc: Global, region: &mut Region, workers: usize, line: &[u8]) -> Reply
     requires workers { (1 ≤ workers) × (workers ≤ most_workers) }
-    ensures { EndsWith (serving region.old) line.now (serving region.new) result }
+    ensures { Turned (λ outcome. last_of (serving region.old) (outcome_at outcome line.now) (command_at line.now)) (serving region.new) result }
 {
     match command_of(alloc, line) {
         Ok(Command::Adopt { .. }) => adopt(alloc, region, Some(Vec::new(alloc))),

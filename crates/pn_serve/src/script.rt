@@ -74,7 +74,7 @@ pub fn run<S: Source, W: Sink>(
     'lines: for _turn in 0..MOST_LINES {
         match run.turn(input, output)? {
             Next::Line => {}
-            Next::End => return Ok(run.counts()),
+            Next::End(counts) => return Ok(counts),
         }
     }
     run.finish(input, output)

@@ -75,8 +75,8 @@ Refuses fault reply = reply ≡ Refused Memory
 abbrev pub Answers : Machine → List ℕ → Machine → Reply → Type 0
 Answers old text new reply = Turned (λ outcome. turn old outcome text) new reply
 
-abbrev pub Ends : Machine → List ℕ → Machine → Reply → Type 0
-Ends old part new reply = Turned (λ outcome. end_turn old outcome part) new reply
+abbrev pub Concludes : Machine → List ℕ → Machine → Reply → Type 0
+Concludes old part new reply = Turned (λ outcome. end_turn old outcome part) new reply
 
 -- what the program made of a command
 abbrev pub Obeys : Machine → CommandValue → Machine → Reply → Type 0

@@ -1,5 +1,5 @@
 -- The bytes of replies.
-use Rattle.std.specs.Prelude.{ℕ, Bool, true, false, List, [], ◌++◌}
+use Rattle.std.specs.Prelude.{ℕ, Bool, true, false, List, [], ◌++◌, string_bytes}
 use Rattle.pn_serve.specs.declared.reply.Reply.{Reply}
 use Rattle.pn_serve.specs.declared.reply.Reply.TheVariants.{Adopted, Changed, Copied, Lost, Silent, Text, Refused, NotTaken}
 use Rattle.pn_json.specs.Lines.{line_of}
@@ -9,7 +9,7 @@ use Rattle.pn_serve.specs.Reply.Short.{refusal_data, adopted_data, changed_data,
 abbrev pub reply_text : Reply → List ℕ
 reply_text (Adopted tablet) = line_of (adopted_data tablet)
 reply_text (Changed count) = line_of (changed_data count)
-reply_text (Copied lines text) = line_of (lines_data lines) ++ text
+reply_text (Copied lines text) = line_of (lines_data lines) ++ string_bytes text
 reply_text (Lost tablet) = line_of (lost_data tablet)
 reply_text Silent = []
 reply_text (Text text) = text.items

@@ -7,7 +7,7 @@ use Rattle.pn_region.specs.Regions.{RegionValue, new_region}
 use Rattle.pn_serve.specs.declared.reply.Reply.{Reply}
 use Rattle.pn_serve.specs.declared.script.Counts.{Counts}
 use Rattle.pn_serve.specs.Machine.Outcomes.{Outcome, Machine, serving}
-use Rattle.pn_serve.specs.Machine.Turns.{Answers, Ends}
+use Rattle.pn_serve.specs.Machine.Turns.{Answers, Concludes}
 use Rattle.pn_serve.specs.Reply.Texts.{reply_text, is_refusal}
 use Rattle.pn_serve.specs.Settings.{SettingsValue}
 use Rattle.pn_serve.specs.Script.Written.{replies_from, machine_after, refusals_from, one_if}
@@ -50,7 +50,7 @@ pub record AnsweredInPart (old new : RunValue) (before after : Option (List ℕ)
 -- the input came to its end behind the part that was read: what there is to reply went out or waits, and it is counted
 pub record Closed (old new : RunValue) (before after : Option (List ℕ)) (counts : Counts) : Type 0 where
   pub reply : Reply
-  pub turned : Ends old.machine old.line.bytes new.machine reply
+  pub turned : Concludes old.machine old.line.bytes new.machine reply
   pub sends : Sends before after old.waits new.waits (reply_text reply)
   pub lines : counts.lines ≡ old.counts.lines + one_if (nat_lt 0 old.line.count)
   pub refused : counts.refused ≡ one_if (is_refusal reply) + old.counts.refused
@@ -58,7 +58,7 @@ pub record Closed (old new : RunValue) (before after : Option (List ℕ)) (count
 -- the same, where of what waited and the reply a prefix went out
 pub record ClosedInPart (old new : RunValue) (before after : Option (List ℕ)) : Type 0 where
   pub reply : Reply
-  pub turned : Ends old.machine old.line.bytes new.machine reply
+  pub turned : Concludes old.machine old.line.bytes new.machine reply
   pub prefix : AppendsPrefix before after (old.waits ++ reply_text reply)
 
 -- by one list of outcomes these lines were answered: the machine is the one after them, their replies went out or

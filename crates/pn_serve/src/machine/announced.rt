@@ -1,10 +1,19 @@
 //! Lines that an `adopt` line announced: they are gathered, and then their copy is adopted.
 
-ghost use Rattle.std.specs.Prelude.{◌≡◌, ◌×◌, [], ◌∷◌};
+ghost use Rattle.std.specs.Prelude.{◌≡◌, ◌≤◌, [], ◌∷◌, length, Some, OnErr, IfOk, IfErr};
+ghost use Rattle.pn_json.specs.Answers.{IsUnless};
+ghost use Rattle.pn_line.specs.Line.{kept};
+ghost use Rattle.pn_region.specs.Recovery.{adopting};
+ghost use Rattle.pn_tablet.specs.CopyReading.{copy_at};
+ghost use Rattle.pn_serve.specs.Machine.Modes.{bytes_of, mode_of, with_mode};
+ghost use Rattle.pn_serve.specs.Machine.Outcomes.{announced as announced_mode, serving};
+ghost use Rattle.pn_serve.specs.Machine.Recovering.{adopted, adopting_text};
+ghost use Rattle.pn_serve.specs.Machine.Turns.{Answers, Concludes};
+ghost use Rattle.pn_serve.specs.Machine.Ways.{ComesTo, IsJoined, TellsBadText, TellsNotAdopted};
 
 use crate::machine::Done;
+use crate::machine::lookups::not_taken;
 use crate::{Refusal, Reply, bad_text_reply, not_adopted_reply};
-use pn_join::NoMemory;
 use pn_region::{AdoptFault, Region};
 use pn_tablet::{CopyTextFault, TabletCopy, read_copy};
 use std::alloc::Global;
@@ -19,9 +28,9 @@ pub(crate) struct Announced {
 }
 
 impl Announced {
-    /// This many lines were announced, and none of them came.
+    /// So many lines were announced, and none of them came.
     pub(crate) fn new(alloc: Global, lines: u64) -> Announced
-        ensures { mode_of (Some result) ≡ announced lines (Some []) }
+        ensures { mode_of (Some result) ≡ announced_mode lines (Some []) }
     {
         Announced {
             left: lines,
@@ -30,13 +39,15 @@ impl Announced {
     }
 }
 
-/// A line that was announced came: further ones are waited for, or the copy is adopted.
+/// A line that was announced: further ones are waited for, or the copy is adopted.
 pub(crate) fn go_on(alloc: Global, region: &mut Region, announced: Announced, line: &[u8]) -> Done
+    requires kept { kept line.now ≡ line.now }
     ensures { Answers (with_mode (Some announced) region.old) line.now (with_mode result.1 region.new) result.0 }
 {
-    let text = joined(announced.text, line, b"\n");
-    if announced.left > 1 {
-        let left = announced.left - 1;
+    let Announced { left, text } = announced;
+    let text = joined(text, line, b"\n");
+    if left > 1 {
+        let left = left - 1;
         return (Reply::Silent, Some(Announced { left, text }));
     }
     (adopt(alloc, region, text), None)
@@ -44,15 +55,16 @@ pub(crate) fn go_on(alloc: Global, region: &mut Region, announced: Announced, li
 
 /// The input ended behind this part of a line, though further lines were announced.
 pub(crate) fn finish(alloc: Global, region: &mut Region, announced: Announced, part: &[u8]) -> Reply
-    ensures { Ends (with_mode (Some announced) region.old) part.now (serving region.new) result }
+    requires kept { kept part.now ≡ part.now }
+    ensures { Concludes (with_mode (Some announced) region.old) part.now (serving region.new) result }
 {
     adopt(alloc, region, joined(announced.text, part, b""))
 }
 
-// The text that came, and then the line with its newline. None where memory ran out.
+// The text that came, and then the line and its newline, if it has one. None where memory ran out.
 fn joined(text: Option<Vec<u8>>, line: &[u8], newline: &[u8]) -> Option<Vec<u8>>
-    requires { length line.now ≤ most_kept }
-    ensures { IsJoined (items_of text) line.now newline.now (items_of result) }
+    requires kept { kept line.now ≡ line.now }
+    ensures { IsJoined (bytes_of text) line.now newline.now (bytes_of result) }
 {
     let mut text = text?;
     text.extend_from_slice(line).ok()?;
@@ -62,7 +74,7 @@ fn joined(text: Option<Vec<u8>>, line: &[u8], newline: &[u8]) -> Option<Vec<u8>>
 
 /// Adopts the copy that the text spells. None: memory ran out before.
 pub(crate) fn adopt(alloc: Global, region: &mut Region, text: Option<Vec<u8>>) -> Reply
-    ensures { Adopts (items_of text) region.old region.new result }
+    ensures { ComesTo (adopting_text region.old (bytes_of text)) region.old region.new result }
 {
     let Some(text) = text else {
         return Reply::Refused(Refusal::Memory);
@@ -71,4 +83,40 @@ pub(crate) fn adopt(alloc: Global, region: &mut Region, text: Option<Vec<u8>>) -
         Ok(copy) => adopt_copy(alloc, region, copy),
         Err(fault) => bad_text(alloc, fault),
     }
+}
+
+// The copy that a text spells that nobody needs behind it.
+fn read_text(alloc: Global, text: Vec<u8>) -> Result<TabletCopy, CopyTextFault>
+    ensures { IsUnless CopyTextFault.Memory result (copy_at text.items) }
+{
+    read_copy(alloc, &text)
+}
+
+fn adopt_copy(alloc: Global, region: &mut Region, copy: TabletCopy) -> Reply
+    ensures { ComesTo (adopted region.old (adopting region.old copy)) region.old region.new result }
+{
+    match region.adopt(copy) {
+        Ok(tablet) => Reply::Adopted(tablet as u64),
+        Err(fault) => not_adopted(alloc, &fault),
+    }
+}
+
+// Why a text is no copy, where there was memory to say it.
+fn bad_text(alloc: Global, fault: CopyTextFault) -> Reply
+    ensures { TellsBadText fault result }
+{
+    if let CopyTextFault::Memory = fault {
+        return Reply::Refused(Refusal::Memory);
+    }
+    not_taken(bad_text_reply(alloc, &fault))
+}
+
+// Why a copy was not adopted, where there was memory to say it.
+fn not_adopted(alloc: Global, fault: &AdoptFault) -> Reply
+    ensures { TellsNotAdopted fault.now result }
+{
+    if let AdoptFault::Memory = fault {
+        return Reply::Refused(Refusal::Memory);
+    }
+    not_taken(not_adopted_reply(alloc, fault))
 }

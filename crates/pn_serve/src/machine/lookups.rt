@@ -2,7 +2,7 @@
 
 ghost use Rattle.std.specs.Prelude.{◌≡◌, MatchResult, IfOk};
 ghost use Rattle.pn_json.specs.Lines.{line_of};
-ghost use Rattle.pn_serve.specs.declared.reply.Reply.TheVariants.{Text, Refused};
+ghost use Rattle.pn_serve.specs.declared.reply.Reply.TheVariants.{NotTaken, Text, Refused};
 ghost use Rattle.pn_serve.specs.declared.refusal.Refusal.TheVariants.{Memory as no_memory};
 ghost use Rattle.pn_serve.specs.Command.Meaning.{get as get_asked, read as read_asked, scan as scan_asked};
 ghost use Rattle.pn_serve.specs.Machine.Outcomes.{serving};
@@ -58,7 +58,14 @@ fn refused(alloc: Global, fault: &ScanFault) -> Reply
     if let ScanFault::Memory = fault {
         return Reply::Refused(Refusal::Memory);
     }
-    match refused_reply(alloc, fault) {
+    not_taken(refused_reply(alloc, fault))
+}
+
+/// The refusal of this text, where there was memory for it.
+pub(crate) fn not_taken(text: Result<Vec<u8>, NoMemory>) -> Reply
+    ensures { MatchResult text (λ text. result ≡ NotTaken text) (λ _. result ≡ Refused no_memory) }
+{
+    match text {
         Ok(text) => Reply::NotTaken(text),
         Err(_) => Reply::Refused(Refusal::Memory),
     }

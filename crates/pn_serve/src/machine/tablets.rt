@@ -1,11 +1,14 @@
 //! What losses and copies of tablets are answered.
 
-ghost use Rattle.std.specs.Prelude.{◌≡◌, ◌≢◌, ◌≤◌, length, Some, Ok, Err, slice_get};
+ghost use Rattle.std.specs.Prelude.{◌≡◌, ℕ, List, All, length};
+ghost use Rattle.pn_line.specs.Text.{lines_of, text_of};
+ghost use Rattle.pn_line.specs.Reads.{IsUnbroken};
 ghost use Rattle.pn_serve.specs.Command.Meaning.{copy as copy_asked, lose as lose_asked};
-ghost use Rattle.pn_serve.specs.Machine.Copies.{Copies, CopiesNot};
 ghost use Rattle.pn_serve.specs.Machine.Outcomes.{serving};
 ghost use Rattle.pn_serve.specs.Machine.Turns.{Obeys};
+ghost use Rattle.pn_serve.specs.Machine.Ways.{ShowsCopy, TellsNoCopy};
 
+use crate::machine::lookups::not_taken;
 use crate::{Part, Refusal, Reply, no_copy_reply};
 use pn_join::Marks;
 use pn_region::Region;
@@ -36,7 +39,7 @@ pub(crate) fn copy(alloc: Global, region: &Region, need: &Marks, tablet: u64) ->
 
 // The text of a copy, where there was memory for it.
 fn copied(alloc: Global, copy: &TabletCopy) -> Reply
-    ensures { Copies copy.now result }
+    ensures { ShowsCopy copy.now result }
 {
     match write_copy(alloc, copy) {
         Ok(text) => Reply::Copied {
@@ -49,7 +52,7 @@ fn copied(alloc: Global, copy: &TabletCopy) -> Reply
 
 // How many lines the text has, each of which ends in a newline.
 fn line_count(text: &str) -> u64
-    ensures { result ≡ count_of 10 text.now }
+    ensures { (lines : List (List ℕ)) → text.now ≡ text_of lines → All IsUnbroken lines → result ≡ length (lines_of text.now) }
 {
     let mut count = 0;
     for byte in text.as_bytes() {
@@ -62,10 +65,10 @@ fn line_count(text: &str) -> u64
 
 // Why there is no copy, where there was memory to say it.
 fn no_copy(alloc: Global, tablet: usize, fault: &CopyFault) -> Reply
-    ensures { CopiesNot tablet fault.now result }
+    ensures { TellsNoCopy tablet fault.now result }
 {
     if let CopyFault::Memory = fault {
         return Reply::Refused(Refusal::Memory);
     }
-    not_done(no_copy_reply(alloc, tablet, fault))
+    not_taken(no_copy_reply(alloc, tablet, fault))
 }

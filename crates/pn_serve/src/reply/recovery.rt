@@ -38,11 +38,7 @@ pub(crate) enum About<'f> {
 }
 
 /// The reply where there is no copy of the tablet of this number, as `{"error":"behind","has":4,"stream":"east","wanted":5}`.
-pub fn no_copy_reply(
-    alloc: Global,
-    tablet: usize,
-    fault: &CopyFault,
-) -> Result<Vec<u8>, NoMemory>
+pub fn no_copy_reply(alloc: Global, tablet: usize, fault: &CopyFault) -> Result<Vec<u8>, NoMemory>
     ensures { IfOk result (λ text. text.items ≡ line_of (no_copy_data tablet fault.now)) }
 {
     match fault {

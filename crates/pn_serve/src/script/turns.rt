@@ -3,14 +3,21 @@
 ghost use Rattle.std.specs.Prelude.{◌≡◌, ◌+◌, ◌<◌, ◌≤◌, ◌++◌, Ok, IfOk, OnOk, OnErr, IsErrOf};
 ghost use Rattle.pn_line.specs.Sent.{Sends, AppendsPrefix};
 ghost use Rattle.pn_region.specs.Regions.{new_region};
+ghost use Rattle.pn_json.specs.Lines.{line_of};
+ghost use Rattle.pn_serve.specs.Reply.Short.{lines_data};
 ghost use Rattle.pn_serve.specs.Reply.Texts.{reply_text, is_refusal};
 ghost use Rattle.pn_serve.specs.Runs.Ends.{Ends};
-ghost use Rattle.pn_serve.specs.Runs.Served.{Begun, Served, Answered, AnsweredInPart, new_run};
+ghost use Rattle.pn_serve.specs.Runs.Served.{Begun, Served, Answered, AnsweredInPart, Closed, ClosedInPart, new_run};
 ghost use Rattle.pn_serve.specs.Runs.Turning.{TurnsTo};
 ghost use Rattle.pn_serve.specs.Script.Written.{one_if};
 
+use crate::machine::announced::Announced;
+use crate::machine::{answer, end};
 use crate::script::MOST_LINES;
-use crate::{Counts, Reply, RunFault, Settings, answer, changed_reply, refusal_reply};
+use crate::{
+    Counts, Reply, RunFault, Settings, adopted_reply, changed_reply, lines_reply, lost_reply,
+    refusal_reply,
+};
 use pn_join::NoMemory;
 use pn_line::{LineBuffer, LineEnd, Outbox, Sink, Source, WriteFault, read_line};
 use pn_region::Region;
@@ -23,6 +30,8 @@ pub(crate) struct Run {
     alloc: Global,
     region: Region,
     workers: usize,
+    // Lines that were announced and are still to come. None: the next line is a command.
+    announced: Option<Announced>,
     line: LineBuffer,
     outbox: Outbox,
     counts: Counts,
@@ -31,7 +40,7 @@ pub(crate) struct Run {
 impl Model for Run {
     ghost use Rattle.std.specs.Prelude.{◌≤◌};
     ghost use Rattle.pn_apply.specs.Limits.{most_workers};
-    ghost use Rattle.pn_serve.specs.Machine.Outcomes.{serving};
+    ghost use Rattle.pn_serve.specs.Machine.Modes.{with_mode};
     ghost use Rattle.pn_serve.specs.Runs.Served.{RunValue};
 
     ghost Value = { RunValue };
@@ -40,7 +49,7 @@ impl Model for Run {
 
     ghost coded = { run_code };
 
-    ghost view = { λ run. record { machine = serving run.region; line = run.line; waits = run.outbox; counts = run.counts } };
+    ghost view = { λ run. record { machine = with_mode run.announced run.region; line = run.line; waits = run.outbox; counts = run.counts } };
 
     ghost invariant = { λ run. (1 ≤ run.workers) × (run.workers ≤ most_workers) × (run.counts.refused ≤ run.counts.lines) };
 }
@@ -50,8 +59,8 @@ impl Model for Run {
 pub(crate) enum Next {
     /// Another line, or the end of the input.
     Line,
-    /// Nothing: the input is at its end, and all replies went out.
-    End,
+    /// Nothing: the input is at its end, and all replies went out. So many lines were answered and refused.
+    End(Counts),
 }
 
 impl Run {
@@ -66,18 +75,12 @@ impl Run {
             outbox: Outbox::new(alloc)?,
             region: Region::new(alloc, layout)?,
             workers,
+            announced: None,
             counts: Counts {
                 lines: 0,
                 refused: 0,
             },
         })
-    }
-
-    /// How many lines were answered, and how many of them refused.
-    pub(crate) fn counts(&self) -> Counts
-        ensures { result ≡ self.now.counts }
-    {
-        self.counts
     }
 
     /// Reads a line and answers it. Where no further line is there to be read, all replies go out.
@@ -107,13 +110,9 @@ impl Run {
                 Ok(Next::Line)
             }
             LineEnd::EndOfInput => {
-                if self.line.is_empty() {
-                    self.outbox.flush(output)?;
-                    return Ok(Next::End);
-                }
-                self.answer_line(output)?;
+                let counts = self.close(output)?;
                 self.outbox.flush(output)?;
-                Ok(Next::End)
+                Ok(Next::End(counts))
             }
             LineEnd::Endless => {
                 self.outbox.flush(output)?;
@@ -129,10 +128,39 @@ impl Run {
         ensures err { OnErr result (AnsweredInPart self.old self.new (W.contents output.old) (W.contents output.new)) }
         ensures fault { OnErr result W.may_fail }
     {
+        let announced = self.announced.take();
         let line = self.line.bytes();
-        let reply = answer(self.alloc, &mut self.region, self.workers, line);
-        count(&mut self.counts, &reply);
+        let (reply, announced) = answer(
+            self.alloc,
+            &mut self.region,
+            self.workers,
+            announced,
+            line,
+        );
+        self.announced = announced;
+        self.counts.lines += 1;
+        count_refused(&mut self.counts, &reply);
         push_reply(&reply, &mut self.outbox, output)
+    }
+
+    // The input is at its end behind the part of a line that was read: what is left to reply waits or goes out.
+    // All lines and refusals are counted.
+    fn close<W: Sink>(&mut self, output: &mut W) -> Result<Counts, WriteFault>
+        requires few { self.old.counts.lines ≤ MOST_LINES }
+        ensures ok { IfOk result (λ counts. Closed self.old self.new (W.contents output.old) (W.contents output.new) counts) }
+        ensures err { OnErr result (ClosedInPart self.old self.new (W.contents output.old) (W.contents output.new)) }
+        ensures fault { OnErr result W.may_fail }
+    {
+        let announced = self.announced.take();
+        let part = self.line.bytes();
+        let reply = end(self.alloc, &mut self.region, self.workers, announced, part);
+        let mut counts = self.counts;
+        if !self.line.is_empty() {
+            counts.lines += 1;
+        }
+        count_refused(&mut counts, &reply);
+        push_reply(&reply, &mut self.outbox, output)?;
+        Ok(counts)
     }
 
     /// Sends all replies, and looks whether the input is at its end, where no more lines may be answered.
@@ -154,17 +182,19 @@ impl Run {
         if more {
             return Err(RunFault::TooManyTurns);
         }
-        Ok(self.counts)
+        self.line.start();
+        let counts = self.close(output)?;
+        self.outbox.flush(output)?;
+        Ok(counts)
     }
 }
 
-fn count(counts: &mut Counts, reply: &Reply)
-    requires few { counts.old.lines < MOST_LINES }
+fn count_refused(counts: &mut Counts, reply: &Reply)
+    requires few { counts.old.lines ≤ MOST_LINES + 1 }
     requires bounded { counts.old.refused ≤ counts.old.lines }
-    ensures lines { counts.new.lines ≡ counts.old.lines + 1 }
+    ensures lines { counts.new.lines ≡ counts.old.lines }
     ensures refused { counts.new.refused ≡ one_if (is_refusal reply.now) + counts.old.refused }
 {
-    counts.lines += 1;
     if let Reply::Refused(_) | Reply::NotTaken(_) = reply {
         counts.refused += 1;
     }
@@ -177,8 +207,27 @@ fn push_reply<W: Sink>(reply: &Reply, outbox: &mut Outbox, output: &mut W) -> Re
     ensures fault { OnErr result W.may_fail }
 {
     match reply {
+        Reply::Adopted(tablet) => outbox.push(output, adopted_reply(*tablet).as_bytes()),
         Reply::Changed(count) => outbox.push(output, changed_reply(*count).as_bytes()),
+        Reply::Copied { lines, text } => push_copy(*lines, text, outbox, output),
+        Reply::Lost(tablet) => outbox.push(output, lost_reply(*tablet).as_bytes()),
+        Reply::Silent => Ok(()),
         Reply::Text(text) | Reply::NotTaken(text) => outbox.push(output, text),
         Reply::Refused(refusal) => outbox.push(output, refusal_reply(refusal).as_bytes()),
     }
+}
+
+// A copy's first line and its text wait or go out.
+fn push_copy<W: Sink>(
+    lines: u64,
+    text: &str,
+    outbox: &mut Outbox,
+    output: &mut W,
+) -> Result<(), WriteFault>
+    ensures ok { OnOk result (Sends (W.contents output.old) (W.contents output.new) outbox.old outbox.new (line_of (lines_data lines) ++ text.now)) }
+    ensures err { OnErr result (AppendsPrefix (W.contents output.old) (W.contents output.new) (outbox.old ++ (line_of (lines_data lines) ++ text.now))) }
+    ensures fault { OnErr result W.may_fail }
+{
+    outbox.push(output, lines_reply(lines).as_bytes())?;
+    outbox.push(output, text.as_bytes())
 }

@@ -1,0 +1,19 @@
+-- The lines that a machine waits for, as its mode.
+use Rattle.std.specs.Prelude.{ℕ, List, Option, Some, None, Vec, option_map}
+use Rattle.std.specs.declared.alloc.Global.{Global}
+use Rattle.pn_region.specs.Regions.{RegionValue}
+use Rattle.pn_serve.specs.declared.machine.announced.Announced.{Announced}
+use Rattle.pn_serve.specs.Machine.Outcomes.{Mode, idle, announced, Machine}
+
+-- the bytes of a text, if there is one
+abbrev pub bytes_of : Option (Vec ℕ Global) → Option (List ℕ)
+bytes_of text = option_map (λ bytes. bytes.items) text
+
+-- a command is waited for, or what was announced
+abbrev pub mode_of : Option Announced → Mode
+mode_of None = idle
+mode_of (Some lines) = announced lines.left (bytes_of lines.text)
+
+-- a machine that waits for this
+abbrev pub with_mode : Option Announced → RegionValue → Machine
+with_mode lines region = record { mode = mode_of lines; region = region }

@@ -1,0 +1,51 @@
+-- What parts of a turn come to: as they say, or out of memory.
+use Rattle.std.specs.Prelude.{◌≡◌, ◌≢◌, ◌⊎◌, ℕ, List, ◌++◌, Option, Result}
+use Rattle.serde_json.specs.Data.{Data}
+use Rattle.pn_json.specs.Lines.{line_of}
+use Rattle.pn_tablet.specs.Copies.{TabletCopyValue}
+use Rattle.pn_tablet.specs.declared.copy_fault.CopyTextFault.{CopyTextFault}
+use Rattle.pn_tablet.specs.declared.copy_fault.CopyTextFault.TheVariants as text
+use Rattle.pn_tablet.specs.declared.fault.CopyFault.{CopyFault}
+use Rattle.pn_tablet.specs.declared.fault.CopyFault.TheVariants as copy
+use Rattle.pn_region.specs.Recovery.{adopting}
+use Rattle.pn_region.specs.Regions.{RegionValue}
+use Rattle.pn_region.specs.declared.fault.AdoptFault.{AdoptFault}
+use Rattle.pn_region.specs.declared.fault.AdoptFault.TheVariants as adopt
+use Rattle.pn_serve.specs.declared.reply.Reply.{Reply}
+use Rattle.pn_serve.specs.declared.reply.Reply.TheVariants.{Copied, Refused, NotTaken}
+use Rattle.pn_serve.specs.declared.refusal.Refusal.TheVariants.{Memory}
+use Rattle.pn_serve.specs.Machine.Announced.{unless_call, with_line}
+use Rattle.pn_serve.specs.Machine.Outcomes.{Outcome, Turn, serving}
+use Rattle.pn_serve.specs.Machine.Recovering.{adopted, adopting_text}
+use Rattle.pn_serve.specs.Machine.Turns.{Turned}
+use Rattle.pn_serve.specs.Reply.Recovery.{copy_reply, no_copy_data, bad_text_data, not_adopted_data}
+use Rattle.pn_serve.specs.Reply.Texts.{reply_text, is_refusal}
+
+-- the reply of a refusal that is known to be right says this, or that memory ran out
+abbrev pub Tells : Type 0 → Data → Reply → Type 0
+Tells right said (NotTaken text) = right × (text.items ≡ line_of said)
+Tells right said reply = reply ≡ Refused Memory
+
+-- the replies where there is no copy, where a text is none, and where a copy is not adopted
+abbrev pub TellsNoCopy : ℕ → CopyFault → Reply → Type 0
+TellsNoCopy tablet fault reply = Tells (fault ≢ copy.Memory) (no_copy_data tablet fault) reply
+
+abbrev pub TellsBadText : CopyTextFault → Reply → Type 0
+TellsBadText fault reply = Tells (fault ≢ text.Memory) (bad_text_data fault) reply
+
+abbrev pub TellsNotAdopted : AdoptFault → Reply → Type 0
+TellsNotAdopted fault reply = Tells (fault ≢ adopt.Memory) (not_adopted_data fault) reply
+
+-- the reply is the copy, or that memory ran out
+abbrev pub ShowsCopy : TabletCopyValue → Reply → Type 0
+ShowsCopy copy (Copied lines text) = reply_text (Copied lines text) ≡ copy_reply copy
+ShowsCopy copy reply = reply ≡ Refused Memory
+
+-- a turn of a region comes to this region and this reply, or memory ran out and nothing changed
+abbrev pub ComesTo : Turn → RegionValue → RegionValue → Reply → Type 0
+ComesTo turn old new reply =
+    ((turn.machine ≡ serving new) × (turn.reply ≡ reply_text reply) × (turn.refused ≡ is_refusal reply)) ⊎ ((new ≡ old) × (reply ≡ Refused Memory))
+
+-- the line stands behind the text that came, or memory ran out
+abbrev pub IsJoined : Option (List ℕ) → List ℕ → List ℕ → Option (List ℕ) → Type 0
+IsJoined text line newline joined = (outcome : Outcome) × (joined ≡ unless_call outcome (with_line text line newline))
