@@ -1,10 +1,11 @@
 -- Lines that are too long.
-use Rattle.std.proofs.Common.{◌≡◌, ℕ, ◌<◌, Bool, true, cond, if◌then◌else◌, List, length, nat_lt, inl, inr, ap, sym, subst, ◌∙◌, arith}
+use Rattle.std.proofs.Common.{◌≡◌, ℕ, ◌<◌, Bool, true, cond, if◌then◌else◌, List, [], ◌∷◌, ◌++◌, option_map, length, nat_lt, inl, inr, ap, sym, subst, ◌∙◌, arith}
 use Rattle.std.specs.Prelude.{Err}
 use Rattle.std.proofs.lemmas.Bool.{cases_lt}
+use Rattle.std.proofs.lemmas.List.{take-take}
 use Rattle.std.specs.Option.{ok_or}
 use Rattle.std.proofs.lemmas.Bool.Decides.{nat_tests}
-use Rattle.pn_line.specs.Line.{LineBufferValue, so_far, kept}
+use Rattle.pn_line.specs.Line.{LineBufferValue, so_far, kept, most_kept}
 use Rattle.pn_line.proofs.LineLaws.{kept-short, length-kept_long}
 use Rattle.pn_json.specs.Answers.{◌>>=◌, fault_as}
 use Rattle.pn_record.specs.Reading.{value_at, reading}
@@ -12,8 +13,10 @@ use Rattle.pn_record.specs.declared.fault.ImageFault.TheVariants as image
 use Rattle.pn_serve.specs.declared.refusal.Refusal.TheVariants.{TooLong}
 use Rattle.pn_serve.specs.declared.reply.Reply.{Reply}
 use Rattle.pn_serve.specs.Command.Lines.{is_too_long, command_at, command_in, refusal_of}
-use Rattle.pn_serve.specs.Machine.Outcomes.{Outcome, done, Machine, Turn, refusing}
-use Rattle.pn_serve.specs.Machine.Turns.{saying, turn_of, turn, Turned, Answers}
+use Rattle.pn_serve.specs.Machine.Announced.{unless_call, one_came}
+use Rattle.pn_serve.specs.Machine.Outcomes.{Outcome, done, Mode, idle, announced, Machine, Turn, refusing}
+use Rattle.pn_serve.specs.Machine.Recovering.{adopting_text}
+use Rattle.pn_serve.specs.Machine.Turns.{turn_of, outcome_at, turn_in, turn, last_of, end_in, end_turn, Turned, Answers, Concludes}
 
 pub too_long : (line : List ℕ) → 65536 < length line → command_at line ≡ Err TooLong
 unfolding command_at value_at
@@ -21,19 +24,45 @@ too_long line long =
     let test : nat_lt 65536 (length line) ≡ true = grind (arith, nat_tests) in
     ap (λ b. fault_as refusal_of (cond b (Err image.TooLong) (ok_or (reading line) image.NotJson)) >>= command_in) test
 
--- a line that is too long is refused as such
-pub turn-long : (machine : Machine) (outcome : Outcome) (text : List ℕ) → 65536 < length text → turn machine outcome text ≡ refusing machine TooLong
-turn-long machine outcome text long =
+said-long : (outcome : Outcome) (text : List ℕ) → 65536 < length text → outcome_at outcome text ≡ done
+said-long outcome text long =
     let test : is_too_long text ≡ true = grind (arith, nat_tests) in
-    ap (λ (b : Bool). turn_of machine (if b then done else outcome) (command_at text)) test ∙ ap (saying machine) (too_long text long)
+    ap (λ (b : Bool). if b then done else outcome) test
+
+-- a line that is too long is refused as such
+pub turn-long : (machine : Machine) (outcome : Outcome) (text : List ℕ) → 65536 < length text → turn_in idle machine outcome text ≡ refusing machine TooLong
+turn-long machine outcome text long =
+    ap (λ (o : Outcome). turn_of machine o (command_at text)) (said-long outcome text long) ∙ ap (turn_of machine done) (too_long text long)
+
+end-long : (machine : Machine) (outcome : Outcome) (text : List ℕ) → 65536 < length text → end_in idle machine outcome text ≡ refusing machine TooLong
+end-long machine outcome [] long = absurd (omega (arith, long))
+end-long machine outcome (b ∷ text) long =
+    ap (λ (o : Outcome). last_of machine o (command_at (b ∷ text))) (said-long outcome (b ∷ text) long) ∙ ap (last_of machine done) (too_long (b ∷ text) long)
+
+kept-kept : (line : List ℕ) → kept (kept line) ≡ kept line
+kept-kept line = take-take most_kept most_kept line (omega arith)
 
 -- a line does what its kept bytes do
-turn-kept : (machine : Machine) (outcome : Outcome) (line : List ℕ) → turn machine outcome (kept line) ≡ turn machine outcome line
-turn-kept machine outcome line = elim (cases_lt 65536 (length line)) [
+turn-kept : (mode : Mode) (machine : Machine) (outcome : Outcome) (line : List ℕ) → turn_in mode machine outcome (kept line) ≡ turn_in mode machine outcome line
+turn-kept idle machine outcome line = elim (cases_lt 65536 (length line)) [
   | inl long ↦ turn-long machine outcome (kept line) (omega (arith, length-kept_long line long)) ∙ sym (turn-long machine outcome line long)
-  | inr short ↦ ap (turn machine outcome) (kept-short line short)
+  | inr short ↦ ap (turn_in idle machine outcome) (kept-short line short)
 ]
+turn-kept (announced left came) machine outcome line =
+    ap (λ (bytes : List ℕ). one_came machine left (unless_call outcome (option_map (λ text. text ++ (bytes ++ 10 ∷ [])) came))) (kept-kept line)
+
+pub end-kept : (mode : Mode) (machine : Machine) (outcome : Outcome) (part : List ℕ) → end_in mode machine outcome (kept part) ≡ end_in mode machine outcome part
+end-kept idle machine outcome part = elim (cases_lt 65536 (length part)) [
+  | inl long ↦ end-long machine outcome (kept part) (omega (arith, length-kept_long part long)) ∙ sym (end-long machine outcome part long)
+  | inr short ↦ ap (end_in idle machine outcome) (kept-short part short)
+]
+end-kept (announced left came) machine outcome part =
+    ap (λ (bytes : List ℕ). adopting_text machine.region (unless_call outcome (option_map (λ text. text ++ (bytes ++ [])) came))) (kept-kept part)
 
 pub answers_kept : (old new : Machine) (line : LineBufferValue) (taken : List ℕ) (reply : Reply) → line ≡ so_far taken → Answers old line.bytes new reply → Answers old taken new reply
 answers_kept old new line taken reply is answers =
-    subst (λ (turns : Outcome → Turn). Turned turns new reply) (λ i outcome. (ap (λ (l : LineBufferValue). turn old outcome l.bytes) is ∙ turn-kept old outcome taken) i) answers
+    subst (λ (turns : Outcome → Turn). Turned turns new reply) (λ i outcome. (ap (λ (l : LineBufferValue). turn old outcome l.bytes) is ∙ turn-kept old.mode old outcome taken) i) answers
+
+pub concludes_kept : (old new : Machine) (line : LineBufferValue) (taken : List ℕ) (reply : Reply) → line ≡ so_far taken → Concludes old line.bytes new reply → Concludes old taken new reply
+concludes_kept old new line taken reply is concludes =
+    subst (λ (turns : Outcome → Turn). Turned turns new reply) (λ i outcome. (ap (λ (l : LineBufferValue). end_turn old outcome l.bytes) is ∙ end-kept old.mode old outcome taken) i) concludes

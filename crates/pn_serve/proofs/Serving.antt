@@ -1,28 +1,31 @@
 -- The replies to the lines read so far went out or wait, and the machine is the one after these lines.
-use Rattle.std.proofs.Common.{◌≡◌, ℕ, ◌+◌, ◌<◌, ◌≤◌, ◌≢◌, Bool, true, false, Option, None, Some, List, [], ◌∷◌, ◌++◌, length, All, IfSome, OnSome, refl, sym, ap, ◌∙◌, subst, arith, append-nil, append_assoc}
+use Rattle.std.proofs.Common.{◌≡◌, ℕ, ◌+◌, ◌<◌, ◌≤◌, ◌≢◌, Bool, true, false, Option, None, Some, List, [], ◌∷◌, ◌++◌, length, All, IfSome, OnSome, refl, sym, ap, ◌∙◌, subst, arith, append-nil, append_assoc, length-append, nat_lt}
 use Rattle.std.specs.Io.KnownBytes.{Appends, Consumes, Keeps, IsAtEnd}
 use Rattle.std.proofs.lemmas.List.{length_push}
 use Rattle.std.proofs.lemmas.List.Elements.{All-nil, All-cons, All-append}
 use Rattle.pn_line.specs.Line.{LineBufferValue, so_far}
-use Rattle.pn_line.specs.LinesRead.{LinesRead}
-use Rattle.pn_line.specs.Reads.{Takes}
-use Rattle.pn_line.specs.Text.{lines_of, last_line}
+use Rattle.pn_line.specs.LinesRead.{LinesRead, PartRead}
+use Rattle.pn_line.specs.Reads.{Takes, IsUnbroken}
+use Rattle.pn_line.specs.Text.{lines_of, text_of, last_line}
 use Rattle.pn_line.specs.Sent.{Sends}
-use Rattle.pn_line.proofs.LinesReadLaws.{LinesRead-none, LinesRead-line, LinesRead-end}
+use Rattle.pn_line.proofs.LinesReadLaws.{LinesRead-none, LinesRead-line, LinesRead-part}
 use Rattle.pn_line.proofs.SentLaws.{Sends-none, Sends-trans, Sends-all, Sends-flushed}
-use Rattle.pn_line.proofs.TextLaws.{lines_of-text, lines_of-nil}
+use Rattle.pn_line.proofs.TextLaws.{lines_of-text, lines_of-nil, lines_of-last}
 use Rattle.pn_region.specs.Regions.{RegionValue, new_region}
 use Rattle.std.specs.Prelude.{Result}
 use Rattle.pn_serve.specs.declared.script.Counts.{Counts}
 use Rattle.pn_serve.specs.declared.script.RunFault.{RunFault}
 use Rattle.pn_serve.specs.Settings.{SettingsValue}
 use Rattle.pn_serve.specs.Machine.Outcomes.{Outcome, Machine, serving}
-use Rattle.pn_serve.specs.Machine.Turns.{turn, Answers}
+use Rattle.pn_serve.specs.Machine.Turns.{turn, end_turn, Answers, Concludes}
+use Rattle.pn_serve.specs.declared.reply.Reply.{Reply}
 use Rattle.pn_serve.specs.Reply.Texts.{reply_text, is_refusal}
 use Rattle.pn_serve.specs.Runs.Ends.{Ended, Ends}
-use Rattle.pn_serve.specs.Runs.Served.{RunValue, Begun, begins, new_run, Answered, AllAnswered, IsShort, Between, Served}
-use Rattle.pn_serve.specs.Script.Written.{replies_from, machine_after, refusals_from, one_if}
-use Rattle.pn_serve.proofs.LongLines.{answers_kept}
+use Rattle.pn_serve.specs.Runs.Served.{RunValue, Begun, begins, new_run, Answered, Closed, AllAnswered, IsShort, Between, Served}
+use Rattle.pn_serve.specs.Script.Written.{replies_from, machine_after, refusals_from, replies, refusals, one_if}
+use Rattle.pn_serve.specs.Script.Parts.{parts_of}
+use Rattle.pn_serve.proofs.LongLines.{answers_kept, concludes_kept}
+use Rattle.pn_serve.proofs.Parts.{parts-text, parts-whole}
 use Rattle.pn_serve.proofs.Within.{within-all}
 
 -- one more line
@@ -54,13 +57,10 @@ are_short lines line taken short is ends =
     let below : length taken < 1000000000 = omega (arith, ap (λ (l : LineBufferValue). l.count) is, ends) in
     All-append IsShort lines (taken ∷ []) short (All-cons IsShort taken [] below (All-nil IsShort))
 
-no_line : (taken : List ℕ) → length taken ≡ 0 → last_line taken ≡ []
-no_line [] none = refl
-no_line (b ∷ taken) none = absurd (omega arith)
-
-pub one_line : (taken : List ℕ) → length taken ≢ 0 → last_line taken ≡ taken ∷ []
-one_line [] some = absurd (some refl)
-one_line (b ∷ taken) some = refl
+-- and perhaps a part behind them
+with_part : (lines : List (List ℕ)) (line : LineBufferValue) (part : List ℕ) → All IsShort lines → line ≡ so_far part → line.count < 1000000000 → All IsShort (lines ++ last_line part)
+with_part lines line [] short is ends = subst (λ (l : List (List ℕ)). All IsShort l) (sym (append-nil lines)) short
+with_part lines line (b ∷ part) short is ends = are_short lines line (b ∷ part) short is ends
 
 -- the lines of a text are those that were read, and those of the rest
 pub lines_left : {text : List ℕ} {left : Option (List ℕ)} {lines : List (List ℕ)} → (read : LinesRead text left lines) → lines_of text ≡ lines ++ lines_of read.rest
@@ -84,10 +84,40 @@ pub of_known : (left : Option (List ℕ)) (rest : List ℕ) (P : List ℕ → Ty
 of_known None rest P is holds = absurd (untold rest is)
 of_known (Some x) rest P is holds = let same : x ≡ rest = cc in subst P same holds
 
-nothing_left : (left leaves : Option (List ℕ)) (rest taken : List ℕ) → left ≡ Some rest → Consumes left leaves taken → OnSome left (IsAtEnd leaves) → leaves ≡ Some []
+pub nothing_left : (left leaves : Option (List ℕ)) (rest taken : List ℕ) → left ≡ Some rest → Consumes left leaves taken → OnSome left (IsAtEnd leaves) → leaves ≡ Some []
 nothing_left None leaves rest taken is consumes end = absurd (untold rest is)
 nothing_left (Some x) None rest taken is consumes end = absurd consumes
 nothing_left (Some x) (Some y) rest taken is consumes end = ap Some end
+
+-- the parts of a text that was read to its end
+pub parts_read : {text : List ℕ} {lines : List (List ℕ)} {part : List ℕ} (left : Option (List ℕ)) → (read : PartRead text left lines part) → left ≡ Some [] → parts_of text ≡ (lines, part)
+parts_read {lines = lines} {part = part} left read gone =
+    let none : read.rest ≡ [] = let same = sym read.left_is ∙ gone in cc in
+    ap parts_of (read.text_is ∙ ap (λ (r : List ℕ). text_of lines ++ (part ++ r)) none ∙ ap (λ (p : List ℕ). text_of lines ++ p) (append-nil part))
+    ∙ parts-whole lines part read.unbroken read.part_unbroken
+
+-- the lines of a text that was read to its end
+lines_in : {text : List ℕ} {lines : List (List ℕ)} {part : List ℕ} (left : Option (List ℕ)) → (read : PartRead text left lines part) → left ≡ Some [] → lines_of text ≡ lines ++ last_line part
+lines_in {lines = lines} {part = part} left read gone =
+    let none : read.rest ≡ [] = let same = sym read.left_is ∙ gone in cc in
+    ap lines_of (read.text_is ∙ ap (λ (r : List ℕ). text_of lines ++ (part ++ r)) none ∙ ap (λ (p : List ℕ). text_of lines ++ p) (append-nil part))
+    ∙ lines_of-text lines part read.unbroken ∙ ap (λ (l : List (List ℕ)). lines ++ l) (last_of_part part read.part_unbroken)
+  where
+    last_of_part : (part : List ℕ) → IsUnbroken part → lines_of part ≡ last_line part
+    last_of_part [] unbroken = lines_of-nil
+    last_of_part (b ∷ part) unbroken = lines_of-last b part unbroken
+
+-- the whole lines of a text of which lines were read
+pub parts_left : {text : List ℕ} {left : Option (List ℕ)} {lines : List (List ℕ)} → (read : LinesRead text left lines) → (parts_of text).0 ≡ lines ++ (parts_of read.rest).0
+parts_left {lines = lines} read = ap (λ (t : List ℕ). (parts_of t).0) read.text_is ∙ ap (λ (p : List (List ℕ) × List ℕ). p.0) (parts-text lines read.rest read.unbroken)
+
+part_count : (part : List ℕ) → length (last_line part) ≡ one_if (nat_lt 0 (length part))
+part_count [] = refl
+part_count (b ∷ part) = refl
+
+few_lines : (lines : List (List ℕ)) (part : List ℕ) → length lines < 1000000 → length (lines ++ last_line part) ≤ 1000000
+few_lines lines [] few = omega (arith, few, length-append lines [])
+few_lines lines (b ∷ part) few = omega (arith, few, length-append lines ((b ∷ part) ∷ []))
 
 -- ---- answered lines
 
@@ -162,48 +192,78 @@ module _ (begun : Begun) where
         answered = AllAnswered-line between.lines b c run new line taken between.answered is answered;
       }
 
-  -- all lines were answered, and what waited went out
-  all_ended : (script : List ℕ) (lines : List (List ℕ)) (leaves b c : Option (List ℕ)) (run : RunValue) → lines_of script ≡ lines → All IsShort lines → length lines ≤ 1000000 → leaves ≡ Some []
-      → AllAnswered begun lines b run → Appends b c run.waits → Ended begun script leaves c run.counts
-  all_ended script lines leaves b c run all short few end is sent = record {
-    outcomes = is.outcomes;
-    wrote = subst (λ (l : List (List ℕ)). Appends begun.written c (replies_from (serving begun.region) l is.outcomes)) (sym all) (Sends-flushed c is.sends sent);
-    lines_are = is.lines_are ∙ ap length (sym all);
-    refused_are = is.refused_are ∙ ap (λ (l : List (List ℕ)). refusals_from (serving begun.region) l is.outcomes) (sym all);
-    within = within-all script lines all short few;
-    at_end = end;
-  }
+  -- the input is at its end behind a part of a line, and what was left to reply went out or waits
+  module _ (script : List ℕ) (b c : Option (List ℕ)) (run new : RunValue) (lines : List (List ℕ)) (line : LineBufferValue) (part : List ℕ) (counts : Counts)
+    (parts : parts_of script ≡ (lines, part)) (is : AllAnswered begun lines b run) (here : line ≡ so_far part) where
+    -- what the part of the line came to
+    pub concluded : (reply : Reply) → Concludes run.machine line.bytes new.machine reply → Concludes run.machine part new.machine reply
+    concluded reply turned = concludes_kept run.machine new.machine line part reply here turned
 
-  -- the input ended behind a newline
-  pub Ends_after : (script : List ℕ) (left leaves b c : Option (List ℕ)) (run : RunValue) (line : LineBufferValue) → Between begun script left b run
-      → Takes (so_far []) line left leaves [] → OnSome left (IsAtEnd leaves) → line.count ≡ 0 → run.counts.lines < 1000000 → Appends b c run.waits → Ended begun script leaves c run.counts
-  Ends_after script left leaves b c run line between takes end none few sent =
-      let (taken, is, all) = LinesRead-end leaves between.read takes end in
-      let empty : length taken ≡ 0 = ap (λ (l : LineBufferValue). l.count) (sym is) ∙ none in
-      let whole : lines_of script ≡ between.lines = all ∙ ap (λ (l : List (List ℕ)). between.lines ++ l) (no_line taken empty) ∙ append-nil between.lines in
-      all_ended script between.lines leaves b c run whole between.short (omega (arith, few, between.answered.lines_are)) (nothing_left left leaves _ _ between.read.left_is takes.source end) between.answered sent
+    -- the replies to the whole script
+    pub all_replies : (reply : Reply) → (turned : Concludes run.machine part new.machine reply)
+        → replies begun.region script is.outcomes turned.outcome ≡ replies_from (serving begun.region) lines is.outcomes ++ reply_text reply
+    all_replies reply turned =
+        let from = serving begun.region in
+        ap (λ (p : List (List ℕ) × List ℕ). replies_from from p.0 is.outcomes ++ (end_turn (machine_after from p.0 is.outcomes) turned.outcome p.1).reply) parts
+        ∙ ap (λ (m : Machine). replies_from from lines is.outcomes ++ (end_turn m turned.outcome part).reply) is.machine
+        ∙ ap (λ (r : List ℕ). replies_from from lines is.outcomes ++ r) turned.replied
 
-  -- the input ended in a last line
-  pub Ends_in : (script : List ℕ) (left leaves b c d : Option (List ℕ)) (run new : RunValue) (line : LineBufferValue) → Between begun script left b run
-      → Takes (so_far []) line left leaves [] → OnSome left (IsAtEnd leaves) → line.count ≢ 0 → line.count < 1000000000 → run.counts.lines < 1000000
-      → Answered (record run { line = line }) new b c → Appends c d new.waits → Ended begun script leaves d new.counts
-  Ends_in script left leaves b c d run new line between takes end some ends few answered sent =
-      let (taken, is, all) = LinesRead-end leaves between.read takes end in
-      let full : length taken ≢ 0 = λ none. some (ap (λ (l : LineBufferValue). l.count) is ∙ none) in
-      let whole : lines_of script ≡ between.lines ++ taken ∷ [] = all ∙ ap (λ (l : List (List ℕ)). between.lines ++ l) (one_line taken full) in
-      all_ended script (between.lines ++ taken ∷ []) leaves c d new whole (are_short between.lines line taken between.short is ends)
-      (omega (arith, few, between.answered.lines_are, length_push between.lines taken)) (nothing_left left leaves _ _ between.read.left_is takes.source end)
-      (AllAnswered-line between.lines b c run new line taken between.answered is answered) sent
+    all_refusals : (reply : Reply) → (turned : Concludes run.machine part new.machine reply)
+        → refusals begun.region script is.outcomes turned.outcome ≡ refusals_from (serving begun.region) lines is.outcomes + one_if (is_refusal reply)
+    all_refusals reply turned =
+        let from = serving begun.region in
+        ap (λ (p : List (List ℕ) × List ℕ). refusals_from from p.0 is.outcomes + one_if (end_turn (machine_after from p.0 is.outcomes) turned.outcome p.1).refused) parts
+        ∙ ap (λ (m : Machine). refusals_from from lines is.outcomes + one_if (end_turn m turned.outcome part).refused) is.machine
+        ∙ ap (λ (r : Bool). refusals_from from lines is.outcomes + one_if r) turned.refused
+
+    pub all_sent : (closed : Closed (record run { line = line }) new b c counts) → Sends begun.written c [] new.waits (replies begun.region script is.outcomes (concluded closed.reply closed.turned).outcome)
+    all_sent closed =
+        subst (λ (r : List ℕ). Sends begun.written c [] new.waits r) (sym (all_replies closed.reply (concluded closed.reply closed.turned))) (Sends-trans is.sends closed.sends)
+
+    -- all went out
+    pub all_ended : (leaves d : Option (List ℕ)) → lines_of script ≡ lines ++ last_line part → All IsShort (lines ++ last_line part) → length (lines ++ last_line part) ≤ 1000000
+        → leaves ≡ Some [] → Closed (record run { line = line }) new b c counts → Appends c d new.waits → Ended begun script leaves d counts
+    all_ended leaves d all short few end closed sent =
+        let turned = concluded closed.reply closed.turned in
+        let refused = all_refusals closed.reply turned in
+        let one : length (last_line part) ≡ one_if (nat_lt 0 line.count) = part_count part ∙ ap (λ (l : LineBufferValue). one_if (nat_lt 0 l.count)) (sym here) in
+        let count : counts.lines ≡ length (lines ++ last_line part) = omega (arith, closed.lines, is.lines_are, one, length-append lines (last_line part)) in record {
+          outcomes = is.outcomes;
+          last = turned.outcome;
+          wrote = Sends-flushed d (all_sent closed) sent;
+          lines_are = count ∙ ap length (sym all);
+          refused_are = omega (arith, refused, is.refused_are, closed.refused);
+          within = within-all script (lines ++ last_line part) all short few;
+          at_end = end;
+        }
+
+  -- the input ended in a last part of a line, or behind a newline
+  pub Ends_closed : (script : List ℕ) (left leaves b c d : Option (List ℕ)) (run new : RunValue) (line : LineBufferValue) (counts : Counts) → Between begun script left b run
+      → Takes (so_far []) line left leaves [] → OnSome left (IsAtEnd leaves) → line.count < 1000000000 → run.counts.lines < 1000000
+      → Closed (record run { line = line }) new b c counts → Appends c d new.waits → Ended begun script leaves d counts
+  Ends_closed script left leaves b c d run new line counts between takes end ends few closed sent =
+      let (part, is, read) = LinesRead-part between.read takes in
+      let gone = nothing_left left leaves _ _ between.read.left_is takes.source end in
+      let all : lines_of script ≡ between.lines ++ last_line part = lines_in leaves read gone in
+      let parts = parts_read leaves read gone in
+      all_ended script b c run new between.lines line part counts parts between.answered is leaves d all
+      (with_part between.lines line part between.short is ends) (few_lines between.lines part (omega (arith, few, between.answered.lines_are))) gone closed sent
 
   -- nothing is left behind the last line that may be answered
-  pub Ends_within : (script : List ℕ) (left leaves b c : Option (List ℕ)) (run : RunValue) → Between begun script left b run
-      → IfSome left (λ rest. rest ≡ []) → Keeps left leaves → run.counts.lines ≡ 1000000 → Appends b c run.waits → Ended begun script leaves c run.counts
-  Ends_within script left leaves b c run between none kept many sent =
+  pub Ends_within : (script : List ℕ) (left leaves b c d : Option (List ℕ)) (run new : RunValue) (line : LineBufferValue) (counts : Counts) → Between begun script left b run
+      → IfSome left (λ rest. rest ≡ []) → Keeps left leaves → run.counts.lines ≡ 1000000 → line ≡ so_far []
+      → Closed (record run { line = line }) new b c counts → Appends c d new.waits → Ended begun script leaves d counts
+  Ends_within script left leaves b c d run new line counts between none kept many is closed sent =
       let rest = between.read.rest in
       let empty : rest ≡ [] = of_known left rest (λ (r : List ℕ). r ≡ []) between.read.left_is none in
       let whole : lines_of script ≡ between.lines = lines_left between.read ∙ ap (λ (r : List ℕ). between.lines ++ lines_of r) empty ∙ ap (λ (l : List (List ℕ)). between.lines ++ l) lines_of-nil ∙ append-nil between.lines in
-      all_ended script between.lines leaves b c run whole between.short (omega (arith, many, between.answered.lines_are))
-      (stays left leaves rest between.read.left_is kept ∙ ap Some empty) between.answered sent
+      let parts : parts_of script ≡ (between.lines, []) =
+      ap parts_of between.read.text_is ∙ ap (λ (r : List ℕ). parts_of (text_of between.lines ++ r)) empty ∙ parts-whole between.lines [] between.read.unbroken (All-nil (λ (x : ℕ). x ≢ 10)) in
+      let same = append-nil between.lines in
+      all_ended script b c run new between.lines line [] counts parts between.answered is leaves d (whole ∙ sym same)
+      (subst (λ (l : List (List ℕ)). All IsShort l) (sym same) between.short)
+      (omega (arith, many, between.answered.lines_are, ap length same))
+      (stays left leaves rest between.read.left_is kept ∙ ap Some empty) closed sent
 
 -- a run begins
 pub Begins_run : (run : RunValue) (region : RegionValue) (left written : Option (List ℕ)) → run ≡ new_run region

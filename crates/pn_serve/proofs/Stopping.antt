@@ -11,22 +11,23 @@ use Rattle.pn_line.specs.LinesRead.{LinesRead, PartRead}
 use Rattle.pn_line.specs.Reads.{Takes, IsUnbroken}
 use Rattle.pn_line.specs.Sent.{AppendsPrefix}
 use Rattle.pn_line.specs.Text.{lines_of, onto_first}
-use Rattle.pn_line.proofs.LinesReadLaws.{LinesRead-line, LinesRead-end, LinesRead-part}
+use Rattle.pn_line.proofs.LinesReadLaws.{LinesRead-line, LinesRead-part}
 use Rattle.pn_line.proofs.SentLaws.{Sends-flushed, Sends-cut, Sends-cut_flush, AppendsPrefix-more}
 use Rattle.pn_line.proofs.TextLaws.{lines_of-line, lines_of-byte, lines_of-text, lines_of-begun}
-use Rattle.pn_serve.specs.Machine.Outcomes.{Outcome, Machine, serving}
+use Rattle.pn_serve.specs.Machine.Outcomes.{Outcome, done, Machine, serving}
 use Rattle.pn_serve.specs.Machine.Turns.{turn, Answers}
 use Rattle.pn_serve.specs.Reply.Texts.{reply_text}
 use Rattle.pn_serve.specs.Runs.Ends.{Broken, Cut, Exceeded, Ends, IsAtBound, lines_within}
-use Rattle.pn_serve.specs.Runs.Served.{RunValue, Begun, Answered, AnsweredInPart, AllAnswered, Between}
+use Rattle.pn_serve.specs.Runs.Served.{RunValue, Begun, Answered, AnsweredInPart, Closed, ClosedInPart, AllAnswered, Between}
 use Rattle.pn_serve.specs.Runs.Turning.{TurnsTo}
 use Rattle.pn_serve.specs.declared.script.Counts.{Counts}
 use Rattle.pn_serve.specs.declared.script.RunFault.{RunFault}
 use Rattle.pn_serve.specs.declared.script.RunFault.TheVariants.{Write}
 use Rattle.pn_serve.specs.declared.script.turns.Next.{Next}
-use Rattle.pn_serve.specs.Script.Written.{replies_from, machine_after}
+use Rattle.pn_serve.specs.Script.Written.{replies_from, machine_after, end_of}
+use Rattle.pn_serve.specs.Script.Parts.{parts_of}
 use Rattle.pn_serve.proofs.LongLines.{answers_kept}
-use Rattle.pn_serve.proofs.Serving.{AllAnswered-line, replies_from-push, lines_left, one_line, stays, of_known}
+use Rattle.pn_serve.proofs.Serving.{AllAnswered-line, replies_from-push, lines_left, parts_left, parts_read, concluded, all_replies, all_sent, nothing_left, stays, of_known}
 use Rattle.pn_serve.proofs.Within.{within-million, within-endless, not_all}
 
 -- the replies to lines, and then to more of them
@@ -79,22 +80,24 @@ still {left = left} leaves read kept = record {
 module _ (begun : Begun) where
   -- a prefix of the replies to the first lines is one of the replies to all
   cut : (script : List ℕ) (leaves : Option (List ℕ)) (lines : List (List ℕ)) (part : List ℕ) → PartRead script leaves lines part
-      → (answered more : List (List ℕ)) (outcomes : List Outcome) (written : Option (List ℕ)) → lines_of script ≡ answered ++ more → length outcomes ≡ length answered
+      → (answered more : List (List ℕ)) (outcomes : List Outcome) (written : Option (List ℕ)) → (parts_of script).0 ≡ answered ++ more → length outcomes ≡ length answered
       → AppendsPrefix begun.written written (replies_from (serving begun.region) answered outcomes) → Cut begun script leaves written
   cut script leaves lines part read answered more outcomes written all same sent = record {
     lines = lines;
     part = part;
     read = read;
     outcomes = outcomes;
-    prefix = subst (λ (r : List ℕ). AppendsPrefix begun.written written r)
+    last = done;
+    prefix = AppendsPrefix-more (end_of begun.region script outcomes done).reply
+        (subst (λ (r : List ℕ). AppendsPrefix begun.written written r)
         (sym (replies_from-more (serving begun.region) answered outcomes more same) ∙ ap (λ (l : List (List ℕ)). replies_from (serving begun.region) l outcomes) (sym all))
-        (AppendsPrefix-more (replies_from (machine_after (serving begun.region) answered outcomes) more []) sent);
+        (AppendsPrefix-more (replies_from (machine_after (serving begun.region) answered outcomes) more []) sent));
   }
 
   -- the writer failed at the reply to a line
   cut_line : (script : List ℕ) (leaves : Option (List ℕ)) (read_lines : List (List ℕ)) (part : List ℕ) → PartRead script leaves read_lines part
       → (lines : List (List ℕ)) (taken : List ℕ) (more : List (List ℕ)) (b c : Option (List ℕ)) (run new : RunValue) (line : LineBufferValue)
-      → lines_of script ≡ lines ++ taken ∷ more → AllAnswered begun lines b run → line ≡ so_far taken → AnsweredInPart (record run { line = line }) new b c → Cut begun script leaves c
+      → (parts_of script).0 ≡ lines ++ taken ∷ more → AllAnswered begun lines b run → line ≡ so_far taken → AnsweredInPart (record run { line = line }) new b c → Cut begun script leaves c
   cut_line script leaves read_lines part read lines taken more b c run new line all is at answered =
       let from = serving begun.region in
       let turned : Answers run.machine taken new.machine answered.reply = answers_kept run.machine new.machine line taken answered.reply at answered.turned in
@@ -107,10 +110,24 @@ module _ (begun : Begun) where
       (omega (arith, is.paired, length_push is.outcomes turned.outcome, length_push lines taken))
       (subst (λ (r : List ℕ). AppendsPrefix begun.written c r) (sym said) (Sends-cut (reply_text answered.reply) is.sends answered.prefix))
 
+  -- the writer failed at the last reply
+  pub cut_closing : (script : List ℕ) (leaves b c : Option (List ℕ)) (run new : RunValue) (lines : List (List ℕ)) (line : LineBufferValue) (part : List ℕ) → PartRead script leaves lines part
+      → parts_of script ≡ (lines, part) → AllAnswered begun lines b run → line ≡ so_far part → ClosedInPart (record run { line = line }) new b c → Cut begun script leaves c
+  cut_closing script leaves b c run new lines line part read parts is here closed =
+      let turned = concluded begun script b c run new lines line part run.counts parts is here closed.reply closed.turned in record {
+        lines = lines;
+        part = part;
+        read = read;
+        outcomes = is.outcomes;
+        last = turned.outcome;
+        prefix = subst (λ (r : List ℕ). AppendsPrefix begun.written c r) (sym (all_replies begun script b c run new lines line part run.counts parts is here closed.reply turned))
+            (Sends-cut (reply_text closed.reply) is.sends closed.prefix);
+      }
+
   -- the writer failed between two lines, where what waited was to go out
   pub Cut_between : (script : List ℕ) (left b c : Option (List ℕ)) (run : RunValue) → Between begun script left b run → AppendsPrefix b c run.waits → Cut begun script left c
   Cut_between script left b c run between sent =
-      cut script left between.lines [] (no_part between.read) between.lines (lines_of between.read.rest) between.answered.outcomes c (lines_left between.read) between.answered.paired
+      cut script left between.lines [] (no_part between.read) between.lines (parts_of between.read.rest).0 between.answered.outcomes c (parts_left between.read) between.answered.paired
       (Sends-cut_flush between.answered.sends sent)
 
   -- the same behind a part of a line
@@ -118,7 +135,7 @@ module _ (begun : Begun) where
       → Takes (so_far []) line left leaves [] → AppendsPrefix b c run.waits → Cut begun script leaves c
   Cut_part script left leaves b c run line between takes sent =
       let (part, is, read) = LinesRead-part between.read takes in
-      cut script leaves between.lines part read between.lines (lines_of between.read.rest) between.answered.outcomes c (lines_left between.read) between.answered.paired
+      cut script leaves between.lines part read between.lines (parts_of between.read.rest).0 between.answered.outcomes c (parts_left between.read) between.answered.paired
       (Sends-cut_flush between.answered.sends sent)
 
   -- the writer failed at the reply to a line with its newline
@@ -126,28 +143,32 @@ module _ (begun : Begun) where
       → Takes (so_far []) line left leaves (10 ∷ []) → AnsweredInPart (record run { line = line }) new b c → Cut begun script leaves c
   Cut_line script left leaves b c run new line between takes answered =
       let (taken, is, read) = LinesRead-line between.read takes in
-      cut_line script leaves (between.lines ++ taken ∷ []) [] (no_part read) between.lines taken (lines_of read.rest) b c run new line
-      (lines_left read ∙ append_assoc between.lines (taken ∷ []) (lines_of read.rest)) between.answered is answered
+      cut_line script leaves (between.lines ++ taken ∷ []) [] (no_part read) between.lines taken (parts_of read.rest).0 b c run new line
+      (parts_left read ∙ append_assoc between.lines (taken ∷ []) (parts_of read.rest).0) between.answered is answered
 
-  -- the writer failed at the reply to the last line
-  pub Cut_last : (script : List ℕ) (left leaves b c : Option (List ℕ)) (run new : RunValue) (line : LineBufferValue) → Between begun script left b run
-      → Takes (so_far []) line left leaves [] → OnSome left (IsAtEnd leaves) → line.count ≢ 0 → AnsweredInPart (record run { line = line }) new b c → Cut begun script leaves c
-  Cut_last script left leaves b c run new line between takes end some answered =
-      let (part, same, read) = LinesRead-part between.read takes in
-      let (taken, is, all) = LinesRead-end leaves between.read takes end in
-      let full : length taken ≢ 0 = λ none. some (ap (λ (l : LineBufferValue). l.count) is ∙ none) in
-      cut_line script leaves between.lines part read between.lines taken [] b c run new line (all ∙ ap (λ (l : List (List ℕ)). between.lines ++ l) (one_line taken full)) between.answered is answered
+  -- the input is at its end behind a part of a line
+  module _ (script : List ℕ) (left leaves b c : Option (List ℕ)) (run new : RunValue) (line : LineBufferValue) (between : Between begun script left b run)
+    (takes : Takes (so_far []) line left leaves []) (end : OnSome left (IsAtEnd leaves)) where
+    -- and the writer failed at the last reply
+    pub Cut_last : ClosedInPart (record run { line = line }) new b c → Cut begun script leaves c
+    Cut_last closed =
+        let (part, is, read) = LinesRead-part between.read takes in
+        let gone = nothing_left left leaves _ _ between.read.left_is takes.source end in
+        cut_closing begun script leaves b c run new between.lines line part read (parts_read leaves read gone) between.answered is closed
 
-  -- the writer failed behind the reply to the last line
-  pub Cut_after : (script : List ℕ) (left leaves b c d : Option (List ℕ)) (run new : RunValue) (line : LineBufferValue) → Between begun script left b run
-      → Takes (so_far []) line left leaves [] → OnSome left (IsAtEnd leaves) → line.count ≢ 0 → Answered (record run { line = line }) new b c → AppendsPrefix c d new.waits → Cut begun script leaves d
-  Cut_after script left leaves b c d run new line between takes end some answered sent =
-      let (part, same, read) = LinesRead-part between.read takes in
-      let (taken, is, all) = LinesRead-end leaves between.read takes end in
-      let full : length taken ≢ 0 = λ none. some (ap (λ (l : LineBufferValue). l.count) is ∙ none) in
-      let whole : lines_of script ≡ (between.lines ++ taken ∷ []) ++ [] = all ∙ ap (λ (l : List (List ℕ)). between.lines ++ l) (one_line taken full) ∙ sym (append-nil (between.lines ++ taken ∷ [])) in
-      let answers = AllAnswered-line begun between.lines b c run new line taken between.answered is answered in
-      cut script leaves between.lines part read (between.lines ++ taken ∷ []) [] answers.outcomes d whole answers.paired (Sends-cut_flush answers.sends sent)
+    -- and the writer failed behind the last reply
+    pub Cut_after : (d : Option (List ℕ)) (counts : Counts) → Closed (record run { line = line }) new b c counts → AppendsPrefix c d new.waits → Cut begun script leaves d
+    Cut_after d counts closed sent =
+        let (part, is, read) = LinesRead-part between.read takes in
+        let gone = nothing_left left leaves _ _ between.read.left_is takes.source end in
+        let parts = parts_read leaves read gone in record {
+          lines = between.lines;
+          part = part;
+          read = read;
+          outcomes = between.answered.outcomes;
+          last = (concluded begun script b c run new between.lines line part counts parts between.answered is closed.reply closed.turned).outcome;
+          prefix = Sends-cut_flush (all_sent begun script b c run new between.lines line part counts parts between.answered is closed) sent;
+        }
 
   -- a read failed in a line
   pub Broken_in : (script : List ℕ) (left leaves b c : Option (List ℕ)) (run : RunValue) (line : LineBufferValue) → Between begun script left b run

@@ -2,7 +2,6 @@
 
 ghost use Rattle.std.specs.Prelude.{◌≡◌, ◌≤◌, [], ◌∷◌, length, Some, OnErr, IfOk, IfErr};
 ghost use Rattle.pn_json.specs.Answers.{IsUnless};
-ghost use Rattle.pn_line.specs.Line.{kept};
 ghost use Rattle.pn_region.specs.Recovery.{adopting};
 ghost use Rattle.pn_tablet.specs.CopyReading.{copy_at};
 ghost use Rattle.pn_serve.specs.Machine.Modes.{bytes_of, mode_of, with_mode};
@@ -14,6 +13,7 @@ ghost use Rattle.pn_serve.specs.Machine.Ways.{ComesTo, IsJoined, TellsBadText, T
 use crate::machine::Done;
 use crate::machine::lookups::not_taken;
 use crate::{Refusal, Reply, bad_text_reply, not_adopted_reply};
+use pn_line::MOST_KEPT;
 use pn_region::{AdoptFault, Region};
 use pn_tablet::{CopyTextFault, TabletCopy, read_copy};
 use std::alloc::Global;
@@ -41,7 +41,6 @@ impl Announced {
 
 /// A line that was announced: further ones are waited for, or the copy is adopted.
 pub(crate) fn go_on(alloc: Global, region: &mut Region, announced: Announced, line: &[u8]) -> Done
-    requires kept { kept line.now ≡ line.now }
     ensures { Answers (with_mode (Some announced) region.old) line.now (with_mode result.1 region.new) result.0 }
 {
     let Announced { left, text } = announced;
@@ -55,19 +54,19 @@ pub(crate) fn go_on(alloc: Global, region: &mut Region, announced: Announced, li
 
 /// The input ended behind this part of a line, though further lines were announced.
 pub(crate) fn finish(alloc: Global, region: &mut Region, announced: Announced, part: &[u8]) -> Reply
-    requires kept { kept part.now ≡ part.now }
     ensures { Concludes (with_mode (Some announced) region.old) part.now (serving region.new) result }
 {
     adopt(alloc, region, joined(announced.text, part, b""))
 }
 
-// The text that came, and then the line and its newline, if it has one. None where memory ran out.
+// The text that came, and then the line's first 65,537 bytes and its newline, if it has one. None where memory
+// ran out.
 fn joined(text: Option<Vec<u8>>, line: &[u8], newline: &[u8]) -> Option<Vec<u8>>
-    requires kept { kept line.now ≡ line.now }
     ensures { IsJoined (bytes_of text) line.now newline.now (bytes_of result) }
 {
     let mut text = text?;
-    text.extend_from_slice(line).ok()?;
+    let kept = line.len().min(MOST_KEPT);
+    text.extend_from_slice(&line[..kept]).ok()?;
     text.extend_from_slice(newline).ok()?;
     Some(text)
 }
