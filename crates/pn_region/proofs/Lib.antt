@@ -10,6 +10,7 @@ pub mod MarkLaws
 pub mod MarkSteps
 pub mod NeverBack
 pub mod NewRegion
+pub mod OneTablet
 pub mod Ordered
 pub mod PageWalks
 pub mod Pieces

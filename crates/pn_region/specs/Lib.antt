@@ -1,4 +1,6 @@
+pub mod Events
 pub mod Faith
+pub mod Held
 pub mod Honest
 pub mod Laws
 pub mod Limits

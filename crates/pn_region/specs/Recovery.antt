@@ -34,7 +34,7 @@ tablet_for region copy = position (λ state. same_range state.range copy.range) 
 
 -- what the copy lacks of what the tablet of this number needs
 abbrev pub lacks : RegionValue → TabletCopyValue → ℕ → Option Short
-lacks region copy tablet = option_and_then (slice_get region.tablets tablet) (λ state. lacking state.status copy.marks)
+lacks region copy tablet = option_and_then (λ state. lacking state.status copy.marks) (slice_get region.tablets tablet)
 
 -- the tablet takes the copy, unless that lacks something of what the tablet needs
 abbrev pub adopting_unless : RegionValue → TabletCopyValue → ℕ → Option Short → Result (ℕ × RegionValue) AdoptFault
