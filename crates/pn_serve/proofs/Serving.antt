@@ -194,7 +194,7 @@ module _ (begun : Begun) where
 
   -- the input is at its end behind a part of a line, and what was left to reply went out or waits
   module _ (script : List ℕ) (b c : Option (List ℕ)) (run new : RunValue) (lines : List (List ℕ)) (line : LineBufferValue) (part : List ℕ) (counts : Counts)
-    (parts : parts_of script ≡ (lines, part)) (is : AllAnswered begun lines b run) (here : line ≡ so_far part) where
+      (parts : parts_of script ≡ (lines, part)) (is : AllAnswered begun lines b run) (here : line ≡ so_far part) where
     -- what the part of the line came to
     pub concluded : (reply : Reply) → Concludes run.machine line.bytes new.machine reply → Concludes run.machine part new.machine reply
     concluded reply turned = concludes_kept run.machine new.machine line part reply here turned

@@ -148,7 +148,7 @@ module _ (begun : Begun) where
 
   -- the input is at its end behind a part of a line
   module _ (script : List ℕ) (left leaves b c : Option (List ℕ)) (run new : RunValue) (line : LineBufferValue) (between : Between begun script left b run)
-    (takes : Takes (so_far []) line left leaves []) (end : OnSome left (IsAtEnd leaves)) where
+      (takes : Takes (so_far []) line left leaves []) (end : OnSome left (IsAtEnd leaves)) where
     -- and the writer failed at the last reply
     pub Cut_last : ClosedInPart (record run { line = line }) new b c → Cut begun script leaves c
     Cut_last closed =

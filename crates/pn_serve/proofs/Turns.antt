@@ -25,53 +25,86 @@ use Rattle.pn_serve.specs.declared.refusal.Refusal.TheVariants.{Memory}
 use Rattle.pn_serve.specs.Command.Meaning.{CommandValue, deliver}
 use Rattle.pn_serve.specs.Command.Lines.{command_at, is_too_long}
 use Rattle.pn_serve.proofs.LongLines.{too_long}
-use Rattle.pn_serve.specs.Machine.Outcomes.{Outcome, Machine, done, line, round, Turn, serving, showing}
+use Rattle.pn_serve.specs.Machine.Outcomes.{Outcome, Machine, done, line, call, round, Turn, serving, refusing, showing}
 use Rattle.pn_serve.specs.Machine.PartRounds.{some_stepped, partly_marked}
-use Rattle.pn_serve.specs.Machine.Turns.{doing, delivering, looking, turn_of, Turned, Answers, Obeys, Refuses}
+use Rattle.pn_serve.specs.Machine.Doing.{delivering, looking}
+use Rattle.pn_serve.specs.Machine.Turns.{obeying, turn_of, outcome_at, turn, Turned, Answers, Obeys, Refuses}
 use Rattle.pn_serve.specs.Reply.Faults.{fault_data}
 use Rattle.pn_serve.specs.Reply.Short.{changed_data}
 use Rattle.pn_json.specs.Lines.{line_of}
 
+-- what memory that ran out in a call makes of a command
+abbrev pub RunsOut : RegionValue → CommandValue → Type 0
+RunsOut region command = obeying (serving region) call command ≡ refusing (serving region) Memory
+
 -- memory ran out, and nothing changed
-pub turned_line : (old new : RegionValue) (command : CommandValue) → new ≡ old → Obeys (serving old) command (serving new) (Refused Memory)
-turned_line old new command same = record { outcome = line; machine_is = ap serving (sym same); replied = refl; refused = refl }
+pub turned_call : (old new : RegionValue) (command : CommandValue) → RunsOut old command → new ≡ old → Obeys (serving old) command (serving new) (Refused Memory)
+turned_call old new command out same = record {
+  outcome = call;
+  machine_is = ap (λ (t : Turn). t.machine) out ∙ ap serving (sym same);
+  replied = ap (λ (t : Turn). t.reply) out;
+  refused = ap (λ (t : Turn). t.refused) out;
+}
 
--- the command that a line is was obeyed
-pub turned_said : (text : List ℕ) (command : CommandValue) (old new : Machine) (reply : Reply) → command_at text ≡ Ok command → Obeys old command new reply → Answers old text new reply
-turned_said text command old new reply said obeys =
-    subst (λ (said : Result CommandValue Refusal). Turned (λ outcome. turn_of old (if is_too_long text then done else outcome) said) new reply) (sym said)
-    (subst (λ (test : Bool). Turned (λ outcome. turn_of old (if test then done else outcome) (Ok command)) new reply) (sym (within text command said)) obeys)
-  where
-    within : (text : List ℕ) (command : CommandValue) → command_at text ≡ Ok command → is_too_long text ≡ false
-    within text command said = elim (cases_lt 65536 (length text)) [
-      | inl long ↦ absurd (let refused = too_long text long in cc)
-      | inr short ↦ grind (arith, nat_tests)
-    ]
+-- an outcome of a command is one of its line
+abbrev read_whole : Outcome → Outcome
+read_whole line = done
+read_whole outcome = outcome
 
--- memory ran out before a command was found, in a line that is not too long
-pub turned_unread : (text : List ℕ) (machine : Machine) → is_too_long text ≡ false → Answers machine text machine (Refused Memory)
-turned_unread text machine test =
-    subst (λ (test : Bool). Turned (λ outcome. turn_of machine (if test then done else outcome) (command_at text)) machine (Refused Memory)) (sym test)
-    (record { outcome = line; machine_is = refl; replied = refl; refused = refl })
+as_obeyed : (machine : Machine) (outcome : Outcome) (command : CommandValue) → turn_of machine (read_whole outcome) (Ok command) ≡ obeying machine outcome command
+as_obeyed machine done command = refl
+as_obeyed machine line command = refl
+as_obeyed machine call command = refl
+as_obeyed machine (round flags) command = refl
+
+-- a line that is a command is not too long
+pub within : (text : List ℕ) (command : CommandValue) → command_at text ≡ Ok command → is_too_long text ≡ false
+within text command said = elim (cases_lt 65536 (length text)) [
+  | inl long ↦ absurd (let refused = too_long text long in cc)
+  | inr short ↦ grind (arith, nat_tests)
+]
+
+-- a line that is not too long goes by its outcome
+pub as_it_goes : (outcome : Outcome) (text : List ℕ) → is_too_long text ≡ false → outcome_at outcome text ≡ outcome
+as_it_goes outcome text short = ap (λ (test : Bool). if test then done else outcome) short
 
 -- done is done, whatever the length
 pub as_said : (test : Bool) → (if test then done else done) ≡ done
 as_said true = refl
 as_said false = refl
 
+-- a turn that another is comes to the same
+pub turned_as : (turns others : Outcome → Turn) (machine : Machine) (reply : Reply) (is : Turned turns machine reply) (outcome : Outcome) → others outcome ≡ turns is.outcome → Turned others machine reply
+turned_as turns others machine reply is outcome same = record {
+  outcome = outcome;
+  machine_is = ap (λ (t : Turn). t.machine) same ∙ is.machine_is;
+  replied = ap (λ (t : Turn). t.reply) same ∙ is.replied;
+  refused = ap (λ (t : Turn). t.refused) same ∙ is.refused;
+}
+
+-- the command that a line is was obeyed
+pub turned_said : (text : List ℕ) (command : CommandValue) (old : RegionValue) (new : Machine) (reply : Reply) → command_at text ≡ Ok command → Obeys (serving old) command new reply → Answers (serving old) text new reply
+turned_said text command old new reply said obeys =
+    let outcome = read_whole obeys.outcome in
+    turned_as (λ outcome. obeying (serving old) outcome command) (λ outcome. turn (serving old) outcome text) new reply obeys outcome
+    (ap (λ (o : Outcome). turn_of (serving old) o (command_at text)) (as_it_goes outcome text (within text command said))
+    ∙ ap (turn_of (serving old) outcome) said ∙ as_obeyed (serving old) obeys.outcome command)
+
+-- memory ran out before a command was found, in a line that is not too long
+pub turned_unread : (text : List ℕ) (region : RegionValue) → is_too_long text ≡ false → Answers (serving region) text (serving region) (Refused Memory)
+turned_unread text region short =
+    let same : turn (serving region) line text ≡ refusing (serving region) Memory = ap (λ (o : Outcome). turn_of (serving region) o (command_at text)) (as_it_goes line text short) in
+    record { outcome = line; machine_is = ap (λ (t : Turn). t.machine) same; replied = ap (λ (t : Turn). t.reply) same; refused = ap (λ (t : Turn). t.refused) same }
+
 -- the line was refused
-pub turned_fault : (text : List ℕ) (machine : Machine) (refusal : Refusal) → command_at text ≡ Err refusal → Answers machine text machine (Refused refusal)
-turned_fault text machine refusal said =
-    subst (λ (said : Result CommandValue Refusal). Turned (λ outcome. turn_of machine (if is_too_long text then done else outcome) said) machine (Refused refusal)) (sym said)
-    (record {
-      outcome = done;
-      machine_is = ap (λ (outcome : Outcome). (turn_of machine outcome (Err refusal)).machine) (as_said (is_too_long text));
-      replied = ap (λ (outcome : Outcome). (turn_of machine outcome (Err refusal)).reply) (as_said (is_too_long text));
-      refused = ap (λ (outcome : Outcome). (turn_of machine outcome (Err refusal)).refused) (as_said (is_too_long text));
-    })
+pub turned_fault : (text : List ℕ) (region : RegionValue) (refusal : Refusal) → command_at text ≡ Err refusal → Answers (serving region) text (serving region) (Refused refusal)
+turned_fault text region refusal said =
+    let same : turn (serving region) done text ≡ refusing (serving region) refusal =
+    ap (λ (o : Outcome). turn_of (serving region) o (command_at text)) (as_said (is_too_long text)) ∙ ap (turn_of (serving region) done) said in
+    record { outcome = done; machine_is = ap (λ (t : Turn). t.machine) same; replied = ap (λ (t : Turn). t.reply) same; refused = ap (λ (t : Turn). t.refused) same }
 
 -- a text was shown, and nothing changed
-pub turned_text : (old new : RegionValue) (command : CommandValue) (reply : List ℕ) (text : Vec ℕ Global) → doing (serving old) command ≡ showing (serving old) reply → new ≡ old → text.items ≡ reply
+pub turned_text : (old new : RegionValue) (command : CommandValue) (reply : List ℕ) (text : Vec ℕ Global) → obeying (serving old) done command ≡ showing (serving old) reply → new ≡ old → text.items ≡ reply
     → Obeys (serving old) command (serving new) (Text text)
 turned_text old new command reply text shows same is = record {
   outcome = done;
@@ -81,22 +114,22 @@ turned_text old new command reply text shows same is = record {
 }
 
 -- a lookup of the region, and what is right for it
-module _ {A : Type 0} (region : RegionValue) (command : CommandValue) (show : A → Data) (right : Result A ScanFault) (does : doing (serving region) command ≡ looking (serving region) show right) where
+module _ {A : Type 0} (region : RegionValue) (command : CommandValue) (show : A → Data) (right : Result A ScanFault) (does : obeying (serving region) done command ≡ looking (serving region) show right) (out : RunsOut region command) where
   -- what it found was shown, or there was no memory for the text
   pub turned_found : {E : Type 0} (found : A) (text : Result (Vec ℕ Global) E) (reply : Reply) → right ≡ Ok found → IfOk text (λ t. t.items ≡ line_of (show found))
       → MatchResult text (λ t. reply ≡ Text t) (λ _. reply ≡ Refused Memory) → Obeys (serving region) command (serving region) reply
   turned_found found (Ok text) reply is says shown =
       subst (λ (r : Reply). Obeys (serving region) command (serving region) r) (sym shown) (turned_text region region command (line_of (show found)) text (does ∙ ap (looking (serving region) show) is) refl says)
   turned_found found (Err e) reply is says shown =
-      subst (λ (r : Reply). Obeys (serving region) command (serving region) r) (sym shown) (turned_line region region command refl)
+      subst (λ (r : Reply). Obeys (serving region) command (serving region) r) (sym shown) (turned_call region region command out refl)
 
   no_memory : (reply : Reply) → reply ≡ Refused Memory → Obeys (serving region) command (serving region) reply
-  no_memory reply is = subst (λ (r : Reply). Obeys (serving region) command (serving region) r) (sym is) (turned_line region region command refl)
+  no_memory reply is = subst (λ (r : Reply). Obeys (serving region) command (serving region) r) (sym is) (turned_call region region command out refl)
 
   -- it was refused
   pub turned_why : (fault : ScanFault) (reply : Reply) → (fault ≢ scan.Memory → right ≡ Err fault) → Refuses fault reply → Obeys (serving region) command (serving region) reply
   turned_why fault (NotTaken text) is (other, says) =
-      let all : doing (serving region) command ≡ looking (serving region) show (Err fault) = does ∙ ap (looking (serving region) show) (is other) in record {
+      let all : obeying (serving region) done command ≡ looking (serving region) show (Err fault) = does ∙ ap (looking (serving region) show) (is other) in record {
         outcome = done;
         machine_is = ap (λ (t : Turn). t.machine) all;
         replied = ap (λ (t : Turn). t.reply) all ∙ sym says;

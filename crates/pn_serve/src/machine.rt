@@ -2,11 +2,11 @@
 
 ghost use Rattle.std.specs.Prelude.{◌≡◌, ◌≤◌};
 ghost use Rattle.pn_apply.specs.Limits.{most_workers};
-ghost use Rattle.pn_serve.specs.Command.Lines.{command_at};
 ghost use Rattle.pn_serve.specs.Command.Meaning.{command_value, deliver as asking};
-ghost use Rattle.pn_serve.specs.Machine.Modes.{with_mode};
+ghost use Rattle.pn_serve.specs.Machine.Modes.{IsBegun, with_mode};
 ghost use Rattle.pn_serve.specs.Machine.Outcomes.{serving};
-ghost use Rattle.pn_serve.specs.Machine.Turns.{last_of, outcome_at, Turned, Answers, Concludes, Obeys};
+ghost use Rattle.pn_serve.specs.Machine.Turns.{Answers, Concludes, Obeys};
+ghost use Rattle.pn_serve.specs.Machine.Ways.{BeginsTo, Lasts};
 
 pub(crate) mod announced;
 mod lookups;
@@ -50,8 +50,18 @@ fn command(alloc: Global, region: &mut Region, workers: usize, line: &[u8]) -> D
     ensures { Answers (serving region.old) line.now (with_mode result.1 region.new) result.0 }
 {
     match command_of(alloc, line) {
-        Ok(command) => obey(alloc, region, workers, command),
+        Ok(command) => begun(alloc, obey(alloc, region, workers, command)),
         Err(refusal) => (Reply::Refused(refusal), None),
+    }
+}
+
+// The reply to a command, or the lines that it announces.
+fn begun(alloc: Global, begun: Begun) -> Done
+    ensures { IsBegun begun result.0 result.1 }
+{
+    match begun {
+        Begun::Obeyed(reply) => (reply, None),
+        Begun::Announces(lines) => (Reply::Silent, Some(Announced::new(alloc, lines))),
     }
 }
 
@@ -74,32 +84,43 @@ pub(crate) fn end(
     }
 }
 
-// A last line without newline, behind which no announced line stands.
+// A last line without newline. No line that it announces comes.
 fn last_command(alloc: Global, region: &mut Region, workers: usize, line: &[u8]) -> Reply
     requires workers { (1 ≤ workers) × (workers ≤ most_workers) }
-    ensures { Turned (λ outcome. last_of (serving region.old) (outcome_at outcome line.now) (command_at line.now)) (serving region.new) result }
+    ensures { Lasts region.old line.now region.new result }
 {
     match command_of(alloc, line) {
-        Ok(Command::Adopt { .. }) => adopt(alloc, region, Some(Vec::new(alloc))),
-        Ok(command) => obey(alloc, region, workers, command).0,
+        Ok(command) => match obey(alloc, region, workers, command) {
+            Begun::Obeyed(reply) => reply,
+            Begun::Announces(_) => adopt(alloc, region, Some(Vec::new(alloc))),
+        },
         Err(refusal) => Reply::Refused(refusal),
     }
 }
 
-fn obey(alloc: Global, region: &mut Region, workers: usize, command: Command) -> Done
+// What a command came to before the next line.
+#[derive(Drop)]
+enum Begun {
+    /// It was obeyed, with this reply.
+    Obeyed(Reply),
+    /// It announces so many lines.
+    Announces(u64),
+}
+
+fn obey(alloc: Global, region: &mut Region, workers: usize, command: Command) -> Begun
     requires workers { (1 ≤ workers) × (workers ≤ most_workers) }
-    ensures { Obeys (serving region.old) (command_value command) (with_mode result.1 region.new) result.0 }
+    ensures { BeginsTo region.old (command_value command) region.new result }
 {
     match command {
-        Command::Adopt { lines } => (Reply::Silent, Some(Announced::new(alloc, lines))),
-        Command::Copy { need, tablet } => (copy(alloc, region, &need, tablet), None),
-        Command::Deliver(deliveries) => (deliver(alloc, region, workers, deliveries), None),
-        Command::Get(keys) => (get(alloc, region, &keys), None),
-        Command::Lose { tablet } => (lose(region, tablet), None),
-        Command::Marks => (shown(marks_reply(alloc, region.marks())), None),
-        Command::Read { key, version } => (read(alloc, region, &key, version), None),
-        Command::Scan(query) => (scan(alloc, region, &query), None),
-        Command::Tablets => (shown(tablets_reply(alloc, region)), None),
+        Command::Adopt { lines } => Begun::Announces(lines),
+        Command::Copy { need, tablet } => Begun::Obeyed(copy(alloc, region, &need, tablet)),
+        Command::Deliver(deliveries) => Begun::Obeyed(deliver(alloc, region, workers, deliveries)),
+        Command::Get(keys) => Begun::Obeyed(get(alloc, region, &keys)),
+        Command::Lose { tablet } => Begun::Obeyed(lose(region, tablet)),
+        Command::Marks => Begun::Obeyed(shown(marks_reply(alloc, region.marks()))),
+        Command::Read { key, version } => Begun::Obeyed(read(alloc, region, &key, version)),
+        Command::Scan(query) => Begun::Obeyed(scan(alloc, region, &query)),
+        Command::Tablets => Begun::Obeyed(shown(tablets_reply(alloc, region))),
     }
 }
 

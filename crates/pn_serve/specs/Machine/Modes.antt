@@ -1,8 +1,12 @@
 -- The lines that a machine waits for, as its mode.
-use Rattle.std.specs.Prelude.{ℕ, List, Option, Some, None, Vec, option_map}
+use Rattle.std.specs.Prelude.{◌≡◌, ℕ, List, [], Option, Some, None, Vec, option_map}
 use Rattle.std.specs.declared.alloc.Global.{Global}
 use Rattle.pn_region.specs.Regions.{RegionValue}
 use Rattle.pn_serve.specs.declared.machine.announced.Announced.{Announced}
+use Rattle.pn_serve.specs.declared.machine.Begun.{Begun}
+use Rattle.pn_serve.specs.declared.machine.Begun.TheVariants.{Obeyed, Announces}
+use Rattle.pn_serve.specs.declared.reply.Reply.{Reply}
+use Rattle.pn_serve.specs.declared.reply.Reply.TheVariants.{Silent}
 use Rattle.pn_serve.specs.Machine.Outcomes.{Mode, idle, announced, Machine}
 
 -- the bytes of a text, if there is one
@@ -17,3 +21,8 @@ mode_of (Some lines) = announced lines.left (bytes_of lines.text)
 -- a machine that waits for this
 abbrev pub with_mode : Option Announced → RegionValue → Machine
 with_mode lines region = record { mode = mode_of lines; region = region }
+
+-- the reply to a command, or the lines that it announces
+abbrev pub IsBegun : Begun → Reply → Option Announced → Type 0
+IsBegun (Obeyed said) reply lines = (reply ≡ said) × (lines ≡ None)
+IsBegun (Announces count) reply lines = (reply ≡ Silent) × (mode_of lines ≡ announced count (Some []))

@@ -44,11 +44,16 @@ turn_in (announced left came) machine outcome text = announced_turn machine left
 abbrev pub turn : Machine → Outcome → List ℕ → Turn
 turn machine outcome text = turn_in machine.mode machine outcome text
 
--- what the last line does that says this, without newline. Behind an adoption there is no line
+-- what the last command does: behind an adoption there is no line
+abbrev pub obeying_last : Machine → Outcome → CommandValue → Turn
+obeying_last machine outcome (adopt lines) = adopting_text machine.region (unless_call outcome (Some []))
+obeying_last machine outcome command = obeying machine outcome command
+
+-- what the last line does that says this, without newline
 abbrev pub last_of : Machine → Outcome → Result CommandValue Refusal → Turn
 last_of machine line said = refusing machine Memory
-last_of machine outcome (Ok (adopt lines)) = adopting_text machine.region (unless_call outcome (Some []))
-last_of machine outcome said = turn_of machine outcome said
+last_of machine outcome (Ok command) = obeying_last machine outcome command
+last_of machine outcome (Err refusal) = refusing machine refusal
 
 -- what the end of the input does, behind this part of a line
 abbrev pub end_in : Mode → Machine → Outcome → List ℕ → Turn

@@ -12,7 +12,7 @@ use Rattle.pn_region.specs.declared.fault.RoundFault.{RoundFault}
 use Rattle.pn_serve.specs.declared.refusal.Refusal.{Refusal}
 use Rattle.pn_serve.specs.Command.Meaning.{CommandValue, deliver}
 use Rattle.pn_serve.specs.Command.Lines.{command_at}
-use Rattle.pn_serve.specs.Machine.Outcomes.{Outcome, done, round, Machine, serving}
+use Rattle.pn_serve.specs.Machine.Outcomes.{Outcome, done, round, Mode, idle, announced, Machine, serving}
 use Rattle.pn_serve.specs.Machine.Turns.{turn}
 use Rattle.pn_serve.specs.Script.Written.{first_outcome, later_outcomes}
 
@@ -26,10 +26,15 @@ abbrev pub accepted_images : List DeliveryValue → Result Positions RoundFault 
 accepted_images deliveries (Ok next) = all_images deliveries
 accepted_images deliveries (Err fault) = []
 
+-- the same by what the line is for: one that was announced is no command
+abbrev pub deliveries_in : Mode → List ℕ → List DeliveryValue
+deliveries_in idle text = deliveries_asked (command_at text)
+deliveries_in (announced left came) text = []
+
 -- the images that a line brings to a machine, where its round is not refused
 abbrev pub images_brought : Machine → List ℕ → List Image
 images_brought machine text =
-    let deliveries = deliveries_asked (command_at text) in accepted_images deliveries (new_marks machine.region.marks deliveries)
+    let deliveries = deliveries_in machine.mode text in accepted_images deliveries (new_marks machine.region.marks deliveries)
 
 -- the images that a line took: those of an accepted round
 abbrev pub images_taken : Machine → Outcome → List ℕ → List Image

@@ -1,7 +1,7 @@
 -- Each line read and answered goes on from what was served.
 use Rattle.std.proofs.Common.{refl, sym, subst, ap}
 use Rattle.pn_serve.specs.Runs.Served.{Served}
-use Rattle.pn_serve.proofs.Serving.{OnTold, Goes_on, Flushes, Ends_after, Ends_in}
+use Rattle.pn_serve.proofs.Serving.{OnTold, Goes_on, Flushes, Ends_closed}
 use Rattle.pn_serve.proofs.Stopping.{Turn_write, Cut_between, Cut_part, Cut_line, Cut_last, Cut_after, Broken_in, Exceeded_bytes}
 use Rattle.pn_serve.proofs.script.turns.Run.turn.Goals as goal
 
@@ -44,46 +44,30 @@ returns-else-not-more-clause-turns g c begun served =
     let ends = c.in-Ok.ensures.below (λ endless. let newline = c.in-Newline.is in cc) in
     OnTold _ _ _ (λ script between. Goes_on begun script _ _ _ _ _ _ _ between takes ends c.in_ok-answer_line-in-Newline.ensures.ok) (subst (Served begun _ _) (sym c.self.view_is) served)
 
+pub returns-in_err-close-clause-turns : goal.returns-in_err-close-clause-turns
+returns-in_err-close-clause-turns g c begun served =
+    let takes = rw (c.in-EndOfInput.is, c.start.ensures) at c.in-Ok.ensures.takes in
+    let end = c.in-Ok.ensures.end c.in-EndOfInput.is in
+    Turn_write begun _ _ _ _ c.from_residual-in_err-close.ensures.1
+    (OnTold _ _ _ (λ script between. Cut_last begun script _ _ _ _ _ _ _ between takes end c.in_err-close.ensures.err) (subst (Served begun _ _) (sym c.self.view_is) served))
+
 pub returns-in_err-flush-in-EndOfInput-clause-turns :
     goal.returns-in_err-flush-in-EndOfInput-clause-turns
 returns-in_err-flush-in-EndOfInput-clause-turns g c begun served =
     let takes = rw (c.in-EndOfInput.is, c.start.ensures) at c.in-Ok.ensures.takes in
+    let end = c.in-Ok.ensures.end c.in-EndOfInput.is in
+    let sent = rw (ap (λ r. r.waits) c.self-in-EndOfInput.view_is) at c.in_err-flush-in-EndOfInput.ensures.err in
     Turn_write begun _ _ _ _ c.from_residual-in_err-flush-in-EndOfInput.ensures.1
-    (OnTold _ _ _ (λ script between. Cut_part begun script _ _ _ _ _ _ between takes c.in_err-flush-in-EndOfInput.ensures.err) (subst (Served begun _ _) (sym c.self.view_is) served))
+    (OnTold _ _ _ (λ script between. Cut_after begun script _ _ _ _ _ _ _ between takes end _ _ c.in_ok-close.ensures.ok sent) (subst (Served begun _ _) (sym c.self.view_is) served))
 
-pub returns-then-is_empty-clause-turns : goal.returns-then-is_empty-clause-turns
-returns-then-is_empty-clause-turns g c begun served =
-    let takes = rw (c.in-EndOfInput.is, c.start.ensures) at c.in-Ok.ensures.takes in
-    let end = c.in-Ok.ensures.end c.in-EndOfInput.is in
-    let few = rw (sym c.self.view_is) at c.requires.few in
-    OnTold _ _ _ (λ script between. Ends_after begun script _ _ _ _ _ _ between takes end (c.is_empty.ensures.0 c.if-is_empty.true) few c.in_ok-flush-in-EndOfInput.ensures.ok) (subst (Served begun _ _) (sym c.self.view_is) served)
-
-pub returns-in_err-answer_line-in-EndOfInput-clause-turns :
-    goal.returns-in_err-answer_line-in-EndOfInput-clause-turns
-returns-in_err-answer_line-in-EndOfInput-clause-turns g c begun served =
-    let takes = rw (c.in-EndOfInput.is, c.start.ensures) at c.in-Ok.ensures.takes in
-    let end = c.in-Ok.ensures.end c.in-EndOfInput.is in
-    Turn_write begun _ _ _ _ c.from_residual-in_err-answer_line-in-EndOfInput.ensures.1
-    (OnTold _ _ _ (λ script between. Cut_last begun script _ _ _ _ _ _ _ between takes end (λ none. let full = c.is_empty.ensures.1 none in cc) c.in_err-answer_line-in-EndOfInput.ensures.err) (subst (Served begun _ _) (sym c.self.view_is) served))
-
-pub returns-in_err-flush-in-EndOfInput-2-clause-turns :
-    goal.returns-in_err-flush-in-EndOfInput-2-clause-turns
-returns-in_err-flush-in-EndOfInput-2-clause-turns g c begun served =
-    let takes = rw (c.in-EndOfInput.is, c.start.ensures) at c.in-Ok.ensures.takes in
-    let end = c.in-Ok.ensures.end c.in-EndOfInput.is in
-    let sent = rw (ap (λ r. r.waits) c.self-in-EndOfInput.view_is) at c.in_err-flush-in-EndOfInput-2.ensures.err in
-    Turn_write begun _ _ _ _ c.from_residual-in_err-flush-in-EndOfInput-2.ensures.1
-    (OnTold _ _ _ (λ script between. Cut_after begun script _ _ _ _ _ _ _ _ between takes end (λ none. let full = c.is_empty.ensures.1 none in cc) c.in_ok-answer_line-in-EndOfInput.ensures.ok sent) (subst (Served begun _ _) (sym c.self.view_is) served))
-
-pub returns-in_ok-flush-in-EndOfInput-2-clause-turns :
-    goal.returns-in_ok-flush-in-EndOfInput-2-clause-turns
-returns-in_ok-flush-in-EndOfInput-2-clause-turns g c begun served =
+pub returns-in_ok-flush-in-EndOfInput-clause-turns : goal.returns-in_ok-flush-in-EndOfInput-clause-turns
+returns-in_ok-flush-in-EndOfInput-clause-turns g c begun served =
     let takes = rw (c.in-EndOfInput.is, c.start.ensures) at c.in-Ok.ensures.takes in
     let end = c.in-Ok.ensures.end c.in-EndOfInput.is in
     let ends = c.in-Ok.ensures.below (λ endless. let last = c.in-EndOfInput.is in cc) in
     let few = rw (sym c.self.view_is) at c.requires.few in
-    let answered = rw (sym c.self-in-EndOfInput.view_is) at c.in_ok-answer_line-in-EndOfInput.ensures.ok in
-    OnTold _ _ _ (λ script between. Ends_in begun script _ _ _ _ _ _ _ _ between takes end (λ none. let full = c.is_empty.ensures.1 none in cc) ends few answered c.in_ok-flush-in-EndOfInput-2.ensures.ok) (subst (Served begun _ _) (sym c.self.view_is) served)
+    let closed = rw (sym c.self-in-EndOfInput.view_is) at c.in_ok-close.ensures.ok in
+    OnTold _ _ _ (λ script between. Ends_closed begun script _ _ _ _ _ _ _ _ _ between takes end ends few closed c.in_ok-flush-in-EndOfInput.ensures.ok) (subst (Served begun _ _) (sym c.self.view_is) served)
 
 pub returns-in_err-flush-in-Endless-clause-turns :
     goal.returns-in_err-flush-in-Endless-clause-turns
