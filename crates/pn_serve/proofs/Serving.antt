@@ -111,6 +111,11 @@ lines_in {lines = lines} {part = part} left read gone =
 pub parts_left : {text : List ℕ} {left : Option (List ℕ)} {lines : List (List ℕ)} → (read : LinesRead text left lines) → (parts_of text).0 ≡ lines ++ (parts_of read.rest).0
 parts_left {lines = lines} read = ap (λ (t : List ℕ). (parts_of t).0) read.text_is ∙ ap (λ (p : List (List ℕ) × List ℕ). p.0) (parts-text lines read.rest read.unbroken)
 
+-- the parts of a text of which all lines were read
+pub parts_end : {text : List ℕ} {left : Option (List ℕ)} {lines : List (List ℕ)} → (read : LinesRead text left lines) → read.rest ≡ [] → parts_of text ≡ (lines, [])
+parts_end {lines = lines} read empty =
+    ap parts_of read.text_is ∙ ap (λ (r : List ℕ). parts_of (text_of lines ++ r)) empty ∙ parts-whole lines [] read.unbroken (All-nil (λ (x : ℕ). x ≢ 10))
+
 part_count : (part : List ℕ) → length (last_line part) ≡ one_if (nat_lt 0 (length part))
 part_count [] = refl
 part_count (b ∷ part) = refl
@@ -257,8 +262,7 @@ module _ (begun : Begun) where
       let rest = between.read.rest in
       let empty : rest ≡ [] = of_known left rest (λ (r : List ℕ). r ≡ []) between.read.left_is none in
       let whole : lines_of script ≡ between.lines = lines_left between.read ∙ ap (λ (r : List ℕ). between.lines ++ lines_of r) empty ∙ ap (λ (l : List (List ℕ)). between.lines ++ l) lines_of-nil ∙ append-nil between.lines in
-      let parts : parts_of script ≡ (between.lines, []) =
-      ap parts_of between.read.text_is ∙ ap (λ (r : List ℕ). parts_of (text_of between.lines ++ r)) empty ∙ parts-whole between.lines [] between.read.unbroken (All-nil (λ (x : ℕ). x ≢ 10)) in
+      let parts = parts_end between.read empty in
       let same = append-nil between.lines in
       all_ended script b c run new between.lines line [] counts parts between.answered is leaves d (whole ∙ sym same)
       (subst (λ (l : List (List ℕ)). All IsShort l) (sym same) between.short)

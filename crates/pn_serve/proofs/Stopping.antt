@@ -27,7 +27,7 @@ use Rattle.pn_serve.specs.declared.script.turns.Next.{Next}
 use Rattle.pn_serve.specs.Script.Written.{replies_from, machine_after, end_of}
 use Rattle.pn_serve.specs.Script.Parts.{parts_of}
 use Rattle.pn_serve.proofs.LongLines.{answers_kept}
-use Rattle.pn_serve.proofs.Serving.{AllAnswered-line, replies_from-push, lines_left, parts_left, parts_read, concluded, all_replies, all_sent, nothing_left, stays, of_known}
+use Rattle.pn_serve.proofs.Serving.{AllAnswered-line, replies_from-push, lines_left, parts_left, parts_read, parts_end, concluded, all_replies, all_sent, nothing_left, stays, of_known}
 use Rattle.pn_serve.proofs.Within.{within-million, within-endless, not_all}
 
 -- the replies to lines, and then to more of them
@@ -154,7 +154,7 @@ module _ (begun : Begun) where
     Cut_last closed =
         let (part, is, read) = LinesRead-part between.read takes in
         let gone = nothing_left left leaves _ _ between.read.left_is takes.source end in
-        cut_closing begun script leaves b c run new between.lines line part read (parts_read leaves read gone) between.answered is closed
+        cut_closing script leaves b c run new between.lines line part read (parts_read leaves read gone) between.answered is closed
 
     -- and the writer failed behind the last reply
     pub Cut_after : (d : Option (List ℕ)) (counts : Counts) → Closed (record run { line = line }) new b c counts → AppendsPrefix c d new.waits → Cut begun script leaves d
@@ -169,6 +169,27 @@ module _ (begun : Begun) where
           last = (concluded begun script b c run new between.lines line part counts parts between.answered is closed.reply closed.turned).outcome;
           prefix = Sends-cut_flush (all_sent begun script b c run new between.lines line part counts parts between.answered is closed) sent;
         }
+
+  -- nothing is left behind the last line that may be answered
+  module _ (script : List ℕ) (left leaves b c : Option (List ℕ)) (run new : RunValue) (line : LineBufferValue) (between : Between begun script left b run)
+      (none : IfSome left (λ rest. rest ≡ [])) (kept : Keeps left leaves) (is : line ≡ so_far []) where
+    nothing : parts_of script ≡ (between.lines, [])
+    nothing = parts_end between.read (of_known left between.read.rest (λ (r : List ℕ). r ≡ []) between.read.left_is none)
+
+    -- and the writer failed at the last reply
+    pub Cut_finish : ClosedInPart (record run { line = line }) new b c → Cut begun script leaves c
+    Cut_finish closed = cut_closing script leaves b c run new between.lines line [] (no_part (still leaves between.read kept)) nothing between.answered is closed
+
+    -- and the writer failed behind the last reply
+    pub Cut_finished : (d : Option (List ℕ)) (counts : Counts) → Closed (record run { line = line }) new b c counts → AppendsPrefix c d new.waits → Cut begun script leaves d
+    Cut_finished d counts closed sent = record {
+      lines = between.lines;
+      part = [];
+      read = no_part (still leaves between.read kept);
+      outcomes = between.answered.outcomes;
+      last = (concluded begun script b c run new between.lines line [] counts nothing between.answered is closed.reply closed.turned).outcome;
+      prefix = Sends-cut_flush (all_sent begun script b c run new between.lines line [] counts nothing between.answered is closed) sent;
+    }
 
   -- a read failed in a line
   pub Broken_in : (script : List ℕ) (left leaves b c : Option (List ℕ)) (run : RunValue) (line : LineBufferValue) → Between begun script left b run

@@ -16,7 +16,7 @@ use pn_scan::Query;
 use pn_stream::Delivery;
 
 /// What a line asks for.
-#[derive(Debug, Drop)]
+#[derive(Drop)]
 pub enum Command {
     /// Adopt the copy of a tablet whose text the next lines are, 1 to 1,000,000 of them.
     Adopt { lines: u64 },

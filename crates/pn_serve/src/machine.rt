@@ -50,13 +50,13 @@ fn command(alloc: Global, region: &mut Region, workers: usize, line: &[u8]) -> D
     ensures { Answers (serving region.old) line.now (with_mode result.1 region.new) result.0 }
 {
     match command_of(alloc, line) {
-        Ok(command) => begun(alloc, obey(alloc, region, workers, command)),
+        Ok(command) => announce(alloc, obey(alloc, region, workers, command)),
         Err(refusal) => (Reply::Refused(refusal), None),
     }
 }
 
 // The reply to a command, or the lines that it announces.
-fn begun(alloc: Global, begun: Begun) -> Done
+fn announce(alloc: Global, begun: Begun) -> Done
     ensures { IsBegun begun result.0 result.1 }
 {
     match begun {

@@ -1,5 +1,5 @@
 -- What parts of a turn come to: as they say, or out of memory.
-use Rattle.std.specs.Prelude.{◌≡◌, ◌≢◌, ◌⊎◌, ℕ, List, Option}
+use Rattle.std.specs.Prelude.{◌≡◌, ◌≢◌, ◌⊎◌, ◌==◌, Bool, ℕ, List, Option}
 use Rattle.serde_json.specs.Data.{Data}
 use Rattle.pn_json.specs.Lines.{line_of}
 use Rattle.pn_tablet.specs.Copies.{TabletCopyValue}
@@ -37,6 +37,10 @@ TellsBadText fault reply = Tells (fault ≢ text.Memory) (bad_text_data fault) r
 
 abbrev pub TellsNotAdopted : AdoptFault → Reply → Type 0
 TellsNotAdopted fault reply = Tells (fault ≢ adoption.Memory) (not_adopted_data fault) reply
+
+-- the byte that ends a line
+abbrev pub is_newline : ℕ → Bool
+is_newline b = b == 10
 
 -- the reply is the copy, or that memory ran out
 abbrev pub ShowsCopy : TabletCopyValue → Reply → Type 0

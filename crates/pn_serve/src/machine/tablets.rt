@@ -1,12 +1,11 @@
 //! What losses and copies of tablets are answered.
 
-ghost use Rattle.std.specs.Prelude.{◌≡◌, ℕ, List, All, length};
-ghost use Rattle.pn_line.specs.Text.{lines_of, text_of};
-ghost use Rattle.pn_line.specs.Reads.{IsUnbroken};
+ghost use Rattle.std.specs.Prelude.{◌≡◌};
+ghost use Rattle.std.specs.List.{count_by};
 ghost use Rattle.pn_serve.specs.Command.Meaning.{copy as copy_asked, lose as lose_asked};
 ghost use Rattle.pn_serve.specs.Machine.Outcomes.{serving};
 ghost use Rattle.pn_serve.specs.Machine.Turns.{Obeys};
-ghost use Rattle.pn_serve.specs.Machine.Ways.{ShowsCopy, TellsNoCopy};
+ghost use Rattle.pn_serve.specs.Machine.Ways.{ShowsCopy, TellsNoCopy, is_newline};
 
 use crate::machine::lookups::not_taken;
 use crate::{Part, Refusal, Reply, no_copy_reply};
@@ -43,7 +42,7 @@ fn copied(alloc: Global, copy: &TabletCopy) -> Reply
 {
     match write_copy(alloc, copy) {
         Ok(text) => Reply::Copied {
-            lines: line_count(&text),
+            lines: line_count(text.as_bytes()) as u64,
             text,
         },
         Err(_) => Reply::Refused(Refusal::Memory),
@@ -51,11 +50,11 @@ fn copied(alloc: Global, copy: &TabletCopy) -> Reply
 }
 
 // How many lines the text has, each of which ends in a newline.
-fn line_count(text: &str) -> u64
-    ensures { (lines : List (List ℕ)) → text.now ≡ text_of lines → All IsUnbroken lines → result ≡ length (lines_of text.now) }
+fn line_count(text: &[u8]) -> usize
+    ensures { result ≡ count_by is_newline text.now }
 {
     let mut count = 0;
-    for byte in text.as_bytes() {
+    for byte in text {
         if *byte == b'\n' {
             count += 1;
         }

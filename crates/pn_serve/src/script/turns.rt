@@ -128,15 +128,10 @@ impl Run {
         ensures err { OnErr result (AnsweredInPart self.old self.new (W.contents output.old) (W.contents output.new)) }
         ensures fault { OnErr result W.may_fail }
     {
-        let announced = self.announced.take();
+        let waiting = self.announced.take();
         let line = self.line.bytes();
-        let (reply, announced) = answer(
-            self.alloc,
-            &mut self.region,
-            self.workers,
-            announced,
-            line,
-        );
+        let done = answer(self.alloc, &mut self.region, self.workers, waiting, line);
+        let (reply, announced) = done;
         self.announced = announced;
         self.counts.lines += 1;
         count_refused(&mut self.counts, &reply);

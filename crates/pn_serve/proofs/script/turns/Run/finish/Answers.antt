@@ -1,13 +1,13 @@
 -- What is left where no more lines may be answered.
-use Rattle.std.proofs.Common.{Bool, Ok, ap, sym, subst}
+use Rattle.std.proofs.Common.{Bool, Ok, ap, refl, sym, subst}
 use Rattle.pn_serve.specs.Runs.Served.{Served}
-use Rattle.pn_serve.proofs.Serving.{OnTold, Ends_within}
-use Rattle.pn_serve.proofs.Stopping.{Run_write, Cut_between, Broken_after, Exceeded_lines}
+use Rattle.pn_serve.proofs.Serving.{OnTold, Flushes, Ends_within}
+use Rattle.pn_serve.proofs.Stopping.{Run_write, Cut_between, Cut_finish, Cut_finished, Broken_after, Exceeded_lines}
 use Rattle.pn_serve.proofs.script.turns.Run.finish.Goals as goal
 
 pub returns-in_err-flush-clause-ends : goal.returns-in_err-flush-clause-ends
 returns-in_err-flush-clause-ends g c begun served =
-    Run_write begun _ _ _ c.from_residual.ensures.1
+    Run_write begun _ _ _ c.from_residual-in_err-flush.ensures.1
     (OnTold _ _ _ (λ script between. Cut_between begun script _ _ _ _ between c.in_err-flush.ensures.err) (subst (Served begun _ _) (sym c.self.view_is) served))
 
 pub returns-in_default-clause-ends : goal.returns-in_default-clause-ends
@@ -18,8 +18,3 @@ pub returns-then-more-clause-ends : goal.returns-then-more-clause-ends
 returns-then-more-clause-ends g c begun served =
     let many = rw (sym c.self.view_is) at c.requires.all in
     OnTold _ _ _ (λ script between. Exceeded_lines begun script _ _ _ _ _ between (c.in-Ok.ensures.more (ap (λ (more : Bool). Ok more) c.if-more.true)) c.has_more.ensures.kept many c.in_ok-flush.ensures.ok) (subst (Served begun _ _) (sym c.self.view_is) served)
-
-pub returns-clause-ends : goal.returns-clause-ends
-returns-clause-ends g c begun served =
-    let many = rw (sym c.self.view_is) at c.requires.all in
-    OnTold _ _ _ (λ script between. Ends_within begun script _ _ _ _ _ between (c.in-Ok.ensures.end (ap (λ (more : Bool). Ok more) c.if-more.false)) c.has_more.ensures.kept many c.in_ok-flush.ensures.ok) (subst (Served begun _ _) (sym c.self.view_is) served)
