@@ -14,6 +14,8 @@ mod out_of_memory;
 #[cfg(test)]
 mod readers;
 #[cfg(test)]
+mod recovery;
+#[cfg(test)]
 mod row;
 #[cfg(test)]
 mod rows;

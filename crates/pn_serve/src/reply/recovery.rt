@@ -98,7 +98,7 @@ pub fn not_adopted_reply(alloc: Global, fault: &AdoptFault) -> Result<Vec<u8>, N
 
 // An error of this name, with what it says of itself.
 fn error_reply(alloc: Global, name: &str, about: About<'_>) -> Result<Vec<u8>, NoMemory>
-    ensures { IfOk result (λ text. text.items ≡ line_of (error_data name.now (about_members about))) }
+    ensures { IfOk result (λ text. text.items ≡ line_of (error_data name.now (about_members about.entry))) }
 {
     let mut writer = begin_line(alloc)?;
     write_error_about(&mut writer, name, about)?;
@@ -106,7 +106,7 @@ fn error_reply(alloc: Global, name: &str, about: About<'_>) -> Result<Vec<u8>, N
 }
 
 fn write_error_about(writer: &mut Writer, name: &str, about: About<'_>) -> Result<(), NoMemory>
-    ensures { OnOk result (Appends writer.old writer.new (value_tokens (error_data name.now (about_members about)))) }
+    ensures { OnOk result (Appends writer.old writer.new (value_tokens (error_data name.now (about_members about.entry)))) }
 {
     writer.begin_object()?;
     write_error(writer, name)?;
@@ -116,7 +116,7 @@ fn write_error_about(writer: &mut Writer, name: &str, about: About<'_>) -> Resul
 }
 
 fn write_about(writer: &mut Writer, about: About<'_>) -> Result<(), NoMemory>
-    ensures { OnOk result (Appends writer.old writer.new (about_tokens about)) }
+    ensures { OnOk result (Appends writer.old writer.new (about_tokens about.entry)) }
 {
     match about {
         About::Nothing => Ok(()),

@@ -12,8 +12,11 @@ const DELIVER: &[u8] =
 // A command in words: its name, and what it has.
 fn told(alloc: Global, line: &[u8]) -> Result<String, Fail> {
     match command_of(alloc, line)? {
+        Command::Adopt { lines } => Ok(format!(in alloc; "adopt {lines}")?),
+        Command::Copy { need, tablet } => Ok(format!(in alloc; "copy {} {tablet}", need.len())?),
         Command::Deliver(deliveries) => told_deliveries(alloc, &deliveries),
         Command::Get(keys) => told_keys(alloc, &keys),
+        Command::Lose { tablet } => Ok(format!(in alloc; "lose {tablet}")?),
         Command::Read { key, version } => told_read(alloc, &key, version),
         Command::Scan(query) => Ok(format!(in alloc; "scan {}", query.limit())?),
         Command::Marks => Ok(String::from_str(alloc, "marks")?),
@@ -53,7 +56,12 @@ fn told_deliveries(alloc: Global, deliveries: &[Delivery]) -> Result<String, Fai
 
 #[test]
 fn commands_are_read(rt: HostRuntime) -> Result<(), Fail> {
-    let lines: [(&[u8], &str); 9] = [
+    let lines: [(&[u8], &str); 14] = [
+        (br#"{"do":"adopt","lines":1000000}"#, "adopt 1000000"),
+        (br#"{"do":"copy","tablet":0}"#, "copy 0 0"),
+        (br#"{"do":"copy","need":null,"tablet":0}"#, "copy 0 0"),
+        (br#"{"do":"copy","need":{"east":5},"tablet":3}"#, "copy 1 3"),
+        (br#"{"do":"lose","tablet":7}"#, "lose 7"),
         (DELIVER, "deliver east 1:k"),
         (br#"{"do":"get","keys":["k","z","k"]}"#, "get k z k"),
         (br#"{"do":"read","key":"k"}"#, "read k"),
@@ -72,7 +80,27 @@ fn commands_are_read(rt: HostRuntime) -> Result<(), Fail> {
 
 #[test]
 fn names_the_first_fault(rt: HostRuntime) -> Result<(), Fail> {
-    let lines: [(&[u8], Refusal); 19] = [
+    let lines: [(&[u8], Refusal); 24] = [
+        (
+            br#"{"do":"adopt","lines":-1}"#,
+            Refusal::BadShape(Part::Lines),
+        ),
+        (
+            br#"{"do":"adopt","lines":0}"#,
+            Refusal::OutOfRange(Part::Lines),
+        ),
+        (
+            br#"{"do":"copy","need":{"east":"5"},"tablet":"0"}"#,
+            Refusal::BadShape(Part::Need),
+        ),
+        (
+            br#"{"do":"copy","need":{"EAST":5},"tablet":"0"}"#,
+            Refusal::BadShape(Part::Tablet),
+        ),
+        (
+            br#"{"do":"copy","need":{"EAST":5},"tablet":0}"#,
+            Refusal::OutOfRange(Part::Need),
+        ),
         (br#""#, Refusal::NotJson),
         (br#"[]"#, Refusal::BadShape(Part::Whole)),
         (br#"{"do":"fly"}"#, Refusal::BadShape(Part::Do)),

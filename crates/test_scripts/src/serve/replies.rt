@@ -2,13 +2,15 @@
 use pn_apply::Open;
 use pn_join::Name;
 use pn_record::{KeyFault, Member, Version, read_image};
-use pn_region::{Region, RoundFault};
+use pn_region::{AdoptFault, Region, RoundFault};
 use pn_scan::{Query, QueryFault, ScanFault};
 use pn_serve::{
-    Part, Refusal, ShortReply, changed_reply, fault_reply, refusal_reply, refused_reply, scan_reply,
+    Part, Refusal, ShortReply, adopted_reply, bad_text_reply, changed_reply, fault_reply,
+    lines_reply, lost_reply, no_copy_reply, not_adopted_reply, refusal_reply, refused_reply,
+    scan_reply,
 };
 use pn_stream::Delivery;
-use pn_tablet::Layout;
+use pn_tablet::{CopyFault, CopyTextFault, Layout};
 use std::alloc::Global;
 use std::process::Abort;
 use std::test::Fail;
@@ -91,6 +93,34 @@ fn a_delivery_says_what_it_changed(rt: HostRuntime) {
         &changed_reply(u64::MAX),
         "{\"changed\":18446744073709551615}\n",
     );
+}
+
+#[test]
+fn losses_copies_and_adoptions_say_numbers(rt: HostRuntime) {
+    assert_line(&rt, &adopted_reply(0), "{\"adopted\":0}\n");
+    assert_line(&rt, &lost_reply(63), "{\"lost\":63}\n");
+    assert_line(&rt, &lines_reply(8), "{\"lines\":8}\n");
+}
+
+#[test]
+fn refused_copies_and_adoptions_say_why(rt: HostRuntime) -> Result<(), Fail> {
+    let alloc = rt.alloc();
+    let stream = Name::read(b"east")?;
+    let reply = no_copy_reply(alloc, 3, &CopyFault::Recovering)?;
+    let want = "{\"error\":\"recovering\",\"tablet\":3}\n";
+    assert_eq!(rt; reply.as_slice(), want.as_bytes());
+    let fault = AdoptFault::TooOld {
+        stream,
+        has: 4,
+        needs: 5,
+    };
+    let reply = not_adopted_reply(alloc, &fault)?;
+    let want = "{\"error\":\"too-old\",\"has\":4,\"needs\":5,\"stream\":\"east\"}\n";
+    assert_eq!(rt; reply.as_slice(), want.as_bytes());
+    let reply = bad_text_reply(alloc, &CopyTextFault::NotRising(5))?;
+    let want = "{\"error\":\"not-rising\",\"line\":5}\n";
+    assert_eq!(rt; reply.as_slice(), want.as_bytes());
+    Ok(())
 }
 
 #[test]
