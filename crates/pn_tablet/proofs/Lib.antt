@@ -1,6 +1,9 @@
 pub mod BoundSteps
 pub mod Changed
+pub mod CopyPieces
+pub mod CopyValues
 pub mod Counts
+pub mod Drafting
 pub mod Insides
 pub mod JoinLaws
 pub mod Joined

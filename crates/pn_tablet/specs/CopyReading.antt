@@ -38,7 +38,7 @@ with_mark n draft mark =
 abbrev pub with_image : ℕ → DraftValue → Image → Result DraftValue CopyTextFault
 with_image n draft image =
     if not (in_range draft.range image.key) then Err (OutsideRange n) else
-    (if option_map_or true (λ last. comes_behind last image) draft.last
+    (if option_map_or (λ last. comes_behind last image) draft.last true
     then Ok (record draft { cells = adds draft.cells (image ∷ []); last = Some image }) else Err (NotRising n))
 
 -- the end counts the lines between the head and itself, and nothing follows it

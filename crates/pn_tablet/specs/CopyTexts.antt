@@ -2,7 +2,6 @@
 use Rattle.std.specs.Prelude.{◌≡◌, ℕ, ◌+◌, Bool, true, ◌&&◌, ◌||◌, List, [], ◌∷◌, ◌++◌, map, length, All, IsTrue}
 use Rattle.std.specs.List.{list_all}
 use Rattle.std.specs.Ordering.{is_lt, eq_by_cmp}
-use Rattle.std.specs.Str.{bytes_eq}
 use Rattle.std.specs.FinMap.{is_sorted}
 use Rattle.pn_line.specs.Reads.{IsUnbroken}
 use Rattle.pn_line.specs.Text.{text_of}
@@ -21,7 +20,7 @@ use Rattle.pn_tablet.specs.declared.copy_line.CopyLine.TheVariants.{Mark, Record
 abbrev pub comes_behind : Image → Image → Bool
 comes_behind image next =
     is_lt (bytes_cmp image.key next.key)
-    || (bytes_eq image.key next.key && (eq_by_cmp version_cmp image.version next.version && is_lt (content_cmp image.content next.content)))
+    || (eq_by_cmp bytes_cmp image.key next.key && (eq_by_cmp version_cmp image.version next.version && is_lt (content_cmp image.content next.content)))
 
 -- each image comes behind the one before it
 abbrev pub images_rise : List Image → Bool

@@ -63,6 +63,8 @@ fn cut_line(text: &[u8]) -> Option<(&[u8], &[u8])>
     ensures { MatchOption result (pieces_of text.now ≡ text.now ∷ [])
         (λ cut. (pieces_of text.now ≡ cut.0.now ∷ pieces_of cut.1.now) × (length cut.1.now < length text.now)) }
 {
-    let at = memchr(b'\n', text)?;
-    Some((&text[..at], &text[at + 1..]))
+    match memchr(b'\n', text) {
+        Some(at) => Some((&text[..at], &text[at + 1..])),
+        None => None,
+    }
 }
