@@ -1,6 +1,6 @@
 -- A text is read as a copy exactly where it spells the copy.
 use Rattle.std.proofs.Common.{◌≡◌, ℕ, suc, ◌+◌, ◌-◌, ◌==◌, ◌≤◌, Bool, true, false, ◌&&◌, List, [], ◌∷◌, ◌++◌, map, length, All, Option, Some, None, is_some, Result, Ok, Err, IsTrue, refl, sym, ap, ◌∙◌, subst, append_assoc, append-nil, arith, eq-eqb, eqb-true}
-use Rattle.std.proofs.lemmas.Bool.{and_parts, and_from}
+use Rattle.std.proofs.lemmas.Bool.{and_parts, and_from, false≢true}
 use Rattle.std.specs.List.{list_all}
 use Rattle.std.specs.Option.{option_map_or}
 use Rattle.std.specs.Ordering.{is_lt}
@@ -79,8 +79,8 @@ module _ (range : Ends) (marks : Positions) where
       let taken : with_image n draft image ≡ Ok longer = rw (within.0, behind.0, grown) refl in
       read_on-cons n draft line piece (lines ++ [] ∷ []) more is
       ∙ then_ok _ _ (Record image) (line_at-again (BadLine n) line (Record image) are.0)
-      ∙ then_ok (with_image n draft image) (λ d. read_on (suc n) d (lines ++ [] ∷ [])) longer taken
-      ∙ images_again (suc n) (done ++ image ∷ []) (Some image) images lines count (omega (arith, some)) (omega (arith, counts, some)) are.1 behind.1 within.1
+      ∙ then_ok (with_image n draft image) (λ d. read_on (n + 1) d (lines ++ [] ∷ [])) longer taken
+      ∙ images_again (n + 1) (done ++ image ∷ []) (Some image) images lines count (omega (arith, some)) (omega (arith, counts, some)) are.1 behind.1 within.1
       ∙ ap (λ all. Ok (record { range = range; marks = marks; cells = table_of all })) (append_assoc done (image ∷ []) images)
 
 sorted_behind : (marks : Positions) (mark : List ℕ × ℕ) (rest : Positions) → is_sorted name_cmp (marks ++ mark ∷ rest) ≡ true → is_behind marks mark.0 ≡ true
@@ -109,8 +109,8 @@ module _ (range : Ends) (images : List Image) (rise : images_rise images ≡ tru
       let taken : with_mark n draft (mark.0, mark.1) ≡ Ok longer = rw (sorted_behind marks mark more sorted) refl in
       read_on-cons n draft line piece (lines ++ [] ∷ []) rest is
       ∙ then_ok _ _ (Mark mark.0 mark.1) (line_at-again (BadLine n) line (Mark mark.0 mark.1) are.0)
-      ∙ then_ok (with_mark n draft (mark.0, mark.1)) (λ d. read_on (suc n) d (lines ++ [] ∷ [])) longer taken
-      ∙ lines_again (suc n) (marks ++ mark ∷ []) more lines count (omega (arith, some)) (omega (arith, counts, some)) are.1
+      ∙ then_ok (with_mark n draft (mark.0, mark.1)) (λ d. read_on (n + 1) d (lines ++ [] ∷ [])) longer taken
+      ∙ lines_again (n + 1) (marks ++ mark ∷ []) more lines count (omega (arith, some)) (omega (arith, counts, some)) are.1
       (ap (is_sorted name_cmp) (append_assoc marks (mark ∷ []) more) ∙ sorted)
       ∙ ap (λ all. Ok (record { range = range; marks = all; cells = table_of images })) (append_assoc marks (mark ∷ []) more)
 
@@ -141,3 +141,96 @@ pub record Follow (n : ℕ) (draft : DraftValue) (done : List Image) (pieces : L
   pub rise : rise_behind draft.last images ≡ true
   pub inside : all_inside draft.range images ≡ true
   pub copy_is : copy ≡ record { range = draft.range; marks = draft.marks ++ marks; cells = table_of (done ++ images) }
+
+over_is : (pieces : List (List ℕ)) → is_over pieces ≡ true → pieces ≡ [] ∷ []
+over_is [] is = absurd (cc)
+over_is ([] ∷ []) is = refl
+over_is ([] ∷ piece ∷ pieces) is = absurd (cc)
+over_is ((b ∷ line) ∷ pieces) is = absurd (cc)
+
+behind_first : (last : Option Image) (image : Image) (images : List Image) → option_map_or (λ l. comes_behind l image) last true ≡ true → images_rise (image ∷ images) ≡ true → rise_behind last (image ∷ images) ≡ true
+behind_first None image images behind rise = rise
+behind_first (Some last) image images behind rise = and_from _ _ behind rise
+
+module _ (n : ℕ) (draft : DraftValue) (done : List Image) (line : List ℕ) (pieces : List (List ℕ)) (copy : TabletCopyValue) (some : 2 ≤ n) (cells_are : draft.cells ≡ table_of done)
+    (next : (longer : DraftValue) (more : List Image) → longer.cells ≡ table_of more → read_on (n + 1) longer pieces ≡ Ok copy → Follow (n + 1) longer more pieces copy) where
+  follow_end : (count : ℕ) → IsLine IsValue line (End count) → ended n draft count (is_over pieces) ≡ Ok copy → Follow n draft done (line ∷ pieces) copy
+  follow_end count line_is is =
+      let parts = guard_ok (count == n - 2 && is_over pieces) (whole draft) copy BadEnd is in
+      let tests = and_parts (count == n - 2) (is_over pieces) parts.0 in
+      let counts : count ≡ n - 2 + 0 = omega (arith, eqb-true count (n - 2) tests.0) in
+      record {
+        lines = line ∷ [];
+        marks = [];
+        images = [];
+        pieces_are = ap (λ l. line ∷ l) (over_is pieces tests.1);
+        lines_are = (subst (λ m. IsLine IsValue line (End m)) counts line_is, tt);
+        no_marks = λ _. refl;
+        sorted = λ sorted. ap (is_sorted name_cmp) (append-nil draft.marks) ∙ sorted;
+        rise = rise_none draft.last;
+        inside = refl;
+        copy_is = sym parts.1 ∙ (λ i. record { range = draft.range; marks = (sym (append-nil draft.marks)) i; cells = (cells_are ∙ ap table_of (sym (append-nil done))) i });
+      }
+    where
+      rise_none : (last : Option Image) → rise_behind last [] ≡ true
+      rise_none None = refl
+      rise_none (Some last) = refl
+
+  follow_mark : (name : List ℕ) (position : ℕ) → IsLine IsValue line (Mark name position) → (with_mark n draft (name, position) >>= (λ longer. read_on (n + 1) longer pieces)) ≡ Ok copy → Follow n draft done (line ∷ pieces) copy
+  follow_mark name position line_is is =
+      let taken = bind_ok (with_mark n draft (name, position)) _ copy is in
+      let no_image = no_fault (is_some draft.last) (BadLine n) _ taken.0 taken.1 in
+      let behind = guard_ok (is_behind draft.marks name) (record draft { marks = draft.marks ++ (name, position) ∷ [] }) taken.0 (NotRising n) no_image.1 in
+      let longer : DraftValue = record draft { marks = draft.marks ++ (name, position) ∷ [] } in
+      let f = next longer done cells_are (ap (λ (d : DraftValue). read_on (n + 1) d pieces) behind.1 ∙ taken.2) in
+      let joined : (draft.marks ++ (name, position) ∷ []) ++ f.marks ≡ draft.marks ++ (name, position) ∷ f.marks = append_assoc draft.marks ((name, position) ∷ []) f.marks in
+      let counts : n + 1 - 2 + (length f.marks + length f.images) ≡ n - 2 + (suc (length f.marks) + length f.images) = omega (arith, some) in
+      record {
+        lines = line ∷ f.lines;
+        marks = (name, position) ∷ f.marks;
+        images = f.images;
+        pieces_are = ap (λ l. line ∷ l) f.pieces_are;
+        lines_are = (line_is, subst (λ count. AreLines f.lines (lines_with f.marks f.images count)) counts f.lines_are);
+        no_marks = λ image. absurd (false≢true (sym no_image.0 ∙ image));
+        sorted = λ sorted. ap (is_sorted name_cmp) (sym joined) ∙ f.sorted (sorted_push draft.marks name position sorted behind.0);
+        rise = f.rise;
+        inside = f.inside;
+        copy_is = f.copy_is ∙ ap (λ (all : Positions). record { range = draft.range; marks = all; cells = table_of (done ++ f.images) }) joined;
+      }
+
+  follow_image : (image : Image) → IsLine IsValue line (Record image) → (with_image n draft image >>= (λ longer. read_on (n + 1) longer pieces)) ≡ Ok copy → Follow n draft done (line ∷ pieces) copy
+  follow_image image line_is is =
+      let taken = bind_ok (with_image n draft image) _ copy is in
+      let here = passed (in_range draft.range image.key) (OutsideRange n) _ taken.0 taken.1 in
+      let behind = guard_ok (option_map_or (λ last. comes_behind last image) draft.last true) (record draft { cells = adds draft.cells (image ∷ []); last = Some image }) taken.0 (NotRising n) here.1 in
+      let longer : DraftValue = record draft { cells = adds draft.cells (image ∷ []); last = Some image } in
+      let f = next longer (done ++ image ∷ []) (ap (λ cells. adds cells (image ∷ [])) cells_are ∙ adds-table_of done (image ∷ [])) (ap (λ (d : DraftValue). read_on (n + 1) d pieces) behind.1 ∙ taken.2) in
+      let none : f.marks ≡ [] = f.no_marks refl in
+      let counts : n + 1 - 2 + (0 + length f.images) ≡ n - 2 + (0 + suc (length f.images)) = omega (arith, some) in
+      record {
+        lines = line ∷ f.lines;
+        marks = [];
+        images = image ∷ f.images;
+        pieces_are = ap (λ l. line ∷ l) f.pieces_are;
+        lines_are = (line_is, subst (λ count. AreLines f.lines (lines_with [] f.images count)) counts (subst (λ marks. AreLines f.lines (lines_with marks f.images (n + 1 - 2 + (length marks + length f.images)))) none f.lines_are));
+        no_marks = λ _. refl;
+        sorted = λ sorted. ap (is_sorted name_cmp) (append-nil draft.marks) ∙ sorted;
+        rise = behind_first draft.last image f.images behind.0 f.rise;
+        inside = and_from _ _ here.0 f.inside;
+        copy_is = f.copy_is ∙ (λ i. record { range = draft.range; marks = draft.marks ++ none i; cells = table_of (append_assoc done (image ∷ []) f.images i) });
+      }
+
+  follow_line : (says : CopyLine) → IsLine IsValue line says → after n draft (λ longer. read_on (n + 1) longer pieces) (is_over pieces) says ≡ Ok copy → Follow n draft done (line ∷ pieces) copy
+  follow_line (Mark name position) line_is is = follow_mark name position line_is is
+  follow_line (Record image) line_is is = follow_image image line_is is
+  follow_line (End count) line_is is = follow_end count line_is is
+
+pub follow : (n : ℕ) (draft : DraftValue) (done : List Image) (pieces : List (List ℕ)) (copy : TabletCopyValue) → 2 ≤ n → draft.cells ≡ table_of done → read_on n draft pieces ≡ Ok copy → Follow n draft done pieces copy
+unfolding read_on
+follow n draft done [] copy some cells_are is = absurd (cc)
+follow n draft done (part ∷ []) copy some cells_are is = absurd (cc)
+follow n draft done (line ∷ piece ∷ pieces) copy some cells_are is =
+    let said = bind_ok (line_at (BadLine n) line) (after n draft (λ longer. read_on (n + 1) longer (piece ∷ pieces)) (is_over (piece ∷ pieces))) copy is in
+    follow_line n draft done line (piece ∷ pieces) copy some cells_are
+    (λ longer more cells. follow (n + 1) longer more (piece ∷ pieces) copy (omega (arith, some)) cells)
+    said.0 (line_at-found (BadLine n) line said.0 said.1) said.2

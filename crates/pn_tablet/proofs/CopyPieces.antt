@@ -13,11 +13,11 @@ pub pieces_of-nil : pieces_of [] ≡ [] ∷ []
 unfolding pieces_of
 pieces_of-nil = refl
 
-pieces_of-newline : (rest : List ℕ) → pieces_of (10 ∷ rest) ≡ [] ∷ pieces_of rest
+pub pieces_of-newline : (rest : List ℕ) → pieces_of (10 ∷ rest) ≡ [] ∷ pieces_of rest
 unfolding pieces_of
 pieces_of-newline rest = refl
 
-pieces_of-byte : (b : ℕ) (rest : List ℕ) → b ≢ 10 → pieces_of (b ∷ rest) ≡ onto_first b (pieces_of rest)
+pub pieces_of-byte : (b : ℕ) (rest : List ℕ) → b ≢ 10 → pieces_of (b ∷ rest) ≡ onto_first b (pieces_of rest)
 unfolding pieces_of
 pieces_of-byte b rest other = ap (λ test. if test then [] ∷ pieces_of rest else onto_first b (pieces_of rest)) (ne_eqb b 10 other)
 
@@ -60,8 +60,8 @@ pieces_of-some (b ∷ text) =
     (cases_eq b 10)
 
 is_over-two : (first : List ℕ) (pieces more : List (List ℕ)) (piece : List ℕ) → pieces ≡ piece ∷ more → is_over (first ∷ pieces) ≡ false
-is_over-two [] pieces more piece is = rw is refl
-is_over-two (b ∷ first) pieces more piece is = rw is refl
+is_over-two [] pieces more piece is = ap (λ rest. is_over ([] ∷ rest)) is
+is_over-two (b ∷ first) pieces more piece is = ap (λ rest. is_over ((b ∷ first) ∷ rest)) is
 
 is_over-byte : (b : ℕ) (pieces : List (List ℕ)) → is_over (onto_first b pieces) ≡ false
 is_over-byte b [] = refl

@@ -22,7 +22,7 @@ use Rattle.pn_record.proofs.ReadImages.{image_in_order}
 use Rattle.pn_record.proofs.ReadInOrder.{InOrder, in_order}
 use Rattle.pn_record.proofs.SameImage.{image_again}
 use Rattle.pn_tablet.specs.CopyLines.{key_data, head_data, mark_data, end_data, is_range, IsHead, IsValue}
-use Rattle.pn_tablet.specs.CopyLineReading.{or_as, end_of, head_in, mark_in, end_in, record_in, line_in, head_at, line_at}
+use Rattle.pn_tablet.specs.CopyLineReading.{or_as, if_fits, end_of, head_in, mark_in, end_in, record_in, line_in, head_at, line_at}
 use Rattle.pn_tablet.specs.Ranges.{Ends}
 use Rattle.pn_tablet.specs.declared.copy_line.CopyLine.{CopyLine}
 use Rattle.pn_tablet.specs.declared.copy_line.CopyLine.TheVariants.{Mark, Record, End}
@@ -58,10 +58,10 @@ module _ {F : Type 0} (fault : F) where
 
   head_again_of : (from to : Option (List ℕ)) → is_range (from, to) ≡ true → head_in fault (head_data (from, to)) ≡ Ok (from, to)
   unfolding head_in
-  head_again_of None None fits = rw fits refl
-  head_again_of None (Some to) fits = rw fits refl
-  head_again_of (Some from) None fits = rw fits refl
-  head_again_of (Some from) (Some to) fits = rw fits refl
+  head_again_of None None fits = refl
+  head_again_of None (Some to) fits = ap (λ b. if_fits b fault (None, Some to)) fits
+  head_again_of (Some from) None fits = ap (λ b. if_fits b fault (Some from, None)) fits
+  head_again_of (Some from) (Some to) fits = ap (λ b. if_fits b fault (Some from, Some to)) fits
 
   head_again : (d : Data) (range : Ends) → IsHead d range → head_in fault d ≡ Ok range
   head_again d range is = ap (head_in fault) is.value ∙ head_again_of range.0 range.1 is.limits
@@ -84,7 +84,7 @@ module _ {F : Type 0} (fault : F) where
       let at_from = stands d ms (codes "from") _ whole (at_found end_of key_data end_found fault _ from.0 from.1) in
       let at_to = stands d ms (codes "to") _ whole (at_found end_of key_data end_found fault _ to.0 to.1) in
       let head = member (codes "copy") (number (unsigned 1)) (member (codes "from") (key_data from.0) (member (codes "to") (key_data to.0) no_members)) in
-      let same : ms ≡ head = same_by_name names ms head (rises d ms whole order) tt (named_of names ms named.0 named.1) refl (at_form, at_from, at_to, tt) in
+      let same : ms ≡ head = same_by_name names ms head (rises d ms whole order) tt (named_of names ms named.0 named.1) refl (at_form, (at_from, (at_to, tt))) in
       subst (IsHead d) fits.1 (record { value = whole ∙ ap object same; limits = parts.1 })
 
   -- ---- lines behind the head
@@ -103,7 +103,7 @@ module _ {F : Type 0} (fault : F) where
       let at_position = stands d ms (codes "at") _ whole (at_found whole_number (λ n. number (unsigned n)) number_from_whole fault _ position.0 position.1) in
       let at_name = stands d ms (codes "stream") _ whole (at_found as_str string string_from_as_str fault _ name.0 name.1) in
       let mark = member (codes "at") (number (unsigned position.0)) (member (codes "stream") (string name.0) no_members) in
-      let same : ms ≡ mark = same_by_name names ms mark (rises d ms whole order) tt (named_of names ms named.0 named.1) refl (at_position, at_name, tt) in
+      let same : ms ≡ mark = same_by_name names ms mark (rises d ms whole order) tt (named_of names ms named.0 named.1) refl (at_position, (at_name, tt)) in
       subst (IsValue d) fits.1 (whole ∙ ap object same, fits.0)
 
   end_line_found : (d : Data) (says : CopyLine) → InOrder d → end_in fault d ≡ Ok says → IsValue d says

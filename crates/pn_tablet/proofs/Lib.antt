@@ -1,6 +1,11 @@
 pub mod BoundSteps
 pub mod Changed
+pub mod CopyGrammar
+pub mod CopyLineTexts
 pub mod CopyPieces
+pub mod CopyPrefixes
+pub mod CopySteps
+pub mod CopyTextFacts
 pub mod CopyValues
 pub mod Counts
 pub mod Drafting
