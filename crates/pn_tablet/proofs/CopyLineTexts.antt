@@ -1,5 +1,5 @@
 -- The text of a value has no newline, and that of a line of a copy is short.
-use Rattle.std.proofs.Common.{◌≡◌, ◌≢◌, ℕ, ◌+◌, ◌*◌, ◌^◌, ◌<◌, ◌≤◌, ◌==◌, ◌||◌, List, [], ◌∷◌, ◌++◌, length, codes, All, Bool, true, false, not, cond, ◌&&◌, Option, Some, None, decimal, ltb, leb, refl, sym, ap, ◌∙◌, arith, length-append, get_or}
+use Rattle.std.proofs.Common.{◌≡◌, ◌≢◌, ℕ, ◌+◌, ◌*◌, ◌/◌, ◌%◌, ◌^◌, ◌<◌, ◌≤◌, ◌==◌, ◌||◌, List, [], ◌∷◌, ◌++◌, length, codes, All, Bool, true, false, not, cond, ◌&&◌, Option, Some, None, decimal, ltb, leb, refl, sym, ap, ◌∙◌, arith, length-append, get_or}
 use Rattle.std.proofs.lemmas.Bool.{and_parts, false≢true, ltb-false, leb-true}
 use Rattle.std.proofs.lemmas.Fmt.{decimal_is_IsNumeral, length-decimal-le}
 use Rattle.std.proofs.lemmas.List.Elements.{All-nil, All-cons, All-append, All-from_get_or}
@@ -61,9 +61,12 @@ either false xs ys first second = second refl
 escape_byte-unbroken : (x : ℕ) → IsUnbroken (escape_byte x)
 unfolding escape_byte
 escape_byte-unbroken x =
-    either _ (92 ∷ escape_letter x ∷ []) _ (also 92 (escape_letter x ∷ []) (λ e. omega (arith, e)) (also (escape_letter x) [] (escape_letter-not x) none)) (λ _.
-    either (ltb x 32) _ (x ∷ [])
-    (both (92 ∷ 117 ∷ 48 ∷ 48 ∷ []) (digit_char _ ∷ digit_char _ ∷ []) (literal (92 ∷ 117 ∷ 48 ∷ 48 ∷ []) refl) (also _ _ (digit_char-not _) (also _ [] (digit_char-not _) none)))
+    let hex : List ℕ = 92 ∷ 117 ∷ 48 ∷ 48 ∷ digit_char (x / 16) ∷ digit_char (x % 16) ∷ [] in
+    either (ltb 0 (escape_letter x)) (92 ∷ escape_letter x ∷ []) (cond (ltb x 32) hex (x ∷ []))
+    (also 92 (escape_letter x ∷ []) (λ e. omega (arith, e)) (also (escape_letter x) [] (escape_letter-not x) none)) (λ _.
+    either (ltb x 32) hex (x ∷ [])
+    (both (92 ∷ 117 ∷ 48 ∷ 48 ∷ []) (digit_char (x / 16) ∷ digit_char (x % 16) ∷ []) (literal (92 ∷ 117 ∷ 48 ∷ 48 ∷ []) refl)
+    (also (digit_char (x / 16)) (digit_char (x % 16) ∷ []) (digit_char-not (x / 16)) (also (digit_char (x % 16)) [] (digit_char-not (x % 16)) none)))
     (λ great. also x [] (λ e. omega (arith, e, ltb-false x 32 great)) none))
 
 escape-unbroken : (s : List ℕ) → IsUnbroken (escape s)
@@ -107,9 +110,9 @@ comma_if-unbroken false = none
 
 mutual
   pub text-unbroken : (d : Data) → Small d → IsUnbroken (compact_text d)
-  text-unbroken null small = literal _ refl
-  text-unbroken (boolean true) small = literal _ refl
-  text-unbroken (boolean false) small = literal _ refl
+  text-unbroken null small = literal (110 ∷ 117 ∷ 108 ∷ 108 ∷ []) refl
+  text-unbroken (boolean true) small = literal (116 ∷ 114 ∷ 117 ∷ 101 ∷ []) refl
+  text-unbroken (boolean false) small = literal (102 ∷ 97 ∷ 108 ∷ 115 ∷ 101 ∷ []) refl
   text-unbroken (number (unsigned n)) small = decimal-unbroken n small
   text-unbroken (number (negative z)) small = absurd small
   text-unbroken (number (float x)) small = absurd small

@@ -1,5 +1,5 @@
 -- What a line of a copy is read as, its value is the JSON of; and that JSON is read as it.
-use Rattle.std.proofs.Common.{◌≡◌, ℕ, List, [], ◌∷◌, length, codes, Bool, true, false, cond, ◌&&◌, ◌==◌, T, Option, Some, None, Result, Ok, Err, ltb, refl, sym, ap, ◌∙◌, subst, eqb-true}
+use Rattle.std.proofs.Common.{◌≡◌, ℕ, List, [], ◌∷◌, length, codes, Bool, true, false, cond, ◌&&◌, ◌==◌, T, Option, Some, None, is_some, Result, Ok, Err, ltb, refl, sym, ap, ◌∙◌, subst, eqb-true}
 use Rattle.std.proofs.lemmas.Bool.{and_parts, le-ltb}
 use Rattle.std.specs.Option.{ok_or}
 use Rattle.serde_json.specs.Data.{Data, null, boolean, number, string, array, object, unsigned, Members, no_members, member}
@@ -139,7 +139,10 @@ module _ {F : Type 0} (fault : F) where
   line_found : (d : Data) (says : CopyLine) → InOrder d → line_in fault d ≡ Ok says → IsValue d says
   unfolding line_in
   line_found d says order is =
-      either _ (mark_in fault d) _ says (mark_found d says order) (λ other. either _ (end_in fault d) (record_in fault d) says (end_line_found d says order) (record_found d says order) other) is
+      let has_at = is_some (get (codes "at") d) in
+      let has_end = is_some (get (codes "end") d) in
+      either has_at (mark_in fault d) (cond has_end (end_in fault d) (record_in fault d)) says (mark_found d says order) (λ other.
+      either has_end (end_in fault d) (record_in fault d) says (end_line_found d says order) (record_found d says order) other) is
 
   no_image_at : (key master : List ℕ) (version : ℕ × ℕ) (f : Option (List Field)) → get (codes "at") (image_data (record { key = key; version = version; content = (f, master) })) ≡ None
   no_image_at key master version None = refl

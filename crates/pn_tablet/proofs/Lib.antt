@@ -7,6 +7,7 @@ pub mod CopyPrefixes
 pub mod CopySteps
 pub mod CopyTextFacts
 pub mod CopyValues
+pub mod CopyWritten
 pub mod Counts
 pub mod Drafting
 pub mod Insides
@@ -15,5 +16,6 @@ pub mod Joined
 pub mod Keeping
 pub mod LayoutFacts
 pub mod Recovery
+pub mod SpelledImages
 pub mod Stepping
 pub mod TabletLaws

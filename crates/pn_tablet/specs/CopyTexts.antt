@@ -28,9 +28,13 @@ images_rise [] = true
 images_rise (image ∷ []) = true
 images_rise (image ∷ next ∷ images) = comes_behind image next && images_rise (next ∷ images)
 
+-- what the line of a mark says
+abbrev pub mark_line : List ℕ × ℕ → CopyLine
+mark_line mark = Mark mark.0 mark.1
+
 -- what the lines behind the head say: the marks, the images, and how many both are
 abbrev pub lines_behind_head : Positions → List Image → List CopyLine
-lines_behind_head marks images = map (λ mark. Mark mark.0 mark.1) marks ++ (map Record images ++ End (length marks + length images) ∷ [])
+lines_behind_head marks images = map mark_line marks ++ (map Record images ++ End (length marks + length images) ∷ [])
 
 -- the text spells the copy: a head, marks whose names rise, images that rise and whose keys lie in the range, and an end
 pub record IsCopyText (text : List ℕ) (copy : TabletCopyValue) : Type 0 where

@@ -5,9 +5,10 @@ ghost use Rattle.std.specs.Option.{option_copied};
 ghost use Rattle.serde_json.specs.View.{view};
 ghost use Rattle.pn_join.specs.Marks.{is_position, are_positions};
 ghost use Rattle.pn_record.specs.Cells.{spell, spell_cell};
-ghost use Rattle.pn_tablet.specs.CopyLines.{key_data, is_end, head_data, IsHead};
+ghost use Rattle.pn_tablet.specs.CopyLines.{key_data, is_end, head_data, mark_data, end_data, IsHead};
 ghost use Rattle.pn_tablet.specs.CopyReading.{copy_at};
-ghost use Rattle.pn_tablet.specs.CopyTexts.{IsCopyText};
+ghost use Rattle.pn_tablet.specs.Ranges.{are_ends};
+ghost use Rattle.pn_tablet.specs.CopyTexts.{mark_line, IsCopyText};
 ghost use Rattle.pn_tablet.specs.CopyWriting.{line_text, copy_text, IsWritten, WritesValue, WritesLines};
 ghost use Rattle.pn_tablet.specs.declared.copy_line.CopyLine.TheVariants.{Mark, Record, End};
 
@@ -29,7 +30,7 @@ pub fn write_copy(alloc: Global, copy: &TabletCopy) -> Result<String, NoMemory>
     write_head(alloc, &mut text, &copy.range)?;
     write_marks(alloc, &mut text, &copy.marks)?;
     let images = write_cells(alloc, &mut text, &copy.cells)?;
-    write_end(alloc, &mut text, copy.marks.len() + images)?;
+    write_end(alloc, &mut text, (copy.marks.len() + images) as u64)?;
     Ok(text)
 }
 
@@ -37,10 +38,19 @@ fn write_head(alloc: Global, text: &mut String, range: &Range) -> Result<(), NoM
     ensures written { OnOk result (string_bytes text.new ≡ string_bytes text.old ++ line_text (head_data range.now)) }
     ensures line { OnOk result (IsWritten IsHead (head_data range.now) range.now) }
 {
+    let head = head_value(alloc, range)?;
+    write_line(alloc, text, &head)
+}
+
+fn head_value(alloc: Global, range: &Range) -> Result<Value, NoMemory>
+    ensures value { IfOk result (λ value. view value ≡ head_data range.now) }
+    ensures from { OnOk result (IsTrue (is_end range.now.0)) }
+    ensures to { OnOk result (IsTrue (is_end range.now.1)) }
+    ensures order { IsTrue (are_ends range.now) }
+{
     let from = end_value(alloc, range.from())?;
     let to = end_value(alloc, range.to())?;
-    let head = json!(in alloc; {"copy": FORM, "from": from, "to": to})?;
-    write_line(alloc, text, &head)
+    Ok(json!(in alloc; {"copy": FORM, "from": from, "to": to})?)
 }
 
 fn end_value(alloc: Global, key: Option<&Key>) -> Result<Value, NoMemory>
@@ -55,7 +65,7 @@ fn end_value(alloc: Global, key: Option<&Key>) -> Result<Value, NoMemory>
 
 fn write_marks(alloc: Global, text: &mut String, marks: &Marks) -> Result<(), NoMemory>
     requires { IsTrue (are_positions marks.now) }
-    ensures { OnOk result (WritesLines (string_bytes text.old) (string_bytes text.new) (map (λ mark. Mark mark.0 mark.1) marks.now)) }
+    ensures { OnOk result (WritesLines (string_bytes text.old) (string_bytes text.new) (map mark_line marks.now)) }
 {
     for (name, position) in marks.iter() {
         write_mark(alloc, text, name, position.0)?;
@@ -72,8 +82,14 @@ fn write_mark(
     requires { IsTrue (is_position position) }
     ensures { OnOk result (WritesLines (string_bytes text.old) (string_bytes text.new) (Mark name.now position ∷ [])) }
 {
-    let mark = json!(in alloc; {"at": position, "stream": name.as_str()})?;
+    let mark = mark_value(alloc, name.as_str(), position)?;
     write_line(alloc, text, &mark)
+}
+
+fn mark_value(alloc: Global, name: &str, position: u64) -> Result<Value, NoMemory>
+    ensures { IfOk result (λ value. view value ≡ mark_data (name.now, position)) }
+{
+    Ok(json!(in alloc; {"at": position, "stream": name})?)
 }
 
 // Writes a line for each content of each cell, and answers how many there were.
@@ -113,11 +129,17 @@ fn write_image(
     write_line(alloc, text, &image)
 }
 
-fn write_end(alloc: Global, text: &mut String, count: usize) -> Result<(), NoMemory>
+fn write_end(alloc: Global, text: &mut String, count: u64) -> Result<(), NoMemory>
     ensures { OnOk result (WritesLines (string_bytes text.old) (string_bytes text.new) (End count ∷ [])) }
 {
-    let end = json!(in alloc; {"end": count as u64})?;
+    let end = count_value(alloc, count)?;
     write_line(alloc, text, &end)
+}
+
+fn count_value(alloc: Global, count: u64) -> Result<Value, NoMemory>
+    ensures { IfOk result (λ value. view value ≡ end_data count) }
+{
+    Ok(json!(in alloc; {"end": count})?)
 }
 
 // Writes a value and a newline.

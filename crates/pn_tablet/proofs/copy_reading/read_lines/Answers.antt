@@ -48,12 +48,12 @@ lines-preserved c = record {
     | in-Mark+in_ok-draft-in-Mark w ↦
         c.lines.invariant.reads
         ∙ read_on-said c.lines.number c.lines.draft (pieces_of c.lines.rest.now) c.in-Some.line.now c.in-Some.behind.now c.in-Some.ensures.0 (Mark w.in-Mark.name w.in-Mark.position) (c.in_ok-name.ensures ∙ ap Ok w.in-Mark.is)
-        ∙ then_ok (with_mark c.lines.number c.lines.draft (w.in-Mark.name, w.in-Mark.position)) _ w.in_ok-draft-in-Mark.field-0 w.in_ok-draft-in-Mark.ensures
+        ∙ then_ok (with_mark c.lines.number c.lines.draft (w.in-Mark.name, w.in-Mark.position)) _ w.in_ok-draft-in-Mark.draft w.in_ok-draft-in-Mark.ensures
         ∙ ap (λ (d : DraftValue). read_on (c.lines.number + 1) d (pieces_of c.in-Some.behind.now)) (sym w.draft-is)
     | in-Record+in_ok-draft-in-Record w ↦
         c.lines.invariant.reads
         ∙ read_on-said c.lines.number c.lines.draft (pieces_of c.lines.rest.now) c.in-Some.line.now c.in-Some.behind.now c.in-Some.ensures.0 (Record w.in-Record.image) (c.in_ok-name.ensures ∙ ap Ok w.in-Record.is)
-        ∙ then_ok (with_image c.lines.number c.lines.draft w.in-Record.image) _ w.in_ok-draft-in-Record.field-0 w.in_ok-draft-in-Record.ensures
+        ∙ then_ok (with_image c.lines.number c.lines.draft w.in-Record.image) _ w.in_ok-draft-in-Record.draft w.in_ok-draft-in-Record.ensures
         ∙ ap (λ (d : DraftValue). read_on (c.lines.number + 1) d (pieces_of c.in-Some.behind.now)) (sym w.draft-is)
   ];
   some = omega (arith, c.lines.invariant.some);
