@@ -1,5 +1,5 @@
 -- What one line of a copy's text is read as.
-use Rattle.std.specs.Prelude.{ℕ, ◌==◌, Bool, if◌then◌else◌, List, [], ◌∷◌, codes, Option, None, Some, is_some, Result, Ok, Err}
+use Rattle.std.specs.Prelude.{ℕ, ◌==◌, Bool, ◌&&◌, if◌then◌else◌, List, [], ◌∷◌, codes, Option, None, Some, is_some, Result, Ok, Err}
 use Rattle.std.specs.Option.{ok_or}
 use Rattle.serde_json.specs.Data.{Data, null, string}
 use Rattle.serde_json.specs.Find.{get, as_str, as_object}
@@ -36,8 +36,7 @@ head_in fault d = do
   from ← member_as end_of fault (get (codes "from") d)
   to ← member_as end_of fault (get (codes "to") d)
   named ← no_others (codes "copy" ∷ codes "from" ∷ codes "to" ∷ []) fault members
-  first ← if_fits (form == 1) fault tt
-  if_fits (is_range (from, to)) fault (from, to)
+  if_fits (form == 1 && is_range (from, to)) fault (from, to)
 
 -- a mark: a stream's name, and a position of 1 to 10^15
 unfoldable pub mark_in : {F : Type 0} → F → Data → Result CopyLine F

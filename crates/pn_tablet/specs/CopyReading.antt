@@ -1,5 +1,5 @@
 -- What a text is read as line by line: the copy that it spells, or its first fault.
-use Rattle.std.specs.Prelude.{ℕ, suc, ◌-◌, ◌==◌, Bool, true, false, not, ◌&&◌, if◌then◌else◌, List, [], ◌∷◌, ◌++◌, Some, is_some, Result, Ok, Err}
+use Rattle.std.specs.Prelude.{ℕ, ◌+◌, ◌-◌, ◌==◌, Bool, true, false, not, ◌&&◌, if◌then◌else◌, List, [], ◌∷◌, ◌++◌, Some, is_some, Result, Ok, Err}
 use Rattle.std.specs.List.{list_all}
 use Rattle.std.specs.Option.{option_map_or}
 use Rattle.std.specs.Ordering.{is_lt}
@@ -38,7 +38,7 @@ with_mark n draft mark =
 abbrev pub with_image : ℕ → DraftValue → Image → Result DraftValue CopyTextFault
 with_image n draft image =
     if not (in_range draft.range image.key) then Err (OutsideRange n) else
-    (if option_map_or true (λ last. comes_behind last image) draft.last
+    (if option_map_or (λ last. comes_behind last image) draft.last true
     then Ok (record draft { cells = adds draft.cells (image ∷ []); last = Some image }) else Err (NotRising n))
 
 -- the end counts the lines between the head and itself, and nothing follows it
@@ -56,7 +56,7 @@ unfoldable pub read_on : ℕ → DraftValue → List (List ℕ) → Result Table
 read_on n draft [] = Err Truncated
 read_on n draft (part ∷ []) = Err Truncated
 read_on n draft (line ∷ piece ∷ pieces) =
-    line_at (BadLine n) line >>= after n draft (λ longer. read_on (suc n) longer (piece ∷ pieces)) (is_over (piece ∷ pieces))
+    line_at (BadLine n) line >>= after n draft (λ longer. read_on (n + 1) longer (piece ∷ pieces)) (is_over (piece ∷ pieces))
 
 -- the copy of a text's pieces
 abbrev pub copy_in : List (List ℕ) → Result TabletCopyValue CopyTextFault

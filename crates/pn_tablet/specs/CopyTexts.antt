@@ -2,7 +2,6 @@
 use Rattle.std.specs.Prelude.{◌≡◌, ℕ, ◌+◌, Bool, true, ◌&&◌, ◌||◌, List, [], ◌∷◌, ◌++◌, map, length, All, IsTrue}
 use Rattle.std.specs.List.{list_all}
 use Rattle.std.specs.Ordering.{is_lt, eq_by_cmp}
-use Rattle.std.specs.Str.{bytes_eq}
 use Rattle.std.specs.FinMap.{is_sorted}
 use Rattle.pn_line.specs.Reads.{IsUnbroken}
 use Rattle.pn_line.specs.Text.{text_of}
@@ -21,7 +20,7 @@ use Rattle.pn_tablet.specs.declared.copy_line.CopyLine.TheVariants.{Mark, Record
 abbrev pub comes_behind : Image → Image → Bool
 comes_behind image next =
     is_lt (bytes_cmp image.key next.key)
-    || (bytes_eq image.key next.key && (eq_by_cmp version_cmp image.version next.version && is_lt (content_cmp image.content next.content)))
+    || (eq_by_cmp bytes_cmp image.key next.key && (eq_by_cmp version_cmp image.version next.version && is_lt (content_cmp image.content next.content)))
 
 -- each image comes behind the one before it
 abbrev pub images_rise : List Image → Bool
@@ -29,9 +28,13 @@ images_rise [] = true
 images_rise (image ∷ []) = true
 images_rise (image ∷ next ∷ images) = comes_behind image next && images_rise (next ∷ images)
 
+-- what the line of a mark says
+abbrev pub mark_line : List ℕ × ℕ → CopyLine
+mark_line mark = Mark mark.0 mark.1
+
 -- what the lines behind the head say: the marks, the images, and how many both are
 abbrev pub lines_behind_head : Positions → List Image → List CopyLine
-lines_behind_head marks images = map (λ mark. Mark mark.0 mark.1) marks ++ (map Record images ++ End (length marks + length images) ∷ [])
+lines_behind_head marks images = map mark_line marks ++ (map Record images ++ End (length marks + length images) ∷ [])
 
 -- the text spells the copy: a head, marks whose names rise, images that rise and whose keys lie in the range, and an end
 pub record IsCopyText (text : List ℕ) (copy : TabletCopyValue) : Type 0 where

@@ -123,13 +123,14 @@ fn is_behind(marks: &Marks, name: &StreamName) -> bool
 
 // Whether the image comes behind the last one, if there is one.
 fn is_next(last: Option<&Image>, image: &Image) -> bool
-    ensures { result ≡ option_map_or true (λ other. comes_behind other image.now) (option_copied last) }
+    ensures { result ≡ option_map_or (λ other. comes_behind other image.now) (option_copied last.entry) true }
 {
     match last {
         None => true,
         Some(last) => match last.key.cmp(&image.key) {
             Ordering::Less => true,
-            Ordering::Equal => last.version == image.version && last.content < image.content,
+            Ordering::Equal => last.version.cmp(&image.version).is_eq()
+                && last.content.cmp(&image.content).is_lt(),
             Ordering::Greater => false,
         },
     }

@@ -1,1 +1,25 @@
 //! The laws of the texts of copies, as contracts. A call does nothing.
+
+ghost use Rattle.std.specs.Prelude.{◌≡◌, ◌<◌, ◌↔◌, ◌++◌, ℕ, List, length, Ok, Err};
+ghost use Rattle.pn_tablet.specs.Copies.{TabletCopyValue};
+ghost use Rattle.pn_tablet.specs.CopyReading.{copy_at};
+ghost use Rattle.pn_tablet.specs.CopyTexts.{IsCopyText};
+ghost use Rattle.pn_tablet.specs.declared.copy_fault.CopyTextFault.TheVariants.{Truncated};
+
+/// A text is read as a copy exactly where it spells it.
+pub fn a_copy_is_read_where_it_is_spelled()
+    ensures { (text : List ℕ) (copy : TabletCopyValue) → IsCopyText text copy ↔ (copy_at text ≡ Ok copy) }
+{}
+
+/// No text spells two copies.
+pub fn a_text_spells_one_copy()
+    ensures { (text : List ℕ) (one other : TabletCopyValue) → IsCopyText text one → IsCopyText text other → one ≡ other }
+{}
+
+/// Where the end of a copy's text is cut off, what is left is truncated, and spells no copy.
+pub fn no_part_of_a_copy_is_a_copy()
+    ensures truncated { (front back : List ℕ) (copy : TabletCopyValue) → IsCopyText (front ++ back) copy → 0 < length back
+        → copy_at front ≡ Err Truncated }
+    ensures no_copy { (front back : List ℕ) (copy other : TabletCopyValue) → IsCopyText (front ++ back) copy → 0 < length back
+        → ¬ IsCopyText front other }
+{}

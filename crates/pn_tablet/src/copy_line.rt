@@ -31,6 +31,7 @@ pub(crate) enum CopyLine {
 }
 
 /// The range of the head that a line is, or the fault.
+#[tactic(auto, unfolding(crate::specs::CopyLineReading::head_at))]
 pub(crate) fn read_head(
     alloc: Global,
     line: &[u8],
@@ -43,6 +44,7 @@ pub(crate) fn read_head(
 }
 
 /// What a line behind the head says, or the fault.
+#[tactic(auto, unfolding(crate::specs::CopyLineReading::line_at))]
 pub(crate) fn read_line(
     alloc: Global,
     line: &[u8],
@@ -102,7 +104,7 @@ fn range_of(
     fault: CopyTextFault,
 ) -> Result<Range, CopyTextFault>
     ensures { IsUnless CopyTextFault.Memory result
-        (if_fits (is_range (seen_text from, seen_text to)) fault (seen_text from, seen_text to)) }
+        (if_fits (is_range (seen_text from.entry, seen_text to.entry)) fault (seen_text from.entry, seen_text to.entry)) }
 {
     if !is_end(from) || !is_end(to) {
         return Err(fault);

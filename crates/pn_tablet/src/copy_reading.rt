@@ -30,7 +30,7 @@ pub fn read_copy(alloc: Global, text: &[u8]) -> Result<TabletCopy, CopyTextFault
 
 #[tactic(auto, unfolding(crate::specs::CopyReading::copy_at))]
 fn checked_copy(alloc: Global, text: &[u8]) -> Result<TabletCopy, CopyTextFault>
-    ensures exact { IsUnless CopyTextFault.Memory result (copy_at text.now) }
+    ensures { IsUnless CopyTextFault.Memory result (copy_at text.now) }
 {
     let Some((head, rest)) = cut_line(text) else {
         return Err(CopyTextFault::Truncated);
@@ -41,12 +41,12 @@ fn checked_copy(alloc: Global, text: &[u8]) -> Result<TabletCopy, CopyTextFault>
 
 // Reads the lines behind the head, the first of which is line 2.
 fn read_lines(alloc: Global, begun: Draft, text: &[u8]) -> Result<TabletCopy, CopyTextFault>
-    ensures exact { IsUnless CopyTextFault.Memory result (read_on 2 begun (pieces_of text.now)) }
+    ensures { IsUnless CopyTextFault.Memory result (read_on 2 begun (pieces_of text.now)) }
 {
     let mut draft = begun;
     let mut rest = text;
     let mut number = 2;
-    while let Some((line, behind)) = cut_line(rest) {
+    'lines: while let Some((line, behind)) = cut_line(rest) {
         match read_line(alloc, line, CopyTextFault::BadLine(number))? {
             CopyLine::Mark(name, position) => draft = draft.with_mark(number, name, position)?,
             CopyLine::Record(image) => draft = draft.with_image(number, image)?,
@@ -63,6 +63,8 @@ fn cut_line(text: &[u8]) -> Option<(&[u8], &[u8])>
     ensures { MatchOption result (pieces_of text.now ≡ text.now ∷ [])
         (λ cut. (pieces_of text.now ≡ cut.0.now ∷ pieces_of cut.1.now) × (length cut.1.now < length text.now)) }
 {
-    let at = memchr(b'\n', text)?;
-    Some((&text[..at], &text[at + 1..]))
+    match memchr(b'\n', text) {
+        Some(at) => Some((&text[..at], &text[at + 1..])),
+        None => None,
+    }
 }

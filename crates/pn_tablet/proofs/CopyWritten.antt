@@ -1,0 +1,153 @@
+-- What was written of a copy spells it.
+use Rattle.std.proofs.Common.{◌≡◌, ℕ, ◌+◌, ◌<◌, ◌≤◌, ◌^◌, Bool, true, false, ◌&&◌, List, [], ◌∷◌, ◌++◌, map, length, codes, All, Option, Some, None, Result, Ok, Err, OnOk, IsTrue, refl, sym, ap, ◌∙◌, subst, append_assoc, append-nil, arith, length-append}
+use Rattle.std.proofs.lemmas.Bool.{and_parts, and_from}
+use Rattle.std.proofs.lemmas.Grind.{flat_map-append}
+use Rattle.std.proofs.lemmas.List.Elements.{All-nil, All-cons}
+use Rattle.std.specs.FinMap.{is_sorted}
+use Rattle.std.specs.List.{list_all, AllByRecursion}
+use Rattle.serde_json.specs.Data.{Data, depth}
+use Rattle.serde_json.specs.Written.{compact_text, has_float}
+use Rattle.pn_join.specs.Marks.{Positions, is_position, name_cmp}
+use Rattle.pn_join.specs.Naming.{is_name}
+use Rattle.pn_line.specs.Reads.{IsUnbroken}
+use Rattle.pn_line.specs.Text.{text_of}
+use Rattle.pn_record.specs.declared.image.Image.{Image}
+use Rattle.pn_record.specs.Canonical.{is_image}
+use Rattle.pn_record.specs.Cells.{spell}
+use Rattle.pn_record.specs.CellMap.{table_of}
+use Rattle.pn_record.specs.Marks.{is_mark}
+use Rattle.pn_record.specs.Reading.{reading}
+use Rattle.pn_record.specs.Writing.{image_data}
+use Rattle.pn_record.proofs.ImageText.{has_float-image_data, depth-image_data, length-image_data}
+use Rattle.pn_tablet.specs.Copies.{TabletCopyValue}
+use Rattle.pn_tablet.specs.CopyLines.{head_data, mark_data, end_data, is_end, is_range, IsHead, IsValue, AreLines}
+use Rattle.pn_tablet.specs.CopyTexts.{images_rise, lines_behind_head, IsCopyText}
+use Rattle.pn_tablet.specs.CopyWriting.{line_data, line_text, lines_text, copy_text, WritesValue, IsWritten, IsWrittenLine, WritesLines}
+use Rattle.pn_tablet.specs.Ranges.{Ends, in_range, are_ends}
+use Rattle.pn_tablet.specs.declared.copy_line.CopyLine.{CopyLine}
+use Rattle.pn_tablet.specs.declared.copy_line.CopyLine.TheVariants.{Mark, Record, End}
+use Rattle.pn_tablet.proofs.CopyLineTexts.{Small, text-unbroken, small_image, small_mark, small_head, short_end, short_mark, short_head}
+
+written : {A : Type 0} (IsSpelled : Data → A → Type 0) (d : Data) (meant : A) → reading (compact_text d) ≡ Some d → length (compact_text d) ≤ 65536 → Small d → IsSpelled d meant → IsWritten IsSpelled d meant
+written IsSpelled d meant read short small is = record { line = record { short = short; value = d; read = read; spelled = is }; unbroken = text-unbroken d small }
+
+-- ---- one line
+
+on_line : {E : Type 0} (result : Result (Unit {0}) E) (old new : List ℕ) (v : Data) (says : CopyLine) → v ≡ line_data says → has_float (line_data says) ≡ false → depth (line_data says) ≤ 127
+    → (reading (compact_text (line_data says)) ≡ Some (line_data says) → IsWrittenLine says) → OnOk result (WritesValue old new v) → OnOk result (WritesLines old new (says ∷ []))
+on_line (Ok u) old new v says is no_float shallow good wrote =
+    let w : WritesValue old new (line_data says) = subst (WritesValue old new) is wrote in
+    let both = w no_float shallow in
+    (both.0 ∙ ap (λ l. old ++ l) (sym (append-nil (line_text (line_data says)))), (good both.1, tt))
+on_line (Err e) old new v says is no_float shallow good wrote = tt
+
+pub mark_written : {E : Type 0} (result : Result (Unit {0}) E) (old new : List ℕ) (v : Data) (name : List ℕ) (position : ℕ) → v ≡ mark_data (name, position) → is_name name ≡ true → is_position position ≡ true
+    → OnOk result (WritesValue old new v) → OnOk result (WritesLines old new (Mark name position ∷ []))
+mark_written result old new v name position is named within =
+    let fits : is_mark (name, position) ≡ true = and_from (is_name name) (is_position position) named within in
+    on_line result old new v (Mark name position) is refl (omega arith) (λ read. written IsValue (mark_data (name, position)) (Mark name position) read (short_mark name position fits) (small_mark name position fits) (refl, fits))
+
+pub image_written : {E : Type 0} (result : Result (Unit {0}) E) (old new : List ℕ) (v : Data) (image : Image) → v ≡ image_data image → is_image image ≡ true
+    → OnOk result (WritesValue old new v) → OnOk result (WritesLines old new (Record image ∷ []))
+image_written result old new v image is fits =
+    on_line result old new v (Record image) is (has_float-image_data image) (depth-image_data image) (λ read.
+    written IsValue (image_data image) (Record image) read (omega (arith, length-image_data image fits)) (small_image image fits) (record { value = refl; limits = fits }))
+
+pub end_written : {E : Type 0} (result : Result (Unit {0}) E) (old new : List ℕ) (v : Data) (count : ℕ) → v ≡ end_data count → count < 2 ^ 64
+    → OnOk result (WritesValue old new v) → OnOk result (WritesLines old new (End count ∷ []))
+end_written result old new v count is small =
+    on_line result old new v (End count) is refl (omega arith) (λ read. written IsValue (end_data count) (End count) read (short_end count small) (small, tt) refl)
+
+no_float_head : (from to : Option (List ℕ)) → has_float (head_data (from, to)) ≡ false
+no_float_head None None = refl
+no_float_head None (Some to) = refl
+no_float_head (Some from) None = refl
+no_float_head (Some from) (Some to) = refl
+
+shallow_head : (from to : Option (List ℕ)) → depth (head_data (from, to)) ≤ 127
+shallow_head None None = omega arith
+shallow_head None (Some to) = omega arith
+shallow_head (Some from) None = omega arith
+shallow_head (Some from) (Some to) = omega arith
+
+head_both : (old new : List ℕ) (v : Data) (range : Ends) → v ≡ head_data range → is_range range ≡ true → WritesValue old new v → (new ≡ old ++ line_text (head_data range)) × IsWritten IsHead (head_data range) range
+head_both old new v range is fits wrote =
+    let w : WritesValue old new (head_data range) = subst (WritesValue old new) is wrote in
+    let both = w (no_float_head range.0 range.1) (shallow_head range.0 range.1) in
+    let parts = and_parts (is_end range.0 && is_end range.1) (are_ends range) fits in
+    let ends = and_parts (is_end range.0) (is_end range.1) parts.0 in
+    (both.0, written IsHead (head_data range) range both.1 (short_head range.0 range.1 ends.0 ends.1) (small_head range.0 range.1) (record { value = refl; limits = fits }))
+
+pub head_text : {E : Type 0} (result : Result (Unit {0}) E) (old new : List ℕ) (v : Data) (range : Ends) → v ≡ head_data range → is_range range ≡ true → OnOk result (WritesValue old new v) → OnOk result (new ≡ old ++ line_text (head_data range))
+head_text (Ok u) old new v range is fits wrote = (head_both old new v range is fits wrote).0
+head_text (Err e) old new v range is fits wrote = tt
+
+pub head_written : {E : Type 0} (result : Result (Unit {0}) E) (old new : List ℕ) (v : Data) (range : Ends) → v ≡ head_data range → is_range range ≡ true → OnOk result (WritesValue old new v) → OnOk result (IsWritten IsHead (head_data range) range)
+head_written (Ok u) old new v range is fits wrote = (head_both old new v range is fits wrote).1
+head_written (Err e) old new v range is fits wrote = tt
+
+-- ---- many lines
+
+pub lines_none : (old : List ℕ) → WritesLines old old []
+lines_none old = (sym (append-nil old), tt)
+
+all_both : (says more : List CopyLine) → AllByRecursion IsWrittenLine says → AllByRecursion IsWrittenLine more → AllByRecursion IsWrittenLine (says ++ more)
+all_both [] more first second = second
+all_both (line ∷ says) more first second = (first.0, all_both says more first.1 second)
+
+-- some lines and then others
+pub lines_then : (a b c : List ℕ) (says more : List CopyLine) → WritesLines a b says → WritesLines b c more → WritesLines a c (says ++ more)
+lines_then a b c says more first second = (
+  second.0 ∙ ap (λ t. t ++ lines_text more) first.0 ∙ append_assoc a (lines_text says) (lines_text more)
+      ∙ ap (λ t. a ++ t) (sym (flat_map-append (λ line. line_text (line_data line)) says more)),
+  all_both says more first.1 second.1,
+)
+
+length_line : (d : Data) → 1 ≤ length (line_text d)
+length_line d = omega (arith, length-append (compact_text d) (10 ∷ []))
+
+-- each line has a byte at least
+pub lines_room : (says : List CopyLine) → length says ≤ length (lines_text says)
+lines_room [] = omega arith
+lines_room (line ∷ says) = omega (arith, length-append (line_text (line_data line)) (lines_text says), length_line (line_data line), lines_room says)
+
+-- ---- the whole text
+
+abbrev texts : List CopyLine → List (List ℕ)
+texts says = map (λ line. compact_text (line_data line)) says
+
+text_of-texts : (says : List CopyLine) → lines_text says ≡ text_of (texts says)
+unfolding text_of
+text_of-texts [] = refl
+text_of-texts (line ∷ says) = append_assoc (compact_text (line_data line)) (10 ∷ []) (lines_text says) ∙ ap (λ t. compact_text (line_data line) ++ 10 ∷ t) (text_of-texts says)
+
+unbroken-texts : (says : List CopyLine) → AllByRecursion IsWrittenLine says → All IsUnbroken (texts says)
+unbroken-texts [] all = All-nil IsUnbroken
+unbroken-texts (line ∷ says) all = All-cons IsUnbroken (compact_text (line_data line)) (texts says) all.0.unbroken (unbroken-texts says all.1)
+
+are_lines-texts : (says : List CopyLine) → AllByRecursion IsWrittenLine says → AreLines (texts says) says
+are_lines-texts [] all = tt
+are_lines-texts (line ∷ says) all = (all.0.line, are_lines-texts says all.1)
+
+head_first : (d : Data) (lines : List (List ℕ)) (rest : List ℕ) → rest ≡ text_of lines → line_text d ++ rest ≡ text_of (compact_text d ∷ lines)
+unfolding text_of
+head_first d lines rest is = append_assoc (compact_text d) (10 ∷ []) rest ∙ ap (λ t. compact_text d ++ 10 ∷ t) is
+
+-- lines that were all written spell the copy
+pub copy_spelled : (copy : TabletCopyValue) → IsWritten IsHead (head_data copy.range) copy.range → AllByRecursion IsWrittenLine (lines_behind_head copy.marks (spell copy.cells)) → IsTrue (is_sorted name_cmp copy.marks)
+    → IsTrue (images_rise (spell copy.cells)) → IsTrue (list_all (λ image. in_range copy.range image.key) (spell copy.cells)) → copy.cells ≡ table_of (spell copy.cells) → IsCopyText (copy_text copy) copy
+copy_spelled copy head all names rise inside cells =
+    let says = lines_behind_head copy.marks (spell copy.cells) in
+    record {
+      head = compact_text (head_data copy.range);
+      lines = texts says;
+      images = spell copy.cells;
+      text_is = head_first (head_data copy.range) (texts says) (lines_text says) (text_of-texts says);
+      unbroken = All-cons IsUnbroken (compact_text (head_data copy.range)) (texts says) head.unbroken (unbroken-texts says all);
+      head_is = head.line;
+      lines_are = are_lines-texts says all;
+      names_rise = names;
+      images_rise = rise;
+      inside = inside;
+      cells = cells;
+    }
