@@ -1,10 +1,13 @@
 pub mod Apart
 pub mod Counting
+pub mod EventSteps
+pub mod Events
 pub mod Faith
 pub mod FaithfulCopies
 pub mod Following
 pub mod GapLaws
 pub mod HalfRounds
+pub mod InRange
 pub mod KeyTablets
 pub mod MarkLaws
 pub mod MarkSteps
@@ -21,6 +24,7 @@ pub mod RoundSteps
 pub mod ServingTablets
 pub mod Spelled
 pub mod Standing
+pub mod StillHeld
 pub mod StreamCount
 pub mod TakenImages
 pub mod Together

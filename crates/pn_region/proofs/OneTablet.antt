@@ -1,5 +1,6 @@
 -- An operation on one tablet of a region.
 use Rattle.std.proofs.Common.{◌≡◌, ℕ, zero, suc, Bool, true, false, if◌then◌else◌, List, [], ◌∷◌, ◌++◌, get_or, slice_get, slice_set, Option, None, Some, Result, Ok, Err, refl, sym, ap, ◌∙◌, subst}
+use Rattle.std.specs.Prelude.{IsOk, OnOk}
 use Rattle.std.specs.Option.{option_and_then}
 use Rattle.std.specs.List.{position}
 use Rattle.std.proofs.lemmas.List.Elements.{filter-append}
@@ -142,3 +143,8 @@ module _ (region : RegionValue) (copy : TabletCopyValue) (n : ℕ) (t : TabletSt
 -- the tablet that is read there stands there
 pub stands_at : (region : RegionValue) (copy : TabletCopyValue) (n : ℕ) (t : TabletStateValue) → tablet_for region copy ≡ Some n → t ≡ get_or region.tablets n t → slice_get region.tablets n ≡ Some t
 stands_at region copy n t found is = tablet_at region.tablets n t (position-Some (λ (state : TabletStateValue). same_range state.range copy.range) region.tablets n t found).0 is
+
+-- what a call ensures where it is not refused, which it is not
+pub where_ok : {T E : Type 0} (answer : Result T E) (P : Type 0) → IsOk answer → OnOk answer P → P
+where_ok (Ok value) P taken holds = holds
+where_ok (Err fault) P taken holds = cc

@@ -13,7 +13,9 @@ use Rattle.pn_region.proofs.region.Region.adopt.Goals as goal
 
 pub returns-in_default-clause-refused : goal.returns-in_default-clause-refused
 returns-in_default-clause-refused c =
-    ap (adopting c.args.self.now) (sym c.copy.view_is) ∙ ap (adopting_by c.args.self.now c.copy.inside) (sym c.in_default.ensures)
+    let inside = c.copy.inside in
+    let copy : TabletCopyValue = record { range = inside.range; marks = inside.marks; cells = inside.cells } in
+    ap (adopting c.args.self.now) (sym c.copy.view_is) ∙ ap (adopting_by c.args.self.now copy) (sym c.in_default.ensures)
 
 pub returns-in_err-apply-clause-refused : goal.returns-in_err-apply-clause-refused
 returns-in_err-apply-clause-refused c =
