@@ -33,11 +33,16 @@ pub record Adopts (region : RegionValue) (copy : TabletCopyValue) (n : ℕ) (new
   pub lacks_none : lacks region copy n ≡ None
   pub is : new ≡ stepping region n (Adopt copy)
 
+-- an answer has one value
+one_value : {A E : Type 0} (value other : A) (answer : Result A E) → answer ≡ Ok value → answer ≡ Ok other → value ≡ other
+one_value value other answer is is_too = cc
+
 adopts_unless : (region : RegionValue) (copy : TabletCopyValue) (m n : ℕ) (new : RegionValue) (short : Option Short) → tablet_for region copy ≡ Some m → lacks region copy m ≡ short
     → adopting_unless region copy m short ≡ Ok (n, new) → Adopts region copy n new
 adopts_unless region copy m n new None found none is =
-    let same : m ≡ n = cc in
-    let same_region : stepping region m (Adopt copy) ≡ new = cc in
+    let both = one_value (m, stepping region m (Adopt copy)) (n, new) (adopting_unless region copy m None) refl is in
+    let same : m ≡ n = ap (λ (p : ℕ × RegionValue). p.0) both in
+    let same_region : stepping region m (Adopt copy) ≡ new = ap (λ (p : ℕ × RegionValue). p.1) both in
     record {
       found = found ∙ ap Some same;
       lacks_none = subst (λ (k : ℕ). lacks region copy k ≡ None) same none;
@@ -171,5 +176,5 @@ pub record Grows (t u : TabletStateValue) : Type 0 where
 pub grows_itself : (t : TabletStateValue) → Grows t t
 grows_itself t = record { range = refl; cover = λ name. omega arith }
 
-grows_then : (t u v : TabletStateValue) → Grows t u → Grows u v → Grows t v
+pub grows_then : (t u v : TabletStateValue) → Grows t u → Grows u v → Grows t v
 grows_then t u v first second = record { range = second.range ∙ first.range; cover = λ name. omega (arith, first.cover name, second.cover name) }

@@ -1,5 +1,7 @@
 pub mod Apart
 pub mod Counting
+pub mod Covers
+pub mod EventImages
 pub mod EventSteps
 pub mod Events
 pub mod Faith
@@ -28,3 +30,4 @@ pub mod StillHeld
 pub mod StreamCount
 pub mod TakenImages
 pub mod Together
+pub mod Untraced

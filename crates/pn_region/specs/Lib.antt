@@ -1,3 +1,4 @@
+pub mod Covering
 pub mod Events
 pub mod Faith
 pub mod Held

@@ -1,0 +1,28 @@
+-- What covers tell of the images that a region took.
+use Rattle.std.specs.Prelude.{◌++◌, List, Contains, IsTrue}
+use Rattle.std.specs.List.{AllByRecursion}
+use Rattle.pn_record.specs.declared.image.Image.{Image}
+use Rattle.pn_stream.specs.Brokers.{BrokerRecord, up_to}
+use Rattle.pn_tablet.specs.Ranges.{in_range}
+use Rattle.pn_tablet.specs.Tablets.{TabletStateValue}
+use Rattle.pn_region.specs.Events.{RegionEvent, round, half_round}
+use Rattle.pn_region.specs.Regions.{RegionValue}
+
+-- in a tablet's range, the cover has reached each image that was taken, and it has reached none but these and such as may have been left
+pub record CoverTells (broker : BrokerRecord) (taken left : List Image) (tablet : TabletStateValue) : Type 0 where
+  pub all : (image : Image) → Contains taken image → IsTrue (in_range tablet.range image.key) → Contains (up_to broker tablet.cover) image
+  pub no_others : (image : Image) → Contains (up_to broker tablet.cover) image → IsTrue (in_range tablet.range image.key) → Contains (taken ++ left) image
+
+-- so does the cover of each tablet
+abbrev pub CoversTell : BrokerRecord → List Image → List Image → List TabletStateValue → Type 0
+CoversTell broker taken left tablets = AllByRecursion (CoverTells broker taken left) tablets
+
+-- the event is a round
+abbrev pub IsRound : RegionEvent → Type 0
+IsRound (round deliveries) = Unit {0}
+IsRound (half_round deliveries) = Unit {0}
+IsRound _ = ⊥
+
+-- all are rounds
+abbrev pub AreRounds : List RegionEvent → Type 0
+AreRounds events = AllByRecursion IsRound events
