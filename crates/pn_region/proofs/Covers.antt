@@ -13,7 +13,7 @@ use Rattle.pn_tablet.specs.Copies.{TabletCopyValue}
 use Rattle.pn_tablet.specs.Ranges.{Ends, in_range}
 use Rattle.pn_tablet.specs.Tablets.{TabletStateValue}
 use Rattle.pn_apply.specs.Reducing.{all_images, images_in}
-use Rattle.pn_region.specs.Covering.{CoverTells}
+use Rattle.pn_region.specs.Taken.{CoverTells}
 use Rattle.pn_region.specs.Marking.{new_marks}
 use Rattle.pn_region.proofs.Events.{up_to_more}
 use Rattle.pn_region.proofs.Faith.{brought, was_brought}

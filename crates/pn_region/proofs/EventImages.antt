@@ -27,8 +27,7 @@ use Rattle.pn_tablet.specs.declared.state.Status.TheVariants.{Serving}
 use Rattle.pn_tablet.proofs.Stepping.{one_range}
 use Rattle.pn_apply.specs.Applying.{all_stepped, AreOldOrStepped}
 use Rattle.pn_apply.specs.Reducing.{all_images, images_in, join_in, ranges}
-use Rattle.pn_region.specs.Covering.{CoverTells, CoversTell, IsRound, AreRounds}
-use Rattle.pn_region.specs.Events.{RegionEvent, round, half_round, loss, adoption, LeadsTo, AllLeadTo, IsHonestEvent, AreHonestEvents, taken_by, all_taken, left_by, all_left}
+use Rattle.pn_region.specs.Events.{RegionEvent, round, half_round, loss, adoption, LeadsTo, AllLeadTo, IsHonestEvent, AreHonestEvents}
 use Rattle.pn_region.specs.Faith.{IsFaithful, AreFaithful}
 use Rattle.pn_region.specs.Laws.{AreIn, HasBetween}
 use Rattle.pn_region.specs.Marking.{new_marks}
@@ -36,6 +35,7 @@ use Rattle.pn_region.specs.Recovery.{stepped_at}
 use Rattle.pn_region.specs.Regions.{RegionValue, IsTabletOf, AreTabletsOf, IsRegion, new_region, all_cells}
 use Rattle.pn_region.specs.Rounds.{joins}
 use Rattle.pn_region.specs.Serving.{AllServe}
+use Rattle.pn_region.specs.Taken.{taken_by, all_taken, left_by, all_left, CoverTells, CoversTell, IsRound, AreRounds}
 use Rattle.pn_region.proofs.Apart.{Outside, Apart, ranges_apart}
 use Rattle.pn_region.proofs.Covers.{tells_itself, round_tells, adopted_tells}
 use Rattle.pn_region.proofs.Events.{events_faithful}
@@ -112,8 +112,8 @@ module _ (broker : BrokerRecord) (taken left : List Image) where
     apart_from t apart image there lies = apart image.key lies (from_images_in copy.range (up_to broker copy.marks) image there).lies
 
     both_ways : (b : Bool) → b ≡ true → b ≡ false → ⊥
-    both_ways true yes no = cc
-    both_ways false yes no = cc
+    both_ways true is is_not = cc
+    both_ways false is is_not = cc
 
     others : (range : Ends) (rs : List Ends) (ts : List TabletStateValue) → copy.range ≡ range → AreTabletsOf marks rs ts → Outside range rs → CoversTell broker taken left ts → CoversTell broker (taken ++ more) (left ++ []) ts
     others range [] [] ranged are outside tell = tt

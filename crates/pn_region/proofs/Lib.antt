@@ -23,6 +23,7 @@ pub mod ReadLaws
 pub mod Reading
 pub mod RoundEnds
 pub mod RoundSteps
+pub mod ServedRecords
 pub mod ServingTablets
 pub mod Spelled
 pub mod Standing

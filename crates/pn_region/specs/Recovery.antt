@@ -1,18 +1,17 @@
 -- What losses and adoptions make of a region.
-use Rattle.std.specs.Prelude.{ℕ, zero, suc, Bool, true, false, List, [], ◌∷◌, slice_get, Option, None, Some, Result, Ok, Err}
+use Rattle.std.specs.Prelude.{ℕ, zero, suc, List, [], ◌∷◌, slice_get, Option, None, Some, Result, Ok, Err}
 use Rattle.std.specs.List.{position}
 use Rattle.std.specs.Option.{option_and_then}
 use Rattle.pn_tablet.specs.Copies.{TabletCopyValue}
 use Rattle.pn_tablet.specs.Needs.{lacking}
 use Rattle.pn_tablet.specs.Steps.{stepped}
 use Rattle.pn_tablet.specs.Tablets.{TabletStateValue, same_range}
-use Rattle.pn_tablet.specs.declared.fault.OpFault as op
 use Rattle.pn_tablet.specs.declared.needs.Short.{Short}
 use Rattle.pn_tablet.specs.declared.op.TabletOp.{TabletOp}
 use Rattle.pn_tablet.specs.declared.op.TabletOp.TheVariants.{Lose, Adopt}
 use Rattle.pn_region.specs.Regions.{RegionValue}
 use Rattle.pn_region.specs.declared.fault.AdoptFault.{AdoptFault}
-use Rattle.pn_region.specs.declared.fault.AdoptFault.TheVariants.{WrongRange, TooOld, Memory}
+use Rattle.pn_region.specs.declared.fault.AdoptFault.TheVariants.{WrongRange, TooOld}
 
 -- the tablets after an operation on the one of this number
 abbrev pub stepped_at : ℕ → TabletOp → List TabletStateValue → List TabletStateValue
@@ -49,14 +48,3 @@ adopting_by region copy (Some tablet) = adopting_unless region copy tablet (lack
 -- the tablet of the copy's range, and the region after it took the copy, or why the copy is refused
 abbrev pub adopting : RegionValue → TabletCopyValue → Result (ℕ × RegionValue) AdoptFault
 adopting region copy = adopting_by region copy (tablet_for region copy)
-
--- a tablet's refusal of a copy, as the region's
-abbrev pub refusal_of : op.OpFault → AdoptFault
-refusal_of op.TheVariants.WrongRange = WrongRange
-refusal_of (op.TheVariants.TooOld stream has needs) = TooOld stream has needs
-refusal_of op.TheVariants.Memory = Memory
-
--- the fault says that memory ran out
-abbrev pub is_memory : AdoptFault → Bool
-is_memory Memory = true
-is_memory _ = false

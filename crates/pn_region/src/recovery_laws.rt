@@ -1,12 +1,14 @@
 //! The laws of losses, adoptions and whole lists of events, as contracts. A call does nothing.
 
-ghost use Rattle.std.specs.Prelude.{◌≡◌, ℕ, List, [], ◌++◌, fold, slice_get, Ok, Some};
+ghost use Rattle.std.specs.Prelude.{◌≡◌, ℕ, List, [], ◌++◌, fold, slice_get, Ok, Option, Some};
 ghost use Rattle.std.specs.FinMap.{find};
 ghost use Rattle.pn_join.specs.Marks.{Positions, Reaches};
 ghost use Rattle.pn_record.specs.declared.image.Image.{Image};
 ghost use Rattle.pn_record.specs.Cells.{SameImages};
 ghost use Rattle.pn_record.specs.CellMap.{table_of};
+ghost use Rattle.pn_record.specs.Older.{NotOlder};
 ghost use Rattle.pn_record.specs.Order.{bytes_cmp};
+ghost use Rattle.pn_record.specs.Sets.{CellValue};
 ghost use Rattle.pn_stream.specs.Brokers.{BrokerRecord};
 ghost use Rattle.pn_tablet.specs.Copies.{TabletCopyValue};
 ghost use Rattle.pn_tablet.specs.Copying.{copy_of};
@@ -17,14 +19,14 @@ ghost use Rattle.pn_tablet.specs.Tablets.{TabletStateValue};
 ghost use Rattle.pn_tablet.specs.declared.op.TabletOp.{TabletOp};
 ghost use Rattle.pn_tablet.specs.declared.op.TabletOp.TheVariants.{Adopt};
 ghost use Rattle.pn_tablet.specs.declared.state.Status.TheVariants.{Serving};
-ghost use Rattle.pn_region.specs.Covering.{CoversTell, AreRounds};
-ghost use Rattle.pn_region.specs.Events.{RegionEvent, LeadsTo, AllLeadTo, IsHonestEvent, AreHonestEvents, all_taken, all_left};
+ghost use Rattle.pn_region.specs.Events.{RegionEvent, LeadsTo, AllLeadTo, IsHonestEvent, AreHonestEvents};
 ghost use Rattle.pn_region.specs.Faith.{IsFaithful, AreFaithful};
 ghost use Rattle.pn_region.specs.Held.{HoldsStill};
 ghost use Rattle.pn_region.specs.Honest.{IsHonestCopy};
 ghost use Rattle.pn_region.specs.Laws.{AreIn};
 ghost use Rattle.pn_region.specs.Regions.{RegionValue, IsRegion, new_region, all_cells};
-ghost use Rattle.pn_region.specs.Serving.{AllServe};
+ghost use Rattle.pn_region.specs.Serving.{AllServe, ServesAt};
+ghost use Rattle.pn_region.specs.Taken.{all_taken, all_left, CoversTell, AreRounds};
 
 /// Every event leaves a region: a tablet for each range, whose cover reaches the marks.
 pub fn events_leave_a_region()
@@ -68,6 +70,19 @@ pub fn what_is_served_never_goes_back()
         → slice_get old.tablets tablet ≡ Some before → slice_get new.tablets tablet ≡ Some after
         → before.status ≡ Serving → after.status ≡ Serving
         → (key : List ℕ) → HoldsStill (find bytes_cmp key before.cells) (find bytes_cmp key after.cells) }
+{}
+
+/// So does the region with the records of each key whose tablet serves before and after: they are held still in all
+/// tablets together. A record that is held still is there, and not at an older version.
+pub fn records_served_never_go_back()
+    ensures event { (event : RegionEvent) (old new : RegionValue) (key : List ℕ) → IsRegion old → LeadsTo event old new
+        → ServesAt old key → ServesAt new key
+        → HoldsStill (find bytes_cmp key (all_cells old)) (find bytes_cmp key (all_cells new)) }
+    ensures events { (broker : BrokerRecord) (events : List RegionEvent) (old new : RegionValue) (key : List ℕ) → IsRegion old
+        → AreFaithful broker old.tablets → AreHonestEvents broker events → AllLeadTo events old new
+        → ServesAt old key → ServesAt new key
+        → HoldsStill (find bytes_cmp key (all_cells old)) (find bytes_cmp key (all_cells new)) }
+    ensures versions { (was now : Option CellValue) → HoldsStill was now → NotOlder was now }
 {}
 
 /// A tablet that was lost while it served, took what came and adopted a copy, stands as it would had it never been

@@ -161,3 +161,23 @@ fn a_cover_ahead_of_the_marks_is_the_need(rt: HostRuntime) -> Result<(), Fail> {
     assert_eq!(rt; needs(alloc, &region)?.as_str(), "east:5 ");
     Ok(())
 }
+
+#[test]
+fn a_loss_is_one_tablets_alone(rt: HostRuntime) -> Result<(), Fail> {
+    let alloc = rt.alloc();
+    let mut halves = Region::new(alloc, layout(alloc, &["m"])?)?;
+    take(
+        alloc,
+        &mut halves,
+        delivery(alloc, "east", 1, &["l", "m", "n"])?,
+    )?;
+    halves.lose(1);
+    assert!(rt; halves.read(&Key::of(alloc, "l")?, None)?.is_some());
+    assert!(rt;
+        matches!(
+            halves.read(&Key::of(alloc, "m")?, None),
+            Err(ScanFault::Recovering(1))
+        )
+    );
+    Ok(())
+}
