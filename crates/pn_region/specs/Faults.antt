@@ -1,5 +1,4 @@
--- What the faults of adoptions say.
-use Rattle.std.specs.Prelude.{Bool, true, false}
+-- What a region makes of a tablet's refusal of a copy.
 use Rattle.pn_tablet.specs.declared.fault.OpFault as op
 use Rattle.pn_region.specs.declared.fault.AdoptFault.{AdoptFault}
 use Rattle.pn_region.specs.declared.fault.AdoptFault.TheVariants.{WrongRange, TooOld, Memory}
@@ -9,8 +8,3 @@ abbrev pub refusal_of : op.OpFault → AdoptFault
 refusal_of op.TheVariants.WrongRange = WrongRange
 refusal_of (op.TheVariants.TooOld stream has needs) = TooOld stream has needs
 refusal_of op.TheVariants.Memory = Memory
-
--- the fault says that memory ran out
-abbrev pub is_memory : AdoptFault → Bool
-is_memory Memory = true
-is_memory _ = false

@@ -1,5 +1,5 @@
 -- What losses and adoptions make of a region.
-use Rattle.std.specs.Prelude.{ℕ, zero, suc, List, [], ◌∷◌, slice_get, Option, None, Some, Result, Ok, Err}
+use Rattle.std.specs.Prelude.{ℕ, zero, suc, Bool, true, false, List, [], ◌∷◌, slice_get, Option, None, Some, Result, Ok, Err}
 use Rattle.std.specs.List.{position}
 use Rattle.std.specs.Option.{option_and_then}
 use Rattle.pn_tablet.specs.Copies.{TabletCopyValue}
@@ -11,7 +11,7 @@ use Rattle.pn_tablet.specs.declared.op.TabletOp.{TabletOp}
 use Rattle.pn_tablet.specs.declared.op.TabletOp.TheVariants.{Lose, Adopt}
 use Rattle.pn_region.specs.Regions.{RegionValue}
 use Rattle.pn_region.specs.declared.fault.AdoptFault.{AdoptFault}
-use Rattle.pn_region.specs.declared.fault.AdoptFault.TheVariants.{WrongRange, TooOld}
+use Rattle.pn_region.specs.declared.fault.AdoptFault.TheVariants.{WrongRange, TooOld, Memory}
 
 -- the tablets after an operation on the one of this number
 abbrev pub stepped_at : ℕ → TabletOp → List TabletStateValue → List TabletStateValue
@@ -48,3 +48,8 @@ adopting_by region copy (Some tablet) = adopting_unless region copy tablet (lack
 -- the tablet of the copy's range, and the region after it took the copy, or why the copy is refused
 abbrev pub adopting : RegionValue → TabletCopyValue → Result (ℕ × RegionValue) AdoptFault
 adopting region copy = adopting_by region copy (tablet_for region copy)
+
+-- the fault says that memory ran out
+abbrev pub is_memory : AdoptFault → Bool
+is_memory Memory = true
+is_memory _ = false

@@ -6,8 +6,7 @@ ghost use Rattle.pn_tablet.specs.Copying.{copy_of, is_memory as is_no_copy_memor
 ghost use Rattle.pn_tablet.specs.Refusals.{Answers, Refuses};
 ghost use Rattle.pn_tablet.specs.Tablets.{same_range};
 ghost use Rattle.pn_tablet.specs.declared.fault.CopyFault.TheVariants.{NoEntry};
-ghost use Rattle.pn_region.specs.Faults.{is_memory};
-ghost use Rattle.pn_region.specs.Recovery.{losing, adopting};
+ghost use Rattle.pn_region.specs.Recovery.{losing, adopting, is_memory};
 
 use super::Region;
 use crate::AdoptFault;

@@ -5,8 +5,8 @@ use Rattle.pn_tablet.specs.Copies.{TabletCopyValue}
 use Rattle.pn_tablet.specs.Refusals.{Refuses}
 use Rattle.pn_tablet.specs.Tablets.{lie_in}
 use Rattle.pn_tablet.specs.declared.op.TabletOp.TheVariants.{Adopt}
-use Rattle.pn_region.specs.Faults.{refusal_of, is_memory}
-use Rattle.pn_region.specs.Recovery.{tablet_for, adopting_by, adopting}
+use Rattle.pn_region.specs.Faults.{refusal_of}
+use Rattle.pn_region.specs.Recovery.{tablet_for, adopting_by, adopting, is_memory}
 use Rattle.pn_region.specs.Regions.{RegionValue}
 use Rattle.pn_region.proofs.OneTablet.{stands_at, now_lawful, adopted_at, refused_at}
 use Rattle.pn_region.proofs.RoundEnds.{handed_on}
