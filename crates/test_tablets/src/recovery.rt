@@ -5,7 +5,7 @@ use crate::region::text_of;
 use pn_apply::Open;
 use pn_join::{Marks, Name, raise_at};
 use pn_record::{Key, KeyFault, Version, read_image};
-use pn_region::Region;
+use pn_region::{AdoptFault, Region};
 use pn_scan::ScanFault;
 use pn_stream::Delivery;
 use pn_tablet::{Status, TabletCopy};
@@ -179,5 +179,12 @@ fn a_loss_is_one_tablets_alone(rt: HostRuntime) -> Result<(), Fail> {
             Err(ScanFault::Recovering(1))
         )
     );
+    Ok(())
+}
+
+#[test]
+fn out_of_memory_is_printed(rt: HostRuntime) -> Result<(), Fail> {
+    let text = format!(in rt.alloc(); "{}", AdoptFault::Memory)?;
+    assert_eq!(rt; text.as_str(), "out of memory");
     Ok(())
 }
