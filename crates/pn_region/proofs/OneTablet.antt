@@ -1,5 +1,6 @@
 -- An operation on one tablet of a region.
-use Rattle.std.proofs.Common.{◌≡◌, ℕ, zero, suc, Bool, true, false, if◌then◌else◌, List, [], ◌∷◌, ◌++◌, get_or, slice_get, slice_set, Option, None, Some, Result, Ok, Err, refl, sym, ap, ◌∙◌, subst}
+use Rattle.std.proofs.Common.{◌≡◌, ℕ, zero, suc, ◌<◌, Bool, true, false, if◌then◌else◌, List, [], ◌∷◌, ◌++◌, length, get_or, slice_get, slice_set, Option, None, Some, Result, Ok, Err, refl, sym, ap, ◌∙◌, subst}
+use Rattle.std.specs.Prelude.{IsOk, OnOk}
 use Rattle.std.specs.Option.{option_and_then}
 use Rattle.std.specs.List.{position}
 use Rattle.std.proofs.lemmas.List.Elements.{filter-append}
@@ -14,7 +15,7 @@ use Rattle.pn_tablet.specs.Ranges.{Ends, in_range}
 use Rattle.pn_tablet.specs.Refusals.{Refuses}
 use Rattle.pn_tablet.specs.Steps.{taking, lost, step, after_step, stepped}
 use Rattle.pn_tablet.specs.Steps as steps
-use Rattle.pn_tablet.specs.Tablets.{TabletStateValue, lie_in, same_range}
+use Rattle.pn_tablet.specs.Tablets.{TabletStateValue, empty_tablet, lie_in, same_range}
 use Rattle.pn_tablet.specs.declared.fault.OpFault.{OpFault}
 use Rattle.pn_tablet.specs.declared.fault.OpFault.TheVariants as op
 use Rattle.pn_tablet.specs.declared.needs.Short.{Short}
@@ -25,7 +26,8 @@ use Rattle.pn_tablet.proofs.Keeping.{spelled_adds, spelled_nil}
 use Rattle.pn_tablet.proofs.Stepping.{one_range}
 use Rattle.pn_tablet.proofs.TabletLaws.{adopted}
 use Rattle.pn_apply.proofs.ReduceLaws.{cells_inside}
-use Rattle.pn_region.specs.Recovery.{stepped_at, stepping, tablet_for, lacks, adopting_unless, adopting_by, adopting, refusal_of, is_memory}
+use Rattle.pn_region.specs.Faults.{refusal_of}
+use Rattle.pn_region.specs.Recovery.{stepped_at, stepping, tablet_for, lacks, adopting_unless, adopting_by, adopting, is_memory}
 use Rattle.pn_region.specs.Regions.{RegionValue, IsTabletOf, AreTabletsOf, IsRegion, IsLawfulRegion}
 use Rattle.pn_region.proofs.NewRegion.{tablet_at}
 use Rattle.pn_region.proofs.RoundSteps.{old_reached}
@@ -139,6 +141,15 @@ module _ (region : RegionValue) (copy : TabletCopyValue) (n : ℕ) (t : TabletSt
       (refused_by (lacking t.status copy.marks) refusal
       (subst (Refuses steps.is_memory refusal) (ap (λ (b : Bool). if b then steps.adopting t copy (lacking t.status copy.marks) else Err op.WrongRange) (found_at region copy n t found there)) right))
 
+-- the tablet that is found is one of them
+pub found_within : (region : RegionValue) (copy : TabletCopyValue) (n : ℕ) → tablet_for region copy ≡ Some n → n < length region.tablets
+found_within region copy n found = (position-Some (λ (state : TabletStateValue). same_range state.range copy.range) region.tablets n (empty_tablet copy.range) found).0
+
 -- the tablet that is read there stands there
 pub stands_at : (region : RegionValue) (copy : TabletCopyValue) (n : ℕ) (t : TabletStateValue) → tablet_for region copy ≡ Some n → t ≡ get_or region.tablets n t → slice_get region.tablets n ≡ Some t
 stands_at region copy n t found is = tablet_at region.tablets n t (position-Some (λ (state : TabletStateValue). same_range state.range copy.range) region.tablets n t found).0 is
+
+-- what a call ensures where it is not refused, which it is not
+pub where_ok : {T E : Type 0} (answer : Result T E) (P : Type 0) → IsOk answer → OnOk answer P → P
+where_ok (Ok value) P taken holds = holds
+where_ok (Err fault) P taken holds = cc

@@ -1,11 +1,9 @@
 -- What happens to a region, one event after another.
 use Rattle.std.specs.Prelude.{◌≡◌, ℕ, List, [], ◌∷◌, Ok}
-use Rattle.std.specs.List.{AllByRecursion, flat_map}
-use Rattle.pn_record.specs.declared.image.Image.{Image}
-use Rattle.pn_stream.specs.Brokers.{BrokerRecord, AreHonest, up_to}
+use Rattle.std.specs.List.{AllByRecursion}
+use Rattle.pn_stream.specs.Brokers.{BrokerRecord, AreHonest}
 use Rattle.pn_stream.specs.Positions.{DeliveryValue}
 use Rattle.pn_tablet.specs.Copies.{TabletCopyValue, IsCopy}
-use Rattle.pn_apply.specs.Reducing.{all_images, images_in}
 use Rattle.pn_region.specs.Honest.{IsHonestCopy}
 use Rattle.pn_region.specs.Recovery.{losing, adopting}
 use Rattle.pn_region.specs.Regions.{RegionValue}
@@ -45,20 +43,3 @@ IsHonestEvent broker (adoption copy) = IsHonestCopy broker copy
 
 abbrev pub AreHonestEvents : BrokerRecord → List RegionEvent → Type 0
 AreHonestEvents broker events = AllByRecursion (IsHonestEvent broker) events
-
--- the images that an event takes: those of a round, and those in a copy's range up to its marks
-abbrev pub taken_by : BrokerRecord → RegionEvent → List Image
-taken_by broker (round deliveries) = all_images deliveries
-taken_by broker (adoption copy) = images_in copy.range (up_to broker copy.marks)
-taken_by broker _ = []
-
-abbrev pub all_taken : BrokerRecord → List RegionEvent → List Image
-all_taken broker events = flat_map (taken_by broker) events
-
--- the images that an event may leave in some tablets: those of a round that ran out of memory
-abbrev pub left_by : RegionEvent → List Image
-left_by (half_round deliveries) = all_images deliveries
-left_by _ = []
-
-abbrev pub all_left : List RegionEvent → List Image
-all_left events = flat_map left_by events

@@ -1,5 +1,6 @@
 pub mod Events
 pub mod Faith
+pub mod Faults
 pub mod Held
 pub mod Honest
 pub mod Laws
@@ -11,3 +12,4 @@ pub mod Recovery
 pub mod Regions
 pub mod Rounds
 pub mod Serving
+pub mod Taken

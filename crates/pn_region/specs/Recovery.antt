@@ -6,7 +6,6 @@ use Rattle.pn_tablet.specs.Copies.{TabletCopyValue}
 use Rattle.pn_tablet.specs.Needs.{lacking}
 use Rattle.pn_tablet.specs.Steps.{stepped}
 use Rattle.pn_tablet.specs.Tablets.{TabletStateValue, same_range}
-use Rattle.pn_tablet.specs.declared.fault.OpFault as op
 use Rattle.pn_tablet.specs.declared.needs.Short.{Short}
 use Rattle.pn_tablet.specs.declared.op.TabletOp.{TabletOp}
 use Rattle.pn_tablet.specs.declared.op.TabletOp.TheVariants.{Lose, Adopt}
@@ -49,12 +48,6 @@ adopting_by region copy (Some tablet) = adopting_unless region copy tablet (lack
 -- the tablet of the copy's range, and the region after it took the copy, or why the copy is refused
 abbrev pub adopting : RegionValue → TabletCopyValue → Result (ℕ × RegionValue) AdoptFault
 adopting region copy = adopting_by region copy (tablet_for region copy)
-
--- a tablet's refusal of a copy, as the region's
-abbrev pub refusal_of : op.OpFault → AdoptFault
-refusal_of op.TheVariants.WrongRange = WrongRange
-refusal_of (op.TheVariants.TooOld stream has needs) = TooOld stream has needs
-refusal_of op.TheVariants.Memory = Memory
 
 -- the fault says that memory ran out
 abbrev pub is_memory : AdoptFault → Bool

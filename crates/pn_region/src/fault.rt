@@ -1,7 +1,7 @@
 //! Why a round was refused, or an adoption.
 
 ghost use Rattle.std.specs.Prelude.{◌≡◌};
-ghost use Rattle.pn_region.specs.Recovery.{refusal_of};
+ghost use Rattle.pn_region.specs.Faults.{refusal_of};
 ghost use Rattle.pn_region.specs.declared.fault.RoundFault.TheVariants.{Memory as no_memory};
 
 use pn_join::{NoMemory, StreamName};

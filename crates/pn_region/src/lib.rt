@@ -9,6 +9,7 @@ pub mod laws;
 mod marking;
 pub mod read_laws;
 mod reads;
+pub mod recovery_laws;
 mod region;
 
 pub use fault::{AdoptFault, RoundFault};

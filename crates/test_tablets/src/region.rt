@@ -11,8 +11,8 @@ use pn_stream::Delivery;
 use std::alloc::Global;
 use std::test::Fail;
 
-// Each stream with its position.
-fn text_of(alloc: Global, marks: &Marks) -> Result<String, Fail> {
+/// Each stream with its position.
+pub(crate) fn text_of(alloc: Global, marks: &Marks) -> Result<String, Fail> {
     let mut text = String::new(alloc);
     for place in 0..marks.len() {
         if let Some((stream, position)) = marks.entry_at(place) {

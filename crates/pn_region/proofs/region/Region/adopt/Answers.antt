@@ -5,7 +5,8 @@ use Rattle.pn_tablet.specs.Copies.{TabletCopyValue}
 use Rattle.pn_tablet.specs.Refusals.{Refuses}
 use Rattle.pn_tablet.specs.Tablets.{lie_in}
 use Rattle.pn_tablet.specs.declared.op.TabletOp.TheVariants.{Adopt}
-use Rattle.pn_region.specs.Recovery.{tablet_for, adopting_by, adopting, refusal_of, is_memory}
+use Rattle.pn_region.specs.Faults.{refusal_of}
+use Rattle.pn_region.specs.Recovery.{tablet_for, adopting_by, adopting, is_memory}
 use Rattle.pn_region.specs.Regions.{RegionValue}
 use Rattle.pn_region.proofs.OneTablet.{stands_at, now_lawful, adopted_at, refused_at}
 use Rattle.pn_region.proofs.RoundEnds.{handed_on}
@@ -13,7 +14,9 @@ use Rattle.pn_region.proofs.region.Region.adopt.Goals as goal
 
 pub returns-in_default-clause-refused : goal.returns-in_default-clause-refused
 returns-in_default-clause-refused c =
-    ap (adopting c.args.self.now) (sym c.copy.view_is) ∙ ap (adopting_by c.args.self.now c.copy.inside) (sym c.in_default.ensures)
+    let inside = c.copy.inside in
+    let copy : TabletCopyValue = record { range = inside.range; marks = inside.marks; cells = inside.cells } in
+    ap (adopting c.args.self.now) (sym c.copy.view_is) ∙ ap (adopting_by c.args.self.now copy) (sym c.in_default.ensures)
 
 pub returns-in_err-apply-clause-refused : goal.returns-in_err-apply-clause-refused
 returns-in_err-apply-clause-refused c =
