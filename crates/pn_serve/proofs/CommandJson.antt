@@ -206,7 +206,7 @@ adopt_again lines keeps = rw keeps refl
 
 copy_again : (said : Option Data) (need : Positions) (tablet : ℕ) → need_at said ≡ Ok need → command_in (copy_command said tablet) ≡ Ok (copy need tablet)
 unfolding command_in copy_in
-copy_again None need tablet is = rw is refl
+copy_again None need tablet is = let none : [] ≡ need = cc in ap (λ (marks : Positions). Ok (copy marks tablet)) none
 copy_again (Some d) need tablet is = rw is refl
 
 -- a command's value is read as the command

@@ -70,7 +70,7 @@ others_keep m sure maybe keeps =
 
 -- a copy changes nothing
 shown_stays : (m : Machine) (tablet : ℕ) (right : Result TabletCopyValue CopyFault) → (showing_copy m tablet right).machine ≡ m
-shown_stays m tablet (Ok copy) = refl
+shown_stays m tablet (Ok given) = refl
 shown_stays m tablet (Err fault) = refl
 
 pub copy_stays : (m : Machine) (need : Positions) (tablet : ℕ) → (copying m need tablet).machine ≡ m
@@ -82,30 +82,30 @@ copy_stays m need tablet = at (slice_get m.region.tablets tablet)
 
 pub said_keeps : (m : Machine) (said : Result CommandValue Refusal) (sure maybe : List Image) → KeepsTablets said → Keeps sure maybe m.region
     → Keeps (sure ++ accepted_images (deliveries_asked said) (new_marks m.region.marks (deliveries_asked said))) (maybe ++ []) (turn_of m done said).machine.region
-said_keeps m (Ok (adopt lines)) sure maybe no keeps = absurd no
-said_keeps m (Ok (copy need tablet)) sure maybe no keeps =
+said_keeps m (Ok (adopt lines)) sure maybe stay keeps = absurd stay
+said_keeps m (Ok (copy need tablet)) sure maybe stay keeps =
     subst (λ (n : Machine). Keeps (sure ++ accepted_images [] (new_marks m.region.marks [])) (maybe ++ []) n.region) (sym (copy_stays m need tablet)) (others_keep m sure maybe keeps)
-said_keeps m (Ok (deliver deliveries)) sure maybe no keeps = delivered_keeps m deliveries (new_marks m.region.marks deliveries) sure maybe keeps
-said_keeps m (Ok (get keys)) sure maybe no keeps = others_keep m sure maybe keeps
-said_keeps m (Ok (lose tablet)) sure maybe no keeps = absurd no
-said_keeps m (Ok marks) sure maybe no keeps = others_keep m sure maybe keeps
-said_keeps m (Ok (read key version)) sure maybe no keeps = others_keep m sure maybe keeps
-said_keeps m (Ok (scan query)) sure maybe no keeps = others_keep m sure maybe keeps
-said_keeps m (Ok tablets) sure maybe no keeps = others_keep m sure maybe keeps
-said_keeps m (Err refusal) sure maybe no keeps = others_keep m sure maybe keeps
+said_keeps m (Ok (deliver deliveries)) sure maybe stay keeps = delivered_keeps m deliveries (new_marks m.region.marks deliveries) sure maybe keeps
+said_keeps m (Ok (get keys)) sure maybe stay keeps = others_keep m sure maybe keeps
+said_keeps m (Ok (lose tablet)) sure maybe stay keeps = absurd stay
+said_keeps m (Ok marks) sure maybe stay keeps = others_keep m sure maybe keeps
+said_keeps m (Ok (read key version)) sure maybe stay keeps = others_keep m sure maybe keeps
+said_keeps m (Ok (scan query)) sure maybe stay keeps = others_keep m sure maybe keeps
+said_keeps m (Ok tablets) sure maybe stay keeps = others_keep m sure maybe keeps
+said_keeps m (Err refusal) sure maybe stay keeps = others_keep m sure maybe keeps
 
 -- out of memory in a call, nothing changes
 pub call_stays : (m : Machine) (said : Result CommandValue Refusal) → KeepsTablets said → (turn_of m call said).machine ≡ m
-call_stays m (Ok (adopt lines)) no = absurd no
-call_stays m (Ok (copy need tablet)) no = refl
-call_stays m (Ok (deliver deliveries)) no = refl
-call_stays m (Ok (get keys)) no = refl
-call_stays m (Ok (lose tablet)) no = absurd no
-call_stays m (Ok marks) no = refl
-call_stays m (Ok (read key version)) no = refl
-call_stays m (Ok (scan query)) no = refl
-call_stays m (Ok tablets) no = refl
-call_stays m (Err refusal) no = refl
+call_stays m (Ok (adopt lines)) stay = absurd stay
+call_stays m (Ok (copy need tablet)) stay = refl
+call_stays m (Ok (deliver deliveries)) stay = refl
+call_stays m (Ok (get keys)) stay = refl
+call_stays m (Ok (lose tablet)) stay = absurd stay
+call_stays m (Ok marks) stay = refl
+call_stays m (Ok (read key version)) stay = refl
+call_stays m (Ok (scan query)) stay = refl
+call_stays m (Ok tablets) stay = refl
+call_stays m (Err refusal) stay = refl
 
 -- a round that some tablets took
 pub partly_keeps : (region : RegionValue) (deliveries : List DeliveryValue) (flags : List Bool) (sure maybe : List Image) (some : Bool) (right : Result Positions RoundFault)
@@ -132,18 +132,18 @@ others_partly m some sure maybe keeps =
 
 pub partly_said_keeps : (m : Machine) (flags : List Bool) (said : Result CommandValue Refusal) (sure maybe : List Image) → KeepsTablets said → Keeps sure maybe m.region
     → Keeps (sure ++ []) (maybe ++ (if some_tablet flags m.region.tablets then accepted_images (deliveries_asked said) (new_marks m.region.marks (deliveries_asked said)) else [])) (turn_of m (round flags) said).machine.region
-partly_said_keeps m flags (Ok (adopt lines)) sure maybe no keeps = absurd no
-partly_said_keeps m flags (Ok (copy need tablet)) sure maybe no keeps =
+partly_said_keeps m flags (Ok (adopt lines)) sure maybe stay keeps = absurd stay
+partly_said_keeps m flags (Ok (copy need tablet)) sure maybe stay keeps =
     subst (λ (n : Machine). Keeps (sure ++ []) (maybe ++ (if some_tablet flags m.region.tablets then accepted_images [] (new_marks m.region.marks []) else [])) n.region) (sym (copy_stays m need tablet))
     (others_partly m (some_tablet flags m.region.tablets) sure maybe keeps)
-partly_said_keeps m flags (Ok (deliver deliveries)) sure maybe no keeps = partly_keeps m.region deliveries flags sure maybe (some_tablet flags m.region.tablets) (new_marks m.region.marks deliveries) refl refl keeps
-partly_said_keeps m flags (Ok (get keys)) sure maybe no keeps = others_partly m (some_tablet flags m.region.tablets) sure maybe keeps
-partly_said_keeps m flags (Ok (lose tablet)) sure maybe no keeps = absurd no
-partly_said_keeps m flags (Ok marks) sure maybe no keeps = others_partly m (some_tablet flags m.region.tablets) sure maybe keeps
-partly_said_keeps m flags (Ok (read key version)) sure maybe no keeps = others_partly m (some_tablet flags m.region.tablets) sure maybe keeps
-partly_said_keeps m flags (Ok (scan query)) sure maybe no keeps = others_partly m (some_tablet flags m.region.tablets) sure maybe keeps
-partly_said_keeps m flags (Ok tablets) sure maybe no keeps = others_partly m (some_tablet flags m.region.tablets) sure maybe keeps
-partly_said_keeps m flags (Err refusal) sure maybe no keeps = others_partly m (some_tablet flags m.region.tablets) sure maybe keeps
+partly_said_keeps m flags (Ok (deliver deliveries)) sure maybe stay keeps = partly_keeps m.region deliveries flags sure maybe (some_tablet flags m.region.tablets) (new_marks m.region.marks deliveries) refl refl keeps
+partly_said_keeps m flags (Ok (get keys)) sure maybe stay keeps = others_partly m (some_tablet flags m.region.tablets) sure maybe keeps
+partly_said_keeps m flags (Ok (lose tablet)) sure maybe stay keeps = absurd stay
+partly_said_keeps m flags (Ok marks) sure maybe stay keeps = others_partly m (some_tablet flags m.region.tablets) sure maybe keeps
+partly_said_keeps m flags (Ok (read key version)) sure maybe stay keeps = others_partly m (some_tablet flags m.region.tablets) sure maybe keeps
+partly_said_keeps m flags (Ok (scan query)) sure maybe stay keeps = others_partly m (some_tablet flags m.region.tablets) sure maybe keeps
+partly_said_keeps m flags (Ok tablets) sure maybe stay keeps = others_partly m (some_tablet flags m.region.tablets) sure maybe keeps
+partly_said_keeps m flags (Err refusal) sure maybe stay keeps = others_partly m (some_tablet flags m.region.tablets) sure maybe keeps
 
 -- of a machine that waits for a command
 module _ (region : RegionValue) where
@@ -152,11 +152,11 @@ module _ (region : RegionValue) where
 
   outcome_keeps : (outcome : Outcome) (text : List ℕ) (sure maybe : List Image) → KeepsTablets (command_at text) → Keeps sure maybe region
       → Keeps (sure ++ images_taken here outcome text) (maybe ++ images_left here outcome text) (turn_of here outcome (command_at text)).machine.region
-  outcome_keeps done text sure maybe no keeps = said_keeps here (command_at text) sure maybe no keeps
-  outcome_keeps line text sure maybe no keeps = as_before sure maybe region keeps
-  outcome_keeps call text sure maybe no keeps =
-      subst (λ (n : Machine). Keeps (sure ++ []) (maybe ++ []) n.region) (sym (call_stays here (command_at text) no)) (as_before sure maybe region keeps)
-  outcome_keeps (round flags) text sure maybe no keeps = partly_said_keeps here flags (command_at text) sure maybe no keeps
+  outcome_keeps done text sure maybe stay keeps = said_keeps here (command_at text) sure maybe stay keeps
+  outcome_keeps line text sure maybe stay keeps = as_before sure maybe region keeps
+  outcome_keeps call text sure maybe stay keeps =
+      subst (λ (n : Machine). Keeps (sure ++ []) (maybe ++ []) n.region) (sym (call_stays here (command_at text) stay)) (as_before sure maybe region keeps)
+  outcome_keeps (round flags) text sure maybe stay keeps = partly_said_keeps here flags (command_at text) sure maybe stay keeps
 
   -- a line that is too long brings no images
   long_brings : (text : List ℕ) → 65536 < length text → images_brought here text ≡ []
@@ -196,9 +196,9 @@ module _ (region : RegionValue) where
 
   here_keeps : (outcome : Outcome) (text : List ℕ) (sure maybe : List Image) → KeepsTablets (command_at text) → Keeps sure maybe region
       → Keeps (sure ++ images_taken here outcome text) (maybe ++ images_left here outcome text) (turn here outcome text).machine.region
-  here_keeps outcome text sure maybe no keeps = elim (cases_lt 65536 (length text)) [
+  here_keeps outcome text sure maybe stay keeps = elim (cases_lt 65536 (length text)) [
     | inl long ↦ long_keeps outcome text sure maybe long keeps
-    | inr short ↦ subst (λ (t : Turn). Keeps (sure ++ images_taken here outcome text) (maybe ++ images_left here outcome text) t.machine.region) (sym (turn-short outcome text short)) (outcome_keeps outcome text sure maybe no keeps)
+    | inr short ↦ subst (λ (t : Turn). Keeps (sure ++ images_taken here outcome text) (maybe ++ images_left here outcome text) t.machine.region) (sym (turn-short outcome text short)) (outcome_keeps outcome text sure maybe stay keeps)
   ]
 
   -- and of which a command is waited for behind the line
@@ -207,37 +207,37 @@ module _ (region : RegionValue) where
   delivered_waits (Err fault) = refl
 
   done_waits : (said : Result CommandValue Refusal) → KeepsTablets said → (turn_of here done said).machine.mode ≡ idle
-  done_waits (Ok (adopt lines)) no = absurd no
-  done_waits (Ok (copy need tablet)) no = ap (λ (m : Machine). m.mode) (copy_stays here need tablet)
-  done_waits (Ok (deliver deliveries)) no = delivered_waits _
-  done_waits (Ok (get keys)) no = refl
-  done_waits (Ok (lose tablet)) no = absurd no
-  done_waits (Ok marks) no = refl
-  done_waits (Ok (read key version)) no = refl
-  done_waits (Ok (scan query)) no = refl
-  done_waits (Ok tablets) no = refl
-  done_waits (Err refusal) no = refl
+  done_waits (Ok (adopt lines)) stay = absurd stay
+  done_waits (Ok (copy need tablet)) stay = ap (λ (m : Machine). m.mode) (copy_stays here need tablet)
+  done_waits (Ok (deliver deliveries)) stay = delivered_waits _
+  done_waits (Ok (get keys)) stay = refl
+  done_waits (Ok (lose tablet)) stay = absurd stay
+  done_waits (Ok marks) stay = refl
+  done_waits (Ok (read key version)) stay = refl
+  done_waits (Ok (scan query)) stay = refl
+  done_waits (Ok tablets) stay = refl
+  done_waits (Err refusal) stay = refl
 
   round_waits : (flags : List Bool) (said : Result CommandValue Refusal) → KeepsTablets said → (turn_of here (round flags) said).machine.mode ≡ idle
-  round_waits flags (Ok (adopt lines)) no = absurd no
-  round_waits flags (Ok (copy need tablet)) no = ap (λ (m : Machine). m.mode) (copy_stays here need tablet)
-  round_waits flags (Ok (deliver deliveries)) no = refl
-  round_waits flags (Ok (get keys)) no = refl
-  round_waits flags (Ok (lose tablet)) no = absurd no
-  round_waits flags (Ok marks) no = refl
-  round_waits flags (Ok (read key version)) no = refl
-  round_waits flags (Ok (scan query)) no = refl
-  round_waits flags (Ok tablets) no = refl
-  round_waits flags (Err refusal) no = refl
+  round_waits flags (Ok (adopt lines)) stay = absurd stay
+  round_waits flags (Ok (copy need tablet)) stay = ap (λ (m : Machine). m.mode) (copy_stays here need tablet)
+  round_waits flags (Ok (deliver deliveries)) stay = refl
+  round_waits flags (Ok (get keys)) stay = refl
+  round_waits flags (Ok (lose tablet)) stay = absurd stay
+  round_waits flags (Ok marks) stay = refl
+  round_waits flags (Ok (read key version)) stay = refl
+  round_waits flags (Ok (scan query)) stay = refl
+  round_waits flags (Ok tablets) stay = refl
+  round_waits flags (Err refusal) stay = refl
 
   said_waits : (outcome : Outcome) (said : Result CommandValue Refusal) → KeepsTablets said → (turn_of here outcome said).machine.mode ≡ idle
-  said_waits done said no = done_waits said no
-  said_waits line said no = refl
-  said_waits call said no = ap (λ (m : Machine). m.mode) (call_stays here said no)
-  said_waits (round flags) said no = round_waits flags said no
+  said_waits done said stay = done_waits said stay
+  said_waits line said stay = refl
+  said_waits call said stay = ap (λ (m : Machine). m.mode) (call_stays here said stay)
+  said_waits (round flags) said stay = round_waits flags said stay
 
   here_waits : (outcome : Outcome) (text : List ℕ) → KeepsTablets (command_at text) → (turn here outcome text).machine.mode ≡ idle
-  here_waits outcome text no = said_waits (outcome_at outcome text) (command_at text) no
+  here_waits outcome text stay = said_waits (outcome_at outcome text) (command_at text) stay
 
 -- a machine that waits for a command serves its region
 pub as_serving : (m : Machine) → m.mode ≡ idle → m ≡ serving m.region
@@ -245,36 +245,36 @@ as_serving m waits = λ i. record { mode = waits i; region = m.region }
 
 pub turn_keeps : (m : Machine) (outcome : Outcome) (text : List ℕ) (sure maybe : List Image) → m.mode ≡ idle → KeepsTablets (command_at text) → Keeps sure maybe m.region
     → Keeps (sure ++ images_taken m outcome text) (maybe ++ images_left m outcome text) (turn m outcome text).machine.region
-turn_keeps m outcome text sure maybe waits no keeps =
+turn_keeps m outcome text sure maybe waits stay keeps =
     subst (λ (n : Machine). Keeps (sure ++ images_taken n outcome text) (maybe ++ images_left n outcome text) (turn n outcome text).machine.region) (sym (as_serving m waits))
-    (here_keeps m.region outcome text sure maybe no keeps)
+    (here_keeps m.region outcome text sure maybe stay keeps)
 
 pub turn_waits : (m : Machine) (outcome : Outcome) (text : List ℕ) → m.mode ≡ idle → KeepsTablets (command_at text) → (turn m outcome text).machine.mode ≡ idle
-turn_waits m outcome text waits no = subst (λ (n : Machine). (turn n outcome text).machine.mode ≡ idle) (sym (as_serving m waits)) (here_waits m.region outcome text no)
+turn_waits m outcome text waits stay = subst (λ (n : Machine). (turn n outcome text).machine.mode ≡ idle) (sym (as_serving m waits)) (here_waits m.region outcome text stay)
 
 -- what no line says
 abbrev Keeping : List ℕ → Type 0
 Keeping text = KeepsTablets (command_at text)
 
 pub after_waits : (m : Machine) (lines : List (List ℕ)) (outcomes : List Outcome) → m.mode ≡ idle → NoLosses lines → (machine_after m lines outcomes).mode ≡ idle
-after_waits m [] outcomes waits no = waits
-after_waits m (text ∷ lines) outcomes waits no =
+after_waits m [] outcomes waits stay = waits
+after_waits m (text ∷ lines) outcomes waits stay =
     let outcome = first_outcome outcomes in
-    after_waits (turn m outcome text).machine lines (later_outcomes outcomes) (turn_waits m outcome text waits (All-head Keeping text lines no)) (All-tail Keeping text lines no)
+    after_waits (turn m outcome text).machine lines (later_outcomes outcomes) (turn_waits m outcome text waits (All-head Keeping text lines stay)) (All-tail Keeping text lines stay)
 
 pub after_keeps : (m : Machine) (lines : List (List ℕ)) (outcomes : List Outcome) (sure maybe : List Image) → m.mode ≡ idle → NoLosses lines → Keeps sure maybe m.region
     → Keeps (sure ++ taken_from m lines outcomes) (maybe ++ left_from m lines outcomes) (machine_after m lines outcomes).region
-after_keeps m [] outcomes sure maybe waits no keeps = as_before sure maybe m.region keeps
-after_keeps m (text ∷ lines) outcomes sure maybe waits no keeps =
+after_keeps m [] outcomes sure maybe waits stay keeps = as_before sure maybe m.region keeps
+after_keeps m (text ∷ lines) outcomes sure maybe waits stay keeps =
     let outcome = first_outcome outcomes in
     let later = later_outcomes outcomes in
     let next = (turn m outcome text).machine in
     let took = images_taken m outcome text in
     let left = images_left m outcome text in
-    let first = All-head Keeping text lines no in
+    let first = All-head Keeping text lines stay in
     subst (λ (s : List Image). Keeps s (maybe ++ (left ++ left_from next lines later)) (machine_after next lines later).region) (append_assoc sure took (taken_from next lines later))
     (subst (λ (some : List Image). Keeps ((sure ++ took) ++ taken_from next lines later) some (machine_after next lines later).region) (append_assoc maybe left (left_from next lines later))
-    (after_keeps next lines later (sure ++ took) (maybe ++ left) (turn_waits m outcome text waits first) (All-tail Keeping text lines no) (turn_keeps m outcome text sure maybe waits first keeps)))
+    (after_keeps next lines later (sure ++ took) (maybe ++ left) (turn_waits m outcome text waits first) (All-tail Keeping text lines stay) (turn_keeps m outcome text sure maybe waits first keeps)))
 
 pub new_keeps : (bounds : Bounds) → IsLayout bounds → Keeps [] [] (new_region bounds)
 new_keeps bounds lawful = record { region_is = new_is bounds (map empty_tablet (ranges bounds)) [] lawful refl refl; between = new_between bounds; serves = new_serves bounds }
@@ -282,7 +282,7 @@ new_keeps bounds lawful = record { region_is = new_is bounds (map empty_tablet (
 -- what holds after lines from a new region on
 pub served_keeps : (bounds : Bounds) (lines : List (List ℕ)) (outcomes : List Outcome) → IsLayout bounds → NoLosses lines
     → Keeps (taken_from (serving (new_region bounds)) lines outcomes) (left_from (serving (new_region bounds)) lines outcomes) (machine_after (serving (new_region bounds)) lines outcomes).region
-served_keeps bounds lines outcomes lawful no = after_keeps (serving (new_region bounds)) lines outcomes [] [] refl no (new_keeps bounds lawful)
+served_keeps bounds lines outcomes lawful stay = after_keeps (serving (new_region bounds)) lines outcomes [] [] refl stay (new_keeps bounds lawful)
 
 pub served_waits : (bounds : Bounds) (lines : List (List ℕ)) (outcomes : List Outcome) → NoLosses lines → (machine_after (serving (new_region bounds)) lines outcomes).mode ≡ idle
-served_waits bounds lines outcomes no = after_waits (serving (new_region bounds)) lines outcomes refl no
+served_waits bounds lines outcomes stay = after_waits (serving (new_region bounds)) lines outcomes refl stay

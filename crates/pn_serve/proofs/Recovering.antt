@@ -59,22 +59,22 @@ came_as one other old new reply same comes = subst (λ (t : Turn). ComesTo t old
 
 -- ---- adoptions
 
-pub adopts : (old new : RegionValue) (copy : TabletCopyValue) (tablet : ℕ) → adopting old copy ≡ Ok (tablet, new) → ComesTo (adopted old (adopting old copy)) old new (Adopted tablet)
-adopts old new copy tablet is = came_as _ _ old new (Adopted tablet) (ap (adopted old) is) (inl (refl, refl, refl))
+pub adopts : (old new : RegionValue) (given : TabletCopyValue) (tablet : ℕ) → adopting old given ≡ Ok (tablet, new) → ComesTo (adopted old (adopting old given)) old new (Adopted tablet)
+adopts old new given tablet is = came_as _ _ old new (Adopted tablet) (ap (adopted old) is) (inl (refl, refl, refl))
 
 not_memory : (fault : AdoptFault) (right : Result (ℕ × RegionValue) AdoptFault) → Refuses recovery.is_memory fault right → fault ≢ adoption.Memory → right ≡ Err fault
 not_memory adoption.WrongRange right is other = is
 not_memory (adoption.TooOld stream has needs) right is other = is
 not_memory adoption.Memory right is other = absurd (other refl)
 
-pub adopts_not : (old new : RegionValue) (copy : TabletCopyValue) (fault : AdoptFault) (reply : Reply) → new ≡ old → Refuses recovery.is_memory fault (adopting old copy) → TellsNotAdopted fault reply
-    → ComesTo (adopted old (adopting old copy)) old new reply
-adopts_not old new copy fault reply same right tells =
-    told (adopted old (adopting old copy)) old new (fault ≢ adoption.Memory) (not_adopted_data fault) reply same (λ other. ap (adopted old) (not_memory fault (adopting old copy) right other)) tells
+pub adopts_not : (old new : RegionValue) (given : TabletCopyValue) (fault : AdoptFault) (reply : Reply) → new ≡ old → Refuses recovery.is_memory fault (adopting old given) → TellsNotAdopted fault reply
+    → ComesTo (adopted old (adopting old given)) old new reply
+adopts_not old new given fault reply same right tells =
+    told (adopted old (adopting old given)) old new (fault ≢ adoption.Memory) (not_adopted_data fault) reply same (λ other. ap (adopted old) (not_memory fault (adopting old given) right other)) tells
 
-pub adopts_text : (old new : RegionValue) (bytes : List ℕ) (copy : TabletCopyValue) (reply : Reply) → copy_at bytes ≡ Ok copy → ComesTo (adopted old (adopting old copy)) old new reply
+pub adopts_text : (old new : RegionValue) (bytes : List ℕ) (given : TabletCopyValue) (reply : Reply) → copy_at bytes ≡ Ok given → ComesTo (adopted old (adopting old given)) old new reply
     → ComesTo (adopting_text old (Some bytes)) old new reply
-adopts_text old new bytes copy reply is comes = came_as _ _ old new reply (ap (adopting_read old) is) comes
+adopts_text old new bytes given reply is comes = came_as _ _ old new reply (ap (adopting_read old) is) comes
 
 no_text : (fault : CopyTextFault) (right : Result TabletCopyValue CopyTextFault) → IsUnless text.Memory (Err fault) right → fault ≢ text.Memory → right ≡ Err fault
 no_text fault right is other = is other

@@ -48,18 +48,18 @@ use Rattle.pn_serve.proofs.LinesTaken.{copy_stays, call_stays, served_keeps, ser
 
 pub held_records : (bounds : Bounds) → IsLayout bounds → (lines : List (List ℕ)) (outcomes : List Outcome) → NoLosses lines → AllRetried (new_region bounds) lines outcomes
     → all_cells (region_after (new_region bounds) lines outcomes) ≡ table_of (taken (new_region bounds) lines outcomes)
-held_records bounds lawful lines outcomes no retried =
-    let keeps = served_keeps bounds lines outcomes lawful no in
+held_records bounds lawful lines outcomes stay retried =
+    let keeps = served_keeps bounds lines outcomes lawful stay in
     surely_together (region_after (new_region bounds) lines outcomes) (taken (new_region bounds) lines outcomes) (left_from (serving (new_region bounds)) lines outcomes) keeps.region_is.lawful keeps.between retried
 
 pub same_records : (bounds others : Bounds) → IsLayout bounds → IsLayout others → (lines more : List (List ℕ)) (went goes : List Outcome) → NoLosses lines → NoLosses more
     → AllRetried (new_region bounds) lines went → AllRetried (new_region others) more goes
     → SameImages (taken (new_region bounds) lines went) (taken (new_region others) more goes)
     → all_cells (region_after (new_region bounds) lines went) ≡ all_cells (region_after (new_region others) more goes)
-same_records bounds others lawful lawful_too lines more went goes no none retried retried_too same =
+same_records bounds others lawful lawful_too lines more went goes stay none retried retried_too same =
     let took = taken (new_region bounds) lines went in
     let takes = taken (new_region others) more goes in
-    held_records bounds lawful lines went no retried ∙ same_cells_table took takes (cells-same took takes same) ∙ sym (held_records others lawful_too more goes none retried_too)
+    held_records bounds lawful lines went stay retried ∙ same_cells_table took takes (cells-same took takes same) ∙ sym (held_records others lawful_too more goes none retried_too)
 
 found_alike : {A : Type 0} (m n : Machine) (show : A → Data) (one other : Result A ScanFault) → one ≡ other → (looking m show one).reply ≡ (looking n show other).reply
 found_alike m n show one other same = ap (λ right. line_of (found_data show right)) same
@@ -91,7 +91,7 @@ said_done m text waits =
     ap (λ (mode : Mode). (turn_in mode m done text).reply) waits ∙ ap (λ (outcome : Outcome). (turn_of m outcome (command_at text)).reply) (as_said (is_too_long text))
 
 held : (bounds : Bounds) (lines : List (List ℕ)) (outcomes : List Outcome) → IsLayout bounds → NoLosses lines → Holds (machine_after (serving (new_region bounds)) lines outcomes)
-held bounds lines outcomes lawful no = let keeps = served_keeps bounds lines outcomes lawful no in (keeps.region_is, keeps.serves)
+held bounds lines outcomes lawful stay = let keeps = served_keeps bounds lines outcomes lawful stay in (keeps.region_is, keeps.serves)
 
 pub same_replies : (bounds others : Bounds) → IsLayout bounds → IsLayout others → (lines more : List (List ℕ)) (went goes : List Outcome) → NoLosses lines → NoLosses more
     → AllRetried (new_region bounds) lines went → AllRetried (new_region others) more goes
@@ -99,12 +99,12 @@ pub same_replies : (bounds others : Bounds) → IsLayout bounds → IsLayout oth
     → (text : List ℕ) → AsksForRecords (command_at text)
     → (turn (machine_after (serving (new_region bounds)) lines went) done text).reply
     ≡ (turn (machine_after (serving (new_region others)) more goes) done text).reply
-same_replies bounds others lawful lawful_too lines more went goes no none retried retried_too same text looks =
+same_replies bounds others lawful lawful_too lines more went goes stay none retried retried_too same text looks =
     let m = machine_after (serving (new_region bounds)) lines went in
     let n = machine_after (serving (new_region others)) more goes in
-    said_done m text (served_waits bounds lines went no)
-    ∙ look_alike m n (command_at text) looks (held bounds lines went lawful no) (held others more goes lawful_too none)
-    (same_records bounds others lawful lawful_too lines more went goes no none retried retried_too same)
+    said_done m text (served_waits bounds lines went stay)
+    ∙ look_alike m n (command_at text) looks (held bounds lines went lawful stay) (held others more goes lawful_too none)
+    (same_records bounds others lawful lawful_too lines more went goes stay none retried retried_too same)
     ∙ sym (said_done n text (served_waits others more goes none))
 
 itself_not_older : (o : Option CellValue) → NotOlder o o
@@ -127,41 +127,41 @@ copied_later : (m : Machine) (need : Positions) (tablet : ℕ) → NeverOlder m.
 copied_later m need tablet = subst (λ (n : Machine). NeverOlder m.region n.region) (sym (copy_stays m need tablet)) (stays m.region)
 
 said_later : (m : Machine) (said : Result CommandValue Refusal) → KeepsTablets said → IsRegion m.region → NeverOlder m.region (turn_of m done said).machine.region
-said_later m (Ok (adopt lines)) no is = absurd no
-said_later m (Ok (copy need tablet)) no is = copied_later m need tablet
-said_later m (Ok (deliver deliveries)) no is = delivered_later m deliveries (new_marks m.region.marks deliveries) is
-said_later m (Ok (get keys)) no is = stays m.region
-said_later m (Ok (lose tablet)) no is = absurd no
-said_later m (Ok marks) no is = stays m.region
-said_later m (Ok (read key version)) no is = stays m.region
-said_later m (Ok (scan query)) no is = stays m.region
-said_later m (Ok tablets) no is = stays m.region
-said_later m (Err refusal) no is = stays m.region
+said_later m (Ok (adopt lines)) stay is = absurd stay
+said_later m (Ok (copy need tablet)) stay is = copied_later m need tablet
+said_later m (Ok (deliver deliveries)) stay is = delivered_later m deliveries (new_marks m.region.marks deliveries) is
+said_later m (Ok (get keys)) stay is = stays m.region
+said_later m (Ok (lose tablet)) stay is = absurd stay
+said_later m (Ok marks) stay is = stays m.region
+said_later m (Ok (read key version)) stay is = stays m.region
+said_later m (Ok (scan query)) stay is = stays m.region
+said_later m (Ok tablets) stay is = stays m.region
+said_later m (Err refusal) stay is = stays m.region
 
 partly_later : (m : Machine) (flags : List Bool) (said : Result CommandValue Refusal) → KeepsTablets said → IsRegion m.region → NeverOlder m.region (turn_of m (round flags) said).machine.region
-partly_later m flags (Ok (adopt lines)) no is = absurd no
-partly_later m flags (Ok (copy need tablet)) no is = copied_later m need tablet
-partly_later m flags (Ok (deliver deliveries)) no is = half_not_older m.region (partly_taken m.region deliveries flags) deliveries is (partly_is m.region deliveries flags is)
-partly_later m flags (Ok (get keys)) no is = stays m.region
-partly_later m flags (Ok (lose tablet)) no is = absurd no
-partly_later m flags (Ok marks) no is = stays m.region
-partly_later m flags (Ok (read key version)) no is = stays m.region
-partly_later m flags (Ok (scan query)) no is = stays m.region
-partly_later m flags (Ok tablets) no is = stays m.region
-partly_later m flags (Err refusal) no is = stays m.region
+partly_later m flags (Ok (adopt lines)) stay is = absurd stay
+partly_later m flags (Ok (copy need tablet)) stay is = copied_later m need tablet
+partly_later m flags (Ok (deliver deliveries)) stay is = half_not_older m.region (partly_taken m.region deliveries flags) deliveries is (partly_is m.region deliveries flags is)
+partly_later m flags (Ok (get keys)) stay is = stays m.region
+partly_later m flags (Ok (lose tablet)) stay is = absurd stay
+partly_later m flags (Ok marks) stay is = stays m.region
+partly_later m flags (Ok (read key version)) stay is = stays m.region
+partly_later m flags (Ok (scan query)) stay is = stays m.region
+partly_later m flags (Ok tablets) stay is = stays m.region
+partly_later m flags (Err refusal) stay is = stays m.region
 
 outcome_later : (m : Machine) (outcome : Outcome) (said : Result CommandValue Refusal) → KeepsTablets said → IsRegion m.region → NeverOlder m.region (turn_of m outcome said).machine.region
-outcome_later m done said no is = said_later m said no is
-outcome_later m line said no is = stays m.region
-outcome_later m call said no is = subst (λ (n : Machine). NeverOlder m.region n.region) (sym (call_stays m said no)) (stays m.region)
-outcome_later m (round flags) said no is = partly_later m flags said no is
+outcome_later m done said stay is = said_later m said stay is
+outcome_later m line said stay is = stays m.region
+outcome_later m call said stay is = subst (λ (n : Machine). NeverOlder m.region n.region) (sym (call_stays m said stay)) (stays m.region)
+outcome_later m (round flags) said stay is = partly_later m flags said stay is
 
 turn_later : (m : Machine) (outcome : Outcome) (text : List ℕ) → m.mode ≡ idle → KeepsTablets (command_at text) → IsRegion m.region → NeverOlder m.region (turn m outcome text).machine.region
-turn_later m outcome text waits no is =
-    subst (λ (mode : Mode). NeverOlder m.region (turn_in mode m outcome text).machine.region) (sym waits) (outcome_later m (outcome_at outcome text) (command_at text) no is)
+turn_later m outcome text waits stay is =
+    subst (λ (mode : Mode). NeverOlder m.region (turn_in mode m outcome text).machine.region) (sym waits) (outcome_later m (outcome_at outcome text) (command_at text) stay is)
 
 pub not_older : (bounds : Bounds) → IsLayout bounds → (lines : List (List ℕ)) (outcomes : List Outcome) (outcome : Outcome) (text key : List ℕ) → NoLosses lines → KeepsTablets (command_at text)
     → NotOlder (find bytes_cmp key (all_cells (region_after (new_region bounds) lines outcomes)))
     (find bytes_cmp key (all_cells (turn (machine_after (serving (new_region bounds)) lines outcomes) outcome text).machine.region))
-not_older bounds lawful lines outcomes outcome text key no last =
-    turn_later (machine_after (serving (new_region bounds)) lines outcomes) outcome text (served_waits bounds lines outcomes no) last (served_keeps bounds lines outcomes lawful no).region_is key
+not_older bounds lawful lines outcomes outcome text key stay last =
+    turn_later (machine_after (serving (new_region bounds)) lines outcomes) outcome text (served_waits bounds lines outcomes stay) last (served_keeps bounds lines outcomes lawful stay).region_is key

@@ -2,6 +2,7 @@
 use Rattle.std.proofs.Common.{◌≡◌, ℕ, ◌+◌, ◌<◌, ◌≤◌, ◌≢◌, Bool, true, false, Option, None, Some, List, [], ◌∷◌, ◌++◌, length, All, IfSome, OnSome, refl, sym, ap, ◌∙◌, subst, arith, append-nil, append_assoc, length-append, nat_lt}
 use Rattle.std.specs.Io.KnownBytes.{Appends, Consumes, Keeps, IsAtEnd}
 use Rattle.std.proofs.lemmas.List.{length_push}
+use Rattle.std.proofs.lemmas.Bool.Decides.{nat_tests}
 use Rattle.std.proofs.lemmas.List.Elements.{All-nil, All-cons, All-append}
 use Rattle.pn_line.specs.Line.{LineBufferValue, so_far}
 use Rattle.pn_line.specs.LinesRead.{LinesRead, PartRead}
@@ -118,7 +119,7 @@ parts_end {lines = lines} read empty =
 
 part_count : (part : List ℕ) → length (last_line part) ≡ one_if (nat_lt 0 (length part))
 part_count [] = refl
-part_count (b ∷ part) = refl
+part_count (b ∷ part) = let test : nat_lt 0 (length (b ∷ part)) ≡ true = grind (arith, nat_tests) in ap one_if (sym test)
 
 few_lines : (lines : List (List ℕ)) (part : List ℕ) → length lines < 1000000 → length (lines ++ last_line part) ≤ 1000000
 few_lines lines [] few = omega (arith, few, length-append lines [])

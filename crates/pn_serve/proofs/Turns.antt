@@ -19,7 +19,7 @@ use Rattle.pn_region.specs.Rounds.{joins, changed, IsHalfTaken}
 use Rattle.pn_region.specs.Rounds.{round as taken_round}
 use Rattle.pn_region.specs.declared.fault.RoundFault.{RoundFault}
 use Rattle.pn_serve.specs.declared.reply.Reply.{Reply}
-use Rattle.pn_serve.specs.declared.reply.Reply.TheVariants.{Changed, Text, Refused, NotTaken}
+use Rattle.pn_serve.specs.declared.reply.Reply.TheVariants.{Adopted, Changed, Copied, Lost, Silent, Text, Refused, NotTaken}
 use Rattle.pn_serve.specs.declared.refusal.Refusal.{Refusal}
 use Rattle.pn_serve.specs.declared.refusal.Refusal.TheVariants.{Memory}
 use Rattle.pn_serve.specs.Command.Meaning.{CommandValue, deliver}
@@ -135,7 +135,11 @@ module _ {A : Type 0} (region : RegionValue) (command : CommandValue) (show : A 
         replied = ap (λ (t : Turn). t.reply) all ∙ sym says;
         refused = ap (λ (t : Turn). t.refused) all;
       }
+  turned_why fault (Adopted tablet) is says = no_memory (Adopted tablet) says
   turned_why fault (Changed count) is says = no_memory (Changed count) says
+  turned_why fault (Copied lines text) is says = no_memory (Copied lines text) says
+  turned_why fault (Lost tablet) is says = no_memory (Lost tablet) says
+  turned_why fault Silent is says = no_memory Silent says
   turned_why fault (Text text) is says = no_memory (Text text) says
   turned_why fault (Refused refusal) is says = no_memory (Refused refusal) says
 
