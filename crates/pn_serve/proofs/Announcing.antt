@@ -4,6 +4,8 @@ use Rattle.std.specs.Prelude.{Result, Ok, Err}
 use Rattle.std.proofs.lemmas.Bool.Decides.{nat_tests}
 use Rattle.pn_region.specs.Regions.{RegionValue}
 use Rattle.pn_serve.specs.declared.machine.announced.Announced.{Announced}
+use Rattle.pn_serve.specs.declared.machine.Begun.{Begun}
+use Rattle.pn_serve.specs.declared.machine.Begun.TheVariants.{Obeyed, Announces}
 use Rattle.pn_serve.specs.declared.reply.Reply.{Reply}
 use Rattle.pn_serve.specs.declared.reply.Reply.TheVariants.{Silent, Refused}
 use Rattle.pn_serve.specs.declared.refusal.Refusal.{Refusal}
@@ -11,13 +13,13 @@ use Rattle.pn_serve.specs.declared.refusal.Refusal.TheVariants.{Memory}
 use Rattle.pn_serve.specs.Command.Lines.{command_at, is_too_long}
 use Rattle.pn_serve.specs.Command.Meaning.{CommandValue, adopt, copy, deliver, get, lose, marks, read, scan, tablets}
 use Rattle.pn_serve.specs.Machine.Announced.{unless_call, with_line, one_came}
-use Rattle.pn_serve.specs.Machine.Modes.{bytes_of, with_mode}
+use Rattle.pn_serve.specs.Machine.Modes.{bytes_of, with_mode, IsBegun}
 use Rattle.pn_serve.specs.Machine.Outcomes.{Outcome, done, line, call, round, announced, Machine, Turn, serving, refusing, silent}
 use Rattle.pn_serve.specs.Machine.Recovering.{adopting_text}
 use Rattle.pn_serve.specs.Machine.Turns.{obeying, obeying_last, turn_of, outcome_at, turn, last_of, end_turn, Turned, Answers, Concludes, Obeys}
-use Rattle.pn_serve.specs.Machine.Ways.{ComesTo, IsJoined, IsAlone, Lasts}
+use Rattle.pn_serve.specs.Machine.Ways.{ComesTo, IsJoined, IsAlone, BeginsTo, Lasts}
 use Rattle.pn_serve.specs.Reply.Texts.{reply_text, is_refusal}
-use Rattle.pn_serve.proofs.Turns.{turned_as, as_it_goes, as_said, within}
+use Rattle.pn_serve.proofs.Turns.{turned_as, turned_said, as_it_goes, as_said, within}
 
 -- memory ran out where a call did, or in the next one
 abbrev either_call : Outcome → Outcome → Outcome
@@ -159,3 +161,19 @@ last_fault old bytes refusal said =
 -- what the last line comes to is what the end of the input does
 pub concluded_last : (old new : RegionValue) (b : ℕ) (bytes : List ℕ) (reply : Reply) → Lasts old (b ∷ bytes) new reply → Concludes (serving old) (b ∷ bytes) (serving new) reply
 concluded_last old new b bytes reply lasts = lasts
+
+-- ---- a command and the lines that it announces
+
+pub begun_said : (old new : RegionValue) (bytes : List ℕ) (command : CommandValue) (begun : Begun) (reply : Reply) (lines : Option Announced) → command_at bytes ≡ Ok command
+    → BeginsTo old command new begun → IsBegun begun reply lines → Answers (serving old) bytes (with_mode lines new) reply
+begun_said old new bytes command (Obeyed told) reply lines said (alone, obeys) (same, none) =
+    subst (λ (l : Option Announced). Answers (serving old) bytes (with_mode l new) reply) (sym none)
+    (subst (λ (r : Reply). Answers (serving old) bytes (serving new) r) (sym same) (turned_said bytes command old (serving new) told said obeys))
+begun_said old new bytes command (Announces count) reply lines said (adopts, stays) (none, mode) =
+    let goes : turn (serving old) done bytes ≡ silent (record { mode = announced count (Some []); region = old }) =
+    ap (λ (o : Outcome). turn_of (serving old) o (command_at bytes)) (as_said (is_too_long bytes)) ∙ ap (turn_of (serving old) done) (said ∙ ap Ok adopts) in record {
+      outcome = done;
+      machine_is = ap (λ (t : Turn). t.machine) goes ∙ sym (λ i. record { mode = mode i; region = stays i });
+      replied = ap (λ (t : Turn). t.reply) goes ∙ ap reply_text (sym none);
+      refused = ap (λ (t : Turn). t.refused) goes ∙ ap is_refusal (sym none);
+    }

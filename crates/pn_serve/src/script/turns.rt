@@ -224,5 +224,6 @@ fn push_copy<W: Sink>(
     ensures fault { OnErr result W.may_fail }
 {
     outbox.push(output, lines_reply(lines).as_bytes())?;
-    outbox.push(output, text.as_bytes())
+    outbox.push(output, text.as_bytes())?;
+    Ok(())
 }

@@ -17,7 +17,7 @@ pub returns-in-End-clause-ends : goal.returns-in-End-clause-ends
 returns-in-End-clause-ends g c =
     let turned = c.in_ok-turn.ensures.turns _ c.lines.invariant.served in
     let ended = rw c.in-End.is at turned in
-    As_begun _ c.args.settings _ _ _ _ (Ok c.in-End.field-0) c.in_ok-run.ensures ended
+    As_begun _ c.args.settings _ _ _ _ (Ok c.in-End.counts) c.in_ok-run.ensures ended
 
 pub lines-preserved : goal.lines-preserved
 lines-preserved g c =

@@ -44,12 +44,12 @@ returns-else-not-more-clause-turns g c begun served =
     let ends = c.in-Ok.ensures.below (λ endless. let newline = c.in-Newline.is in cc) in
     OnTold _ _ _ (λ script between. Goes_on begun script _ _ _ _ _ _ _ between takes ends c.in_ok-answer_line-in-Newline.ensures.ok) (subst (Served begun _ _) (sym c.self.view_is) served)
 
-pub returns-in_err-close-clause-turns : goal.returns-in_err-close-clause-turns
-returns-in_err-close-clause-turns g c begun served =
+pub returns-in_err-counts-in-EndOfInput-clause-turns : goal.returns-in_err-counts-in-EndOfInput-clause-turns
+returns-in_err-counts-in-EndOfInput-clause-turns g c begun served =
     let takes = rw (c.in-EndOfInput.is, c.start.ensures) at c.in-Ok.ensures.takes in
     let end = c.in-Ok.ensures.end c.in-EndOfInput.is in
-    Turn_write begun _ _ _ _ c.from_residual-in_err-close.ensures.1
-    (OnTold _ _ _ (λ script between. Cut_last begun script _ _ _ _ _ _ _ between takes end c.in_err-close.ensures.err) (subst (Served begun _ _) (sym c.self.view_is) served))
+    Turn_write begun _ _ _ _ c.from_residual-in_err-counts-in-EndOfInput.ensures.1
+    (OnTold _ _ _ (λ script between. Cut_last begun script _ _ _ _ _ _ _ between takes end c.in_err-counts-in-EndOfInput.ensures.err) (subst (Served begun _ _) (sym c.self.view_is) served))
 
 pub returns-in_err-flush-in-EndOfInput-clause-turns :
     goal.returns-in_err-flush-in-EndOfInput-clause-turns
@@ -58,7 +58,7 @@ returns-in_err-flush-in-EndOfInput-clause-turns g c begun served =
     let end = c.in-Ok.ensures.end c.in-EndOfInput.is in
     let sent = rw (ap (λ r. r.waits) c.self-in-EndOfInput.view_is) at c.in_err-flush-in-EndOfInput.ensures.err in
     Turn_write begun _ _ _ _ c.from_residual-in_err-flush-in-EndOfInput.ensures.1
-    (OnTold _ _ _ (λ script between. Cut_after begun script _ _ _ _ _ _ _ between takes end _ _ c.in_ok-close.ensures.ok sent) (subst (Served begun _ _) (sym c.self.view_is) served))
+    (OnTold _ _ _ (λ script between. Cut_after begun script _ _ _ _ _ _ _ between takes end _ _ c.in_ok-counts-in-EndOfInput.ensures.ok sent) (subst (Served begun _ _) (sym c.self.view_is) served))
 
 pub returns-in_ok-flush-in-EndOfInput-clause-turns : goal.returns-in_ok-flush-in-EndOfInput-clause-turns
 returns-in_ok-flush-in-EndOfInput-clause-turns g c begun served =
@@ -66,7 +66,7 @@ returns-in_ok-flush-in-EndOfInput-clause-turns g c begun served =
     let end = c.in-Ok.ensures.end c.in-EndOfInput.is in
     let ends = c.in-Ok.ensures.below (λ endless. let last = c.in-EndOfInput.is in cc) in
     let few = rw (sym c.self.view_is) at c.requires.few in
-    let closed = rw (sym c.self-in-EndOfInput.view_is) at c.in_ok-close.ensures.ok in
+    let closed = rw (sym c.self-in-EndOfInput.view_is) at c.in_ok-counts-in-EndOfInput.ensures.ok in
     OnTold _ _ _ (λ script between. Ends_closed begun script _ _ _ _ _ _ _ _ _ between takes end ends few closed c.in_ok-flush-in-EndOfInput.ensures.ok) (subst (Served begun _ _) (sym c.self.view_is) served)
 
 pub returns-in_err-flush-in-Endless-clause-turns :
