@@ -12,11 +12,11 @@ returns-in_err-push-clause-err g c =
 pub returns-in_err-push-2-clause-err : goal.returns-in_err-push-2-clause-err
 returns-in_err-push-2-clause-err g c =
     let sent = rw (c.as_bytes.ensures, c.lines_reply.ensures) at c.in_ok-push.ensures.ok in
-    let prefix = rw c.as_bytes-2.ensures at c.in_err-push-2.ensures.err in
+    let prefix = rw c.as_bytes-2.ensures.value at c.in_err-push-2.ensures.err in
     Sends-cut c.args.text.now sent prefix
 
 pub returns-clause-ok : goal.returns-clause-ok
 returns-clause-ok g c =
     let sent = rw (c.as_bytes.ensures, c.lines_reply.ensures) at c.in_ok-push.ensures.ok in
-    let more = rw c.as_bytes-2.ensures at c.in_ok-push-2.ensures.ok in
+    let more = rw c.as_bytes-2.ensures.value at c.in_ok-push-2.ensures.ok in
     Sends-trans sent more
