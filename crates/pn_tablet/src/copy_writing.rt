@@ -4,7 +4,10 @@ ghost use Rattle.std.specs.Prelude.{◌≡◌, ◌+◌, ◌≤◌, ◌∷◌, []
 ghost use Rattle.std.specs.Option.{option_copied};
 ghost use Rattle.serde_json.specs.View.{view};
 ghost use Rattle.pn_join.specs.Marks.{is_position, are_positions};
+ghost use Rattle.pn_join.specs.Tables.{IsTable};
 ghost use Rattle.pn_record.specs.Cells.{spell, spell_cell};
+ghost use Rattle.pn_record.specs.Order.{bytes_cmp};
+ghost use Rattle.pn_record.specs.Sets.{HasContents};
 ghost use Rattle.pn_tablet.specs.CopyLines.{key_data, is_end, head_data, mark_data, end_data, IsHead};
 ghost use Rattle.pn_tablet.specs.CopyReading.{copy_at};
 ghost use Rattle.pn_tablet.specs.Ranges.{are_ends};
@@ -97,6 +100,7 @@ fn write_cells(alloc: Global, text: &mut String, cells: &Records) -> Result<usiz
     ensures written { OnOk result (WritesLines (string_bytes text.old) (string_bytes text.new) (map Record (spell cells.now))) }
     ensures count { IfOk result (λ count. count ≡ length (spell cells.now)) }
     ensures room { IfOk result (λ count. length (string_bytes text.old) + count ≤ length (string_bytes text.new)) }
+    ensures table { IsTable bytes_cmp HasContents cells.now }
 {
     let mut count = 0;
     for (key, cell) in cells.iter() {
