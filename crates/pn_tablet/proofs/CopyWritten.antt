@@ -1,12 +1,14 @@
 -- What was written of a copy spells it.
-use Rattle.std.proofs.Common.{◌≡◌, ℕ, ◌+◌, ◌<◌, ◌≤◌, ◌^◌, Bool, true, false, ◌&&◌, List, [], ◌∷◌, ◌++◌, map, length, codes, All, Option, Some, None, Result, Ok, Err, OnOk, IsTrue, refl, sym, ap, ◌∙◌, subst, append_assoc, append-nil, arith, length-append, take, get_or}
+use Rattle.std.proofs.Common.{◌≡◌, ℕ, ◌+◌, ◌<◌, ◌≤◌, ◌^◌, Bool, true, false, ◌&&◌, List, [], ◌∷◌, ◌++◌, map, length, codes, All, Option, Some, None, Result, Ok, Err, OnOk, IsTrue, IsUtf8, refl, sym, ap, ◌∙◌, subst, append_assoc, append-nil, arith, length-append, take, get_or}
 use Rattle.std.proofs.lemmas.Bool.{and_parts, and_from}
 use Rattle.std.proofs.lemmas.Grind.{flat_map-append}
 use Rattle.std.proofs.lemmas.List.{map_more, map-append, length-map}
 use Rattle.std.proofs.lemmas.List.Elements.{All-nil, All-cons}
+use Rattle.std.proofs.lemmas.Str.{is_utf8-from_IsUtf8}
 use Rattle.std.specs.FinMap.{is_sorted, keys}
 use Rattle.std.specs.List.{list_all, AllByRecursion}
 use Rattle.serde_json.specs.Data.{Data, depth}
+use Rattle.serde_json.specs.Read.{read}
 use Rattle.serde_json.specs.Written.{compact_text, has_float}
 use Rattle.pn_join.specs.Marks.{Positions, is_position, name_cmp}
 use Rattle.pn_join.specs.Naming.{is_name}
@@ -142,7 +144,7 @@ head_first d lines rest is = append_assoc (compact_text d) (10 ∷ []) rest ∙ 
 
 -- lines that were all written spell the copy
 pub copy_spelled : (copy : TabletCopyValue) → IsWritten IsHead (head_data copy.range) copy.range → AllByRecursion IsWrittenLine (lines_behind_head copy.marks (spell copy.cells)) → IsTrue (is_sorted name_cmp copy.marks)
-    → IsTrue (images_rise (spell copy.cells)) → IsTrue (list_all (λ image. in_range copy.range image.key) (spell copy.cells)) → copy.cells ≡ table_of (spell copy.cells) → IsCopyText (copy_text copy) copy
+    → IsTrue (images_rise (spell copy.cells)) → IsTrue (list_all (λ (image : Image). in_range copy.range image.key) (spell copy.cells)) → copy.cells ≡ table_of (spell copy.cells) → IsCopyText (copy_text copy) copy
 copy_spelled copy head all names rise inside cells =
     let says = lines_behind_head copy.marks (spell copy.cells) in
     record {
@@ -177,8 +179,8 @@ pub spelled_lines : (e : List ℕ × CellValue) (es : Entries) → map Record (s
 spelled_lines e es = map-append Record (spell_cell e) (spell es)
 
 -- and what is written of it comes before what is left
-pub cell_then : (old now new all : List ℕ) (e : List ℕ × CellValue) (es : Entries) → now ++ lines_text (map Record (spell (e ∷ es))) ≡ all → WritesLines now new (map Record (spell_cell e)) → new ++ lines_text (map Record (spell es)) ≡ all
-cell_then old now new all e es was wrote =
+pub cell_then : (now new all : List ℕ) (e : List ℕ × CellValue) (es : Entries) → now ++ lines_text (map Record (spell (e ∷ es))) ≡ all → WritesLines now new (map Record (spell_cell e)) → new ++ lines_text (map Record (spell es)) ≡ all
+cell_then now new all e es was wrote =
     ap (λ t. t ++ lines_text (map Record (spell es))) wrote.0 ∙ append_assoc now (lines_text (map Record (spell_cell e))) (lines_text (map Record (spell es)))
     ∙ ap (λ t. now ++ t) (sym (flat_map-append (λ line. line_text (line_data line)) (map Record (spell_cell e)) (map Record (spell es))) ∙ ap lines_text (sym (spelled_lines e es)))
     ∙ was
@@ -213,3 +215,14 @@ pub whole_spelled : (copy : TabletCopyValue) (text : List ℕ) → text ≡ copy
 whole_spelled copy text is head all names table inside =
     subst (λ (t : List ℕ). IsCopyText t copy) (sym is)
     (copy_spelled copy head all names (spell_rises copy.cells table.rising) (spell_inside copy.range copy.cells inside) (spelled_own copy.cells table))
+
+-- each mark took a byte at least
+pub marks_room : (now new : List ℕ) (marks : Positions) → WritesLines now new (map mark_line marks) → length marks ≤ length new
+marks_room now new marks wrote =
+    let grown : length new ≡ length now + length (lines_text (map mark_line marks)) = ap length wrote.0 ∙ length-append now (lines_text (map mark_line marks)) in
+    omega (arith, grown, length-map marks mark_line, lines_room (map mark_line marks))
+
+-- what is read of a text is read of its bytes
+pub reads : (text : List ℕ) (d : Data) → IsUtf8 text → read text ≡ Some d → reading text ≡ Some d
+unfolding reading
+reads text d utf8 is = rw (is_utf8-from_IsUtf8 text utf8) is
