@@ -1,6 +1,7 @@
 pub mod BoundSteps
 pub mod Changed
 pub mod CopyGrammar
+pub mod CopyLineCounts
 pub mod CopyLineTexts
 pub mod CopyPieces
 pub mod CopyPrefixes
@@ -16,6 +17,7 @@ pub mod Joined
 pub mod Keeping
 pub mod LayoutFacts
 pub mod Recovery
+pub mod SameSpelling
 pub mod SpelledImages
 pub mod Stepping
 pub mod TabletLaws

@@ -26,18 +26,18 @@ spelled_own cells table = held_table cells (spell cells) table.rising (Holds-spe
 
 -- ---- they lie in the range
 
-all_then : (range : Ends) (images more : List Image) → list_all (λ image. in_range range image.key) images ≡ true → list_all (λ image. in_range range image.key) more ≡ true → list_all (λ image. in_range range image.key) (images ++ more) ≡ true
+all_then : (range : Ends) (images more : List Image) → list_all (λ (image : Image). in_range range image.key) images ≡ true → list_all (λ (image : Image). in_range range image.key) more ≡ true → list_all (λ (image : Image). in_range range image.key) (images ++ more) ≡ true
 all_then range [] more first second = second
 all_then range (image ∷ images) more first second =
     let parts = and_parts (in_range range image.key) (list_all (λ (i : Image). in_range range i.key) images) first in
     and_from _ _ parts.0 (all_then range images more parts.1 second)
 
 cell_inside : (range : Ends) (key : List ℕ) (version : Stamp) (contents : List ContentValue) → in_range range key ≡ true
-    → list_all (λ image. in_range range image.key) (map (λ (shown : ContentValue). record { key = key; version = version; content = shown }) contents) ≡ true
+    → list_all (λ (image : Image). in_range range image.key) (map (λ (shown : ContentValue). record { key = key; version = version; content = shown }) contents) ≡ true
 cell_inside range key version [] inside = refl
 cell_inside range key version (shown ∷ contents) inside = and_from _ _ inside (cell_inside range key version contents inside)
 
-pub spell_inside : (range : Ends) (cells : Entries) → lie_in range cells ≡ true → list_all (λ image. in_range range image.key) (spell cells) ≡ true
+pub spell_inside : (range : Ends) (cells : Entries) → lie_in range cells ≡ true → list_all (λ (image : Image). in_range range image.key) (spell cells) ≡ true
 spell_inside range [] inside = refl
 spell_inside range (e ∷ cells) inside =
     let parts = and_parts (in_range range e.0) (lie_in range cells) inside in

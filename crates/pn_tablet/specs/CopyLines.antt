@@ -16,11 +16,11 @@ key_data None = null
 key_data (Some key) = string key
 
 -- the head: the form, and the two ends of the range
+abbrev pub head_with : Data → Data → Data
+head_with from to = object (member (codes "copy") (number (unsigned 1)) (member (codes "from") from (member (codes "to") to no_members)))
+
 abbrev pub head_data : Ends → Data
-head_data range =
-    object (member (codes "copy") (number (unsigned 1))
-    (member (codes "from") (key_data range.0)
-    (member (codes "to") (key_data range.1) no_members)))
+head_data range = head_with (key_data range.0) (key_data range.1)
 
 -- how far one stream was taken
 abbrev pub mark_data : List ℕ × ℕ → Data

@@ -4,8 +4,11 @@ ghost use Rattle.std.specs.Prelude.{◌≡◌, ◌+◌, ◌≤◌, ◌∷◌, []
 ghost use Rattle.std.specs.Option.{option_copied};
 ghost use Rattle.serde_json.specs.View.{view};
 ghost use Rattle.pn_join.specs.Marks.{is_position, are_positions};
+ghost use Rattle.pn_join.specs.Tables.{IsTable};
 ghost use Rattle.pn_record.specs.Cells.{spell, spell_cell};
-ghost use Rattle.pn_tablet.specs.CopyLines.{key_data, is_end, head_data, mark_data, end_data, IsHead};
+ghost use Rattle.pn_record.specs.Order.{bytes_cmp};
+ghost use Rattle.pn_record.specs.Sets.{HasContents};
+ghost use Rattle.pn_tablet.specs.CopyLines.{key_data, is_end, head_data, head_with, mark_data, end_data, IsHead};
 ghost use Rattle.pn_tablet.specs.CopyReading.{copy_at};
 ghost use Rattle.pn_tablet.specs.Ranges.{are_ends};
 ghost use Rattle.pn_tablet.specs.CopyTexts.{mark_line, IsCopyText};
@@ -50,6 +53,13 @@ fn head_value(alloc: Global, range: &Range) -> Result<Value, NoMemory>
 {
     let from = end_value(alloc, range.from())?;
     let to = end_value(alloc, range.to())?;
+    let head = with_ends(alloc, from, to)?;
+    Ok(head)
+}
+
+fn with_ends(alloc: Global, from: Value, to: Value) -> Result<Value, NoMemory>
+    ensures { IfOk result (λ value. view value ≡ head_with (view from) (view to)) }
+{
     Ok(json!(in alloc; {"copy": FORM, "from": from, "to": to})?)
 }
 
@@ -97,6 +107,7 @@ fn write_cells(alloc: Global, text: &mut String, cells: &Records) -> Result<usiz
     ensures written { OnOk result (WritesLines (string_bytes text.old) (string_bytes text.new) (map Record (spell cells.now))) }
     ensures count { IfOk result (λ count. count ≡ length (spell cells.now)) }
     ensures room { IfOk result (λ count. length (string_bytes text.old) + count ≤ length (string_bytes text.new)) }
+    ensures table { IsTable bytes_cmp HasContents cells.now }
 {
     let mut count = 0;
     for (key, cell) in cells.iter() {
@@ -109,7 +120,8 @@ fn write_cells(alloc: Global, text: &mut String, cells: &Records) -> Result<usiz
 fn write_cell(alloc: Global, text: &mut String, key: &Key, cell: &Cell) -> Result<(), NoMemory>
     ensures { OnOk result (WritesLines (string_bytes text.old) (string_bytes text.new) (map Record (spell_cell (key.now, cell.now)))) }
 {
-    for content in cell.contents() {
+    let contents = cell.contents();
+    for content in contents {
         write_image(alloc, text, key, cell.version(), content)?;
     }
     Ok(())

@@ -11,7 +11,10 @@ fn each_proper_prefix_is_truncated(rt: HostRuntime) -> Result<(), Fail> {
     let text = worked_text(rt.alloc())?;
     let bytes = text.as_bytes();
     for len in 0..bytes.len() {
-        assert!(rt; fault_of(rt.alloc(), &bytes[..len]) == Some(Truncated), "{len}");
+        assert!(rt;
+            fault_of(rt.alloc(), &bytes[..len]) == Some(Truncated),
+            "{len}"
+        );
     }
     Ok(())
 }
@@ -30,14 +33,22 @@ fn fault_in_line(place: usize, line: &str, at: usize) -> Option<CopyTextFault> {
     }
     if before.ends_with("\"key\":\"") {
         // The key x is behind all others: the next line does not rise, if there is one.
-        return if place < 6 { Some(NotRising(number + 1)) } else { None };
+        return if place < 6 {
+            Some(NotRising(number + 1))
+        } else {
+            None
+        };
     }
     Some(BadLine(number))
 }
 
 // An `x` in place of the newline behind a line joins it to the next one.
 fn fault_at_newline(place: usize) -> CopyTextFault {
-    if place + 1 == LINES.len() { Truncated } else { BadLine(place as u64 + 1) }
+    if place + 1 == LINES.len() {
+        Truncated
+    } else {
+        BadLine(place as u64 + 1)
+    }
 }
 
 fn with_x(alloc: Global, text: &str, at: usize) -> Result<Vec<u8>, Fail> {
@@ -58,7 +69,10 @@ fn a_byte_that_is_replaced_gives_the_fault_of_its_line(rt: HostRuntime) -> Resul
             assert!(rt; fault_of(rt.alloc(), &bytes) == want, "{line} {at}");
         }
         let bytes = with_x(rt.alloc(), text.as_str(), start + line.len())?;
-        assert!(rt; fault_of(rt.alloc(), &bytes) == Some(fault_at_newline(place)), "{line}");
+        assert!(rt;
+            fault_of(rt.alloc(), &bytes) == Some(fault_at_newline(place)),
+            "{line}"
+        );
         start += line.len() + 1;
     }
     Ok(())

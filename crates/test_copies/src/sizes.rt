@@ -27,7 +27,10 @@ fn a_line_has_at_most_65536_bytes(rt: HostRuntime) -> Result<(), Fail> {
         let text = padded(rt.alloc(), place, 65_536)?;
         assert_eq!(rt; fault_of(rt.alloc(), text.as_bytes()), None);
         let text = padded(rt.alloc(), place, 65_537)?;
-        assert_eq!(rt; fault_of(rt.alloc(), text.as_bytes()), Some(BadLine(number)));
+        assert_eq!(rt;
+            fault_of(rt.alloc(), text.as_bytes()),
+            Some(BadLine(number))
+        );
     }
     Ok(())
 }

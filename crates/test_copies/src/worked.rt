@@ -54,13 +54,24 @@ fn the_first_faulty_line_decides(rt: HostRuntime) -> Result<(), Fail> {
         (0, "{\"copy\":1,\"from\":null}", BadLine(1)),
         (0, "{\"copy\":1,\"from\":\"b\",\"to\":\"b\"}", BadLine(1)),
         (0, "{\"copy\":1,\"from\":\"\",\"to\":null}", BadLine(1)),
-        (0, "{\"copy\":1,\"from\":\"b\",\"to\":null}", OutsideRange(3)),
-        (0, "{\"copy\":1,\"from\":null,\"to\":\"e\"}", OutsideRange(7)),
+        (
+            0,
+            "{\"copy\":1,\"from\":\"b\",\"to\":null}",
+            OutsideRange(3),
+        ),
+        (
+            0,
+            "{\"copy\":1,\"from\":null,\"to\":\"e\"}",
+            OutsideRange(7),
+        ),
         (1, "{\"at\":0,\"stream\":\"east\"}", BadLine(2)),
-        (1, "{\"at\":1000000000000001,\"stream\":\"east\"}", BadLine(2)),
+        (
+            1,
+            "{\"at\":1000000000000001,\"stream\":\"east\"}",
+            BadLine(2),
+        ),
         (1, "{\"at\":6,\"stream\":\"East\"}", BadLine(2)),
         (1, "{\"at\":6,\"end\":6,\"stream\":\"east\"}", BadLine(2)),
-        (2, "{\"at\":6,\"stream\":\"west\"}", BadEnd),
         (2, "{\"at\":6,\"stream\":\"east\"}", NotRising(3)),
         (2, "{\"at\":6,\"stream\":\"dawn\"}", NotRising(3)),
         (3, "{\"at\":6,\"stream\":\"west\"}", BadLine(4)),
@@ -73,8 +84,7 @@ fn the_first_faulty_line_decides(rt: HostRuntime) -> Result<(), Fail> {
         let mut lines = LINES;
         lines[place] = line;
         let fault = fault_of_lines(rt.alloc(), &lines)?;
-        let want = if place == 2 && want == BadEnd { None } else { Some(want) };
-        assert!(rt; fault == want, "{line}");
+        assert!(rt; fault == Some(want), "{line}");
     }
     Ok(())
 }

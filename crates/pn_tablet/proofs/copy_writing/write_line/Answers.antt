@@ -3,7 +3,7 @@ use Rattle.std.proofs.Common.{rules, ◌≡◌, ◌∷◌, [], ◌++◌, string_
 use Rattle.std.proofs.lemmas.Str.{IsUtf8-had}
 use Rattle.serde_json.specs.View.{view}
 use Rattle.pn_record.specs.Reading.{reading}
-use Rattle.pn_record.proofs.Written.{reading-read}
+use Rattle.pn_tablet.proofs.CopyWritten.{reads}
 use Rattle.pn_tablet.proofs.copy_writing.write_line.Goals as goal
 
 pub returns : goal.returns
@@ -13,5 +13,5 @@ returns c = λ no_float shallow.
     let bytes : string_bytes c.push_str-2.new.self ≡ (old ++ line) ++ 10 ∷ [] = search rules in
     let text = c.in_ok-line.ensures.text no_float in (
       bytes ∙ append_assoc old line (10 ∷ []) ∙ ap (λ l. old ++ (l ++ 10 ∷ [])) text,
-      ap reading (sym text) ∙ reading-read line (view c.args.value.now) (IsUtf8-had _ c.in_ok-line.line.ok) (c.in_ok-line.ensures.reads_back shallow),
+      ap reading (sym text) ∙ reads line (view c.args.value.now) (IsUtf8-had _ c.in_ok-line.line.ok) (c.in_ok-line.ensures.reads_back shallow),
     )
