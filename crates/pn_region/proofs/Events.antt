@@ -1,5 +1,5 @@
 -- Events keep covers, faithful tablets and what tablets that serve hold.
-use Rattle.std.proofs.Common.{◌≡◌, ℕ, zero, suc, ◌≤◌, Bool, true, false, if◌then◌else◌, List, [], ◌∷◌, slice_get, Option, None, Some, Result, Ok, Err, refl, sym, ap, ◌∙◌, subst, ◌⊎◌, inl, inr, Contains}
+use Rattle.std.proofs.Common.{◌≡◌, ℕ, zero, suc, Bool, true, false, if◌then◌else◌, List, [], ◌∷◌, slice_get, Option, None, Some, Ok, Err, refl, sym, ap, ◌∙◌, subst, inl, inr, Contains}
 use Rattle.std.specs.FinMap.{find}
 use Rattle.pn_join.specs.Marks.{Positions, Reaches, position_of}
 use Rattle.pn_record.specs.declared.image.Image.{Image}

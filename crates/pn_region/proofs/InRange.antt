@@ -1,5 +1,5 @@
 -- Which images lie in a range.
-use Rattle.std.proofs.Common.{◌≡◌, ℕ, zero, suc, ◌+◌, ◌<◌, true, false, cond, List, [], ◌∷◌, length, refl, subst, arith, ◌⊎◌, inl, inr, Contains}
+use Rattle.std.proofs.Common.{◌≡◌, zero, suc, true, false, cond, List, [], ◌∷◌, refl, subst, arith, ◌⊎◌, inl, inr, Contains}
 use Rattle.pn_record.specs.declared.image.Image.{Image}
 use Rattle.pn_tablet.specs.Ranges.{Ends, in_range}
 use Rattle.pn_apply.specs.Reducing.{images_in}

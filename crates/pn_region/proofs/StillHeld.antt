@@ -1,11 +1,11 @@
 -- A record is held still once another cell is joined to it.
-use Rattle.std.proofs.Common.{◌≡◌, ℕ, Bool, true, false, List, [], ◌∷◌, ◌++◌, Option, None, Some, refl, sym, ap, ◌∙◌, subst, ◌⊎◌, inl, inr, Contains, IsTrue}
+use Rattle.std.proofs.Common.{◌≡◌, ℕ, List, ◌++◌, Option, None, Some, refl, sym, ap, ◌∙◌, subst, inl, inr, Contains, IsTrue}
 use Rattle.std.specs.Ordering.{is_lt}
 use Rattle.std.specs.FinMap.{find, get, contains_key}
 use Rattle.std.specs.Prelude.{is_some}
 use Rattle.pn_record.specs.declared.image.Image.{Image}
 use Rattle.pn_record.specs.Limits.{ContentValue}
-use Rattle.pn_record.specs.Order.{bytes_cmp, version_cmp}
+use Rattle.pn_record.specs.Order.{bytes_cmp}
 use Rattle.pn_record.specs.Sets.{CellValue, Contents, union, cell_joined}
 use Rattle.pn_record.specs.Laws.Unions.{either, get-union}
 use Rattle.pn_record.specs.Laws.JoinedCells.{by_versions, joined-less, joined-equal, joined-greater}

@@ -1,5 +1,5 @@
 -- A tablet that was lost, took what came and adopted a copy, beside one that was never lost.
-use Rattle.std.proofs.Common.{◌≡◌, ℕ, ◌≤◌, Bool, true, false, if◌then◌else◌, List, [], ◌∷◌, ◌++◌, fold, Option, None, Some, Ok, Err, refl, sym, ap, ◌∙◌, subst, Contains}
+use Rattle.std.proofs.Common.{◌≡◌, ℕ, Bool, true, false, if◌then◌else◌, List, [], ◌∷◌, ◌++◌, fold, Option, None, Ok, Err, refl, sym, ap, ◌∙◌, subst}
 use Rattle.std.specs.FinMap.{find}
 use Rattle.pn_join.specs.Marks.{Positions, Reaches, raised}
 use Rattle.pn_record.specs.declared.image.Image.{Image}

@@ -1,5 +1,5 @@
 -- The tablet loses its records, and is never refused.
-use Rattle.std.proofs.Common.{◌≡◌, ℕ, ◌<◌, length, refl, sym, ap, ◌∙◌, arith}
+use Rattle.std.proofs.Common.{◌≡◌, length, refl, ap, ◌∙◌, arith}
 use Rattle.pn_tablet.specs.Steps.{step}
 use Rattle.pn_tablet.specs.declared.op.TabletOp.TheVariants.{Lose}
 use Rattle.std.specs.Prelude.{Ok}
