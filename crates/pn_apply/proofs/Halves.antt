@@ -16,7 +16,7 @@ pub joins_low : (ts us : List TabletStateValue) (os ps : List TabletOp) → leng
 joins_low [] us [] ps same fit = tt
 joins_low [] us (o ∷ os) ps same fit = absurd (omega (arith, same))
 joins_low (t ∷ ts) us [] ps same fit = absurd (omega (arith, same))
-joins_low (t ∷ ts) us (o ∷ os) ps same fit = fit.0, joins_low ts us os ps (omega (arith, same)) fit.1
+joins_low (t ∷ ts) us (o ∷ os) ps same fit = (fit.0, joins_low ts us os ps (omega (arith, same)) fit.1)
 
 pub joins_high : (ts us : List TabletStateValue) (os ps : List TabletOp) → length ts ≡ length os → AreJoinsIn (ts ++ us) (os ++ ps) → AreJoinsIn us ps
 joins_high [] us [] ps same fit = fit
@@ -26,7 +26,7 @@ joins_high (t ∷ ts) us (o ∷ os) ps same fit = joins_high ts us os ps (omega 
 
 pub positions_low : (os ps : List TabletOp) → HavePositions (os ++ ps) → HavePositions os
 positions_low [] ps fit = tt
-positions_low (o ∷ os) ps fit = fit.0, positions_low os ps fit.1
+positions_low (o ∷ os) ps fit = (fit.0, positions_low os ps fit.1)
 
 pub positions_high : (os ps : List TabletOp) → HavePositions (os ++ ps) → HavePositions ps
 positions_high [] ps fit = fit
@@ -50,7 +50,7 @@ all_old_or_stepped : (ts : List TabletStateValue) (os : List TabletOp) → AreJo
 all_old_or_stepped [] [] fit = tt
 all_old_or_stepped [] (o ∷ os) fit = absurd fit
 all_old_or_stepped (t ∷ ts) [] fit = absurd fit
-all_old_or_stepped (t ∷ ts) (o ∷ os) fit = inr refl, all_old_or_stepped ts os fit.1
+all_old_or_stepped (t ∷ ts) (o ∷ os) fit = (inr refl, all_old_or_stepped ts os fit.1)
 
 -- so they are in any case
 either_way : {T E : Type 0} (r : Result T E) (ts : List TabletStateValue) (os : List TabletOp) (now : List TabletStateValue) → AreJoinsIn ts os
@@ -65,7 +65,7 @@ joined_old_or_stepped [] us [] ps (n ∷ now) more low high = absurd low
 joined_old_or_stepped [] us (o ∷ os) ps now more low high = absurd low
 joined_old_or_stepped (t ∷ ts) us [] ps now more low high = absurd low
 joined_old_or_stepped (t ∷ ts) us (o ∷ os) ps [] more low high = absurd low
-joined_old_or_stepped (t ∷ ts) us (o ∷ os) ps (n ∷ now) more low high = low.0, joined_old_or_stepped ts us os ps now more low.1 high
+joined_old_or_stepped (t ∷ ts) us (o ∷ os) ps (n ∷ now) more low high = (low.0, joined_old_or_stepped ts us os ps now more low.1 high)
 
 same_count : (ts : List TabletStateValue) (os : List TabletOp) (now : List TabletStateValue) → AreOldOrStepped ts os now → length now ≡ length ts
 same_count [] [] [] are = refl

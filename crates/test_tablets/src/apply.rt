@@ -1,10 +1,12 @@
 //! Deliveries over two tablets, with some numbers of workers, and gates that note what comes.
-ghost use Rattle.std.specs.Prelude.{◌≡◌, map, IfOk};
+ghost use Rattle.std.specs.Prelude.{◌≡◌, ◌≤◌, map, IfOk};
+ghost use Rattle.pn_apply.specs.Limits.{most_workers};
 ghost use Rattle.pn_apply.specs.Reducing.{ranges};
 
 use crate::given::{delivery, layout, marks};
 use crate::notes::{Noted, Notes};
 use pn_apply::{Open, apply_all, reduce, reduce_owned};
+use pn_join::NoMemory;
 use pn_stream::Delivery;
 use pn_tablet::{Change, Layout, Range, TabletOp, TabletState};
 use std::alloc::Global;
@@ -84,19 +86,35 @@ fn two_tablets_get_their_images_with_any_number_of_workers(rt: HostRuntime) -> R
     Ok(())
 }
 
-// The deliveries taken into new tablets, with a gate for each of the two steps.
-fn taken(
-    rt: &(impl Threads + Sync),
-    alloc: Global,
+/// What deliveries changed in new tablets, or that memory ran out, and how many records each tablet then has.
+#[derive(Drop)]
+pub(crate) struct Taken {
+    pub(crate) changes: Result<Vec<Vec<Change>>, NoMemory>,
+    pub(crate) held: Vec<usize>,
+}
+
+/// The deliveries taken into new tablets, with notes for each of the two steps.
+pub(crate) fn taken<R: AllocGlobal + Threads + Sync>(
+    rt: &R,
     deliveries: &[Delivery],
     layout: &Layout,
+    workers: usize,
     first: &Notes,
     second: &Notes,
-) -> Result<Vec<Vec<Change>>, Fail> {
+) -> Result<Taken, Fail>
+    requires { (1 ≤ workers) × (workers ≤ most_workers) }
+{
+    let alloc = rt.alloc();
     let marks = marks(alloc, &["east"])?;
-    let operations = reduce(rt, alloc, deliveries, layout, &marks, 2, first)?;
+    let operations = reduce(rt, alloc, deliveries, layout, &marks, workers, first)?;
     let mut tablets = tablets_of(alloc, layout, second)?;
-    Ok(apply_all(rt, alloc, tablets.as_mut_slice(), &operations, 2, second)?)
+    let slots = tablets.as_mut_slice();
+    let changes = apply_all(rt, alloc, slots, &operations, workers, second);
+    let mut held = Vec::new(alloc);
+    for tablet in tablets.iter() {
+        held.push(tablet.state.cells().len())?;
+    }
+    Ok(Taken { changes, held })
 }
 
 #[test]
@@ -107,14 +125,8 @@ fn changes_come_in_the_order_of_the_tablets(rt: HostRuntime) -> Result<(), Fail>
         delivery(alloc, "east", 1, &["n", "l"])?,
         delivery(alloc, "east", 1, &["m", "n"])?,
     ];
-    let changes = taken(
-        &rt,
-        alloc,
-        &deliveries,
-        &layout,
-        &Notes::new(),
-        &Notes::new(),
-    )?;
+    let taken = taken(&rt, &deliveries, &layout, 2, &Notes::new(), &Notes::new())?;
+    let changes = taken.changes?;
     assert_eq!(rt; changes.len(), 2);
     for (list, want) in changes.iter().zip(["l true ", "m true n true "]) {
         assert_eq!(rt; told(alloc, list)?.as_str(), want);
@@ -128,7 +140,8 @@ fn each_tablet_is_entered_once_and_then_worked(rt: HostRuntime) -> Result<(), Fa
     let layout = layout(alloc, &["c", "m", "x"])?;
     let deliveries = vec![in alloc; delivery(alloc, "east", 1, &["m", "z"])?]?;
     let (first, second) = (Notes::new(), Notes::new());
-    let changes = taken(&rt, alloc, &deliveries, &layout, &first, &second)?;
+    let taken = taken(&rt, &deliveries, &layout, 2, &first, &second)?;
+    let changes = taken.changes?;
     assert_eq!(rt; changes.len(), 4);
     assert_eq!(rt; first.told(), (0b1111, 0, 0));
     assert_eq!(rt; second.told(), (0b1111, 0b1111, 0));

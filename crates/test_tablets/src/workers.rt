@@ -1,7 +1,13 @@
 //! Workers that meet, numbers of workers that make no difference, and workers that run out of memory.
 
+ghost use Rattle.std.specs.Prelude.{◌≤◌};
+ghost use Rattle.pn_apply.specs.Limits.{most_workers};
+
+use crate::apply::taken;
 use crate::given::{delivery, layout};
+use crate::notes::Notes;
 use pn_apply::{Gate, Open};
+use pn_record::KeyFault;
 use pn_region::Region;
 use pn_scan::Query;
 use std::alloc::Global;
@@ -68,7 +74,9 @@ fn told(
     alloc: Global,
     tablets: usize,
     workers: usize,
-) -> Result<(u64, String), Fail> {
+) -> Result<(u64, String), Fail>
+    requires { (1 ≤ workers) × (workers ≤ most_workers) }
+{
     let words = words(alloc)?;
     let mut all = Vec::new(alloc);
     for word in words.iter() {
@@ -82,9 +90,7 @@ fn told(
         let round = region.round(rt, deliveries, workers, &Open)?;
         changed = changed.wrapping_add(round.changed);
     }
-    let query = Query::new(None, None, None, Vec::new(alloc), 1_000).ok_or(
-        pn_record::KeyFault::OutOfRange,
-    )?;
+    let query = Query::new(None, None, None, Vec::new(alloc), 1_000).ok_or(KeyFault::OutOfRange)?;
     let mut keys = String::new(alloc);
     for row in &region.scan(&query)?.rows {
         keys.push_str(row.key.as_str())?;
@@ -107,6 +113,32 @@ fn any_number_of_workers_answers_alike(rt: HostRuntime) -> Result<(), Fail> {
                 want.as_str(),
                 "{tablets} tablets, {workers} workers"
             );
+        }
+    }
+    Ok(())
+}
+
+#[test]
+fn want_of_memory_leaves_each_tablet_old_or_new(rt: HostRuntime) -> Result<(), Fail> {
+    let alloc = rt.alloc();
+    let layout = layout(alloc, &["b", "c", "d", "e"])?;
+    let deliveries = [delivery(alloc, "east", 1, &["a", "b", "c", "d", "e"])?];
+    for workers in [1, 2, 3, 5] {
+        for refusing in 0..5 {
+            let notes = Notes::refusing(Some(refusing));
+            let taken = taken(&rt, &deliveries, &layout, workers, &Notes::new(), &notes)?;
+            assert!(rt;
+                taken.changes.is_err(),
+                "{workers} workers, memory ends at {refusing}"
+            );
+            assert_eq!(rt; taken.held.len(), 5);
+            let (entered, worked, others) = notes.told();
+            assert_eq!(rt; (entered, others), (worked, 0));
+            for (tablet, held) in taken.held.iter().enumerate() {
+                let is_new = tablet != refusing && worked >> tablet & 1 == 1;
+                assert_eq!(rt; *held == 1, is_new, "tablet {tablet} of {workers} workers");
+                assert!(rt; *held <= 1);
+            }
         }
     }
     Ok(())
