@@ -88,7 +88,7 @@ fn two_tablets_get_their_images_with_any_number_of_workers(rt: HostRuntime) -> R
 
 /// What deliveries changed in new tablets, or that memory ran out, and how many records each tablet then has.
 #[derive(Drop)]
-pub(crate) struct Taken {
+pub(crate) struct Outcome {
     pub(crate) changes: Result<Vec<Vec<Change>>, NoMemory>,
     pub(crate) held: Vec<usize>,
 }
@@ -101,7 +101,7 @@ pub(crate) fn taken<R: AllocGlobal + Threads + Sync>(
     workers: usize,
     first: &Notes,
     second: &Notes,
-) -> Result<Taken, Fail>
+) -> Result<Outcome, Fail>
     requires { (1 ≤ workers) × (workers ≤ most_workers) }
 {
     let alloc = rt.alloc();
@@ -114,7 +114,7 @@ pub(crate) fn taken<R: AllocGlobal + Threads + Sync>(
     for tablet in tablets.iter() {
         held.push(tablet.state.cells().len())?;
     }
-    Ok(Taken { changes, held })
+    Ok(Outcome { changes, held })
 }
 
 #[test]
