@@ -1,5 +1,5 @@
 -- What both halves answer is what the whole answers.
-use Rattle.std.proofs.Common.{◌≡◌, ◌++◌, map, length, refl, sym, ◌∙◌, arith}
+use Rattle.std.proofs.Common.{◌++◌, map, length, refl, sym, ◌∙◌, arith}
 use Rattle.std.proofs.lemmas.List.{length-map}
 use Rattle.pn_apply.proofs.Prefixes.{on_err, all_old, not_none, same_length, old_or_stepped}
 use Rattle.pn_apply.proofs.Halves.{low_joins, high_joins, whole_room, whole_ok, whole_changes, whole_err, whole_left}
