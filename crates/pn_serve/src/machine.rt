@@ -21,25 +21,38 @@ use pn_region::{Region, RoundFault};
 use pn_scan::{Page, Query, ScanFault};
 use pn_stream::Delivery;
 use std::alloc::Global;
+use std::thread::Threads;
 
 /// Answers one line and does what it asks for, with 1 to 16 workers. A refusal leaves the region as it was;
 /// but after a round that ran out of memory, each tablet is as it was or has taken its part.
-pub fn answer(alloc: Global, region: &mut Region, workers: usize, line: &[u8]) -> Reply
+pub fn answer<R: Threads + Sync>(
+    rt: &R,
+    alloc: Global,
+    region: &mut Region,
+    workers: usize,
+    line: &[u8],
+) -> Reply
     requires workers { (1 ≤ workers) × (workers ≤ most_workers) }
     ensures { Answers (serving region.old) line.now (serving region.new) result }
 {
     match command_of(alloc, line) {
-        Ok(command) => obey(alloc, region, workers, command),
+        Ok(command) => obey(rt, alloc, region, workers, command),
         Err(refusal) => Reply::Refused(refusal),
     }
 }
 
-fn obey(alloc: Global, region: &mut Region, workers: usize, command: Command) -> Reply
+fn obey<R: Threads + Sync>(
+    rt: &R,
+    alloc: Global,
+    region: &mut Region,
+    workers: usize,
+    command: Command,
+) -> Reply
     requires workers { (1 ≤ workers) × (workers ≤ most_workers) }
     ensures { Obeys (serving region.old) (command_value command) (serving region.new) result }
 {
     match command {
-        Command::Deliver(deliveries) => deliver(alloc, region, workers, deliveries),
+        Command::Deliver(deliveries) => deliver(rt, alloc, region, workers, deliveries),
         Command::Get(keys) => get(alloc, region, &keys),
         Command::Marks => shown(marks_reply(alloc, region.marks())),
         Command::Read { key, version } => read(alloc, region, &key, version),
@@ -49,11 +62,17 @@ fn obey(alloc: Global, region: &mut Region, workers: usize, command: Command) ->
 }
 
 // One round of the deliveries.
-fn deliver(alloc: Global, region: &mut Region, workers: usize, deliveries: Vec<Delivery>) -> Reply
+fn deliver<R: Threads + Sync>(
+    rt: &R,
+    alloc: Global,
+    region: &mut Region,
+    workers: usize,
+    deliveries: Vec<Delivery>,
+) -> Reply
     requires workers { (1 ≤ workers) × (workers ≤ most_workers) }
     ensures { Obeys (serving region.old) (asking deliveries.items) (serving region.new) result }
 {
-    match region.round(deliveries, workers, &Open) {
+    match region.round(rt, deliveries, workers, &Open) {
         Ok(round) => Reply::Changed(round.changed),
         Err(RoundFault::Memory) => Reply::Refused(Refusal::Memory),
         Err(fault) => match fault_reply(alloc, &fault) {

@@ -13,3 +13,5 @@ mod reads;
 mod region;
 #[cfg(test)]
 mod tablet;
+#[cfg(test)]
+mod workers;

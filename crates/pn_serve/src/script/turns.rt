@@ -16,6 +16,7 @@ use pn_line::{LineBuffer, LineEnd, Outbox, Sink, Source, WriteFault, read_line};
 use pn_region::Region;
 use std::alloc::Global;
 use std::marker::Model;
+use std::thread::Threads;
 
 /// What a run has between two lines.
 #[derive(Drop)]
@@ -81,8 +82,9 @@ impl Run {
     }
 
     /// Reads a line and answers it. Where no further line is there to be read, all replies go out.
-    pub(crate) fn turn<S: Source, W: Sink>(
+    pub(crate) fn turn<R: Threads + Sync, S: Source, W: Sink>(
         &mut self,
+        rt: &R,
         input: &mut S,
         output: &mut W,
     ) -> Result<Next, RunFault>
@@ -100,7 +102,7 @@ impl Run {
         };
         match end {
             LineEnd::Newline { more } => {
-                self.answer_line(output)?;
+                self.answer_line(rt, output)?;
                 if !more {
                     self.outbox.flush(output)?;
                 }
@@ -111,7 +113,7 @@ impl Run {
                     self.outbox.flush(output)?;
                     return Ok(Next::End);
                 }
-                self.answer_line(output)?;
+                self.answer_line(rt, output)?;
                 self.outbox.flush(output)?;
                 Ok(Next::End)
             }
@@ -123,14 +125,18 @@ impl Run {
     }
 
     // Answers the line that was read: its reply waits or goes out, and it is counted.
-    fn answer_line<W: Sink>(&mut self, output: &mut W) -> Result<(), WriteFault>
+    fn answer_line<R: Threads + Sync, W: Sink>(
+        &mut self,
+        rt: &R,
+        output: &mut W,
+    ) -> Result<(), WriteFault>
         requires few { self.old.counts.lines < MOST_LINES }
         ensures ok { OnOk result (Answered self.old self.new (W.contents output.old) (W.contents output.new)) }
         ensures err { OnErr result (AnsweredInPart self.old self.new (W.contents output.old) (W.contents output.new)) }
         ensures fault { OnErr result W.may_fail }
     {
         let line = self.line.bytes();
-        let reply = answer(self.alloc, &mut self.region, self.workers, line);
+        let reply = answer(rt, self.alloc, &mut self.region, self.workers, line);
         count(&mut self.counts, &reply);
         push_reply(&reply, &mut self.outbox, output)
     }
