@@ -1,0 +1,7 @@
+use Rattle.pn_join.specs.Edits.{put_all}
+use Rattle.pn_join.specs.LeafEntries.{leaves_of}
+use Rattle.pn_join.proofs.PutTogether.{Putting}
+use Rattle.pn_join.proofs.table.edit.put_all.Given as goal
+
+abbrev pub invariant-loop-edit : goal.invariant-loop-edit
+invariant-loop-edit g l = Putting g.K.Ord.cmp (put_all g.K.Ord.cmp (leaves_of l.initial.leaves.items) l.initial.edit-iterator) l.leaves.items l.ends.items l.edit-iterator
