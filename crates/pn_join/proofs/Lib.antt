@@ -18,5 +18,6 @@ pub mod RowGrowth
 pub mod RowJoin
 pub mod RowPlaces
 pub mod RowSearch
+pub mod RowSplits
 pub mod Singles
 pub mod TableFacts

@@ -162,6 +162,7 @@ impl<K: Ord + Dup, C: Join> Join for Table<K, C> {
                 return self.join_entry(key.dup()?, content.dup()?);
             }
         }
+        self.row.make_way(&other.row)?;
         if !self.row.join_together(&other.row)? {
             *self = self.joined_with(other)?;
         }

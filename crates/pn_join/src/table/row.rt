@@ -11,6 +11,7 @@ ghost use Rattle.pn_join.specs.PutInLeaves.{IsPutOf, ChangesOneLeaf};
 ghost use Rattle.pn_join.specs.RowChanges.{with_back};
 ghost use Rattle.pn_join.specs.Tables.{IsTable};
 
+mod room;
 mod together;
 
 use crate::table::ends::{copied, count_in};
