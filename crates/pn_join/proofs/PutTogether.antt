@@ -49,9 +49,6 @@ module _ {K C : Type 0} (cmp : K → K → Ordering) (whole : List (List (K × C
   was : leaf_entries leaf ≡ get_or rows edit.leaf []
   was = ap leaf_entries at ∙ get_or-leaves leaf_entries leaves edit.leaf leaf [] within
 
-  pub is_within : edit.leaf < length leaves
-  is_within = within
-
   pub is_ready : IsReady leaf
   is_ready = subst IsReady (sym at) (ready_at leaves edit.leaf leaf h.ready.0)
 
@@ -90,3 +87,10 @@ module _ {K C : Type 0} (cmp : K → K → Ordering) (whole : List (List (K × C
           });
           count = rw new (omega (arith, few, counted));
         }
+
+pub put_within : {K C : Type 0} (cmp : K → K → Ordering) (whole : List (List (K × C))) (leaves : List (Leaf K C)) (ends : List ℕ) (edit : Edit K C) (left : List (Edit K C)) → Putting cmp whole leaves ends (edit ∷ left) → edit.leaf < length leaves
+put_within cmp whole leaves ends edit left h = ready_within leaves edit.leaf h.ready.0
+
+pub none_left : {A : Type 0} (xs : List A) → length xs ≡ 0 → xs ≡ []
+none_left [] is = refl
+none_left (x ∷ xs) is = absurd (omega (arith, is))

@@ -13,7 +13,7 @@ loop-edit-preserved g c =
     let e = c.edit-item.result in
     let k = c.loop-edit.edit-index in
     let lt : k < length edits = c.loop-edit-test.true in
-    let within : e.leaf < length c.args.leaves.now = omega (arith, c.if-last-ge-len.false) in
+    let within : e.leaf < length c.args.leaves.now = omega (arith, c.if-last-leaves.false) in
     let room : length (get_or rows e.leaf []) + c.if-edit-last-2.more ≤ most_in_leaf = omega (arith, c.saturating_add.ensures, c.if-saturating_add-gt-MOST.false, ap length c.entries_at.ensures) in
     record {
       so_far = elim c.if-edit-last-2.branch [

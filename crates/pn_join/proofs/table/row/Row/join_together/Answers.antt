@@ -1,4 +1,4 @@
-use Rattle.std.proofs.Common.{◌≡◌, ◌+◌, ◌<◌, ◌^◌, length, ap, ◌∙◌, sym, arith, rules}
+use Rattle.std.proofs.Common.{◌≡◌, ◌+◌, ◌<◌, ◌^◌, length, refl, ap, ◌∙◌, sym, arith, rules}
 use Rattle.std.specs.List.{AllByRecursion}
 use Rattle.pn_join.specs.Edits.{put_all, AreFew, AreEdits}
 use Rattle.pn_join.specs.LeafEntries.{leaves_of}
@@ -28,9 +28,9 @@ invariant_of-self-2 g c =
     let other = all_entries c.args.other.now in
     let edits = c.in_ok-edits.edits.items in
     let are : AreEdits cmp meaning joined valid rows other edits = rw c.self.view_is c.in_ok-edits.ensures.edits in
-    let inside : AllByRecursion (λ edit. edit.leaf < length leaves) edits = rw (c.deref.ensures.value, c.deref-2.ensures.value) at c.if-not-fits.ensures.within in
+    let inside : AllByRecursion (λ edit. edit.leaf < length leaves) edits = rw (c.deref.ensures.value, c.deref-2.ensures.value) at (c.if-not-fits.ensures.within refl) in
     let within : AllByRecursion (λ edit. edit.leaf < length rows) edits = rw (length-leaves leaves) inside in
-    let sizes : AreFew (put_all cmp rows edits) = rw (c.deref.ensures.value, c.deref-2.ensures.value) at c.if-not-fits.ensures.sizes in
+    let sizes : AreFew (put_all cmp rows edits) = rw (c.deref.ensures.value, c.deref-2.ensures.value) at (c.if-not-fits.ensures.sizes refl) in
     let both = row_together cmp g.met.K.Ord.total meaning joined g.met.C.Join.laws valid rows other edits within c.self.invariant.0 c.requires are sizes in
     (rw c.in_ok-put_together.ensures.ok both.0, c.in_ok-put_together.ensures.ends)
 
@@ -45,9 +45,9 @@ returns-clause-joined g c =
     let other = all_entries c.args.other.now in
     let edits = c.in_ok-edits.edits.items in
     let are : AreEdits cmp meaning joined valid rows other edits = rw c.self.view_is c.in_ok-edits.ensures.edits in
-    let inside : AllByRecursion (λ edit. edit.leaf < length leaves) edits = rw (c.deref.ensures.value, c.deref-2.ensures.value) at c.if-not-fits.ensures.within in
+    let inside : AllByRecursion (λ edit. edit.leaf < length leaves) edits = rw (c.deref.ensures.value, c.deref-2.ensures.value) at (c.if-not-fits.ensures.within refl) in
     let within : AllByRecursion (λ edit. edit.leaf < length rows) edits = rw (length-leaves leaves) inside in
-    let sizes : AreFew (put_all cmp rows edits) = rw (c.deref.ensures.value, c.deref-2.ensures.value) at c.if-not-fits.ensures.sizes in
+    let sizes : AreFew (put_all cmp rows edits) = rw (c.deref.ensures.value, c.deref-2.ensures.value) at (c.if-not-fits.ensures.sizes refl) in
     let both = row_together cmp g.met.K.Ord.total meaning joined g.met.C.Join.laws valid rows other edits within c.self.invariant.0 c.requires are sizes in
     λ _. ap (λ ls. contents_at cmp meaning (all_entries ls)) c.in_ok-put_together.ensures.ok ∙ both.1
     ∙ ap (λ ls. key_by_key joined (contents_at cmp meaning (all_entries ls)) (contents_at cmp meaning other)) c.self.view_is
@@ -63,8 +63,8 @@ returns-clause-row g c =
     let other = all_entries c.args.other.now in
     let edits = c.in_ok-edits.edits.items in
     let are : AreEdits cmp meaning joined valid rows other edits = rw c.self.view_is c.in_ok-edits.ensures.edits in
-    let inside : AllByRecursion (λ edit. edit.leaf < length leaves) edits = rw (c.deref.ensures.value, c.deref-2.ensures.value) at c.if-not-fits.ensures.within in
+    let inside : AllByRecursion (λ edit. edit.leaf < length leaves) edits = rw (c.deref.ensures.value, c.deref-2.ensures.value) at (c.if-not-fits.ensures.within refl) in
     let within : AllByRecursion (λ edit. edit.leaf < length rows) edits = rw (length-leaves leaves) inside in
-    let sizes : AreFew (put_all cmp rows edits) = rw (c.deref.ensures.value, c.deref-2.ensures.value) at c.if-not-fits.ensures.sizes in
+    let sizes : AreFew (put_all cmp rows edits) = rw (c.deref.ensures.value, c.deref-2.ensures.value) at (c.if-not-fits.ensures.sizes refl) in
     let both = row_together cmp g.met.K.Ord.total meaning joined g.met.C.Join.laws valid rows other edits within c.self.invariant.0 c.requires are sizes in
     rw c.in_ok-put_together.ensures.ok both.0
