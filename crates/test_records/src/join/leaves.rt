@@ -1,6 +1,6 @@
 //! Tables of many leaves, joined with themselves and with others.
 
-use pn_join::{Dup, Entries, Highest, Join, Table};
+use pn_join::{Dup, Entries, Highest, Join, NoMemory, Table};
 use std::alloc::Global;
 use std::test::Fail;
 
@@ -31,7 +31,7 @@ pub fn keys_from(first: u64, step: u64, count: u64) -> Span {
 }
 
 /// A table of these keys, each with itself as its content.
-pub fn counts(alloc: Global, keys: &Span) -> Result<Counts, Fail> {
+pub fn counts(alloc: Global, keys: &Span) -> Result<Counts, NoMemory> {
     let mut table = Counts::new(alloc);
     for place in 0..keys.count {
         let key = keys.key(place);

@@ -3,7 +3,7 @@
 //! These tests hold as they are, and hold too where one allocation of theirs is refused, whichever it is.
 
 use crate::join::leaves::{Counts, FIRST, Span, counts, holds, keys_from};
-use pn_join::{Dup, Highest, Join};
+use pn_join::{Dup, Highest, Join, NoMemory};
 use std::alloc::Global;
 use std::test::Fail;
 
@@ -11,18 +11,18 @@ use std::test::Fail;
 const SIZES: [u64; 5] = [0, 1, 64, 65, 200];
 
 /// A table of these keys, built again where memory ran out.
-fn built(alloc: Global, keys: &Span) -> Result<Counts, Fail> {
+fn built(alloc: Global, keys: &Span) -> Result<Counts, NoMemory> {
     match counts(alloc, keys) {
         Ok(table) => Ok(table),
-        Err(_) => counts(alloc, keys),
+        Err(NoMemory) => counts(alloc, keys),
     }
 }
 
 /// A copy, made again where memory ran out.
-fn copied(table: &Counts) -> Result<Counts, Fail> {
+fn copied(table: &Counts) -> Result<Counts, NoMemory> {
     match table.dup() {
         Ok(copy) => Ok(copy),
-        Err(_) => Ok(table.dup()?),
+        Err(NoMemory) => table.dup(),
     }
 }
 
