@@ -17,7 +17,7 @@ loop-edit-init g c =
         counted = c.requires.ends;
         count = c.requires.count;
       });
-      len = omega (arith, given.1.0, ap length given.0, c.args.edits.ok.0);
+      len = omega (arith, given.1, ap length given.0, c.args.edits.ok.0);
     }
 
 pub index_mut-requires : goal.index_mut-requires
@@ -55,7 +55,7 @@ loop-edit-preserved g c =
     let steps = c.in-Some.ensures.steps in
     let h = rw steps.0 at c.loop-edit.invariant.putting in
     record {
-      putting = put_next g.K.Ord.cmp _ c.loop-edit.leaves.items c.loop-edit.ends.items c.in-Some.edit (into_iter_items c.next.new.self) h c.index_mut.result.now c.index_mut.ensures.value c.put_in-more.new.leaf c.put_in-more.ensures.entries c.put_in-more.result c.put_in-more.ensures.more g.met.K.Ord.total c.raise_from.new.ends c.put_in-more.ensures.ready c.raise_from.ensures.items;
+      putting = put_next g.K.Ord.cmp _ c.loop-edit.leaves.items c.loop-edit.ends.items c.in-Some.edit (into_iter_items c.next.new.self) h c.index_mut.result.now c.index_mut.ensures.value c.put_in-more.new.leaf c.put_in-more.ensures.entries c.put_in-more.result c.put_in-more.ensures.more g.met.K.Ord.total c.raise_from.new.ends.items c.put_in-more.ensures.ready c.raise_from.ensures.items;
       len = omega (arith, steps.1, ap length steps.0, c.loop-edit.invariant.len);
     }
 
