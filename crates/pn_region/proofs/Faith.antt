@@ -55,7 +55,7 @@ module _ (broker : BrokerRecord) (marks next : Positions) (deliveries : List Del
   images = all_images deliveries
 
   -- what was brought stands up to marks that reach the new ones
-  brought : (reached : Positions) → Reaches reached next → (image : Image) → Contains images image → Contains (up_to broker reached) image
+  pub brought : (reached : Positions) → Reaches reached next → (image : Image) → Contains images image → Contains (up_to broker reached) image
   brought reached reaches image there =
       let found = part_of (λ (delivery : DeliveryValue). delivery.images) deliveries image there in
       let stands = brings broker found.part image (honest found.part found.listed) found.there in
@@ -64,7 +64,7 @@ module _ (broker : BrokerRecord) (marks next : Positions) (deliveries : List Del
       (wider (last_position found.part) (position_of reached found.part.stream) (broker found.part.stream) image (omega (arith, last, reaches found.part.stream)) stands)
 
   -- what stands past the old marks, up to the new ones, was brought
-  was_brought : (stream : List ℕ) (image : Image) (at : ℕ) → position_of marks stream < at + 1 → at + 1 ≤ position_of next stream → at < length (broker stream) → get_or (broker stream) at image ≡ image → Contains images image
+  pub was_brought : (stream : List ℕ) (image : Image) (at : ℕ) → position_of marks stream < at + 1 → at + 1 ≤ position_of next stream → at < length (broker stream) → get_or (broker stream) at image ≡ image → Contains images image
   was_brought stream image at past up within is =
       let has = not_skipped marks next deliveries stream (at + 1) accepted past up in
       in_part (λ (delivery : DeliveryValue). delivery.images) deliveries has.there.0 has.delivery image has.there.1 has.there.2

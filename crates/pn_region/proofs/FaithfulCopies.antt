@@ -41,7 +41,7 @@ lost_faithful broker t = record {
   all = λ image there. inr there;
 }
 
-was_so : (b : Bool) (right : Result TabletStateValue OpFault) (after : TabletStateValue) → (if b then right else Err WrongRange) ≡ Ok after → b ≡ true
+pub was_so : (b : Bool) (right : Result TabletStateValue OpFault) (after : TabletStateValue) → (if b then right else Err WrongRange) ≡ Ok after → b ≡ true
 was_so true right after is = refl
 was_so false right after is = cc
 

@@ -1,10 +1,15 @@
+pub mod Events
 pub mod Faith
+pub mod Faults
+pub mod Held
 pub mod Honest
 pub mod Laws
 pub mod Limits
 pub mod Marking
 pub mod Proofs
 pub mod Reads
+pub mod Recovery
 pub mod Regions
 pub mod Rounds
 pub mod Serving
+pub mod Taken

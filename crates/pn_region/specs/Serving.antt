@@ -1,6 +1,7 @@
 -- Regions of which no tablet is recovering, and pages of a region that follow one another.
-use Rattle.std.specs.Prelude.{◌≡◌, List, Option, Ok}
+use Rattle.std.specs.Prelude.{◌≡◌, ℕ, List, Option, Ok, slice_get, IsSomeAnd}
 use Rattle.std.specs.List.{AllByRecursion}
+use Rattle.pn_tablet.specs.Layouts.{tablet_of}
 use Rattle.pn_tablet.specs.declared.state.Status.TheVariants.{Serving}
 use Rattle.pn_scan.specs.Queries.{QueryValue}
 use Rattle.pn_scan.specs.Pages.{PageValue}
@@ -11,6 +12,10 @@ use Rattle.pn_region.specs.Reads.{page_in}
 -- every tablet serves
 abbrev pub AllServe : RegionValue → Type 0
 AllServe region = AllByRecursion (λ tablet. tablet.status ≡ Serving) region.tablets
+
+-- the tablet of the key serves
+abbrev pub ServesAt : RegionValue → List ℕ → Type 0
+ServesAt region key = IsSomeAnd (slice_get region.tablets (tablet_of region.layout key)) (λ tablet. tablet.status ≡ Serving)
 
 -- pages of the region, each that of the continuation before it
 abbrev pub ArePagesOf : RegionValue → Option QueryValue → List PageValue → Type 0

@@ -15,6 +15,8 @@ ghost use Rattle.pn_region.specs.Marking.{is_memory};
 ghost use Rattle.pn_region.specs.Regions.{IsRegion, new_region};
 ghost use Rattle.pn_region.specs.Rounds.{round, changed, Leaves};
 
+mod recovery;
+
 use crate::{RoundFault, next_marks};
 use pn_apply::{Gate, apply_all, reduce_owned};
 use pn_join::{Dup, Marks, NoMemory};

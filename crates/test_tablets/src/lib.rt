@@ -10,6 +10,8 @@ mod notes;
 #[cfg(test)]
 mod reads;
 #[cfg(test)]
+mod recovery;
+#[cfg(test)]
 mod region;
 #[cfg(test)]
 mod tablet;

@@ -12,8 +12,8 @@ use std::alloc::Global;
 use std::test::Fail;
 use std::thread::Threads;
 
-// Each stream with its position.
-fn text_of(alloc: Global, marks: &Marks) -> Result<String, Fail> {
+/// Each stream with its position.
+pub(crate) fn text_of(alloc: Global, marks: &Marks) -> Result<String, Fail> {
     let mut text = String::new(alloc);
     for place in 0..marks.len() {
         if let Some((stream, position)) = marks.entry_at(place) {

@@ -1,0 +1,45 @@
+-- What happens to a region, one event after another.
+use Rattle.std.specs.Prelude.{◌≡◌, ℕ, List, [], ◌∷◌, Ok}
+use Rattle.std.specs.List.{AllByRecursion}
+use Rattle.pn_stream.specs.Brokers.{BrokerRecord, AreHonest}
+use Rattle.pn_stream.specs.Positions.{DeliveryValue}
+use Rattle.pn_tablet.specs.Copies.{TabletCopyValue, IsCopy}
+use Rattle.pn_region.specs.Honest.{IsHonestCopy}
+use Rattle.pn_region.specs.Recovery.{losing, adopting}
+use Rattle.pn_region.specs.Regions.{RegionValue}
+use Rattle.pn_region.specs.Rounds as rounds
+
+-- a round of deliveries, one that ran out of memory, the loss of the tablet of a number, or the adoption of a copy
+pub data RegionEvent : Type 0 where
+  round : List DeliveryValue → RegionEvent
+  half_round : List DeliveryValue → RegionEvent
+  loss : ℕ → RegionEvent
+  adoption : TabletCopyValue → RegionEvent
+
+-- the copy is adopted
+pub record IsAdoption (copy : TabletCopyValue) (old new : RegionValue) : Type 0 where
+  pub tablet : ℕ
+  pub lawful : IsCopy copy.range copy.marks copy.cells
+  pub adopted : adopting old copy ≡ Ok (tablet, new)
+
+-- the event leads from one region to another
+abbrev pub LeadsTo : RegionEvent → RegionValue → RegionValue → Type 0
+LeadsTo (round deliveries) old new = rounds.round old deliveries ≡ Ok new
+LeadsTo (half_round deliveries) old new = rounds.IsHalfTaken old deliveries new
+LeadsTo (loss tablet) old new = new ≡ losing old tablet
+LeadsTo (adoption copy) old new = IsAdoption copy old new
+
+-- so do events, one after another
+abbrev pub AllLeadTo : List RegionEvent → RegionValue → RegionValue → Type 0
+AllLeadTo [] old new = new ≡ old
+AllLeadTo (event ∷ events) old new = (next : RegionValue) × LeadsTo event old next × AllLeadTo events next new
+
+-- what the event brings is honest
+abbrev pub IsHonestEvent : BrokerRecord → RegionEvent → Type 0
+IsHonestEvent broker (round deliveries) = AreHonest broker deliveries
+IsHonestEvent broker (half_round deliveries) = AreHonest broker deliveries
+IsHonestEvent broker (loss tablet) = Unit {0}
+IsHonestEvent broker (adoption copy) = IsHonestCopy broker copy
+
+abbrev pub AreHonestEvents : BrokerRecord → List RegionEvent → Type 0
+AreHonestEvents broker events = AllByRecursion (IsHonestEvent broker) events

@@ -1,0 +1,140 @@
+//! The laws of losses, adoptions and whole lists of events, as contracts. A call does nothing.
+
+ghost use Rattle.std.specs.Prelude.{◌≡◌, ℕ, List, [], ◌++◌, fold, slice_get, Ok, Option, Some};
+ghost use Rattle.std.specs.FinMap.{find};
+ghost use Rattle.pn_join.specs.Marks.{Positions, Reaches};
+ghost use Rattle.pn_record.specs.declared.image.Image.{Image};
+ghost use Rattle.pn_record.specs.Cells.{SameImages};
+ghost use Rattle.pn_record.specs.CellMap.{table_of};
+ghost use Rattle.pn_record.specs.Older.{NotOlder};
+ghost use Rattle.pn_record.specs.Order.{bytes_cmp};
+ghost use Rattle.pn_record.specs.Sets.{CellValue};
+ghost use Rattle.pn_stream.specs.Brokers.{BrokerRecord};
+ghost use Rattle.pn_tablet.specs.Copies.{TabletCopyValue};
+ghost use Rattle.pn_tablet.specs.Copying.{copy_of};
+ghost use Rattle.pn_tablet.specs.Laws.{AreJoins};
+ghost use Rattle.pn_tablet.specs.Layouts.{Bounds, IsLayout};
+ghost use Rattle.pn_tablet.specs.Steps.{lost, step, stepped};
+ghost use Rattle.pn_tablet.specs.Tablets.{TabletStateValue};
+ghost use Rattle.pn_tablet.specs.declared.op.TabletOp.{TabletOp};
+ghost use Rattle.pn_tablet.specs.declared.op.TabletOp.TheVariants.{Adopt};
+ghost use Rattle.pn_tablet.specs.declared.state.Status.TheVariants.{Serving};
+ghost use Rattle.pn_region.specs.Events.{RegionEvent, LeadsTo, AllLeadTo, IsHonestEvent, AreHonestEvents};
+ghost use Rattle.pn_region.specs.Faith.{IsFaithful, AreFaithful};
+ghost use Rattle.pn_region.specs.Held.{HoldsStill};
+ghost use Rattle.pn_region.specs.Honest.{IsHonestCopy};
+ghost use Rattle.pn_region.specs.Laws.{AreIn};
+ghost use Rattle.pn_region.specs.Regions.{RegionValue, IsRegion, new_region, all_cells};
+ghost use Rattle.pn_region.specs.Serving.{AllServe, ServesAt};
+ghost use Rattle.pn_region.specs.Taken.{all_taken, all_left, CoversTell, AreRounds};
+
+/// Every event leaves a region: a tablet for each range, whose cover reaches the marks.
+pub fn events_leave_a_region()
+    ensures event { (event : RegionEvent) (old new : RegionValue) → IsRegion old → LeadsTo event old new → IsRegion new }
+    ensures events { (events : List RegionEvent) (old new : RegionValue) → IsRegion old → AllLeadTo events old new → IsRegion new }
+{}
+
+/// Honest events leave tablets faithful that were, and the copy that a faithful tablet gives is honest.
+pub fn honest_events_keep_tablets_faithful()
+    ensures event { (broker : BrokerRecord) (event : RegionEvent) (old new : RegionValue) → IsRegion old
+        → AreFaithful broker old.tablets → IsHonestEvent broker event → LeadsTo event old new → AreFaithful broker new.tablets }
+    ensures events { (broker : BrokerRecord) (events : List RegionEvent) (old new : RegionValue) → IsRegion old
+        → AreFaithful broker old.tablets → AreHonestEvents broker events → AllLeadTo events old new
+        → AreFaithful broker new.tablets }
+    ensures given { (broker : BrokerRecord) (region : RegionValue) (tablet : ℕ) (state : TabletStateValue) (need : Positions) (copy : TabletCopyValue)
+        → AreFaithful broker region.tablets → slice_get region.tablets tablet ≡ Some state
+        → copy_of state need ≡ Ok copy → IsHonestCopy broker copy }
+{}
+
+/// No event lowers the cover of a tablet, nor do events one after another.
+pub fn covers_never_fall()
+    ensures event { (event : RegionEvent) (old new : RegionValue) (tablet : ℕ) (before after : TabletStateValue)
+        → IsRegion old → LeadsTo event old new
+        → slice_get old.tablets tablet ≡ Some before → slice_get new.tablets tablet ≡ Some after
+        → Reaches after.cover before.cover }
+    ensures events { (events : List RegionEvent) (old new : RegionValue) (tablet : ℕ) (before after : TabletStateValue)
+        → IsRegion old → AllLeadTo events old new
+        → slice_get old.tablets tablet ≡ Some before → slice_get new.tablets tablet ≡ Some after
+        → Reaches after.cover before.cover }
+{}
+
+/// A tablet that serves after an event holds still each record that it held before. Where events are honest, one that
+/// serves before and after them does, however often it was lost between and whatever copies it adopted.
+pub fn what_is_served_never_goes_back()
+    ensures event { (event : RegionEvent) (old new : RegionValue) (tablet : ℕ) (before after : TabletStateValue)
+        → IsRegion old → LeadsTo event old new
+        → slice_get old.tablets tablet ≡ Some before → slice_get new.tablets tablet ≡ Some after → after.status ≡ Serving
+        → (key : List ℕ) → HoldsStill (find bytes_cmp key before.cells) (find bytes_cmp key after.cells) }
+    ensures events { (broker : BrokerRecord) (events : List RegionEvent) (old new : RegionValue) (tablet : ℕ) (before after : TabletStateValue)
+        → IsRegion old → AreFaithful broker old.tablets → AreHonestEvents broker events → AllLeadTo events old new
+        → slice_get old.tablets tablet ≡ Some before → slice_get new.tablets tablet ≡ Some after
+        → before.status ≡ Serving → after.status ≡ Serving
+        → (key : List ℕ) → HoldsStill (find bytes_cmp key before.cells) (find bytes_cmp key after.cells) }
+{}
+
+/// So does the region with the records of each key whose tablet serves before and after: they are held still in all
+/// tablets together. A record that is held still is there, and not at an older version.
+pub fn records_served_never_go_back()
+    ensures event { (event : RegionEvent) (old new : RegionValue) (key : List ℕ) → IsRegion old → LeadsTo event old new
+        → ServesAt old key → ServesAt new key
+        → HoldsStill (find bytes_cmp key (all_cells old)) (find bytes_cmp key (all_cells new)) }
+    ensures events { (broker : BrokerRecord) (events : List RegionEvent) (old new : RegionValue) (key : List ℕ) → IsRegion old
+        → AreFaithful broker old.tablets → AreHonestEvents broker events → AllLeadTo events old new
+        → ServesAt old key → ServesAt new key
+        → HoldsStill (find bytes_cmp key (all_cells old)) (find bytes_cmp key (all_cells new)) }
+    ensures versions { (was now : Option CellValue) → HoldsStill was now → NotOlder was now }
+{}
+
+/// A tablet that was lost while it served, took what came and adopted a copy, stands as it would had it never been
+/// lost and taken the copy: its cells, its cover and its status are the same.
+pub fn a_recovery_leaves_no_trace()
+    ensures { (broker : BrokerRecord) (tablet after : TabletStateValue) (joins : List TabletOp) (copy : TabletCopyValue) → AreJoins joins
+        → IsFaithful broker tablet → tablet.status ≡ Serving → IsHonestCopy broker copy
+        → step (fold stepped (lost tablet) joins) (Adopt copy) ≡ Ok after
+        → step (fold stepped tablet joins) (Adopt copy) ≡ Ok after }
+{}
+
+/// So it holds still each record that it held before the loss: of a greater version, or of the same one with all
+/// contents that it had. What faithful tablets hold that serve depends on how far their covers reach, and on nothing else.
+pub fn a_recovery_brings_all_back()
+    ensures whole { (broker : BrokerRecord) (tablet after : TabletStateValue) (joins : List TabletOp) (copy : TabletCopyValue) → AreJoins joins
+        → IsFaithful broker tablet → tablet.status ≡ Serving → IsHonestCopy broker copy
+        → step (fold stepped (lost tablet) joins) (Adopt copy) ≡ Ok after
+        → (key : List ℕ) → HoldsStill (find bytes_cmp key tablet.cells) (find bytes_cmp key after.cells) }
+    ensures covers { (broker : BrokerRecord) (tablet other : TabletStateValue) → IsFaithful broker tablet → IsFaithful broker other
+        → tablet.status ≡ Serving → other.status ≡ Serving → tablet.range ≡ other.range
+        → Reaches tablet.cover other.cover → Reaches other.cover tablet.cover → tablet.cells ≡ other.cells }
+{}
+
+/// Honest events take the images of their rounds, and of each copy those in its range up to its marks. After them the
+/// cover of each tablet has reached all of these in its range, and it has reached no others but such as a round may
+/// have left that ran out of memory.
+pub fn covers_tell_what_events_took()
+    ensures new { (broker : BrokerRecord) (bounds : Bounds) → CoversTell broker [] [] (new_region bounds).tablets }
+    ensures events { (broker : BrokerRecord) (events : List RegionEvent) (old new : RegionValue) (taken left : List Image)
+        → IsRegion old → AreHonestEvents broker events → AllLeadTo events old new → CoversTell broker taken left old.tablets
+        → CoversTell broker (taken ++ all_taken broker events) (left ++ all_left events) new.tablets }
+{}
+
+/// After honest events of a new region, where every tablet serves and each round that ran out of memory was retried,
+/// the cells of all tablets together are exactly those of the images that the events took. Where all events are
+/// rounds nothing needs to be honest.
+pub fn events_leave_what_they_took()
+    ensures honest { (broker : BrokerRecord) (bounds : Bounds) (events : List RegionEvent) (region : RegionValue)
+        → IsLayout bounds → AllLeadTo events (new_region bounds) region → AreHonestEvents broker events → AllServe region
+        → AreIn (all_left events) (all_taken broker events) → all_cells region ≡ table_of (all_taken broker events) }
+    ensures rounds { (broker : BrokerRecord) (bounds : Bounds) (events : List RegionEvent) (region : RegionValue)
+        → IsLayout bounds → AllLeadTo events (new_region bounds) region → AreRounds events
+        → AreIn (all_left events) (all_taken broker events) → all_cells region ≡ table_of (all_taken broker events) }
+{}
+
+/// Two regions whose events took the same images, whatever the layouts, the order, the cuts into rounds, the losses
+/// and the copies, have the same records: so `regions_of_the_same_cells_answer_alike` speaks of them.
+pub fn the_same_images_leave_the_same_records()
+    ensures { (broker : BrokerRecord) (bounds others : Bounds) (events more : List RegionEvent) (one other : RegionValue)
+        → IsLayout bounds → AllLeadTo events (new_region bounds) one → AreHonestEvents broker events → AllServe one
+        → AreIn (all_left events) (all_taken broker events)
+        → IsLayout others → AllLeadTo more (new_region others) other → AreHonestEvents broker more → AllServe other
+        → AreIn (all_left more) (all_taken broker more)
+        → SameImages (all_taken broker events) (all_taken broker more) → all_cells one ≡ all_cells other }
+{}
