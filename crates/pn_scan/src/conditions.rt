@@ -4,12 +4,13 @@ ghost use Rattle.std.specs.Prelude.{◌≡◌, map, option_map, IsTrue};
 ghost use Rattle.std.specs.FinMap.{find};
 ghost use Rattle.std.specs.List.{list_all};
 ghost use Rattle.std.specs.Option.{option_copied};
-ghost use Rattle.pn_record.specs.Limits.{names_rise};
+ghost use Rattle.pn_record.specs.Bodies.{names_rise};
 ghost use Rattle.pn_record.specs.Order.{bytes_cmp};
 ghost use Rattle.pn_record.specs.Showing.{shown_field, shown_value};
 ghost use Rattle.pn_tablet.specs.Ranges.{is_from as from_end, is_before as before_end};
 ghost use Rattle.pn_scan.specs.Queries.{shown_condition};
-ghost use Rattle.pn_scan.specs.Shown.{field_of as name_of, is_met as text_met, meets as one_met, shows as all_met, has_shown as some_shown, is_asked as key_asked, is_shown as row_shown, is_after as after_end};
+ghost use Rattle.pn_scan.specs.Conditions.{field_of as name_of, is_met as text_met, meets as one_met, shows as all_met};
+ghost use Rattle.pn_scan.specs.Shown.{has_shown as some_shown, is_asked as key_asked, is_shown as row_shown, is_after as after_end};
 
 use crate::{Condition, Query};
 use pn_record::{Body, Cell, Content, Key, Value};

@@ -1,7 +1,7 @@
 //! Records of images from seeds, made in different cuts and orders, beside those of the slow program.
 
 use crate::images::{PlainImage, images_of, line_of, script_of};
-use crate::row::{layout, replies_of};
+use crate::row::replies_of;
 use crate::slow;
 use pn_apply::Open;
 use pn_join::Name;
@@ -14,6 +14,7 @@ use pn_stream::Delivery;
 use std::alloc::Global;
 use std::test::Fail;
 use std::thread::Threads;
+use test_given::layout;
 
 /// How many images are made from a seed.
 const COUNT: usize = 20;

@@ -1,13 +1,14 @@
 //! A worked row: a script, and the replies that it has.
 
 use pn_line::{InMemory, Source};
-use pn_record::{Key, KeyFault};
+use pn_record::KeyFault;
 use pn_serve::{RunFault, Settings, run};
 use pn_tablet::Layout;
 use std::alloc::{AllocError, Global};
 use std::process::Abort;
 use std::test::Fail;
 use std::thread::Threads;
+use test_given::layout;
 use test_io::Pieces;
 
 /// A script and its replies, each line with its newline.
@@ -26,15 +27,6 @@ pub(crate) fn one_tablet(alloc: Global) -> Settings {
         unreachable!()
     };
     settings
-}
-
-/// Tablets between these bounds.
-pub(crate) fn layout(alloc: Global, bounds: &[&str]) -> Result<Layout, Fail> {
-    let mut keys = Vec::with_capacity(alloc, bounds.len())?;
-    for bound in bounds {
-        keys.push(Key::of(alloc, bound)?)?;
-    }
-    Ok(Layout::new(keys)?)
 }
 
 /// Tablets between these bounds, and so many workers.
