@@ -1,4 +1,5 @@
 pub mod Inverses
 pub mod LookUps
+pub mod MembersByName
 pub mod Names
 pub mod TokenLists

@@ -49,15 +49,15 @@ length-escape : (s : List ℕ) → length (escape s) ≤ 6 * length s
 length-escape [] = omega arith
 length-escape (x ∷ s) = omega (arith, length-append (escape_byte x) (escape s), length-escape_byte x, length-escape s)
 
-length-quoted : (s : List ℕ) → length (quoted s) ≤ 6 * length s + 2
+pub length-quoted : (s : List ℕ) → length (quoted s) ≤ 6 * length s + 2
 length-quoted s = omega (arith, length-append (escape s) (34 ∷ []), length-escape s)
 
-length-comma_if : (later : Bool) → length (comma_if later) ≤ 1
+pub length-comma_if : (later : Bool) → length (comma_if later) ≤ 1
 length-comma_if true = omega arith
 length-comma_if false = omega arith
 
 -- a member whose value is a text, before other text
-length_member : (later : Bool) (name text rest : List ℕ) → length (comma_if later ++ (quoted name ++ 58 ∷ (quoted text ++ rest))) ≤ 6 * length name + 6 * length text + 6 + length rest
+pub length_member : (later : Bool) (name text rest : List ℕ) → length (comma_if later ++ (quoted name ++ 58 ∷ (quoted text ++ rest))) ≤ 6 * length name + 6 * length text + 6 + length rest
 length_member later name text rest =
     omega (arith, length-append (comma_if later) (quoted name ++ 58 ∷ (quoted text ++ rest)), length-append (quoted name) (58 ∷ (quoted text ++ rest)), length-append (quoted text) rest, length-comma_if later, length-quoted name, length-quoted text)
 

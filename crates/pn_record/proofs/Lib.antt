@@ -15,8 +15,10 @@ pub mod MarksValues
 pub mod Members
 pub mod NeverOlder
 pub mod Orders
+pub mod ReadImages
+pub mod ReadInOrder
+pub mod Reordering
 pub mod SameImage
 pub mod ShapeParts
 pub mod Sorted
 pub mod Written
-pub mod Reordering

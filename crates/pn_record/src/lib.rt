@@ -37,4 +37,4 @@ pub use read::{image_of, read_image, read_value, version_of};
 pub use records::{Records, join_records, take_image};
 pub use shape::{Shape, numbers_of, shape_of};
 pub use version::Version;
-pub use write::{content_value, image_value, version_value, write_image};
+pub use write::{content_value, image_value, record_value, version_value, write_image};

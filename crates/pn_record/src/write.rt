@@ -12,7 +12,7 @@ ghost use Rattle.pn_record.specs.Canonical.{is_image, IsImageLine};
 ghost use Rattle.pn_record.specs.Writing.{version_data, fields_data, content_data, image_data};
 
 use crate::content::Value as FieldValue;
-use crate::{Body, Content, Image, Version};
+use crate::{Body, Content, Image, Key, Version};
 use pn_join::NoMemory;
 use serde_json::{Map, Value, json};
 use std::alloc::Global;
@@ -45,7 +45,21 @@ pub fn image_value(alloc: Global, image: &Image) -> Result<Value, NoMemory>
     ensures value { IfOk result (λ value. view value ≡ image_data image.now) }
     ensures limits { OnOk result (IsTrue (is_image image.now)) }
 {
-    members_value(alloc, image.key.as_str(), image.version, &image.content)
+    record_value(alloc, &image.key, image.version, &image.content)
+}
+
+/// The same of an image in parts.
+pub fn record_value(
+    alloc: Global,
+    key: &Key,
+    version: Version,
+    content: &Content,
+) -> Result<Value, NoMemory>
+    ensures value { IfOk result
+        (λ value. view value ≡ image_data (record { key = key.now; version = version; content = content.now })) }
+    ensures limits { OnOk result (IsTrue (is_image (record { key = key.now; version = version; content = content.now }))) }
+{
+    members_value(alloc, key.as_str(), version, content)
 }
 
 fn members_value(

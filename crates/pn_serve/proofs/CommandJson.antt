@@ -27,8 +27,8 @@ use Rattle.pn_serve.specs.declared.refusal.Part.TheVariants.{Whole, Do, Batches,
 use Rattle.pn_serve.specs.declared.refusal.Refusal.TheVariants.{BadShape}
 use Rattle.pn_serve.proofs.CommandLimits.{deliver_members, deliveries_kept, deliveries_again, keys_kept, keys_again, read_kept, version_again}
 use Rattle.pn_serve.proofs.EachFits.{as_ok}
-use Rattle.pn_serve.proofs.MembersByName.{SameAt, same_by_name}
-use Rattle.pn_serve.proofs.ReadInOrder.{InOrder}
+use Rattle.pn_json.proofs.MembersByName.{SameAt, same_by_name}
+use Rattle.pn_record.proofs.ReadInOrder.{InOrder}
 use Rattle.pn_serve.proofs.CommandParts.{text_at, array_at, object_of, names_of, are_named, rises, in_order, each_found, each_again, array_in_order, batch_found, batch_again, text_of, word_at, key_found, key_again, behind_key, version_required, query_there}
 
 -- what the members of a word's object say

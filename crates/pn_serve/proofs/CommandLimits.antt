@@ -1,25 +1,20 @@
 -- What is in its ranges keeps the limits, and what keeps the limits is in its ranges.
-use Rattle.std.proofs.Common.{◌≡◌, ◌<◌, ℕ, zero, suc, arith, slice_index_or, IsTrue, List, [], ◌∷◌, length, map, codes, T, Bool, true, false, ◌&&◌, Option, Some, None, Result, Ok, nat_cmp, refl, sym, ap, ◌∙◌}
+use Rattle.std.proofs.Common.{◌≡◌, ◌<◌, ℕ, zero, suc, arith, slice_index_or, IsTrue, List, [], ◌∷◌, length, map, codes, Bool, true, false, ◌&&◌, Option, Some, None, Result, Ok, refl}
 use Rattle.std.proofs.lemmas.Bool.{and_parts, and_from}
-use Rattle.std.specs.Cmp.Lexicographic.{slice_cmp}
-use Rattle.std.specs.FinMap.Entries.{is_sorted, below_all}
 use Rattle.std.specs.Borrow.{Bor}
 use Rattle.std.specs.List.{list_all}
 use Rattle.pn_json.specs.Members.{texts}
-use Rattle.std.specs.Ordering.{is_lt}
 use Rattle.pn_join.specs.Naming.{is_name}
 use Rattle.serde_json.specs.Data.{Data, number, string, array, object, unsigned, Members, member, no_members}
 use Rattle.serde_json.specs.View.{items_of}
 use Rattle.pn_record.specs.Canonical.{is_image}
 use Rattle.pn_record.specs.Grammar.{ranges_in}
-use Rattle.pn_record.specs.Limits.{Field, is_key, is_version}
+use Rattle.pn_record.specs.Limits.{is_key, is_version}
 use Rattle.pn_record.specs.Sets.{Stamp}
-use Rattle.pn_record.specs.Seen.{body_rises}
-use Rattle.pn_record.specs.Writing.{fields_data, body_data, image_data}
+use Rattle.pn_record.specs.Writing.{image_data}
 use Rattle.pn_record.specs.declared.image.Image.{Image}
 use Rattle.pn_json.proofs.Inverses.{guard_ok}
 use Rattle.pn_record.proofs.Limiting.{in_ranges, image_from_ranges}
-use Rattle.pn_json.proofs.LookUps.{entries_of, Rise}
 use Rattle.pn_stream.specs.Positions.{DeliveryValue, are_positions}
 use Rattle.pn_serve.specs.Command.Json.{delivery_data, deliver_command}
 use Rattle.pn_serve.specs.Command.Limits.{is_delivery, may_be_required, is_command}
@@ -30,32 +25,11 @@ use Rattle.pn_serve.specs.declared.refusal.Part.TheVariants.{Batches, First, Key
 use Rattle.pn_serve.specs.declared.refusal.Refusal.{Refusal}
 use Rattle.pn_serve.specs.declared.refusal.Refusal.TheVariants.{OutOfRange}
 use Rattle.pn_serve.proofs.EachFits.{both_fit, as_ok}
-use Rattle.pn_serve.proofs.ReadInOrder.{InOrder, ItemsInOrder, MembersInOrder, in_order-at}
-
-below_fields : (name : List ℕ) (fields : List Field) → below_all (slice_cmp nat_cmp) name (entries_of (fields_data fields)) ≡ below_all (slice_cmp nat_cmp) name fields
-below_fields name [] = refl
-below_fields name (field ∷ fields) = ap (λ b. is_lt (slice_cmp nat_cmp name field.0) && b) (below_fields name fields)
-
-sorted_fields : (fields : List Field) → is_sorted (slice_cmp nat_cmp) (entries_of (fields_data fields)) ≡ is_sorted (slice_cmp nat_cmp) fields
-sorted_fields [] = refl
-sorted_fields (field ∷ fields) = rw (below_fields field.0 fields, sorted_fields fields) refl
-
-true_of : (b : Bool) → T b → b ≡ true
-true_of true holds = refl
-true_of false holds = absurd holds
+use Rattle.pn_record.proofs.ReadImages.{fields_rise}
+use Rattle.pn_record.proofs.ReadInOrder.{InOrder, ItemsInOrder, MembersInOrder, in_order-at}
 
 members_in_order : (ms : Members) → InOrder (object ms) → MembersInOrder ms
 members_in_order ms order = order.1
-
-object_rises : (ms : Members) → InOrder (object ms) → Rise ms
-object_rises ms order = order.0
-
--- the names of an image's fields rise in its JSON
-fields_rise : (f : Option (List Field)) (rest : Members) → InOrder (object (body_data f rest)) → body_rises f ≡ true
-fields_rise None rest order = refl
-fields_rise (Some fields) rest order =
-    let inside = in_order-at (codes "fields") (body_data (Some fields) rest) (object (fields_data fields)) (members_in_order (body_data (Some fields) rest) order) refl in
-    sym (sorted_fields fields) ∙ true_of _ (object_rises (fields_data fields) inside)
 
 image_kept : (image : Image) → InOrder (image_data image) → image_fits image ≡ Ok tt → is_image image ≡ true
 image_kept image order is = image_from_ranges image (as_ok _ (ranges_in image) tt is) (fields_rise image.content.0 _ order)

@@ -14,7 +14,7 @@ use Rattle.pn_serve.specs.declared.refusal.Refusal.{Refusal}
 use Rattle.pn_serve.specs.declared.refusal.Refusal.TheVariants.{TooLong, Memory}
 use Rattle.pn_serve.proofs.CommandJson.{command_found, command_again}
 use Rattle.pn_serve.proofs.EachFits.{as_ok}
-use Rattle.pn_serve.proofs.ReadInOrder.{in_order}
+use Rattle.pn_record.proofs.ReadInOrder.{in_order}
 
 -- the line of what is read
 pub line_found : (line : List ℕ) (command : CommandValue) → command_at line ≡ Ok command → IsCommandLine line command

@@ -17,7 +17,8 @@ use Rattle.pn_scan.specs.Queries.{QueryValue}
 use Rattle.pn_scan.specs.QueryGrammar.{IsQuery}
 use Rattle.pn_record.specs.Sets.{Stamp}
 use Rattle.pn_json.proofs.LookUps.{Rise}
-use Rattle.pn_record.proofs.SameImage.{shape_found, shape_again}
+use Rattle.pn_record.proofs.ReadImages.{shape_in_order}
+use Rattle.pn_record.proofs.SameImage.{shape_again}
 use Rattle.pn_stream.specs.Positions.{DeliveryValue}
 use Rattle.pn_serve.specs.Command.Json.{delivery_data, IsRequired}
 use Rattle.pn_serve.specs.Command.Queries.{query_at}
@@ -31,8 +32,8 @@ use Rattle.pn_serve.specs.declared.refusal.Refusal.{Refusal}
 use Rattle.pn_serve.specs.declared.refusal.Refusal.TheVariants.{BadShape}
 use Rattle.pn_serve.proofs.CommandLimits.{delivery_members}
 use Rattle.pn_serve.proofs.EachFits.{as_ok}
-use Rattle.pn_serve.proofs.MembersByName.{same_by_name}
-use Rattle.pn_serve.proofs.ReadInOrder.{InOrder, ItemsInOrder, MembersInOrder, in_order-at}
+use Rattle.pn_json.proofs.MembersByName.{same_by_name}
+use Rattle.pn_record.proofs.ReadInOrder.{InOrder, ItemsInOrder, MembersInOrder, in_order-at}
 
 -- what stands at a name, from what was found there
 pub text_at : (part : Part) (o : Option Data) (text : List ℕ) → member_as as_str (BadShape part) o ≡ Ok text → o ≡ Some (string text)
@@ -75,12 +76,7 @@ pub in_order : (d : Data) (ms : Members) → d ≡ object ms → InOrder d → M
 in_order d ms is order = let inside : InOrder (object ms) = subst InOrder is order in inside.1
 
 image_found : (d : Data) (image : Image) → InOrder d → image_shape d ≡ Ok image → d ≡ image_data image
-unfolding shape_in
-image_found d image order is =
-    let shape = as_ok _ (shape_in d) image is in
-    let members = bind_ok (ok_or (as_object d) fault.Whole) _ image shape in
-    let whole = object_from_as_object d members.0 (ok_or_ok (as_object d) fault.Whole members.0 members.1) in
-    whole ∙ shape_found members.0 image (rises d members.0 whole order) (ap shape_in (sym whole) ∙ shape)
+image_found d image order is = shape_in_order d image order (as_ok _ (shape_in d) image is)
 
 pub each_found : {A : Type 0} (kind : Data → Result A Refusal) (written : A → Data) → ((d : Data) (a : A) → InOrder d → kind d ≡ Ok a → d ≡ written a)
     → (ds : Items) (xs : List A) → ItemsInOrder ds → each_in kind ds ≡ Ok xs → ds ≡ items_of (map written xs)

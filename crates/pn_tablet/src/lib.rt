@@ -4,6 +4,12 @@
 
 mod change;
 mod copy;
+mod copy_draft;
+mod copy_fault;
+pub mod copy_laws;
+mod copy_line;
+mod copy_reading;
+mod copy_writing;
 mod fault;
 mod inside;
 pub mod laws;
@@ -16,6 +22,9 @@ mod state;
 
 pub use change::Change;
 pub use copy::TabletCopy;
+pub use copy_fault::CopyTextFault;
+pub use copy_reading::read_copy;
+pub use copy_writing::write_copy;
 pub use fault::{CopyFault, OpFault};
 pub use layout::{Layout, LayoutFault};
 pub use op::TabletOp;

@@ -1,0 +1,222 @@
+-- The text of a value has no newline, and that of a line of a copy is short.
+use Rattle.std.proofs.Common.{◌≡◌, ◌≢◌, ℕ, ◌+◌, ◌*◌, ◌/◌, ◌%◌, ◌^◌, ◌<◌, ◌≤◌, ◌==◌, ◌||◌, List, [], ◌∷◌, ◌++◌, length, codes, All, Bool, true, false, not, cond, ◌&&◌, Option, Some, None, decimal, ltb, leb, refl, sym, ap, ◌∙◌, arith, length-append, get_or}
+use Rattle.std.proofs.lemmas.Bool.{and_parts, false≢true, ltb-false, leb-true}
+use Rattle.std.proofs.lemmas.Fmt.{decimal_is_IsNumeral, length-decimal-le}
+use Rattle.std.proofs.lemmas.List.Elements.{All-nil, All-cons, All-append, All-from_get_or}
+use Rattle.std.proofs.lemmas.Str.Parse.{digit_at}
+use Rattle.std.specs.Char.{digit_char}
+use Rattle.std.specs.List.{list_all}
+use Rattle.json.specs.Print.{escape_byte, escape_letter, escape, quoted}
+use Rattle.serde_json.specs.Data.{Data, Num, null, boolean, number, string, array, object, unsigned, negative, float, Items, no_items, item, Members, no_members, member}
+use Rattle.serde_json.specs.Written.{compact_text, items_text, members_text, comma_if}
+use Rattle.pn_join.specs.Marks.{is_position, last_position}
+use Rattle.pn_join.specs.Naming.{is_name, is_name_byte}
+use Rattle.pn_line.specs.Reads.{IsUnbroken}
+use Rattle.pn_record.specs.declared.image.Image.{Image}
+use Rattle.pn_record.specs.Canonical.{is_image}
+use Rattle.pn_record.specs.Limits.{Field, is_key, is_version, is_content, greatest}
+use Rattle.pn_record.specs.Marks.{is_mark}
+use Rattle.pn_record.specs.Writing.{version_data, fields_data, body_data, image_data}
+use Rattle.pn_record.proofs.ImageText.{length-quoted}
+use Rattle.pn_tablet.specs.CopyLines.{key_data, head_data, mark_data, end_data, is_end, is_range}
+
+also : (x : ℕ) (xs : List ℕ) → x ≢ 10 → IsUnbroken xs → IsUnbroken (x ∷ xs)
+also x xs other unbroken = All-cons (λ b. b ≢ 10) x xs other unbroken
+
+none : IsUnbroken []
+none = All-nil (λ b. b ≢ 10)
+
+both : (xs ys : List ℕ) → IsUnbroken xs → IsUnbroken ys → IsUnbroken (xs ++ ys)
+both xs ys first second = All-append (λ b. b ≢ 10) xs ys first second
+
+-- bytes that can be looked at
+literal : (xs : List ℕ) → list_all (λ x. not (x == 10)) xs ≡ true → IsUnbroken xs
+literal [] is = none
+literal (x ∷ xs) is =
+    let parts = and_parts (not (x == 10)) (list_all (λ y. not (y == 10)) xs) is in
+    also x xs (λ ten. false≢true (sym (ap (λ y. not (y == 10)) ten) ∙ parts.0)) (literal xs parts.1)
+
+-- ---- strings and numbers
+
+letter_not : (a : Bool) (x y : ℕ) → (a ≡ true → x ≢ 10) → y ≢ 10 → cond a x y ≢ 10
+letter_not true x y one two = one refl
+letter_not false x y one two = two
+
+escape_letter-not : (x : ℕ) → escape_letter x ≢ 10
+escape_letter-not x =
+    letter_not ((x == 34) || (x == 92)) x _ (λ is ten. false≢true (sym (ap (λ y. (y == 34) || (y == 92)) ten) ∙ is))
+    (letter_not (x == 8) 98 _ (λ _ e. omega (arith, e))
+    (letter_not (x == 12) 102 _ (λ _ e. omega (arith, e))
+    (letter_not (x == 10) 110 _ (λ _ e. omega (arith, e))
+    (letter_not (x == 13) 114 _ (λ _ e. omega (arith, e))
+    (letter_not (x == 9) 116 0 (λ _ e. omega (arith, e)) (λ e. omega (arith, e)))))))
+
+digit_char-not : (d : ℕ) → digit_char d ≢ 10
+digit_char-not d = letter_not (ltb d 10) (48 + d) (87 + d) (λ _ e. omega (arith, e)) (λ e. omega (arith, e))
+
+either : (b : Bool) (xs ys : List ℕ) → IsUnbroken xs → (b ≡ false → IsUnbroken ys) → IsUnbroken (cond b xs ys)
+either true xs ys first second = first
+either false xs ys first second = second refl
+
+escape_byte-unbroken : (x : ℕ) → IsUnbroken (escape_byte x)
+unfolding escape_byte
+escape_byte-unbroken x =
+    let hex : List ℕ = 92 ∷ 117 ∷ 48 ∷ 48 ∷ digit_char (x / 16) ∷ digit_char (x % 16) ∷ [] in
+    either (ltb 0 (escape_letter x)) (92 ∷ escape_letter x ∷ []) (cond (ltb x 32) hex (x ∷ []))
+    (also 92 (escape_letter x ∷ []) (λ e. omega (arith, e)) (also (escape_letter x) [] (escape_letter-not x) none)) (λ _.
+    either (ltb x 32) hex (x ∷ [])
+    (both (92 ∷ 117 ∷ 48 ∷ 48 ∷ []) (digit_char (x / 16) ∷ digit_char (x % 16) ∷ []) (literal (92 ∷ 117 ∷ 48 ∷ 48 ∷ []) refl)
+    (also (digit_char (x / 16)) (digit_char (x % 16) ∷ []) (digit_char-not (x / 16)) (also (digit_char (x % 16)) [] (digit_char-not (x % 16)) none)))
+    (λ great. also x [] (λ e. omega (arith, e, ltb-false x 32 great)) none))
+
+escape-unbroken : (s : List ℕ) → IsUnbroken (escape s)
+escape-unbroken [] = none
+escape-unbroken (x ∷ s) = both (escape_byte x) (escape s) (escape_byte-unbroken x) (escape-unbroken s)
+
+quoted-unbroken : (s : List ℕ) → IsUnbroken (quoted s)
+quoted-unbroken s = also 34 (escape s ++ 34 ∷ []) (λ e. omega (arith, e)) (both (escape s) (34 ∷ []) (escape-unbroken s) (literal (34 ∷ []) refl))
+
+decimal-unbroken : (n : ℕ) → n < 2 ^ 64 → IsUnbroken (decimal n)
+decimal-unbroken n small =
+    All-from_get_or (λ b. b ≢ 10) (decimal n) 0 (λ k below is.
+    let digit = digit_at (decimal n) k (decimal_is_IsNumeral n small).0.1 below in
+    omega (arith, is, digit.0))
+
+-- ---- values
+
+-- all numbers are whole, and below 2^64
+abbrev mutual
+  pub Small : Data → Type 0
+  Small null = Unit {0}
+  Small (boolean b) = Unit {0}
+  Small (number (unsigned n)) = n < 2 ^ 64
+  Small (number (negative z)) = ⊥
+  Small (number (float x)) = ⊥
+  Small (string s) = Unit {0}
+  Small (array ds) = SmallItems ds
+  Small (object ms) = SmallMembers ms
+
+  pub SmallItems : Items → Type 0
+  SmallItems no_items = Unit {0}
+  SmallItems (item d ds) = Small d × SmallItems ds
+
+  pub SmallMembers : Members → Type 0
+  SmallMembers no_members = Unit {0}
+  SmallMembers (member name d ms) = Small d × SmallMembers ms
+
+comma_if-unbroken : (later : Bool) → IsUnbroken (comma_if later)
+comma_if-unbroken true = literal (44 ∷ []) refl
+comma_if-unbroken false = none
+
+mutual
+  pub text-unbroken : (d : Data) → Small d → IsUnbroken (compact_text d)
+  text-unbroken null small = literal (110 ∷ 117 ∷ 108 ∷ 108 ∷ []) refl
+  text-unbroken (boolean true) small = literal (116 ∷ 114 ∷ 117 ∷ 101 ∷ []) refl
+  text-unbroken (boolean false) small = literal (102 ∷ 97 ∷ 108 ∷ 115 ∷ 101 ∷ []) refl
+  text-unbroken (number (unsigned n)) small = decimal-unbroken n small
+  text-unbroken (number (negative z)) small = absurd small
+  text-unbroken (number (float x)) small = absurd small
+  text-unbroken (string s) small = quoted-unbroken s
+  text-unbroken (array ds) small = also 91 (items_text false ds) (λ e. omega (arith, e)) (items-unbroken false ds small)
+  text-unbroken (object ms) small = also 123 (members_text false ms) (λ e. omega (arith, e)) (members-unbroken false ms small)
+
+  items-unbroken : (later : Bool) (ds : Items) → SmallItems ds → IsUnbroken (items_text later ds)
+  items-unbroken later no_items small = literal (93 ∷ []) refl
+  items-unbroken later (item d ds) small =
+      both (comma_if later) (compact_text d ++ items_text true ds) (comma_if-unbroken later)
+      (both (compact_text d) (items_text true ds) (text-unbroken d small.0) (items-unbroken true ds small.1))
+
+  members-unbroken : (later : Bool) (ms : Members) → SmallMembers ms → IsUnbroken (members_text later ms)
+  members-unbroken later no_members small = literal (125 ∷ []) refl
+  members-unbroken later (member name d ms) small =
+      both (comma_if later) (quoted name ++ 58 ∷ (compact_text d ++ members_text true ms)) (comma_if-unbroken later)
+      (both (quoted name) (58 ∷ (compact_text d ++ members_text true ms)) (quoted-unbroken name)
+      (also 58 (compact_text d ++ members_text true ms) (λ e. omega (arith, e))
+      (both (compact_text d) (members_text true ms) (text-unbroken d small.0) (members-unbroken true ms small.1))))
+
+small_fields : (fields : List Field) → SmallMembers (fields_data fields)
+small_fields [] = tt
+small_fields (field ∷ fields) = (tt, small_fields fields)
+
+small_body : (f : Option (List Field)) (rest : Members) → SmallMembers rest → SmallMembers (body_data f rest)
+small_body None rest small = (tt, small)
+small_body (Some fields) rest small = (small_fields fields, small)
+
+below_word : (n : ℕ) → leb n greatest ≡ true → n < 2 ^ 64
+below_word n is = omega (arith, leb-true n greatest is)
+
+pub small_image : (image : Image) → is_image image ≡ true → Small (image_data image)
+small_image image is =
+    let parts = and_parts (is_key image.key && is_version image.version) (is_content image.content) is in
+    let version = (and_parts (is_key image.key) (is_version image.version) parts.0).1 in
+    let second = and_parts (leb 1 image.version.0 && leb image.version.0 greatest) (leb image.version.1 greatest) version in
+    let first = and_parts (leb 1 image.version.0) (leb image.version.0 greatest) second.0 in
+    small_body image.content.0 _ (tt, (tt, ((below_word image.version.0 first.1, (below_word image.version.1 second.1, tt)), tt)))
+
+pub small_mark : (name : List ℕ) (position : ℕ) → is_mark (name, position) ≡ true → Small (mark_data (name, position))
+small_mark name position is =
+    let parts = and_parts (is_name name) (is_position position) is in
+    let range = and_parts (leb 1 position) (leb position last_position) parts.1 in
+    (below_word position range.1, (tt, tt))
+
+small_key : (key : Option (List ℕ)) → Small (key_data key)
+small_key None = tt
+small_key (Some key) = tt
+
+pub small_head : (from to : Option (List ℕ)) → Small (head_data (from, to))
+small_head from to = (omega arith, (small_key from, (small_key to, tt)))
+
+-- ---- lengths
+
+short_number : (n : ℕ) → n < 2 ^ 64 → length (decimal n) ≤ 20
+short_number n small = length-decimal-le 20 n (omega arith) (omega arith) small
+
+pub short_end : (count : ℕ) → count < 2 ^ 64 → length (compact_text (end_data count)) ≤ 65536
+short_end count small = omega (arith, length-append (quoted (codes "end")) (58 ∷ (decimal count ++ 125 ∷ [])), length-append (decimal count) (125 ∷ []), length-quoted (codes "end"), short_number count small)
+
+pub short_mark : (name : List ℕ) (position : ℕ) → is_mark (name, position) ≡ true → length (compact_text (mark_data (name, position))) ≤ 65536
+short_mark name position is =
+    let parts = and_parts (is_name name) (is_position position) is in
+    let range = and_parts (leb 1 position) (leb position last_position) parts.1 in
+    let named = and_parts (leb 1 (length name) && leb (length name) 32) (list_all is_name_byte name) parts.0 in
+    let size = and_parts (leb 1 (length name)) (leb (length name) 32) named.0 in
+    let last = quoted name ++ 125 ∷ [] in
+    let stream = quoted (codes "stream") ++ 58 ∷ last in
+    omega (
+      arith,
+      length-append (quoted (codes "at")) (58 ∷ (decimal position ++ 44 ∷ stream)),
+      length-append (decimal position) (44 ∷ stream),
+      length-append (quoted (codes "stream")) (58 ∷ last),
+      length-append (quoted name) (125 ∷ []),
+      length-quoted (codes "at"),
+      length-quoted (codes "stream"),
+      length-quoted name,
+      short_number position (below_word position range.1),
+      leb-true (length name) 32 size.1,
+    )
+
+short_key : (key : Option (List ℕ)) → is_end key ≡ true → length (compact_text (key_data key)) ≤ 1600
+short_key None is = omega arith
+short_key (Some key) is = let size = and_parts (leb 1 (length key)) (leb (length key) 256) is in omega (arith, length-quoted key, leb-true (length key) 256 size.1)
+
+pub short_head : (from to : Option (List ℕ)) → is_end from ≡ true → is_end to ≡ true → length (compact_text (head_data (from, to))) ≤ 65536
+short_head from to from_is to_is =
+    let last = compact_text (key_data to) ++ 125 ∷ [] in
+    let to_part = quoted (codes "to") ++ 58 ∷ last in
+    let from_text = compact_text (key_data from) in
+    let from_part = quoted (codes "from") ++ 58 ∷ (from_text ++ 44 ∷ to_part) in
+    omega (
+      arith,
+      length-append (quoted (codes "copy")) (58 ∷ (decimal 1 ++ 44 ∷ from_part)),
+      length-append (decimal 1) (44 ∷ from_part),
+      length-append (quoted (codes "from")) (58 ∷ (from_text ++ 44 ∷ to_part)),
+      length-append from_text (44 ∷ to_part),
+      length-append (quoted (codes "to")) (58 ∷ last),
+      length-append (compact_text (key_data to)) (125 ∷ []),
+      length-quoted (codes "copy"),
+      length-quoted (codes "from"),
+      length-quoted (codes "to"),
+      short_number 1 (omega arith),
+      short_key from from_is,
+      short_key to to_is,
+    )

@@ -1,0 +1,194 @@
+-- What a line of a copy is read as, its value is the JSON of; and that JSON is read as it.
+use Rattle.std.proofs.Common.{◌≡◌, ℕ, List, [], ◌∷◌, length, codes, Bool, true, false, cond, ◌&&◌, ◌==◌, T, Option, Some, None, is_some, Result, Ok, Err, ltb, refl, sym, ap, ◌∙◌, subst, eqb-true}
+use Rattle.std.proofs.lemmas.Bool.{and_parts, le-ltb}
+use Rattle.std.specs.Option.{ok_or}
+use Rattle.serde_json.specs.Data.{Data, null, boolean, number, string, array, object, unsigned, Members, no_members, member}
+use Rattle.serde_json.specs.Find.{get, get_member, as_str, as_object}
+use Rattle.pn_json.specs.Answers.{◌>>=◌}
+use Rattle.pn_json.specs.Members.{whole_number, member_as, no_others, only_named}
+use Rattle.pn_json.proofs.Inverses.{bind_ok, guard_ok, no_fault, ok_or_ok, and_then_some, string_from_as_str, object_from_as_object, number_from_whole}
+use Rattle.pn_json.proofs.LookUps.{Rise}
+use Rattle.pn_json.proofs.MembersByName.{same_by_name}
+use Rattle.pn_record.specs.declared.fault.ImageFault.TheVariants.{TooLong, NotJson}
+use Rattle.pn_record.specs.declared.image.Image.{Image}
+use Rattle.pn_record.specs.Canonical.{IsImage}
+use Rattle.pn_record.specs.Grammar.{image_in}
+use Rattle.pn_record.specs.Limits.{Field}
+use Rattle.pn_record.specs.Marks.{is_mark}
+use Rattle.pn_record.specs.Reading.{IsLine, value_at, reading}
+use Rattle.pn_record.specs.Writing.{image_data}
+use Rattle.pn_record.proofs.Lines as lines
+use Rattle.pn_record.proofs.ReadImages.{image_in_order}
+use Rattle.pn_record.proofs.ReadInOrder.{InOrder, in_order}
+use Rattle.pn_record.proofs.SameImage.{image_again}
+use Rattle.pn_tablet.specs.CopyLines.{key_data, head_data, mark_data, end_data, is_range, IsHead, IsValue}
+use Rattle.pn_tablet.specs.CopyLineReading.{or_as, if_fits, end_of, head_in, mark_in, end_in, record_in, line_in, head_at, line_at}
+use Rattle.pn_tablet.specs.Ranges.{Ends}
+use Rattle.pn_tablet.specs.declared.copy_line.CopyLine.{CopyLine}
+use Rattle.pn_tablet.specs.declared.copy_line.CopyLine.TheVariants.{Mark, Record, End}
+
+-- ---- members
+
+at_found : {A F : Type 0} (kind : Data → Option A) (written : A → Data) → ((d : Data) (a : A) → kind d ≡ Some a → d ≡ written a)
+    → (fault : F) (o : Option Data) (a : A) → member_as kind fault o ≡ Ok a → o ≡ Some (written a)
+at_found kind written one fault o a is =
+    let found = and_then_some o kind a (ok_or_ok _ fault a is) in
+    found.1 ∙ ap Some (one found.0 a found.2)
+
+end_found : (d : Data) (key : Option (List ℕ)) → end_of d ≡ Some key → d ≡ key_data key
+end_found null key is = let same : None ≡ key = cc in ap key_data same
+end_found (string text) key is = let same : Some text ≡ key = cc in ap key_data same
+end_found (boolean b) key is = absurd (cc)
+end_found (number n) key is = absurd (cc)
+end_found (array ds) key is = absurd (cc)
+end_found (object ms) key is = absurd (cc)
+
+rises : (d : Data) (ms : Members) → d ≡ object ms → InOrder d → Rise ms
+rises d ms is order = let inside : InOrder (object ms) = subst InOrder is order in inside.0
+
+module _ {F : Type 0} (fault : F) where
+  -- what stands at a name of an object
+  stands : (d : Data) (ms : Members) (name : List ℕ) (e : Data) → d ≡ object ms → get name d ≡ Some e → get_member name ms ≡ Some e
+  stands d ms name e whole is = ap (get name) (sym whole) ∙ is
+
+  named_of : (names : List (List ℕ)) (ms : Members) (u : Unit {0}) → no_others names fault ms ≡ Ok u → only_named names ms ≡ true
+  named_of names ms u is = (guard_ok (only_named names ms) tt u fault is).0
+
+  -- ---- heads
+
+  head_again_of : (from to : Option (List ℕ)) → is_range (from, to) ≡ true → head_in fault (head_data (from, to)) ≡ Ok (from, to)
+  unfolding head_in
+  head_again_of None None fits = refl
+  head_again_of None (Some to) fits = ap (λ b. if_fits b fault (None, Some to)) fits
+  head_again_of (Some from) None fits = ap (λ b. if_fits b fault (Some from, None)) fits
+  head_again_of (Some from) (Some to) fits = ap (λ b. if_fits b fault (Some from, Some to)) fits
+
+  head_again : (d : Data) (range : Ends) → IsHead d range → head_in fault d ≡ Ok range
+  head_again d range is = ap (head_in fault) is.value ∙ head_again_of range.0 range.1 is.limits
+
+  head_found : (d : Data) (range : Ends) → InOrder d → head_in fault d ≡ Ok range → IsHead d range
+  unfolding head_in
+  head_found d range order is =
+      let members = bind_ok (ok_or (as_object d) fault) _ range is in
+      let form = bind_ok (member_as whole_number fault (get (codes "copy") d)) _ range members.2 in
+      let from = bind_ok (member_as end_of fault (get (codes "from") d)) _ range form.2 in
+      let to = bind_ok (member_as end_of fault (get (codes "to") d)) _ range from.2 in
+      let names = codes "copy" ∷ codes "from" ∷ codes "to" ∷ [] in
+      let named = bind_ok (no_others names fault members.0) _ range to.2 in
+      let fits = guard_ok (form.0 == 1 && is_range (from.0, to.0)) (from.0, to.0) range fault named.2 in
+      let parts = and_parts (form.0 == 1) (is_range (from.0, to.0)) fits.0 in
+      let ms = members.0 in
+      let whole : d ≡ object ms = object_from_as_object d ms (ok_or_ok (as_object d) fault ms members.1) in
+      let at_form : get_member (codes "copy") ms ≡ Some (number (unsigned 1)) =
+      stands d ms (codes "copy") _ whole (at_found whole_number (λ n. number (unsigned n)) number_from_whole fault _ form.0 form.1 ∙ ap (λ n. Some (number (unsigned n))) (eqb-true _ _ parts.0)) in
+      let at_from = stands d ms (codes "from") _ whole (at_found end_of key_data end_found fault _ from.0 from.1) in
+      let at_to = stands d ms (codes "to") _ whole (at_found end_of key_data end_found fault _ to.0 to.1) in
+      let head = member (codes "copy") (number (unsigned 1)) (member (codes "from") (key_data from.0) (member (codes "to") (key_data to.0) no_members)) in
+      let same : ms ≡ head = same_by_name names ms head (rises d ms whole order) tt (named_of names ms named.0 named.1) refl (at_form, (at_from, (at_to, tt))) in
+      subst (IsHead d) fits.1 (record { value = whole ∙ ap object same; limits = parts.1 })
+
+  -- ---- lines behind the head
+
+  mark_found : (d : Data) (says : CopyLine) → InOrder d → mark_in fault d ≡ Ok says → IsValue d says
+  unfolding mark_in
+  mark_found d says order is =
+      let members = bind_ok (ok_or (as_object d) fault) _ says is in
+      let position = bind_ok (member_as whole_number fault (get (codes "at") d)) _ says members.2 in
+      let name = bind_ok (member_as as_str fault (get (codes "stream") d)) _ says position.2 in
+      let names = codes "at" ∷ codes "stream" ∷ [] in
+      let named = bind_ok (no_others names fault members.0) _ says name.2 in
+      let fits = guard_ok (is_mark (name.0, position.0)) (Mark name.0 position.0) says fault named.2 in
+      let ms = members.0 in
+      let whole : d ≡ object ms = object_from_as_object d ms (ok_or_ok (as_object d) fault ms members.1) in
+      let at_position = stands d ms (codes "at") _ whole (at_found whole_number (λ n. number (unsigned n)) number_from_whole fault _ position.0 position.1) in
+      let at_name = stands d ms (codes "stream") _ whole (at_found as_str string string_from_as_str fault _ name.0 name.1) in
+      let mark = member (codes "at") (number (unsigned position.0)) (member (codes "stream") (string name.0) no_members) in
+      let same : ms ≡ mark = same_by_name names ms mark (rises d ms whole order) tt (named_of names ms named.0 named.1) refl (at_position, (at_name, tt)) in
+      subst (IsValue d) fits.1 (whole ∙ ap object same, fits.0)
+
+  end_line_found : (d : Data) (says : CopyLine) → InOrder d → end_in fault d ≡ Ok says → IsValue d says
+  unfolding end_in
+  end_line_found d says order is =
+      let members = bind_ok (ok_or (as_object d) fault) _ says is in
+      let count = bind_ok (member_as whole_number fault (get (codes "end") d)) _ says members.2 in
+      let names = codes "end" ∷ [] in
+      let named = bind_ok (no_others names fault members.0) _ says count.2 in
+      let ms = members.0 in
+      let whole : d ≡ object ms = object_from_as_object d ms (ok_or_ok (as_object d) fault ms members.1) in
+      let at_count = stands d ms (codes "end") _ whole (at_found whole_number (λ n. number (unsigned n)) number_from_whole fault _ count.0 count.1) in
+      let last = member (codes "end") (number (unsigned count.0)) no_members in
+      let same : ms ≡ last = same_by_name names ms last (rises d ms whole order) tt (named_of names ms named.0 named.1) refl (at_count, tt) in
+      let says_end : End count.0 ≡ says = cc named.2 in
+      subst (IsValue d) says_end (whole ∙ ap object same)
+
+  as_ok : {A E : Type 0} (read : Result A E) (a : A) → or_as fault read ≡ Ok a → read ≡ Ok a
+  as_ok (Ok x) a is = cc
+  as_ok (Err e) a is = absurd (cc)
+
+  record_found : (d : Data) (says : CopyLine) → InOrder d → record_in fault d ≡ Ok says → IsValue d says
+  unfolding record_in
+  record_found d says order is =
+      let image = bind_ok (or_as fault (image_in d)) _ says is in
+      let says_image : Record image.0 ≡ says = cc image.2 in
+      subst (IsValue d) says_image (image_in_order d image.0 order (as_ok (image_in d) image.0 image.1))
+
+  either : {A : Type 0} {P : Type 0} (b : Bool) (x y : Result A F) (a : A) → (x ≡ Ok a → P) → (y ≡ Ok a → P) → cond b x y ≡ Ok a → P
+  either true x y a first second is = first is
+  either false x y a first second is = second is
+
+  line_found : (d : Data) (says : CopyLine) → InOrder d → line_in fault d ≡ Ok says → IsValue d says
+  unfolding line_in
+  line_found d says order is =
+      let has_at = is_some (get (codes "at") d) in
+      let has_end = is_some (get (codes "end") d) in
+      either has_at (mark_in fault d) (cond has_end (end_in fault d) (record_in fault d)) says (mark_found d says order) (λ other.
+      either has_end (end_in fault d) (record_in fault d) says (end_line_found d says order) (record_found d says order) other) is
+
+  no_image_at : (key master : List ℕ) (version : ℕ × ℕ) (f : Option (List Field)) → get (codes "at") (image_data (record { key = key; version = version; content = (f, master) })) ≡ None
+  no_image_at key master version None = refl
+  no_image_at key master version (Some fields) = refl
+
+  no_image_end : (key master : List ℕ) (version : ℕ × ℕ) (f : Option (List Field)) → get (codes "end") (image_data (record { key = key; version = version; content = (f, master) })) ≡ None
+  no_image_end key master version None = refl
+  no_image_end key master version (Some fields) = refl
+
+  line_again : (d : Data) (says : CopyLine) → IsValue d says → line_in fault d ≡ Ok says
+  unfolding line_in mark_in end_in record_in
+  line_again d (Mark name position) is = rw (is.0, is.1) refl
+  line_again d (Record image) is =
+      let at : get (codes "at") d ≡ None = ap (get (codes "at")) is.value ∙ no_image_at image.key image.content.1 image.version image.content.0 in
+      let end : get (codes "end") d ≡ None = ap (get (codes "end")) is.value ∙ no_image_end image.key image.content.1 image.version image.content.0 in
+      rw (at, end, image_again d image is) refl
+  line_again d (End count) is = rw is refl
+
+  -- ---- and so of lines
+
+  value_of_line : {A : Type 0} (IsSpelled : Data → A → Type 0) (line : List ℕ) (meant : A) → (is : IsLine IsSpelled line meant) → value_at line ≡ Ok is.value
+  unfolding value_at
+  value_of_line IsSpelled line meant is = rw (le-ltb 65536 (length line) is.short, is.read) refl
+
+  value_in_order : (line : List ℕ) (d : Data) → value_at line ≡ Ok d → InOrder d
+  unfolding value_at
+  value_in_order line d is = in_order line d (ok_or_ok (reading line) NotJson d (no_fault (ltb 65536 (length line)) TooLong _ d is).1)
+
+  pub head_at-found : (line : List ℕ) (range : Ends) → head_at fault line ≡ Ok range → IsLine IsHead line range
+  unfolding head_at
+  head_at-found line range is =
+      let read = bind_ok (or_as fault (value_at line)) (head_in fault) range is in
+      let value = as_ok (value_at line) read.0 read.1 in
+      lines.line_found IsHead line read.0 range value (head_found read.0 range (value_in_order line read.0 value) read.2)
+
+  pub head_at-again : (line : List ℕ) (range : Ends) → IsLine IsHead line range → head_at fault line ≡ Ok range
+  unfolding head_at
+  head_at-again line range is = rw (value_of_line IsHead line range is) (head_again is.value range is.spelled)
+
+  pub line_at-found : (line : List ℕ) (says : CopyLine) → line_at fault line ≡ Ok says → IsLine IsValue line says
+  unfolding line_at
+  line_at-found line says is =
+      let read = bind_ok (or_as fault (value_at line)) (line_in fault) says is in
+      let value = as_ok (value_at line) read.0 read.1 in
+      lines.line_found IsValue line read.0 says value (line_found read.0 says (value_in_order line read.0 value) read.2)
+
+  pub line_at-again : (line : List ℕ) (says : CopyLine) → IsLine IsValue line says → line_at fault line ≡ Ok says
+  unfolding line_at
+  line_at-again line says is = rw (value_of_line IsValue line says is) (line_again is.value says is.spelled)

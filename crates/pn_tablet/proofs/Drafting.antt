@@ -1,0 +1,141 @@
+-- What drafts of copies become by a mark and by an image more.
+use Rattle.std.proofs.Common.{◌≡◌, ℕ, ◌-◌, ◌==◌, is_some, max, Bool, true, false, cond, List, [], ◌∷◌, ◌++◌, Option, Some, None, Result, Ok, Err, OnOk, IsTrue, Less, Equal, Greater, Ordering, unwrap_or, arith, refl, sym, ap, ◌∙◌, subst}
+use Rattle.std.proofs.lemmas.Bool.{and_parts, and_from}
+use Rattle.std.proofs.lemmas.Cmp.{nat_list_cmp_total}
+use Rattle.std.specs.List.{list_all}
+use Rattle.std.specs.Option.{option_map_or}
+use Rattle.std.specs.Ordering.{is_lt, is_eq, ordering_reverse}
+use Rattle.std.specs.FinMap.{find, put, is_sorted}
+use Rattle.std.specs.FinMap.Entries.{by_order}
+use Rattle.pn_join.specs.Marks.{Positions, name_cmp, is_position, are_positions, position_of, raised}
+use Rattle.pn_join.proofs.MarksFacts.{are_positions-raised}
+use Rattle.pn_record.specs.declared.image.Image.{Image}
+use Rattle.pn_record.specs.Cells.{Holds, spell}
+use Rattle.pn_record.specs.CellMap.{Entries, table_of, adds}
+use Rattle.pn_record.specs.Order.{bytes_cmp}
+use Rattle.pn_record.specs.Sets.{set_of}
+use Rattle.pn_record.proofs.CellLists.{both, cells-append}
+use Rattle.pn_record.proofs.CellMaps.{Holds-table_of, rising-table_of, held_adds}
+use Rattle.pn_record.proofs.HeldRecords.{Holds-one}
+use Rattle.pn_tablet.specs.Copies.{IsCopy}
+use Rattle.pn_tablet.specs.CopyReading.{with_mark, with_image, ended}
+use Rattle.pn_tablet.specs.CopyTexts.{comes_behind}
+use Rattle.pn_tablet.specs.Drafts.{DraftValue, IsDraft, with_last}
+use Rattle.pn_tablet.specs.Ranges.{Ends, in_range}
+use Rattle.pn_tablet.specs.Tablets.{lie_in}
+use Rattle.pn_tablet.proofs.Joined.{Joins}
+use Rattle.pn_tablet.proofs.Keeping.{joined_inside, spelled_adds, spelled_nil}
+
+-- ---- marks
+
+-- a name that comes behind all others
+abbrev pub is_behind : Positions → List ℕ → Bool
+is_behind marks name = list_all (λ other. is_lt (name_cmp other.0 name)) marks
+
+reversed : (o : Ordering) → is_lt o ≡ true → ordering_reverse o ≡ Greater
+reversed Less is = refl
+reversed Equal is = absurd (cc)
+reversed Greater is = absurd (cc)
+
+greater : (name other : List ℕ) → is_lt (name_cmp other name) ≡ true → name_cmp name other ≡ Greater
+greater name other less = nat_list_cmp_total.antisymm name other ∙ reversed (name_cmp other name) less
+
+find-behind : (marks : Positions) (name : List ℕ) → is_behind marks name ≡ true → find name_cmp name marks ≡ None
+find-behind [] name behind = refl
+find-behind (mark ∷ marks) name behind =
+    let parts = and_parts (is_lt (name_cmp mark.0 name)) (is_behind marks name) behind in
+    ap (λ o. cond (is_eq o) (Some mark.1) (find name_cmp name marks)) (greater name mark.0 parts.0) ∙ find-behind marks name parts.1
+
+put-behind : (marks : Positions) (name : List ℕ) (n : ℕ) → is_behind marks name ≡ true → put name_cmp name n marks ≡ marks ++ (name, n) ∷ []
+put-behind [] name n behind = refl
+put-behind (mark ∷ marks) name n behind =
+    let parts = and_parts (is_lt (name_cmp mark.0 name)) (is_behind marks name) behind in
+    ap (λ o. by_order o ((name, n) ∷ mark ∷ marks) ((mark.0, n) ∷ marks) (mark ∷ put name_cmp name n marks)) (greater name mark.0 parts.0)
+    ∙ ap (λ l. mark ∷ l) (put-behind marks name n parts.1)
+
+-- a mark behind all others is the last one
+pub raised-behind : (marks : Positions) (name : List ℕ) (n : ℕ) → is_behind marks name ≡ true → raised marks ((name, n) ∷ []) ≡ marks ++ (name, n) ∷ []
+raised-behind marks name n behind =
+    ap (λ (o : Option ℕ). put name_cmp name (max (unwrap_or o 0) n) marks) (find-behind marks name behind)
+    ∙ ap (λ m. put name_cmp name m marks) (zero_max n) ∙ put-behind marks name n behind
+  where
+    zero_max : (n : ℕ) → max 0 n ≡ n
+    zero_max n = omega arith
+
+-- ---- images
+
+-- the table is that of the images that spell it, so it holds them
+holds_own : (cells : Entries) → cells ≡ table_of (spell cells) → Holds cells (spell cells)
+holds_own cells spelled = subst (λ table. Holds table (spell cells)) (sym spelled) (Holds-table_of (spell cells))
+
+adds_joins : (cells : Entries) (image : Image) → cells ≡ table_of (spell cells) → Joins cells ((image.key, (image.version, set_of (image.content ∷ []))) ∷ []) (adds cells (image ∷ []))
+unfolding adds
+adds_joins cells image spelled = record {
+  rises = refl;
+  rising = rising-table_of (spell cells ++ image ∷ []);
+  joined = λ key.
+      Holds-table_of (spell cells ++ image ∷ []) key ∙ cells-append (spell cells) (image ∷ []) key
+      ∙ (λ i. both (sym (holds_own cells spelled key) i) (sym (Holds-one image key) i));
+}
+
+pub spelled-with_last : (cells : Entries) (last : Option Image) → cells ≡ table_of (spell cells) → with_last cells last ≡ table_of (spell (with_last cells last))
+spelled-with_last cells None spelled = spelled
+spelled-with_last cells (Some image) spelled = spelled_adds cells (image ∷ [])
+
+-- an image of a key in the range keeps the cells in it
+inside-adds : (range : Ends) (cells : Entries) (image : Image) → cells ≡ table_of (spell cells) → lie_in range cells ≡ true → in_range range image.key ≡ true → lie_in range (adds cells (image ∷ [])) ≡ true
+inside-adds range cells image spelled inside here =
+    joined_inside range cells ((image.key, (image.version, set_of (image.content ∷ []))) ∷ []) (adds cells (image ∷ [])) (adds_joins cells image spelled) inside (and_from (in_range range image.key) true here refl)
+
+-- an image that was taken into the cells
+pub taken : {E : Type 0} (result : Result (Unit {0}) E) (old new : Entries) (image : Image) → old ≡ table_of (spell old)
+    → OnOk result ((images : List Image) → Holds old images → Holds new (images ++ image ∷ [])) → OnOk result (IsTrue (is_sorted bytes_cmp new)) → OnOk result (new ≡ adds old (image ∷ []))
+taken (Ok u) old new image spelled held rising = held_adds old new (image ∷ []) rising (held (spell old) (holds_own old spelled))
+taken (Err e) old new image spelled held rising = tt
+
+-- ---- what holds of all drafts
+
+pub draft-begun : (range : Ends) (marks : Positions) (cells : Entries) → marks ≡ [] → cells ≡ [] → IsDraft range marks cells None
+draft-begun range marks cells no_marks no_cells = record {
+  inside = subst (λ m. lie_in range m ≡ true) (sym no_cells) refl;
+  spelled = no_cells ∙ spelled_nil ∙ ap (λ m. table_of (spell m)) (sym no_cells);
+  positions = ap are_positions no_marks;
+}
+
+pub draft-mark : (range : Ends) (marks new : Positions) (cells : Entries) (last : Option Image) (name : List ℕ) (n : ℕ)
+    → IsDraft range marks cells last → is_position n ≡ true → new ≡ raised marks ((name, n) ∷ []) → IsDraft range new cells last
+draft-mark range marks new cells last name n was position is = record {
+  inside = was.inside;
+  spelled = was.spelled;
+  positions = ap are_positions is ∙ are_positions-raised marks ((name, n) ∷ []) was.positions (and_from (is_position n) true position refl);
+}
+
+pub draft-image : (range : Ends) (marks : Positions) (cells new : Entries) (last : Option Image) (image : Image)
+    → IsDraft range marks cells last → in_range range image.key ≡ true → new ≡ with_last cells last → IsDraft range marks new (Some image)
+draft-image range marks cells new last image was here is = record {
+  inside = subst (λ m. lie_in range (adds m (image ∷ [])) ≡ true) (sym is) (inside-adds range (with_last cells last) image (spelled-with_last cells last was.spelled) was.inside here);
+  spelled = is ∙ spelled-with_last cells last was.spelled ∙ ap (λ m. table_of (spell m)) (sym is);
+  positions = was.positions;
+}
+
+pub draft-copy : (range : Ends) (marks : Positions) (cells new : Entries) (last : Option Image) → IsDraft range marks cells last → new ≡ with_last cells last → IsCopy range marks new
+draft-copy range marks cells new last was is = record {
+  inside = subst (λ m. lie_in range m ≡ true) (sym is) was.inside;
+  positions = was.positions;
+}
+
+-- ---- what each step comes to
+
+pub marked : (n : ℕ) (draft : DraftValue) (name : List ℕ) (position : ℕ) (new : Positions) → is_some draft.last ≡ false → is_behind draft.marks name ≡ true
+    → new ≡ raised draft.marks ((name, position) ∷ []) → with_mark n draft (name, position) ≡ Ok (record draft { marks = new })
+marked n draft name position new no_image behind is =
+    let last : new ≡ draft.marks ++ (name, position) ∷ [] = is ∙ raised-behind draft.marks name position behind in
+    rw (no_image, behind, last) refl
+
+pub imaged : (n : ℕ) (draft : DraftValue) (image : Image) (new : Entries) → in_range draft.range image.key ≡ true → option_map_or (λ last. comes_behind last image) draft.last true ≡ true
+    → new ≡ draft.cells → with_image n draft image ≡ Ok (record draft { cells = adds new (image ∷ []); last = Some image })
+imaged n draft image new here behind is = rw (here, behind, is) refl
+
+pub closed : (n : ℕ) (draft : DraftValue) (count : ℕ) (over : Bool) (new : Entries) → (count == n - 2) ≡ true → over ≡ true → new ≡ draft.cells
+    → ended n draft count over ≡ Ok (record { range = draft.range; marks = draft.marks; cells = new })
+closed n draft count over new counts is_over is = rw (counts, is_over, is) refl

@@ -1,0 +1,12 @@
+-- The last image is added to the cells.
+use Rattle.std.proofs.Common.{OnOk, ◌≡◌, sym, ap, subst, Option, ◌∷◌, []}
+use Rattle.pn_record.specs.CellMap.{adds}
+use Rattle.pn_record.specs.declared.image.Image.{Image}
+use Rattle.pn_tablet.specs.Drafts.{with_last}
+use Rattle.pn_tablet.proofs.Drafting.{taken}
+use Rattle.pn_tablet.proofs.copy_draft.settle.Goals as goal
+
+pub returns-in-Some : goal.returns-in-Some
+returns-in-Some c =
+    subst (λ (last : Option Image). OnOk c.take_image.result (c.take_image.new.records ≡ with_last c.args.cells.now last)) (sym c.in-Some.is)
+    (taken c.take_image.result c.args.cells.now c.take_image.new.records c.in-Some.image c.requires c.take_image.ensures.ok c.take_image.ensures.rising)

@@ -1,0 +1,14 @@
+-- What is left of the text, behind what was read, makes what the whole text makes.
+use Rattle.std.proofs.Common.{◌≡◌, ◌+◌, ◌≤◌, length}
+use Rattle.pn_tablet.specs.CopyReading.{pieces_of, read_on}
+use Rattle.pn_tablet.proofs.copy_reading.read_lines.Given as goal
+
+abbrev pub invariant-lines : goal.invariant-lines
+invariant-lines l = record {
+  reads : read_on 2 l.initial.draft (pieces_of l.fn.text) ≡ read_on l.number l.draft (pieces_of l.rest);
+  some : 2 ≤ l.number;
+  within : l.number + length l.rest ≤ length l.fn.text + 2;
+}
+
+abbrev pub decreases-lines : goal.decreases-lines
+decreases-lines l = length l.rest

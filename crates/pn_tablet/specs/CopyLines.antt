@@ -1,0 +1,62 @@
+-- The lines of a copy's text: what each says, and the JSON of it.
+use Rattle.std.specs.Prelude.{◌≡◌, ℕ, Bool, true, ◌&&◌, List, [], ◌∷◌, codes, Option, None, Some, option_map, IsTrue}
+use Rattle.std.specs.Borrow.{Bor}
+use Rattle.serde_json.specs.Data.{Data, null, number, string, object, unsigned, no_members, member}
+use Rattle.pn_record.specs.Limits.{is_key}
+use Rattle.pn_record.specs.Marks.{is_mark}
+use Rattle.pn_record.specs.Reading.{IsLine}
+use Rattle.pn_record.specs.Canonical.{IsImage}
+use Rattle.pn_tablet.specs.Ranges.{Ends, are_ends}
+use Rattle.pn_tablet.specs.declared.copy_line.CopyLine.{CopyLine}
+use Rattle.pn_tablet.specs.declared.copy_line.CopyLine.TheVariants.{Mark, Record, End}
+
+-- an end of a range: its key, or null where it is open
+abbrev pub key_data : Option (List ℕ) → Data
+key_data None = null
+key_data (Some key) = string key
+
+-- the head: the form, and the two ends of the range
+abbrev pub head_with : Data → Data → Data
+head_with from to = object (member (codes "copy") (number (unsigned 1)) (member (codes "from") from (member (codes "to") to no_members)))
+
+abbrev pub head_data : Ends → Data
+head_data range = head_with (key_data range.0) (key_data range.1)
+
+-- how far one stream was taken
+abbrev pub mark_data : List ℕ × ℕ → Data
+mark_data mark = object (member (codes "at") (number (unsigned mark.1)) (member (codes "stream") (string mark.0) no_members))
+
+-- the end: how many marks and images came before it
+abbrev pub end_data : ℕ → Data
+end_data count = object (member (codes "end") (number (unsigned count)) no_members)
+
+-- an end of a range is a key, or open
+abbrev pub is_end : Option (List ℕ) → Bool
+is_end None = true
+is_end (Some key) = is_key key
+
+-- a borrowed text, where there is one
+abbrev pub seen_text : Option (Bor (List ℕ)) → Option (List ℕ)
+seen_text text = option_map (λ t. t.now) text
+
+-- the ends are keys or open, and the first is less where both are keys
+abbrev pub is_range : Ends → Bool
+is_range range = is_end range.0 && is_end range.1 && are_ends range
+
+-- the value is the JSON of the head of a copy of this range
+pub record IsHead (d : Data) (range : Ends) : Type 0 where
+  pub value : d ≡ head_data range
+  pub limits : IsTrue (is_range range)
+
+-- the value is the JSON of this mark, image or end
+abbrev pub IsValue : Data → CopyLine → Type 0
+IsValue d (Mark name position) = (d ≡ mark_data (name, position)) × IsTrue (is_mark (name, position))
+IsValue d (Record image) = IsImage d image
+IsValue d (End count) = d ≡ end_data count
+
+-- each line is that of what stands at its place, and there are as many
+abbrev pub AreLines : List (List ℕ) → List CopyLine → Type 0
+AreLines [] [] = Unit {0}
+AreLines (line ∷ lines) (says ∷ more) = IsLine IsValue line says × AreLines lines more
+AreLines [] (says ∷ more) = ⊥
+AreLines (line ∷ lines) [] = ⊥

@@ -1,0 +1,69 @@
+-- What a text is read as line by line: the copy that it spells, or its first fault.
+use Rattle.std.specs.Prelude.{ℕ, ◌+◌, ◌-◌, ◌==◌, Bool, true, false, not, ◌&&◌, if◌then◌else◌, List, [], ◌∷◌, ◌++◌, Some, is_some, Result, Ok, Err}
+use Rattle.std.specs.List.{list_all}
+use Rattle.std.specs.Option.{option_map_or}
+use Rattle.std.specs.Ordering.{is_lt}
+use Rattle.pn_line.specs.Text.{onto_first}
+use Rattle.pn_join.specs.Marks.{name_cmp}
+use Rattle.pn_json.specs.Answers.{◌>>=◌}
+use Rattle.pn_record.specs.declared.image.Image.{Image}
+use Rattle.pn_record.specs.CellMap.{adds}
+use Rattle.pn_tablet.specs.Copies.{TabletCopyValue}
+use Rattle.pn_tablet.specs.CopyLineReading.{head_at, line_at}
+use Rattle.pn_tablet.specs.CopyTexts.{comes_behind}
+use Rattle.pn_tablet.specs.Drafts.{DraftValue, begun, whole}
+use Rattle.pn_tablet.specs.Ranges.{in_range}
+use Rattle.pn_tablet.specs.declared.copy_line.CopyLine.{CopyLine}
+use Rattle.pn_tablet.specs.declared.copy_line.CopyLine.TheVariants.{Mark, Record, End}
+use Rattle.pn_tablet.specs.declared.copy_fault.CopyTextFault.{CopyTextFault}
+use Rattle.pn_tablet.specs.declared.copy_fault.CopyTextFault.TheVariants.{Truncated, BadLine, OutsideRange, NotRising, BadEnd}
+
+-- the pieces of a text between its newlines: its lines, and then what no newline ends
+unfoldable pub pieces_of : List ℕ → List (List ℕ)
+pieces_of [] = [] ∷ []
+pieces_of (b ∷ bytes) = if b == 10 then [] ∷ pieces_of bytes else onto_first b (pieces_of bytes)
+
+-- nothing is left of a text
+abbrev pub is_over : List (List ℕ) → Bool
+is_over ([] ∷ []) = true
+is_over _ = false
+
+-- a mark comes before all images, and its name behind those of the marks
+abbrev pub with_mark : ℕ → DraftValue → List ℕ × ℕ → Result DraftValue CopyTextFault
+with_mark n draft mark =
+    if is_some draft.last then Err (BadLine n) else
+    (if list_all (λ other. is_lt (name_cmp other.0 mark.0)) draft.marks then Ok (record draft { marks = draft.marks ++ mark ∷ [] }) else Err (NotRising n))
+
+-- an image lies in the range, and comes behind the one before it
+abbrev pub with_image : ℕ → DraftValue → Image → Result DraftValue CopyTextFault
+with_image n draft image =
+    if not (in_range draft.range image.key) then Err (OutsideRange n) else
+    (if option_map_or (λ last. comes_behind last image) draft.last true
+    then Ok (record draft { cells = adds draft.cells (image ∷ []); last = Some image }) else Err (NotRising n))
+
+-- the end counts the lines between the head and itself, and nothing follows it
+abbrev pub ended : ℕ → DraftValue → ℕ → Bool → Result TabletCopyValue CopyTextFault
+ended n draft count over = if count == n - 2 && over then Ok (whole draft) else Err BadEnd
+
+-- what line n comes to, and then the lines behind it
+abbrev pub after : ℕ → DraftValue → (DraftValue → Result TabletCopyValue CopyTextFault) → Bool → CopyLine → Result TabletCopyValue CopyTextFault
+after n draft next over (Mark name position) = with_mark n draft (name, position) >>= next
+after n draft next over (Record image) = with_image n draft image >>= next
+after n draft next over (End count) = ended n draft count over
+
+-- the copy that the pieces from line n on make of what was read before them
+unfoldable pub read_on : ℕ → DraftValue → List (List ℕ) → Result TabletCopyValue CopyTextFault
+read_on n draft [] = Err Truncated
+read_on n draft (part ∷ []) = Err Truncated
+read_on n draft (line ∷ piece ∷ pieces) =
+    line_at (BadLine n) line >>= after n draft (λ longer. read_on (n + 1) longer (piece ∷ pieces)) (is_over (piece ∷ pieces))
+
+-- the copy of a text's pieces
+abbrev pub copy_in : List (List ℕ) → Result TabletCopyValue CopyTextFault
+copy_in [] = Err Truncated
+copy_in (part ∷ []) = Err Truncated
+copy_in (head ∷ piece ∷ pieces) = head_at (BadLine 1) head >>= λ range. read_on 2 (begun range) (piece ∷ pieces)
+
+-- the copy that the text spells, or the fault of the first line that has one
+unfoldable pub copy_at : List ℕ → Result TabletCopyValue CopyTextFault
+copy_at text = copy_in (pieces_of text)

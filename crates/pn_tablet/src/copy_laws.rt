@@ -1,0 +1,38 @@
+//! The laws of the texts of copies, as contracts. A call does nothing.
+
+ghost use Rattle.std.specs.Prelude.{◌≡◌, ◌<◌, ◌↔◌, ◌∷◌, ◌++◌, ℕ, List, length, All, Ok, Err};
+ghost use Rattle.pn_line.specs.Reads.{IsUnbroken};
+ghost use Rattle.pn_line.specs.Text.{text_of};
+ghost use Rattle.pn_tablet.specs.Copies.{TabletCopyValue};
+ghost use Rattle.pn_tablet.specs.CopyReading.{copy_at};
+ghost use Rattle.pn_tablet.specs.CopyTexts.{IsCopyText};
+ghost use Rattle.pn_tablet.specs.declared.copy_fault.CopyTextFault.TheVariants.{Truncated};
+
+/// A text is read as a copy exactly where it spells it.
+pub fn a_copy_is_read_where_it_is_spelled()
+    ensures { (text : List ℕ) (copy : TabletCopyValue) → IsCopyText text copy ↔ (copy_at text ≡ Ok copy) }
+{}
+
+/// No text spells two copies.
+pub fn a_text_spells_one_copy()
+    ensures { (text : List ℕ) (one other : TabletCopyValue) → IsCopyText text one → IsCopyText text other → one ≡ other }
+{}
+
+/// Where the end of a copy's text is cut off, what is left is truncated, and spells no copy.
+pub fn no_part_of_a_copy_is_a_copy()
+    ensures truncated { (front back : List ℕ) (copy : TabletCopyValue) → IsCopyText (front ++ back) copy → 0 < length back
+        → copy_at front ≡ Err Truncated }
+    ensures no_copy { (front back : List ℕ) (copy other : TabletCopyValue) → IsCopyText (front ++ back) copy → 0 < length back
+        → ¬ IsCopyText front other }
+{}
+
+/// All spellings of a copy have as many lines: without one of its lines, or with one of them twice, a text
+/// is no spelling of the same copy.
+pub fn spellings_of_a_copy_have_as_many_lines()
+    ensures count { (one other : List (List ℕ)) (copy : TabletCopyValue) → All IsUnbroken one → All IsUnbroken other
+        → IsCopyText (text_of one) copy → IsCopyText (text_of other) copy → length one ≡ length other }
+    ensures dropped { (before behind : List (List ℕ)) (line : List ℕ) (copy : TabletCopyValue) → All IsUnbroken (before ++ line ∷ behind)
+        → IsCopyText (text_of (before ++ line ∷ behind)) copy → ¬ IsCopyText (text_of (before ++ behind)) copy }
+    ensures doubled { (before behind : List (List ℕ)) (line : List ℕ) (copy : TabletCopyValue) → All IsUnbroken (before ++ line ∷ behind)
+        → IsCopyText (text_of (before ++ line ∷ behind)) copy → ¬ IsCopyText (text_of (before ++ line ∷ line ∷ behind)) copy }
+{}

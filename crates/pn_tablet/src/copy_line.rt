@@ -1,0 +1,185 @@
+//! The lines of a copy's text, read one by one.
+
+ghost use Rattle.std.specs.Prelude.{◌≡◌, IfOk, IsTrue};
+ghost use Rattle.serde_json.specs.View.{view};
+ghost use Rattle.pn_json.specs.Answers.{IsUnless, Shows, ShowsUnless};
+ghost use Rattle.pn_json.specs.Members.{seen, member_as};
+ghost use Rattle.pn_record.specs.Reading.{value_at};
+ghost use Rattle.pn_tablet.specs.CopyLines.{is_end as in_end, is_range, seen_text};
+ghost use Rattle.pn_tablet.specs.CopyLineReading.{end_of as end_spelled, or_as, if_fits, head_in, mark_in, end_in, record_in, line_in, head_at, line_at};
+
+use crate::{CopyTextFault, Range};
+use pn_join::{LAST_POSITION, Name, NoMemory, StreamName};
+use pn_json::{check_names, text_of, whole_number_of};
+use pn_record::limits::LONGEST_KEY;
+use pn_record::{Image, ImageFault, Key, KeyFault, image_of, read_value};
+use serde_json::Value;
+use std::alloc::Global;
+
+/// The form of copies, which the head names.
+pub(crate) const FORM: u64 = 1;
+
+/// What a line behind the head says.
+#[derive(Debug, Drop)]
+pub(crate) enum CopyLine {
+    /// How far a stream was taken.
+    Mark(StreamName, u64),
+    /// One content of a record.
+    Record(Image),
+    /// How many marks and images came before.
+    End(u64),
+}
+
+/// The range of the head that a line is, or the fault.
+#[tactic(auto, unfolding(crate::specs::CopyLineReading::head_at))]
+pub(crate) fn read_head(
+    alloc: Global,
+    line: &[u8],
+    fault: CopyTextFault,
+) -> Result<Range, CopyTextFault>
+    ensures { IsUnless CopyTextFault.Memory result (head_at fault line.now) }
+{
+    let value = read_json(alloc, line, fault)?;
+    head_of(alloc, &value, fault)
+}
+
+/// What a line behind the head says, or the fault.
+#[tactic(auto, unfolding(crate::specs::CopyLineReading::line_at))]
+pub(crate) fn read_line(
+    alloc: Global,
+    line: &[u8],
+    fault: CopyTextFault,
+) -> Result<CopyLine, CopyTextFault>
+    ensures { IsUnless CopyTextFault.Memory result (line_at fault line.now) }
+{
+    let value = read_json(alloc, line, fault)?;
+    line_of(alloc, &value, fault)
+}
+
+// The JSON value of a line, or the fault.
+fn read_json(alloc: Global, line: &[u8], fault: CopyTextFault) -> Result<Value, CopyTextFault>
+    ensures { ShowsUnless CopyTextFault.Memory view result (or_as fault (value_at line.now)) }
+{
+    match read_value(alloc, line) {
+        Ok(value) => Ok(value),
+        Err(ImageFault::Memory) => Err(CopyTextFault::Memory),
+        Err(_) => Err(fault),
+    }
+}
+
+#[tactic(auto, unfolding(crate::specs::CopyLineReading::head_in))]
+fn head_of(alloc: Global, value: &Value, fault: CopyTextFault) -> Result<Range, CopyTextFault>
+    ensures { IsUnless CopyTextFault.Memory result (head_in fault (view value.now)) }
+{
+    let members = value.as_object().ok_or(fault)?;
+    let form = whole_number_of(value.get("copy"), fault)?;
+    let from = end_of(value.get("from"), fault)?;
+    let to = end_of(value.get("to"), fault)?;
+    check_names(members, &["copy", "from", "to"], fault)?;
+    if form != FORM {
+        return Err(fault);
+    }
+    range_of(alloc, from, to, fault)
+}
+
+// An end of a range, borrowed from its value.
+fn end_of(value: Option<&Value>, fault: CopyTextFault) -> Result<Option<&str>, CopyTextFault>
+    ensures { Shows seen_text result (member_as end_spelled fault (seen value.entry)) }
+{
+    match value {
+        None => Err(fault),
+        Some(value) => match value {
+            Value::Null => Ok(None),
+            Value::String(text) => Ok(Some(text.as_str())),
+            _ => Err(fault),
+        },
+    }
+}
+
+// The range of these ends, or the fault where a limit is broken.
+fn range_of(
+    alloc: Global,
+    from: Option<&str>,
+    to: Option<&str>,
+    fault: CopyTextFault,
+) -> Result<Range, CopyTextFault>
+    ensures { IsUnless CopyTextFault.Memory result
+        (if_fits (is_range (seen_text from.entry, seen_text to.entry)) fault (seen_text from.entry, seen_text to.entry)) }
+{
+    if !is_end(from) || !is_end(to) {
+        return Err(fault);
+    }
+    let from = key_of(alloc, from)?;
+    let to = key_of(alloc, to)?;
+    Range::new(from, to).ok_or(fault)
+}
+
+fn is_end(text: Option<&str>) -> bool
+    ensures { result ≡ in_end (seen_text text.entry) }
+{
+    match text {
+        None => true,
+        Some(text) => !text.is_empty() && text.len() <= LONGEST_KEY,
+    }
+}
+
+fn key_of(alloc: Global, text: Option<&str>) -> Result<Option<Key>, NoMemory>
+    requires { IsTrue (in_end (seen_text text)) }
+    ensures { IfOk result (λ key. key ≡ seen_text text.entry) }
+{
+    match text {
+        None => Ok(None),
+        Some(text) => match Key::of(alloc, text) {
+            Ok(key) => Ok(Some(key)),
+            Err(_) => Err(NoMemory),
+        },
+    }
+}
+
+#[tactic(auto, unfolding(crate::specs::CopyLineReading::line_in))]
+fn line_of(alloc: Global, value: &Value, fault: CopyTextFault) -> Result<CopyLine, CopyTextFault>
+    ensures { IsUnless CopyTextFault.Memory result (line_in fault (view value.now)) }
+{
+    if value.get("at").is_some() {
+        mark_of(value, fault)
+    } else if value.get("end").is_some() {
+        end_line_of(value, fault)
+    } else {
+        record_of(alloc, value, fault)
+    }
+}
+
+#[tactic(auto, unfolding(crate::specs::CopyLineReading::mark_in))]
+fn mark_of(value: &Value, fault: CopyTextFault) -> Result<CopyLine, CopyTextFault>
+    ensures { result ≡ mark_in fault (view value.now) }
+{
+    let members = value.as_object().ok_or(fault)?;
+    let position = whole_number_of(value.get("at"), fault)?;
+    let name = text_of(value.get("stream"), fault)?;
+    check_names(members, &["at", "stream"], fault)?;
+    if !Name::fits(name.as_bytes()) || position < 1 || LAST_POSITION < position {
+        return Err(fault);
+    }
+    Ok(CopyLine::Mark(Name::of(name.as_bytes()), position))
+}
+
+#[tactic(auto, unfolding(crate::specs::CopyLineReading::end_in))]
+fn end_line_of(value: &Value, fault: CopyTextFault) -> Result<CopyLine, CopyTextFault>
+    ensures { result ≡ end_in fault (view value.now) }
+{
+    let members = value.as_object().ok_or(fault)?;
+    let count = whole_number_of(value.get("end"), fault)?;
+    check_names(members, &["end"], fault)?;
+    Ok(CopyLine::End(count))
+}
+
+#[tactic(auto, unfolding(crate::specs::CopyLineReading::record_in))]
+fn record_of(alloc: Global, value: &Value, fault: CopyTextFault) -> Result<CopyLine, CopyTextFault>
+    ensures { IsUnless CopyTextFault.Memory result (record_in fault (view value.now)) }
+{
+    match image_of(alloc, value) {
+        Ok(image) => Ok(CopyLine::Record(image)),
+        Err(ImageFault::Memory) => Err(CopyTextFault::Memory),
+        Err(_) => Err(fault),
+    }
+}
