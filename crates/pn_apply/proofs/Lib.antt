@@ -1,4 +1,5 @@
 pub mod Cuts
+pub mod Halves
 pub mod Prefixes
 pub mod ReduceLaws
 pub mod Sharing

@@ -105,10 +105,10 @@ share_more bounds taken image shares old new is was pushed =
 
 -- the joins of the shares are the joins in the ranges
 pub joins_by_share : (bounds : Bounds) (marks : Positions) (images : List Image) (shares : List Share) → lists shares ≡ map (λ (range : Ends). images_in range images) (ranges bounds)
-    → map (λ (share : Share). Join (table_of share.items) marks) shares ≡ joins_of bounds marks images
+    → map (λ (cells : Entries). Join cells marks) (map (λ (share : Share). table_of share.items) shares) ≡ joins_of bounds marks images
 joins_by_share bounds marks images shares is =
     let join : List Image → TabletOp = λ own. Join (table_of own) marks in
-    sym (map_twice join items shares) ∙ ap (map join) is ∙ map_twice join (λ (range : Ends). images_in range images) (ranges bounds)
+    map_twice (λ (cells : Entries). Join cells marks) (λ (share : Share). table_of share.items) shares ∙ sym (map_twice join items shares) ∙ ap (map join) is ∙ map_twice join (λ (range : Ends). images_in range images) (ranges bounds)
 
 -- one more share without images
 pub empty_more : (bounds : Bounds) (n : ℕ) (shares new : List Share) (share : Share) → lists shares ≡ map (images_at bounds []) (range_with_len 0 n) → share.items ≡ [] → new ≡ shares ++ share ∷ []
@@ -130,14 +130,14 @@ pub left_behind : (left shares : List Share) (n : ℕ) (none : Share) → drop n
 left_behind left shares n none rest = drop-set-lt (n + 1) left n none (omega arith) ∙ drop_more_same left shares n rest
 
 -- one more share is joined, which is taken out of what is left
-pub joined_more : (marks own : Positions) (cells : Entries) (shares left : List Share) (n : ℕ) (share at : Share) (operations new : List TabletOp) → n < length shares
+pub joined_more : (cells : Entries) (shares left : List Share) (n : ℕ) (share at : Share) (so_far new : List Entries) → n < length shares
     → drop n left ≡ drop n shares → share ≡ get_or left n at
-    → operations ≡ map (λ (each : Share). Join (table_of each.items) marks) (take n shares) → cells ≡ table_of share.items → own ≡ marks → new ≡ operations ++ Join cells own ∷ []
-    → new ≡ map (λ (each : Share). Join (table_of each.items) marks) (take (n + 1) shares)
-joined_more marks own cells shares left n share at operations new within rest read before cut same grown =
-    let join : Share → TabletOp = λ each. Join (table_of each.items) marks in
+    → so_far ≡ map (λ (each : Share). table_of each.items) (take n shares) → cells ≡ table_of share.items → new ≡ so_far ++ cells ∷ []
+    → new ≡ map (λ (each : Share). table_of each.items) (take (n + 1) shares)
+joined_more cells shares left n share at so_far new within rest read before cut grown =
+    let join : Share → Entries = λ each. table_of each.items in
     let found : share ≡ get_or shares n at = read ∙ next_same left shares n at rest in
     grown
-    ∙ (λ i. before i ++ Join ((cut ∙ ap (λ (s : Share). table_of s.items) found) i) (same i) ∷ [])
+    ∙ (λ i. before i ++ (cut ∙ ap (λ (s : Share). table_of s.items) found) i ∷ [])
     ∙ sym (map-append join (take n shares) (get_or shares n at ∷ []))
     ∙ ap (map join) (sym (take_more shares n at within))

@@ -3,6 +3,7 @@
 #![tactic(auto)]
 
 mod apply;
+mod cut;
 mod gate;
 pub mod laws;
 mod reducing;

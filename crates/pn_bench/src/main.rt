@@ -17,6 +17,7 @@ use pn_tablet::Layout;
 use serde_json::Value;
 use std::alloc::Global;
 use std::io::BufReader;
+use std::thread::Threads;
 use std::{env, io};
 
 /// How many bytes of input are read at a time.
@@ -79,7 +80,7 @@ fn main(rt: HostRuntime) -> io::Result<()> {
         Way::Messages => take_messages(rt.alloc(), input),
         _ => take_lines(rt.alloc(), way, &mut images, &mut input)?,
     };
-    let region = region_of(rt.alloc(), images);
+    let region = region_of(&rt, rt.alloc(), images);
     let bytes = match region {
         Some(region) => write_rows(rt.alloc(), way, &region, times.unwrap_or(0)).unwrap_or(0),
         None => 0,
@@ -98,13 +99,13 @@ fn keys_of(alloc: Global, words: env::Args<Global>) -> Option<Vec<Key>> {
 
 // How many lines of a script were answered, over tablets with these bounds.
 fn answer_script<S: Source>(
-    rt: &(impl AllocGlobal + Print),
+    rt: &(impl AllocGlobal + Print + Threads + Sync),
     input: &mut S,
     bounds: Vec<Key>,
 ) -> Option<u64> {
     let layout = Layout::new(bounds).ok()?;
     let settings = Settings::new(layout, 1)?;
-    let counts = run(rt.alloc(), input, &mut io::writer(rt), settings).ok()?;
+    let counts = run(rt, rt.alloc(), input, &mut io::writer(rt), settings).ok()?;
     Some(counts.lines)
 }
 
@@ -157,13 +158,13 @@ fn is_taken(alloc: Global, way: Way, images: &mut Vec<Image>, line: &[u8]) -> bo
 }
 
 // A region of one tablet that took the images in one round.
-fn region_of(alloc: Global, images: Vec<Image>) -> Option<Region> {
+fn region_of(rt: &(impl Threads + Sync), alloc: Global, images: Vec<Image>) -> Option<Region> {
     let layout = Layout::new(Vec::new(alloc)).ok()?;
     let mut region = Region::new(alloc, layout).ok()?;
     let delivery = Delivery::new(Name::read(b"east").ok()?, 1, images)?;
     let mut deliveries = Vec::new(alloc);
     deliveries.push(delivery).ok()?;
-    region.round(deliveries, 1, &Open).ok()?;
+    region.round(rt, deliveries, 1, &Open).ok()?;
     Some(region)
 }
 

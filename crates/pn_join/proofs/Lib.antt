@@ -1,4 +1,6 @@
 pub mod Each
+pub mod EditJoins
+pub mod EditSteps
 pub mod JoinAll
 pub mod JoinSteps
 pub mod MarksFacts
@@ -7,6 +9,7 @@ pub mod Partitions
 pub mod PlaceSearch
 pub mod Places
 pub mod PutFacts
+pub mod PutTogether
 pub mod Puts
 pub mod Rising
 pub mod RowEdits
@@ -15,5 +18,6 @@ pub mod RowGrowth
 pub mod RowJoin
 pub mod RowPlaces
 pub mod RowSearch
+pub mod RowSplits
 pub mod Singles
 pub mod TableFacts

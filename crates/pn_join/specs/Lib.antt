@@ -1,3 +1,4 @@
+pub mod Edits
 pub mod Laws
 pub mod LeafEntries
 pub mod Leaves

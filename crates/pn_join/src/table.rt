@@ -8,6 +8,7 @@ ghost use Rattle.pn_join.specs.Tables.{contents_at, key_by_key, IsTable};
 ghost use Rattle.pn_join.specs.Leaves.{all_entries, IsLeaf, AreLeavesOf};
 ghost use Rattle.pn_join.specs.PutInLeaves.{ChangesOneLeaf};
 
+mod edit;
 mod ends;
 mod entries;
 mod leaf;
@@ -161,7 +162,10 @@ impl<K: Ord + Dup, C: Join> Join for Table<K, C> {
                 return self.join_entry(key.dup()?, content.dup()?);
             }
         }
-        *self = self.joined_with(other)?;
+        self.row.make_way(&other.row)?;
+        if !self.row.join_together(&other.row)? {
+            *self = self.joined_with(other)?;
+        }
         Ok(())
     }
 }

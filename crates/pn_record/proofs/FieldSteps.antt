@@ -5,7 +5,8 @@ use Rattle.std.proofs.lemmas.List.{get_or-map, length-map, map-append, take_more
 use Rattle.std.proofs.lemmas.List.Folds.{list_all_more, list_all_at}
 use Rattle.std.proofs.lemmas.List.Sums.{sum_by_more}
 use Rattle.std.proofs.lemmas.Bool.Decides.{nat_tests}
-use Rattle.pn_record.specs.Limits.{Field, is_field, field_size, fields_fit}
+use Rattle.pn_record.specs.Bodies.{field_size, fields_fit}
+use Rattle.pn_record.specs.Limits.{Field, is_field}
 
 module _ {Y : Type 0} (f : Y → Field) (ys : List Y) (i : ℕ) (y : Y) (here : y ≡ get_or ys i y) (inside : i < length ys) where
   at_i : get_or (map f ys) i (f y) ≡ f y

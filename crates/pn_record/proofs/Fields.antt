@@ -6,10 +6,10 @@ use Rattle.std.specs.FinMap.Entries.{below_all}
 use Rattle.std.specs.List.{AllByRecursion}
 use Rattle.std.specs.List.Sorted.{IsStrictlySortedBy}
 use Rattle.std.specs.Map.{keys_of}
-use Rattle.pn_record.specs.Limits.{names_rise}
+use Rattle.pn_record.specs.Bodies.{names_rise}
 use Rattle.serde_json.specs.View.{members_view}
 use Rattle.serde_json.specs.declared.value.Value.{Value}
-use Rattle.pn_record.specs.Grammar.{fields_of}
+use Rattle.pn_record.specs.BodyGrammar.{fields_of}
 
 -- each member is one field
 pub fields_count : (entries : List (String Global × Value)) → length (fields_of (members_view entries)) ≡ length entries

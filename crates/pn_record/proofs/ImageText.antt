@@ -8,7 +8,8 @@ use Rattle.json.specs.Print.{escape_byte, escape_letter, escape, quoted}
 use Rattle.serde_json.specs.Data.{string, object, Members, no_members, member, depth, members_depth}
 use Rattle.serde_json.specs.Written.{has_float, members_have_float, compact_text, members_text, comma_if}
 use Rattle.pn_join.specs.Naming.{is_name, is_name_byte}
-use Rattle.pn_record.specs.Limits.{Field, field_size, is_field, is_key, is_version, is_body, is_content, fields_fit, names_rise}
+use Rattle.pn_record.specs.Bodies.{field_size, is_body, is_content, fields_fit, names_rise}
+use Rattle.pn_record.specs.Limits.{Field, is_field, is_key, is_version}
 use Rattle.pn_record.specs.Writing.{version_data, fields_data, body_data, image_data}
 use Rattle.pn_record.specs.Canonical.{is_image}
 use Rattle.pn_record.specs.declared.image.Image.{Image}

@@ -5,7 +5,8 @@ use Rattle.serde_json.specs.Data.{Data, null, boolean, number, string, array, ob
 use Rattle.serde_json.specs.Find.{as_str, as_array}
 use Rattle.pn_json.specs.Members.{whole_number}
 use Rattle.pn_json.proofs.Inverses.{and_then_some, map_some, array_from_as_array, number_from_whole}
-use Rattle.pn_record.specs.Grammar.{two_numbers, numbers_in, all_texts, fields_of}
+use Rattle.pn_record.specs.BodyGrammar.{all_texts, fields_of}
+use Rattle.pn_record.specs.Grammar.{two_numbers, numbers_in}
 use Rattle.pn_record.specs.Writing.{version_data, fields_data}
 
 items_from_two : (ds : Items) (v : ℕ × ℕ) → two_numbers ds ≡ Some v → array ds ≡ version_data v

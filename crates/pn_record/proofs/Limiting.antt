@@ -3,8 +3,10 @@ use Rattle.std.proofs.Common.{◌≡◌, List, true, ◌&&◌, Option, Some, Non
 use Rattle.std.proofs.lemmas.Bool.{and_parts, and_from}
 use Rattle.pn_join.specs.Naming.{is_name}
 use Rattle.pn_json.proofs.Inverses.{passed}
-use Rattle.pn_record.specs.Limits.{Field, is_key, is_version, is_body, is_content, fields_fit, names_rise}
-use Rattle.pn_record.specs.Grammar.{body_fits, ranges_in}
+use Rattle.pn_record.specs.Bodies.{is_body, is_content, fields_fit, names_rise}
+use Rattle.pn_record.specs.Limits.{Field, is_key, is_version}
+use Rattle.pn_record.specs.BodyGrammar.{body_fits}
+use Rattle.pn_record.specs.Grammar.{ranges_in}
 use Rattle.pn_record.specs.Seen.{body_rises}
 use Rattle.pn_record.specs.Canonical.{is_image}
 use Rattle.pn_record.specs.declared.image.Image.{Image}

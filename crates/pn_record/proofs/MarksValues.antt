@@ -23,8 +23,8 @@ use Rattle.serde_json.specs.View.{members_view}
 use Rattle.serde_json.specs.declared.value.Value.{Value}
 use Rattle.pn_json.specs.Answers.{IsUnless}
 use Rattle.pn_json.specs.Members.{whole_number}
-use Rattle.pn_record.specs.Grammar.{fields_of}
-use Rattle.pn_record.specs.Limits.{names_rise}
+use Rattle.pn_record.specs.BodyGrammar.{fields_of}
+use Rattle.pn_record.specs.Bodies.{names_rise}
 use Rattle.pn_record.specs.Marks.{IsMarks, is_mark, all_whole, positions_of, positions_data, positions_in, marks_in}
 use Rattle.pn_record.specs.declared.fault.ImageFault.{ImageFault}
 use Rattle.pn_record.specs.declared.fault.ImageFault.TheVariants.{Memory, BadShape, OutOfRange}

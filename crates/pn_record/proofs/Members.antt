@@ -9,7 +9,7 @@ use Rattle.std.specs.FinMap.Entries.{below_all}
 use Rattle.std.specs.Ordering.{is_lt, ordering_reverse}
 use Rattle.serde_json.specs.Data.{Data, Members, member, no_members, string, number, unsigned, put}
 use Rattle.pn_join.specs.Marks.{Positions, name_cmp}
-use Rattle.pn_record.specs.Limits.{names_rise}
+use Rattle.pn_record.specs.Bodies.{names_rise}
 use Rattle.pn_record.specs.Marks.{positions_data}
 use Rattle.pn_record.specs.Showing.{shown_field, shown_value}
 use Rattle.pn_record.specs.Writing.{fields_data}

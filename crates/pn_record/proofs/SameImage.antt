@@ -9,7 +9,8 @@ use Rattle.serde_json.specs.View.{members_view}
 use Rattle.serde_json.specs.declared.value.Value.{Value}
 use Rattle.pn_record.specs.Limits.{Field}
 use Rattle.pn_json.specs.Members.{only_named}
-use Rattle.pn_record.specs.Grammar.{image_members, all_texts, fields_of, shape_in, image_in}
+use Rattle.pn_record.specs.BodyGrammar.{all_texts, fields_of}
+use Rattle.pn_record.specs.Grammar.{image_members, shape_in, image_in}
 use Rattle.pn_record.specs.Writing.{version_data, fields_data, body_data, image_data}
 use Rattle.pn_record.specs.Canonical.{IsImage}
 use Rattle.pn_record.specs.declared.image.Image.{Image}

@@ -4,7 +4,8 @@ use Rattle.serde_json.specs.Data.{Data, boolean, string, object, Members}
 use Rattle.serde_json.specs.Find.{get_member, as_bool, as_object, as_str}
 use Rattle.pn_record.specs.Limits.{Field}
 use Rattle.pn_json.specs.Members.{only_named, member_as, no_others}
-use Rattle.pn_record.specs.Grammar.{numbers_in, image_members, all_texts, fields_of, deleted_in, object_fields, fields_in, shape_in}
+use Rattle.pn_record.specs.BodyGrammar.{all_texts, fields_of, deleted_in, object_fields, fields_in}
+use Rattle.pn_record.specs.Grammar.{numbers_in, image_members, shape_in}
 use Rattle.pn_record.specs.Writing.{version_data, fields_data}
 use Rattle.pn_record.specs.declared.image.Image.{Image}
 use Rattle.pn_record.specs.declared.fault.Member.{Member}

@@ -1,7 +1,8 @@
 -- The images that values are.
 use Rattle.std.specs.Prelude.{◌≡◌, ℕ, List, Bool, ◌&&◌, IsTrue}
 use Rattle.serde_json.specs.Data.{Data}
-use Rattle.pn_record.specs.Limits.{is_key, is_version, is_content}
+use Rattle.pn_record.specs.Bodies.{is_content}
+use Rattle.pn_record.specs.Limits.{is_key, is_version}
 use Rattle.pn_record.specs.Reading.{IsLine}
 use Rattle.pn_record.specs.Writing.{image_data}
 use Rattle.pn_record.specs.declared.image.Image.{Image}

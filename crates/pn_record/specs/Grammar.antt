@@ -1,17 +1,18 @@
 -- The image that a JSON value is: the shapes of its members one after another, and then their ranges.
-use Rattle.std.specs.Prelude.{ℕ, Bool, true, false, not, ◌&&◌, if◌then◌else◌, List, [], ◌∷◌, codes, Option, Some, None, option_map, option_and_then, unwrap_or, is_some, Result, Ok, Err}
+use Rattle.std.specs.Prelude.{ℕ, not, if◌then◌else◌, List, [], ◌∷◌, codes, Option, None, option_map, option_and_then, Result, Ok, Err}
 use Rattle.std.specs.Option.{ok_or}
 use Rattle.pn_join.specs.Naming.{is_name}
-use Rattle.serde_json.specs.Data.{Data, Items, no_items, item, Members, no_members, member}
-use Rattle.serde_json.specs.Find.{get, as_bool, as_str, as_array, as_object}
-use Rattle.pn_record.specs.Limits.{Field, is_key, is_version, fields_fit}
+use Rattle.serde_json.specs.Data.{Data, Items, no_items, item}
+use Rattle.serde_json.specs.Find.{get, as_str, as_array, as_object}
+use Rattle.pn_record.specs.Limits.{is_key, is_version}
 use Rattle.pn_json.specs.Answers.{◌>>=◌, fault_as}
 use Rattle.pn_json.specs.Members.{whole_number, member_as, no_others}
 use Rattle.pn_record.specs.declared.image.Image.{Image}
 use Rattle.pn_record.specs.declared.fault.Member.{Member}
-use Rattle.pn_record.specs.declared.fault.Member.TheVariants.{Whole, Deleted, Fields, Key, Master, Version, Other}
+use Rattle.pn_record.specs.declared.fault.Member.TheVariants.{Whole, Fields, Key, Master, Version, Other}
 use Rattle.pn_record.specs.declared.fault.ImageFault.{ImageFault}
 use Rattle.pn_record.specs.declared.fault.ImageFault.TheVariants.{BadShape, OutOfRange}
+use Rattle.pn_record.specs.BodyGrammar.{deleted_in, fields_in, body_fits}
 
 -- the two whole numbers of an array of two
 abbrev pub two_numbers : Items → Option (ℕ × ℕ)
@@ -24,36 +25,9 @@ two_numbers (item a (item b (item c ds))) = None
 abbrev pub numbers_in : Data → Option (ℕ × ℕ)
 numbers_in d = option_and_then two_numbers (as_array d)
 
--- each member is a text
-abbrev pub all_texts : Members → Bool
-all_texts no_members = true
-all_texts (member name d ms) = is_some (as_str d) && all_texts ms
-
--- the names and the texts of members, which are all texts
-abbrev pub fields_of : Members → List Field
-fields_of no_members = []
-fields_of (member name d ms) = (name, unwrap_or (as_str d) []) ∷ fields_of ms
-
 -- the names of an image's members
 abbrev pub image_members : List (List ℕ)
 image_members = codes "deleted" ∷ codes "fields" ∷ codes "key" ∷ codes "master" ∷ codes "version" ∷ []
-
--- whether `deleted` is there, which is `true` then
-abbrev pub deleted_in : Option Data → Result Bool Member
-deleted_in None = Ok false
-deleted_in (Some d) = if unwrap_or (as_bool d) false then Ok true else Err Deleted
-
--- the fields of an object whose members are all texts
-abbrev pub object_fields : Option Members → Result (Option (List Field)) Member
-object_fields None = Err Fields
-object_fields (Some ms) = if all_texts ms then Ok (Some (fields_of ms)) else Err Fields
-
--- the fields, or none for a deletion, which has no `fields`
-abbrev pub fields_in : Bool → Option Data → Result (Option (List Field)) Member
-fields_in true None = Ok None
-fields_in true (Some d) = Err Fields
-fields_in false None = Err Fields
-fields_in false (Some d) = object_fields (as_object d)
 
 -- the image of which the value has the shape, or the first member of another shape
 unfoldable pub shape_in : Data → Result Image Member
@@ -66,11 +40,6 @@ shape_in d = do
   version ← member_as numbers_in Version (get (codes "version") d)
   named ← no_others image_members Other members
   Ok (record { key = key; version = version; content = (fields, master) })
-
--- the fields fit, where there are any
-abbrev pub body_fits : Option (List Field) → Bool
-body_fits None = true
-body_fits (Some fields) = fields_fit fields
 
 -- the first member that breaks a limit
 unfoldable pub ranges_in : Image → Result (Unit {0}) Member

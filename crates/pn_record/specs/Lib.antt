@@ -1,3 +1,5 @@
+pub mod Bodies
+pub mod BodyGrammar
 pub mod Canonical
 pub mod CellMap
 pub mod Cells

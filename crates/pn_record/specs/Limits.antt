@@ -1,11 +1,6 @@
--- The limits of versions, keys and contents, and what a content shows.
-use Rattle.std.specs.Prelude.{ℕ, ◌+◌, ◌^◌, Bool, true, ◌&&◌, nat_le, List, length, sum_by, Option, Some, None}
-use Rattle.std.specs.List.{list_all}
-use Rattle.std.specs.FinMap.{is_sorted}
-use Rattle.std.specs.Ordering.{nat_cmp}
-use Rattle.std.specs.Cmp.Lexicographic.{slice_cmp}
+-- The limits of versions, keys and fields, and what a content shows.
+use Rattle.std.specs.Prelude.{ℕ, ◌^◌, Bool, ◌&&◌, nat_le, List, length, Option}
 use Rattle.pn_line.specs.Line as line
-use Rattle.pn_join.specs.Naming.{is_name}
 
 -- the greatest generation and the greatest number of a version, and the last position of a stream
 abbrev pub greatest : ℕ
@@ -54,24 +49,3 @@ ContentValue = Option (List Field) × List ℕ
 -- a name that is not empty, and a text, neither too long
 abbrev pub is_field : Field → Bool
 is_field field = nat_le 1 (length field.0) && nat_le (length field.0) longest_field_name && nat_le (length field.1) longest_field_text
-
--- how many bytes a field's name and text have together
-abbrev pub field_size : Field → ℕ
-field_size field = length field.0 + length field.1
-
--- not too many fields, and not too many bytes together
-abbrev pub fields_fit : List Field → Bool
-fields_fit fields = nat_le (length fields) most_fields && list_all is_field fields && nat_le (sum_by field_size fields) most_field_bytes
-
--- the names strictly rise by their bytes
-abbrev pub names_rise : List Field → Bool
-names_rise fields = is_sorted (slice_cmp nat_cmp) fields
-
--- a deletion, or fields that fit and whose names rise
-abbrev pub is_body : Option (List Field) → Bool
-is_body None = true
-is_body (Some fields) = fields_fit fields && names_rise fields
-
--- a body within the limits, and a master
-abbrev pub is_content : ContentValue → Bool
-is_content shown = is_body shown.0 && is_name shown.1

@@ -5,8 +5,9 @@ use Rattle.std.specs.declared.alloc.Global.{Global}
 use Rattle.std.specs.BTreeMap.{BTreeMap}
 use Rattle.serde_json.specs.View.{members_view}
 use Rattle.serde_json.specs.declared.value.Value.{Value}
-use Rattle.pn_record.specs.Limits.{Field, names_rise}
-use Rattle.pn_record.specs.Grammar.{fields_of}
+use Rattle.pn_record.specs.Bodies.{names_rise}
+use Rattle.pn_record.specs.Limits.{Field}
+use Rattle.pn_record.specs.BodyGrammar.{fields_of}
 
 -- an object's members, borrowed
 abbrev pub Borrowed : Type 0

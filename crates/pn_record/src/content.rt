@@ -3,7 +3,8 @@
 ghost use Rattle.std.specs.Prelude.{◌≡◌, IsTrue, ◌↔◌, IfSome, IsSome, IfOk, string_bytes, Option, Some, None, length, map};
 ghost use Rattle.std.specs.Ordering.{is_lt, nat_cmp};
 ghost use Rattle.std.specs.Cmp.Lexicographic.{slice_cmp};
-ghost use Rattle.pn_record.specs.Limits.{is_body, is_body as body_fits, fields_fit as all_fit, is_field as one_fits, names_rise as all_rise};
+ghost use Rattle.pn_record.specs.Bodies.{is_body, is_body as body_fits, fields_fit as all_fit, names_rise as all_rise};
+ghost use Rattle.pn_record.specs.Limits.{is_field as one_fits};
 ghost use Rattle.pn_record.specs.Showing.{shown_body, shown_field, shown_value};
 
 use crate::limits::{LONGEST_FIELD_NAME, LONGEST_FIELD_TEXT, MOST_FIELD_BYTES, MOST_FIELDS};
@@ -36,7 +37,8 @@ pub struct Content {
 
 impl Model for Content {
     ghost use Rattle.std.specs.Prelude.{ℕ, List, IsTrue};
-    ghost use Rattle.pn_record.specs.Limits.{ContentValue, is_content};
+    ghost use Rattle.pn_record.specs.Bodies.{is_content};
+    ghost use Rattle.pn_record.specs.Limits.{ContentValue};
 
     ghost Value = { ContentValue };
 

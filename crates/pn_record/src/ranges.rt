@@ -3,8 +3,9 @@
 ghost use Rattle.std.specs.Prelude.{◌≡◌, unwrap_or, []};
 ghost use Rattle.serde_json.specs.Find.{as_str};
 ghost use Rattle.serde_json.specs.View.{view, members_view};
-ghost use Rattle.pn_record.specs.Limits.{fields_fit as all_fit};
-ghost use Rattle.pn_record.specs.Grammar.{fields_of, body_fits as body_in_range, ranges_in};
+ghost use Rattle.pn_record.specs.Bodies.{fields_fit as all_fit};
+ghost use Rattle.pn_record.specs.BodyGrammar.{fields_of, body_fits as body_in_range};
+ghost use Rattle.pn_record.specs.Grammar.{ranges_in};
 ghost use Rattle.pn_record.specs.Seen.{seen_fields};
 
 use crate::content::is_field;

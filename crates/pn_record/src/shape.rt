@@ -5,7 +5,8 @@ ghost use Rattle.std.specs.BTreeMap.{IsOrdered};
 ghost use Rattle.serde_json.specs.View.{view, items_view, members_view};
 ghost use Rattle.pn_json.specs.Members.{seen, member_as};
 ghost use Rattle.pn_json.specs.Answers.{Shows};
-ghost use Rattle.pn_record.specs.Grammar.{numbers_in, two_numbers, all_texts, deleted_in, fields_in, shape_in};
+ghost use Rattle.pn_record.specs.BodyGrammar.{all_texts, deleted_in, fields_in};
+ghost use Rattle.pn_record.specs.Grammar.{numbers_in, two_numbers, shape_in};
 ghost use Rattle.pn_record.specs.Seen.{seen_fields, body_rises};
 ghost use Rattle.pn_record.specs.Writing.{image_data};
 

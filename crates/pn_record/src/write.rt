@@ -4,7 +4,8 @@ ghost use Rattle.std.specs.Prelude.{◌≡◌, ◌<◌, length, codes, map, Ok, 
 ghost use Rattle.serde_json.specs.Data.{object, string, member, no_members};
 ghost use Rattle.serde_json.specs.View.{view};
 ghost use Rattle.serde_json.specs.Written.{compact_text};
-ghost use Rattle.pn_record.specs.Limits.{names_rise, is_version, is_content};
+ghost use Rattle.pn_record.specs.Bodies.{names_rise, is_content};
+ghost use Rattle.pn_record.specs.Limits.{is_version};
 ghost use Rattle.pn_record.specs.Showing.{shown_field};
 ghost use Rattle.pn_record.specs.Reading.{image_at};
 ghost use Rattle.pn_record.specs.Canonical.{is_image, IsImageLine};

@@ -24,6 +24,7 @@ use pn_stream::Delivery;
 use pn_tablet::{Change, Layout, Range, TabletOp, TabletState};
 use std::alloc::Global;
 use std::marker::Model;
+use std::thread::Threads;
 
 /// The tablets of a layout, and how far streams were taken into all of them.
 #[derive(Drop)]
@@ -111,8 +112,9 @@ impl Region {
     /// first; else `TooManyStreams` exactly where there would be more than 16 streams. Both change nothing,
     /// and take no memory. After `Memory` each tablet is as it was or has taken its part, and one at least is
     /// as it was; the marks are as they were.
-    pub fn round<G: Gate>(
+    pub fn round<R: Threads + Sync, G: Gate + Sync>(
         &mut self,
+        rt: &R,
         deliveries: Vec<Delivery>,
         workers: usize,
         gate: &G,
@@ -125,9 +127,17 @@ impl Region {
         ensures left { OnErr result (IsSomeOld self.old.tablets self.new.tablets) }
     {
         let marks = next_marks(&self.marks, &deliveries)?;
-        let operations = reduce_owned(self.alloc, deliveries, &self.layout, &marks, workers, gate)?;
+        let operations = reduce_owned(
+            rt,
+            self.alloc,
+            deliveries,
+            &self.layout,
+            &marks,
+            workers,
+            gate,
+        )?;
         let tablets = self.tablets.as_mut_slice();
-        let changed = take_joins(self.alloc, tablets, &operations, workers, gate)?;
+        let changed = take_joins(rt, self.alloc, tablets, &operations, workers, gate)?;
         self.marks = marks;
         Ok(Round { changed })
     }
@@ -154,7 +164,8 @@ fn range_of(layout: &Layout, tablet: usize) -> Result<Range, NoMemory>
 
 // Each tablet takes its join. Answers how many records changed, which are at most as many as are joined:
 // that these can be counted is seen before a tablet is worked.
-fn take_joins<G: Gate>(
+fn take_joins<R: Threads + Sync, G: Gate + Sync>(
+    rt: &R,
     alloc: Global,
     tablets: &mut [TabletState],
     joins: &[TabletOp],
@@ -174,7 +185,7 @@ fn take_joins<G: Gate>(
     if !can_be_counted(joins) {
         return Err(NoMemory);
     }
-    let lists = apply_all(alloc, tablets, joins, workers, gate)?;
+    let lists = apply_all(rt, alloc, tablets, joins, workers, gate)?;
     Ok(count_of(&lists) as u64)
 }
 

@@ -1,5 +1,5 @@
 -- A get that looks up one key after another.
-use Rattle.std.proofs.Common.{◌≡◌, ℕ, ◌+◌, ◌<◌, ◌≤◌, List, [], ◌∷◌, ◌++◌, length, map, take, get_or, true, Option, None, Ok, Err, refl, sym, ap, ◌∙◌, subst, arith, length-append}
+use Rattle.std.proofs.Common.{◌≡◌, ℕ, ◌+◌, ◌<◌, ◌≤◌, List, [], ◌∷◌, ◌++◌, length, map, take, get_or, true, Option, None, Result, Ok, Err, refl, sym, ap, ◌∙◌, subst, arith, length-append}
 use Rattle.std.specs.List.{AllByRecursion}
 use Rattle.std.specs.FinMap.{find}
 use Rattle.std.proofs.lemmas.List.{map-append, take_more, take-append-le}
@@ -47,8 +47,12 @@ get_fails_at_once looks bounds keys now show why memory = record {
   whole = tt;
 }
 
-module _ {V : Type 0} (looks : V → Look → V → Type 0) (bounds : Bounds) (keys : List (List ℕ)) (place : ℕ) (old now : V) (cells : List (Option CellValue)) (seen : List Look) (getting : IsGetting looks bounds keys place old now cells seen) where
-  module _ (key : List ℕ) (inside : place < length keys) (at : key ≡ get_or keys place key) (look : Look) (here : look.0 ≡ tablet_of bounds key) (new : V) (looked : looks now look new) (found : IsFoundIn bounds look) where
+module _ {V : Type 0} {looks : V → Look → V → Type 0} {bounds : Bounds} {keys : List (List ℕ)} {place : ℕ} {old now : V} {cells : List (Option CellValue)} {seen : List Look} (getting : IsGetting looks bounds keys place old now cells seen) where
+  -- one look more
+  module _ {key : List ℕ} (inside : place < length keys) (at : key ≡ get_or keys place key) {look : Look} {new : V} {same : Bounds} (is : same ≡ bounds) (here : look.0 ≡ tablet_of same key) (looked : looks now look new) (there : IsFoundIn same look) where
+    found : IsFoundIn bounds look
+    found = subst (λ (b : Bounds). IsFoundIn b look) is there
+
     size : length (seen ++ look ∷ []) ≡ length seen + 1
     size = length-append seen (look ∷ [])
 
@@ -58,7 +62,7 @@ module _ {V : Type 0} (looks : V → Look → V → Type 0) (bounds : Bounds) (k
     order : map (λ look. look.0) (seen ++ look ∷ []) ≡ map (tablet_of bounds) (take (length (seen ++ look ∷ [])) keys)
     order =
         map-append (λ (other : Look). other.0) seen (look ∷ [])
-        ∙ (λ i. getting.order i ++ (here ∙ ap (tablet_of bounds) at_end) i ∷ [])
+        ∙ (λ i. getting.order i ++ (here ∙ ap (λ b. tablet_of b key) is ∙ ap (tablet_of bounds) at_end) i ∷ [])
         ∙ sym (map-append (tablet_of bounds) (take (length seen) keys) (get_or keys (length seen) key ∷ []))
         ∙ ap (map (tablet_of bounds)) (sym (take_more keys (length seen) key (omega (arith, getting.count))) ∙ ap (λ n. take n keys) (sym size))
 
@@ -70,8 +74,8 @@ module _ {V : Type 0} (looks : V → Look → V → Type 0) (bounds : Bounds) (k
     refused : first_refusal (seen ++ look ∷ []) ≡ refusal look
     refused = refused_last seen look getting.none_refused
 
-    pub get_fails : {A : Type 0} (show : A → List (Option CellValue)) (why : ScanFault) → Refuses is_memory why (cell_at key look) → IsGet looks bounds keys old new show (Err why) (seen ++ look ∷ [])
-    get_fails show why refuses = record {
+    pub get_fails : {A : Type 0} (show : A → List (Option CellValue)) (why : ScanFault) (answer : Result A ScanFault) → answer ≡ Err why → Refuses is_memory why (cell_at key look) → IsGet looks bounds keys old new show answer (seen ++ look ∷ [])
+    get_fails {A} show why answer failed refuses = subst (λ (a : Result A ScanFault). IsGet looks bounds keys old new show a (seen ++ look ∷ [])) (sym failed) (record {
       looked = looks_more looks old now new seen look getting.looked looked;
       found = found_more bounds seen look getting.found found;
       order = order;
@@ -79,10 +83,10 @@ module _ {V : Type 0} (looks : V → Look → V → Type 0) (bounds : Bounds) (k
       answers = subst (λ (o : Option ScanFault). Refuses is_memory why (unless o (cells_got keys (seen ++ look ∷ [])))) (sym refused)
           (is_right_too (is_memory why) why (refusal look) _ (cells_got keys (seen ++ look ∷ [])) refuses);
       whole = tt;
-    }
+    })
 
-    pub getting_more : (cell : Option CellValue) → cell_at key look ≡ Ok cell → IsGetting looks bounds keys (place + 1) old new (cells ++ cell ∷ []) (seen ++ look ∷ [])
-    getting_more cell right =
+    pub getting_more : (cell : Option CellValue) {more : List (Option CellValue)} → more ≡ cells ++ cell ∷ [] → cell_at key look ≡ Ok cell → IsGetting looks bounds keys (place + 1) old new more (seen ++ look ∷ [])
+    getting_more cell pushed right =
         let parts = ok_value (refusal look) _ cell right in
         record {
           looked = looks_more looks old now new seen look getting.looked looked;
@@ -90,7 +94,7 @@ module _ {V : Type 0} (looks : V → Look → V → Type 0) (bounds : Bounds) (k
           count = size ∙ ap (λ n. n + 1) getting.count;
           order = order;
           none_refused = refused ∙ parts.0;
-          got = (λ i. getting.got i ++ parts.1 i ∷ []) ∙ sym (got_more keys seen key look (omega (arith, getting.count)) at_end);
+          got = pushed ∙ (λ i. getting.got i ++ parts.1 i ∷ []) ∙ sym (got_more keys seen key look (omega (arith, getting.count)) at_end);
         }
 
   -- where every key was found, all are

@@ -5,6 +5,7 @@ pub mod ConditionParts
 pub mod Continuing
 pub mod Copied
 pub mod EachMet
+pub mod FieldWalk
 pub mod Gets
 pub mod InOrder
 pub mod Numbers

@@ -12,7 +12,8 @@ use Rattle.pn_json.proofs.Inverses.{bind_ok, guard_ok, ok_or_ok, and_then_some, 
 use Rattle.pn_scan.specs.Queries.{ConditionValue, has, eq, lt, gt, prefix, QueryValue}
 use Rattle.pn_scan.specs.QueryGrammar.{query_members, IsKeyMember, IsLimitMember, IsWhereMember, HasShape, IsQuery, is_query}
 use Rattle.pn_scan.specs.QueryJson.{condition_texts, condition_data, key_data, query_data}
-use Rattle.pn_scan.specs.ConditionReading.{condition_as, lone_word, comparing_word, lone_in, comparing_in, condition_in, condition_at, conditions_in}
+use Rattle.pn_scan.specs.ConditionWords.{condition_as, lone_word, comparing_word}
+use Rattle.pn_scan.specs.ConditionReading.{lone_in, comparing_in, condition_in, condition_at, conditions_in}
 use Rattle.pn_scan.specs.QueryReading.{key_of, key_in, limit_in, shape_in, query_in}
 use Rattle.pn_scan.specs.declared.condition_shape.Word.{Word}
 use Rattle.pn_scan.specs.declared.condition_shape.Word.TheVariants.{Has, Eq, Lt, Gt, Prefix}

@@ -1,5 +1,5 @@
 -- A page that looks into one tablet after another.
-use Rattle.std.proofs.Common.{◌≡◌, ℕ, zero, suc, ◌+◌, ◌-◌, ◌<◌, ◌≤◌, inl, inr, Bool, true, false, List, [], ◌∷◌, ◌++◌, length, take, drop, Option, Some, None, Ok, Err, refl, sym, ap, ◌∙◌, subst, arith, append-nil, length-append}
+use Rattle.std.proofs.Common.{◌≡◌, ℕ, zero, suc, ◌+◌, ◌-◌, ◌<◌, ◌≤◌, inl, inr, Bool, true, false, List, [], ◌∷◌, ◌++◌, length, take, drop, Option, Some, None, Result, Ok, Err, refl, sym, ap, ◌∙◌, subst, arith, append-nil, length-append}
 use Rattle.std.specs.List.{AllByRecursion, flat_map, range_with_len}
 use Rattle.std.specs.Option.{option_or}
 use Rattle.std.proofs.Math.Seq.{take-append-add}
@@ -121,8 +121,12 @@ all_taken limit all few = take_all (limit + 1) all (omega (arith, length-take (l
 more_left : (limit : ℕ) (all : Entries) → limit < length (take (limit + 1) all) → limit < length all
 more_left limit all more = omega (arith, length-take (limit + 1) all, more)
 
-module _ {V : Type 0} (looks : V → Look → V → Type 0) (bounds : Bounds) (query : QueryValue) (first count tablet : ℕ) (old now : V) (rows : Entries) (seen : List Look) (range : candidates bounds query ≡ range_with_len first count) (walked : IsWalked looks bounds query first tablet old now rows seen) where
-  module _ (inside : tablet < first + count) (look : Look) (here : look.0 ≡ tablet) (new : V) (looked : looks now look new) (found : IsFoundIn bounds look) where
+module _ {V : Type 0} {looks : V → Look → V → Type 0} {bounds : Bounds} {query : QueryValue} {first tablet : ℕ} {old now : V} {rows : Entries} {seen : List Look} (count : ℕ) (range : candidates bounds query ≡ range_with_len first count) (walked : IsWalked looks bounds query first tablet old now rows seen) where
+  -- one look more
+  module _ (inside : tablet < first + count) {look : Look} (here : look.0 ≡ tablet) {new : V} {same : Bounds} (is : same ≡ bounds) (looked : looks now look new) (there : IsFoundIn same look) where
+    found : IsFoundIn bounds look
+    found = subst (λ (b : Bounds). IsFoundIn b look) is there
+
     numbered : Numbered first (seen ++ look ∷ [])
     numbered = numbered_more first seen look walked.numbered (here ∙ sym walked.count)
 
@@ -146,14 +150,14 @@ module _ {V : Type 0} (looks : V → Look → V → Type 0) (bounds : Bounds) (q
     refused = ap first_refusal (all_visited bounds query first count (seen ++ look ∷ []) range short numbered (few_more query seen look walked.on)) ∙ refused_last seen look walked.on.none_refused
 
     -- a look that was refused, or found no memory, ends the page
-    pub scan_fails : {A B : Type 0} (show : A → B) (why : ScanFault) (right : Entries → B) → Refuses is_memory why (rows_behind query rows look) → IsScan looks bounds query old new show (Err why) right (seen ++ look ∷ [])
-    scan_fails show why right refuses = record {
+    pub scan_fails : {A B : Type 0} (show : A → B) (why : ScanFault) (right : Entries → B) (answer : Result A ScanFault) → answer ≡ Err why → Refuses is_memory why (rows_behind query rows look) → IsScan looks bounds query old new show answer right (seen ++ look ∷ [])
+    scan_fails {A} show why right answer failed refuses = subst (λ (a : Result A ScanFault). IsScan looks bounds query old new show a right (seen ++ look ∷ [])) (sym failed) (record {
       looked = looks_more looks old now new seen look walked.looked looked;
       visit = visit;
       answers = subst (λ (o : Option ScanFault). Refuses is_memory why (unless o (right (rows_in query (seen ++ look ∷ []))))) (sym refused)
           (is_right_too (is_memory why) why (refusal look) _ (right (rows_in query (seen ++ look ∷ []))) refuses);
       whole = tt;
-    }
+    })
 
     module _ (more : Entries) (right : rows_behind query rows look ≡ Ok more) where
       parts : (refusal look ≡ None) × (more ≡ rows ++ take (query.limit + 1 - length rows) (shown_rows query (cells_in look.1)))

@@ -1,36 +1,14 @@
 -- The conditions that JSON values are.
-use Rattle.std.specs.Prelude.{ℕ, if◌then◌else◌, List, [], codes, Option, Some, None, option_map, option_and_then, Result, Ok}
+use Rattle.std.specs.Prelude.{List, [], Option, Some, None, option_map, option_and_then, Result, Ok}
 use Rattle.std.specs.Option.{ok_or, option_or}
-use Rattle.std.specs.Str.{bytes_eq}
 use Rattle.serde_json.specs.Data.{Data, Items, no_items, item}
 use Rattle.serde_json.specs.Find.{as_str, as_array}
 use Rattle.pn_json.specs.Answers.{◌>>=◌}
 use Rattle.pn_json.specs.Members.{each_in}
-use Rattle.pn_scan.specs.Queries.{ConditionValue, has, eq, lt, gt, prefix}
-use Rattle.pn_scan.specs.declared.condition_shape.Word.{Word}
-use Rattle.pn_scan.specs.declared.condition_shape.Word.TheVariants.{Has, Eq, Lt, Gt, Prefix}
+use Rattle.pn_scan.specs.Queries.{ConditionValue}
 use Rattle.pn_scan.specs.declared.query_fault.QueryFault.{QueryFault}
 use Rattle.pn_scan.specs.declared.query_fault.QueryFault.TheVariants.{BadShape}
-
--- the condition of a word on a field; with `Has` the value says nothing
-abbrev pub condition_as : Word → List ℕ → List ℕ → ConditionValue
-condition_as Has field value = has field
-condition_as Eq field value = eq field value
-condition_as Lt field value = lt field value
-condition_as Gt field value = gt field value
-condition_as Prefix field value = prefix field value
-
--- the word of a condition without a value
-abbrev pub lone_word : List ℕ → Option Word
-lone_word word = if bytes_eq word (codes "has") then Some Has else None
-
--- the word of a condition with a value
-abbrev pub comparing_word : List ℕ → Option Word
-comparing_word word =
-    if bytes_eq word (codes "eq") then Some Eq else
-    (if bytes_eq word (codes "lt") then Some Lt else
-    (if bytes_eq word (codes "gt") then Some Gt else
-    (if bytes_eq word (codes "prefix") then Some Prefix else None)))
+use Rattle.pn_scan.specs.ConditionWords.{condition_as, lone_word, comparing_word}
 
 -- the condition of two parts, which are texts
 abbrev pub lone_in : Items → Option ConditionValue

@@ -1,5 +1,7 @@
 pub mod Candidates
 pub mod ConditionReading
+pub mod ConditionWords
+pub mod Conditions
 pub mod Pages
 pub mod Queries
 pub mod QueryGrammar

@@ -6,7 +6,8 @@ ghost use Rattle.serde_json.specs.View.{view, items_view};
 ghost use Rattle.pn_json.specs.Members.{seen, each_in};
 ghost use Rattle.pn_record.specs.Showing.{shown_value};
 ghost use Rattle.pn_scan.specs.Queries.{shown_condition, is_condition, most_conditions};
-ghost use Rattle.pn_scan.specs.ConditionReading.{condition_in, lone_in, comparing_in, lone_word as lone_word_of, comparing_word as comparing_word_of, conditions_in, conditions_at as conditions_spelled, condition_at};
+ghost use Rattle.pn_scan.specs.ConditionWords.{lone_word as lone_word_of, comparing_word as comparing_word_of};
+ghost use Rattle.pn_scan.specs.ConditionReading.{condition_in, lone_in, comparing_in, conditions_in, conditions_at as conditions_spelled, condition_at};
 ghost use Rattle.pn_scan.specs.QueryShapes.{conditions_among, are_conditions as all_conditions, may_fit};
 
 use crate::condition::is_field;
@@ -39,7 +40,7 @@ struct ConditionShape<'v> {
 
 impl<'v> Model for ConditionShape<'v> {
     ghost use Rattle.pn_scan.specs.Queries.{ConditionValue};
-    ghost use Rattle.pn_scan.specs.ConditionReading.{condition_as};
+    ghost use Rattle.pn_scan.specs.ConditionWords.{condition_as};
 
     ghost Value = { ConditionValue };
 

@@ -22,6 +22,7 @@ use pn_apply::Open;
 use pn_region::{Region, RoundFault};
 use pn_stream::Delivery;
 use std::alloc::Global;
+use std::thread::Threads;
 
 /// What a line came to: its reply, and the lines that are announced behind it.
 pub(crate) type Done = (Reply, Option<Announced>);
@@ -29,7 +30,8 @@ pub(crate) type Done = (Reply, Option<Announced>);
 /// Takes a line, which stood before a newline, with 1 to 16 workers: a command, or one of the lines that were
 /// announced. A refusal leaves the region as it was; but after a round that ran out of memory, each tablet is as
 /// it was or has taken its part.
-pub(crate) fn answer(
+pub(crate) fn answer<R: Threads + Sync>(
+    rt: &R,
     alloc: Global,
     region: &mut Region,
     workers: usize,
@@ -40,17 +42,23 @@ pub(crate) fn answer(
     ensures { Answers (with_mode announced region.old) line.now (with_mode result.1 region.new) result.0 }
 {
     match announced {
-        None => command(alloc, region, workers, line),
+        None => command(rt, alloc, region, workers, line),
         Some(announced) => go_on(alloc, region, announced, line),
     }
 }
 
-fn command(alloc: Global, region: &mut Region, workers: usize, line: &[u8]) -> Done
+fn command<R: Threads + Sync>(
+    rt: &R,
+    alloc: Global,
+    region: &mut Region,
+    workers: usize,
+    line: &[u8],
+) -> Done
     requires workers { (1 ≤ workers) × (workers ≤ most_workers) }
     ensures { Answers (serving region.old) line.now (with_mode result.1 region.new) result.0 }
 {
     match command_of(alloc, line) {
-        Ok(command) => announce(alloc, obey(alloc, region, workers, command)),
+        Ok(command) => announce(alloc, obey(rt, alloc, region, workers, command)),
         Err(refusal) => (Reply::Refused(refusal), None),
     }
 }
@@ -67,7 +75,8 @@ fn announce(alloc: Global, begun: Begun) -> Done
 
 /// The input is at its end, behind a part of a line that no newline ends: a command, a part of what was announced,
 /// or nothing.
-pub(crate) fn end(
+pub(crate) fn end<R: Threads + Sync>(
+    rt: &R,
     alloc: Global,
     region: &mut Region,
     workers: usize,
@@ -80,17 +89,23 @@ pub(crate) fn end(
     match announced {
         Some(announced) => finish(alloc, region, announced, part),
         None if part.is_empty() => Reply::Silent,
-        None => last_command(alloc, region, workers, part),
+        None => last_command(rt, alloc, region, workers, part),
     }
 }
 
 // A last line without newline. No line that it announces comes.
-fn last_command(alloc: Global, region: &mut Region, workers: usize, line: &[u8]) -> Reply
+fn last_command<R: Threads + Sync>(
+    rt: &R,
+    alloc: Global,
+    region: &mut Region,
+    workers: usize,
+    line: &[u8],
+) -> Reply
     requires workers { (1 ≤ workers) × (workers ≤ most_workers) }
     ensures { Lasts region.old line.now region.new result }
 {
     match command_of(alloc, line) {
-        Ok(command) => match obey(alloc, region, workers, command) {
+        Ok(command) => match obey(rt, alloc, region, workers, command) {
             Begun::Obeyed(reply) => reply,
             Begun::Announces(_) => adopt(alloc, region, Some(Vec::new(alloc))),
         },
@@ -107,14 +122,22 @@ enum Begun {
     Announces(u64),
 }
 
-fn obey(alloc: Global, region: &mut Region, workers: usize, command: Command) -> Begun
+fn obey<R: Threads + Sync>(
+    rt: &R,
+    alloc: Global,
+    region: &mut Region,
+    workers: usize,
+    command: Command,
+) -> Begun
     requires workers { (1 ≤ workers) × (workers ≤ most_workers) }
     ensures { BeginsTo region.old (command_value command) region.new result }
 {
     match command {
         Command::Adopt { lines } => Begun::Announces(lines),
         Command::Copy { need, tablet } => Begun::Obeyed(copy(alloc, region, &need, tablet)),
-        Command::Deliver(deliveries) => Begun::Obeyed(deliver(alloc, region, workers, deliveries)),
+        Command::Deliver(deliveries) => Begun::Obeyed(deliver(
+            rt, alloc, region, workers, deliveries,
+        )),
         Command::Get(keys) => Begun::Obeyed(get(alloc, region, &keys)),
         Command::Lose { tablet } => Begun::Obeyed(lose(region, tablet)),
         Command::Marks => Begun::Obeyed(shown(marks_reply(alloc, region.marks()))),
@@ -125,11 +148,17 @@ fn obey(alloc: Global, region: &mut Region, workers: usize, command: Command) ->
 }
 
 // One round of the deliveries.
-fn deliver(alloc: Global, region: &mut Region, workers: usize, deliveries: Vec<Delivery>) -> Reply
+fn deliver<R: Threads + Sync>(
+    rt: &R,
+    alloc: Global,
+    region: &mut Region,
+    workers: usize,
+    deliveries: Vec<Delivery>,
+) -> Reply
     requires workers { (1 ≤ workers) × (workers ≤ most_workers) }
     ensures { Obeys (serving region.old) (asking deliveries.items) (serving region.new) result }
 {
-    match region.round(deliveries, workers, &Open) {
+    match region.round(rt, deliveries, workers, &Open) {
         Ok(round) => Reply::Changed(round.changed),
         Err(RoundFault::Memory) => Reply::Refused(Refusal::Memory),
         Err(fault) => match fault_reply(alloc, &fault) {

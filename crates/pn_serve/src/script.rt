@@ -12,6 +12,7 @@ use crate::script::turns::{Next, Run};
 use pn_join::NoMemory;
 use pn_line::{Sink, Source, WriteFault};
 use std::alloc::Global;
+use std::thread::Threads;
 use thiserror::Error;
 
 /// How many lines of a script are answered.
@@ -60,7 +61,8 @@ impl From<NoMemory> for RunFault {
 
 /// Answers the lines of a script until its end, each by one reply, over a new region, and writes each reply
 /// before it waits for more input.
-pub fn run<S: Source, W: Sink>(
+pub fn run<R: Threads + Sync, S: Source, W: Sink>(
+    rt: &R,
     alloc: Global,
     input: &mut S,
     output: &mut W,
@@ -72,10 +74,10 @@ pub fn run<S: Source, W: Sink>(
 {
     let mut run = Run::new(alloc, settings)?;
     'lines: for _turn in 0..MOST_LINES {
-        match run.turn(input, output)? {
+        match run.turn(rt, input, output)? {
             Next::Line => {}
             Next::End(counts) => return Ok(counts),
         }
     }
-    run.finish(input, output)
+    run.finish(rt, input, output)
 }

@@ -7,6 +7,7 @@ use std::alloc::Global;
 use std::io;
 use std::io::BufReader;
 use std::process::ExitCode;
+use std::thread::Threads;
 
 /// How many bytes of the script are read at a time.
 const INPUT_ROOM: usize = 65_536;
@@ -22,12 +23,14 @@ fn main(rt: HostRuntime) -> ExitCode {
     }
 }
 
-fn answer_input(rt: &(impl AllocGlobal + Input + Print)) -> Result<Counts, RunFault> {
+fn answer_input(
+    rt: &(impl AllocGlobal + Input + Print + Threads + Sync),
+) -> Result<Counts, RunFault> {
     let Ok(mut input) = BufReader::with_capacity(rt.alloc(), INPUT_ROOM, rt.reader()) else {
         return Err(RunFault::Memory);
     };
     let settings = one_tablet(rt.alloc());
-    run(rt.alloc(), &mut input, &mut io::writer(rt), settings)
+    run(rt, rt.alloc(), &mut input, &mut io::writer(rt), settings)
 }
 
 // One tablet for all keys, and one worker.

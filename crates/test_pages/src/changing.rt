@@ -1,11 +1,12 @@
 //! Views whose tablets change between two reads.
 
-use crate::given::{keys, layout, lines, query, tablets, told};
+use crate::given::{lines, query, tablets, told};
 use crate::views::Moments;
 use pn_scan::{get, page};
 use pn_tablet::Layout;
 use std::alloc::Global;
 use std::test::Fail;
+use test_given::{keys, layout};
 
 // A view that finds the records of one list at the first read, and those of the other at each later one.
 fn moments(alloc: Global, layout: Layout, first: &[&str], later: &[&str]) -> Result<Moments, Fail> {

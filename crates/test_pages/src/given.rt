@@ -8,36 +8,18 @@ use pn_tablet::{Layout, Range, TabletOp, TabletState};
 use serde_json::Value;
 use std::alloc::Global;
 use std::test::Fail;
-
-pub(crate) fn keys(alloc: Global, texts: &[&str]) -> Result<Vec<Key>, Fail> {
-    let mut keys = Vec::with_capacity(alloc, texts.len())?;
-    for text in texts {
-        keys.push(Key::of(alloc, text)?)?;
-    }
-    Ok(keys)
-}
-
-pub(crate) fn layout(alloc: Global, bounds: &[&str]) -> Result<Layout, Fail> {
-    Ok(Layout::new(keys(alloc, bounds)?)?)
-}
+use test_given::{image_line, layout};
 
 /// The query of this text.
 pub(crate) fn query(alloc: Global, text: &str) -> Result<Query, Fail> {
     Ok(read_query(alloc, &Value::from_str(alloc, text)?)?)
 }
 
-/// The line of an image with one field.
-pub(crate) fn line(alloc: Global, key: &str, text: &str) -> Result<String, Fail> {
-    Ok(format!(in alloc;
-        "{{\"fields\":{{\"v\":\"{text}\"}},\"key\":\"{key}\",\"master\":\"w\",\"version\":[1,0]}}"
-    )?)
-}
-
 /// The lines of an image at each key, all of one version.
 pub(crate) fn lines(alloc: Global, keys: &[&str]) -> Result<Vec<String>, Fail> {
     let mut lines = Vec::with_capacity(alloc, keys.len())?;
     for key in keys {
-        lines.push(line(alloc, key, "x")?)?;
+        lines.push(image_line(alloc, key)?)?;
     }
     Ok(lines)
 }

@@ -1,6 +1,6 @@
 //! Tablets, layouts and queries from seeds, beside the slow program.
 
-use crate::given::{keys, push_row, query, records_in, view};
+use crate::given::{push_row, query, records_in, view};
 use crate::slow::{Asked, rows_of};
 use crate::views::Moments;
 use pn_scan::{Query, Row, get, page};
@@ -9,6 +9,7 @@ use rand_core::utils::NextWord;
 use rand_pcg::Pcg32;
 use std::alloc::Global;
 use std::test::Fail;
+use test_given::keys;
 
 const KEYS: [&str; 8] = ["a", "a ", "aa", "b", "c", "ca", "d", "é"];
 

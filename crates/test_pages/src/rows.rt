@@ -1,11 +1,13 @@
 //! Worked rows of pages, conditions and gets.
 
-use crate::given::{cells_told, fault_told, keys, layout, lines, query, tablets, told, view};
+use crate::given::{cells_told, fault_told, lines, query, tablets, told, view};
 use crate::views::Moments;
 use pn_record::{Key, Version};
 use pn_scan::{ScanFault, View, get, page, read_at_least};
 use std::alloc::Global;
+use std::process::Abort;
 use std::test::Fail;
+use test_given::{keys, layout};
 
 /// Two contents of one key at one version, and a key without fields.
 const CONFLICT: [&str; 3] = [
@@ -35,12 +37,26 @@ fn refusal_told<V: View>(alloc: Global, view: &mut V, text: &str) -> Result<Stri
     }
 }
 
+// Each query shows the page beside it.
+fn assert_pages<V: View>(
+    rt: &impl Abort,
+    alloc: Global,
+    view: &mut V,
+    pages: &[(&str, &str)],
+) -> Result<(), Fail> {
+    for (text, want) in pages {
+        let told = page_told(alloc, view, text)?;
+        assert_eq!(rt; told.as_str(), *want, "at {text}");
+    }
+    Ok(())
+}
+
 #[test]
 fn a_continuation_comes_exactly_where_there_is_more(rt: HostRuntime) -> Result<(), Fail> {
     let alloc = rt.alloc();
     let lines = lines(alloc, &["j", "k", "l", "m", "n"])?;
     let mut view = view(alloc, &["m"], &lines)?;
-    for (text, want) in [
+    let pages = [
         ("{\"limit\":5}", "j:one k:one l:one m:one n:one "),
         ("{\"limit\":2}", "j:one k:one then k"),
         ("{\"limit\":2,\"after\":\"k\"}", "l:one m:one then m"),
@@ -52,21 +68,15 @@ fn a_continuation_comes_exactly_where_there_is_more(rt: HostRuntime) -> Result<(
             "{\"from\":\"k\",\"after\":\"k\",\"to\":\"n\"}",
             "l:one m:one ",
         ),
-    ] {
-        assert_eq!(rt;
-            page_told(alloc, &mut view, text)?.as_str(),
-            want,
-            "at {text}"
-        );
-    }
-    Ok(())
+    ];
+    assert_pages(&rt, alloc, &mut view, &pages)
 }
 
 #[test]
 fn one_content_meets_all_conditions_and_all_are_shown(rt: HostRuntime) -> Result<(), Fail> {
     let alloc = rt.alloc();
     let mut view = view(alloc, &[], &owned(alloc, &CONFLICT)?)?;
-    for (text, want) in [
+    let pages = [
         ("{}", "k:conflict n:one "),
         ("{\"where\":[[\"eq\",\"v\",\"y\"]]}", "k:conflict "),
         ("{\"where\":[[\"has\",\"v\"]]}", "k:conflict "),
@@ -80,14 +90,8 @@ fn one_content_meets_all_conditions_and_all_are_shown(rt: HostRuntime) -> Result
             "k:conflict ",
         ),
         ("{\"where\":[[\"prefix\",\"v\",\"xx\"]]}", ""),
-    ] {
-        assert_eq!(rt;
-            page_told(alloc, &mut view, text)?.as_str(),
-            want,
-            "at {text}"
-        );
-    }
-    Ok(())
+    ];
+    assert_pages(&rt, alloc, &mut view, &pages)
 }
 
 #[test]
@@ -151,15 +155,11 @@ fn a_full_page_is_refused_by_the_next_tablet(rt: HostRuntime) -> Result<(), Fail
     assert_eq!(rt; asks, 2);
     assert_eq!(rt; rooms[0], 6);
     assert_eq!(rt; rooms[1], 1);
-    assert_eq!(rt;
-        page_told(alloc, &mut view, "{\"limit\":4}")?.as_str(),
-        "a:one b:one c:one d:one then d"
-    );
-    assert_eq!(rt;
-        page_told(alloc, &mut view, "{\"to\":\"m\"}")?.as_str(),
-        "a:one b:one c:one d:one e:one "
-    );
-    Ok(())
+    let pages = [
+        ("{\"limit\":4}", "a:one b:one c:one d:one then d"),
+        ("{\"to\":\"m\"}", "a:one b:one c:one d:one e:one "),
+    ];
+    assert_pages(&rt, alloc, &mut view, &pages)
 }
 
 #[test]

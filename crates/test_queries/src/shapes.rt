@@ -4,6 +4,7 @@ use pn_json::{begin_line, finish_line};
 use pn_scan::{Query, QueryFault, query_value, read_query, write_query};
 use serde_json::Value;
 use std::alloc::Global;
+use std::process::Abort;
 use std::test::Fail;
 
 pub(crate) fn read(alloc: Global, text: &str) -> Result<Query, Fail> {
@@ -75,9 +76,18 @@ fn a_line_has_the_text_of_the_value(rt: HostRuntime) -> Result<(), Fail> {
     Ok(())
 }
 
+// Each value has not the shape of a query.
+fn assert_shapeless(rt: &impl Abort, alloc: Global, texts: &[&str]) -> Result<(), Fail> {
+    for text in texts {
+        let fault = fault_of(alloc, text)?;
+        assert_eq!(rt; fault, Some(QueryFault::BadShape), "at {text}");
+    }
+    Ok(())
+}
+
 #[test]
 fn other_members_are_of_the_wrong_shape(rt: HostRuntime) -> Result<(), Fail> {
-    for text in [
+    let texts = [
         "null",
         "7",
         "[]",
@@ -95,14 +105,8 @@ fn other_members_are_of_the_wrong_shape(rt: HostRuntime) -> Result<(), Fail> {
         "{\"where\":null}",
         "{\"where\":{}}",
         "{\"where\":\"has\"}",
-    ] {
-        assert_eq!(rt;
-            fault_of(rt.alloc(), text)?,
-            Some(QueryFault::BadShape),
-            "at {text}"
-        );
-    }
-    Ok(())
+    ];
+    assert_shapeless(&rt, rt.alloc(), &texts)
 }
 
 #[test]
@@ -127,30 +131,20 @@ fn other_conditions_are_of_the_wrong_shape(rt: HostRuntime) -> Result<(), Fail> 
         "[7,\"v\"]",
     ] {
         let text = format!(in alloc; "{{\"where\":[[\"has\",\"v\"],{condition}]}}")?;
-        assert_eq!(rt;
-            fault_of(alloc, text.as_str())?,
-            Some(QueryFault::BadShape),
-            "at {text}"
-        );
+        assert_shapeless(&rt, alloc, &[text.as_str()])?;
     }
     Ok(())
 }
 
 #[test]
 fn shapes_come_before_ranges(rt: HostRuntime) -> Result<(), Fail> {
-    for text in [
+    let texts = [
         "{\"after\":\"\",\"x\":1}",
         "{\"from\":\"\",\"limit\":0,\"where\":null}",
         "{\"limit\":1001,\"to\":7}",
         "{\"where\":[[\"has\",\"\"],[\"has\"]]}",
-    ] {
-        assert_eq!(rt;
-            fault_of(rt.alloc(), text)?,
-            Some(QueryFault::BadShape),
-            "at {text}"
-        );
-    }
-    Ok(())
+    ];
+    assert_shapeless(&rt, rt.alloc(), &texts)
 }
 
 #[test]

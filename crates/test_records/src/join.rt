@@ -4,4 +4,5 @@ mod leaves;
 mod marks;
 mod mixed;
 mod names;
+mod refused;
 mod tables;

@@ -6,6 +6,7 @@ use pn_line::{FailingSource, InMemory, Source};
 use pn_serve::{Counts, RunFault, run};
 use std::process::Abort;
 use std::test::Fail;
+use std::thread::Threads;
 use test_io::{Pieces, Stop, Stopping};
 
 #[test]
@@ -34,13 +35,19 @@ fn a_source_of_known_bytes_that_fails_leaves_the_replies_to_whole_lines(
 }
 
 // Runs the row over a source that fails after so many bytes: the replies to the lines that were whole are written.
-fn assert_whole_lines<R: Abort + AllocGlobal, S: Source + Drop>(
+fn assert_whole_lines<R: Abort + AllocGlobal + Threads + Sync, S: Source + Drop>(
     rt: &R,
     mut input: S,
     shown: usize,
 ) -> Result<(), Fail> {
     let mut output = Vec::new(rt.alloc());
-    let ended = run(rt.alloc(), &mut input, &mut output, one_tablet(rt.alloc()));
+    let ended = run(
+        rt,
+        rt.alloc(),
+        &mut input,
+        &mut output,
+        one_tablet(rt.alloc()),
+    );
     assert_eq!(rt; ended, Err(RunFault::Read), "after {shown} bytes");
     let replies = first_lines(
         rt.alloc(),
@@ -61,9 +68,12 @@ fn newlines_in(text: &[u8], bytes: usize) -> usize {
 }
 
 // How the row ends with this writer.
-fn ended<R: AllocGlobal>(rt: &R, output: &mut Stopping) -> Result<Counts, RunFault> {
+fn ended<R: AllocGlobal + Threads + Sync>(
+    rt: &R,
+    output: &mut Stopping,
+) -> Result<Counts, RunFault> {
     let mut input = InMemory::new(FIRST_RUN.script.as_bytes());
-    run(rt.alloc(), &mut input, output, one_tablet(rt.alloc()))
+    run(rt, rt.alloc(), &mut input, output, one_tablet(rt.alloc()))
 }
 
 #[test]

@@ -7,6 +7,7 @@ use pn_line::InMemory;
 use pn_serve::{Counts, RunFault, run};
 use std::alloc::Global;
 use std::test::Fail;
+use std::thread::Threads;
 
 const SCAN: &str = r#"{"do":"scan","query":{}}
 "#;
@@ -24,9 +25,18 @@ const MILLION_REPLIES: usize = 36_000_000;
 const MILLION_MARKS: usize = 13_000_000;
 
 // How a script of equal lines ends, and how many bytes are written.
-fn tallied<R: AllocGlobal>(rt: &R, mut input: Repeated) -> (Result<Counts, RunFault>, usize) {
+fn tallied<R: AllocGlobal + Threads + Sync>(
+    rt: &R,
+    mut input: Repeated,
+) -> (Result<Counts, RunFault>, usize) {
     let mut output = Tally { bytes: 0 };
-    let ended = run(rt.alloc(), &mut input, &mut output, one_tablet(rt.alloc()));
+    let ended = run(
+        rt,
+        rt.alloc(),
+        &mut input,
+        &mut output,
+        one_tablet(rt.alloc()),
+    );
     (ended, output.bytes)
 }
 
@@ -49,17 +59,21 @@ fn a_line_after_a_million_is_one_too_many(rt: HostRuntime) {
 }
 
 // The replies to a scan that begins with so many spaces, and to another scan.
-fn replies_behind(alloc: Global, spaces: usize) -> Result<Vec<u8>, Fail> {
+fn replies_behind(
+    rt: &(impl Threads + Sync),
+    alloc: Global,
+    spaces: usize,
+) -> Result<Vec<u8>, Fail> {
     let mut script = vec![in alloc; b' '; spaces]?;
     script.extend_from_slice(SCAN.as_bytes())?;
     script.extend_from_slice(SCAN.as_bytes())?;
-    Ok(replies_of(alloc, &mut InMemory::new(&script))?)
+    Ok(replies_of(rt, alloc, &mut InMemory::new(&script))?)
 }
 
 #[test]
 fn a_line_of_one_byte_too_many_is_skipped(rt: HostRuntime) -> Result<(), Fail> {
     for (bytes, reply) in [(65_536, NO_ROWS), (65_537, TOO_LONG), (100_000, TOO_LONG)] {
-        let replies = replies_behind(rt.alloc(), bytes - 24)?;
+        let replies = replies_behind(&rt, rt.alloc(), bytes - 24)?;
         let wanted = format!(in rt.alloc(); "{reply}{NO_ROWS}")?;
         assert_eq!(rt; replies.as_slice(), wanted.as_bytes(), "{bytes} bytes");
     }
@@ -71,6 +85,7 @@ fn a_line_without_end_ends_the_run(rt: HostRuntime) -> Result<(), Fail> {
     let block = vec![in rt.alloc(); b' '; 1_000_000]?;
     let mut output = Vec::new(rt.alloc());
     let ended = run(
+        &rt,
         rt.alloc(),
         &mut Endless::new(SCAN, &block),
         &mut output,

@@ -13,6 +13,7 @@ use pn_serve::{RunFault, Settings, run};
 use std::process::Abort;
 use std::str;
 use std::test::Fail;
+use std::thread::Threads;
 
 const NO_MEMORY: &str = r#"{"error":"memory"}"#;
 
@@ -56,13 +57,14 @@ fn a_round_over_two_tablets_twice_over(rt: HostRuntime) -> Result<(), Fail> {
 
 // Sends each line of a row twice: one has the row's reply and the other that of a retried line, but a single
 // line may run out of memory.
-fn assert_retried<R: Abort + AllocGlobal>(
+fn assert_retried<R: Abort + AllocGlobal + Threads + Sync>(
     rt: &R,
     row: Row,
     settings: Settings,
 ) -> Result<(), Fail> {
     let mut output = Room::new();
     let ended = run(
+        rt,
         rt.alloc(),
         &mut Twice::new(row.script),
         &mut output,

@@ -29,7 +29,7 @@ fn split_tablets_answer_alike_with_any_number_of_workers(rt: HostRuntime) -> Res
     for workers in [1, 2, 16] {
         let settings = settings(rt.alloc(), &["m"], workers)?;
         let mut input = InMemory::new(SPLIT_TABLETS.as_bytes());
-        let replies = replies_with(rt.alloc(), &mut input, settings)?;
+        let replies = replies_with(&rt, rt.alloc(), &mut input, settings)?;
         assert_eq!(rt;
             replies.as_slice(),
             SPLIT_REPLIES.as_bytes(),

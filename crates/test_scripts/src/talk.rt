@@ -66,7 +66,13 @@ fn a_reply_is_out_before_the_next_line_is_waited_for(rt: HostRuntime) -> Result<
             heard: &heard,
         };
         let mut output = Hearing { heard: &heard };
-        let counts = run(rt.alloc(), &mut input, &mut output, one_tablet(rt.alloc()))?;
+        let counts = run(
+            &rt,
+            rt.alloc(),
+            &mut input,
+            &mut output,
+            one_tablet(rt.alloc()),
+        )?;
         assert_eq!(rt; counts.lines, row.replies.lines().count() as u64);
         assert_eq!(rt; heard.get(), row.replies.lines().count());
     }

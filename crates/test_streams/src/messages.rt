@@ -3,6 +3,7 @@ use pn_join::{LAST_POSITION, Name, StreamName};
 use pn_record::{ImageFault, Member};
 use pn_stream::{Delivery, StreamFault, read_message};
 use std::alloc::Global;
+use std::process::Abort;
 use std::test::Fail;
 
 /// Has 78 bytes, the newline too, where the position has one digit.
@@ -91,11 +92,17 @@ fn messages_are_read(rt: HostRuntime) -> Result<(), Fail> {
     Ok(())
 }
 
+// Each line is refused for the fault beside it, or is a message where there is none.
+fn assert_faults(rt: &impl Abort, alloc: Global, rows: &[(&[u8], Option<ImageFault>)]) {
+    for (line, fault) in rows {
+        assert_eq!(rt; read_message(alloc, line).err(), *fault);
+    }
+}
+
 #[test]
-fn the_first_fault_of_a_message_is_named(rt: HostRuntime) -> Result<(), Fail> {
+fn the_first_wrong_shape_of_a_message_is_named(rt: HostRuntime) {
     let shape = |member| Some(ImageFault::BadShape(member));
-    let range = |member| Some(ImageFault::OutOfRange(member));
-    let rows: [(&[u8], Option<ImageFault>); 14] = [
+    let rows: [(&[u8], Option<ImageFault>); 10] = [
         (b"", Some(ImageFault::NotJson)),
         (b"[]", shape(Member::Whole)),
         (b"{}", shape(Member::At)),
@@ -112,6 +119,14 @@ fn the_first_fault_of_a_message_is_named(rt: HostRuntime) -> Result<(), Fail> {
             br#"{"at":0,"image":{"deleted":true,"key":"","master":"w","version":[1,0]},"more":0}"#,
             shape(Member::Other),
         ),
+    ];
+    assert_faults(&rt, rt.alloc(), &rows);
+}
+
+#[test]
+fn the_first_broken_limit_of_a_message_is_named(rt: HostRuntime) {
+    let range = |member| Some(ImageFault::OutOfRange(member));
+    let rows: [(&[u8], Option<ImageFault>); 4] = [
         (
             br#"{"at":0,"image":{"deleted":true,"key":"","master":"w","version":[1,0]}}"#,
             range(Member::At),
@@ -129,10 +144,7 @@ fn the_first_fault_of_a_message_is_named(rt: HostRuntime) -> Result<(), Fail> {
             None,
         ),
     ];
-    for (line, fault) in rows {
-        assert_eq!(rt; read_message(rt.alloc(), line).err(), fault);
-    }
-    Ok(())
+    assert_faults(&rt, rt.alloc(), &rows);
 }
 
 #[test]

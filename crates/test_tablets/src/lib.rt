@@ -15,3 +15,5 @@ mod recovery;
 mod region;
 #[cfg(test)]
 mod tablet;
+#[cfg(test)]
+mod workers;

@@ -2,48 +2,64 @@
 
 use pn_apply::{Gate, Slot};
 use pn_tablet::{Change, OpFault, TabletOp, TabletState};
-use std::cell::Cell;
 use std::marker::Model;
+use std::sync::atomic::{AtomicU64, Ordering};
 
-/// How many tablets were entered and how many were worked, each in rising order from 0, and how many calls
-/// came out of that order: a tablet is entered before it is worked, and worked once it was entered.
+/// Which of 64 tablets were entered and which were worked, a bit each, and how many calls came out of order: a tablet is entered
+/// once, and then worked once. One of the tablets may refuse its work for want of memory.
 #[derive(Drop)]
 pub(crate) struct Notes {
-    entered: Cell<usize>,
-    worked: Cell<usize>,
-    others: Cell<usize>,
+    refusing: Option<usize>,
+    entered: AtomicU64,
+    worked: AtomicU64,
+    others: AtomicU64,
 }
 
 impl Notes {
     /// Nobody has come yet.
     pub(crate) fn new() -> Notes {
+        Notes::refusing(None)
+    }
+
+    /// The same, where memory runs out at this tablet.
+    pub(crate) fn refusing(tablet: Option<usize>) -> Notes {
         Notes {
-            entered: Cell::new(0),
-            worked: Cell::new(0),
-            others: Cell::new(0),
+            refusing: tablet,
+            entered: AtomicU64::new(0),
+            worked: AtomicU64::new(0),
+            others: AtomicU64::new(0),
         }
     }
 
-    /// How many were entered, how many were worked, and how many calls came out of order.
-    pub(crate) fn told(&self) -> (usize, usize, usize) {
-        (self.entered.get(), self.worked.get(), self.others.get())
+    /// Which tablets were entered and which were worked, a bit each, and how many calls came out of order.
+    pub(crate) fn told(&self) -> (u64, u64, u64) {
+        (
+            self.entered.load(Ordering::SeqCst),
+            self.worked.load(Ordering::SeqCst),
+            self.others.load(Ordering::SeqCst),
+        )
     }
 
     fn work(&self, tablet: usize) {
-        if tablet == self.worked.get() && tablet < self.entered.get() {
-            self.worked.set(tablet.wrapping_add(1));
-        } else {
-            self.others.set(self.others.get().wrapping_add(1));
+        let entered = self.entered.load(Ordering::SeqCst) & bit(tablet) != 0;
+        let worked = self.worked.fetch_or(bit(tablet), Ordering::SeqCst) & bit(tablet) != 0;
+        if worked || !entered {
+            self.others.fetch_add(1, Ordering::SeqCst);
         }
     }
 }
 
+// The bit of a tablet.
+fn bit(tablet: usize) -> u64 {
+    1u64.wrapping_shl((tablet % 64) as u32)
+}
+
 impl Gate for Notes {
     fn enter(&self, tablet: usize) {
-        if tablet == self.entered.get() && tablet >= self.worked.get() {
-            self.entered.set(tablet.wrapping_add(1));
-        } else {
-            self.others.set(self.others.get().wrapping_add(1));
+        let entered = self.entered.fetch_or(bit(tablet), Ordering::SeqCst) & bit(tablet) != 0;
+        let worked = self.worked.load(Ordering::SeqCst) & bit(tablet) != 0;
+        if entered || worked {
+            self.others.fetch_add(1, Ordering::SeqCst);
         }
     }
 }
@@ -72,6 +88,9 @@ impl Slot for Noted<'_> {
 
     fn apply(&mut self, op: &TabletOp) -> Result<Vec<Change>, OpFault> {
         self.notes.work(self.tablet);
+        if self.notes.refusing == Some(self.tablet) {
+            return Err(OpFault::Memory);
+        }
         self.state.apply(op)
     }
 }

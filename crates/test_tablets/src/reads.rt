@@ -7,13 +7,14 @@ use pn_region::Region;
 use pn_scan::{Page, Query, ScanFault};
 use std::alloc::Global;
 use std::test::Fail;
+use std::thread::Threads;
 
 // A region with the records l, m and n, whose second tablet begins at m.
-fn region(alloc: Global) -> Result<Region, Fail> {
+fn region(rt: &(impl Threads + Sync), alloc: Global) -> Result<Region, Fail> {
     let mut region = Region::new(alloc, layout(alloc, &["m"])?)?;
     let mut deliveries = Vec::new(alloc);
     deliveries.push(delivery(alloc, "east", 1, &["l", "m", "n"])?)?;
-    region.round(deliveries, 1, &Open)?;
+    region.round(rt, deliveries, 1, &Open)?;
     Ok(region)
 }
 
@@ -29,7 +30,7 @@ fn told(alloc: Global, page: &Page) -> Result<String, Fail> {
 #[test]
 fn a_read_is_behind_where_a_later_version_is_asked_for(rt: HostRuntime) -> Result<(), Fail> {
     let alloc = rt.alloc();
-    let region = region(alloc)?;
+    let region = region(&rt, alloc)?;
     let key = Key::of(alloc, "n")?;
     assert!(rt; region.read(&key, Version::new(1, 0))?.is_some());
     assert!(rt; region.read(&Key::of(alloc, "a")?, None)?.is_none());
@@ -45,7 +46,7 @@ fn a_read_is_behind_where_a_later_version_is_asked_for(rt: HostRuntime) -> Resul
 #[test]
 fn a_get_keeps_the_order_that_was_asked_for(rt: HostRuntime) -> Result<(), Fail> {
     let alloc = rt.alloc();
-    let region = region(alloc)?;
+    let region = region(&rt, alloc)?;
     let mut there = String::new(alloc);
     for cell in &region.get(&keys(alloc, &["n", "a", "l", "n"])?)? {
         there.push_str(if cell.is_some() { "+" } else { "-" })?;
@@ -57,7 +58,7 @@ fn a_get_keeps_the_order_that_was_asked_for(rt: HostRuntime) -> Result<(), Fail>
 #[test]
 fn a_scan_goes_on_from_one_tablet_into_the_next(rt: HostRuntime) -> Result<(), Fail> {
     let alloc = rt.alloc();
-    let region = region(alloc)?;
+    let region = region(&rt, alloc)?;
     let query = Query::new(None, None, None, Vec::new(alloc), 2).ok_or(KeyFault::OutOfRange)?;
     let first = region.scan(&query)?;
     assert_eq!(rt; told(alloc, &first)?.as_str(), "lm");

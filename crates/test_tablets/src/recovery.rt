@@ -120,7 +120,9 @@ fn a_copy_of_another_range_is_refused(rt: HostRuntime) -> Result<(), Fail> {
         adopted(alloc, &mut halves, sixth(alloc)?)?.as_str(),
         "wrong range"
     );
-    let second = Region::new(alloc, layout(alloc, &["m"])?)?.copy(1, &Marks::new(alloc))?;
+    let other = Region::new(alloc, layout(alloc, &["m"])?)?;
+    assert!(rt; other.layout().count() == 2);
+    let second = other.copy(1, &Marks::new(alloc))?;
     assert_eq!(rt; adopted(alloc, &mut halves, second)?.as_str(), "1");
     Ok(())
 }
@@ -171,6 +173,7 @@ fn a_loss_is_one_tablets_alone(rt: HostRuntime) -> Result<(), Fail> {
         &mut halves,
         delivery(alloc, "east", 1, &["l", "m", "n"])?,
     )?;
+    assert!(rt; halves.layout().count() == 2);
     halves.lose(1);
     assert!(rt; halves.read(&Key::of(alloc, "l")?, None)?.is_some());
     assert!(rt;

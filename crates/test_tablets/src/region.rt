@@ -10,6 +10,7 @@ use pn_region::{Region, RoundFault, next_marks};
 use pn_stream::Delivery;
 use std::alloc::Global;
 use std::test::Fail;
+use std::thread::Threads;
 
 /// Each stream with its position.
 pub(crate) fn text_of(alloc: Global, marks: &Marks) -> Result<String, Fail> {
@@ -94,18 +95,23 @@ fn region(alloc: Global) -> Result<Region, Fail> {
 }
 
 // How many records a round of one delivery from the start of a stream changes.
-fn changed(alloc: Global, region: &mut Region, keys: &[&str]) -> Result<u64, Fail> {
+fn changed(
+    rt: &(impl Threads + Sync),
+    alloc: Global,
+    region: &mut Region,
+    keys: &[&str],
+) -> Result<u64, Fail> {
     let mut deliveries = Vec::new(alloc);
     deliveries.push(delivery(alloc, "east", 1, keys)?)?;
-    Ok(region.round(deliveries, 2, &Open)?.changed)
+    Ok(region.round(rt, deliveries, 2, &Open)?.changed)
 }
 
 #[test]
 fn a_round_that_comes_again_changes_nothing(rt: HostRuntime) -> Result<(), Fail> {
     let alloc = rt.alloc();
     let mut region = region(alloc)?;
-    assert_eq!(rt; changed(alloc, &mut region, &["l", "m"])?, 2);
-    assert_eq!(rt; changed(alloc, &mut region, &["l", "m"])?, 0);
+    assert_eq!(rt; changed(&rt, alloc, &mut region, &["l", "m"])?, 2);
+    assert_eq!(rt; changed(&rt, alloc, &mut region, &["l", "m"])?, 0);
     assert_eq!(rt; text_of(alloc, region.marks())?.as_str(), "east:2 ");
     Ok(())
 }
@@ -114,8 +120,8 @@ fn a_round_that_comes_again_changes_nothing(rt: HostRuntime) -> Result<(), Fail>
 fn the_new_tail_of_an_overlap_is_taken(rt: HostRuntime) -> Result<(), Fail> {
     let alloc = rt.alloc();
     let mut region = region(alloc)?;
-    assert_eq!(rt; changed(alloc, &mut region, &["m"])?, 1);
-    assert_eq!(rt; changed(alloc, &mut region, &["m", "l", "n"])?, 2);
+    assert_eq!(rt; changed(&rt, alloc, &mut region, &["m"])?, 1);
+    assert_eq!(rt; changed(&rt, alloc, &mut region, &["m", "l", "n"])?, 2);
     assert_eq!(rt; text_of(alloc, region.marks())?.as_str(), "east:3 ");
     Ok(())
 }
@@ -124,7 +130,7 @@ fn the_new_tail_of_an_overlap_is_taken(rt: HostRuntime) -> Result<(), Fail> {
 fn each_tablet_has_the_records_of_its_range(rt: HostRuntime) -> Result<(), Fail> {
     let alloc = rt.alloc();
     let mut region = region(alloc)?;
-    assert_eq!(rt; changed(alloc, &mut region, &["l", "m", "n"])?, 3);
+    assert_eq!(rt; changed(&rt, alloc, &mut region, &["l", "m", "n"])?, 3);
     assert!(rt; region.layout().count() == 2);
     assert_eq!(rt; region.tablet(0).cells().len(), 1);
     assert_eq!(rt; region.tablet(1).cells().len(), 2);

@@ -20,7 +20,7 @@ pub fn count_in<T>(ends: &mut Vec<usize>, place: usize, more: usize, end: usize,
 }
 
 /// Raises the numbers from a place on.
-fn raise_from(ends: &mut Vec<usize>, from: usize, by: usize)
+pub fn raise_from(ends: &mut Vec<usize>, from: usize, by: usize)
     requires { FitFrom from by ends.old.items }
     ensures items { ends.new.items ≡ raised_from from by ends.old.items }
     ensures len { vec_len ends.new ≡ vec_len ends.old }

@@ -1,9 +1,11 @@
 //! Leaves: short lists of entries, which tables share.
 
-ghost use Rattle.std.specs.Prelude.{◌≡◌, [], IfOk, OnErr};
+ghost use Rattle.std.specs.Prelude.{◌≡◌, ◌≤◌, [], length, IfOk, OnOk, OnErr};
+ghost use Rattle.pn_join.specs.Edits.{IsReady};
 ghost use Rattle.pn_join.specs.LeafEntries.{leaf_entries, leaves_of};
-ghost use Rattle.pn_join.specs.Leaves.{ends_below};
+ghost use Rattle.pn_join.specs.Leaves.{ends_below, most_in_leaf};
 
+use crate::table::single::MOST;
 use crate::{Dup, NoMemory};
 use std::alloc::Global;
 use std::mem;
@@ -59,6 +61,29 @@ impl<K: Dup, C: Dup> Leaf<K, C> {
                     copy
                 }
             },
+        }
+    }
+
+    /// Makes it ready: nobody shares it, and it has room for as many entries as a leaf may have. Its
+    /// entries stay, also where that is refused.
+    pub fn open(&mut self, alloc: Global) -> Result<(), NoMemory>
+        requires { length (leaf_entries self.old) ≤ most_in_leaf }
+        ensures same { leaf_entries self.new ≡ leaf_entries self.old }
+        ensures ready { OnOk result (IsReady self.new) }
+    {
+        let mut entries = self.take(alloc)?;
+        let room = entries.reserve(MOST.saturating_sub(entries.len()));
+        *self = Leaf::Own(entries);
+        Ok(room?)
+    }
+
+    /// Lets others share it, where there is memory for that.
+    pub fn close(&mut self, alloc: Global)
+        ensures { leaf_entries self.new ≡ leaf_entries self.old }
+    {
+        match mem::replace(self, Leaf::Own(Vec::new(alloc))) {
+            Leaf::Own(entries) => *self = Leaf::seal(alloc, entries),
+            Leaf::Shared(shared) => *self = Leaf::Shared(shared),
         }
     }
 

@@ -11,6 +11,9 @@ ghost use Rattle.pn_join.specs.PutInLeaves.{IsPutOf, ChangesOneLeaf};
 ghost use Rattle.pn_join.specs.RowChanges.{with_back};
 ghost use Rattle.pn_join.specs.Tables.{IsTable};
 
+mod room;
+mod together;
+
 use crate::table::ends::{copied, count_in};
 use crate::table::entries::Entries;
 use crate::table::leaf::{Leaf, shared};
@@ -141,11 +144,7 @@ impl<K: Ord + Dup, C: Join> Row<K, C> {
         ensures found { option_copied result ≡ find K.cmp key.now (all_entries self.now) }
         ensures is_valid { IfSome result (λ content. C.valid content.now) }
     {
-        let entries = self.entries_of(self.leaf_for(key));
-        match place_in(entries, key) {
-            Ok(place) => Some(&entries[place].1),
-            Err(_) => None,
-        }
+        self.get_in(self.leaf_for(key), key)
     }
 
     /// Walks all entries.

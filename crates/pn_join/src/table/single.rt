@@ -81,8 +81,7 @@ fn cut<T>(items: &mut Vec<T>, back: &mut Vec<T>)
     ensures some { (0 < length items.old.items) → 0 < length items.new.items }
 {
     if items.len() > MOST {
-        move_from(items, HALF, back);
-        back.reverse();
+        halve(items, back);
         items.shrink_to(MOST);
     }
 }
@@ -123,4 +122,36 @@ pub fn join_in_leaf<K: Ord + Dup, C: Join>(
     let back = join_in(alloc, &mut entries, key, content);
     *leaf = Leaf::seal(alloc, entries);
     back
+}
+
+/// Cuts off what a leaf has beyond half of what it may have. An error leaves its entries as they were.
+pub fn cut_leaf<K: Dup, C: Dup>(
+    alloc: Global,
+    leaf: &mut Leaf<K, C>,
+) -> Result<Vec<(K, C)>, NoMemory>
+    requires { IsLeaf (leaf_entries leaf.old) }
+    ensures whole { IfOk result (λ back. leaf_entries leaf.new ++ back.items ≡ leaf_entries leaf.old) }
+    ensures sizes { IfOk result (λ back. IsLeaf (leaf_entries leaf.new) × (length back.items ≤ most_in_leaf)) }
+    ensures err { OnErr result (leaf_entries leaf.new ≡ leaf_entries leaf.old) }
+{
+    let mut back = Vec::with_capacity(alloc, MOST - HALF)?;
+    let mut entries = leaf.take(alloc)?;
+    halve(&mut entries, &mut back);
+    *leaf = Leaf::seal(alloc, entries);
+    Ok(back)
+}
+
+/// Moves what there is beyond half of what a leaf may have to the other vector.
+fn halve<T>(items: &mut Vec<T>, back: &mut Vec<T>)
+    requires empty { back.old.items ≡ [] }
+    requires few { length items.old.items ≤ most_in_leaf + 1 }
+    requires room { length items.old.items ≤ vec_capacity back.old + 32 }
+    ensures whole { items.new.items ++ back.new.items ≡ items.old.items }
+    ensures sizes { (length items.new.items ≤ most_in_leaf) × (length back.new.items ≤ most_in_leaf) }
+    ensures some { (0 < length items.old.items) → 0 < length items.new.items }
+{
+    if items.len() > HALF {
+        move_from(items, HALF, back);
+        back.reverse();
+    }
 }

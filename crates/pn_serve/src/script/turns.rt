@@ -23,6 +23,7 @@ use pn_line::{LineBuffer, LineEnd, Outbox, Sink, Source, WriteFault, read_line};
 use pn_region::Region;
 use std::alloc::Global;
 use std::marker::Model;
+use std::thread::Threads;
 
 /// What a run has between two lines.
 #[derive(Drop)]
@@ -84,8 +85,9 @@ impl Run {
     }
 
     /// Reads a line and answers it. Where no further line is there to be read, all replies go out.
-    pub(crate) fn turn<S: Source, W: Sink>(
+    pub(crate) fn turn<R: Threads + Sync, S: Source, W: Sink>(
         &mut self,
+        rt: &R,
         input: &mut S,
         output: &mut W,
     ) -> Result<Next, RunFault>
@@ -103,14 +105,14 @@ impl Run {
         };
         match end {
             LineEnd::Newline { more } => {
-                self.answer_line(output)?;
+                self.answer_line(rt, output)?;
                 if !more {
                     self.outbox.flush(output)?;
                 }
                 Ok(Next::Line)
             }
             LineEnd::EndOfInput => {
-                let counts = self.close(output)?;
+                let counts = self.close(rt, output)?;
                 self.outbox.flush(output)?;
                 Ok(Next::End(counts))
             }
@@ -122,7 +124,11 @@ impl Run {
     }
 
     // Answers the line that was read: its reply waits or goes out, and it is counted.
-    fn answer_line<W: Sink>(&mut self, output: &mut W) -> Result<(), WriteFault>
+    fn answer_line<R: Threads + Sync, W: Sink>(
+        &mut self,
+        rt: &R,
+        output: &mut W,
+    ) -> Result<(), WriteFault>
         requires few { self.old.counts.lines < MOST_LINES }
         ensures ok { OnOk result (Answered self.old self.new (W.contents output.old) (W.contents output.new)) }
         ensures err { OnErr result (AnsweredInPart self.old self.new (W.contents output.old) (W.contents output.new)) }
@@ -130,7 +136,14 @@ impl Run {
     {
         let waiting = self.announced.take();
         let line = self.line.bytes();
-        let done = answer(self.alloc, &mut self.region, self.workers, waiting, line);
+        let done = answer(
+            rt,
+            self.alloc,
+            &mut self.region,
+            self.workers,
+            waiting,
+            line,
+        );
         let (reply, announced) = done;
         self.announced = announced;
         self.counts.lines += 1;
@@ -140,7 +153,11 @@ impl Run {
 
     // The input is at its end behind the part of a line that was read: what is left to reply waits or goes out.
     // All lines and refusals are counted.
-    fn close<W: Sink>(&mut self, output: &mut W) -> Result<Counts, WriteFault>
+    fn close<R: Threads + Sync, W: Sink>(
+        &mut self,
+        rt: &R,
+        output: &mut W,
+    ) -> Result<Counts, WriteFault>
         requires few { self.old.counts.lines ≤ MOST_LINES }
         ensures ok { IfOk result (λ counts. Closed self.old self.new (W.contents output.old) (W.contents output.new) counts) }
         ensures err { OnErr result (ClosedInPart self.old self.new (W.contents output.old) (W.contents output.new)) }
@@ -148,7 +165,14 @@ impl Run {
     {
         let announced = self.announced.take();
         let part = self.line.bytes();
-        let reply = end(self.alloc, &mut self.region, self.workers, announced, part);
+        let reply = end(
+            rt,
+            self.alloc,
+            &mut self.region,
+            self.workers,
+            announced,
+            part,
+        );
         let mut counts = self.counts;
         if !self.line.is_empty() {
             counts.lines += 1;
@@ -159,8 +183,9 @@ impl Run {
     }
 
     /// Sends all replies, and looks whether the input is at its end, where no more lines may be answered.
-    pub(crate) fn finish<S: Source, W: Sink>(
+    pub(crate) fn finish<R: Threads + Sync, S: Source, W: Sink>(
         &mut self,
+        rt: &R,
         input: &mut S,
         output: &mut W,
     ) -> Result<Counts, RunFault>
@@ -178,7 +203,7 @@ impl Run {
             return Err(RunFault::TooManyTurns);
         }
         self.line.start();
-        let counts = self.close(output)?;
+        let counts = self.close(rt, output)?;
         self.outbox.flush(output)?;
         Ok(counts)
     }

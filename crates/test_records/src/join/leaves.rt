@@ -1,20 +1,20 @@
 //! Tables of many leaves, joined with themselves and with others.
 
-use pn_join::{Dup, Entries, Highest, Join, Table};
+use pn_join::{Dup, Entries, Highest, Join, NoMemory, Table};
 use std::alloc::Global;
 use std::test::Fail;
 
-type Counts = Table<Highest, Highest>;
+pub type Counts = Table<Highest, Highest>;
 
 /// No entry, one, a full leaf, one more, and many leaves.
 const SIZES: [u64; 6] = [0, 1, 64, 65, 4_096, 4_097];
 
 /// The first key of the tables that others are joined to.
-const FIRST: u64 = 1_000_000;
+pub const FIRST: u64 = 1_000_000;
 
 /// Keys from the first on, each so much greater than the one before.
 #[derive(Clone, Copy)]
-struct Span {
+pub struct Span {
     first: u64,
     step: u64,
     count: u64,
@@ -26,12 +26,12 @@ impl Span {
     }
 }
 
-fn keys_from(first: u64, step: u64, count: u64) -> Span {
+pub fn keys_from(first: u64, step: u64, count: u64) -> Span {
     Span { first, step, count }
 }
 
 /// A table of these keys, each with itself as its content.
-fn counts(alloc: Global, keys: &Span) -> Result<Counts, Fail> {
+pub fn counts(alloc: Global, keys: &Span) -> Result<Counts, NoMemory> {
     let mut table = Counts::new(alloc);
     for place in 0..keys.count {
         let key = keys.key(place);
@@ -87,7 +87,7 @@ fn found_at(table: &Counts, keys: &Span, start: usize) -> bool {
 }
 
 /// Whether the table has these keys, one span after another, and is well cut.
-fn holds(table: &Counts, spans: &[Span]) -> bool {
+pub fn holds(table: &Counts, spans: &[Span]) -> bool {
     let mut start = 0_usize;
     for keys in spans {
         if !found_at(table, keys, start) {

@@ -4,6 +4,7 @@ use pn_record::{Key, Member, Version};
 use pn_serve::{Command, Part, Refusal, command_of};
 use pn_stream::Delivery;
 use std::alloc::Global;
+use std::process::Abort;
 use std::test::Fail;
 
 const DELIVER: &[u8] =
@@ -78,68 +79,60 @@ fn commands_are_read(rt: HostRuntime) -> Result<(), Fail> {
     Ok(())
 }
 
+// Each line is refused for the fault beside it.
+fn assert_refused(rt: &impl Abort, alloc: Global, lines: &[(&[u8], Refusal)]) {
+    for (line, refusal) in lines {
+        assert!(rt; command_of(alloc, line).err() == Some(*refusal));
+    }
+}
+
 #[test]
-fn names_the_first_fault(rt: HostRuntime) -> Result<(), Fail> {
-    let lines: [(&[u8], Refusal); 24] = [
-        (
-            br#"{"do":"adopt","lines":-1}"#,
-            Refusal::BadShape(Part::Lines),
-        ),
-        (
-            br#"{"do":"adopt","lines":0}"#,
-            Refusal::OutOfRange(Part::Lines),
-        ),
-        (
-            br#"{"do":"copy","need":{"east":"5"},"tablet":"0"}"#,
-            Refusal::BadShape(Part::Need),
-        ),
-        (
-            br#"{"do":"copy","need":{"EAST":5},"tablet":"0"}"#,
-            Refusal::BadShape(Part::Tablet),
-        ),
-        (
-            br#"{"do":"copy","need":{"EAST":5},"tablet":0}"#,
-            Refusal::OutOfRange(Part::Need),
-        ),
+fn names_the_first_fault(rt: HostRuntime) {
+    let other = Refusal::BadShape(Part::Other);
+    let scanned = br#"{"do":"scan","key":"k","query":{"limit":0}}"#;
+    let lines: [(&[u8], Refusal); 5] = [
         (br#""#, Refusal::NotJson),
         (br#"[]"#, Refusal::BadShape(Part::Whole)),
         (br#"{"do":"fly"}"#, Refusal::BadShape(Part::Do)),
+        (br#"{"do":"marks","key":"k"}"#, other),
+        (scanned, other),
+    ];
+    assert_refused(&rt, rt.alloc(), &lines);
+}
+
+#[test]
+fn names_the_first_fault_of_a_read(rt: HostRuntime) {
+    let shapeless = br#"{"do":"read","key":"","version":[1]}"#;
+    let no_key = br#"{"do":"read","key":"","version":[0,1]}"#;
+    let no_version = br#"{"do":"read","key":"k","version":[0,1]}"#;
+    let lines: [(&[u8], Refusal); 5] = [
         (br#"{"do":"read","key":7}"#, Refusal::BadShape(Part::Key)),
-        (
-            br#"{"do":"read","key":"","version":[1]}"#,
-            Refusal::BadShape(Part::Version),
-        ),
-        (
-            br#"{"do":"read","key":"","version":[0,1]}"#,
-            Refusal::OutOfRange(Part::Key),
-        ),
-        (
-            br#"{"do":"read","key":"k","version":[0,1]}"#,
-            Refusal::OutOfRange(Part::Version),
-        ),
-        (br#"{"do":"get","keys":"k"}"#, Refusal::BadShape(Part::Keys)),
-        (
-            br#"{"do":"get","keys":["",7]}"#,
-            Refusal::BadShape(Part::Keys),
-        ),
-        (
-            br#"{"do":"get","keys":[]}"#,
-            Refusal::OutOfRange(Part::Keys),
-        ),
-        (br#"{"do":"scan"}"#, Refusal::BadShape(Part::Query)),
-        (
-            br#"{"do":"scan","key":"k","query":{"limit":0}}"#,
-            Refusal::BadShape(Part::Other),
-        ),
-        (
-            br#"{"do":"scan","query":{"limit":0}}"#,
-            Refusal::OutOfRange(Part::Query),
-        ),
         (br#"{"do":"read","key":""}"#, Refusal::OutOfRange(Part::Key)),
-        (
-            br#"{"do":"marks","key":"k"}"#,
-            Refusal::BadShape(Part::Other),
-        ),
+        (shapeless, Refusal::BadShape(Part::Version)),
+        (no_key, Refusal::OutOfRange(Part::Key)),
+        (no_version, Refusal::OutOfRange(Part::Version)),
+    ];
+    assert_refused(&rt, rt.alloc(), &lines);
+}
+
+#[test]
+fn names_the_first_fault_of_a_get_and_of_a_scan(rt: HostRuntime) {
+    let shapeless = Refusal::BadShape(Part::Keys);
+    let no_limit = br#"{"do":"scan","query":{"limit":0}}"#;
+    let no_keys = br#"{"do":"get","keys":[]}"#;
+    let lines: [(&[u8], Refusal); 5] = [
+        (br#"{"do":"get","keys":"k"}"#, shapeless),
+        (br#"{"do":"get","keys":["",7]}"#, shapeless),
+        (no_keys, Refusal::OutOfRange(Part::Keys)),
+        (br#"{"do":"scan"}"#, Refusal::BadShape(Part::Query)),
+        (no_limit, Refusal::OutOfRange(Part::Query)),
+    ];
+    assert_refused(&rt, rt.alloc(), &lines);
+}
+
+#[test]
+fn names_the_first_fault_of_a_delivery(rt: HostRuntime) {
+    let lines: [(&[u8], Refusal); 4] = [
         (
             br#"{"batches":[{"first":1,"images":[{"fields":{"v":"x"},"key":"k","master":"w","version":[1.0,2]}],"stream":"east"}],"do":"deliver"}"#,
             Refusal::BadShape(Part::Image(Member::Version)),
@@ -157,8 +150,22 @@ fn names_the_first_fault(rt: HostRuntime) -> Result<(), Fail> {
             Refusal::OutOfRange(Part::First),
         ),
     ];
-    for (line, refusal) in lines {
-        assert!(rt; command_of(rt.alloc(), line).err() == Some(refusal));
-    }
-    Ok(())
+    assert_refused(&rt, rt.alloc(), &lines);
+}
+
+#[test]
+fn names_the_first_fault_of_an_adoption_and_of_a_copy(rt: HostRuntime) {
+    let need_first = br#"{"do":"copy","need":{"east":"5"},"tablet":"0"}"#;
+    let shape_first = br#"{"do":"copy","need":{"EAST":5},"tablet":"0"}"#;
+    let no_stream = br#"{"do":"copy","need":{"EAST":5},"tablet":0}"#;
+    let no_lines = br#"{"do":"adopt","lines":0}"#;
+    let shapeless = br#"{"do":"adopt","lines":-1}"#;
+    let lines: [(&[u8], Refusal); 5] = [
+        (shapeless, Refusal::BadShape(Part::Lines)),
+        (no_lines, Refusal::OutOfRange(Part::Lines)),
+        (need_first, Refusal::BadShape(Part::Need)),
+        (shape_first, Refusal::BadShape(Part::Tablet)),
+        (no_stream, Refusal::OutOfRange(Part::Need)),
+    ];
+    assert_refused(&rt, rt.alloc(), &lines);
 }

@@ -14,6 +14,7 @@ use pn_tablet::{CopyFault, CopyTextFault, Layout};
 use std::alloc::Global;
 use std::process::Abort;
 use std::test::Fail;
+use std::thread::Threads;
 
 // These images as one delivery.
 fn delivery(alloc: Global, images: &[&str]) -> Result<Delivery, Fail> {
@@ -25,16 +26,21 @@ fn delivery(alloc: Global, images: &[&str]) -> Result<Delivery, Fail> {
 }
 
 // The reply to a scan of what these images leave.
-fn scanned(alloc: Global, images: &[&str]) -> Result<Vec<u8>, Fail> {
+fn scanned(rt: &(impl Threads + Sync), alloc: Global, images: &[&str]) -> Result<Vec<u8>, Fail> {
     let mut region = Region::new(alloc, Layout::new(Vec::new(alloc))?)?;
-    region.round(vec![in alloc; delivery(alloc, images)?]?, 1, &Open)?;
+    region.round(rt, vec![in alloc; delivery(alloc, images)?]?, 1, &Open)?;
     let query = Query::new(None, None, None, Vec::new(alloc), 1_000);
     let page = region.scan(&query.ok_or(QueryFault::OutOfRange)?)?;
     Ok(scan_reply(alloc, &page)?)
 }
 
-fn assert_scan(rt: &impl Abort, alloc: Global, images: &[&str], want: &str) -> Result<(), Fail> {
-    let reply = scanned(alloc, images)?;
+fn assert_scan<R: Abort + Threads + Sync>(
+    rt: &R,
+    alloc: Global,
+    images: &[&str],
+    want: &str,
+) -> Result<(), Fail> {
+    let reply = scanned(rt, alloc, images)?;
     assert_eq!(rt; reply.as_slice(), want.as_bytes());
     Ok(())
 }

@@ -3,8 +3,9 @@ use Rattle.std.proofs.Common.{◌≡◌, ◌≤◌, ◌+◌}
 use Rattle.std.specs.Prelude.{sum_by}
 use Rattle.std.specs.List.{list_all}
 use Rattle.serde_json.specs.View.{members_view}
-use Rattle.pn_record.specs.Limits.{is_field, field_size}
-use Rattle.pn_record.specs.Grammar.{fields_of}
+use Rattle.pn_record.specs.Bodies.{field_size}
+use Rattle.pn_record.specs.Limits.{is_field}
+use Rattle.pn_record.specs.BodyGrammar.{fields_of}
 use Rattle.pn_record.proofs.ranges.fields_fit.Given as goal
 
 abbrev pub invariant-loop-name : goal.invariant-loop-name

@@ -2,7 +2,7 @@
 use Rattle.std.proofs.Common.{sym, ◌∙◌, map, arith}
 use Rattle.pn_record.specs.Showing.{shown_field}
 use Rattle.pn_scan.specs.Queries.{shown_condition}
-use Rattle.pn_scan.specs.Shown.{meets}
+use Rattle.pn_scan.specs.Conditions.{meets}
 use Rattle.pn_scan.proofs.EachMet.{one_fails, one_passes, all_passed}
 use Rattle.pn_scan.proofs.conditions.meet_all.Goals as goal
 

@@ -2,7 +2,7 @@
 use Rattle.std.proofs.Common.{◌≡◌, map}
 use Rattle.pn_record.specs.Showing.{shown_field}
 use Rattle.pn_scan.specs.Queries.{shown_condition}
-use Rattle.pn_scan.specs.Shown.{meets}
+use Rattle.pn_scan.specs.Conditions.{meets}
 use Rattle.pn_scan.proofs.EachMet.{rest}
 use Rattle.pn_scan.proofs.conditions.meet_all.Given as goal
 

@@ -1,24 +1,24 @@
--- What the search finds is the field of the name.
-use Rattle.std.proofs.Common.{Some, sym, ap, ◌∙◌, rules}
-use Rattle.std.proofs.lemmas.Cmp.{nat_list_cmp_total}
-use Rattle.std.proofs.lemmas.Fn.{always_returns_same}
-use Rattle.pn_join.proofs.Rising.{Rising-from_sorted}
+-- A field of the name is the one; another is passed over.
+use Rattle.std.proofs.Common.{Some, sym, ap, ◌∙◌, arith, rules}
+use Rattle.std.specs.Str.{bytes_eq}
+use Rattle.std.proofs.lemmas.Map.Text.{is_eq-slice_cmp}
 use Rattle.pn_record.specs.Order.{bytes_cmp}
-use Rattle.pn_record.specs.Showing.{shown_field, shown_value}
-use Rattle.pn_scan.proofs.Searches.{found_there, found_nowhere}
+use Rattle.pn_record.specs.Showing.{shown_field}
+use Rattle.pn_scan.proofs.FieldWalk.{one_found, one_passed, none_left}
 use Rattle.pn_scan.proofs.conditions.text_of.Goals as goal
 
-pub returns-in-Ok : goal.returns-in-Ok
-returns-in-Ok c =
-    let name = c.args.name.now in
-    let fields = c.args.fields.now in
-    let found = c.in-Ok.ensures.position (λ field. bytes_cmp (shown_field field).0 name) (always_returns_same _ _ _ (λ a r f called. search rules)) in
-    ap Some (c.text_in.ensures ∙ ap (λ field. shown_value field.1) (sym c.index-fields-place.is))
-    ∙ sym (found_there bytes_cmp name shown_field nat_list_cmp_total fields (Rising-from_sorted bytes_cmp _ c.requires) c.in-Ok.place c.index-fields-place.result c.index-fields-place.is c.in-Ok.ensures.bound found)
+pub returns-then-eq : goal.returns-then-eq
+returns-then-eq c =
+    ap Some c.text_in.ensures
+    ∙ one_found bytes_cmp c.args.name.now shown_field c.args.fields.now c.loop-other.other-index c.loop-other-item.result c.loop-other-item.is (omega arith) (is_eq-slice_cmp c.args.name.now (shown_field c.loop-other-item.result).0 ∙ ap (λ other. bytes_eq c.args.name.now other) (sym c.as_str.ensures.value) ∙ sym c.eq.ensures ∙ c.if-eq.true)
+    ∙ c.loop-other.invariant
 
-pub returns-in-Err : goal.returns-in-Err
-returns-in-Err c =
-    let name = c.args.name.now in
-    let fields = c.args.fields.now in
-    let found = c.in-Err.ensures.position (λ field. bytes_cmp (shown_field field).0 name) (always_returns_same _ _ _ (λ a r f called. search rules)) in
-    sym (found_nowhere bytes_cmp name shown_field nat_list_cmp_total fields (Rising-from_sorted bytes_cmp _ c.requires) c.in-Err.field-0 c.in-Err.ensures.bound found)
+pub loop-other-preserved : goal.loop-other-preserved
+loop-other-preserved c =
+    one_passed bytes_cmp c.args.name.now shown_field c.args.fields.now c.loop-other.other-index c.loop-other-item.result c.loop-other-item.is (omega arith) (is_eq-slice_cmp c.args.name.now (shown_field c.loop-other-item.result).0 ∙ ap (λ other. bytes_eq c.args.name.now other) (sym c.as_str.ensures.value) ∙ sym c.eq.ensures ∙ c.if-eq.false)
+    ∙ c.loop-other.invariant
+
+pub returns : goal.returns
+returns c =
+    none_left bytes_cmp c.args.name.now shown_field c.args.fields.now c.loop-other.other-index (omega arith)
+    ∙ c.loop-other.invariant

@@ -16,11 +16,11 @@ pub loop-content-preserved : goal.loop-content-preserved
 loop-content-preserved c =
     one_line_more (string_bytes c.args.text.now) (string_bytes c.loop-content.text) (string_bytes c.write_image.new.text)
     (λ (shown : ContentValue). Record (record { key = c.args.key.now; version = c.args.cell.now.0; content = shown }))
-    c.contents.result.now c.loop-content.content-index c.content-item.result c.content-item.is c.loop-content-test.true c.loop-content.invariant
+    c.contents-contents.result.now c.loop-content.content-index c.content-item.result c.content-item.is c.loop-content-test.true c.loop-content.invariant
     (subst (λ (v : ℕ × ℕ). WritesLines (string_bytes c.loop-content.text) (string_bytes c.write_image.new.text) (Record (record { key = c.args.key.now; version = v; content = c.content-item.result }) ∷ [])) c.version.ensures.version c.in_ok-write_image.ensures)
 
 pub returns : goal.returns
 returns c =
     let f : ContentValue → CopyLine = λ shown. Record (record { key = c.args.key.now; version = c.args.cell.now.0; content = shown }) in
-    let all = take_all c.loop-content.content-index c.contents.result.now c.loop-content-test.false ∙ c.contents.ensures.contents in
+    let all = take_all c.loop-content.content-index c.contents-contents.result.now c.loop-content-test.false ∙ c.contents-contents.ensures.contents in
     subst (WritesLines (string_bytes c.args.text.now) (string_bytes c.loop-content.text)) (ap (map f) all ∙ cell_lines c.args.key.now c.args.cell.now.0 (keys c.args.cell.now.1)) c.loop-content.invariant

@@ -4,7 +4,7 @@ use Rattle.pn_join.specs.Tables.{IsTable}
 use Rattle.pn_join.proofs.Places.{tie_within, found_at_tie, found_at_gap}
 use Rattle.pn_join.proofs.Rising.{Rising-from_sorted}
 use Rattle.pn_join.proofs.RowFacts.{IsTable-leaf, found_in_leaf, same_at}
-use Rattle.pn_join.proofs.table.row.Row.get.Goals as goal
+use Rattle.pn_join.proofs.table.row.Row.get_in.Goals as goal
 
 pub place_in-requires : goal.place_in-requires
 place_in-requires g c =
@@ -15,7 +15,7 @@ place_in-requires g c =
     let rows = c.args.self.now in
     let es = c.entries_of-entries.result.now in
     let row = c.entries_of-entries.ensures.row in
-    let table : IsTable cmp valid es = rw c.entries_of-entries.ensures.entries (IsTable-leaf cmp valid key o rows row c.leaf_for.result) in
+    let table : IsTable cmp valid es = rw c.entries_of-entries.ensures.entries (IsTable-leaf cmp valid key o rows row c.args.leaf) in
     table.rising
 
 pub offset_bounds-entries-place : goal.offset_bounds-entries-place
@@ -33,8 +33,8 @@ returns-in-Ok-clause-found g c =
     let rows = c.args.self.now in
     let es = c.entries_of-entries.result.now in
     let row = c.entries_of-entries.ensures.row in
-    let table : IsTable cmp valid es = rw c.entries_of-entries.ensures.entries (IsTable-leaf cmp valid key o rows row c.leaf_for.result) in
-    let same = found_in_leaf cmp valid key o rows row c.leaf_for.result es c.leaf_for.ensures.leaf c.entries_of-entries.ensures.entries in
+    let table : IsTable cmp valid es = rw c.entries_of-entries.ensures.entries (IsTable-leaf cmp valid key o rows row c.args.leaf) in
+    let same = found_in_leaf cmp valid key o rows row c.args.leaf es c.requires c.entries_of-entries.ensures.entries in
     let x = get_or es c.in-Ok.place c.index-entries-place.result in
     let within = tie_within cmp key es c.in-Ok.place c.in-Ok.ensures.place in
     let found = found_at_tie cmp key o es (Rising-from_sorted cmp es table.rising) c.in-Ok.place c.in-Ok.ensures.place x (same_at es c.in-Ok.place c.index-entries-place.result x within) in
@@ -49,7 +49,7 @@ returns-in-Ok-clause-is_valid g c =
     let rows = c.args.self.now in
     let es = c.entries_of-entries.result.now in
     let row = c.entries_of-entries.ensures.row in
-    let table : IsTable cmp valid es = rw c.entries_of-entries.ensures.entries (IsTable-leaf cmp valid key o rows row c.leaf_for.result) in
+    let table : IsTable cmp valid es = rw c.entries_of-entries.ensures.entries (IsTable-leaf cmp valid key o rows row c.args.leaf) in
     let within = tie_within cmp key es c.in-Ok.place c.in-Ok.ensures.place in
     All-from_recursion (λ e. valid e.1) es table.contents c.in-Ok.place c.index-entries-place.result within
 
@@ -62,6 +62,6 @@ returns-in-Err-clause-found g c =
     let rows = c.args.self.now in
     let es = c.entries_of-entries.result.now in
     let row = c.entries_of-entries.ensures.row in
-    let table : IsTable cmp valid es = rw c.entries_of-entries.ensures.entries (IsTable-leaf cmp valid key o rows row c.leaf_for.result) in
-    let same = found_in_leaf cmp valid key o rows row c.leaf_for.result es c.leaf_for.ensures.leaf c.entries_of-entries.ensures.entries in
+    let table : IsTable cmp valid es = rw c.entries_of-entries.ensures.entries (IsTable-leaf cmp valid key o rows row c.args.leaf) in
+    let same = found_in_leaf cmp valid key o rows row c.args.leaf es c.requires c.entries_of-entries.ensures.entries in
     sym (same ∙ found_at_gap cmp key o es (Rising-from_sorted cmp es table.rising) _ c.in-Err.ensures.place)

@@ -1,0 +1,186 @@
+-- A value that is put at its key in its leaf, and the leaves then.
+use Rattle.std.proofs.Common.{◌≡◌, ℕ, zero, suc, ◌+◌, ◌<◌, ◌≤◌, Bool, true, false, List, [], ◌∷◌, ◌++◌, length, get_or, set, take, Ordering, Less, Equal, Greater, is_lt, refl, sym, ap, ◌∙◌, subst, arith}
+use Rattle.std.specs.List.{AllByRecursion, fold}
+use Rattle.std.specs.Cmp.{IsTotalOrder}
+use Rattle.std.specs.FinMap.{put}
+use Rattle.std.specs.FinMap.Entries.{by_order}
+use Rattle.pn_join.specs.Edits.{put_at, put_all, AreFew, IsReady, IsReadyAt}
+use Rattle.pn_join.specs.Leaves.{all_entries, ends_below, leaf_for, most_in_leaf}
+use Rattle.pn_join.specs.declared.table.edit.Edit.{Edit}
+use Rattle.pn_join.specs.declared.table.leaf.Leaf.{Leaf}
+use Rattle.pn_join.specs.LeafEntries.{leaf_entries, leaves_of}
+use Rattle.std.proofs.lemmas.List.{take_more}
+use Rattle.pn_join.proofs.Each.{each_append}
+use Rattle.pn_join.proofs.Partitions.{get_or-leaves}
+use Rattle.pn_join.proofs.RowFacts.{length-leaves}
+use Rattle.pn_join.proofs.RowGrowth.{same_leaves}
+use Rattle.pn_join.proofs.PutFacts.{put_grows, put_by_one}
+use Rattle.pn_join.proofs.Rising.{Rising, flipped}
+
+-- a list in which one element is replaced
+module _ {A : Type 0} (P : A → Type 0) where
+  pub each_set : (xs : List A) (i : ℕ) (x : A) → AllByRecursion P xs → P x → AllByRecursion P (set xs i x)
+  each_set [] i x h is = tt
+  each_set (y ∷ ys) zero x h is = (is, h.1)
+  each_set (y ∷ ys) (suc i) x h is = (h.0, each_set ys i x h.1 is)
+
+  pub each_at : (xs : List A) (i : ℕ) (d : A) → AllByRecursion P xs → i < length xs → P (get_or xs i d)
+  each_at [] i d h lt = absurd (omega (arith, lt))
+  each_at (x ∷ xs) zero d h lt = h.0
+  each_at (x ∷ xs) (suc i) d h lt = each_at xs i d h.1 (omega (arith, lt))
+
+pub above_set : {A : Type 0} (xs : List A) (i j : ℕ) (x d : A) → i < j → get_or (set xs i x) j d ≡ get_or xs j d
+above_set [] i j x d lt = refl
+above_set (y ∷ ys) zero zero x d lt = absurd (omega (arith, lt))
+above_set (y ∷ ys) zero (suc j) x d lt = refl
+above_set (y ∷ ys) (suc i) zero x d lt = absurd (omega (arith, lt))
+above_set (y ∷ ys) (suc i) (suc j) x d lt = above_set ys i j x d (omega (arith, lt))
+
+pub length_set : {A : Type 0} (xs : List A) (i : ℕ) (x : A) → length (set xs i x) ≡ length xs
+length_set [] i x = refl
+length_set (y ∷ ys) zero x = refl
+length_set (y ∷ ys) (suc i) x = ap suc (length_set ys i x)
+
+pub at_set : {A : Type 0} (xs : List (List A)) (i : ℕ) (x : List A) → length (get_or (set xs i x) i []) ≤ length x
+at_set [] i x = omega arith
+at_set (y ∷ ys) zero x = omega arith
+at_set (y ∷ ys) (suc i) x = at_set ys i x
+
+-- leaves that are ready
+module _ {K C : Type 0} where
+  pub ready_set : (leaves : List (Leaf K C)) (i j : ℕ) (leaf : Leaf K C) → IsReady leaf → IsReadyAt leaves j → IsReadyAt (set leaves i leaf) j
+  ready_set [] i j leaf is h = h
+  ready_set (l ∷ ls) zero zero leaf is h = is
+  ready_set (l ∷ ls) zero (suc j) leaf is h = h
+  ready_set (l ∷ ls) (suc i) zero leaf is h = h
+  ready_set (l ∷ ls) (suc i) (suc j) leaf is h = ready_set ls i j leaf is h
+
+  pub ready_here : (leaves : List (Leaf K C)) (i : ℕ) (leaf : Leaf K C) → IsReady leaf → i < length leaves → IsReadyAt (set leaves i leaf) i
+  ready_here [] i leaf is lt = absurd (omega (arith, lt))
+  ready_here (l ∷ ls) zero leaf is lt = is
+  ready_here (l ∷ ls) (suc i) leaf is lt = ready_here ls i leaf is (omega (arith, lt))
+
+  pub ready_at : (leaves : List (Leaf K C)) (i : ℕ) (d : Leaf K C) → IsReadyAt leaves i → IsReady (get_or leaves i d)
+  ready_at [] i d h = absurd h
+  ready_at (l ∷ ls) zero d h = h
+  ready_at (l ∷ ls) (suc i) d h = ready_at ls i d h
+
+  pub ready_within : (leaves : List (Leaf K C)) (i : ℕ) → IsReadyAt leaves i → i < length leaves
+  ready_within [] i h = absurd h
+  ready_within (l ∷ ls) zero h = omega arith
+  ready_within (l ∷ ls) (suc i) h = omega (arith, ready_within ls i h)
+
+  pub each_ready : (edits : List (Edit K C)) (leaves : List (Leaf K C)) (i : ℕ) (leaf : Leaf K C) → IsReady leaf → AllByRecursion (λ edit. IsReadyAt leaves edit.leaf) edits → AllByRecursion (λ edit. IsReadyAt (set leaves i leaf) edit.leaf) edits
+  each_ready [] leaves i leaf is h = tt
+  each_ready (e ∷ es) leaves i leaf is h = (ready_set leaves i e.leaf leaf is h.0, each_ready es leaves i leaf is h.1)
+
+-- leaves only grow
+module _ {K C : Type 0} (cmp : K → K → Ordering) where
+  pub put_at-grows : (rows : List (List (K × C))) (edit : Edit K C) (j : ℕ) → length (get_or rows j []) ≤ length (get_or (put_at cmp rows edit) j [])
+  put_at-grows rows edit j = grows rows edit.leaf j where
+    grows : (rows : List (List (K × C))) (i j : ℕ) → length (get_or rows j []) ≤ length (get_or (set rows i (put cmp edit.key edit.value (get_or rows i []))) j [])
+    grows [] i j = omega arith
+    grows (l ∷ ls) zero zero = put_grows cmp edit.key edit.value l
+    grows (l ∷ ls) zero (suc j) = omega arith
+    grows (l ∷ ls) (suc i) zero = omega arith
+    grows (l ∷ ls) (suc i) (suc j) = grows ls i j
+
+  pub put_all-grows : (edits : List (Edit K C)) (rows : List (List (K × C))) (j : ℕ) → length (get_or rows j []) ≤ length (get_or (put_all cmp rows edits) j [])
+  put_all-grows [] rows j = omega arith
+  put_all-grows (e ∷ es) rows j = omega (arith, put_at-grows rows e j, put_all-grows es (put_at cmp rows e) j)
+
+  few_at : (rows : List (List (K × C))) (j : ℕ) → AreFew rows → length (get_or rows j []) ≤ most_in_leaf
+  few_at [] j h = omega arith
+  few_at (l ∷ ls) zero h = h.0
+  few_at (l ∷ ls) (suc j) h = few_at ls j h.1
+
+  put_here : (rows : List (List (K × C))) (i : ℕ) (x : List (K × C)) → i < length rows → get_or (set rows i x) i [] ≡ x
+  put_here [] i x lt = absurd (omega (arith, lt))
+  put_here (l ∷ ls) zero x lt = refl
+  put_here (l ∷ ls) (suc i) x lt = put_here ls i x (omega (arith, lt))
+
+  -- what is put fits, where all that is put does
+  pub put_fits : (edit : Edit K C) (edits : List (Edit K C)) (rows : List (List (K × C))) → edit.leaf < length rows → AreFew (put_all cmp (put_at cmp rows edit) edits) → length (put cmp edit.key edit.value (get_or rows edit.leaf [])) ≤ most_in_leaf
+  put_fits edit edits rows lt h =
+      let x = put cmp edit.key edit.value (get_or rows edit.leaf []) in
+      let here : length (get_or (put_at cmp rows edit) edit.leaf []) ≡ length x = ap length (put_here rows edit.leaf x lt) in
+      omega (arith, here, put_all-grows edits (put_at cmp rows edit) edit.leaf, few_at (put_all cmp (put_at cmp rows edit) edits) edit.leaf h)
+
+  -- how far a look at the edits has come: the leaves with what was looked at, and how much came to the last leaf
+  pub record FitsSoFar (rows now : List (List (K × C))) (last more : ℕ) : Type 0 where
+    pub few : AreFew now
+    pub here : length (get_or now last []) ≤ length (get_or rows last []) + more
+    pub above : (j : ℕ) → last < j → get_or now j [] ≡ get_or rows j []
+
+  pub fits_at_first : (rows : List (List (K × C))) → AreFew rows → FitsSoFar rows rows 0 0
+  fits_at_first rows h = record { few = h; here = omega arith; above = λ j lt. refl }
+
+  fits_by : (rows now : List (List (K × C))) (last more next : ℕ) (edit : Edit K C) → FitsSoFar rows now last more → last ≤ edit.leaf → length (get_or now edit.leaf []) + 1 ≤ length (get_or rows edit.leaf []) + next → length (get_or rows edit.leaf []) + next ≤ most_in_leaf → FitsSoFar rows (put_at cmp now edit) edit.leaf next
+  fits_by rows now last more next edit h le grown room =
+      let x = put cmp edit.key edit.value (get_or now edit.leaf []) in
+      let one : length x ≤ length (get_or now edit.leaf []) + 1 = put_by_one cmp edit.key edit.value (get_or now edit.leaf []) in
+      record {
+        few = each_set (λ leaf. length leaf ≤ most_in_leaf) now edit.leaf x h.few (omega (arith, one, grown, room));
+        here = omega (arith, one, grown, at_set now edit.leaf x);
+        above = λ j lt. above_set now edit.leaf j x [] lt ∙ h.above j (omega (arith, le, lt));
+      }
+
+  pub fits_same : (rows now : List (List (K × C))) (last more : ℕ) (edit : Edit K C) → FitsSoFar rows now last more → edit.leaf ≡ last → length (get_or rows edit.leaf []) + (more + 1) ≤ most_in_leaf → FitsSoFar rows (put_at cmp now edit) edit.leaf (more + 1)
+  fits_same rows now last more edit h same room =
+      let here : length (get_or now edit.leaf []) ≤ length (get_or rows edit.leaf []) + more = rw same h.here in
+      fits_by rows now last more (more + 1) edit h (omega (arith, same)) (omega (arith, here)) room
+
+  pub fits_next : (rows now : List (List (K × C))) (last more : ℕ) (edit : Edit K C) → FitsSoFar rows now last more → last < edit.leaf → length (get_or rows edit.leaf []) + 1 ≤ most_in_leaf → FitsSoFar rows (put_at cmp now edit) edit.leaf 1
+  fits_next rows now last more edit h lt room =
+      let here : length (get_or now edit.leaf []) ≡ length (get_or rows edit.leaf []) = ap length (h.above edit.leaf lt) in
+      fits_by rows now last more 1 edit h (omega (arith, lt)) (omega (arith, here)) room
+
+  put_all-push : (edits : List (Edit K C)) (rows : List (List (K × C))) (edit : Edit K C) → put_all cmp rows (edits ++ edit ∷ []) ≡ put_at cmp (put_all cmp rows edits) edit
+  put_all-push [] rows edit = refl
+  put_all-push (e ∷ es) rows edit = put_all-push es (put_at cmp rows e) edit
+
+  -- one more edit of a list is looked at
+  module _ (rows : List (List (K × C))) (edits : List (Edit K C)) (k : ℕ) (edit : Edit K C) (at : edit ≡ get_or edits k edit) (lt : k < length edits) (last more next : ℕ) (h : FitsSoFar rows (put_all cmp rows (take k edits)) last more) where
+    taken : take (k + 1) edits ≡ take k edits ++ edit ∷ []
+    taken = take_more edits k edit lt ∙ ap (λ e. take k edits ++ e ∷ []) (sym at)
+
+    put_taken : put_at cmp (put_all cmp rows (take k edits)) edit ≡ put_all cmp rows (take (k + 1) edits)
+    put_taken = sym (ap (put_all cmp rows) taken ∙ put_all-push (take k edits) rows edit)
+
+    pub fits_again : edit.leaf ≡ last → next ≡ more + 1 → length (get_or rows edit.leaf []) + next ≤ most_in_leaf → FitsSoFar rows (put_all cmp rows (take (k + 1) edits)) edit.leaf next
+    fits_again same is room =
+        subst (λ now. FitsSoFar rows now edit.leaf next) put_taken
+        (rw is (fits_same rows (put_all cmp rows (take k edits)) last more edit h same (rw is at room)))
+
+    pub fits_anew : last < edit.leaf → next ≡ 1 → length (get_or rows edit.leaf []) + next ≤ most_in_leaf → FitsSoFar rows (put_all cmp rows (take (k + 1) edits)) edit.leaf next
+    fits_anew above is room =
+        subst (λ now. FitsSoFar rows now edit.leaf next) put_taken
+        (rw is (fits_next rows (put_all cmp rows (take k edits)) last more edit h above (rw is at room)))
+
+-- what holds of the edits so far, and of one more
+pub each_taken : {A : Type 0} (P : A → Type 0) (xs : List A) (k : ℕ) (x : A) → x ≡ get_or xs k x → k < length xs → AllByRecursion P (take k xs) → P x → AllByRecursion P (take (k + 1) xs)
+each_taken P xs k x at lt h is =
+    subst (AllByRecursion P) (sym (take_more xs k x lt ∙ ap (λ y. take k xs ++ y ∷ []) (sym at))) (each_append P (take k xs) (x ∷ []) h (is, tt))
+
+-- one more leaf is ready
+module _ {K C : Type 0} (leaves : List (Leaf K C)) (edits : List (Edit K C)) (k : ℕ) (edit : Edit K C) (at : edit ≡ get_or edits k edit) (lt : k < length edits) where
+  pub taken_within : (n : ℕ) → AllByRecursion (λ edit. edit.leaf < n) edits → edit.leaf < n
+  taken_within n h = subst (λ (e : Edit K C). e.leaf < n) (sym at) (each_at (λ edit. edit.leaf < n) edits k edit h lt)
+
+  pub ready_taken : (leaf : Leaf K C) → IsReady leaf → edit.leaf < length leaves → AllByRecursion (λ d. IsReadyAt leaves d.leaf) (take k edits) → AllByRecursion (λ d. IsReadyAt (set leaves edit.leaf leaf) d.leaf) (take (k + 1) edits)
+  ready_taken leaf is within h =
+      each_taken (λ d. IsReadyAt (set leaves edit.leaf leaf) d.leaf) edits k edit at lt
+      (each_ready (take k edits) leaves edit.leaf leaf is h) (ready_here leaves edit.leaf leaf is within)
+
+  -- the entries of a leaf that was taken are few
+  pub few_taken : (rows : List (List (K × C))) → leaves_of leaves ≡ rows → AreFew rows → edit.leaf < length leaves → (leaf : Leaf K C) → leaf ≡ get_or leaves edit.leaf leaf → length (leaf_entries leaf) ≤ most_in_leaf
+  few_taken rows same few within leaf is =
+      let long : length (leaves_of leaves) ≡ length leaves = length-leaves leaves in
+      let inside : edit.leaf < length (leaves_of leaves) = omega (arith, within, long) in
+      let few_leaves : AreFew (leaves_of leaves) = rw same few in
+      let fits : length (get_or (leaves_of leaves) edit.leaf []) ≤ most_in_leaf = each_at (λ leaf. length leaf ≤ most_in_leaf) (leaves_of leaves) edit.leaf [] few_leaves inside in
+      rw (ap leaf_entries is ∙ get_or-leaves leaf_entries leaves edit.leaf leaf [] within) fits
+
+  pub same_taken : (leaf next : Leaf K C) → leaf ≡ get_or leaves edit.leaf leaf → edit.leaf < length leaves → leaf_entries next ≡ leaf_entries leaf → leaves_of (set leaves edit.leaf next) ≡ leaves_of leaves
+  same_taken leaf next is within same =
+      same_leaves leaves edit.leaf next (same ∙ ap leaf_entries is ∙ get_or-leaves leaf_entries leaves edit.leaf leaf [] within)

@@ -1,0 +1,180 @@
+//! What comes to keys of a row together: leaves are made ready for it first, and then nothing can fail.
+
+ghost use Rattle.std.specs.Prelude.{◌≡◌, ◌+◌, ◌^◌, ◌<◌, ◌≤◌, [], length, get_or, vec_capacity, IsTrue, OnOk, OnErr};
+ghost use Rattle.std.specs.List.{AllByRecursion};
+ghost use Rattle.std.specs.FinMap.{put, is_sorted};
+ghost use Rattle.pn_join.specs.Edits.{put_all as all_put, AreFew, IsReady, IsReadyAt};
+ghost use Rattle.pn_join.specs.LeafEntries.{leaf_entries, leaves_of};
+ghost use Rattle.pn_join.specs.Leaves.{all_entries, most_in_leaf, AreEnds};
+
+use crate::table::ends::raise_from;
+use crate::table::leaf::Leaf;
+use crate::table::single::{MOST, place_in};
+use crate::{Dup, NoMemory};
+use std::alloc::Global;
+
+/// A key's leaf in its row, and the content that the key gets.
+#[derive(Drop)]
+pub struct Edit<K, C> {
+    pub leaf: usize,
+    pub key: K,
+    pub value: C,
+}
+
+/// Whether the edits go up the row, and each leaf has room for one more entry at each of its edits.
+pub fn fits<K: Ord, C>(leaves: &[Leaf<K, C>], edits: &[Edit<K, C>]) -> bool
+    requires { AreFew (leaves_of leaves.now) }
+    ensures sizes { IsTrue result → AreFew (all_put K.cmp (leaves_of leaves.now) edits.now) }
+    ensures within { IsTrue result → AllByRecursion (λ edit. edit.leaf < length leaves.now) edits.now }
+{
+    let mut last = 0_usize;
+    let mut more = 0_usize;
+    for edit in edits {
+        if edit.leaf < last {
+            return false;
+        }
+        more = if edit.leaf == last { more + 1 } else { 1 };
+        last = edit.leaf;
+        if last >= leaves.len() {
+            return false;
+        }
+        if entries_at(leaves, last).len().saturating_add(more) > MOST {
+            return false;
+        }
+    }
+    true
+}
+
+/// The entries of a leaf, where there are none past the last.
+fn entries_at<K, C>(leaves: &[Leaf<K, C>], place: usize) -> &[(K, C)]
+    ensures { result.now ≡ get_or (leaves_of leaves.now) place [] }
+{
+    match leaves.get(place) {
+        Some(leaf) => leaf.entries(),
+        None => &[],
+    }
+}
+
+/// Puts all values into their leaves, where there is room for them. An error leaves all entries as they
+/// were.
+pub fn put_together<K: Ord + Dup, C: Dup>(
+    alloc: Global,
+    leaves: &mut Vec<Leaf<K, C>>,
+    ends: &mut Vec<usize>,
+    edits: Vec<Edit<K, C>>,
+) -> Result<(), NoMemory>
+    requires few { AreFew (leaves_of leaves.old.items) }
+    requires within { AllByRecursion (λ edit. edit.leaf < length leaves.old.items) edits.items }
+    requires sizes { AreFew (all_put K.cmp (leaves_of leaves.old.items) edits.items) }
+    requires rising { AllByRecursion (λ leaf. IsTrue (is_sorted K.cmp leaf)) (leaves_of leaves.old.items) }
+    requires ends { AreEnds (leaves_of leaves.old.items) ends.old.items }
+    requires count { length (all_entries (leaves_of leaves.old.items)) + length edits.items < 2 ^ 64 }
+    ensures ok { OnOk result (leaves_of leaves.new.items ≡ all_put K.cmp (leaves_of leaves.old.items) edits.items) }
+    ensures err { OnErr result (leaves_of leaves.new.items ≡ leaves_of leaves.old.items) }
+    ensures ends { AreEnds (leaves_of leaves.new.items) ends.new.items }
+{
+    let places = places_of(alloc, &edits)?;
+    open_all(alloc, leaves, &edits)?;
+    put_all(leaves, ends, edits);
+    close_all(alloc, leaves, &places);
+    Ok(())
+}
+
+/// Makes the leaves of the edits ready. Their entries stay, also where it is refused.
+fn open_all<K: Dup, C: Dup>(
+    alloc: Global,
+    leaves: &mut Vec<Leaf<K, C>>,
+    edits: &[Edit<K, C>],
+) -> Result<(), NoMemory>
+    requires few { AreFew (leaves_of leaves.old.items) }
+    requires within { AllByRecursion (λ edit. edit.leaf < length leaves.old.items) edits.now }
+    ensures same { leaves_of leaves.new.items ≡ leaves_of leaves.old.items }
+    ensures ready { OnOk result (AllByRecursion (λ edit. IsReadyAt leaves.new.items edit.leaf) edits.now) }
+{
+    for edit in edits {
+        leaves[edit.leaf].open(alloc)?;
+    }
+    Ok(())
+}
+
+/// Puts all values into leaves that are ready for them, and counts what they add.
+fn put_all<K: Ord + Dup, C: Dup>(
+    leaves: &mut Vec<Leaf<K, C>>,
+    ends: &mut Vec<usize>,
+    edits: Vec<Edit<K, C>>,
+)
+    requires ready { AllByRecursion (λ edit. IsReadyAt leaves.old.items edit.leaf) edits.items }
+    requires sizes { AreFew (all_put K.cmp (leaves_of leaves.old.items) edits.items) }
+    requires rising { AllByRecursion (λ leaf. IsTrue (is_sorted K.cmp leaf)) (leaves_of leaves.old.items) }
+    requires ends { AreEnds (leaves_of leaves.old.items) ends.old.items }
+    requires count { length (all_entries (leaves_of leaves.old.items)) + length edits.items < 2 ^ 64 }
+    ensures leaves { leaves_of leaves.new.items ≡ all_put K.cmp (leaves_of leaves.old.items) edits.items }
+    ensures ends { AreEnds (leaves_of leaves.new.items) ends.new.items }
+{
+    for edit in edits {
+        let place = edit.leaf;
+        let more = put_in(&mut leaves[place], edit);
+        raise_from(ends, place, more);
+    }
+}
+
+/// Puts a value into a leaf that is ready, and answers how many entries that adds.
+fn put_in<K: Ord + Dup, C: Dup>(leaf: &mut Leaf<K, C>, edit: Edit<K, C>) -> usize
+    requires ready { IsReady leaf.old }
+    requires size { length (put K.cmp edit.key edit.value (leaf_entries leaf.old)) ≤ most_in_leaf }
+    requires rising { IsTrue (is_sorted K.cmp (leaf_entries leaf.old)) }
+    ensures entries { leaf_entries leaf.new ≡ put K.cmp edit.key edit.value (leaf_entries leaf.old) }
+    ensures ready { IsReady leaf.new }
+    ensures more { length (leaf_entries leaf.new) ≡ length (leaf_entries leaf.old) + result }
+{
+    match leaf {
+        Leaf::Own(entries) => put_one(entries, edit.key, edit.value),
+        Leaf::Shared(_) => 0,
+    }
+}
+
+fn put_one<K: Ord + Dup, C: Dup>(entries: &mut Vec<(K, C)>, key: K, value: C) -> usize
+    requires room { most_in_leaf ≤ vec_capacity entries.old }
+    requires size { length (put K.cmp key value entries.old.items) ≤ most_in_leaf }
+    requires rising { IsTrue (is_sorted K.cmp entries.old.items) }
+    ensures entries { entries.new.items ≡ put K.cmp key value entries.old.items }
+    ensures room { most_in_leaf ≤ vec_capacity entries.new }
+    ensures more { length entries.new.items ≡ length entries.old.items + result }
+{
+    match place_in(entries, &key) {
+        Ok(place) => {
+            entries[place].1 = value;
+            0
+        }
+        Err(place) => {
+            entries.insert(place, (key, value)).unwrap();
+            1
+        }
+    }
+}
+
+/// The leaves of the edits.
+fn places_of<K, C>(alloc: Global, edits: &[Edit<K, C>]) -> Result<Vec<usize>, NoMemory> {
+    let mut places = Vec::with_capacity(alloc, edits.len())?;
+    for edit in edits {
+        places.push(edit.leaf)?;
+    }
+    Ok(places)
+}
+
+/// Lets others share these leaves again.
+fn close_all<K: Dup, C: Dup>(alloc: Global, leaves: &mut Vec<Leaf<K, C>>, places: &[usize])
+    ensures { leaves_of leaves.new.items ≡ leaves_of leaves.old.items }
+{
+    for place in places {
+        close_at(alloc, leaves, *place);
+    }
+}
+
+fn close_at<K: Dup, C: Dup>(alloc: Global, leaves: &mut Vec<Leaf<K, C>>, place: usize)
+    ensures { leaves_of leaves.new.items ≡ leaves_of leaves.old.items }
+{
+    if place < leaves.len() {
+        leaves[place].close(alloc);
+    }
+}

@@ -1,0 +1,29 @@
+-- Which fields, bodies and contents keep the limits.
+use Rattle.std.specs.Prelude.{ℕ, ◌+◌, Bool, true, ◌&&◌, nat_le, List, length, sum_by, Option, Some, None}
+use Rattle.std.specs.List.{list_all}
+use Rattle.std.specs.FinMap.{is_sorted}
+use Rattle.std.specs.Ordering.{nat_cmp}
+use Rattle.std.specs.Cmp.Lexicographic.{slice_cmp}
+use Rattle.pn_join.specs.Naming.{is_name}
+use Rattle.pn_record.specs.Limits.{Field, ContentValue, is_field, most_fields, most_field_bytes}
+
+-- how many bytes a field's name and text have together
+abbrev pub field_size : Field → ℕ
+field_size field = length field.0 + length field.1
+
+-- not too many fields, and not too many bytes together
+abbrev pub fields_fit : List Field → Bool
+fields_fit fields = nat_le (length fields) most_fields && list_all is_field fields && nat_le (sum_by field_size fields) most_field_bytes
+
+-- the names strictly rise by their bytes
+abbrev pub names_rise : List Field → Bool
+names_rise fields = is_sorted (slice_cmp nat_cmp) fields
+
+-- a deletion, or fields that fit and whose names rise
+abbrev pub is_body : Option (List Field) → Bool
+is_body None = true
+is_body (Some fields) = fields_fit fields && names_rise fields
+
+-- a body within the limits, and a master
+abbrev pub is_content : ContentValue → Bool
+is_content shown = is_body shown.0 && is_name shown.1
