@@ -14,7 +14,8 @@ use Rattle.pn_join.specs.Naming.{is_name, is_name_byte}
 use Rattle.pn_line.specs.Reads.{IsUnbroken}
 use Rattle.pn_record.specs.declared.image.Image.{Image}
 use Rattle.pn_record.specs.Canonical.{is_image}
-use Rattle.pn_record.specs.Limits.{Field, is_key, is_version, is_content, greatest}
+use Rattle.pn_record.specs.Bodies.{is_content}
+use Rattle.pn_record.specs.Limits.{Field, is_key, is_version, greatest}
 use Rattle.pn_record.specs.Marks.{is_mark}
 use Rattle.pn_record.specs.Writing.{version_data, fields_data, body_data, image_data}
 use Rattle.pn_record.proofs.ImageText.{length-quoted}
