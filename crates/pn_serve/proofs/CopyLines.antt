@@ -1,5 +1,5 @@
 -- How many lines a copy has.
-use Rattle.std.proofs.Common.{◌≡◌, ◌≢◌, ℕ, ◌+◌, List, [], ◌∷◌, ◌++◌, length, All, refl, sym, ap, ◌∙◌, append-nil, ne_eqb, cond, Bool}
+use Rattle.std.proofs.Common.{◌≡◌, ◌≢◌, ℕ, ◌+◌, List, [], ◌∷◌, ◌++◌, length, All, refl, sym, ap, ◌∙◌, append-nil, ne_eqb, cond, Bool, arith}
 use Rattle.std.specs.List.{count_by}
 use Rattle.std.proofs.lemmas.List.Recursion.{is_count_by}
 use Rattle.std.proofs.lemmas.List.Elements.{All-head, All-tail}
@@ -8,7 +8,7 @@ use Rattle.pn_line.specs.Text.{lines_of, text_of}
 use Rattle.pn_line.proofs.TextLaws.{lines_of-text, lines_of-nil, text_of-nil, text_of-cons}
 use Rattle.pn_serve.specs.Machine.Ways.{is_newline}
 
-newlines : List ℕ → ℕ
+abbrev newlines : List ℕ → ℕ
 newlines [] = 0
 newlines (b ∷ bytes) = cond (is_newline b) (1 + newlines bytes) (newlines bytes)
 
@@ -25,9 +25,9 @@ one_newline (b ∷ line) rest unbroken =
 as_many : (lines : List (List ℕ)) → All IsUnbroken lines → newlines (text_of lines) ≡ length lines
 as_many [] unbroken = ap newlines text_of-nil
 as_many (line ∷ lines) unbroken =
-    ap newlines (text_of-cons line lines)
-    ∙ one_newline line (text_of lines) (All-head IsUnbroken line lines unbroken)
-    ∙ ap (λ (n : ℕ). 1 + n) (as_many lines (All-tail IsUnbroken line lines unbroken))
+    let one = ap newlines (text_of-cons line lines) ∙ one_newline line (text_of lines) (All-head IsUnbroken line lines unbroken) in
+    let others = as_many lines (All-tail IsUnbroken line lines unbroken) in
+    omega (arith, one, others)
 
 -- a text of lines has as many newlines as lines
 pub counted_lines : (text : List ℕ) (lines : List (List ℕ)) → text ≡ text_of lines → All IsUnbroken lines → count_by is_newline text ≡ length (lines_of text)

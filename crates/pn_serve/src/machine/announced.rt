@@ -1,6 +1,7 @@
 //! Lines that an `adopt` line announced: they are gathered, and then their copy is adopted.
 
-ghost use Rattle.std.specs.Prelude.{◌≡◌, ◌≤◌, [], ◌∷◌, length, Some, OnErr, IfOk, IfErr};
+ghost use Rattle.std.specs.Prelude.{◌≡◌, ◌++◌, [], Some, IfOk};
+ghost use Rattle.pn_line.specs.Line.{kept};
 ghost use Rattle.pn_json.specs.Answers.{IsUnless};
 ghost use Rattle.pn_region.specs.Recovery.{adopting};
 ghost use Rattle.pn_tablet.specs.CopyReading.{copy_at};
@@ -13,6 +14,7 @@ ghost use Rattle.pn_serve.specs.Machine.Ways.{ComesTo, IsJoined, TellsBadText, T
 use crate::machine::Done;
 use crate::machine::lookups::not_taken;
 use crate::{Refusal, Reply, bad_text_reply, not_adopted_reply};
+use pn_join::NoMemory;
 use pn_line::MOST_KEPT;
 use pn_region::{AdoptFault, Region};
 use pn_tablet::{CopyTextFault, TabletCopy, read_copy};
@@ -59,16 +61,22 @@ pub(crate) fn finish(alloc: Global, region: &mut Region, announced: Announced, p
     adopt(alloc, region, joined(announced.text, part, b""))
 }
 
-// The text that came, and then the line's first 65,537 bytes and its newline, if it has one. None where memory
-// ran out.
+// The text that came, with the line behind it. None where memory ran out.
 fn joined(text: Option<Vec<u8>>, line: &[u8], newline: &[u8]) -> Option<Vec<u8>>
     ensures { IsJoined (bytes_of text) line.now newline.now (bytes_of result) }
 {
-    let mut text = text?;
+    extended(text?, line, newline).ok()
+}
+
+// The text, and then the line's first 65,537 bytes and its newline, if it has one.
+fn extended(text: Vec<u8>, line: &[u8], newline: &[u8]) -> Result<Vec<u8>, NoMemory>
+    ensures { IfOk result (λ whole. whole.items ≡ text.items ++ (kept line.now ++ newline.now)) }
+{
+    let mut text = text;
     let kept = line.len().min(MOST_KEPT);
-    text.extend_from_slice(&line[..kept]).ok()?;
-    text.extend_from_slice(newline).ok()?;
-    Some(text)
+    text.extend_from_slice(&line[..kept])?;
+    text.extend_from_slice(newline)?;
+    Ok(text)
 }
 
 /// Adopts the copy that the text spells. None: memory ran out before.
