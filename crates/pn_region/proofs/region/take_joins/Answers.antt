@@ -18,7 +18,7 @@ pub returns-then-not-can_be_counted-clause-left : goal.returns-then-not-can_be_c
 returns-then-not-can_be_counted-clause-left g c = all_old c.args.tablets.now c.requires.some
 
 pub apply_all-requires-clause-joins : goal.apply_all-requires-clause-joins
-apply_all-requires-clause-joins g c = subst (λ (ts : List TabletStateValue). AreJoinsIn ts c.args.joins.now) (sym (same_list c.args.tablets.now)) c.requires.joins
+apply_all-requires-clause-joins g c κs within = subst (λ (ts : List TabletStateValue). AreJoinsIn ts c.args.joins.now) (sym (same_list c.args.tablets.now)) c.requires.joins
 
 pub count_of-requires : goal.count_of-requires
 count_of-requires g c =

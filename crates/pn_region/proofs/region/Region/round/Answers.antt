@@ -24,14 +24,14 @@ pub returns-in_err-operations-clause-err : goal.returns-in_err-operations-clause
 returns-in_err-operations-clause-err g c = whatever c.from_residual-in_err-operations.result _ (same_left c.args.self.now c.args.deliveries.items (subst IsRegion c.self.view_is c.self.invariant.is_region))
 
 pub take_joins-requires-clause-joins : goal.take_joins-requires-clause-joins
-take_joins-requires-clause-joins g c =
+take_joins-requires-clause-joins g c κs within =
     let inside = c.self.inside in
     let old : RegionValue = record { layout = inside.layout; tablets = inside.tablets.items; marks = inside.marks } in
     let found = c.deref-2.ensures.value ∙ c.in_ok-operations.ensures in
     fit_found old c.args.deliveries.items c.self.invariant.is_region c.in_ok-marks.marks c.as_mut_slice-tablets.result.now [] c.deref-2.result.now c.as_mut_slice-tablets.ensures.value found
 
 pub take_joins-requires-clause-positions : goal.take_joins-requires-clause-positions
-take_joins-requires-clause-positions g c =
+take_joins-requires-clause-positions g c κs within =
     let inside = c.self.inside in
     let found = c.deref-2.ensures.value ∙ c.in_ok-operations.ensures in
     subst HavePositions (sym found) (joins_have_positions inside.layout c.in_ok-marks.marks (all_images c.args.deliveries.items) c.in_ok-marks.ensures.positions)
@@ -43,7 +43,7 @@ take_joins-requires-clause-some g c =
     omega (arith, count, ap (λ (ts : List TabletStateValue). length ts) c.as_mut_slice-tablets.ensures.value)
 
 pub take_joins-requires-clause-few : goal.take_joins-requires-clause-few
-take_joins-requires-clause-few g c =
+take_joins-requires-clause-few g c κs within =
     let inside = c.self.inside in
     let old : RegionValue = record { layout = inside.layout; tablets = inside.tablets.items; marks = inside.marks } in
     let found = c.deref-2.ensures.value ∙ c.in_ok-operations.ensures in
