@@ -11,19 +11,25 @@ use pn_stream::Delivery;
 use pn_tablet::{Status, TabletCopy};
 use std::alloc::Global;
 use std::test::Fail;
+use std::thread::Threads;
 
 const FIVE: &[&str] = &["a", "b", "c", "d", "e"];
 
-fn take(alloc: Global, region: &mut Region, delivery: Delivery) -> Result<u64, Fail> {
+fn take(
+    rt: &(impl Threads + Sync),
+    alloc: Global,
+    region: &mut Region,
+    delivery: Delivery,
+) -> Result<u64, Fail> {
     let mut deliveries = Vec::new(alloc);
     deliveries.push(delivery)?;
-    Ok(region.round(deliveries, 1, &Open)?.changed)
+    Ok(region.round(rt, deliveries, 1, &Open)?.changed)
 }
 
 // A region of one tablet that took images at these keys, from the start of a stream.
-fn region(alloc: Global, keys: &[&str]) -> Result<Region, Fail> {
+fn region(rt: &(impl Threads + Sync), alloc: Global, keys: &[&str]) -> Result<Region, Fail> {
     let mut region = Region::new(alloc, layout(alloc, &[])?)?;
-    take(alloc, &mut region, delivery(alloc, "east", 1, keys)?)?;
+    take(rt, alloc, &mut region, delivery(alloc, "east", 1, keys)?)?;
     Ok(region)
 }
 
@@ -40,11 +46,11 @@ fn of_a(alloc: Global, first: u64, numbers: &[u64]) -> Result<Delivery, Fail> {
 }
 
 // A region whose tablet was lost after five images, and took two more.
-fn lost(alloc: Global) -> Result<Region, Fail> {
-    let mut region = region(alloc, FIVE)?;
+fn lost(rt: &(impl Threads + Sync), alloc: Global) -> Result<Region, Fail> {
+    let mut region = region(rt, alloc, FIVE)?;
     region.lose(0);
-    take(alloc, &mut region, of_a(alloc, 6, &[1])?)?;
-    take(alloc, &mut region, delivery(alloc, "east", 7, &["f"])?)?;
+    take(rt, alloc, &mut region, of_a(alloc, 6, &[1])?)?;
+    take(rt, alloc, &mut region, delivery(alloc, "east", 7, &["f"])?)?;
     Ok(region)
 }
 
@@ -55,9 +61,9 @@ fn need(alloc: Global, position: u64) -> Result<Marks, Fail> {
 }
 
 // A copy that reaches the first five, of a region that took six.
-fn sixth(alloc: Global) -> Result<TabletCopy, Fail> {
-    let mut other = region(alloc, FIVE)?;
-    take(alloc, &mut other, of_a(alloc, 6, &[1])?)?;
+fn sixth(rt: &(impl Threads + Sync), alloc: Global) -> Result<TabletCopy, Fail> {
+    let mut other = region(rt, alloc, FIVE)?;
+    take(rt, alloc, &mut other, of_a(alloc, 6, &[1])?)?;
     Ok(other.copy(0, &need(alloc, 5)?)?)
 }
 
@@ -80,13 +86,16 @@ fn adopted(alloc: Global, region: &mut Region, copy: TabletCopy) -> Result<Strin
 #[test]
 fn a_lost_tablet_takes_what_comes_and_recovers(rt: HostRuntime) -> Result<(), Fail> {
     let alloc = rt.alloc();
-    let mut region = lost(alloc)?;
+    let mut region = lost(&rt, alloc)?;
     let key = Key::of(alloc, "a")?;
     assert!(rt; matches!(region.read(&key, None), Err(ScanFault::Recovering(0))));
     assert_eq!(rt; needs(alloc, &region)?.as_str(), "east:5 ");
     assert_eq!(rt; region.tablet(0).cells().len(), 2);
 
-    assert_eq!(rt; adopted(alloc, &mut region, sixth(alloc)?)?.as_str(), "0");
+    assert_eq!(rt;
+        adopted(alloc, &mut region, sixth(&rt, alloc)?)?.as_str(),
+        "0"
+    );
     assert_eq!(rt; needs(alloc, &region)?.as_str(), "");
     assert_eq!(rt;
         text_of(alloc, region.tablet(0).cover())?.as_str(),
@@ -101,8 +110,8 @@ fn a_lost_tablet_takes_what_comes_and_recovers(rt: HostRuntime) -> Result<(), Fa
 #[test]
 fn a_copy_that_is_too_old_changes_nothing(rt: HostRuntime) -> Result<(), Fail> {
     let alloc = rt.alloc();
-    let mut region = lost(alloc)?;
-    let copy = self::region(alloc, &["a", "b", "c", "d"])?.copy(0, &need(alloc, 4)?)?;
+    let mut region = lost(&rt, alloc)?;
+    let copy = self::region(&rt, alloc, &["a", "b", "c", "d"])?.copy(0, &need(alloc, 4)?)?;
     assert_eq!(rt;
         adopted(alloc, &mut region, copy)?.as_str(),
         "too old: the copy has 4 of stream east, and 5 are needed"
@@ -117,7 +126,7 @@ fn a_copy_of_another_range_is_refused(rt: HostRuntime) -> Result<(), Fail> {
     let alloc = rt.alloc();
     let mut halves = Region::new(alloc, layout(alloc, &["m"])?)?;
     assert_eq!(rt;
-        adopted(alloc, &mut halves, sixth(alloc)?)?.as_str(),
+        adopted(alloc, &mut halves, sixth(&rt, alloc)?)?.as_str(),
         "wrong range"
     );
     let other = Region::new(alloc, layout(alloc, &["m"])?)?;
@@ -130,7 +139,7 @@ fn a_copy_of_another_range_is_refused(rt: HostRuntime) -> Result<(), Fail> {
 #[test]
 fn no_copy_is_given_below_the_need_or_while_recovering(rt: HostRuntime) -> Result<(), Fail> {
     let alloc = rt.alloc();
-    let mut region = region(alloc, &["a", "b", "c", "d"])?;
+    let mut region = region(&rt, alloc, &["a", "b", "c", "d"])?;
     let Err(fault) = region.copy(0, &need(alloc, 5)?) else {
         return Err(Fail::from(KeyFault::OutOfRange));
     };
@@ -149,9 +158,9 @@ fn no_copy_is_given_below_the_need_or_while_recovering(rt: HostRuntime) -> Resul
 #[test]
 fn a_cover_ahead_of_the_marks_is_the_need(rt: HostRuntime) -> Result<(), Fail> {
     let alloc = rt.alloc();
-    let mut region = region(alloc, &["a"])?;
+    let mut region = region(&rt, alloc, &["a"])?;
     let mut other = Region::new(alloc, layout(alloc, &[])?)?;
-    take(alloc, &mut other, of_a(alloc, 1, &[0, 1, 2, 3, 4])?)?;
+    take(&rt, alloc, &mut other, of_a(alloc, 1, &[0, 1, 2, 3, 4])?)?;
     let copy = other.copy(0, &Marks::new(alloc))?;
     assert_eq!(rt; adopted(alloc, &mut region, copy)?.as_str(), "0");
     region.lose(0);
@@ -169,6 +178,7 @@ fn a_loss_is_one_tablets_alone(rt: HostRuntime) -> Result<(), Fail> {
     let alloc = rt.alloc();
     let mut halves = Region::new(alloc, layout(alloc, &["m"])?)?;
     take(
+        &rt,
         alloc,
         &mut halves,
         delivery(alloc, "east", 1, &["l", "m", "n"])?,
