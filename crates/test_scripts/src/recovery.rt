@@ -254,7 +254,7 @@ fn the_other_tablet_still_serves(rt: HostRuntime) -> Result<(), Fail> {
     for workers in [1, 2, 16] {
         let settings = settings(rt.alloc(), &["m"], workers)?;
         let mut input = InMemory::new(ONE_IS_LOST.script.as_bytes());
-        let replies = replies_with(rt.alloc(), &mut input, settings)?;
+        let replies = replies_with(&rt, rt.alloc(), &mut input, settings)?;
         assert_eq!(rt;
             replies.as_slice(),
             ONE_IS_LOST.replies.as_bytes(),
