@@ -6,10 +6,9 @@ use std::marker::Model;
 use std::sync::atomic::{AtomicU64, Ordering};
 
 /// Which of 64 tablets were entered and which were worked, a bit each, and how many calls came out of order: a tablet is entered
-/// once, and then worked once. One of the tablets may refuse its work for want of memory.
+/// once, and then worked once.
 #[derive(Drop)]
 pub(crate) struct Notes {
-    refusing: Option<usize>,
     entered: AtomicU64,
     worked: AtomicU64,
     others: AtomicU64,
@@ -18,13 +17,7 @@ pub(crate) struct Notes {
 impl Notes {
     /// Nobody has come yet.
     pub(crate) fn new() -> Notes {
-        Notes::refusing(None)
-    }
-
-    /// The same, where memory runs out at this tablet.
-    pub(crate) fn refusing(tablet: Option<usize>) -> Notes {
         Notes {
-            refusing: tablet,
             entered: AtomicU64::new(0),
             worked: AtomicU64::new(0),
             others: AtomicU64::new(0),
@@ -88,9 +81,6 @@ impl Slot for Noted<'_> {
 
     fn apply(&mut self, op: &TabletOp) -> Result<Vec<Change>, OpFault> {
         self.notes.work(self.tablet);
-        if self.notes.refusing == Some(self.tablet) {
-            return Err(OpFault::Memory);
-        }
         self.state.apply(op)
     }
 }

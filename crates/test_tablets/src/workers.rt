@@ -1,11 +1,9 @@
-//! Workers that meet, numbers of workers that make no difference, and workers that run out of memory.
+//! Workers that meet, and numbers of workers that make no difference.
 
 ghost use Rattle.std.specs.Prelude.{◌≤◌};
 ghost use Rattle.pn_apply.specs.Limits.{most_workers};
 
-use crate::apply::taken;
 use crate::given::{delivery, layout};
-use crate::notes::Notes;
 use pn_apply::{Gate, Open};
 use pn_record::KeyFault;
 use pn_region::Region;
@@ -113,32 +111,6 @@ fn any_number_of_workers_answers_alike(rt: HostRuntime) -> Result<(), Fail> {
                 want.as_str(),
                 "{tablets} tablets, {workers} workers"
             );
-        }
-    }
-    Ok(())
-}
-
-#[test]
-fn want_of_memory_leaves_each_tablet_old_or_new(rt: HostRuntime) -> Result<(), Fail> {
-    let alloc = rt.alloc();
-    let layout = layout(alloc, &["b", "c", "d", "e"])?;
-    let deliveries = [delivery(alloc, "east", 1, &["a", "b", "c", "d", "e"])?];
-    for workers in [1, 2, 3, 5] {
-        for refusing in 0..5 {
-            let notes = Notes::refusing(Some(refusing));
-            let taken = taken(&rt, &deliveries, &layout, workers, &Notes::new(), &notes)?;
-            assert!(rt;
-                taken.changes.is_err(),
-                "{workers} workers, memory ends at {refusing}"
-            );
-            assert_eq!(rt; taken.held.len(), 5);
-            let (entered, worked, others) = notes.told();
-            assert_eq!(rt; (entered, others), (worked, 0));
-            for (tablet, held) in taken.held.iter().enumerate() {
-                let is_new = tablet != refusing && worked >> tablet & 1 == 1;
-                assert_eq!(rt; *held == 1, is_new, "tablet {tablet} of {workers} workers");
-                assert!(rt; *held <= 1);
-            }
         }
     }
     Ok(())
