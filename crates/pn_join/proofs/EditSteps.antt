@@ -4,7 +4,7 @@ use Rattle.std.specs.List.{AllByRecursion, fold}
 use Rattle.std.specs.Cmp.{IsTotalOrder}
 use Rattle.std.specs.FinMap.{put}
 use Rattle.std.specs.FinMap.Entries.{by_order}
-use Rattle.pn_join.specs.Edits.{put_at, put_all, AreFew, IsReady, IsReadyAt}
+use Rattle.pn_join.specs.Edits.{put_at, put_all, AreFew, GoUp, IsReady, IsReadyAt}
 use Rattle.pn_join.specs.Leaves.{all_entries, ends_below, leaf_for, most_in_leaf}
 use Rattle.pn_join.specs.declared.table.edit.Edit.{Edit}
 use Rattle.pn_join.specs.declared.table.leaf.Leaf.{Leaf}
@@ -78,9 +78,9 @@ module _ {K C : Type 0} where
 module _ {K C : Type 0} (cmp : K → K → Ordering) where
   pub put_at-grows : (rows : List (List (K × C))) (edit : Edit K C) (j : ℕ) → length (get_or rows j []) ≤ length (get_or (put_at cmp rows edit) j [])
   put_at-grows rows edit j = grows rows edit.leaf j where
-    grows : (rows : List (List (K × C))) (i j : ℕ) → length (get_or rows j []) ≤ length (get_or (set rows i (put cmp edit.key edit.value (get_or rows i []))) j [])
+    grows : (rows : List (List (K × C))) (i j : ℕ) → length (get_or rows j []) ≤ length (get_or (set rows i (put cmp edit.change.key edit.change.after (get_or rows i []))) j [])
     grows [] i j = omega arith
-    grows (l ∷ ls) zero zero = put_grows cmp edit.key edit.value l
+    grows (l ∷ ls) zero zero = put_grows cmp edit.change.key edit.change.after l
     grows (l ∷ ls) zero (suc j) = omega arith
     grows (l ∷ ls) (suc i) zero = omega arith
     grows (l ∷ ls) (suc i) (suc j) = grows ls i j
@@ -100,9 +100,9 @@ module _ {K C : Type 0} (cmp : K → K → Ordering) where
   put_here (l ∷ ls) (suc i) x lt = put_here ls i x (omega (arith, lt))
 
   -- what is put fits, where all that is put does
-  pub put_fits : (edit : Edit K C) (edits : List (Edit K C)) (rows : List (List (K × C))) → edit.leaf < length rows → AreFew (put_all cmp (put_at cmp rows edit) edits) → length (put cmp edit.key edit.value (get_or rows edit.leaf [])) ≤ most_in_leaf
+  pub put_fits : (edit : Edit K C) (edits : List (Edit K C)) (rows : List (List (K × C))) → edit.leaf < length rows → AreFew (put_all cmp (put_at cmp rows edit) edits) → length (put cmp edit.change.key edit.change.after (get_or rows edit.leaf [])) ≤ most_in_leaf
   put_fits edit edits rows lt h =
-      let x = put cmp edit.key edit.value (get_or rows edit.leaf []) in
+      let x = put cmp edit.change.key edit.change.after (get_or rows edit.leaf []) in
       let here : length (get_or (put_at cmp rows edit) edit.leaf []) ≡ length x = ap length (put_here rows edit.leaf x lt) in
       omega (arith, here, put_all-grows edits (put_at cmp rows edit) edit.leaf, few_at (put_all cmp (put_at cmp rows edit) edits) edit.leaf h)
 
@@ -117,8 +117,8 @@ module _ {K C : Type 0} (cmp : K → K → Ordering) where
 
   fits_by : (rows now : List (List (K × C))) (last more next : ℕ) (edit : Edit K C) → FitsSoFar rows now last more → last ≤ edit.leaf → length (get_or now edit.leaf []) + 1 ≤ length (get_or rows edit.leaf []) + next → length (get_or rows edit.leaf []) + next ≤ most_in_leaf → FitsSoFar rows (put_at cmp now edit) edit.leaf next
   fits_by rows now last more next edit h le grown room =
-      let x = put cmp edit.key edit.value (get_or now edit.leaf []) in
-      let one : length x ≤ length (get_or now edit.leaf []) + 1 = put_by_one cmp edit.key edit.value (get_or now edit.leaf []) in
+      let x = put cmp edit.change.key edit.change.after (get_or now edit.leaf []) in
+      let one : length x ≤ length (get_or now edit.leaf []) + 1 = put_by_one cmp edit.change.key edit.change.after (get_or now edit.leaf []) in
       record {
         few = each_set (λ leaf. length leaf ≤ most_in_leaf) now edit.leaf x h.few (omega (arith, one, grown, room));
         here = omega (arith, one, grown, at_set now edit.leaf x);
@@ -156,6 +156,29 @@ module _ {K C : Type 0} (cmp : K → K → Ordering) where
     fits_anew above is room =
         subst (λ now. FitsSoFar rows now edit.leaf next) put_taken
         (rw is (fits_next rows (put_all cmp rows (take k edits)) last more edit h above (rw is at room)))
+
+-- the leaf of the last edit
+abbrev pub last_leaf : {K C : Type 0} → ℕ → List (Edit K C) → ℕ
+last_leaf n [] = n
+last_leaf n (edit ∷ edits) = last_leaf edit.leaf edits
+
+-- the edits so far go up, and the last of them stands beside this leaf
+pub record UpTo {K C : Type 0} (edits : List (Edit K C)) (last : ℕ) : Type 0 where
+  pub order : GoUp 0 edits
+  pub last_is : last_leaf 0 edits ≡ last
+
+up_push : {K C : Type 0} (n : ℕ) (edits : List (Edit K C)) (edit : Edit K C) → GoUp n edits → last_leaf n edits ≤ edit.leaf → GoUp n (edits ++ edit ∷ [])
+up_push n [] edit up le = (le, tt)
+up_push n (e ∷ es) edit up le = (up.0, up_push e.leaf es edit up.1 le)
+
+last_push : {K C : Type 0} (n : ℕ) (edits : List (Edit K C)) (edit : Edit K C) → last_leaf n (edits ++ edit ∷ []) ≡ edit.leaf
+last_push n [] edit = refl
+last_push n (e ∷ es) edit = last_push e.leaf es edit
+
+pub up_taken : {K C : Type 0} (edits : List (Edit K C)) (k : ℕ) (edit : Edit K C) → edit ≡ get_or edits k edit → k < length edits → (last : ℕ) → UpTo (take k edits) last → last ≤ edit.leaf → UpTo (take (k + 1) edits) edit.leaf
+up_taken edits k edit at lt last h le =
+    subst (λ es. UpTo es edit.leaf) (sym (take_more edits k edit lt ∙ ap (λ e. take k edits ++ e ∷ []) (sym at)))
+    (record { order = up_push 0 (take k edits) edit h.order (omega (arith, h.last_is, le)); last_is = last_push 0 (take k edits) edit })
 
 -- what holds of the edits so far, and of one more
 pub each_taken : {A : Type 0} (P : A → Type 0) (xs : List A) (k : ℕ) (x : A) → x ≡ get_or xs k x → k < length xs → AllByRecursion P (take k xs) → P x → AllByRecursion P (take (k + 1) xs)

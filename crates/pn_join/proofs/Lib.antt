@@ -1,3 +1,4 @@
+pub mod Changing
 pub mod Each
 pub mod EditJoins
 pub mod EditSteps

@@ -5,7 +5,7 @@ use Rattle.std.specs.List.{AllByRecursion}
 use Rattle.std.specs.Cmp.{IsTotalOrder}
 use Rattle.std.specs.FinMap.{put, is_sorted}
 use Rattle.std.specs.FinMap.Entries.{is_sorted-put}
-use Rattle.pn_join.specs.Edits.{put_at, put_all, AreFew, IsReady, IsReadyAt}
+use Rattle.pn_join.specs.Edits.{put_at, put_all, AreFew, GoUp, IsReady, IsReadyAt}
 use Rattle.pn_join.specs.LeafEntries.{leaf_entries, leaves_of}
 use Rattle.pn_join.specs.Leaves.{all_entries, ends_after, AreEnds, most_in_leaf}
 use Rattle.pn_join.specs.RowChanges.{raised_from, FitFrom}
@@ -14,9 +14,10 @@ use Rattle.pn_join.specs.declared.table.leaf.Leaf.{Leaf}
 use Rattle.pn_join.proofs.EditSteps.{each_set, each_at, each_ready, ready_at, ready_within, put_fits}
 use Rattle.pn_join.proofs.Partitions.{get_or-leaves}
 use Rattle.pn_join.proofs.PutFacts.{put_by_one}
-use Rattle.pn_join.proofs.RowEdits.{fit_ends, ends_with_back}
+use Rattle.pn_join.proofs.RowEdits.{fit_at, fit_ends, fit_twice, raise_none, raise_twice, length-raised, ends_with_back}
 use Rattle.pn_join.proofs.RowFacts.{length-leaves}
 use Rattle.pn_join.proofs.RowGrowth.{leaves_of-set}
+use Rattle.pn_join.proofs.RowPlaces.{length-ends}
 
 is_so : (b : Bool) → T b → b ≡ true
 is_so true h = refl
@@ -52,16 +53,16 @@ module _ {K C : Type 0} (cmp : K → K → Ordering) (whole : List (List (K × C
   pub is_ready : IsReady leaf
   is_ready = subst IsReady (sym at) (ready_at leaves edit.leaf leaf h.ready.0)
 
-  pub is_few : length (put cmp edit.key edit.value (leaf_entries leaf)) ≤ most_in_leaf
+  pub is_few : length (put cmp edit.change.key edit.change.after (leaf_entries leaf)) ≤ most_in_leaf
   is_few = rw was (put_fits cmp edit left rows inside h.sizes)
 
   pub is_rising : IsTrue (is_sorted cmp (leaf_entries leaf))
   is_rising = rw was (each_at (λ entries. IsTrue (is_sorted cmp entries)) rows edit.leaf [] h.rising inside)
 
-  module _ (next : Leaf K C) (is : leaf_entries next ≡ put cmp edit.key edit.value (leaf_entries leaf)) (more : ℕ) (grown : length (leaf_entries next) ≡ length (leaf_entries leaf) + more) where
+  module _ (next : Leaf K C) (is : leaf_entries next ≡ put cmp edit.change.key edit.change.after (leaf_entries leaf)) (more : ℕ) (grown : length (leaf_entries next) ≡ length (leaf_entries leaf) + more) where
     pub fit : FitFrom edit.leaf more ends
     fit =
-        let one : more ≤ 1 = omega (arith, grown, ap length is, put_by_one cmp edit.key edit.value (leaf_entries leaf)) in
+        let one : more ≤ 1 = omega (arith, grown, ap length is, put_by_one cmp edit.change.key edit.change.after (leaf_entries leaf)) in
         let counted : length (all_entries rows) + suc (length left) < 2 ^ 64 = h.count in
         let room : (0 + length (all_entries rows)) + more < 2 ^ 64 = omega (arith, one, counted) in
         rw h.counted.each (fit_ends 0 more rows room edit.leaf)
@@ -69,12 +70,12 @@ module _ {K C : Type 0} (cmp : K → K → Ordering) (whole : List (List (K × C
     pub put_next : IsTotalOrder cmp → (next_ends : List ℕ) → IsReady next → next_ends ≡ raised_from edit.leaf more ends → Putting cmp whole (set leaves edit.leaf next) next_ends left
     put_next o next_ends ready raised =
         let i = edit.leaf in
-        let x = put cmp edit.key edit.value (get_or rows i []) in
-        let now : leaf_entries next ≡ x = is ∙ ap (put cmp edit.key edit.value) was in
+        let x = put cmp edit.change.key edit.change.after (get_or rows i []) in
+        let now : leaf_entries next ≡ x = is ∙ ap (put cmp edit.change.key edit.change.after) was in
         let new : leaves_of (set leaves i next) ≡ put_at cmp rows edit = leaves_of-set leaves i next ∙ ap (set rows i) now in
-        let up : IsTrue (is_sorted cmp x) = is_so _ (is_sorted-put cmp o edit.key edit.value (get_or rows i []) (subst T (sym (each_at (λ entries. IsTrue (is_sorted cmp entries)) rows i [] h.rising inside)) tt)) in
+        let up : IsTrue (is_sorted cmp x) = is_so _ (is_sorted-put cmp o edit.change.key edit.change.after (get_or rows i []) (subst T (sym (each_at (λ entries. IsTrue (is_sorted cmp entries)) rows i [] h.rising inside)) tt)) in
         let counted : length (all_entries rows) + suc (length left) < 2 ^ 64 = h.count in
-        let few : length (all_entries (put_at cmp rows edit)) ≤ length (all_entries rows) + 1 = one_longer rows i x inside (put_by_one cmp edit.key edit.value (get_or rows i [])) in
+        let few : length (all_entries (put_at cmp rows edit)) ≤ length (all_entries rows) + 1 = one_longer rows i x inside (put_by_one cmp edit.change.key edit.change.after (get_or rows i [])) in
         let by : length x + 0 ≡ length (get_or rows i []) + more = omega (arith, grown, ap length now, ap length was) in
         record {
           comes = ap (λ r. put_all cmp r left) new ∙ h.comes;
@@ -94,3 +95,41 @@ put_within cmp whole leaves ends edit left h = ready_within leaves edit.leaf h.r
 pub none_left : {A : Type 0} (xs : List A) → length xs ≡ 0 → xs ≡ []
 none_left [] is = refl
 none_left (x ∷ xs) is = absurd (omega (arith, is))
+
+-- what holds where the ends from a place on are still to be raised
+pub record Behind {K C : Type 0} (cmp : K → K → Ordering) (whole : List (List (K × C))) (leaves : List (Leaf K C)) (ends : List ℕ) (from more : ℕ) (left : List (Edit K C)) : Type 0 where
+  pub putting : Putting cmp whole leaves (raised_from from more ends) left
+  pub fit : FitFrom from more ends
+  pub order : GoUp from left
+
+pub at_first : {K C : Type 0} (cmp : K → K → Ordering) (whole : List (List (K × C))) (leaves : List (Leaf K C)) (ends : List ℕ) (left : List (Edit K C)) → Putting cmp whole leaves ends left → GoUp 0 left → Behind cmp whole leaves ends 0 0 left
+at_first cmp whole leaves ends left h order =
+    let room : (0 + length (all_entries (leaves_of leaves))) + 0 < 2 ^ 64 = omega (arith, h.counted.fits) in
+    record {
+      putting = subst (λ es. Putting cmp whole leaves es left) (sym (raise_none 0 ends)) h;
+      fit = rw h.counted.each (fit_ends 0 0 (leaves_of leaves) room 0);
+      order = order;
+    }
+
+module _ {K C : Type 0} (cmp : K → K → Ordering) (whole : List (List (K × C))) (leaves : List (Leaf K C)) (ends raised : List ℕ) (from more : ℕ) (edit : Edit K C) (left : List (Edit K C)) (h : Behind cmp whole leaves ends from more (edit ∷ left)) (same : raised_from edit.leaf more raised ≡ raised_from from more ends) (leaf : Leaf K C) (at : leaf ≡ get_or leaves edit.leaf leaf) (next : Leaf K C) (is : leaf_entries next ≡ put cmp edit.change.key edit.change.after (leaf_entries leaf)) (added : ℕ) (grown : length (leaf_entries next) ≡ length (leaf_entries leaf) + added) where
+  fit_added : FitFrom edit.leaf (more + added) raised
+  fit_added =
+      fit_twice edit.leaf more added raised
+      (subst (FitFrom edit.leaf added) (sym same) (fit cmp whole leaves (raised_from from more ends) edit left h.putting leaf at next is added grown))
+
+  pub sum_fits : more + added < 2 ^ 64
+  sum_fits =
+      let rows = leaves_of leaves in
+      let lt : edit.leaf < length leaves = put_within cmp whole leaves (raised_from from more ends) edit left h.putting in
+      let long : length raised ≡ length leaves = sym (length-raised edit.leaf more raised) ∙ ap length same ∙ ap length h.putting.counted.each ∙ length-ends 0 rows ∙ length-leaves leaves in
+      omega (arith, fit_at edit.leaf (more + added) raised fit_added 0 (omega (arith, lt, long)))
+
+  pub behind_next : IsTotalOrder cmp → IsReady next → Behind cmp whole (set leaves edit.leaf next) raised edit.leaf (more + added) left
+  behind_next o ready =
+      let now : raised_from edit.leaf added (raised_from from more ends) ≡ raised_from edit.leaf (more + added) raised = ap (raised_from edit.leaf added) (sym same) ∙ raise_twice edit.leaf more added raised in
+      record {
+        putting = subst (λ es. Putting cmp whole (set leaves edit.leaf next) es left) now
+            (put_next cmp whole leaves (raised_from from more ends) edit left h.putting leaf at next is added grown o (raised_from edit.leaf added (raised_from from more ends)) ready refl);
+        fit = fit_added;
+        order = h.order.1;
+      }

@@ -56,3 +56,14 @@ module _ {K X : Type 0} (cmp : K → K → Ordering) where
               | true ↦ λ p. means ∙ ap (λ x. optional_joined joined (option_map meaning x) (Some (meaning content))) (find_tied cmp o q key (tie _ p) es)
               | false ↦ λ p. unchanged (option_map meaning (find cmp q es))
             ] refl
+
+      -- an entry that joins to what is there already
+      pub contents_at-same : (key : K) (content : X) (es : List (K × X)) → optional_joined joined (option_map meaning (find cmp key es)) (Some (meaning content)) ≡ option_map meaning (find cmp key es) → contents_at cmp meaning es ≡ key_by_key joined (contents_at cmp meaning es) (contents_at cmp meaning ((key, content) ∷ []))
+      contents_at-same key content es same i q = at i where
+        at : option_map meaning (find cmp q es) ≡ optional_joined joined (option_map meaning (find cmp q es)) (option_map meaning (cond (eq_by_cmp cmp q key) (Some content) None))
+        at = elim (eq_by_cmp cmp q key) as (λ b. eq_by_cmp cmp q key ≡ b → option_map meaning (find cmp q es) ≡ optional_joined joined (option_map meaning (find cmp q es)) (option_map meaning (cond b (Some content) None))) [
+              | true ↦ λ p.
+                  let here = ap (option_map meaning) (find_tied cmp o q key (tie _ p) es) in
+                  sym here ∙ sym same ∙ ap (λ x. optional_joined joined x (Some (meaning content))) here
+              | false ↦ λ p. unchanged (option_map meaning (find cmp q es))
+            ] refl

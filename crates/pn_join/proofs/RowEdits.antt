@@ -1,5 +1,5 @@
 -- A leaf of a row changes, and the ends beside the leaves with it.
-use Rattle.std.proofs.Common.{◌≡◌, ℕ, zero, suc, ◌+◌, ◌^◌, ◌<◌, ◌≤◌, List, [], ◌∷◌, ◌++◌, length, get_or, take, drop, set, insert, refl, sym, ap, ◌∙◌, arith, append-nil, append_assoc}
+use Rattle.std.proofs.Common.{◌≡◌, ℕ, zero, suc, ◌+◌, ◌^◌, ◌<◌, ◌≤◌, List, [], ◌∷◌, ◌++◌, length, get_or, min, take, drop, set, insert, refl, sym, ap, ◌∙◌, arith, append-nil, append_assoc}
 use Rattle.std.specs.List.{AllByRecursion}
 use Rattle.std.proofs.lemmas.List.{length-append}
 use Rattle.pn_join.specs.Leaves.{all_entries, ends_after}
@@ -30,6 +30,38 @@ pub length-raised : (i by : ℕ) (ns : List ℕ) → length (raised_from i by ns
 length-raised i by [] = refl
 length-raised zero by (n ∷ ns) = ap suc (length-raised zero by ns)
 length-raised (suc i) by (n ∷ ns) = ap suc (length-raised i by ns)
+
+-- nothing is raised
+pub raise_none : (i : ℕ) (ns : List ℕ) → raised_from i 0 ns ≡ ns
+raise_none i [] = refl
+raise_none zero (n ∷ ns) = let same : n + 0 ≡ n = omega arith in (λ j. same j ∷ raise_none zero ns j)
+raise_none (suc i) (n ∷ ns) = ap (λ ms. n ∷ ms) (raise_none i ns)
+
+-- raised twice
+pub raise_twice : (i a b : ℕ) (ns : List ℕ) → raised_from i b (raised_from i a ns) ≡ raised_from i (a + b) ns
+raise_twice i a b [] = refl
+raise_twice zero a b (n ∷ ns) = let same : (n + a) + b ≡ n + (a + b) = omega arith in (λ j. same j ∷ raise_twice zero a b ns j)
+raise_twice (suc i) a b (n ∷ ns) = ap (λ ms. n ∷ ms) (raise_twice i a b ns)
+
+pub fit_twice : (i a b : ℕ) (ns : List ℕ) → FitFrom i b (raised_from i a ns) → FitFrom i (a + b) ns
+fit_twice i a b [] h = tt
+fit_twice zero a b (n ∷ ns) h = (omega (arith, h.0), fit_twice zero a b ns h.1)
+fit_twice (suc i) a b (n ∷ ns) h = fit_twice i a b ns h
+
+pub fit_later : (i j by : ℕ) (ns : List ℕ) → i ≤ j → FitFrom i by ns → FitFrom j by ns
+fit_later i j by [] le h = tt
+fit_later zero zero by (n ∷ ns) le h = h
+fit_later zero (suc j) by (n ∷ ns) le h = fit_later zero j by ns (omega arith) h.1
+fit_later (suc i) zero by (n ∷ ns) le h = absurd (omega (arith, le))
+fit_later (suc i) (suc j) by (n ∷ ns) le h = fit_later i j by ns (omega (arith, le)) h
+
+-- past the end no place makes a difference
+pub raise_past : (i j by : ℕ) (ns : List ℕ) → i ≤ j → min j (length ns) ≤ i → raised_from j by ns ≡ raised_from i by ns
+raise_past i j by [] le past = refl
+raise_past zero zero by (n ∷ ns) le past = refl
+raise_past zero (suc j) by (n ∷ ns) le past = absurd (omega (arith, past))
+raise_past (suc i) zero by (n ∷ ns) le past = absurd (omega (arith, le))
+raise_past (suc i) (suc j) by (n ∷ ns) le past = ap (λ ms. n ∷ ms) (raise_past i j by ns (omega (arith, le)) (omega (arith, past)))
 
 module _ {A : Type 0} where
   pub fit_ends : (m by : ℕ) (rows : List (List A)) → (m + length (all_entries rows)) + by < 2 ^ 64 → (i : ℕ) → FitFrom i by (ends_after m rows)

@@ -1,17 +1,17 @@
 -- What comes to keys of leaves, and what it makes of the leaves.
-use Rattle.std.specs.Prelude.{◌≡◌, ℕ, zero, suc, ◌≤◌, List, [], ◌∷◌, Some, option_map, get_or, set, length, vec_capacity}
+use Rattle.std.specs.Prelude.{◌≡◌, ℕ, zero, suc, ◌<◌, ◌≤◌, List, [], ◌∷◌, Option, None, Some, map, get_or, set, length, vec_capacity}
 use Rattle.std.specs.declared.cmp.Ordering.{Ordering}
-use Rattle.std.specs.List.{AllByRecursion, AllZip, fold}
-use Rattle.std.specs.FinMap.{find, put}
+use Rattle.std.specs.List.{AllByRecursion, fold}
+use Rattle.std.specs.FinMap.{put}
+use Rattle.pn_join.specs.declared.table.change.TableChange.{TableChange}
 use Rattle.pn_join.specs.declared.table.edit.Edit.{Edit}
 use Rattle.pn_join.specs.declared.table.leaf.Leaf.{Leaf}
 use Rattle.pn_join.specs.declared.table.leaf.Leaf.TheVariants.{Own, Shared}
-use Rattle.pn_join.specs.Leaves.{all_entries, leaf_for, most_in_leaf}
-use Rattle.pn_join.specs.Tables.{optional_joined}
+use Rattle.pn_join.specs.Leaves.{leaf_for, most_in_leaf}
 
 -- the leaves once a value is put at its key in its leaf
 abbrev pub put_at : {K C : Type 0} → (K → K → Ordering) → List (List (K × C)) → Edit K C → List (List (K × C))
-put_at cmp leaves edit = set leaves edit.leaf (put cmp edit.key edit.value (get_or leaves edit.leaf []))
+put_at cmp leaves edit = set leaves edit.leaf (put cmp edit.change.key edit.change.after (get_or leaves edit.leaf []))
 
 -- the leaves once all values are put
 abbrev pub put_all : {K C : Type 0} → (K → K → Ordering) → List (List (K × C)) → List (Edit K C) → List (List (K × C))
@@ -32,13 +32,26 @@ IsReadyAt [] i = ⊥
 IsReadyAt (leaf ∷ leaves) zero = IsReady leaf
 IsReadyAt (leaf ∷ leaves) (suc i) = IsReadyAt leaves i
 
--- the edit that an entry makes: at its key, in its key's leaf, the join of what is there and what comes
-pub record IsEdit {K C M : Type 0} (cmp : K → K → Ordering) (meaning : C → M) (joined : M → M → M) (valid : C → Type 0) (leaves : List (List (K × C))) (entry : K × C) (edit : Edit K C) : Type 0 where
-  pub key : edit.key ≡ entry.0
-  pub leaf : edit.leaf ≡ leaf_for cmp entry.0 leaves
-  pub means : Some (meaning edit.value) ≡ optional_joined joined (option_map meaning (find cmp entry.0 (all_entries leaves))) (Some (meaning entry.1))
-  pub is_valid : valid edit.value
+-- what the edits change
+abbrev pub changes_in : {K C : Type 0} → List (Edit K C) → List (TableChange K C)
+changes_in edits = map (λ edit. edit.change) edits
 
--- the edits of entries, in their order
-abbrev pub AreEdits : {K C M : Type 0} → (K → K → Ordering) → (C → M) → (M → M → M) → (C → Type 0) → List (List (K × C)) → List (K × C) → List (Edit K C) → Type 0
-AreEdits cmp meaning joined valid leaves entries edits = AllZip (IsEdit cmp meaning joined valid leaves) entries edits
+-- each edit stands beside its key's leaf
+abbrev pub AreAimed : {K C : Type 0} → (K → K → Ordering) → List (List (K × C)) → List (Edit K C) → Type 0
+AreAimed cmp leaves edits = AllByRecursion (λ edit. edit.leaf ≡ leaf_for cmp edit.change.key leaves) edits
+
+-- the edit, if there is one, stands beside its key's leaf
+abbrev pub IsAimed : {K C : Type 0} → (K → K → Ordering) → List (List (K × C)) → Option (Edit K C) → Type 0
+IsAimed cmp leaves None = Unit {0}
+IsAimed cmp leaves (Some edit) = edit.leaf ≡ leaf_for cmp edit.change.key leaves
+
+-- the edits stand in the order of their leaves, none of which comes before this one
+abbrev pub GoUp : {K C : Type 0} → ℕ → List (Edit K C) → Type 0
+GoUp leaf [] = Unit {0}
+GoUp leaf (edit ∷ edits) = (leaf ≤ edit.leaf) × GoUp edit.leaf edits
+
+-- the edits go up the leaves, each of which has room for what comes to it
+pub record HaveRoom {K C : Type 0} (cmp : K → K → Ordering) (leaves : List (List (K × C))) (edits : List (Edit K C)) : Type 0 where
+  pub within : AllByRecursion (λ edit. edit.leaf < length leaves) edits
+  pub sizes : AreFew (put_all cmp leaves edits)
+  pub order : GoUp 0 edits

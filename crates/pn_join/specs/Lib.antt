@@ -8,4 +8,5 @@ pub mod Places
 pub mod Proofs
 pub mod PutInLeaves
 pub mod RowChanges
+pub mod TableChanges
 pub mod Tables

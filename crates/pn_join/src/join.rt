@@ -1,6 +1,6 @@
 //! Values that copy themselves, and values that join with their equals.
 
-ghost use Rattle.std.specs.Prelude.{◌≡◌, IfOk, OnOk, OnErr};
+ghost use Rattle.std.specs.Prelude.{◌≡◌, unwrap_or, IfOk, OnOk, OnErr};
 ghost use Rattle.pn_join.specs.Laws.{JoinLaws};
 
 use crate::NoMemory;
@@ -31,6 +31,16 @@ pub trait Join: Dup {
         ensures ok { OnOk result (meaning self.new ≡ joined (meaning self.old) (meaning other.now)) }
         ensures err { OnErr result (self.new ≡ self.old) }
         ensures are_valid { valid self.old × valid other.now × valid self.new };
+
+    /// The join of itself and the other. None says that it means what this value means already.
+    fn changed_by(&self, other: &Self) -> Result<Option<Self>, NoMemory>
+        ensures joined { IfOk result (λ value. meaning (unwrap_or value self.now) ≡ joined (meaning self.now) (meaning other.now)) }
+        ensures are_valid { IfOk result (λ value. valid self.now × valid other.now × valid (unwrap_or value self.now)) }
+    {
+        let mut value = self.dup()?;
+        value.join_from(other)?;
+        Ok(Some(value))
+    }
 
     ghost laws: { JoinLaws joined };
 }

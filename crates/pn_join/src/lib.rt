@@ -12,4 +12,4 @@ pub use join::{Dup, Join};
 pub use marks::{Highest, LAST_POSITION, Marks, raise, raise_at};
 pub use memory::NoMemory;
 pub use name::{BadName, LONGEST_NAME, Name, StreamName};
-pub use table::{Entries, Table};
+pub use table::{Entries, Table, TableChange};

@@ -7,7 +7,9 @@ ghost use Rattle.std.specs.FinMap.{find, put, is_sorted};
 ghost use Rattle.pn_join.specs.Tables.{contents_at, key_by_key, IsTable};
 ghost use Rattle.pn_join.specs.Leaves.{all_entries, IsLeaf, AreLeavesOf};
 ghost use Rattle.pn_join.specs.PutInLeaves.{ChangesOneLeaf};
+ghost use Rattle.pn_join.specs.TableChanges.{AreChanges};
 
+mod change;
 mod edit;
 mod ends;
 mod entries;
@@ -16,7 +18,9 @@ mod row;
 mod single;
 
 use crate::{Dup, Join, NoMemory};
+pub use change::TableChange;
 pub use entries::Entries;
+use edit::changes_of;
 use row::Row;
 use std::alloc::Global;
 use std::marker::Model;
@@ -129,6 +133,27 @@ impl<K: Ord + Dup, C: Join> Table<K, C> {
     {
         self.row.join_entry(key, content)
     }
+
+    /// Joins the other in, and tells what that changes: each key of the other whose content means
+    /// something else then, in key order. An error leaves the table as it was.
+    ///
+    /// A content that tells nothing of its changes is told also where it means the same.
+    pub fn join_and_tell(&mut self, other: &Self) -> Result<Vec<TableChange<K, C>>, NoMemory>
+        ensures ok { OnOk result (contents_at K.cmp C.meaning self.new
+            ≡ key_by_key C.joined (contents_at K.cmp C.meaning self.old) (contents_at K.cmp C.meaning other.now)) }
+        ensures changes { IfOk result (λ changes. AreChanges K.cmp C.meaning C.joined C.valid self.old other.now changes.items) }
+        ensures err { OnErr result (self.new ≡ self.old) }
+        ensures tables { IsTable K.cmp C.valid self.old × IsTable K.cmp C.valid other.now × IsTable K.cmp C.valid self.new }
+    {
+        self.is_table();
+        other.is_table();
+        let edits = self.row.edits_from(&other.row)?;
+        let changes = changes_of(self.row.alloc(), &edits)?;
+        if !self.row.put(edits)? {
+            *self = self.joined_with(other)?;
+        }
+        Ok(changes)
+    }
 }
 
 impl<K: Ord + Dup, C: Join> Dup for Table<K, C> {
@@ -157,13 +182,8 @@ impl<K: Ord + Dup, C: Join> Join for Table<K, C> {
     fn join_from(&mut self, other: &Self) -> Result<(), NoMemory> {
         self.is_table();
         other.is_table();
-        if other.len() == 1 {
-            if let Some((key, content)) = other.entry_at(0) {
-                return self.join_entry(key.dup()?, content.dup()?);
-            }
-        }
-        self.row.make_way(&other.row)?;
-        if !self.row.join_together(&other.row)? {
+        let edits = self.row.edits_from(&other.row)?;
+        if !self.row.put(edits)? {
             *self = self.joined_with(other)?;
         }
         Ok(())
@@ -185,6 +205,10 @@ impl<K: Ord + Dup, C: Join> Table<K, C> {
             (contents_at K.cmp C.meaning other.now)) × IsTable K.cmp C.valid joined) }
     {
         self.is_table();
+        other.is_table();
+        if self.len() == 0 {
+            return other.dup();
+        }
         let mut joined = self.dup()?;
         for (key, content) in other.iter() {
             joined.join_entry(key.dup()?, content.dup()?)?;

@@ -23,7 +23,7 @@ same_cell-itself a =
     both_true (eq_by_cmp version_cmp a.0 a.0) (pointwise (eq_by_cmp content_cmp) (keys a.1) (keys a.1))
     ((eq_by_cmp_equiv version_cmp_total).refl a.0) ((lists_equiv (eq_by_cmp_equiv content_cmp_total)).refl (keys a.1))
 
-same_at-itself : (o : Option CellValue) → same_at o o ≡ true
+pub same_at-itself : (o : Option CellValue) → same_at o o ≡ true
 same_at-itself None = refl
 same_at-itself (Some a) = same_cell-itself a
 

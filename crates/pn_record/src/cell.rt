@@ -1,6 +1,6 @@
 //! Cells: what a replica keeps of a record.
 
-ghost use Rattle.std.specs.Prelude.{◌≡◌, ◌∷◌, [], ◌<◌, length, IsTrue, IfOk, OnOk, OnErr};
+ghost use Rattle.std.specs.Prelude.{◌≡◌, ◌∷◌, [], ◌<◌, length, unwrap_or, IsTrue, IfOk, OnOk, OnErr};
 ghost use Rattle.std.specs.FinMap.{keys};
 ghost use Rattle.std.specs.List.{list_all};
 ghost use Rattle.pn_record.specs.Sets.{CellValue, set_of, union, cell_joined, HasContents};
@@ -152,9 +152,48 @@ impl Join for Cell {
         }
         Ok(())
     }
+
+    /// None where the other is older, or has no content that is not there already.
+    fn changed_by(&self, other: &Cell) -> Result<Option<Cell>, NoMemory>
+        ensures joined { IfOk result (λ cell. unwrap_or cell self.now ≡ cell_joined self.now other.now) }
+        ensures are_valid { IfOk result (λ cell. HasContents self.now × HasContents other.now × HasContents (unwrap_or cell self.now)) }
+    {
+        let order = self.version().cmp(&other.version());
+        match order {
+            Ordering::Less => Ok(Some(other.dup()?)),
+            Ordering::Equal => Ok(self.gathered_with(other)?),
+            Ordering::Greater => Ok(None),
+        }
+    }
 }
 
 impl Cell {
+    // The cell with the contents of the other too, which has the same version. None where they are all there.
+    fn gathered_with(&self, other: &Cell) -> Result<Option<Cell>, NoMemory>
+        ensures gathered { IfOk result (λ cell. unwrap_or cell self.now ≡ (self.now.0, union self.now.1 other.now.1)) }
+        ensures some { IfOk result (λ cell. HasContents self.now × HasContents other.now × HasContents (unwrap_or cell self.now)) }
+    {
+        if are_same(self.contents(), other.contents()) {
+            return Ok(None);
+        }
+        let mut both = self.dup()?;
+        both.gather(other)?;
+        Ok(self.unless_same(both))
+    }
+
+    // Another cell of the same version, or none where that has the same contents.
+    fn unless_same(&self, other: Cell) -> Option<Cell>
+        requires version { other.0 ≡ self.now.0 }
+        requires some { HasContents other }
+        ensures cell { unwrap_or result self.now ≡ other }
+        ensures some { HasContents (unwrap_or result self.now) }
+    {
+        if are_same(self.contents(), other.contents()) {
+            return None;
+        }
+        Some(other)
+    }
+
     // Takes the contents of the other too, which has the same version.
     fn gather(&mut self, other: &Cell) -> Result<(), NoMemory>
         ensures ok { OnOk result (self.new ≡ (self.old.0, union self.old.1 other.now.1)) }

@@ -34,7 +34,7 @@ pub use key::{Key, KeyFault};
 pub use marks::{marks_of, marks_value};
 pub use marks_writer::write_marks;
 pub use read::{image_of, read_image, read_value, version_of};
-pub use records::{Records, join_records, take_image};
+pub use records::{Records, join_and_tell, join_records, take_image};
 pub use shape::{Shape, numbers_of, shape_of};
 pub use version::Version;
 pub use write::{content_value, image_value, record_value, version_value, write_image};

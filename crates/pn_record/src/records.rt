@@ -1,16 +1,17 @@
 //! Records by key: a table of cells, and what it holds of a list of images.
 
-ghost use Rattle.std.specs.Prelude.{◌≡◌, ℕ, IsTrue, ◌∷◌, [], ◌++◌, List, OnOk, OnErr};
+ghost use Rattle.std.specs.Prelude.{◌≡◌, ℕ, IsTrue, ◌∷◌, [], ◌++◌, List, IfOk, OnOk, OnErr};
 ghost use Rattle.pn_record.specs.declared.image.Image.{Image};
 ghost use Rattle.pn_record.specs.Cells.{Holds, spell};
 ghost use Rattle.pn_record.specs.CellMap.{adds};
 ghost use Rattle.pn_record.specs.Order.{bytes_cmp};
-ghost use Rattle.pn_record.specs.Sets.{cell_joined};
+ghost use Rattle.pn_record.specs.Sets.{cell_joined, HasContents};
+ghost use Rattle.pn_join.specs.TableChanges.{AreChanges};
 ghost use Rattle.pn_join.specs.Tables.{optional_joined};
 ghost use Rattle.std.specs.FinMap.{find, is_sorted};
 
 use crate::{Cell, Image, Key};
-use pn_join::{Join, NoMemory, Table};
+use pn_join::{Join, NoMemory, Table, TableChange};
 use std::alloc::Global;
 
 /// Cells by key.
@@ -42,4 +43,20 @@ pub fn join_records(records: &mut Records, other: &Records) -> Result<(), NoMemo
     ensures err { OnErr result (records.new ≡ records.old) }
 {
     records.join_from(other)
+}
+
+/// Joins other records into these, and tells what that changes, in key order. An error leaves them as
+/// they were.
+pub fn join_and_tell(
+    records: &mut Records,
+    other: &Records,
+) -> Result<Vec<TableChange<Key, Cell>>, NoMemory>
+    ensures changes { IfOk result (λ changes. AreChanges bytes_cmp (λ cell. cell) cell_joined HasContents records.old other.now changes.items) }
+    ensures spelled { OnOk result (Holds records.new (spell records.old ++ spell other.now)) }
+    ensures joined { OnOk result ((key : List ℕ) → find bytes_cmp key records.new
+        ≡ optional_joined cell_joined (find bytes_cmp key records.old) (find bytes_cmp key other.now)) }
+    ensures rising { OnOk result (IsTrue (is_sorted bytes_cmp records.new) × IsTrue (is_sorted bytes_cmp other.now)) }
+    ensures err { OnErr result (records.new ≡ records.old) }
+{
+    records.join_and_tell(other)
 }

@@ -21,3 +21,4 @@ pub mod SameSpelling
 pub mod SpelledImages
 pub mod Stepping
 pub mod TabletLaws
+pub mod Told

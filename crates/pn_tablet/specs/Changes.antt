@@ -2,6 +2,7 @@
 use Rattle.std.specs.Prelude.{ℕ, List, [], Option, None, Some, option_map, if◌then◌else◌}
 use Rattle.std.specs.List.{filter_map}
 use Rattle.std.specs.FinMap.{find}
+use Rattle.pn_join.specs.declared.table.change.TableChange.{TableChange}
 use Rattle.pn_record.specs.Order.{bytes_cmp}
 use Rattle.pn_record.specs.Sets.{CellValue, Stamp, cell_joined}
 use Rattle.pn_record.specs.CellMap.{Entries}
@@ -27,6 +28,10 @@ changes before after = filter_map (λ entry. change_of (find bytes_cmp entry.0 b
 abbrev pub answer : TabletOp → TabletStateValue → TabletStateValue → List Change
 answer (Join cells marks) before after = changes before.cells after.cells
 answer _ before after = []
+
+-- the change that is told by what a key had before and has after, unless that is the same
+abbrev pub change_told : TableChange (List ℕ) CellValue → Option Change
+change_told told = change_of told.before (told.key, told.after)
 
 -- the change of a key when another cell is joined to what it has
 abbrev pub change_by : Option CellValue → List ℕ × CellValue → Option Change

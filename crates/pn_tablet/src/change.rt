@@ -1,14 +1,12 @@
 //! The changes that a join makes to the cells of keys.
 
-ghost use Rattle.std.specs.Prelude.{◌≡◌, IfOk};
+ghost use Rattle.std.specs.Prelude.{◌≡◌, ◌+◌, ◌<◌, ◌≤◌, [], ◌++◌, length, vec_len, vec_capacity, IfOk};
 ghost use Rattle.std.specs.List.{filter_map};
-ghost use Rattle.std.specs.Option.{option_copied};
-ghost use Rattle.std.specs.FinMap.{find};
-ghost use Rattle.pn_record.specs.Order.{bytes_cmp};
-ghost use Rattle.pn_tablet.specs.Changes.{change_by};
+ghost use Rattle.std.specs.Option.{option_to_list};
+ghost use Rattle.pn_tablet.specs.Changes.{change_told};
 
-use pn_join::{Dup, Join, NoMemory};
-use pn_record::{Cell, Key, Records, Version};
+use pn_join::{NoMemory, TableChange};
+use pn_record::{Cell, Key, Version};
 use std::alloc::Global;
 
 /// A key whose cell changed, with its version before, if it was there, and after.
@@ -19,43 +17,53 @@ pub struct Change {
     pub after: Version,
 }
 
-// What joining the cells to the records changes, in key order.
-pub fn changes_of(
-    alloc: Global,
-    records: &Records,
-    cells: &Records,
-) -> Result<Vec<Change>, NoMemory>
-    ensures { IfOk result (λ changes. changes.items ≡ filter_map (λ entry.
-        change_by (find bytes_cmp entry.0 records.now) entry) cells.now) }
+// Room for so many changes.
+pub fn room_for(alloc: Global, count: usize) -> Result<Vec<Change>, NoMemory>
+    ensures { IfOk result (λ changes. (changes.items ≡ []) × (count ≤ vec_capacity changes)) }
 {
-    let mut changes = Vec::new(alloc);
-    for (key, cell) in cells.iter() {
-        if let Some(change) = change_of(records.get(key), key, cell)? {
-            changes.push(change)?;
-        }
-    }
-    Ok(changes)
+    Ok(Vec::with_capacity(alloc, count)?)
 }
 
-// The change of a key when the other cell is joined to what it has.
-fn change_of(before: Option<&Cell>, key: &Key, cell: &Cell) -> Result<Option<Change>, NoMemory>
-    ensures { IfOk result (λ change. change ≡ change_by (option_copied before.entry) (key.now, cell.now)) }
+// Adds the changes that are told, without those to a cell that is the same as before.
+pub fn add_told(changes: &mut Vec<Change>, told: Vec<TableChange<Key, Cell>>)
+    requires none { changes.old.items ≡ [] }
+    requires room { length told.items ≤ vec_capacity changes.old }
+    ensures { changes.new.items ≡ filter_map change_told told.items }
 {
-    let Some(before) = before else {
-        return Ok(Some(Change {
-            key: key.dup()?,
-            before: None,
-            after: cell.version(),
-        }));
-    };
-    let mut after = before.dup()?;
-    after.join_from(cell)?;
-    if before.version() == after.version() && before.contents() == after.contents() {
-        return Ok(None);
+    for change in told {
+        push_told(changes, change);
     }
-    Ok(Some(Change {
-        key: key.dup()?,
+}
+
+fn push_told(changes: &mut Vec<Change>, told: TableChange<Key, Cell>)
+    requires room { vec_len changes.old < vec_capacity changes.old }
+    ensures items { changes.new.items ≡ changes.old.items ++ option_to_list (change_told told) }
+    ensures len { vec_len changes.new ≤ vec_len changes.old + 1 }
+    ensures capacity { vec_capacity changes.new ≡ vec_capacity changes.old }
+{
+    if let Some(change) = change_of(told) {
+        changes.push_reserved(change);
+    }
+}
+
+// The change that is told, unless the cell is the same as before.
+fn change_of(told: TableChange<Key, Cell>) -> Option<Change>
+    ensures { result ≡ change_told told }
+{
+    let TableChange { key, before, after } = told;
+    let Some(before) = before else {
+        return Some(Change {
+            key,
+            before: None,
+            after: after.version(),
+        });
+    };
+    if before.version() == after.version() && before.contents() == after.contents() {
+        return None;
+    }
+    Some(Change {
+        key,
         before: Some(before.version()),
         after: after.version(),
-    }))
+    })
 }

@@ -12,12 +12,12 @@ ghost use Rattle.pn_tablet.specs.declared.op.TabletOp.TheVariants.{Join, Lose, A
 
 mod parts;
 
-use crate::change::changes_of;
+use crate::change::{add_told, room_for};
 use crate::inside::lie_in;
 use crate::needs::{Short, first_short};
 use crate::{Change, OpFault, Range, TabletCopy, TabletOp};
 use pn_join::{Dup, Marks, NoMemory, raise};
-use pn_record::{Records, join_records};
+use pn_record::{Records, join_and_tell, join_records};
 use std::alloc::Global;
 use std::marker::Model;
 
@@ -114,9 +114,10 @@ impl TabletState {
         if !lie_in(&self.range, cells) {
             return Err(OpFault::WrongRange);
         }
-        let changes = changes_of(self.alloc, &self.cells, cells)?;
+        let mut changes = room_for(self.alloc, cells.len())?;
         let (cover, spare) = raised_by(&self.cover, marks)?;
-        join_records(&mut self.cells, cells)?;
+        let told = join_and_tell(&mut self.cells, cells)?;
+        add_told(&mut changes, told);
         self.cover = cover;
         self.spare = Some(spare);
         Ok(changes)

@@ -1,31 +1,44 @@
 //! What comes to keys of a row together: leaves are made ready for it first, and then nothing can fail.
 
-ghost use Rattle.std.specs.Prelude.{◌≡◌, ◌+◌, ◌^◌, ◌<◌, ◌≤◌, [], length, get_or, vec_capacity, IsTrue, OnOk, OnErr};
+ghost use Rattle.std.specs.Prelude.{◌≡◌, ◌+◌, ◌^◌, ◌<◌, ◌≤◌, [], length, get_or, vec_capacity, IsTrue, IfOk, OnOk, OnErr};
 ghost use Rattle.std.specs.List.{AllByRecursion};
 ghost use Rattle.std.specs.FinMap.{put, is_sorted};
-ghost use Rattle.pn_join.specs.Edits.{put_all as all_put, AreFew, IsReady, IsReadyAt};
+ghost use Rattle.pn_join.specs.Edits.{put_all as all_put, changes_in, AreFew, GoUp, HaveRoom, IsReady, IsReadyAt};
 ghost use Rattle.pn_join.specs.LeafEntries.{leaf_entries, leaves_of};
 ghost use Rattle.pn_join.specs.Leaves.{all_entries, most_in_leaf, AreEnds};
 
-use crate::table::ends::raise_from;
+use crate::table::change::TableChange;
+use crate::table::ends::{raise_between, raise_from};
 use crate::table::leaf::Leaf;
 use crate::table::single::{MOST, place_in};
 use crate::{Dup, NoMemory};
 use std::alloc::Global;
 
-/// A key's leaf in its row, and the content that the key gets.
+/// A change, beside its key's leaf in a row.
 #[derive(Drop)]
 pub struct Edit<K, C> {
     pub leaf: usize,
-    pub key: K,
-    pub value: C,
+    pub change: TableChange<K, C>,
+}
+
+/// What the edits change.
+pub fn changes_of<K: Dup, C: Dup>(
+    alloc: Global,
+    edits: &[Edit<K, C>],
+) -> Result<Vec<TableChange<K, C>>, NoMemory>
+    ensures { IfOk result (λ changes. changes.items ≡ changes_in edits.now) }
+{
+    let mut changes = Vec::with_capacity(alloc, edits.len())?;
+    for edit in edits {
+        changes.push_reserved(edit.change.dup()?);
+    }
+    Ok(changes)
 }
 
 /// Whether the edits go up the row, and each leaf has room for one more entry at each of its edits.
 pub fn fits<K: Ord, C>(leaves: &[Leaf<K, C>], edits: &[Edit<K, C>]) -> bool
     requires { AreFew (leaves_of leaves.now) }
-    ensures sizes { IsTrue result → AreFew (all_put K.cmp (leaves_of leaves.now) edits.now) }
-    ensures within { IsTrue result → AllByRecursion (λ edit. edit.leaf < length leaves.now) edits.now }
+    ensures { IsTrue result → HaveRoom K.cmp (leaves_of leaves.now) edits.now }
 {
     let mut last = 0_usize;
     let mut more = 0_usize;
@@ -64,8 +77,7 @@ pub fn put_together<K: Ord + Dup, C: Dup>(
     edits: Vec<Edit<K, C>>,
 ) -> Result<(), NoMemory>
     requires few { AreFew (leaves_of leaves.old.items) }
-    requires within { AllByRecursion (λ edit. edit.leaf < length leaves.old.items) edits.items }
-    requires sizes { AreFew (all_put K.cmp (leaves_of leaves.old.items) edits.items) }
+    requires room { HaveRoom K.cmp (leaves_of leaves.old.items) edits.items }
     requires rising { AllByRecursion (λ leaf. IsTrue (is_sorted K.cmp leaf)) (leaves_of leaves.old.items) }
     requires ends { AreEnds (leaves_of leaves.old.items) ends.old.items }
     requires count { length (all_entries (leaves_of leaves.old.items)) + length edits.items < 2 ^ 64 }
@@ -105,30 +117,36 @@ fn put_all<K: Ord + Dup, C: Dup>(
 )
     requires ready { AllByRecursion (λ edit. IsReadyAt leaves.old.items edit.leaf) edits.items }
     requires sizes { AreFew (all_put K.cmp (leaves_of leaves.old.items) edits.items) }
+    requires order { GoUp 0 edits.items }
     requires rising { AllByRecursion (λ leaf. IsTrue (is_sorted K.cmp leaf)) (leaves_of leaves.old.items) }
     requires ends { AreEnds (leaves_of leaves.old.items) ends.old.items }
     requires count { length (all_entries (leaves_of leaves.old.items)) + length edits.items < 2 ^ 64 }
     ensures leaves { leaves_of leaves.new.items ≡ all_put K.cmp (leaves_of leaves.old.items) edits.items }
     ensures ends { AreEnds (leaves_of leaves.new.items) ends.new.items }
 {
+    let mut from = 0_usize;
+    let mut more = 0_usize;
     for edit in edits {
         let place = edit.leaf;
-        let more = put_in(&mut leaves[place], edit);
-        raise_from(ends, place, more);
+        raise_between(ends, from, place, more);
+        from = place;
+        let added = put_in(&mut leaves[place], edit.change);
+        more += added;
     }
+    raise_from(ends, from, more);
 }
 
 /// Puts a value into a leaf that is ready, and answers how many entries that adds.
-fn put_in<K: Ord + Dup, C: Dup>(leaf: &mut Leaf<K, C>, edit: Edit<K, C>) -> usize
+fn put_in<K: Ord + Dup, C: Dup>(leaf: &mut Leaf<K, C>, change: TableChange<K, C>) -> usize
     requires ready { IsReady leaf.old }
-    requires size { length (put K.cmp edit.key edit.value (leaf_entries leaf.old)) ≤ most_in_leaf }
+    requires size { length (put K.cmp change.key change.after (leaf_entries leaf.old)) ≤ most_in_leaf }
     requires rising { IsTrue (is_sorted K.cmp (leaf_entries leaf.old)) }
-    ensures entries { leaf_entries leaf.new ≡ put K.cmp edit.key edit.value (leaf_entries leaf.old) }
+    ensures entries { leaf_entries leaf.new ≡ put K.cmp change.key change.after (leaf_entries leaf.old) }
     ensures ready { IsReady leaf.new }
     ensures more { length (leaf_entries leaf.new) ≡ length (leaf_entries leaf.old) + result }
 {
     match leaf {
-        Leaf::Own(entries) => put_one(entries, edit.key, edit.value),
+        Leaf::Own(entries) => put_one(entries, change.key, change.after),
         Leaf::Shared(_) => 0,
     }
 }

@@ -1,6 +1,6 @@
 //! How many entries there are up to the end of each leaf.
 
-ghost use Rattle.std.specs.Prelude.{◌≡◌, ℕ, ◌+◌, ◌^◌, ◌<◌, length, vec_len, vec_capacity, IfOk};
+ghost use Rattle.std.specs.Prelude.{◌≡◌, ℕ, ◌+◌, ◌^◌, ◌<◌, ◌≤◌, length, vec_len, vec_capacity, IfOk};
 ghost use Rattle.pn_join.specs.RowChanges.{raised_from, FitFrom, ends_with};
 
 use crate::NoMemory;
@@ -26,8 +26,25 @@ pub fn raise_from(ends: &mut Vec<usize>, from: usize, by: usize)
     ensures len { vec_len ends.new ≡ vec_len ends.old }
     ensures capacity { vec_capacity ends.new ≡ vec_capacity ends.old }
 {
+    let past = from.max(ends.len());
+    raise_between(ends, from, past, by);
+}
+
+/// Raises the numbers from one place on to before another: those behind them are left to be raised.
+pub fn raise_between(ends: &mut Vec<usize>, from: usize, to: usize, by: usize)
+    requires places { from ≤ to }
+    requires fit { FitFrom from by ends.old.items }
+    ensures items { raised_from to by ends.new.items ≡ raised_from from by ends.old.items }
+    ensures fit { FitFrom to by ends.new.items }
+    ensures len { vec_len ends.new ≡ vec_len ends.old }
+    ensures capacity { vec_capacity ends.new ≡ vec_capacity ends.old }
+{
+    if by == 0 {
+        return;
+    }
+    let end = to.min(ends.len());
     let mut place = from;
-    while place < ends.len() {
+    while place < end {
         ends[place] += by;
         place += 1;
     }

@@ -3,7 +3,7 @@
 ghost use Rattle.std.specs.Prelude.{◌≡◌, ℕ, max, IfOk, OnOk, OnErr};
 ghost use Rattle.std.proofs.Common.{arith};
 
-use pn_join::{Dup, Join, Name, NoMemory, Table};
+use pn_join::{Dup, Join, Name, NoMemory, Table, TableChange};
 use std::alloc::Global;
 use std::test::Fail;
 
@@ -37,6 +37,13 @@ impl Join for Greatest {
             self.count = other.count;
         }
         Ok(())
+    }
+
+    fn changed_by(&self, other: &Greatest) -> Result<Option<Greatest>, NoMemory> {
+        if self.count < other.count {
+            return Ok(Some(Greatest { count: other.count }));
+        }
+        Ok(None)
     }
 }
 
@@ -134,5 +141,38 @@ fn a_join_that_fails_changes_nothing(rt: HostRuntime) -> Result<(), Fail> {
         Ok(()) => assert!(rt; holds(&own, &[("a", 2), ("b", 2), ("c", 3), ("d", 4)])),
         Err(NoMemory) => assert!(rt; holds(&own, &[("a", 1), ("c", 3)])),
     }
+    Ok(())
+}
+
+/// Whether a change is told of a key, from a count, if it was there, to another.
+fn tells(change: &TableChange<Name, Greatest>, text: &str, before: Option<u64>, after: u64) -> bool {
+    change.key.as_str() == text
+        && change.before.as_ref().map(|greatest| greatest.count) == before
+        && change.after.count == after
+}
+
+#[test]
+fn a_join_tells_what_it_changes(rt: HostRuntime) -> Result<(), Fail> {
+    let mut own = table(rt.alloc(), &[("a", 1), ("c", 3), ("e", 5)])?;
+    let other = table(rt.alloc(), OTHERS)?;
+    let told = own.join_and_tell(&other)?;
+    assert!(rt; told.len() == 3);
+    assert!(rt; tells(&told[0], "b", None, 2));
+    assert!(rt; tells(&told[1], "c", Some(3), 9));
+    assert!(rt; tells(&told[2], "d", None, 4));
+    assert!(rt; holds(&own, &[("a", 1), ("b", 2), ("c", 9), ("d", 4), ("e", 5)]));
+    let again = own.join_and_tell(&other)?;
+    assert!(rt; again.is_empty());
+    Ok(())
+}
+
+#[test]
+fn an_empty_table_tells_all_that_it_joins(rt: HostRuntime) -> Result<(), Fail> {
+    let mut own = table(rt.alloc(), &[])?;
+    let told = own.join_and_tell(&table(rt.alloc(), OTHERS)?)?;
+    assert!(rt; told.len() == 4);
+    assert!(rt; tells(&told[0], "b", None, 2));
+    assert!(rt; tells(&told[3], "e", None, 2));
+    assert!(rt; holds(&own, OTHERS));
     Ok(())
 }

@@ -1,16 +1,34 @@
--- The other has one entry alone.
-use Rattle.std.proofs.Common.{◌≡◌, [], ◌∷◌, length, slice_get, Some, ap, ◌∙◌, sym, arith}
-use Rattle.std.proofs.lemmas.Result.{on_ok_weaker}
-use Rattle.pn_join.specs.Tables.{contents_at, key_by_key}
-use Rattle.pn_join.proofs.Singles.{only_one}
+use Rattle.std.proofs.Common.{◌≡◌, ap, ◌∙◌, sym, subst}
+use Rattle.pn_join.specs.Edits.{changes_in}
+use Rattle.pn_join.specs.Leaves.{all_entries}
+use Rattle.pn_join.specs.TableChanges.{AreChanges}
+use Rattle.pn_join.specs.Tables.{IsTable, contents_at, key_by_key}
+use Rattle.pn_join.proofs.Changing.{puts_joined, valid_changes}
 use Rattle.pn_join.proofs.table.TableJoin.join_from.Goals as goal
 
-pub returns-in-Some-clause-ok : goal.returns-in-Some-clause-ok
-returns-in-Some-clause-ok g c =
+pub put-requires-clause-valid : goal.put-requires-clause-valid
+put-requires-clause-valid g c =
     let cmp = g.K.Ord.cmp in
     let meaning = g.C.Join.meaning in
-    let other = c.args.other.now in
-    let one : length other ≡ 1 = omega (arith, c.len.ensures.count, c.if-len-eq1.true) in
-    let entry : Some (c.in-Some.key.now, c.in-Some.content.now) ≡ slice_get other 0 = c.in-Some.ensures.entry in
-    let same : (c.in_ok-dup.field-0, c.in_ok-dup-2.field-0) ∷ [] ≡ other = (λ i. (c.in_ok-dup.ensures i, c.in_ok-dup-2.ensures i) ∷ []) ∙ sym (only_one other (c.in-Some.key.now, c.in-Some.content.now) one entry) in
-    on_ok_weaker c.join_entry.result (λ is. is ∙ ap (λ es. key_by_key g.C.Join.joined (contents_at cmp meaning c.args.self.now) (contents_at cmp meaning es)) same) c.join_entry.ensures.ok
+    let joined = g.C.Join.joined in
+    let valid = g.C.Join.valid in
+    let own = all_entries c.self.inside.row in
+    let other = all_entries c.other.inside.row in
+    let changes = changes_in c.in_ok-edits.edits.items in
+    let are : AreChanges cmp meaning joined valid own other changes = c.in_ok-edits.ensures.changes in
+    rw are.are (valid_changes cmp meaning joined valid own other are.made are.each)
+
+pub returns-else-not-branch-clause-ok : goal.returns-else-not-branch-clause-ok
+returns-else-not-branch-clause-ok g c =
+    let cmp = g.K.Ord.cmp in
+    let meaning = g.C.Join.meaning in
+    let joined = g.C.Join.joined in
+    let valid = g.C.Join.valid in
+    let own = all_entries c.self.inside.row in
+    let other = all_entries c.other.inside.row in
+    let changes = changes_in c.in_ok-edits.edits.items in
+    let table : IsTable cmp valid other = rw c.other.view_is c.is_table-2.ensures in
+    let joins = puts_joined cmp g.met.K.Ord.total meaning joined g.met.C.Join.laws valid own other changes table c.in_ok-edits.ensures.changes
+            ∙ ap (λ es. key_by_key joined (contents_at cmp meaning es) (contents_at cmp meaning other)) c.self.view_is
+            ∙ ap (λ es. key_by_key joined (contents_at cmp meaning c.args.self.now) (contents_at cmp meaning es)) c.other.view_is in
+    ap (contents_at cmp meaning) (c.in_ok-put.ensures.done c.if-not-branch.false) ∙ joins

@@ -1,9 +1,25 @@
-use Rattle.std.proofs.Common.{◌≡◌, ◌+◌, ◌<◌, ◌≤◌, [], length, get_or, ap, arith}
+use Rattle.std.proofs.Common.{◌≡◌, ◌+◌, ◌<◌, ◌≤◌, [], length, get_or, take, ap, arith}
+use Rattle.std.proofs.lemmas.List.{take_all}
+use Rattle.std.specs.List.{AllByRecursion}
 use Rattle.pn_join.specs.LeafEntries.{leaves_of}
 use Rattle.pn_join.specs.Leaves.{most_in_leaf}
-use Rattle.pn_join.proofs.EditSteps.{fits_again, fits_anew, each_taken}
+use Rattle.pn_join.proofs.EditSteps.{fits_again, fits_anew, each_taken, up_taken}
+use Rattle.pn_join.proofs.RowFacts.{length-leaves}
 use Rattle.pn_join.proofs.table.edit.fits.Goals as goal
 use Rattle.pn_join.proofs.table.edit.fits.Goals.{then-edit-last-2, else-edit-last-2}
+
+pub returns : goal.returns
+returns g c =
+    let edits = c.args.edits.now in
+    let k = c.loop-edit.edit-index in
+    let leaves = c.args.leaves.now in
+    let all : take k edits ≡ edits = take_all k edits (omega (arith, c.loop-edit-test.false)) in
+    let within : AllByRecursion (λ edit. edit.leaf < length leaves) edits = rw all at c.loop-edit.invariant.within in
+    λ _. record {
+      within = rw (length-leaves leaves) within;
+      sizes = (rw all at c.loop-edit.invariant.so_far).few;
+      order = (rw all at c.loop-edit.invariant.up).order;
+    }
 
 pub loop-edit-preserved : goal.loop-edit-preserved
 loop-edit-preserved g c =
@@ -21,5 +37,6 @@ loop-edit-preserved g c =
         | else-edit-last-2 w ↦ fits_anew cmp rows edits k e c.edit-item.is lt c.loop-edit.last c.loop-edit.more c.if-edit-last-2.more c.loop-edit.invariant.so_far (omega (arith, w.if-edit-last-2, c.if-edit-last.false)) (omega (arith, w.more-is)) room
       ];
       within = each_taken (λ edit. edit.leaf < length c.args.leaves.now) edits k e c.edit-item.is lt c.loop-edit.invariant.within within;
+      up = up_taken edits k e c.edit-item.is lt c.loop-edit.last c.loop-edit.invariant.up (omega (arith, c.if-edit-last.false));
       most = omega (arith, room);
     }

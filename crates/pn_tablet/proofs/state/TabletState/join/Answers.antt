@@ -1,5 +1,5 @@
 -- Cells that are joined.
-use Rattle.std.proofs.Common.{sym, ap, ◌∙◌}
+use Rattle.std.proofs.Common.{sym, ap, ◌∙◌, arith}
 use Rattle.pn_record.specs.Cells.{spell}
 use Rattle.pn_record.proofs.CellMaps.{held_adds}
 use Rattle.pn_tablet.specs.Tablets.{TabletStateValue}
@@ -9,33 +9,40 @@ use Rattle.pn_tablet.specs.declared.op.TabletOp.TheVariants.{Join}
 use Rattle.pn_tablet.proofs.Changed.{joined_changes}
 use Rattle.pn_tablet.proofs.Keeping.{kept}
 use Rattle.pn_tablet.proofs.Stepping.{join_step}
+use Rattle.pn_tablet.proofs.Told.{told_changes, few_told}
 use Rattle.pn_tablet.proofs.state.TabletState.join.Goals as goal
 
 pub invariant_of-self-2 : goal.invariant_of-self-2
 invariant_of-self-2 c =
-    let joins = c.in_ok-join_records.ensures in
+    let joins = c.in_ok-told.ensures in
     kept c.args.marks.now c.self.invariant
     c.requires
     (sym c.lie_in.ensures ∙ c.if-not-lie_in.false)
     (record { rises = joins.rising.1; rising = joins.rising.0; joined = joins.joined })
-    (held_adds c.self.inside.cells c.join_records.new.records (spell c.args.cells.now) joins.rising.0 joins.spelled)
+    (held_adds c.self.inside.cells c.join_and_tell.new.records (spell c.args.cells.now) joins.rising.0 joins.spelled)
     c.in_ok-cover.ensures.0
     (c.in_ok-cover.ensures.1 ∙ sym c.in_ok-cover.ensures.0)
     c.self.invariant.needed_positions
 
 pub returns-clause-ok : goal.returns-clause-ok
 returns-clause-ok c =
-    let joins = c.in_ok-join_records.ensures in
+    let joins = c.in_ok-told.ensures in
     let tablet : TabletStateValue = record { range = c.self.inside.range; cells = c.self.inside.cells; cover = c.self.inside.cover; status = c.self.inside.status } in
     ap (λ (t : TabletStateValue). step t (Join c.args.cells.now c.args.marks.now)) (sym c.self.view_is)
-    ∙ join_step tablet c.args.cells.now c.join_records.new.records c.args.marks.now c.in_ok-cover.cover
+    ∙ join_step tablet c.args.cells.now c.join_and_tell.new.records c.args.marks.now c.in_ok-cover.cover
     (sym c.lie_in.ensures ∙ c.if-not-lie_in.false)
-    (held_adds c.self.inside.cells c.join_records.new.records (spell c.args.cells.now) joins.rising.0 joins.spelled)
+    (held_adds c.self.inside.cells c.join_and_tell.new.records (spell c.args.cells.now) joins.rising.0 joins.spelled)
     c.in_ok-cover.ensures.0
 
 pub returns-clause-changes : goal.returns-clause-changes
 returns-clause-changes c =
-    let joins = c.in_ok-join_records.ensures in
-    c.in_ok-changes.ensures
-    ∙ joined_changes c.self.inside.cells c.args.cells.now c.join_records.new.records (record { rises = joins.rising.1; rising = joins.rising.0; joined = joins.joined })
-    ∙ ap (λ (t : TabletStateValue). changes t.cells c.join_records.new.records) c.self.view_is
+    let joins = c.in_ok-told.ensures in
+    c.add_told.ensures
+    ∙ told_changes c.self.inside.cells c.args.cells.now c.in_ok-told.told.items joins.changes
+    ∙ joined_changes c.self.inside.cells c.args.cells.now c.join_and_tell.new.records (record { rises = joins.rising.1; rising = joins.rising.0; joined = joins.joined })
+    ∙ ap (λ (t : TabletStateValue). changes t.cells c.join_and_tell.new.records) c.self.view_is
+
+pub add_told-requires-clause-room : goal.add_told-requires-clause-room
+add_told-requires-clause-room c =
+    let few = few_told c.self.inside.cells c.args.cells.now c.in_ok-told.told.items c.in_ok-told.ensures.changes in
+    omega (arith, few, c.len.ensures.count, c.in_ok-changes.ensures.1)

@@ -1,5 +1,5 @@
 use Rattle.pn_join.specs.Leaves.{all_entries}
-use Rattle.pn_join.proofs.EditJoins.{EditsSoFar}
+use Rattle.pn_join.proofs.Changing.{EditsSoFar}
 use Rattle.pn_join.proofs.table.row.Row.edits_from.Given as goal
 
 abbrev pub invariant-loop-key : goal.invariant-loop-key

@@ -1,0 +1,34 @@
+//! What a join changes in a table.
+
+ghost use Rattle.std.specs.Prelude.{◌≡◌, IfOk};
+ghost use Rattle.std.specs.Option.{option_copied};
+
+use crate::{Dup, NoMemory};
+
+/// A key whose content a join changes, with the content before, if it was there, and after.
+#[derive(Debug, Drop)]
+pub struct TableChange<K, C> {
+    pub key: K,
+    pub before: Option<C>,
+    pub after: C,
+}
+
+impl<K: Dup, C: Dup> Dup for TableChange<K, C> {
+    fn dup(&self) -> Result<Self, NoMemory> {
+        Ok(TableChange {
+            key: self.key.dup()?,
+            before: copied(self.before.as_ref())?,
+            after: self.after.dup()?,
+        })
+    }
+}
+
+/// A copy of what is there, if anything is.
+pub fn copied<C: Dup>(content: Option<&C>) -> Result<Option<C>, NoMemory>
+    ensures { IfOk result (λ copy. copy ≡ option_copied content.entry) }
+{
+    match content {
+        Some(content) => Ok(Some(content.dup()?)),
+        None => Ok(None),
+    }
+}

@@ -1,0 +1,15 @@
+-- Cells of one version and the same contents are the same.
+use Rattle.std.proofs.Common.{◌≡◌, sym, ap, ◌∙◌}
+use Rattle.std.specs.FinMap.{keys}
+use Rattle.pn_record.specs.Sets.{set_of}
+use Rattle.pn_record.specs.Laws.Unions.{set_of-keys}
+use Rattle.pn_record.proofs.cell.Cell.unless_same.Goals as goal
+
+pub returns-then-are_same-clause-cell : goal.returns-then-are_same-clause-cell
+returns-then-are_same-clause-cell c =
+    let own = c.args.self.now in
+    let other = c.args.other in
+    let listed : keys own.1 ≡ keys other.1 = sym c.contents.ensures.contents ∙ c.are_same.ensures c.if-are_same.true ∙ c.contents-2.ensures.contents in
+    let contents : own.1 ≡ other.1 = sym (set_of-keys own.1) ∙ ap set_of listed ∙ set_of-keys other.1 in
+    let version : own.0 ≡ other.0 = sym c.requires.version in
+    λ i. (version i, contents i)
