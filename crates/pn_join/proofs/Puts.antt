@@ -62,8 +62,8 @@ module _ {K X : Type 0} (cmp : K → K → Ordering) where
       contents_at-same key content es same i q = at i where
         at : option_map meaning (find cmp q es) ≡ optional_joined joined (option_map meaning (find cmp q es)) (option_map meaning (cond (eq_by_cmp cmp q key) (Some content) None))
         at = elim (eq_by_cmp cmp q key) as (λ b. eq_by_cmp cmp q key ≡ b → option_map meaning (find cmp q es) ≡ optional_joined joined (option_map meaning (find cmp q es)) (option_map meaning (cond b (Some content) None))) [
-              | true ↦ λ p.
-                  let here = ap (option_map meaning) (find_tied cmp o q key (tie _ p) es) in
-                  sym here ∙ sym same ∙ ap (λ x. optional_joined joined x (Some (meaning content))) here
-              | false ↦ λ p. unchanged (option_map meaning (find cmp q es))
-            ] refl
+          | true ↦ λ p.
+              let here = ap (option_map meaning) (find_tied cmp o q key (tie _ p) es) in
+              sym here ∙ sym same ∙ ap (λ x. optional_joined joined x (Some (meaning content))) here
+          | false ↦ λ p. unchanged (option_map meaning (find cmp q es))
+        ] refl

@@ -145,7 +145,12 @@ fn a_join_that_fails_changes_nothing(rt: HostRuntime) -> Result<(), Fail> {
 }
 
 /// Whether a change is told of a key, from a count, if it was there, to another.
-fn tells(change: &TableChange<Name, Greatest>, text: &str, before: Option<u64>, after: u64) -> bool {
+fn tells(
+    change: &TableChange<Name, Greatest>,
+    text: &str,
+    before: Option<u64>,
+    after: u64,
+) -> bool {
     change.key.as_str() == text
         && change.before.as_ref().map(|greatest| greatest.count) == before
         && change.after.count == after

@@ -30,8 +30,8 @@ returns-clause-ok g c =
     let changes = changes_in c.in_ok-edits.edits.items in
     let table : IsTable cmp valid other = rw c.other.view_is c.is_table-2.ensures in
     let joins = puts_joined cmp g.met.K.Ord.total meaning joined g.met.C.Join.laws valid own other changes table c.in_ok-edits.ensures.changes
-            ∙ ap (λ es. key_by_key joined (contents_at cmp meaning es) (contents_at cmp meaning other)) c.self.view_is
-            ∙ ap (λ es. key_by_key joined (contents_at cmp meaning c.args.self.now) (contents_at cmp meaning es)) c.other.view_is in
+    ∙ ap (λ es. key_by_key joined (contents_at cmp meaning es) (contents_at cmp meaning other)) c.self.view_is
+    ∙ ap (λ es. key_by_key joined (contents_at cmp meaning c.args.self.now) (contents_at cmp meaning es)) c.other.view_is in
     elim c.if-not-branch.branch [
       | then-not-branch+in_ok-self-inside w ↦
           ap (contents_at cmp meaning) (w.self-is ∙ w.drop.view_is) ∙ w.in_ok-self-inside.ensures.0
@@ -47,9 +47,11 @@ returns-clause-tables g c =
     let valid = g.C.Join.valid in
     let own = all_entries c.self.inside.row in
     let other = all_entries c.other.inside.row in
-    let changes = changes_in c.in_ok-edits.edits.items in
-    (c.is_table.ensures, c.is_table-2.ensures,
+    let changes = changes_in c.in_ok-edits.edits.items in (
+      c.is_table.ensures,
+      c.is_table-2.ensures,
       elim c.if-not-branch.branch [
         | then-not-branch+in_ok-self-inside w ↦ subst (IsTable cmp valid) (sym (w.self-is ∙ w.drop.view_is)) w.in_ok-self-inside.ensures.1
         | else-not-branch w ↦ subst (IsTable cmp valid) (sym w.self-is) c.in_ok-put.ensures.row.table
-      ])
+      ],
+    )
