@@ -19,8 +19,8 @@ mod single;
 
 use crate::{Dup, Join, NoMemory};
 pub use change::TableChange;
-use edit::changes_of;
 pub use entries::Entries;
+use edit::changes_of;
 use row::Row;
 use std::alloc::Global;
 use std::marker::Model;
@@ -149,9 +149,10 @@ impl<K: Ord + Dup, C: Join> Table<K, C> {
         other.is_table();
         let edits = self.row.edits_from(&other.row)?;
         let changes = changes_of(self.row.alloc(), &edits)?;
-        if !self.row.put(edits)? {
-            *self = self.joined_with(other)?;
+        if self.row.put(edits)? {
+            return Ok(changes);
         }
+        *self = self.joined_with(other)?;
         Ok(changes)
     }
 }

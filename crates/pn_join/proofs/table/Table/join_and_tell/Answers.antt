@@ -5,7 +5,6 @@ use Rattle.pn_join.specs.TableChanges.{AreChanges}
 use Rattle.pn_join.specs.Tables.{IsTable, contents_at, key_by_key}
 use Rattle.pn_join.proofs.Changing.{puts_joined, valid_changes}
 use Rattle.pn_join.proofs.table.Table.join_and_tell.Goals as goal
-use Rattle.pn_join.proofs.table.Table.join_and_tell.Goals.{then-not-branch+in_ok-self-inside, else-not-branch}
 
 pub put-requires-clause-valid : goal.put-requires-clause-valid
 put-requires-clause-valid g c =
@@ -19,8 +18,8 @@ put-requires-clause-valid g c =
     let are : AreChanges cmp meaning joined valid own other changes = c.in_ok-edits.ensures.changes in
     rw are.are (valid_changes cmp meaning joined valid own other are.made are.each)
 
-pub returns-clause-ok : goal.returns-clause-ok
-returns-clause-ok g c =
+pub returns-then-branch-clause-ok : goal.returns-then-branch-clause-ok
+returns-then-branch-clause-ok g c =
     let cmp = g.K.Ord.cmp in
     let meaning = g.C.Join.meaning in
     let joined = g.C.Join.joined in
@@ -30,28 +29,6 @@ returns-clause-ok g c =
     let changes = changes_in c.in_ok-edits.edits.items in
     let table : IsTable cmp valid other = rw c.other.view_is c.is_table-2.ensures in
     let joins = puts_joined cmp g.met.K.Ord.total meaning joined g.met.C.Join.laws valid own other changes table c.in_ok-edits.ensures.changes
-    ∙ ap (λ es. key_by_key joined (contents_at cmp meaning es) (contents_at cmp meaning other)) c.self.view_is
-    ∙ ap (λ es. key_by_key joined (contents_at cmp meaning c.args.self.now) (contents_at cmp meaning es)) c.other.view_is in
-    elim c.if-not-branch.branch [
-      | then-not-branch+in_ok-self-inside w ↦
-          ap (contents_at cmp meaning) (w.self-is ∙ w.drop.view_is) ∙ w.in_ok-self-inside.ensures.0
-          ∙ ap (λ es. key_by_key joined (contents_at cmp meaning es) (contents_at cmp meaning c.args.other.now)) (c.in_ok-put.ensures.undone w.if-not-branch ∙ c.self.view_is)
-      | else-not-branch w ↦ ap (contents_at cmp meaning) (w.self-is ∙ c.in_ok-put.ensures.done w.if-not-branch) ∙ joins
-    ]
-
-pub returns-clause-tables : goal.returns-clause-tables
-returns-clause-tables g c =
-    let cmp = g.K.Ord.cmp in
-    let meaning = g.C.Join.meaning in
-    let joined = g.C.Join.joined in
-    let valid = g.C.Join.valid in
-    let own = all_entries c.self.inside.row in
-    let other = all_entries c.other.inside.row in
-    let changes = changes_in c.in_ok-edits.edits.items in (
-      c.is_table.ensures,
-      c.is_table-2.ensures,
-      elim c.if-not-branch.branch [
-        | then-not-branch+in_ok-self-inside w ↦ subst (IsTable cmp valid) (sym (w.self-is ∙ w.drop.view_is)) w.in_ok-self-inside.ensures.1
-        | else-not-branch w ↦ subst (IsTable cmp valid) (sym w.self-is) c.in_ok-put.ensures.row.table
-      ],
-    )
+            ∙ ap (λ es. key_by_key joined (contents_at cmp meaning es) (contents_at cmp meaning other)) c.self.view_is
+            ∙ ap (λ es. key_by_key joined (contents_at cmp meaning c.args.self.now) (contents_at cmp meaning es)) c.other.view_is in
+    ap (contents_at cmp meaning) (c.in_ok-put.ensures.done c.if-branch.true) ∙ joins
