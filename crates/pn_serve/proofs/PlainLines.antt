@@ -1,9 +1,8 @@
 -- Lines without losses and adoptions.
-use Rattle.std.proofs.Common.{◌≡◌, ℕ, Bool, true, false, if◌then◌else◌, List, [], ◌∷◌, ◌++◌, refl, sym, ap, ◌∙◌, subst}
+use Rattle.std.proofs.Common.{◌≡◌, ℕ, Bool, true, false, List, [], ◌∷◌, ◌++◌, refl, sym, subst}
 use Rattle.std.specs.Prelude.{Result, Ok, Err, Option, Some, None, slice_get}
 use Rattle.std.proofs.lemmas.List.Elements.{All-head, All-tail}
 use Rattle.pn_join.specs.Marks.{Positions}
-use Rattle.pn_record.specs.declared.image.Image.{Image}
 use Rattle.pn_stream.specs.Brokers.{BrokerRecord}
 use Rattle.pn_stream.specs.Positions.{DeliveryValue}
 use Rattle.pn_tablet.specs.Copies.{TabletCopyValue}
@@ -11,7 +10,6 @@ use Rattle.pn_tablet.specs.Copying.{copy_of}
 use Rattle.pn_tablet.specs.Layouts.{Bounds}
 use Rattle.pn_tablet.specs.Tablets.{TabletStateValue}
 use Rattle.pn_tablet.specs.declared.fault.CopyFault.{CopyFault}
-use Rattle.pn_apply.specs.Reducing.{all_images}
 use Rattle.pn_region.specs.Events as events
 use Rattle.pn_region.specs.Events.{RegionEvent}
 use Rattle.pn_region.specs.Marking.{new_marks}

@@ -1,9 +1,8 @@
 -- The laws of lines that `src/laws.rt` states.
-use Rattle.std.proofs.Common.{◌≡◌, ◌⊎◌, inl, inr, ℕ, Bool, if◌then◌else◌, List, [], ◌∷◌, Option, Some, None, map, sym, ap, ◌∙◌, subst, refl}
+use Rattle.std.proofs.Common.{◌≡◌, ◌⊎◌, inl, inr, ℕ, List, [], ◌∷◌, map, sym, ap, ◌∙◌, subst, refl}
 use Rattle.std.specs.Prelude.{Result, Ok, Err}
 use Rattle.std.specs.FinMap.{find}
 use Rattle.pn_record.specs.Order.{bytes_cmp}
-use Rattle.pn_record.specs.Sets.{CellValue}
 use Rattle.pn_record.specs.Cells.{SameImages}
 use Rattle.pn_record.specs.CellMap.{Entries, table_of}
 use Rattle.pn_stream.specs.Brokers.{BrokerRecord}
@@ -84,13 +83,23 @@ module _ (broker : BrokerRecord) (bounds : Bounds) (lawful : IsLayout bounds) (l
     | inr honest ↦ taken_together broker bounds (happened (new_region bounds) lines outcomes) after lawful lead_after honest.0 honest.1 settled.retried
   ]
 
-pub same_records : (bounds others : Bounds) → IsLayout bounds → IsLayout others → (broker : BrokerRecord) (lines more : List (List ℕ)) (went goes : List Outcome)
+same_records : (bounds others : Bounds) → IsLayout bounds → IsLayout others → (broker : BrokerRecord) (lines more : List (List ℕ)) (went goes : List Outcome)
     → Settled broker (new_region bounds) lines went → Settled broker (new_region others) more goes
     → SameImages (taken broker (new_region bounds) lines went) (taken broker (new_region others) more goes)
     → all_cells (region_after (new_region bounds) lines went) ≡ all_cells (region_after (new_region others) more goes)
 same_records bounds others lawful lawful_too broker lines more went goes settled settled_too same =
     alike (region_after (new_region bounds) lines went) (region_after (new_region others) more goes) (taken broker (new_region bounds) lines went) (taken broker (new_region others) more goes)
     (held_records broker bounds lawful lines went settled) (held_records broker others lawful_too more goes settled_too) same
+
+-- so both have the records of the images that either took
+pub both_records : (bounds others : Bounds) → IsLayout bounds → IsLayout others → (broker : BrokerRecord) (lines more : List (List ℕ)) (went goes : List Outcome)
+    → Settled broker (new_region bounds) lines went → Settled broker (new_region others) more goes
+    → SameImages (taken broker (new_region bounds) lines went) (taken broker (new_region others) more goes)
+    → (all_cells (region_after (new_region bounds) lines went) ≡ table_of (taken broker (new_region bounds) lines went))
+    × (all_cells (region_after (new_region others) more goes) ≡ table_of (taken broker (new_region bounds) lines went))
+both_records bounds others lawful lawful_too broker lines more went goes settled settled_too same =
+    let first = held_records broker bounds lawful lines went settled in
+    (first, sym (same_records bounds others lawful lawful_too broker lines more went goes settled settled_too same) ∙ first)
 
 found_alike : {A : Type 0} (m n : Machine) (show : A → Data) (one other : Result A ScanFault) → one ≡ other → (looking m show one).reply ≡ (looking n show other).reply
 found_alike m n show one other same = ap (λ right. line_of (found_data show right)) same

@@ -1,13 +1,17 @@
 //! The laws of lines that are answered one after another, as contracts. A call does nothing.
 //!
-//! They speak of any lines: `lines_of script` are those of a whole script, and a run that stopped says which it answered.
+//! They speak of any lines with their newlines: `parts_of script` has those of a whole script, and a run that stopped says
+//! which it answered.
 //! A record of brokers stands for what was published. Where nothing was lost and no copy adopted it is not needed: any will do.
 
 ghost use Rattle.std.specs.Prelude.{◌≡◌, ℕ, List};
 ghost use Rattle.std.specs.FinMap.{find};
+ghost use Rattle.pn_join.specs.Laws.{JoinLaws};
+ghost use Rattle.pn_join.specs.Tables.{key_by_key};
 ghost use Rattle.pn_record.specs.Cells.{SameImages};
 ghost use Rattle.pn_record.specs.CellMap.{table_of};
 ghost use Rattle.pn_record.specs.Order.{bytes_cmp};
+ghost use Rattle.pn_record.specs.Sets.{cell_joined};
 ghost use Rattle.pn_region.specs.Events.{AreHonestEvents};
 ghost use Rattle.pn_region.specs.Held.{HoldsStill};
 ghost use Rattle.pn_region.specs.Regions.{new_region, all_cells};
@@ -39,12 +43,14 @@ pub fn records_are_what_was_taken(settings: &Settings)
 }
 
 /// Lines that took the same images, in whatever order, however cut into batches and tablets, repeated, lost and recovered,
-/// leave the same records, and each further line that asks for records has the same reply after both, where it is answered.
+/// leave exactly the records of these images, and each further line that asks for records has the same reply after both,
+/// where it is answered. For maps of cells join key by key, in whatever order and however often.
 pub fn same_images_same_replies(one: &Settings, other: &Settings)
     ensures records { (broker : BrokerRecord) (lines more : List (List ℕ)) (went goes : List Outcome)
         → Settled broker (new_region one.now.layout) lines went → Settled broker (new_region other.now.layout) more goes
         → SameImages (taken broker (new_region one.now.layout) lines went) (taken broker (new_region other.now.layout) more goes)
-        → all_cells (region_after (new_region one.now.layout) lines went) ≡ all_cells (region_after (new_region other.now.layout) more goes) }
+        → (all_cells (region_after (new_region one.now.layout) lines went) ≡ table_of (taken broker (new_region one.now.layout) lines went))
+        × (all_cells (region_after (new_region other.now.layout) more goes) ≡ table_of (taken broker (new_region one.now.layout) lines went)) }
     ensures replies { (broker : BrokerRecord) (lines more : List (List ℕ)) (went goes : List Outcome)
         → Settled broker (new_region one.now.layout) lines went → Settled broker (new_region other.now.layout) more goes
         → SameImages (taken broker (new_region one.now.layout) lines went) (taken broker (new_region other.now.layout) more goes)
@@ -52,6 +58,7 @@ pub fn same_images_same_replies(one: &Settings, other: &Settings)
         → (text : List ℕ) → AsksForRecords (command_at text)
         → (turn (machine_after (serving (new_region one.now.layout)) lines went) done text).reply
         ≡ (turn (machine_after (serving (new_region other.now.layout)) more goes) done text).reply }
+    ensures joins { JoinLaws (key_by_key {K = List ℕ} cell_joined) }
 {
     let _ = one.layout();
     let _ = other.layout();
