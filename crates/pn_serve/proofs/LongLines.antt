@@ -16,7 +16,7 @@ use Rattle.pn_serve.specs.Command.Lines.{is_too_long, command_at, command_in, re
 use Rattle.pn_serve.specs.Machine.Announced.{unless_call, one_came}
 use Rattle.pn_serve.specs.Machine.Outcomes.{Outcome, done, Mode, idle, announced, Machine, Turn, refusing}
 use Rattle.pn_serve.specs.Machine.Recovering.{adopting_text}
-use Rattle.pn_serve.specs.Machine.Turns.{turn_of, outcome_at, turn_in, turn, last_of, end_in, end_turn, Turned, Answers, Concludes}
+use Rattle.pn_serve.specs.Machine.Turns.{turn_of, outcome_at, turn_in, turn, last_of, end_in, end_turn, TurnedBy, Answers, Concludes}
 
 pub too_long : (line : List ℕ) → 65536 < length line → command_at line ≡ Err TooLong
 unfolding command_at value_at
@@ -61,8 +61,8 @@ end-kept (announced left came) machine outcome part =
 
 pub answers_kept : (old new : Machine) (line : LineBufferValue) (taken : List ℕ) (reply : Reply) → line ≡ so_far taken → Answers old line.bytes new reply → Answers old taken new reply
 answers_kept old new line taken reply is answers =
-    subst (λ (turns : Outcome → Turn). Turned turns new reply) (λ i outcome. (ap (λ (l : LineBufferValue). turn old outcome l.bytes) is ∙ turn-kept old.mode old outcome taken) i) answers
+    subst (λ (turns : Outcome → Turn). TurnedBy (Unit {0}) turns new reply) (λ i outcome. (ap (λ (l : LineBufferValue). turn old outcome l.bytes) is ∙ turn-kept old.mode old outcome taken) i) answers
 
 pub concludes_kept : (old new : Machine) (line : LineBufferValue) (taken : List ℕ) (reply : Reply) → line ≡ so_far taken → Concludes old line.bytes new reply → Concludes old taken new reply
 concludes_kept old new line taken reply is concludes =
-    subst (λ (turns : Outcome → Turn). Turned turns new reply) (λ i outcome. (ap (λ (l : LineBufferValue). end_turn old outcome l.bytes) is ∙ end-kept old.mode old outcome taken) i) concludes
+    subst (λ (turns : Outcome → Turn). TurnedBy (Unit {0}) turns new reply) (λ i outcome. (ap (λ (l : LineBufferValue). end_turn old outcome l.bytes) is ∙ end-kept old.mode old outcome taken) i) concludes

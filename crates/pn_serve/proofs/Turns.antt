@@ -21,14 +21,14 @@ use Rattle.pn_region.specs.declared.fault.RoundFault.{RoundFault}
 use Rattle.pn_serve.specs.declared.reply.Reply.{Reply}
 use Rattle.pn_serve.specs.declared.reply.Reply.TheVariants.{Adopted, Changed, Copied, Lost, Silent, Text, Refused, NotTaken}
 use Rattle.pn_serve.specs.declared.refusal.Refusal.{Refusal}
-use Rattle.pn_serve.specs.declared.refusal.Refusal.TheVariants.{Memory}
+use Rattle.pn_serve.specs.declared.refusal.Refusal.TheVariants.{TooLong, NotJson, BadShape, OutOfRange, Memory}
 use Rattle.pn_serve.specs.Command.Meaning.{CommandValue, deliver}
 use Rattle.pn_serve.specs.Command.Lines.{command_at, is_too_long}
 use Rattle.pn_serve.proofs.LongLines.{too_long}
 use Rattle.pn_serve.specs.Machine.Outcomes.{Outcome, Machine, done, line, call, round, Turn, serving, refusing, showing}
 use Rattle.pn_serve.specs.Machine.PartRounds.{some_stepped, partly_marked}
 use Rattle.pn_serve.specs.Machine.Doing.{delivering, looking}
-use Rattle.pn_serve.specs.Machine.Turns.{obeying, turn_of, outcome_at, turn, Turned, Answers, Obeys, Refuses}
+use Rattle.pn_serve.specs.Machine.Turns.{obeying, turn_of, outcome_at, turn, IsReadUnless, Turned, TurnedBy, AnswersBy, Obeys, Refuses}
 use Rattle.pn_serve.specs.Reply.Faults.{fault_data}
 use Rattle.pn_serve.specs.Reply.Short.{changed_data}
 use Rattle.pn_json.specs.Lines.{line_of}
@@ -46,10 +46,16 @@ turned_call old new command out same = record {
   refused = ap (λ (t : Turn). t.refused) out;
 }
 
--- an outcome of a command is one of its line
-abbrev read_whole : Outcome → Outcome
+-- an outcome of a command is one of its line, which was read
+abbrev pub read_whole : Outcome → Outcome
 read_whole line = done
 read_whole outcome = outcome
+
+pub read_always : (may : Type 0) (outcome : Outcome) → IsReadUnless may (read_whole outcome)
+read_always may done = tt
+read_always may line = tt
+read_always may call = tt
+read_always may (round flags) = tt
 
 as_obeyed : (machine : Machine) (outcome : Outcome) (command : CommandValue) → turn_of machine (read_whole outcome) (Ok command) ≡ obeying machine outcome command
 as_obeyed machine done command = refl
@@ -73,35 +79,66 @@ pub as_said : (test : Bool) → (if test then done else done) ≡ done
 as_said true = refl
 as_said false = refl
 
--- a turn that another is comes to the same
-pub turned_as : (turns others : Outcome → Turn) (machine : Machine) (reply : Reply) (is : Turned turns machine reply) (outcome : Outcome) → others outcome ≡ turns is.outcome → Turned others machine reply
-turned_as turns others machine reply is outcome same = record {
+-- a turn of a line comes to what the turn that it is comes to
+pub turned_read : (may : Type 0) (turns others : Outcome → Turn) (machine : Machine) (reply : Reply) (is : Turned turns machine reply) (outcome : Outcome) → IsReadUnless may outcome → others outcome ≡ turns is.outcome
+    → TurnedBy may others machine reply
+turned_read may turns others machine reply is outcome read same = record {
   outcome = outcome;
+  read = read;
   machine_is = ap (λ (t : Turn). t.machine) same ∙ is.machine_is;
   replied = ap (λ (t : Turn). t.reply) same ∙ is.replied;
   refused = ap (λ (t : Turn). t.refused) same ∙ is.refused;
 }
 
+pub turned_as : (may : Type 0) (turns others : Outcome → Turn) (machine : Machine) (reply : Reply) (is : TurnedBy ⊥ turns machine reply) (outcome : Outcome) → IsReadUnless may outcome → others outcome ≡ turns is.outcome
+    → TurnedBy may others machine reply
+turned_as may turns others machine reply is outcome read same = record {
+  outcome = outcome;
+  read = read;
+  machine_is = ap (λ (t : Turn). t.machine) same ∙ is.machine_is;
+  replied = ap (λ (t : Turn). t.reply) same ∙ is.replied;
+  refused = ap (λ (t : Turn). t.refused) same ∙ is.refused;
+}
+
+-- where memory cannot run out, a line goes as one may that is read
+weaker : (may : Type 0) (outcome : Outcome) → IsReadUnless ⊥ outcome → IsReadUnless may outcome
+weaker may done read = tt
+weaker may line read = absurd read
+weaker may call read = tt
+weaker may (round flags) read = tt
+
+pub turned_always : (may : Type 0) (turns : Outcome → Turn) (machine : Machine) (reply : Reply) → TurnedBy ⊥ turns machine reply → TurnedBy may turns machine reply
+turned_always may turns machine reply is = turned_as may turns turns machine reply is is.outcome (weaker may is.outcome is.read) refl
+
 -- the command that a line is was obeyed
-pub turned_said : (text : List ℕ) (command : CommandValue) (old : RegionValue) (new : Machine) (reply : Reply) → command_at text ≡ Ok command → Obeys (serving old) command new reply → Answers (serving old) text new reply
-turned_said text command old new reply said obeys =
+pub turned_said : (may : Type 0) (text : List ℕ) (command : CommandValue) (old : RegionValue) (new : Machine) (reply : Reply) → command_at text ≡ Ok command → Obeys (serving old) command new reply → AnswersBy may (serving old) text new reply
+turned_said may text command old new reply said obeys =
     let outcome = read_whole obeys.outcome in
-    turned_as (λ outcome. obeying (serving old) outcome command) (λ outcome. turn (serving old) outcome text) new reply obeys outcome
+    turned_read may (λ outcome. obeying (serving old) outcome command) (λ outcome. turn (serving old) outcome text) new reply obeys outcome (read_always may obeys.outcome)
     (ap (λ (o : Outcome). turn_of (serving old) o (command_at text)) (as_it_goes outcome text (within text command said))
     ∙ ap (turn_of (serving old) outcome) said ∙ as_obeyed (serving old) obeys.outcome command)
 
 -- memory ran out before a command was found, in a line that is not too long
-pub turned_unread : (text : List ℕ) (region : RegionValue) → is_too_long text ≡ false → Answers (serving region) text (serving region) (Refused Memory)
-turned_unread text region short =
+pub turned_unread : (may : Type 0) (text : List ℕ) (region : RegionValue) → may → is_too_long text ≡ false → AnswersBy may (serving region) text (serving region) (Refused Memory)
+turned_unread may text region out short =
     let same : turn (serving region) line text ≡ refusing (serving region) Memory = ap (λ (o : Outcome). turn_of (serving region) o (command_at text)) (as_it_goes line text short) in
-    record { outcome = line; machine_is = ap (λ (t : Turn). t.machine) same; replied = ap (λ (t : Turn). t.reply) same; refused = ap (λ (t : Turn). t.refused) same }
+    record { outcome = line; read = out; machine_is = ap (λ (t : Turn). t.machine) same; replied = ap (λ (t : Turn). t.reply) same; refused = ap (λ (t : Turn). t.refused) same }
 
 -- the line was refused
-pub turned_fault : (text : List ℕ) (region : RegionValue) (refusal : Refusal) → command_at text ≡ Err refusal → Answers (serving region) text (serving region) (Refused refusal)
-turned_fault text region refusal said =
+pub turned_fault : (may : Type 0) (text : List ℕ) (region : RegionValue) (refusal : Refusal) → command_at text ≡ Err refusal → AnswersBy may (serving region) text (serving region) (Refused refusal)
+turned_fault may text region refusal said =
     let same : turn (serving region) done text ≡ refusing (serving region) refusal =
     ap (λ (o : Outcome). turn_of (serving region) o (command_at text)) (as_said (is_too_long text)) ∙ ap (turn_of (serving region) done) said in
-    record { outcome = done; machine_is = ap (λ (t : Turn). t.machine) same; replied = ap (λ (t : Turn). t.reply) same; refused = ap (λ (t : Turn). t.refused) same }
+    record { outcome = done; read = tt; machine_is = ap (λ (t : Turn). t.machine) same; replied = ap (λ (t : Turn). t.reply) same; refused = ap (λ (t : Turn). t.refused) same }
+
+-- it was refused, or memory ran out before a command was found
+pub turned_err : (may : Type 0) (text : List ℕ) (region : RegionValue) (refusal : Refusal) → (refusal ≢ Memory → command_at text ≡ Err refusal) → (refusal ≡ Memory → is_too_long text ≡ false) → (refusal ≡ Memory → may)
+    → AnswersBy may (serving region) text (serving region) (Refused refusal)
+turned_err may text region Memory is short out = turned_unread may text region (out refl) (short refl)
+turned_err may text region TooLong is short out = turned_fault may text region TooLong (is (λ same. cc))
+turned_err may text region NotJson is short out = turned_fault may text region NotJson (is (λ same. cc))
+turned_err may text region (BadShape part) is short out = turned_fault may text region (BadShape part) (is (λ same. cc))
+turned_err may text region (OutOfRange part) is short out = turned_fault may text region (OutOfRange part) (is (λ same. cc))
 
 -- a text was shown, and nothing changed
 pub turned_text : (old new : RegionValue) (command : CommandValue) (reply : List ℕ) (text : Vec ℕ Global) → obeying (serving old) done command ≡ showing (serving old) reply → new ≡ old → text.items ≡ reply

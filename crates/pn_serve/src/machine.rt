@@ -5,19 +5,21 @@ ghost use Rattle.pn_apply.specs.Limits.{most_workers};
 ghost use Rattle.pn_serve.specs.Command.Meaning.{command_value, deliver as asking};
 ghost use Rattle.pn_serve.specs.Machine.Modes.{IsBegun, with_mode};
 ghost use Rattle.pn_serve.specs.Machine.Outcomes.{serving};
-ghost use Rattle.pn_serve.specs.Machine.Turns.{Answers, Concludes, Obeys};
-ghost use Rattle.pn_serve.specs.Machine.Ways.{BeginsTo, Lasts};
+ghost use Rattle.pn_serve.specs.Machine.Turns.{AnswersBy, ConcludesBy, Obeys};
+ghost use Rattle.pn_serve.specs.Machine.Ways.{BeginsTo, LastsBy};
 
 pub(crate) mod announced;
 mod lookups;
+pub(crate) mod reading;
 mod tablets;
 
 use crate::machine::announced::{Announced, adopt, finish, go_on};
 use crate::machine::lookups::{get, read, scan, shown};
+use crate::machine::reading::Reads;
 use crate::machine::tablets::{copy, lose};
 use crate::reply::marks::marks_reply;
 use crate::reply::tablets::tablets_reply;
-use crate::{Command, Refusal, Reply, command_of, fault_reply};
+use crate::{Command, Refusal, Reply, fault_reply};
 use pn_apply::Open;
 use pn_region::{Region, RoundFault};
 use pn_stream::Delivery;
@@ -29,8 +31,8 @@ pub(crate) type Done = (Reply, Option<Announced>);
 
 /// Takes a line, which stood before a newline, with 1 to 16 workers: a command, or one of the lines that were
 /// announced. A refusal leaves the region as it was; but after a round that ran out of memory, each tablet is as
-/// it was or has taken its part.
-pub(crate) fn answer<R: Threads + Sync>(
+/// it was or has taken its part. Where `C` never runs out of memory, a loss never does.
+pub(crate) fn answer<R: Threads + Sync, C: Reads>(
     rt: &R,
     alloc: Global,
     region: &mut Region,
@@ -39,15 +41,15 @@ pub(crate) fn answer<R: Threads + Sync>(
     line: &[u8],
 ) -> Done
     requires workers { (1 ≤ workers) × (workers ≤ most_workers) }
-    ensures { Answers (with_mode announced region.old) line.now (with_mode result.1 region.new) result.0 }
+    ensures { AnswersBy C.may_run_out (with_mode announced region.old) line.now (with_mode result.1 region.new) result.0 }
 {
     match announced {
-        None => command(rt, alloc, region, workers, line),
+        None => command::<R, C>(rt, alloc, region, workers, line),
         Some(announced) => go_on(alloc, region, announced, line),
     }
 }
 
-fn command<R: Threads + Sync>(
+fn command<R: Threads + Sync, C: Reads>(
     rt: &R,
     alloc: Global,
     region: &mut Region,
@@ -55,9 +57,9 @@ fn command<R: Threads + Sync>(
     line: &[u8],
 ) -> Done
     requires workers { (1 ≤ workers) × (workers ≤ most_workers) }
-    ensures { Answers (serving region.old) line.now (with_mode result.1 region.new) result.0 }
+    ensures { AnswersBy C.may_run_out (serving region.old) line.now (with_mode result.1 region.new) result.0 }
 {
-    match command_of(alloc, line) {
+    match C::command_of(alloc, line) {
         Ok(command) => announce(alloc, obey(rt, alloc, region, workers, command)),
         Err(refusal) => (Reply::Refused(refusal), None),
     }
@@ -75,7 +77,7 @@ fn announce(alloc: Global, begun: Begun) -> Done
 
 /// The input is at its end, behind a part of a line that no newline ends: a command, a part of what was announced,
 /// or nothing.
-pub(crate) fn end<R: Threads + Sync>(
+pub(crate) fn end<R: Threads + Sync, C: Reads>(
     rt: &R,
     alloc: Global,
     region: &mut Region,
@@ -84,17 +86,17 @@ pub(crate) fn end<R: Threads + Sync>(
     part: &[u8],
 ) -> Reply
     requires workers { (1 ≤ workers) × (workers ≤ most_workers) }
-    ensures { Concludes (with_mode announced region.old) part.now (serving region.new) result }
+    ensures { ConcludesBy C.may_run_out (with_mode announced region.old) part.now (serving region.new) result }
 {
     match announced {
         Some(announced) => finish(alloc, region, announced, part),
         None if part.is_empty() => Reply::Silent,
-        None => last_command(rt, alloc, region, workers, part),
+        None => last_command::<R, C>(rt, alloc, region, workers, part),
     }
 }
 
 // A last line without newline. No line that it announces comes.
-fn last_command<R: Threads + Sync>(
+fn last_command<R: Threads + Sync, C: Reads>(
     rt: &R,
     alloc: Global,
     region: &mut Region,
@@ -102,9 +104,9 @@ fn last_command<R: Threads + Sync>(
     line: &[u8],
 ) -> Reply
     requires workers { (1 ≤ workers) × (workers ≤ most_workers) }
-    ensures { Lasts region.old line.now region.new result }
+    ensures { LastsBy C.may_run_out region.old line.now region.new result }
 {
-    match command_of(alloc, line) {
+    match C::command_of(alloc, line) {
         Ok(command) => match obey(rt, alloc, region, workers, command) {
             Begun::Obeyed(reply) => reply,
             Begun::Announces(_) => adopt(alloc, region, Some(Vec::new(alloc))),

@@ -71,17 +71,37 @@ pub record Turned (turns : Outcome → Turn) (machine : Machine) (reply : Reply)
   pub replied : (turns outcome).reply ≡ reply_text reply
   pub refused : (turns outcome).refused ≡ is_refusal reply
 
+-- the line was read, or this holds
+abbrev pub IsReadUnless : Type 0 → Outcome → Type 0
+IsReadUnless may_run_out line = may_run_out
+IsReadUnless may_run_out outcome = Unit {0}
+
+-- the same of the turn of a line, which goes as one that was not read only if memory can run out while a line is read
+pub record TurnedBy (may_run_out : Type 0) (turns : Outcome → Turn) (machine : Machine) (reply : Reply) : Type 0 where
+  pub outcome : Outcome
+  pub read : IsReadUnless may_run_out outcome
+  pub machine_is : (turns outcome).machine ≡ machine
+  pub replied : (turns outcome).reply ≡ reply_text reply
+  pub refused : (turns outcome).refused ≡ is_refusal reply
+
 -- the reply to a lookup with this fault: what it says, or that memory ran out
 abbrev pub Refuses : ScanFault → Reply → Type 0
 Refuses fault (NotTaken text) = (fault ≢ fault_of.Memory) × (text.items ≡ line_of (refused_data fault))
 Refuses fault reply = reply ≡ Refused Memory
 
--- what the program made of a line, and of the end of the input
+-- what the program made of a line, and of the end of the input, by what holds where memory can run out while a line is read
+abbrev pub AnswersBy : Type 0 → Machine → List ℕ → Machine → Reply → Type 0
+AnswersBy may_run_out old text new reply = TurnedBy may_run_out (λ outcome. turn old outcome text) new reply
+
+abbrev pub ConcludesBy : Type 0 → Machine → List ℕ → Machine → Reply → Type 0
+ConcludesBy may_run_out old part new reply = TurnedBy may_run_out (λ outcome. end_turn old outcome part) new reply
+
+-- the same where memory can run out
 abbrev pub Answers : Machine → List ℕ → Machine → Reply → Type 0
-Answers old text new reply = Turned (λ outcome. turn old outcome text) new reply
+Answers old text new reply = AnswersBy (Unit {0}) old text new reply
 
 abbrev pub Concludes : Machine → List ℕ → Machine → Reply → Type 0
-Concludes old part new reply = Turned (λ outcome. end_turn old outcome part) new reply
+Concludes old part new reply = ConcludesBy (Unit {0}) old part new reply
 
 -- what the program made of a command
 abbrev pub Obeys : Machine → CommandValue → Machine → Reply → Type 0

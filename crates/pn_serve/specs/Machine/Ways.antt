@@ -19,7 +19,7 @@ use Rattle.pn_serve.specs.Command.Lines.{command_at}
 use Rattle.pn_serve.specs.Command.Meaning.{CommandValue, adopt}
 use Rattle.pn_serve.specs.declared.machine.Begun.{Begun}
 use Rattle.pn_serve.specs.declared.machine.Begun.TheVariants.{Obeyed, Announces}
-use Rattle.pn_serve.specs.Machine.Turns.{last_of, outcome_at, Turned, Obeys}
+use Rattle.pn_serve.specs.Machine.Turns.{last_of, outcome_at, TurnedBy, Obeys}
 use Rattle.pn_serve.specs.Reply.Recovery.{copy_reply, no_copy_data, bad_text_data, not_adopted_data}
 use Rattle.pn_serve.specs.Reply.Texts.{reply_text, is_refusal}
 
@@ -63,8 +63,8 @@ BeginsTo old command new (Obeyed reply) = IsAlone command × Obeys (serving old)
 BeginsTo old command new (Announces lines) = (command ≡ adopt lines) × (new ≡ old)
 
 -- what the program made of the last line, without newline
-abbrev pub Lasts : RegionValue → List ℕ → RegionValue → Reply → Type 0
-Lasts old text new reply = Turned (λ outcome. last_of (serving old) (outcome_at outcome text) (command_at text)) (serving new) reply
+abbrev pub LastsBy : Type 0 → RegionValue → List ℕ → RegionValue → Reply → Type 0
+LastsBy may_run_out old text new reply = TurnedBy may_run_out (λ outcome. last_of (serving old) (outcome_at outcome text) (command_at text)) (serving new) reply
 
 -- the line stands behind the text that came, or memory ran out
 abbrev pub IsJoined : Option (List ℕ) → List ℕ → List ℕ → Option (List ℕ) → Type 0

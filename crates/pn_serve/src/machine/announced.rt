@@ -8,7 +8,7 @@ ghost use Rattle.pn_tablet.specs.CopyReading.{copy_at};
 ghost use Rattle.pn_serve.specs.Machine.Modes.{bytes_of, mode_of, with_mode};
 ghost use Rattle.pn_serve.specs.Machine.Outcomes.{announced as announced_mode, serving};
 ghost use Rattle.pn_serve.specs.Machine.Recovering.{adopted, adopting_text};
-ghost use Rattle.pn_serve.specs.Machine.Turns.{Answers, Concludes};
+ghost use Rattle.pn_serve.specs.Machine.Turns.{AnswersBy, ConcludesBy};
 ghost use Rattle.pn_serve.specs.Machine.Ways.{ComesTo, IsJoined, TellsBadText, TellsNotAdopted};
 
 use crate::machine::Done;
@@ -43,7 +43,7 @@ impl Announced {
 
 /// A line that was announced: further ones are waited for, or the copy is adopted.
 pub(crate) fn go_on(alloc: Global, region: &mut Region, announced: Announced, line: &[u8]) -> Done
-    ensures { Answers (with_mode (Some announced) region.old) line.now (with_mode result.1 region.new) result.0 }
+    ensures { AnswersBy ⊥ (with_mode (Some announced) region.old) line.now (with_mode result.1 region.new) result.0 }
 {
     let Announced { left, text } = announced;
     let text = joined(text, line, b"\n");
@@ -56,7 +56,7 @@ pub(crate) fn go_on(alloc: Global, region: &mut Region, announced: Announced, li
 
 /// The input ended behind this part of a line, though further lines were announced.
 pub(crate) fn finish(alloc: Global, region: &mut Region, announced: Announced, part: &[u8]) -> Reply
-    ensures { Concludes (with_mode (Some announced) region.old) part.now (serving region.new) result }
+    ensures { ConcludesBy ⊥ (with_mode (Some announced) region.old) part.now (serving region.new) result }
 {
     adopt(alloc, region, joined(announced.text, part, b""))
 }
