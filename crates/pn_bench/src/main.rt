@@ -1,11 +1,15 @@
-//! What the benches count the steps of: lines read as JSON alone, as images or as the messages of a stream,
-//! rows written by a scan or as JSON alone, and scripts over several tablets.
+//! What the benches measure: lines read as JSON alone, as images or as the messages of a stream, rows written by
+//! a scan or as JSON alone, and scripts and rounds over several tablets.
 //!
-//! Its words are a way and how often rows are written, or `script` and the bounds of the tablets. It prints how
-//! many lines were read well, and how many bytes were written.
+//! Its words are a way and how often rows are written; or `script`, how many workers, and the bounds of the
+//! tablets; or `rounds`, how many workers, how many images in a round, and the bounds. It prints how many lines
+//! were read well, and how many bytes were written or how long the rounds took.
 #![tactic(auto)]
 
-use pn_apply::Open;
+mod rounds;
+
+use crate::rounds::time_rounds;
+use pn_apply::{MOST_WORKERS, Open};
 use pn_join::{Name, NoMemory};
 use pn_line::{LineBuffer, LineEnd, Source, read_line};
 use pn_record::{Image, Key, read_image};
@@ -17,7 +21,9 @@ use pn_tablet::Layout;
 use serde_json::Value;
 use std::alloc::Global;
 use std::io::BufReader;
+use std::rt::Clock;
 use std::thread::Threads;
+use std::time::Duration;
 use std::{env, io};
 
 /// How many bytes of input are read at a time.
@@ -43,6 +49,8 @@ enum Way {
     Writes,
     /// They are a script, which is answered.
     Script,
+    /// Each is an image, and rounds of images are taken.
+    Rounds,
 }
 
 impl Way {
@@ -55,6 +63,7 @@ impl Way {
             "scans" => Some(Way::Scans),
             "writes" => Some(Way::Writes),
             "script" => Some(Way::Script),
+            "rounds" => Some(Way::Rounds),
             _ => None,
         }
     }
@@ -66,47 +75,65 @@ fn main(rt: HostRuntime) -> io::Result<()> {
     let way = way.unwrap_or(Way::Lines);
     let mut input = BufReader::with_capacity(rt.alloc(), INPUT_ROOM, rt.reader())?;
     if let Way::Script = way {
-        let lines = match keys_of(rt.alloc(), words) {
-            Some(bounds) => answer_script(&rt, &mut input, bounds).unwrap_or(0),
-            None => 0,
-        };
+        let lines = answer_script(&rt, &mut input, words).unwrap_or(0);
         return println!(rt; "{lines} lines, 0 bytes");
     }
-    let times = words
-        .next()
-        .and_then(|word| word.as_str().parse::<u32>().ok());
     let mut images = Vec::new(rt.alloc());
     let lines = match way {
         Way::Messages => take_messages(rt.alloc(), input),
         _ => take_lines(rt.alloc(), way, &mut images, &mut input)?,
     };
-    let region = region_of(&rt, rt.alloc(), images);
-    let bytes = match region {
-        Some(region) => write_rows(rt.alloc(), way, &region, times.unwrap_or(0)).unwrap_or(0),
+    if let Way::Rounds = way {
+        let took = take_rounds(&rt, images, words).unwrap_or(Duration::ZERO);
+        return println!(rt; "{lines} lines, {} microseconds", took.as_micros());
+    }
+    let times = number_of(&mut words).unwrap_or(0);
+    let bytes = match region_of(&rt, rt.alloc(), images) {
+        Some(region) => write_rows(rt.alloc(), way, &region, times).unwrap_or(0),
         None => 0,
     };
     println!(rt; "{lines} lines, {bytes} bytes")
 }
 
-// The words as keys.
-fn keys_of(alloc: Global, words: env::Args<Global>) -> Option<Vec<Key>> {
-    let mut keys = Vec::new(alloc);
-    for word in words {
-        keys.push(Key::of(alloc, word.as_str()).ok()?).ok()?;
-    }
-    Some(keys)
+// The next word as a number.
+fn number_of(words: &mut env::Args<Global>) -> Option<usize> {
+    words.next()?.as_str().parse::<usize>().ok()
 }
 
-// How many lines of a script were answered, over tablets with these bounds.
+// The words as the bounds of tablets.
+fn layout_of(alloc: Global, words: env::Args<Global>) -> Option<Layout> {
+    let mut bounds = Vec::new(alloc);
+    for word in words {
+        bounds.push(Key::of(alloc, word.as_str()).ok()?).ok()?;
+    }
+    Layout::new(bounds).ok()
+}
+
+// How many lines of a script were answered, by as many workers and over such tablets as the words say.
 fn answer_script<S: Source>(
     rt: &(impl AllocGlobal + Print + Threads + Sync),
     input: &mut S,
-    bounds: Vec<Key>,
+    mut words: env::Args<Global>,
 ) -> Option<u64> {
-    let layout = Layout::new(bounds).ok()?;
-    let settings = Settings::new(layout, 1)?;
+    let workers = number_of(&mut words)?;
+    let settings = Settings::new(layout_of(rt.alloc(), words)?, workers)?;
     let counts = run(rt, rt.alloc(), input, &mut io::writer(rt), settings).ok()?;
     Some(counts.lines)
+}
+
+// How long rounds of these images take, by as many workers, of as many images and over such tablets as the words say.
+fn take_rounds(
+    rt: &(impl AllocGlobal + Clock + Threads + Sync),
+    images: Vec<Image>,
+    mut words: env::Args<Global>,
+) -> Option<Duration> {
+    let workers = number_of(&mut words)?;
+    if workers < 1 || workers > MOST_WORKERS {
+        return None;
+    }
+    let in_round = number_of(&mut words)?;
+    let layout = layout_of(rt.alloc(), words)?;
+    time_rounds(rt, rt.alloc(), layout, images, in_round, workers)
 }
 
 // How many lines were read well.
@@ -150,7 +177,7 @@ fn is_taken(alloc: Global, way: Way, images: &mut Vec<Image>, line: &[u8]) -> bo
         Way::Lines | Way::Messages | Way::Script => true,
         Way::Values => Value::from_slice(alloc, line).is_ok(),
         Way::Images => read_image(alloc, line).is_ok(),
-        Way::Scans | Way::Writes => match read_image(alloc, line) {
+        Way::Scans | Way::Writes | Way::Rounds => match read_image(alloc, line) {
             Ok(image) => images.push(image).is_ok(),
             Err(_) => false,
         },
@@ -169,15 +196,15 @@ fn region_of(rt: &(impl Threads + Sync), alloc: Global, images: Vec<Image>) -> O
 }
 
 // How many bytes of rows were written.
-fn write_rows(alloc: Global, way: Way, region: &Region, times: u32) -> Result<usize, NoMemory> {
+fn write_rows(alloc: Global, way: Way, region: &Region, times: usize) -> Result<usize, NoMemory> {
     match way {
         Way::Scans => write_scans(alloc, region, times),
         Way::Writes => write_values(alloc, region, times),
-        Way::Lines | Way::Values | Way::Images | Way::Messages | Way::Script => Ok(0),
+        _ => Ok(0),
     }
 }
 
-fn write_scans(alloc: Global, region: &Region, times: u32) -> Result<usize, NoMemory> {
+fn write_scans(alloc: Global, region: &Region, times: usize) -> Result<usize, NoMemory> {
     let mut bytes = 0usize;
     for _ in 0..times {
         bytes = bytes.saturating_add(scanned(alloc, region)?.len());
@@ -194,7 +221,7 @@ fn scanned(alloc: Global, region: &Region) -> Result<Vec<u8>, NoMemory> {
     }
 }
 
-fn write_values(alloc: Global, region: &Region, times: u32) -> Result<usize, NoMemory> {
+fn write_values(alloc: Global, region: &Region, times: usize) -> Result<usize, NoMemory> {
     let reply = scanned(alloc, region)?;
     let Ok(value) = Value::from_slice(alloc, &reply) else {
         return Ok(0);
