@@ -108,16 +108,18 @@ def edits_of(crate):
 
 
 def in_bundles(edits, most):
-    """Puts edits together that change bodies of different functions, as evenly as may be."""
+    """Puts edits together that change bodies of different functions, each into the first bundle that it fits."""
     alone = [[it] for it in edits if it.stands_alone()]
-    rest = [it for it in edits if not it.stands_alone()]
-    shared = [[] for _ in range(-(-len(rest) // most))]
-    for edit in rest:
-        fits = [it for it in shared if len(it) < most and not any(edit.places & other.places for other in it)]
-        if not fits:
-            shared.append([])
-        min(fits or shared[-1:], key=len).append(edit)
-    return [it for it in shared if it] + alone
+    shared = []
+    for edit in edits:
+        if edit.stands_alone():
+            continue
+        bundle = next((it for it in shared if len(it) < most and not any(edit.places & other.places for other in it)), None)
+        if bundle is None:
+            bundle = []
+            shared.append(bundle)
+        bundle.append(edit)
+    return shared + alone
 
 
 def texts_of(edits):
