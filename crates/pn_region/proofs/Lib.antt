@@ -10,6 +10,7 @@ pub mod Following
 pub mod GapLaws
 pub mod HalfRounds
 pub mod InRange
+pub mod Keeping
 pub mod KeyTablets
 pub mod MarkLaws
 pub mod MarkSteps
@@ -30,5 +31,6 @@ pub mod Standing
 pub mod StillHeld
 pub mod StreamCount
 pub mod TakenImages
+pub mod Telling
 pub mod Together
 pub mod Untraced

@@ -2,9 +2,12 @@ pub mod Events
 pub mod Faith
 pub mod Faults
 pub mod Held
+pub mod Histories
 pub mod Honest
+pub mod Kept
 pub mod Laws
 pub mod Limits
+pub mod Log
 pub mod Marking
 pub mod Proofs
 pub mod Reads
@@ -12,4 +15,5 @@ pub mod Recovery
 pub mod Regions
 pub mod Rounds
 pub mod Serving
+pub mod Since
 pub mod Taken

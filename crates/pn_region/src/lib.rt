@@ -4,14 +4,22 @@
 
 #![tactic(auto)]
 
+mod entry;
 mod fault;
+mod history;
 pub mod laws;
 mod marking;
+mod notices;
 pub mod read_laws;
 mod reads;
 pub mod recovery_laws;
 mod region;
+mod since;
 
+pub use entry::Entry;
 pub use fault::{AdoptFault, RoundFault};
+pub use history::History;
 pub use marking::next_marks;
+pub use notices::Log;
 pub use region::{Region, Round};
+pub use since::{Notice, Since};

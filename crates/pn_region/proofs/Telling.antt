@@ -1,0 +1,114 @@
+-- What a log tells of what stands behind a number.
+use Rattle.std.proofs.Common.{◌≡◌, ◌⊎◌, inl, inr, ℕ, suc, ◌+◌, ◌-◌, ◌<◌, ◌≤◌, min, nat_le, Bool, true, false, ◌&&◌, if◌then◌else◌, List, [], ◌∷◌, ◌++◌, length, drop, slice_get, Vec, Option, Some, None, option_map, refl, sym, ap, ◌∙◌, subst, arith, append_assoc, length-append, length-drop, drop-drop}
+use Rattle.std.specs.declared.alloc.Global.{Global}
+use Rattle.std.proofs.Math.Seq.{drop-append-add}
+use Rattle.std.proofs.lemmas.Bool.{and_parts, leb-true}
+use Rattle.std.proofs.lemmas.Bool.Decides.{nat_tests}
+use Rattle.std.proofs.lemmas.List.{drop-append-le, drop-map, drop_more, length-map}
+use Rattle.std.proofs.lemmas.Option.{slice_get_within, get_or_from_slice_get}
+use Rattle.circular_buffer.specs.Buffer.{Buffer, keep_last}
+use Rattle.pn_tablet.specs.declared.change.Change.{Change}
+use Rattle.pn_region.specs.declared.entry.Entry.{Entry}
+use Rattle.pn_region.specs.declared.entry.Entry.TheVariants.{Changed, Break}
+use Rattle.pn_region.specs.declared.since.Notice.{Notice}
+use Rattle.pn_region.specs.declared.since.Since.{Since}
+use Rattle.pn_region.specs.declared.since.Since.TheVariants.{Notices, Missed}
+use Rattle.pn_region.specs.Log.{most_notices, last_number, entries_of, changes_in, is_recent, changes_behind, numbered}
+use Rattle.pn_region.specs.Kept.{AreKept, IsLog}
+use Rattle.pn_region.specs.Since.{IsSince}
+
+-- entries of changes are these changes, and with a break among them entries are none
+all_in : (changes : List Change) → changes_in (entries_of changes) ≡ Some changes
+all_in [] = refl
+all_in (change ∷ changes) = ap (option_map (λ (l : List Change). change ∷ l)) (all_in changes)
+
+broken : (before after : List Entry) → changes_in (before ++ Break ∷ after) ≡ None
+broken [] after = refl
+broken (Changed change ∷ before) after = ap (option_map (λ (l : List Change). change ∷ l)) (broken before after)
+broken (Break ∷ before) after = refl
+
+module _ (entries : List Entry) (kept : List Change) (are : AreKept entries kept) where
+  count : length entries ≡ length are.before + length are.behind
+  count = ap length are.parts ∙ length-append are.before (entries_of are.behind) ∙ ap (λ k. length are.before + k) (length-map are.behind Changed)
+
+  kept_count : length kept ≡ length are.behind - (length are.behind - most_notices)
+  kept_count = ap length are.last ∙ length-drop (length are.behind - most_notices) are.behind
+
+  few_kept : length kept ≤ most_notices
+  few_kept = omega (arith, kept_count)
+
+  -- what is kept behind a place are the changes behind a number
+  told : (n place : ℕ) → place ≤ length kept → n + length kept ≡ length entries + place → changes_in (drop n entries) ≡ Some (drop place kept)
+  told n place within at =
+      let m = n - length are.before in
+      let reached : n ≡ length are.before + m = omega (arith, count, kept_count) in
+      let passed : (length are.behind - most_notices) + place ≡ m = omega (arith, count, kept_count) in
+      (λ i. changes_in (drop (reached i) (are.parts i)))
+      ∙ ap changes_in (drop-append-add are.before (entries_of are.behind) m ∙ drop-map Changed m are.behind)
+      ∙ all_in (drop m are.behind)
+      ∙ ap Some (sym (ap (drop place) are.last ∙ drop-drop place (length are.behind - most_notices) are.behind ∙ ap (λ k. drop k are.behind) passed))
+
+  -- behind a lower number there is a break
+  untold : (n : ℕ) → n + length kept < length entries → length entries ≤ n + most_notices → changes_in (drop n entries) ≡ None
+  untold n below recent =
+      let lower : n < length are.before = omega (arith, count, kept_count) in
+      elim are.is_cut [
+        | inl none ↦ let never : ⊥ = omega (arith, lower, ap length none) in absurd never
+        | inr cut ↦
+            let within : n ≤ length cut.0 = omega (arith, lower, ap length cut.1, length-append cut.0 (Break ∷ [])) in
+            let parts : entries ≡ cut.0 ++ Break ∷ entries_of are.behind =
+            are.parts ∙ ap (λ (es : List Entry). es ++ entries_of are.behind) cut.1 ∙ append_assoc cut.0 (Break ∷ []) (entries_of are.behind) in
+            ap (λ (es : List Entry). changes_in (drop n es)) parts
+            ∙ ap changes_in (drop-append-le n cut.0 (Break ∷ entries_of are.behind) within)
+            ∙ broken (drop n cut.0) (entries_of are.behind)
+      ]
+
+le_true : (m n : ℕ) → m ≤ n → nat_le m n ≡ true
+le_true m n few = grind (arith, nat_tests)
+
+unless : {A : Type 0} (b : Bool) (value : Option A) → (b ≡ true → value ≡ None) → (if b then value else None) ≡ None
+unless true value none = none refl
+unless false value none = refl
+
+module _ (entries : List Entry) (last n : ℕ) (kept : Buffer Change) (is : IsLog entries last kept) where
+  pub known : (place : ℕ) → last ≤ last_number → place ≤ length kept.items → n + length kept.items ≡ last + place
+      → changes_behind entries n ≡ Some (drop place kept.items)
+  known place given within at =
+      let are = is.are_kept (omega (arith, is.number)) in
+      let all : last ≡ length entries = omega (arith, is.number) in
+      let few = few_kept entries kept.items are in
+      let recent : is_recent entries n ≡ true =
+      λ i. le_true n (length entries) (omega arith) i && le_true (length entries) (n + most_notices) (omega arith) i && le_true (length entries) last_number (omega arith) i in
+      ap (λ b. if b then changes_in (drop n entries) else None) recent ∙ told entries kept.items are n place within (at ∙ ap (λ k. k + place) all)
+
+  gone : n ≤ length entries → length entries ≤ n + most_notices → length entries ≤ last_number → (last_number < last) ⊎ ((last < n) ⊎ (n + length kept.items < last))
+      → changes_in (drop n entries) ≡ None
+  gone there recent given (inl over) = let never : ⊥ = omega (arith, is.number) in absurd never
+  gone there recent given (inr (inl past)) = let never : ⊥ = omega (arith, is.number) in absurd never
+  gone there recent given (inr (inr lower)) = untold entries kept.items (is.are_kept given) n (omega (arith, is.number)) recent
+
+  pub unknown : (last_number < last) ⊎ ((last < n) ⊎ (n + length kept.items < last)) → changes_behind entries n ≡ None
+  unknown why = unless (is_recent entries n) (changes_in (drop n entries)) (λ (yet : is_recent entries n ≡ true).
+    let parts = and_parts (nat_le n (length entries) && nat_le (length entries) (n + most_notices)) (nat_le (length entries) last_number) yet in
+    let first = and_parts (nat_le n (length entries)) (nat_le (length entries) (n + most_notices)) parts.0 in
+    gone (leb-true n (length entries) first.0) (leb-true (length entries) (n + most_notices) first.1) (leb-true (length entries) last_number parts.1) why)
+
+  -- so the answers are those of the log
+  pub tells : (next place most : ℕ) (list : Vec Notice Global) → next ≡ min last last_number → most ≡ length kept.items
+      → (last ≤ last_number) × (place ≤ most) × (n + most ≡ last + place) → list.items ≡ numbered n (drop place kept.items) → IsSince entries n (Notices next list)
+  tells next place most list at all is_place told =
+      (omega (arith, is.number),
+      ap (option_map (numbered n)) (known place is_place.0 (omega (arith, is_place.1)) (omega (arith, is_place.2))) ∙ ap Some (sym told))
+
+  pub misses : (next most : ℕ) → next ≡ min last last_number → most ≡ length kept.items → (last_number < last) ⊎ ((last < n) ⊎ (n + most < last)) → IsSince entries n (Missed next)
+  misses next most at all why = (omega (arith, is.number), unknown (subst (λ k. (last_number < last) ⊎ ((last < n) ⊎ (n + k < last))) all why))
+
+-- one more change is told
+drop_got : {X : Type 0} (xs : List X) (i : ℕ) (x : X) → slice_get xs i ≡ Some x → drop i xs ≡ x ∷ drop (i + 1) xs
+drop_got xs i x got = drop_more xs i x (slice_get_within xs i x got) ∙ ap (λ y. y ∷ drop (i + 1) xs) (get_or_from_slice_get xs i x x got)
+
+pub told_more : (xs : List Change) (place number : ℕ) (x : Change) (list all : List Notice) → slice_get xs place ≡ Some x → list ++ numbered number (drop place xs) ≡ all
+    → (list ++ record { number = number + 1; change = x } ∷ []) ++ numbered (number + 1) (drop (place + 1) xs) ≡ all
+told_more xs place number x list all got told =
+    append_assoc list (record { number = number + 1; change = x } ∷ []) (numbered (number + 1) (drop (place + 1) xs))
+    ∙ ap (λ rest. list ++ numbered number rest) (sym (drop_got xs place x got)) ∙ told

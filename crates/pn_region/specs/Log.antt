@@ -1,0 +1,41 @@
+-- What a log tells of its entries.
+use Rattle.std.specs.Prelude.{ℕ, ◌+◌, ◌^◌, min, nat_le, Bool, ◌&&◌, if◌then◌else◌, List, [], ◌∷◌, length, drop, map, Option, None, Some, option_map}
+use Rattle.pn_tablet.specs.declared.change.Change.{Change}
+use Rattle.pn_region.specs.declared.entry.Entry.{Entry}
+use Rattle.pn_region.specs.declared.entry.Entry.TheVariants.{Changed, Break}
+use Rattle.pn_region.specs.declared.since.Notice.{Notice}
+
+-- the most notices that are given
+abbrev pub most_notices : ℕ
+most_notices = 1024
+
+-- the last number that an entry has
+abbrev pub last_number : ℕ
+last_number = 10 ^ 18
+
+-- an entry for each change
+abbrev pub entries_of : List Change → List Entry
+entries_of changes = map Changed changes
+
+-- the changes that entries are, where none of them is a break
+abbrev pub changes_in : List Entry → Option (List Change)
+changes_in [] = Some []
+changes_in (Changed change ∷ entries) = option_map (λ changes. change ∷ changes) (changes_in entries)
+changes_in (Break ∷ entries) = None
+
+-- the number is one of the last that were given, and the numbers are not at their end
+abbrev pub is_recent : List Entry → ℕ → Bool
+is_recent entries n = nat_le n (length entries) && nat_le (length entries) (n + most_notices) && nat_le (length entries) last_number
+
+-- the changes behind a number, where they can be told
+abbrev pub changes_behind : List Entry → ℕ → Option (List Change)
+changes_behind entries n = if is_recent entries n then changes_in (drop n entries) else None
+
+-- changes as notices, numbered from the one behind the number on
+abbrev pub numbered : ℕ → List Change → List Notice
+numbered n [] = []
+numbered n (change ∷ changes) = record { number = n + 1; change = change } ∷ numbered (n + 1) changes
+
+-- the last number that was given
+abbrev pub last_of : List Entry → ℕ
+last_of entries = min (length entries) last_number

@@ -1,0 +1,169 @@
+//! The log of a region: its notices, each with a number.
+
+ghost use Rattle.std.specs.Prelude.{◌≡◌, ◌≤◌, ◌<◌, ◌+◌, ◌^◌, [], ◌∷◌, ◌++◌, length, drop, IfOk, IfSome, None, ◌⊎◌};
+ghost use Rattle.pn_region.specs.Log.{entries_of, last_number, numbered};
+ghost use Rattle.pn_region.specs.Since.{IsSince};
+ghost use Rattle.pn_region.specs.Kept.{kept_with};
+ghost use Rattle.std.specs.List.{flat_map};
+ghost use Rattle.circular_buffer.specs.Buffer.{buffer};
+
+use crate::{Entry, History, Notice, Since};
+use circular_buffer::HeapCircularBuffer;
+use pn_join::{Dup, NoMemory};
+use pn_tablet::Change;
+use std::alloc::Global;
+use std::marker::Model;
+
+/// How many changes a log keeps.
+const MOST_KEPT: usize = 1024;
+
+/// The last number that an entry has.
+const LAST_NUMBER: u64 = 1_000_000_000_000_000_000;
+
+/// What happened to the records of a region, one entry after another. It keeps the last 1,024 changes
+/// behind the last break, for which it takes memory once.
+#[derive(Drop)]
+pub struct Log {
+    entries: History<Entry>,
+    // The number of the last entry. One above the greatest: entries came that have no number.
+    last: u64,
+    kept: HeapCircularBuffer<Change>,
+    alloc: Global,
+}
+
+impl Model for Log {
+    ghost use Rattle.std.specs.Prelude.{List};
+    ghost use Rattle.pn_region.specs.declared.entry.Entry.{Entry};
+    ghost use Rattle.pn_region.specs.Kept.{IsLog};
+
+    ghost Value = { List Entry };
+
+    ghost view = { λ log. log.entries };
+
+    ghost invariant = { λ log. IsLog log.entries log.last log.kept };
+}
+
+impl Log {
+    /// A log without entries, whose answers are taken from the allocator.
+    pub fn new(alloc: Global) -> Result<Log, NoMemory>
+        ensures { IfOk result (λ log. log ≡ []) }
+    {
+        Ok(Log {
+            entries: History::new(),
+            last: 0,
+            kept: HeapCircularBuffer::with_capacity(alloc, MOST_KEPT)?,
+            alloc,
+        })
+    }
+
+    /// Adds the changes of a round, in their order. It takes no memory.
+    pub fn add(&mut self, lists: Vec<Vec<Change>>)
+        ensures { self.new ≡ self.old ++ entries_of (flat_map (λ list. list.items) lists.items) }
+    {
+        for list in lists {
+            self.add_each(list);
+        }
+    }
+
+    fn add_each(&mut self, changes: Vec<Change>)
+        ensures { self.new ≡ self.old ++ entries_of changes.items }
+    {
+        for change in changes {
+            self.put(Entry::Changed(change));
+        }
+    }
+
+    /// Adds a break: what came before is not told any more. It takes no memory.
+    pub fn cut(&mut self)
+        ensures { self.new ≡ self.old ++ Entry.Break ∷ [] }
+    {
+        self.put(Entry::Break);
+    }
+
+    // Adds an entry.
+    fn put(&mut self, entry: Entry)
+        ensures { self.new ≡ self.old ++ entry ∷ [] }
+    {
+        self.entries.push(&entry);
+        self.last = (self.last + 1).min(LAST_NUMBER + 1);
+        keep(&mut self.kept, entry);
+        if self.last > LAST_NUMBER {
+            self.kept.clear();
+        }
+    }
+
+    /// The notices behind the number, where all of them are kept.
+    pub fn since(&self, number: u64) -> Result<Since, NoMemory>
+        ensures { IfOk result (λ since. IsSince self.now number since) }
+    {
+        let next = self.last.min(LAST_NUMBER);
+        match place_behind(number, self.last, self.kept.len()) {
+            Some(place) => Ok(Since::Notices {
+                next,
+                list: notices(self.alloc, &self.kept, place, number)?,
+            }),
+            None => Ok(Since::Missed { next }),
+        }
+    }
+}
+
+// The changes that are kept once there is one more entry.
+fn keep(kept: &mut HeapCircularBuffer<Change>, entry: Entry)
+    ensures { kept.new ≡ buffer (kept_with entry kept.old.capacity kept.old.items) kept.old.capacity }
+{
+    match entry {
+        Entry::Changed(change) => {
+            let _ = kept.push_back(change);
+        }
+        Entry::Break => kept.clear(),
+    }
+}
+
+// Where the changes behind a number begin among the last ones, so many of which are kept. None: not all
+// of them are.
+fn place_behind(number: u64, last: u64, kept: usize) -> Option<usize>
+    ensures some { IfSome result (λ place. (last ≤ last_number) × (place ≤ kept) × (number + kept ≡ last + place)) }
+    ensures none { result ≡ None → (last_number < last) ⊎ ((last < number) ⊎ (number + kept < last)) }
+{
+    if last > LAST_NUMBER {
+        return None;
+    }
+    let behind = last.checked_sub(number)?;
+    kept.checked_sub(behind as usize)
+}
+
+// The changes from a place on, as notices behind the number.
+fn notices(
+    alloc: Global,
+    kept: &HeapCircularBuffer<Change>,
+    first: usize,
+    behind: u64,
+) -> Result<Vec<Notice>, NoMemory>
+    requires place { first ≤ length kept.now.items }
+    requires numbers { behind + length kept.now.items < 2 ^ 64 }
+    ensures { IfOk result (λ list. list.items ≡ numbered behind (drop first kept.now.items)) }
+{
+    let mut list = Vec::with_capacity(alloc, kept.len() - first)?;
+    let mut number = behind;
+    for place in first..kept.len() {
+        let Some(change) = kept.get(place) else {
+            unreachable!();
+        };
+        number += 1;
+        list.push_reserved(Notice {
+            number,
+            change: copied(change)?,
+        });
+    }
+    Ok(list)
+}
+
+fn copied(change: &Change) -> Result<Change, NoMemory>
+    ensures { IfOk result (λ copy. copy ≡ change.now) }
+{
+    Ok(Change {
+        key: change.key.dup()?,
+        before: change.before,
+        after: change.after,
+    })
+}
