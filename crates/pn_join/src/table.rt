@@ -19,8 +19,8 @@ mod single;
 
 use crate::{Dup, Join, NoMemory};
 pub use change::TableChange;
-pub use entries::Entries;
 use edit::changes_of;
+pub use entries::Entries;
 use row::Row;
 use std::alloc::Global;
 use std::marker::Model;
