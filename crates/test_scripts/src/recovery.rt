@@ -4,14 +4,25 @@ use crate::row::{Row, assert_agrees, replies_with, settings};
 use pn_line::InMemory;
 use std::test::Fail;
 
-// A copy that reaches the need: its tablet gives its eight lines.
-const COPY_IS_SHOWN: Row = Row {
-    script: r#"{"batches":[{"first":1,"images":[{"fields":{"v":"x"},"key":"a","master":"w","version":[1,0]},{"fields":{"v":"x"},"key":"b","master":"w","version":[1,0]},{"fields":{"v":"x"},"key":"c","master":"w","version":[1,0]},{"fields":{"v":"x"},"key":"d","master":"w","version":[1,0]},{"fields":{"v":"x"},"key":"e","master":"w","version":[1,0]}],"stream":"east"}],"do":"deliver"}
-{"batches":[{"first":6,"images":[{"fields":{"v":"y"},"key":"a","master":"w","version":[1,1]}],"stream":"east"}],"do":"deliver"}
+// A tablet gives no copy that is behind what it has to reach, and any copy where nothing is asked for.
+const COPIES_ARE_SHOWN: Row = Row {
+    script: r#"{"batches":[{"first":1,"images":[{"fields":{"v":"x"},"key":"a","master":"w","version":[1,0]},{"fields":{"v":"x"},"key":"b","master":"w","version":[1,0]},{"fields":{"v":"x"},"key":"c","master":"w","version":[1,0]},{"fields":{"v":"x"},"key":"d","master":"w","version":[1,0]}],"stream":"east"}],"do":"deliver"}
+{"do":"copy","need":{"east":5},"tablet":0}
+{"do":"copy","tablet":0}
+{"batches":[{"first":5,"images":[{"fields":{"v":"x"},"key":"e","master":"w","version":[1,0]},{"fields":{"v":"y"},"key":"a","master":"w","version":[1,1]}],"stream":"east"}],"do":"deliver"}
 {"do":"copy","need":{"east":5},"tablet":0}
 "#,
-    replies: r#"{"changed":5}
-{"changed":1}
+    replies: r#"{"changed":4}
+{"error":"behind","has":4,"stream":"east","wanted":5}
+{"lines":7}
+{"copy":1,"from":null,"to":null}
+{"at":4,"stream":"east"}
+{"fields":{"v":"x"},"key":"a","master":"w","version":[1,0]}
+{"fields":{"v":"x"},"key":"b","master":"w","version":[1,0]}
+{"fields":{"v":"x"},"key":"c","master":"w","version":[1,0]}
+{"fields":{"v":"x"},"key":"d","master":"w","version":[1,0]}
+{"end":5}
+{"changed":2}
 {"lines":8}
 {"copy":1,"from":null,"to":null}
 {"at":6,"stream":"east"}
@@ -24,11 +35,20 @@ const COPY_IS_SHOWN: Row = Row {
 "#,
 };
 
-// A tablet keeps what arrived while it was lost, and has its records back.
+// A tablet keeps what arrived while it was lost, whether a copy is too old for it or brings its records back.
 const ARRIVALS_ARE_KEPT: Row = Row {
     script: r#"{"batches":[{"first":1,"images":[{"fields":{"v":"x"},"key":"a","master":"w","version":[1,0]},{"fields":{"v":"x"},"key":"b","master":"w","version":[1,0]},{"fields":{"v":"x"},"key":"c","master":"w","version":[1,0]},{"fields":{"v":"x"},"key":"d","master":"w","version":[1,0]},{"fields":{"v":"x"},"key":"e","master":"w","version":[1,0]}],"stream":"east"}],"do":"deliver"}
 {"do":"lose","tablet":0}
 {"batches":[{"first":6,"images":[{"fields":{"v":"y"},"key":"a","master":"w","version":[1,1]},{"fields":{"v":"x"},"key":"f","master":"w","version":[1,0]}],"stream":"east"}],"do":"deliver"}
+{"do":"scan","query":{}}
+{"do":"adopt","lines":7}
+{"copy":1,"from":null,"to":null}
+{"at":4,"stream":"east"}
+{"fields":{"v":"x"},"key":"a","master":"w","version":[1,0]}
+{"fields":{"v":"x"},"key":"b","master":"w","version":[1,0]}
+{"fields":{"v":"x"},"key":"c","master":"w","version":[1,0]}
+{"fields":{"v":"x"},"key":"d","master":"w","version":[1,0]}
+{"end":5}
 {"do":"scan","query":{}}
 {"do":"tablets"}
 {"do":"adopt","lines":8}
@@ -47,54 +67,12 @@ const ARRIVALS_ARE_KEPT: Row = Row {
 {"lost":0}
 {"changed":2}
 {"error":"recovering","tablet":0}
+{"error":"too-old","has":4,"needs":5,"stream":"east"}
+{"error":"recovering","tablet":0}
 {"tablets":[{"cover":{"east":7},"from":null,"need":{"east":5},"to":null}]}
 {"adopted":0}
 {"next":null,"rows":[{"contents":[{"fields":{"v":"y"},"master":"w"}],"key":"a","state":"one","version":[1,1]},{"contents":[{"fields":{"v":"x"},"master":"w"}],"key":"b","state":"one","version":[1,0]},{"contents":[{"fields":{"v":"x"},"master":"w"}],"key":"c","state":"one","version":[1,0]},{"contents":[{"fields":{"v":"x"},"master":"w"}],"key":"d","state":"one","version":[1,0]},{"contents":[{"fields":{"v":"x"},"master":"w"}],"key":"e","state":"one","version":[1,0]},{"contents":[{"fields":{"v":"x"},"master":"w"}],"key":"f","state":"one","version":[1,0]}]}
 {"tablets":[{"cover":{"east":7},"from":null,"need":null,"to":null}]}
-"#,
-};
-
-// A tablet is behind what a copy has to reach.
-const TABLET_IS_BEHIND: Row = Row {
-    script: r#"{"batches":[{"first":1,"images":[{"fields":{"v":"x"},"key":"a","master":"w","version":[1,0]},{"fields":{"v":"x"},"key":"b","master":"w","version":[1,0]},{"fields":{"v":"x"},"key":"c","master":"w","version":[1,0]},{"fields":{"v":"x"},"key":"d","master":"w","version":[1,0]}],"stream":"east"}],"do":"deliver"}
-{"do":"copy","need":{"east":5},"tablet":0}
-{"do":"copy","tablet":0}
-"#,
-    replies: r#"{"changed":4}
-{"error":"behind","has":4,"stream":"east","wanted":5}
-{"lines":7}
-{"copy":1,"from":null,"to":null}
-{"at":4,"stream":"east"}
-{"fields":{"v":"x"},"key":"a","master":"w","version":[1,0]}
-{"fields":{"v":"x"},"key":"b","master":"w","version":[1,0]}
-{"fields":{"v":"x"},"key":"c","master":"w","version":[1,0]}
-{"fields":{"v":"x"},"key":"d","master":"w","version":[1,0]}
-{"end":5}
-"#,
-};
-
-// A copy does not reach what its tablet needs.
-const COPY_IS_TOO_OLD: Row = Row {
-    script: r#"{"batches":[{"first":1,"images":[{"fields":{"v":"x"},"key":"a","master":"w","version":[1,0]},{"fields":{"v":"x"},"key":"b","master":"w","version":[1,0]},{"fields":{"v":"x"},"key":"c","master":"w","version":[1,0]},{"fields":{"v":"x"},"key":"d","master":"w","version":[1,0]},{"fields":{"v":"x"},"key":"e","master":"w","version":[1,0]}],"stream":"east"}],"do":"deliver"}
-{"do":"lose","tablet":0}
-{"batches":[{"first":6,"images":[{"fields":{"v":"y"},"key":"a","master":"w","version":[1,1]},{"fields":{"v":"x"},"key":"f","master":"w","version":[1,0]}],"stream":"east"}],"do":"deliver"}
-{"do":"adopt","lines":7}
-{"copy":1,"from":null,"to":null}
-{"at":4,"stream":"east"}
-{"fields":{"v":"x"},"key":"a","master":"w","version":[1,0]}
-{"fields":{"v":"x"},"key":"b","master":"w","version":[1,0]}
-{"fields":{"v":"x"},"key":"c","master":"w","version":[1,0]}
-{"fields":{"v":"x"},"key":"d","master":"w","version":[1,0]}
-{"end":5}
-{"do":"scan","query":{}}
-{"do":"tablets"}
-"#,
-    replies: r#"{"changed":5}
-{"lost":0}
-{"changed":2}
-{"error":"too-old","has":4,"needs":5,"stream":"east"}
-{"error":"recovering","tablet":0}
-{"tablets":[{"cover":{"east":7},"from":null,"need":{"east":5},"to":null}]}
 "#,
 };
 
@@ -134,6 +112,40 @@ const DAMAGED_COPIES: Row = Row {
 {"error":"not-rising","line":5}
 {"next":null,"rows":[{"contents":[{"fields":{"v":"x"},"master":"w"}],"key":"q","state":"one","version":[1,0]}]}
 {"tablets":[{"cover":{"east":1},"from":null,"need":null,"to":null}]}
+"#,
+};
+
+// A copy may name more streams than a region takes; its tablet then needs all of them.
+const COPY_OF_17_STREAMS: Row = Row {
+    script: r#"{"do":"adopt","lines":20}
+{"copy":1,"from":null,"to":null}
+{"at":1,"stream":"a"}
+{"at":1,"stream":"b"}
+{"at":1,"stream":"c"}
+{"at":1,"stream":"d"}
+{"at":1,"stream":"e"}
+{"at":1,"stream":"f"}
+{"at":1,"stream":"g"}
+{"at":1,"stream":"h"}
+{"at":1,"stream":"i"}
+{"at":1,"stream":"j"}
+{"at":1,"stream":"k"}
+{"at":1,"stream":"l"}
+{"at":1,"stream":"m"}
+{"at":1,"stream":"n"}
+{"at":1,"stream":"o"}
+{"at":1,"stream":"p"}
+{"at":1,"stream":"q"}
+{"fields":{"v":"x"},"key":"k","master":"w","version":[1,0]}
+{"end":18}
+{"do":"marks"}
+{"do":"lose","tablet":0}
+{"do":"tablets"}
+"#,
+    replies: r#"{"adopted":0}
+{"marks":{}}
+{"lost":0}
+{"tablets":[{"cover":{"a":1,"b":1,"c":1,"d":1,"e":1,"f":1,"g":1,"h":1,"i":1,"j":1,"k":1,"l":1,"m":1,"n":1,"o":1,"p":1,"q":1},"from":null,"need":{"a":1,"b":1,"c":1,"d":1,"e":1,"f":1,"g":1,"h":1,"i":1,"j":1,"k":1,"l":1,"m":1,"n":1,"o":1,"p":1,"q":1},"to":null}]}
 "#,
 };
 
@@ -216,11 +228,10 @@ const NO_LINES: Row = Row {
 #[test]
 fn losses_and_adoptions_answer_as_written(rt: HostRuntime) -> Result<(), Fail> {
     let rows = [
-        ("copy is shown", COPY_IS_SHOWN),
+        ("copies are shown", COPIES_ARE_SHOWN),
         ("arrivals are kept", ARRIVALS_ARE_KEPT),
-        ("tablet is behind", TABLET_IS_BEHIND),
-        ("copy is too old", COPY_IS_TOO_OLD),
         ("damaged copies", DAMAGED_COPIES),
+        ("copy of 17 streams", COPY_OF_17_STREAMS),
         ("cover ahead of marks", COVER_AHEAD_OF_MARKS),
         ("lines are its own", LINES_ARE_ITS_OWN),
         ("fewer lines", FEWER_LINES),

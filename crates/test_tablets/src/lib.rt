@@ -1,12 +1,8 @@
-//! Tests of tablets and regions: the calls of `pn_tablet`, `pn_apply` and `pn_region`, at values that were worked out by hand.
+//! Tests of tablets and regions: the calls of `pn_tablet` and `pn_region`, at values that were worked out by hand.
 #![tactic(auto)]
 
 #[cfg(test)]
-mod apply;
-#[cfg(test)]
 mod given;
-#[cfg(test)]
-mod notes;
 #[cfg(test)]
 mod reads;
 #[cfg(test)]
@@ -15,5 +11,3 @@ mod recovery;
 mod region;
 #[cfg(test)]
 mod tablet;
-#[cfg(test)]
-mod workers;

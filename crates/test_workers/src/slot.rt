@@ -1,17 +1,19 @@
-//! A gate and slots that note, in one place, which tablets are entered and which are worked.
+//! A gate and slots that note, in one place, which tablets are entered and which are worked, and which are refused memory.
 
 use pn_apply::{Gate, Slot};
+use pn_join::Dup;
 use pn_tablet::{Change, OpFault, TabletOp, TabletState};
 use std::marker::Model;
 use std::sync::atomic::{AtomicU64, Ordering};
 
 /// Which of 64 tablets were entered and which were worked, a bit each, and how many calls came out of order: a tablet is entered
-/// once, and then worked once.
+/// once, and then worked once. Some may be refused memory.
 #[derive(Drop)]
 pub(crate) struct Notes {
     entered: AtomicU64,
     worked: AtomicU64,
     others: AtomicU64,
+    refused: AtomicU64,
 }
 
 impl Notes {
@@ -21,7 +23,18 @@ impl Notes {
             entered: AtomicU64::new(0),
             worked: AtomicU64::new(0),
             others: AtomicU64::new(0),
+            refused: AtomicU64::new(0),
         }
+    }
+
+    /// From now on this tablet alone is refused memory; none where there is no tablet.
+    pub(crate) fn refuse(&self, tablet: Option<usize>) {
+        self.refused
+            .store(tablet.map_or(0, |tablet| bit(tablet)), Ordering::SeqCst);
+    }
+
+    fn is_refused(&self, tablet: usize) -> bool {
+        self.refused.load(Ordering::SeqCst) & bit(tablet) != 0
     }
 
     /// Which tablets were entered and which were worked, a bit each, and how many calls came out of order.
@@ -57,7 +70,7 @@ impl Gate for Notes {
     }
 }
 
-/// A tablet that notes that it is worked.
+/// A tablet that notes that it is worked, and takes nothing where it is refused memory.
 #[derive(Drop)]
 pub(crate) struct Noted<'a> {
     pub(crate) state: TabletState,
@@ -79,8 +92,17 @@ impl<'a> Model for Noted<'a> {
 impl Slot for Noted<'_> {
     ghost tablet = { λ noted. noted };
 
+    // What the tablet refuses itself comes before the want of memory.
     fn apply(&mut self, op: &TabletOp) -> Result<Vec<Change>, OpFault> {
         self.notes.work(self.tablet);
-        self.state.apply(op)
+        if !self.notes.is_refused(self.tablet) {
+            return self.state.apply(op);
+        }
+        let Ok(before) = self.state.dup() else {
+            return self.state.apply(op);
+        };
+        let _changes = self.state.apply(op)?;
+        self.state = before;
+        Err(OpFault::Memory)
     }
 }
