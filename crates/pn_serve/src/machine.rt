@@ -39,7 +39,7 @@ pub(crate) fn answer<R: Threads + Sync>(
     line: &[u8],
 ) -> Done
     requires workers { (1 ≤ workers) × (workers ≤ most_workers) }
-    ensures { Answers (with_mode announced region.old) line.now (with_mode result.1 region.new) result.0 }
+    ensures { Answers (with_mode announced region.old.state) line.now (with_mode result.1 region.new.state) result.0 }
 {
     match announced {
         None => command(rt, alloc, region, workers, line),
@@ -55,7 +55,7 @@ fn command<R: Threads + Sync>(
     line: &[u8],
 ) -> Done
     requires workers { (1 ≤ workers) × (workers ≤ most_workers) }
-    ensures { Answers (serving region.old) line.now (with_mode result.1 region.new) result.0 }
+    ensures { Answers (serving region.old.state) line.now (with_mode result.1 region.new.state) result.0 }
 {
     match command_of(alloc, line) {
         Ok(command) => announce(alloc, obey(rt, alloc, region, workers, command)),
@@ -84,7 +84,7 @@ pub(crate) fn end<R: Threads + Sync>(
     part: &[u8],
 ) -> Reply
     requires workers { (1 ≤ workers) × (workers ≤ most_workers) }
-    ensures { Concludes (with_mode announced region.old) part.now (serving region.new) result }
+    ensures { Concludes (with_mode announced region.old.state) part.now (serving region.new.state) result }
 {
     match announced {
         Some(announced) => finish(alloc, region, announced, part),
@@ -102,7 +102,7 @@ fn last_command<R: Threads + Sync>(
     line: &[u8],
 ) -> Reply
     requires workers { (1 ≤ workers) × (workers ≤ most_workers) }
-    ensures { Lasts region.old line.now region.new result }
+    ensures { Lasts region.old.state line.now region.new.state result }
 {
     match command_of(alloc, line) {
         Ok(command) => match obey(rt, alloc, region, workers, command) {
@@ -130,7 +130,7 @@ fn obey<R: Threads + Sync>(
     command: Command,
 ) -> Begun
     requires workers { (1 ≤ workers) × (workers ≤ most_workers) }
-    ensures { BeginsTo region.old (command_value command) region.new result }
+    ensures { BeginsTo region.old.state (command_value command) region.new.state result }
 {
     match command {
         Command::Adopt { lines } => Begun::Announces(lines),
@@ -156,7 +156,7 @@ fn deliver<R: Threads + Sync>(
     deliveries: Vec<Delivery>,
 ) -> Reply
     requires workers { (1 ≤ workers) × (workers ≤ most_workers) }
-    ensures { Obeys (serving region.old) (asking deliveries.items) (serving region.new) result }
+    ensures { Obeys (serving region.old.state) (asking deliveries.items) (serving region.new.state) result }
 {
     match region.round(rt, deliveries, workers, &Open) {
         Ok(round) => Reply::Changed(round.changed),

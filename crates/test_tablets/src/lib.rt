@@ -8,6 +8,8 @@ mod given;
 #[cfg(test)]
 mod notes;
 #[cfg(test)]
+mod notices;
+#[cfg(test)]
 mod reads;
 #[cfg(test)]
 mod recovery;
