@@ -27,11 +27,10 @@ use Rattle.pn_region.proofs.RoundSteps.{is_taken, same_list}
 
 -- what lists of changes hold together
 pub all_told : (ts : List TabletStateValue) (joins : List TabletOp) (lists : List (Vec Change Global)) → map (λ (list : Vec Change Global). list.items) lists ≡ all_changes (map (λ t. t) ts) joins
-    → length (flat_map (λ (list : Vec Change Global). list.items) lists) ≡ length (flat_map (λ (list : List Change). list) (all_changes ts joins))
+    → flat_map (λ (list : Vec Change Global). list.items) lists ≡ flat_map (λ (list : List Change). list) (all_changes ts joins)
 all_told ts joins lists told =
-    ap length
-    (sym (flat_map-map (λ (list : List Change). list) (λ (list : Vec Change Global). list.items) lists)
-    ∙ ap (flat_map (λ (list : List Change). list)) (told ∙ ap (λ (tablets : List TabletStateValue). all_changes tablets joins) (same_list ts)))
+    sym (flat_map-map (λ (list : List Change). list) (λ (list : Vec Change Global). list.items) lists)
+    ∙ ap (flat_map (λ (list : List Change). list)) (told ∙ ap (λ (tablets : List TabletStateValue). all_changes tablets joins) (same_list ts))
 
 found_adds : (old : Entries) (images : List Image) (key : List ℕ) → old ≡ table_of (spell old)
     → find bytes_cmp key (adds old (spell (table_of images))) ≡ both (find bytes_cmp key old) (find bytes_cmp key (table_of images))

@@ -1,12 +1,12 @@
 -- What a log keeps, as it grows.
-use Rattle.std.proofs.Common.{◌≡◌, ◌≢◌, ◌⊎◌, inl, inr, ℕ, suc, ◌+◌, ◌-◌, ◌<◌, ◌≤◌, min, List, [], ◌∷◌, ◌++◌, length, map, drop, Option, Some, None, option_map, refl, sym, ap, ◌∙◌, subst, arith, append_assoc, append-nil, length-append, length-drop, drop-drop}
-use Rattle.std.proofs.lemmas.List.{drop-append-le, drop-map, map-append, length-map, drop_at}
+use Rattle.std.proofs.Common.{◌≡◌, inr, ℕ, ◌+◌, ◌-◌, min, List, [], ◌∷◌, ◌++◌, length, map, drop, refl, sym, ap, ◌∙◌, subst, arith, append_assoc, append-nil, length-append, length-drop, drop-drop}
+use Rattle.std.proofs.lemmas.List.{drop-append-le, map-append}
 use Rattle.circular_buffer.specs.Buffer.{Buffer, buffer, keep_last}
 use Rattle.pn_tablet.specs.declared.change.Change.{Change}
 use Rattle.pn_region.specs.declared.entry.Entry.{Entry}
 use Rattle.pn_region.specs.declared.entry.Entry.TheVariants.{Changed, Break}
-use Rattle.pn_region.specs.Log.{most_notices, last_number, entries_of, changes_in, changes_behind}
-use Rattle.pn_region.specs.Kept.{EndsInBreak, AreKept, kept_with, IsLog}
+use Rattle.pn_region.specs.Log.{most_notices, last_number, entries_of}
+use Rattle.pn_region.specs.Kept.{AreKept, kept_with, IsLog}
 
 -- to keep the last ones of what was kept and one more is to keep the last ones of all
 pub kept_more : {X : Type 0} (n : ℕ) (xs : List X) (x : X) → keep_last n (keep_last n xs ++ x ∷ []) ≡ keep_last n (xs ++ x ∷ [])

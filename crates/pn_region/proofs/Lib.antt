@@ -12,6 +12,7 @@ pub mod HalfRounds
 pub mod InRange
 pub mod Keeping
 pub mod KeyTablets
+pub mod LogLaws
 pub mod MarkLaws
 pub mod MarkSteps
 pub mod NeverBack

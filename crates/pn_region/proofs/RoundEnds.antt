@@ -78,12 +78,12 @@ module _ (old : RegionValue) (deliveries : List DeliveryValue) (is : IsRegion ol
       ap (result_map_both (taking old deliveries) (λ fault. fault)) accepted
       ∙ ap (λ (ts : List TabletStateValue). Ok (record { layout = old.layout; tablets = ts; marks = marks })) (sym taken)
 
-  pub count : (marks : Positions) (us : List TabletStateValue) (all : List Change) → us ≡ all_stepped old.tablets (joins old deliveries marks)
+  pub told_changes : (marks : Positions) (us : List TabletStateValue) (all : List Change) → us ≡ all_stepped old.tablets (joins old deliveries marks)
       → all ≡ flat_map (λ (list : List Change). list) (all_changes old.tablets (joins old deliveries marks))
-      → length all ≡ changed old (record { layout = old.layout; tablets = us; marks = marks })
-  count marks us all taken told =
-      ap length (told ∙ changes_together marks (all_images deliveries) old.marks (ranges old.layout) old.tablets (ranges_apart old.layout is.lawful) is.tablets)
-      ∙ ap (λ (ts : List TabletStateValue). length (changes (all_cells old) (flat_map (λ tablet. tablet.cells) ts))) (sym taken)
+      → all ≡ changes (all_cells old) (all_cells (record { layout = old.layout; tablets = us; marks = marks }))
+  told_changes marks us all taken told =
+      (told ∙ changes_together marks (all_images deliveries) old.marks (ranges old.layout) old.tablets (ranges_apart old.layout is.lawful) is.tablets)
+      ∙ ap (λ (ts : List TabletStateValue). changes (all_cells old) (flat_map (λ tablet. tablet.cells) ts)) (sym taken)
 
   -- the tablets of a region, and the operations that were found for them
   module _ (marks : Positions) (ts us : List TabletStateValue) (ops : List TabletOp) (are : ts ≡ old.tablets) (found : ops ≡ joins old deliveries marks) where

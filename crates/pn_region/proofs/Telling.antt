@@ -1,12 +1,12 @@
 -- What a log tells of what stands behind a number.
-use Rattle.std.proofs.Common.{◌≡◌, ◌⊎◌, inl, inr, ℕ, suc, ◌+◌, ◌-◌, ◌<◌, ◌≤◌, min, nat_le, Bool, true, false, ◌&&◌, if◌then◌else◌, List, [], ◌∷◌, ◌++◌, length, drop, slice_get, Vec, Option, Some, None, option_map, refl, sym, ap, ◌∙◌, subst, arith, append_assoc, length-append, length-drop, drop-drop}
+use Rattle.std.proofs.Common.{◌≡◌, ◌⊎◌, inl, inr, ℕ, ◌+◌, ◌-◌, ◌<◌, ◌≤◌, min, nat_le, Bool, true, false, ◌&&◌, if◌then◌else◌, List, [], ◌∷◌, ◌++◌, length, drop, slice_get, Vec, Option, Some, None, option_map, refl, sym, ap, ◌∙◌, subst, arith, append_assoc, length-append, length-drop, drop-drop}
 use Rattle.std.specs.declared.alloc.Global.{Global}
 use Rattle.std.proofs.Math.Seq.{drop-append-add}
 use Rattle.std.proofs.lemmas.Bool.{and_parts, leb-true}
 use Rattle.std.proofs.lemmas.Bool.Decides.{nat_tests}
 use Rattle.std.proofs.lemmas.List.{drop-append-le, drop-map, drop_more, length-map}
 use Rattle.std.proofs.lemmas.Option.{slice_get_within, get_or_from_slice_get}
-use Rattle.circular_buffer.specs.Buffer.{Buffer, keep_last}
+use Rattle.circular_buffer.specs.Buffer.{Buffer}
 use Rattle.pn_tablet.specs.declared.change.Change.{Change}
 use Rattle.pn_region.specs.declared.entry.Entry.{Entry}
 use Rattle.pn_region.specs.declared.entry.Entry.TheVariants.{Changed, Break}
@@ -22,7 +22,7 @@ all_in : (changes : List Change) → changes_in (entries_of changes) ≡ Some ch
 all_in [] = refl
 all_in (change ∷ changes) = ap (option_map (λ (l : List Change). change ∷ l)) (all_in changes)
 
-broken : (before after : List Entry) → changes_in (before ++ Break ∷ after) ≡ None
+pub broken : (before after : List Entry) → changes_in (before ++ Break ∷ after) ≡ None
 broken [] after = refl
 broken (Changed change ∷ before) after = ap (option_map (λ (l : List Change). change ∷ l)) (broken before after)
 broken (Break ∷ before) after = refl
@@ -63,10 +63,10 @@ module _ (entries : List Entry) (kept : List Change) (are : AreKept entries kept
             ∙ broken (drop n cut.0) (entries_of are.behind)
       ]
 
-le_true : (m n : ℕ) → m ≤ n → nat_le m n ≡ true
+pub le_true : (m n : ℕ) → m ≤ n → nat_le m n ≡ true
 le_true m n few = grind (arith, nat_tests)
 
-unless : {A : Type 0} (b : Bool) (value : Option A) → (b ≡ true → value ≡ None) → (if b then value else None) ≡ None
+pub unless : {A : Type 0} (b : Bool) (value : Option A) → (b ≡ true → value ≡ None) → (if b then value else None) ≡ None
 unless true value none = none refl
 unless false value none = refl
 
@@ -89,16 +89,17 @@ module _ (entries : List Entry) (last n : ℕ) (kept : Buffer Change) (is : IsLo
 
   pub unknown : (last_number < last) ⊎ ((last < n) ⊎ (n + length kept.items < last)) → changes_behind entries n ≡ None
   unknown why = unless (is_recent entries n) (changes_in (drop n entries)) (λ (yet : is_recent entries n ≡ true).
-    let parts = and_parts (nat_le n (length entries) && nat_le (length entries) (n + most_notices)) (nat_le (length entries) last_number) yet in
-    let first = and_parts (nat_le n (length entries)) (nat_le (length entries) (n + most_notices)) parts.0 in
-    gone (leb-true n (length entries) first.0) (leb-true (length entries) (n + most_notices) first.1) (leb-true (length entries) last_number parts.1) why)
+      let parts = and_parts (nat_le n (length entries) && nat_le (length entries) (n + most_notices)) (nat_le (length entries) last_number) yet in
+      let first = and_parts (nat_le n (length entries)) (nat_le (length entries) (n + most_notices)) parts.0 in
+      gone (leb-true n (length entries) first.0) (leb-true (length entries) (n + most_notices) first.1) (leb-true (length entries) last_number parts.1) why)
 
   -- so the answers are those of the log
   pub tells : (next place most : ℕ) (list : Vec Notice Global) → next ≡ min last last_number → most ≡ length kept.items
       → (last ≤ last_number) × (place ≤ most) × (n + most ≡ last + place) → list.items ≡ numbered n (drop place kept.items) → IsSince entries n (Notices next list)
-  tells next place most list at all is_place told =
-      (omega (arith, is.number),
-      ap (option_map (numbered n)) (known place is_place.0 (omega (arith, is_place.1)) (omega (arith, is_place.2))) ∙ ap Some (sym told))
+  tells next place most list at all is_place told = (
+    omega (arith, is.number),
+    ap (option_map (numbered n)) (known place is_place.0 (omega (arith, is_place.1)) (omega (arith, is_place.2))) ∙ ap Some (sym told),
+  )
 
   pub misses : (next most : ℕ) → next ≡ min last last_number → most ≡ length kept.items → (last_number < last) ⊎ ((last < n) ⊎ (n + most < last)) → IsSince entries n (Missed next)
   misses next most at all why = (omega (arith, is.number), unknown (subst (λ k. (last_number < last) ⊎ ((last < n) ⊎ (n + k < last))) all why))

@@ -8,6 +8,7 @@ pub mod Kept
 pub mod Laws
 pub mod Limits
 pub mod Log
+pub mod Logged
 pub mod Marking
 pub mod Proofs
 pub mod Reads

@@ -9,6 +9,7 @@ mod fault;
 mod history;
 pub mod laws;
 mod marking;
+pub mod notice_laws;
 mod notices;
 pub mod read_laws;
 mod reads;

@@ -15,9 +15,9 @@ use std::alloc::Global;
 
 /// A view of the region's own tablets, which do not change. It is never refused an entry.
 impl View for &Region {
-    ghost bounds = { λ view. view.now.layout };
+    ghost bounds = { λ view. view.now.state.layout };
 
-    ghost looks = { λ old look new. (new ≡ old) × IsThere old.now look };
+    ghost looks = { λ old look new. (new ≡ old) × IsThere old.now.state look };
 
     fn layout(&self) -> &Layout {
         Region::layout(self)
@@ -47,7 +47,7 @@ impl Region {
     /// required and the record is absent or older. `Memory` comes only where the tablet is not recovering, and
     /// `NoEntry` never.
     pub fn read(&self, key: &Key, version: Option<Version>) -> Result<Option<Cell>, ScanFault>
-        ensures read { AnswersAfter (cell_at key.now (look_for self.now key.now)) result (read_in self.now key.now version) }
+        ensures read { AnswersAfter (cell_at key.now (look_for self.now.state key.now)) result (read_in self.now.state key.now version) }
         ensures entered { result ≡ Err NoEntry → ⊥ }
     {
         let mut view = self;
@@ -59,7 +59,7 @@ impl Region {
     /// `Recovering` names the tablet of the first key whose tablet is recovering. `Memory` may come before such a
     /// tablet is found, and `NoEntry` never comes.
     pub fn get(&self, keys: &[Key]) -> Result<Vec<Option<Cell>>, ScanFault>
-        ensures get { ShowsUnless Memory (λ cells. cells.items) result (get_in self.now keys.now) }
+        ensures get { ShowsUnless Memory (λ cells. cells.items) result (get_in self.now.state keys.now) }
         ensures entered { result ≡ Err NoEntry → ⊥ }
     {
         let mut view = self;
@@ -72,7 +72,7 @@ impl Region {
     /// `Recovering` names the first tablet that may have rows, stands behind at most a page of them, and is
     /// recovering. `Memory` may come before such a tablet is found, and `NoEntry` never comes.
     pub fn scan(&self, query: &Query) -> Result<Page, ScanFault>
-        ensures page { ShowsUnless Memory (λ page. (page.rows.items, page.next)) result (page_in self.now query.now) }
+        ensures page { ShowsUnless Memory (λ page. (page.rows.items, page.next)) result (page_in self.now.state query.now) }
         ensures entered { result ≡ Err NoEntry → ⊥ }
     {
         let mut view = self;

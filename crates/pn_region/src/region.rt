@@ -6,18 +6,21 @@ ghost use Rattle.pn_join.specs.Marks.{are_positions};
 ghost use Rattle.pn_tablet.specs.Layouts.{tablet_ends};
 ghost use Rattle.pn_tablet.specs.Refusals.{Refuses};
 ghost use Rattle.pn_tablet.specs.Tablets.{empty_tablet};
+ghost use Rattle.pn_tablet.specs.Changes.{changes};
 ghost use Rattle.pn_apply.specs.Applying.{AreJoinsIn, HavePositions, all_stepped, all_changes, AreOldOrStepped, IsSomeOld};
 ghost use Rattle.pn_apply.specs.Limits.{most_workers};
 ghost use Rattle.pn_apply.specs.Reducing.{joined_cells, ranges};
 ghost use Rattle.pn_scan.specs.Views.{IsStateOf};
 ghost use Rattle.pn_region.specs.Limits.{most_streams};
+ghost use Rattle.pn_region.specs.Logged.{new_logged, noting, refused_log};
 ghost use Rattle.pn_region.specs.Marking.{is_memory};
-ghost use Rattle.pn_region.specs.Regions.{IsRegion, new_region};
+ghost use Rattle.pn_region.specs.Regions.{IsRegion, all_cells};
 ghost use Rattle.pn_region.specs.Rounds.{round, changed, Leaves};
+ghost use Rattle.pn_region.specs.Since.{IsSince};
 
 mod recovery;
 
-use crate::{RoundFault, next_marks};
+use crate::{Log, RoundFault, Since, next_marks};
 use pn_apply::{Gate, apply_all, reduce_owned};
 use pn_join::{Dup, Marks, NoMemory};
 use pn_stream::Delivery;
@@ -26,12 +29,13 @@ use std::alloc::Global;
 use std::marker::Model;
 use std::thread::Threads;
 
-/// The tablets of a layout, and how far streams were taken into all of them.
+/// The tablets of a layout, how far streams were taken into all of them, and a log of what changed.
 #[derive(Drop)]
 pub struct Region {
     layout: Layout,
     tablets: Vec<TabletState>,
     marks: Marks,
+    log: Log,
     pub(crate) alloc: Global,
 }
 
@@ -43,63 +47,66 @@ pub struct Round {
 }
 
 impl Model for Region {
-    ghost use Rattle.pn_region.specs.Regions.{RegionValue, IsLawfulRegion};
+    ghost use Rattle.pn_region.specs.Logged.{LoggedRegion};
+    ghost use Rattle.pn_region.specs.Regions.{IsLawfulRegion};
 
-    ghost Value = { RegionValue };
+    ghost Value = { LoggedRegion };
 
-    ghost use Rattle.pn_region.specs.Proofs.Coding.{region_code};
+    ghost use Rattle.pn_region.specs.Proofs.Coding.{logged_code};
 
-    ghost coded = { region_code };
+    ghost coded = { logged_code };
 
-    ghost view = { λ region. record { layout = region.layout; tablets = region.tablets.items; marks = region.marks } };
+    ghost view = { λ region. record { state = record { layout = region.layout; tablets = region.tablets.items; marks = region.marks }; log = region.log } };
 
     ghost invariant = { λ region. IsLawfulRegion (record { layout = region.layout; tablets = region.tablets.items; marks = region.marks }) };
 }
 
 impl Region {
-    /// A region of empty tablets that serve, whose later growth is taken from the allocator.
+    /// A region of empty tablets that serve, with an empty log, whose later growth is taken from the allocator.
     pub fn new(alloc: Global, layout: Layout) -> Result<Region, NoMemory>
-        ensures { IfOk result (λ region. region ≡ new_region layout) }
+        ensures { IfOk result (λ region. region ≡ new_logged layout) }
     {
         let tablets = empty_tablets(alloc, &layout)?;
+        let log = Log::new(alloc)?;
         Ok(Region {
             layout,
             tablets,
             marks: Marks::new(alloc),
+            log,
             alloc,
         })
     }
 
     /// How far streams were taken into every tablet. It takes no memory, nor do the two below.
     pub fn marks(&self) -> &Marks
-        ensures marks { result.now ≡ self.now.marks }
-        ensures few { length self.now.marks ≤ most_streams }
-        ensures positions { IsTrue (are_positions self.now.marks) }
+        ensures marks { result.now ≡ self.now.state.marks }
+        ensures few { length self.now.state.marks ≤ most_streams }
+        ensures positions { IsTrue (are_positions self.now.state.marks) }
     {
         &self.marks
     }
 
     /// How the keys are divided into tablets.
     pub fn layout(&self) -> &Layout
-        ensures layout { result.now ≡ self.now.layout }
-        ensures region { IsRegion self.now }
+        ensures layout { result.now ≡ self.now.state.layout }
+        ensures region { IsRegion self.now.state }
     {
         &self.layout
     }
 
     /// The tablet of this number, which is below the layout's count.
     pub fn tablet(&self, tablet: usize) -> &TabletState
-        requires { tablet ≤ length self.now.layout }
-        ensures { slice_get self.now.tablets tablet ≡ Some result.now }
+        requires { tablet ≤ length self.now.state.layout }
+        ensures { slice_get self.now.state.tablets tablet ≡ Some result.now }
     {
         self.state(tablet)
     }
 
     // The same, which is one of the layout's tablets.
     pub(crate) fn state(&self, tablet: usize) -> &TabletState
-        requires { tablet ≤ length self.now.layout }
-        ensures there { slice_get self.now.tablets tablet ≡ Some result.now }
-        ensures of { IsStateOf self.now.layout tablet result.now }
+        requires { tablet ≤ length self.now.state.layout }
+        ensures there { slice_get self.now.state.tablets tablet ≡ Some result.now }
+        ensures of { IsStateOf self.now.state.layout tablet result.now }
     {
         &self.tablets[tablet]
     }
@@ -112,6 +119,9 @@ impl Region {
     /// first; else `TooManyStreams` exactly where there would be more than 16 streams. Both change nothing,
     /// and take no memory. After `Memory` each tablet is as it was or has taken its part, and one at least is
     /// as it was; the marks are as they were.
+    ///
+    /// A round that ended well adds what it changed to the log, in key order, and one that ran out of memory a
+    /// break.
     pub fn round<R: Threads + Sync, G: Gate + Sync>(
         &mut self,
         rt: &R,
@@ -120,11 +130,44 @@ impl Region {
         gate: &G,
     ) -> Result<Round, RoundFault>
         requires workers { (1 ≤ workers) × (workers ≤ most_workers) }
-        ensures ok { OnOk result (round self.old deliveries.items ≡ Ok self.new) }
-        ensures changed { IfOk result (λ done. done.changed ≡ changed self.old self.new) }
-        ensures refused { IfErr result (λ fault. Refuses is_memory fault (round self.old deliveries.items)) }
-        ensures err { IfErr result (λ fault. Leaves fault self.old deliveries.items self.new) }
-        ensures left { OnErr result (IsSomeOld self.old.tablets self.new.tablets) }
+        ensures ok { OnOk result (round self.old.state deliveries.items ≡ Ok self.new.state) }
+        ensures changed { IfOk result (λ done. done.changed ≡ changed self.old.state self.new.state) }
+        ensures noted { OnOk result (self.new.log ≡ noting self.old.log self.old.state self.new.state) }
+        ensures refused { IfErr result (λ fault. Refuses is_memory fault (round self.old.state deliveries.items)) }
+        ensures err { IfErr result (λ fault. Leaves fault self.old.state deliveries.items self.new.state) }
+        ensures left { OnErr result (IsSomeOld self.old.state.tablets self.new.state.tablets) }
+        ensures broken { IfErr result (λ fault. self.new.log ≡ refused_log self.old.log fault) }
+    {
+        match self.take(rt, deliveries, workers, gate) {
+            Ok(lists) => {
+                let changed = count_of(&lists) as u64;
+                self.log.add(lists);
+                Ok(Round { changed })
+            }
+            Err(RoundFault::Memory) => {
+                self.log.cut();
+                Err(RoundFault::Memory)
+            }
+            Err(fault) => Err(fault),
+        }
+    }
+
+    // The same, but for the log. Answers what changed in each tablet.
+    fn take<R: Threads + Sync, G: Gate + Sync>(
+        &mut self,
+        rt: &R,
+        deliveries: Vec<Delivery>,
+        workers: usize,
+        gate: &G,
+    ) -> Result<Vec<Vec<Change>>, RoundFault>
+        requires workers { (1 ≤ workers) × (workers ≤ most_workers) }
+        ensures ok { OnOk result (round self.old.state deliveries.items ≡ Ok self.new.state) }
+        ensures changes { IfOk result (λ lists. flat_map (λ list. list.items) lists.items ≡ changes (all_cells self.old.state) (all_cells self.new.state)) }
+        ensures few { IfOk result (λ lists. length (flat_map (λ list. list.items) lists.items) < 2 ^ 64) }
+        ensures refused { IfErr result (λ fault. Refuses is_memory fault (round self.old.state deliveries.items)) }
+        ensures err { IfErr result (λ fault. Leaves fault self.old.state deliveries.items self.new.state) }
+        ensures left { OnErr result (IsSomeOld self.old.state.tablets self.new.state.tablets) }
+        ensures log { self.new.log ≡ self.old.log }
     {
         let marks = next_marks(&self.marks, &deliveries)?;
         let operations = reduce_owned(
@@ -137,9 +180,16 @@ impl Region {
             gate,
         )?;
         let tablets = self.tablets.as_mut_slice();
-        let changed = take_joins(rt, self.alloc, tablets, &operations, workers, gate)?;
+        let lists = take_joins(rt, self.alloc, tablets, &operations, workers, gate)?;
         self.marks = marks;
-        Ok(Round { changed })
+        Ok(lists)
+    }
+
+    /// The notices behind the number, where the log knows all of them.
+    pub fn notices_since(&self, number: u64) -> Result<Since, NoMemory>
+        ensures { IfOk result (λ since. IsSince self.now.log number since) }
+    {
+        self.log.since(number)
     }
 }
 
@@ -162,8 +212,8 @@ fn range_of(layout: &Layout, tablet: usize) -> Result<Range, NoMemory>
     Range::copied(from, to)
 }
 
-// Each tablet takes its join. Answers how many records changed, which are at most as many as are joined:
-// that these can be counted is seen before a tablet is worked.
+// Each tablet takes its join. Answers what changed in each: at most as many records as are joined, and that these
+// can be counted is seen before a tablet is worked.
 fn take_joins<R: Threads + Sync, G: Gate + Sync>(
     rt: &R,
     alloc: Global,
@@ -171,14 +221,15 @@ fn take_joins<R: Threads + Sync, G: Gate + Sync>(
     joins: &[TabletOp],
     workers: usize,
     gate: &G,
-) -> Result<u64, NoMemory>
+) -> Result<Vec<Vec<Change>>, NoMemory>
     requires joins { AreJoinsIn tablets.old joins.now }
     requires positions { HavePositions joins.now }
     requires workers { (1 ≤ workers) × (workers ≤ most_workers) }
     requires some { 0 < length tablets.old }
     requires few { length (flat_map (λ list. list) (all_changes tablets.old joins.now)) ≤ length (flat_map joined_cells joins.now) }
     ensures ok { OnOk result (tablets.new ≡ all_stepped tablets.old joins.now) }
-    ensures changed { IfOk result (λ changed. changed ≡ length (flat_map (λ list. list) (all_changes tablets.old joins.now))) }
+    ensures changes { IfOk result (λ lists. flat_map (λ list. list.items) lists.items ≡ flat_map (λ list. list) (all_changes tablets.old joins.now)) }
+    ensures few { IfOk result (λ lists. length (flat_map (λ list. list.items) lists.items) < 2 ^ 64) }
     ensures err { OnErr result (AreOldOrStepped tablets.old joins.now tablets.new) }
     ensures left { OnErr result (IsSomeOld tablets.old tablets.new) }
 {
@@ -186,7 +237,7 @@ fn take_joins<R: Threads + Sync, G: Gate + Sync>(
         return Err(NoMemory);
     }
     let lists = apply_all(rt, alloc, tablets, joins, workers, gate)?;
-    Ok(count_of(&lists) as u64)
+    Ok(lists)
 }
 
 // Whether a number of 64 bits counts the records of all joins. It does for any that memory holds.

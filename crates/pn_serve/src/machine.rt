@@ -41,7 +41,7 @@ pub(crate) fn answer<R: Threads + Sync, C: Reads>(
     line: &[u8],
 ) -> Done
     requires workers { (1 ≤ workers) × (workers ≤ most_workers) }
-    ensures { AnswersBy C.may_run_out (with_mode announced region.old) line.now (with_mode result.1 region.new) result.0 }
+    ensures { AnswersBy C.may_run_out (with_mode announced region.old.state) line.now (with_mode result.1 region.new.state) result.0 }
 {
     match announced {
         None => command::<R, C>(rt, alloc, region, workers, line),
@@ -57,7 +57,7 @@ fn command<R: Threads + Sync, C: Reads>(
     line: &[u8],
 ) -> Done
     requires workers { (1 ≤ workers) × (workers ≤ most_workers) }
-    ensures { AnswersBy C.may_run_out (serving region.old) line.now (with_mode result.1 region.new) result.0 }
+    ensures { AnswersBy C.may_run_out (serving region.old.state) line.now (with_mode result.1 region.new.state) result.0 }
 {
     match C::command_of(alloc, line) {
         Ok(command) => announce(alloc, obey(rt, alloc, region, workers, command)),
@@ -86,7 +86,7 @@ pub(crate) fn end<R: Threads + Sync, C: Reads>(
     part: &[u8],
 ) -> Reply
     requires workers { (1 ≤ workers) × (workers ≤ most_workers) }
-    ensures { ConcludesBy C.may_run_out (with_mode announced region.old) part.now (serving region.new) result }
+    ensures { ConcludesBy C.may_run_out (with_mode announced region.old.state) part.now (serving region.new.state) result }
 {
     match announced {
         Some(announced) => finish(alloc, region, announced, part),
@@ -104,7 +104,7 @@ fn last_command<R: Threads + Sync, C: Reads>(
     line: &[u8],
 ) -> Reply
     requires workers { (1 ≤ workers) × (workers ≤ most_workers) }
-    ensures { LastsBy C.may_run_out region.old line.now region.new result }
+    ensures { LastsBy C.may_run_out region.old.state line.now region.new.state result }
 {
     match C::command_of(alloc, line) {
         Ok(command) => match obey(rt, alloc, region, workers, command) {
@@ -132,7 +132,7 @@ fn obey<R: Threads + Sync>(
     command: Command,
 ) -> Begun
     requires workers { (1 ≤ workers) × (workers ≤ most_workers) }
-    ensures { BeginsTo region.old (command_value command) region.new result }
+    ensures { BeginsTo region.old.state (command_value command) region.new.state result }
 {
     match command {
         Command::Adopt { lines } => Begun::Announces(lines),
@@ -158,7 +158,7 @@ fn deliver<R: Threads + Sync>(
     deliveries: Vec<Delivery>,
 ) -> Reply
     requires workers { (1 ≤ workers) × (workers ≤ most_workers) }
-    ensures { Obeys (serving region.old) (asking deliveries.items) (serving region.new) result }
+    ensures { Obeys (serving region.old.state) (asking deliveries.items) (serving region.new.state) result }
 {
     match region.round(rt, deliveries, workers, &Open) {
         Ok(round) => Reply::Changed(round.changed),

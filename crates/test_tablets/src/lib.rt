@@ -4,6 +4,8 @@
 #[cfg(test)]
 mod given;
 #[cfg(test)]
+mod notices;
+#[cfg(test)]
 mod reads;
 #[cfg(test)]
 mod recovery;

@@ -1,11 +1,12 @@
 //! Losses, adoptions and copies of a region's tablets.
 
-ghost use Rattle.std.specs.Prelude.{◌≡◌, ◌≤◌, length, slice_get, Ok, Err, IfOk, IfErr, OnErr, IsSomeAnd};
+ghost use Rattle.std.specs.Prelude.{◌≡◌, ◌≤◌, length, slice_get, Ok, Err, IfOk, IfErr, OnOk, OnErr, IsSomeAnd};
 ghost use Rattle.std.specs.List.{position};
 ghost use Rattle.pn_tablet.specs.Copying.{copy_of, is_memory as is_no_copy_memory};
 ghost use Rattle.pn_tablet.specs.Refusals.{Answers, Refuses};
 ghost use Rattle.pn_tablet.specs.Tablets.{same_range};
 ghost use Rattle.pn_tablet.specs.declared.fault.CopyFault.TheVariants.{NoEntry};
+ghost use Rattle.pn_region.specs.Logged.{breaking};
 ghost use Rattle.pn_region.specs.Recovery.{losing, adopting, is_memory};
 
 use super::Region;
@@ -15,28 +16,33 @@ use pn_tablet::{CopyFault, Range, TabletCopy, TabletOp};
 
 impl Region {
     /// The records of a tablet, whose number is below the layout's count, are lost. It recovers from then on, and
-    /// needs a copy that reaches its cover, which stays, as the marks do. It takes no memory, and is never refused.
+    /// needs a copy that reaches its cover, which stays, as the marks do. The log has a break. It takes no memory,
+    /// and is never refused.
     pub fn lose(&mut self, tablet: usize)
-        requires { tablet ≤ length self.old.layout }
-        ensures { self.new ≡ losing self.old tablet }
+        requires { tablet ≤ length self.old.state.layout }
+        ensures state { self.new.state ≡ losing self.old.state tablet }
+        ensures log { self.new.log ≡ breaking self.old.log }
     {
         let _ = self.tablets[tablet].apply(&TabletOp::Lose);
+        self.log.cut();
     }
 
     /// The tablet whose range is the copy's takes the copy beside what it has, and serves from then on. Answers its
-    /// number. The region's marks stay.
+    /// number. The region's marks stay, and the log has a break.
     ///
     /// `WrongRange` comes exactly where no tablet has the copy's range, and else `TooOld` exactly where the tablet
     /// is recovering and the copy does not reach what it needs. An error leaves the region as it was.
     pub fn adopt(&mut self, copy: TabletCopy) -> Result<usize, AdoptFault>
-        ensures ok { IfOk result (λ tablet. adopting self.old copy ≡ Ok (tablet, self.new)) }
-        ensures refused { IfErr result (λ fault. Refuses is_memory fault (adopting self.old copy)) }
+        ensures ok { IfOk result (λ tablet. adopting self.old.state copy ≡ Ok (tablet, self.new.state)) }
+        ensures log { OnOk result (self.new.log ≡ breaking self.old.log) }
+        ensures refused { IfErr result (λ fault. Refuses is_memory fault (adopting self.old.state copy)) }
         ensures err { OnErr result (self.new ≡ self.old) }
     {
         let Some(tablet) = self.tablet_for(&copy.range) else {
             return Err(AdoptFault::WrongRange);
         };
         self.tablets[tablet].apply(&TabletOp::Adopt(copy))?;
+        self.log.cut();
         Ok(tablet)
     }
 
@@ -46,8 +52,8 @@ impl Region {
     /// `Recovering` comes exactly where the tablet is recovering, and else `Behind` exactly where its cover does not
     /// reach the need, with the first stream that falls short. `NoEntry` never comes.
     pub fn copy(&self, tablet: usize, need: &Marks) -> Result<TabletCopy, CopyFault>
-        requires { tablet ≤ length self.now.layout }
-        ensures exact { IsSomeAnd (slice_get self.now.tablets tablet) (λ state. Answers is_no_copy_memory result (copy_of state need.now)) }
+        requires { tablet ≤ length self.now.state.layout }
+        ensures exact { IsSomeAnd (slice_get self.now.state.tablets tablet) (λ state. Answers is_no_copy_memory result (copy_of state need.now)) }
         ensures entered { result ≡ Err NoEntry → ⊥ }
     {
         self.state(tablet).copy(need)
@@ -55,7 +61,7 @@ impl Region {
 
     // The number of the tablet that has the range.
     fn tablet_for(&self, range: &Range) -> Option<usize>
-        ensures { result ≡ position (λ tablet. same_range tablet.range range.now) self.now.tablets }
+        ensures { result ≡ position (λ tablet. same_range tablet.range range.now) self.now.state.tablets }
     {
         self.tablets
             .iter()

@@ -18,7 +18,7 @@ use pn_scan::{Page, Query, ScanFault};
 use std::alloc::Global;
 
 pub(crate) fn get(alloc: Global, region: &Region, keys: &[Key]) -> Reply
-    ensures { Obeys (serving region.now) (get_asked keys.now) (serving region.now) result }
+    ensures { Obeys (serving region.now.state) (get_asked keys.now) (serving region.now.state) result }
 {
     match region.get(keys) {
         Ok(cells) => shown(get_reply(alloc, keys, &cells)),
@@ -27,7 +27,7 @@ pub(crate) fn get(alloc: Global, region: &Region, keys: &[Key]) -> Reply
 }
 
 pub(crate) fn read(alloc: Global, region: &Region, key: &Key, version: Option<Version>) -> Reply
-    ensures { Obeys (serving region.now) (read_asked key.now version) (serving region.now) result }
+    ensures { Obeys (serving region.now.state) (read_asked key.now version) (serving region.now.state) result }
 {
     match region.read(key, version) {
         Ok(cell) => shown(read_reply(alloc, key, cell.as_ref())),
@@ -36,7 +36,7 @@ pub(crate) fn read(alloc: Global, region: &Region, key: &Key, version: Option<Ve
 }
 
 pub(crate) fn scan(alloc: Global, region: &Region, query: &Query) -> Reply
-    ensures { Obeys (serving region.now) (scan_asked query.now) (serving region.now) result }
+    ensures { Obeys (serving region.now.state) (scan_asked query.now) (serving region.now.state) result }
 {
     match region.scan(query) {
         Ok(page) => shown(page_reply(alloc, page)),

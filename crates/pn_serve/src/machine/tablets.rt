@@ -15,7 +15,7 @@ use pn_tablet::{CopyFault, TabletCopy, write_copy};
 use std::alloc::Global;
 
 pub(crate) fn lose(region: &mut Region, tablet: u64) -> Reply
-    ensures { Obeys (serving region.old) (lose_asked tablet) (serving region.new) result }
+    ensures { Obeys (serving region.old.state) (lose_asked tablet) (serving region.new.state) result }
 {
     if tablet >= region.layout().count() as u64 {
         return Reply::Refused(Refusal::OutOfRange(Part::Tablet));
@@ -25,7 +25,7 @@ pub(crate) fn lose(region: &mut Region, tablet: u64) -> Reply
 }
 
 pub(crate) fn copy(alloc: Global, region: &Region, need: &Marks, tablet: u64) -> Reply
-    ensures { Obeys (serving region.now) (copy_asked need.now tablet) (serving region.now) result }
+    ensures { Obeys (serving region.now.state) (copy_asked need.now tablet) (serving region.now.state) result }
 {
     if tablet >= region.layout().count() as u64 {
         return Reply::Refused(Refusal::OutOfRange(Part::Tablet));

@@ -19,7 +19,7 @@ use std::alloc::Global;
 
 /// The tablets in their order: `{"tablets":[{"cover":{..},"from":F,"need":M,"to":T},..]}`.
 pub(crate) fn tablets_reply(alloc: Global, region: &Region) -> Result<Vec<u8>, NoMemory>
-    ensures { IfOk result (λ text. text.items ≡ line_of (tablets_data region.now.tablets)) }
+    ensures { IfOk result (λ text. text.items ≡ line_of (tablets_data region.now.state.tablets)) }
 {
     let mut writer = begin_line(alloc)?;
     write_tablets_shown(&mut writer, region)?;
@@ -28,7 +28,7 @@ pub(crate) fn tablets_reply(alloc: Global, region: &Region) -> Result<Vec<u8>, N
 
 #[tactic(auto, unfolding(crate::specs::Reply::Tablets::tablets_data))]
 fn write_tablets_shown(writer: &mut Writer, region: &Region) -> Result<(), NoMemory>
-    ensures { OnOk result (Appends writer.old writer.new (value_tokens (tablets_data region.now.tablets))) }
+    ensures { OnOk result (Appends writer.old writer.new (value_tokens (tablets_data region.now.state.tablets))) }
 {
     writer.begin_object()?;
     writer.key("tablets")?;
@@ -39,7 +39,7 @@ fn write_tablets_shown(writer: &mut Writer, region: &Region) -> Result<(), NoMem
 
 fn write_tablets(writer: &mut Writer, region: &Region) -> Result<(), NoMemory>
     ensures { OnOk result (Appends writer.old writer.new
-        (value_tokens (array (items_of (map tablet_data region.now.tablets))))) }
+        (value_tokens (array (items_of (map tablet_data region.now.state.tablets))))) }
 {
     writer.begin_array()?;
     for tablet in 0..region.layout().count() {
@@ -50,8 +50,8 @@ fn write_tablets(writer: &mut Writer, region: &Region) -> Result<(), NoMemory>
 }
 
 fn write_tablet(writer: &mut Writer, region: &Region, tablet: usize) -> Result<(), NoMemory>
-    requires { tablet ≤ length region.now.layout }
-    ensures { OnOk result ((shown : TabletStateValue) → slice_get region.now.tablets tablet ≡ Some shown
+    requires { tablet ≤ length region.now.state.layout }
+    ensures { OnOk result ((shown : TabletStateValue) → slice_get region.now.state.tablets tablet ≡ Some shown
         → Appends writer.old writer.new (value_tokens (tablet_data shown))) }
 {
     let state = region.tablet(tablet);

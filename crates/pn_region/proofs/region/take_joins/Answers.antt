@@ -1,9 +1,6 @@
 -- Each tablet takes its join, and what changes is counted.
-use Rattle.std.proofs.Common.{Vec, List, length, sym, ap, ◌∙◌, subst, arith}
-use Rattle.std.specs.declared.alloc.Global.{Global}
-use Rattle.std.specs.List.{flat_map}
+use Rattle.std.proofs.Common.{List, length, sym, ap, subst, arith}
 use Rattle.pn_tablet.specs.Tablets.{TabletStateValue}
-use Rattle.pn_tablet.specs.declared.change.Change.{Change}
 use Rattle.pn_apply.specs.Applying.{AreJoinsIn}
 use Rattle.pn_apply.proofs.Prefixes.{all_old}
 use Rattle.pn_region.proofs.Counting.{all_told}
@@ -20,14 +17,10 @@ returns-then-not-can_be_counted-clause-left g c = all_old c.args.tablets.now c.r
 pub apply_all-requires-clause-joins : goal.apply_all-requires-clause-joins
 apply_all-requires-clause-joins g c κs within = subst (λ (ts : List TabletStateValue). AreJoinsIn ts c.args.joins.now) (sym (same_list c.args.tablets.now)) c.requires.joins
 
-pub count_of-requires : goal.count_of-requires
-count_of-requires g c =
-    let told = ap (λ (lists : List (Vec Change Global)). length (flat_map (λ list. list.items) lists)) c.deref.ensures.value
-    ∙ all_told c.args.tablets.now c.args.joins.now c.in_ok-lists.lists.items c.in_ok-lists.ensures.changes in
-    omega (arith, told, c.requires.few, c.can_be_counted.ensures c.if-not-can_be_counted.false)
+pub returns-clause-changes : goal.returns-clause-changes
+returns-clause-changes g c = all_told c.args.tablets.now c.args.joins.now c.in_ok-lists.lists.items c.in_ok-lists.ensures.changes
 
-pub returns-clause-changed : goal.returns-clause-changed
-returns-clause-changed g c =
-    c.count_of.ensures
-    ∙ ap (λ (lists : List (Vec Change Global)). length (flat_map (λ list. list.items) lists)) c.deref.ensures.value
-    ∙ all_told c.args.tablets.now c.args.joins.now c.in_ok-lists.lists.items c.in_ok-lists.ensures.changes
+pub returns-clause-few : goal.returns-clause-few
+returns-clause-few g c =
+    let told = ap length (all_told c.args.tablets.now c.args.joins.now c.in_ok-lists.lists.items c.in_ok-lists.ensures.changes) in
+    omega (arith, told, c.requires.few, c.can_be_counted.ensures c.if-not-can_be_counted.false)

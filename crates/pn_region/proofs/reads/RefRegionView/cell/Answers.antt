@@ -7,7 +7,7 @@ use Rattle.pn_region.proofs.reads.RefRegionView.cell.Goals as goal
 
 pub returns-clause-look : goal.returns-clause-look
 returns-clause-look c =
-    let region = c.args.self.now.now in
+    let region = c.args.self.now.now.state in
     let key = c.args.key.now in
     let state = c.state.result.now in
     let named : c.tablet_of-tablet.result ≡ tablet_of region.layout key = c.tablet_of-tablet.ensures.tablet ∙ ap (λ (bounds : Bounds). tablet_of bounds key) c.layout.ensures.layout in (

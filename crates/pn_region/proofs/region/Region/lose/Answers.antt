@@ -4,6 +4,7 @@ use Rattle.pn_tablet.specs.Steps.{step}
 use Rattle.pn_tablet.specs.declared.op.TabletOp.TheVariants.{Lose}
 use Rattle.std.specs.Prelude.{Ok}
 use Rattle.pn_region.specs.Recovery.{losing}
+use Rattle.pn_region.specs.Logged.{LoggedRegion}
 use Rattle.pn_region.specs.Regions.{RegionValue}
 use Rattle.pn_region.proofs.NewRegion.{tablet_count, tablet_at}
 use Rattle.pn_region.proofs.OneTablet.{now_is, now_lawful, where_ok}
@@ -13,7 +14,7 @@ pub index_mut-requires : goal.index_mut-requires
 index_mut-requires c =
     let inside = c.self.inside in
     let count = tablet_count inside.marks inside.layout inside.tablets.items c.self.invariant.is_region.tablets in
-    let layout = ap (λ (r : RegionValue). length r.layout) c.self.view_is in
+    let layout = ap (λ (r : LoggedRegion). length r.state.layout) c.self.view_is in
     omega (arith, count, layout, c.requires, inside.tablets.ok.0)
 
 pub invariant_of-self : goal.invariant_of-self
@@ -21,18 +22,18 @@ invariant_of-self c =
     let inside = c.self.inside in
     let old : RegionValue = record { layout = inside.layout; tablets = inside.tablets.items; marks = inside.marks } in
     let count = tablet_count inside.marks inside.layout inside.tablets.items c.self.invariant.is_region.tablets in
-    let layout = ap (λ (r : RegionValue). length r.layout) c.self.view_is in
+    let layout = ap (λ (r : LoggedRegion). length r.state.layout) c.self.view_is in
     let t = c.index_mut.result.now in
     now_lawful old c.args.tablet Lose t c.apply.new.self (tablet_at inside.tablets.items c.args.tablet t (omega (arith, count, layout, c.requires)) c.index_mut.ensures.value)
     (where_ok c.apply.result (step t Lose ≡ Ok c.apply.new.self) (c.apply.ensures.lose refl) c.apply.ensures.ok) tt c.self.invariant
 
-pub returns : goal.returns
-returns c =
+pub returns-clause-state : goal.returns-clause-state
+returns-clause-state c =
     let inside = c.self.inside in
     let old : RegionValue = record { layout = inside.layout; tablets = inside.tablets.items; marks = inside.marks } in
     let count = tablet_count inside.marks inside.layout inside.tablets.items c.self.invariant.is_region.tablets in
-    let layout = ap (λ (r : RegionValue). length r.layout) c.self.view_is in
+    let layout = ap (λ (r : LoggedRegion). length r.state.layout) c.self.view_is in
     let t = c.index_mut.result.now in
     now_is old c.args.tablet Lose t c.apply.new.self (tablet_at inside.tablets.items c.args.tablet t (omega (arith, count, layout, c.requires)) c.index_mut.ensures.value)
     (where_ok c.apply.result (step t Lose ≡ Ok c.apply.new.self) (c.apply.ensures.lose refl) c.apply.ensures.ok)
-    ∙ ap (λ (r : RegionValue). losing r c.args.tablet) c.self.view_is
+    ∙ ap (λ (r : RegionValue). losing r c.args.tablet) (ap (λ (r : LoggedRegion). r.state) c.self.view_is)

@@ -1,9 +1,10 @@
 -- The tablets that may have rows were found as they stand, and they are there.
-use Rattle.std.proofs.Common.{subst}
+use Rattle.std.proofs.Common.{ap, subst}
 use Rattle.std.specs.Borrow.{Bor}
 use Rattle.pn_json.specs.Answers.{ShowsUnless}
 use Rattle.pn_scan.specs.declared.fault.ScanFault.TheVariants as fault
-use Rattle.pn_region.specs.Regions.{RegionValue, IsRegion}
+use Rattle.pn_region.specs.Logged.{LoggedRegion}
+use Rattle.pn_region.specs.Regions.{IsRegion}
 use Rattle.pn_region.specs.Reads.{page_in}
 use Rattle.pn_region.proofs.ReadLaws.{scan_entered}
 use Rattle.pn_region.proofs.Reading.{page_tells}
@@ -12,10 +13,10 @@ use Rattle.pn_region.proofs.region.Region.scan.Goals as goal
 pub returns-clause-page : goal.returns-clause-page
 returns-clause-page c =
     let scan = c.page.ensures.scan in
-    page_tells (λ (view : Bor RegionValue). view.now) (λ old new look looked. looked) c.args.self c.page.new.view scan.0 (subst IsRegion c.self.view_is c.self.invariant.is_region)
+    page_tells (λ (view : Bor LoggedRegion). view.now.state) (λ old new look looked. looked) c.args.self c.page.new.view scan.0 (subst IsRegion (ap (λ (r : LoggedRegion). r.state) c.self.view_is) c.self.invariant.is_region)
     c.args.query.now (λ page. (page.rows.items, page.next)) c.page.result scan.1
 
 pub returns-clause-entered : goal.returns-clause-entered
 returns-clause-entered c = λ is.
-    scan_entered c.args.self.now c.args.query.now (subst IsRegion c.self.view_is c.self.invariant.is_region)
-    (subst (λ answer. ShowsUnless fault.Memory (λ page. (page.rows.items, page.next)) answer (page_in c.args.self.now c.args.query.now)) is (returns-clause-page c))
+    scan_entered c.args.self.now.state c.args.query.now (subst IsRegion (ap (λ (r : LoggedRegion). r.state) c.self.view_is) c.self.invariant.is_region)
+    (subst (λ answer. ShowsUnless fault.Memory (λ page. (page.rows.items, page.next)) answer (page_in c.args.self.now.state c.args.query.now)) is (returns-clause-page c))

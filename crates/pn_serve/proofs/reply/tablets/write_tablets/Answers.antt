@@ -15,7 +15,7 @@ loop-tablet-init c = appends_none _
 
 pub loop-tablet-preserved : goal.loop-tablet-preserved
 loop-tablet-preserved c =
-    let region = c.args.region.now in
+    let region = c.args.region.now.state in
     let count = tablet_count region.marks region.layout region.tablets c.layout.ensures.region.tablets in
     let within : c.loop-tablet.tablet < length region.tablets = omega (arith, c.loop-tablet-test.true, c.count-tablet-end.ensures.count, ap (λ (bounds : Bounds). length bounds) c.layout.ensures.layout, count) in
     let (shown, there) = there_at region.tablets c.loop-tablet.tablet within in
@@ -23,7 +23,7 @@ loop-tablet-preserved c =
 
 pub returns : goal.returns
 returns c =
-    let region = c.args.region.now in
+    let region = c.args.region.now.state in
     let count = tablet_count region.marks region.layout region.tablets c.layout.ensures.region.tablets in
     let passed : length region.tablets ≤ c.loop-tablet.tablet = omega (arith, c.count-tablet-end.ensures.count, ap (λ (bounds : Bounds). length bounds) c.layout.ensures.layout, count) in
     let all = ap (λ (ts : List TabletStateValue). values_tokens (map tablet_data ts)) (take_all c.loop-tablet.tablet region.tablets passed) in

@@ -4,24 +4,26 @@ use Rattle.std.specs.List.{flat_map}
 use Rattle.std.specs.Vec.{with_items}
 use Rattle.std.proofs.lemmas.List.{with_items_is}
 use Rattle.pn_tablet.specs.Tablets.{TabletStateValue}
+use Rattle.pn_tablet.specs.Changes.{changes}
 use Rattle.pn_tablet.specs.declared.change.Change.{Change}
 use Rattle.pn_apply.specs.Applying.{HavePositions, all_changes, IsSomeOld}
 use Rattle.pn_apply.specs.Reducing.{all_images}
 use Rattle.pn_apply.proofs.Prefixes.{on_err}
 use Rattle.pn_apply.proofs.ReduceLaws.{joins_have_positions}
 use Rattle.pn_region.specs.Marking.{new_marks}
-use Rattle.pn_region.specs.Regions.{RegionValue, IsRegion, IsLawfulRegion}
-use Rattle.pn_region.specs.Rounds.{round, changed, Leaves}
+use Rattle.pn_region.specs.Logged.{LoggedRegion}
+use Rattle.pn_region.specs.Regions.{RegionValue, IsRegion, IsLawfulRegion, all_cells}
+use Rattle.pn_region.specs.Rounds.{round, Leaves}
 use Rattle.pn_region.specs.declared.fault.RoundFault.TheVariants.{Memory}
 use Rattle.pn_region.proofs.NewRegion.{tablet_count}
-use Rattle.pn_region.proofs.RoundEnds.{few_found, one_left, same_left, half_left, half_region, new_region_is, round_ok, count, fit_found, half_found, all_found, told_found, err_as, whatever, handed_on}
-use Rattle.pn_region.proofs.region.Region.round.Goals as goal
+use Rattle.pn_region.proofs.RoundEnds.{few_found, one_left, same_left, half_left, half_region, new_region_is, round_ok, told_changes, fit_found, half_found, all_found, told_found, err_as, whatever, handed_on}
+use Rattle.pn_region.proofs.region.Region.take.Goals as goal
 
 pub returns-in_err-marks-clause-err : goal.returns-in_err-marks-clause-err
-returns-in_err-marks-clause-err g c = whatever c.from_residual.result _ (same_left c.args.self.now c.args.deliveries.items (subst IsRegion c.self.view_is c.self.invariant.is_region))
+returns-in_err-marks-clause-err g c = whatever c.from_residual.result _ (same_left c.args.self.now.state c.args.deliveries.items (subst IsRegion (ap (λ (r : LoggedRegion). r.state) c.self.view_is) c.self.invariant.is_region))
 
 pub returns-in_err-operations-clause-err : goal.returns-in_err-operations-clause-err
-returns-in_err-operations-clause-err g c = whatever c.from_residual-in_err-operations.result _ (same_left c.args.self.now c.args.deliveries.items (subst IsRegion c.self.view_is c.self.invariant.is_region))
+returns-in_err-operations-clause-err g c = whatever c.from_residual-in_err-operations.result _ (same_left c.args.self.now.state c.args.deliveries.items (subst IsRegion (ap (λ (r : LoggedRegion). r.state) c.self.view_is) c.self.invariant.is_region))
 
 pub take_joins-requires-clause-joins : goal.take_joins-requires-clause-joins
 take_joins-requires-clause-joins g c κs within =
@@ -50,19 +52,19 @@ take_joins-requires-clause-few g c κs within =
     few_found old c.args.deliveries.items c.self.invariant.is_region c.in_ok-marks.marks c.as_mut_slice-tablets.result.now [] c.deref-2.result.now c.as_mut_slice-tablets.ensures.value found
 
 pub returns-in_err-marks-clause-left : goal.returns-in_err-marks-clause-left
-returns-in_err-marks-clause-left g c = on_err c.from_residual.result (one_left c.args.self.now (subst IsRegion c.self.view_is c.self.invariant.is_region))
+returns-in_err-marks-clause-left g c = on_err c.from_residual.result (one_left c.args.self.now.state (subst IsRegion (ap (λ (r : LoggedRegion). r.state) c.self.view_is) c.self.invariant.is_region))
 
 pub returns-in_err-operations-clause-left : goal.returns-in_err-operations-clause-left
-returns-in_err-operations-clause-left g c = on_err c.from_residual-in_err-operations.result (one_left c.args.self.now (subst IsRegion c.self.view_is c.self.invariant.is_region))
+returns-in_err-operations-clause-left g c = on_err c.from_residual-in_err-operations.result (one_left c.args.self.now.state (subst IsRegion (ap (λ (r : LoggedRegion). r.state) c.self.view_is) c.self.invariant.is_region))
 
-pub returns-in_err-changed-clause-left : goal.returns-in_err-changed-clause-left
-returns-in_err-changed-clause-left g c =
+pub returns-in_err-lists-clause-left : goal.returns-in_err-lists-clause-left
+returns-in_err-lists-clause-left g c =
     let inside = c.self.inside in
     let us = c.take_joins.new.tablets in
     let same = with_items_is inside.tablets us (omega (arith, c.take_joins.auto.tablets, c.as_mut_slice-tablets.ensures.len)) in
-    on_err c.from_residual-in_err-changed.result
-    (subst (λ (ts : List TabletStateValue). IsSomeOld c.args.self.now.tablets ts) (sym same)
-    (subst (λ (ts : List TabletStateValue). IsSomeOld ts us) (c.as_mut_slice-tablets.ensures.value ∙ ap (λ (r : RegionValue). r.tablets) c.self.view_is) c.in_err-changed.ensures.left))
+    on_err c.from_residual-in_err-lists.result
+    (subst (λ (ts : List TabletStateValue). IsSomeOld c.args.self.now.state.tablets ts) (sym same)
+    (subst (λ (ts : List TabletStateValue). IsSomeOld ts us) (c.as_mut_slice-tablets.ensures.value ∙ ap (λ (r : LoggedRegion). r.state.tablets) c.self.view_is) c.in_err-lists.ensures.left))
 
 pub invariant_of-self : goal.invariant_of-self
 invariant_of-self g c =
@@ -75,12 +77,12 @@ invariant_of-self g c =
     subst (λ (ts : List TabletStateValue). IsLawfulRegion (record { layout = inside.layout; tablets = ts; marks = inside.marks })) (sym same)
     (record {
       is_region = half_region old c.args.deliveries.items c.self.invariant.is_region marks us
-          (half_found old c.args.deliveries.items c.self.invariant.is_region marks c.as_mut_slice-tablets.result.now us c.deref-2.result.now c.as_mut_slice-tablets.ensures.value found c.in_err-changed.ensures.err);
+          (half_found old c.args.deliveries.items c.self.invariant.is_region marks c.as_mut_slice-tablets.result.now us c.deref-2.result.now c.as_mut_slice-tablets.ensures.value found c.in_err-lists.ensures.err);
       are_marks = c.self.invariant.are_marks;
     })
 
-pub returns-in_err-changed-clause-err : goal.returns-in_err-changed-clause-err
-returns-in_err-changed-clause-err g c =
+pub returns-in_err-lists-clause-err : goal.returns-in_err-lists-clause-err
+returns-in_err-lists-clause-err g c =
     let inside = c.self.inside in
     let old : RegionValue = record { layout = inside.layout; tablets = inside.tablets.items; marks = inside.marks } in
     let deliveries = c.args.deliveries.items in
@@ -89,11 +91,11 @@ returns-in_err-changed-clause-err g c =
     let found = c.deref-2.ensures.value ∙ c.in_ok-operations.ensures in
     let accepted = ap (new_marks inside.marks) (sym c.deref.ensures.value) ∙ c.in_ok-marks.ensures.ok in
     let same = with_items_is inside.tablets us (omega (arith, c.take_joins.auto.tablets, c.as_mut_slice-tablets.ensures.len)) in
-    err_as old c.args.self.now deliveries c.from_residual-in_err-changed.result _ c.self.view_is
-    (handed_on c.from_residual-in_err-changed.result Memory _ c.from_residual-in_err-changed.ensures.1
+    err_as old c.args.self.now.state deliveries c.from_residual-in_err-lists.result _ (ap (λ (r : LoggedRegion). r.state) c.self.view_is)
+    (handed_on c.from_residual-in_err-lists.result Memory _ c.from_residual-in_err-lists.ensures.1
     (subst (λ (ts : List TabletStateValue). Leaves Memory old deliveries (record { layout = inside.layout; tablets = ts; marks = inside.marks })) (sym same)
     (half_left old deliveries c.self.invariant.is_region marks us accepted
-    (half_found old deliveries c.self.invariant.is_region marks c.as_mut_slice-tablets.result.now us c.deref-2.result.now c.as_mut_slice-tablets.ensures.value found c.in_err-changed.ensures.err))))
+    (half_found old deliveries c.self.invariant.is_region marks c.as_mut_slice-tablets.result.now us c.deref-2.result.now c.as_mut_slice-tablets.ensures.value found c.in_err-lists.ensures.err))))
 
 pub invariant_of-self-2 : goal.invariant_of-self-2
 invariant_of-self-2 g c =
@@ -106,7 +108,7 @@ invariant_of-self-2 g c =
     subst (λ (ts : List TabletStateValue). IsLawfulRegion (record { layout = inside.layout; tablets = ts; marks = marks })) (sym same)
     (record {
       is_region = new_region_is old c.args.deliveries.items c.self.invariant.is_region marks us
-          (all_found old c.args.deliveries.items c.self.invariant.is_region marks c.as_mut_slice-tablets.result.now us c.deref-2.result.now c.as_mut_slice-tablets.ensures.value found c.in_ok-changed.ensures.ok);
+          (all_found old c.args.deliveries.items c.self.invariant.is_region marks c.as_mut_slice-tablets.result.now us c.deref-2.result.now c.as_mut_slice-tablets.ensures.value found c.in_ok-lists.ensures.ok);
       are_marks = record { few = c.in_ok-marks.ensures.few; positions = c.in_ok-marks.ensures.positions };
     })
 
@@ -120,12 +122,12 @@ returns-clause-ok g c =
     let found = c.deref-2.ensures.value ∙ c.in_ok-operations.ensures in
     let accepted = ap (new_marks inside.marks) (sym c.deref.ensures.value) ∙ c.in_ok-marks.ensures.ok in
     let same = with_items_is inside.tablets us (omega (arith, c.take_joins.auto.tablets, c.as_mut_slice-tablets.ensures.len)) in
-    let taken = same ∙ all_found old deliveries c.self.invariant.is_region marks c.as_mut_slice-tablets.result.now us c.deref-2.result.now c.as_mut_slice-tablets.ensures.value found c.in_ok-changed.ensures.ok in
-    ap (λ (r : RegionValue). round r deliveries) (sym c.self.view_is)
+    let taken = same ∙ all_found old deliveries c.self.invariant.is_region marks c.as_mut_slice-tablets.result.now us c.deref-2.result.now c.as_mut_slice-tablets.ensures.value found c.in_ok-lists.ensures.ok in
+    ap (λ (r : RegionValue). round r deliveries) (sym (ap (λ (r : LoggedRegion). r.state) c.self.view_is))
     ∙ round_ok old deliveries c.self.invariant.is_region marks (with_items inside.tablets us).items accepted taken
 
-pub returns-clause-changed : goal.returns-clause-changed
-returns-clause-changed g c =
+pub returns-clause-changes : goal.returns-clause-changes
+returns-clause-changes g c =
     let inside = c.self.inside in
     let old : RegionValue = record { layout = inside.layout; tablets = inside.tablets.items; marks = inside.marks } in
     let deliveries = c.args.deliveries.items in
@@ -133,9 +135,9 @@ returns-clause-changed g c =
     let marks = c.in_ok-marks.marks in
     let found = c.deref-2.ensures.value ∙ c.in_ok-operations.ensures in
     let same = with_items_is inside.tablets us (omega (arith, c.take_joins.auto.tablets, c.as_mut_slice-tablets.ensures.len)) in
-    let taken = same ∙ all_found old deliveries c.self.invariant.is_region marks c.as_mut_slice-tablets.result.now us c.deref-2.result.now c.as_mut_slice-tablets.ensures.value found c.in_ok-changed.ensures.ok in
+    let taken = same ∙ all_found old deliveries c.self.invariant.is_region marks c.as_mut_slice-tablets.result.now us c.deref-2.result.now c.as_mut_slice-tablets.ensures.value found c.in_ok-lists.ensures.ok in
     let all = flat_map (λ (list : List Change). list) (all_changes c.as_mut_slice-tablets.result.now c.deref-2.result.now) in
     let told = told_found old deliveries c.self.invariant.is_region marks c.as_mut_slice-tablets.result.now us c.deref-2.result.now c.as_mut_slice-tablets.ensures.value found all refl in
-    c.in_ok-changed.ensures.changed
-    ∙ count old deliveries c.self.invariant.is_region marks (with_items inside.tablets us).items all taken told
-    ∙ ap (λ (r : RegionValue). changed r (record { layout = inside.layout; tablets = (with_items inside.tablets us).items; marks = marks })) c.self.view_is
+    c.in_ok-lists.ensures.changes
+    ∙ told_changes old deliveries c.self.invariant.is_region marks (with_items inside.tablets us).items all taken told
+    ∙ ap (λ (r : RegionValue). changes (all_cells r) (all_cells (record { layout = inside.layout; tablets = (with_items inside.tablets us).items; marks = marks }))) (ap (λ (r : LoggedRegion). r.state) c.self.view_is)
