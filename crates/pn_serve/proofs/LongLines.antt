@@ -14,9 +14,9 @@ use Rattle.pn_serve.specs.declared.refusal.Refusal.TheVariants.{TooLong}
 use Rattle.pn_serve.specs.declared.reply.Reply.{Reply}
 use Rattle.pn_serve.specs.Command.Lines.{is_too_long, command_at, command_in, refusal_of}
 use Rattle.pn_serve.specs.Machine.Announced.{unless_call, one_came}
-use Rattle.pn_serve.specs.Machine.Outcomes.{Outcome, done, Mode, idle, announced, Machine, Turn, refusing}
+use Rattle.pn_serve.specs.Machine.Outcomes.{Outcome, done, Mode, idle, announced, Machine, logged, Turn, refusing}
 use Rattle.pn_serve.specs.Machine.Recovering.{adopting_text}
-use Rattle.pn_serve.specs.Machine.Turns.{turn_of, outcome_at, turn_in, turn, last_of, end_in, end_turn, Turned, Answers, Concludes}
+use Rattle.pn_serve.specs.Machine.Turns.{turn_of, outcome_at, turn_in, turn, last_of, end_in, end_turn, TurnedBy, Answers, Concludes}
 
 pub too_long : (line : List ℕ) → 65536 < length line → command_at line ≡ Err TooLong
 unfolding command_at value_at
@@ -57,12 +57,12 @@ end-kept idle machine outcome part = elim (cases_lt 65536 (length part)) [
   | inr short ↦ ap (end_in idle machine outcome) (kept-short part short)
 ]
 end-kept (announced left came) machine outcome part =
-    ap (λ (bytes : List ℕ). adopting_text machine.region (unless_call outcome (option_map (λ text. text ++ (bytes ++ [])) came))) (kept-kept part)
+    ap (λ (bytes : List ℕ). adopting_text (logged machine) (unless_call outcome (option_map (λ text. text ++ (bytes ++ [])) came))) (kept-kept part)
 
 pub answers_kept : (old new : Machine) (line : LineBufferValue) (taken : List ℕ) (reply : Reply) → line ≡ so_far taken → Answers old line.bytes new reply → Answers old taken new reply
 answers_kept old new line taken reply is answers =
-    subst (λ (turns : Outcome → Turn). Turned turns new reply) (λ i outcome. (ap (λ (l : LineBufferValue). turn old outcome l.bytes) is ∙ turn-kept old.mode old outcome taken) i) answers
+    subst (λ (turns : Outcome → Turn). TurnedBy (Unit {0}) turns new reply) (λ i outcome. (ap (λ (l : LineBufferValue). turn old outcome l.bytes) is ∙ turn-kept old.mode old outcome taken) i) answers
 
 pub concludes_kept : (old new : Machine) (line : LineBufferValue) (taken : List ℕ) (reply : Reply) → line ≡ so_far taken → Concludes old line.bytes new reply → Concludes old taken new reply
 concludes_kept old new line taken reply is concludes =
-    subst (λ (turns : Outcome → Turn). Turned turns new reply) (λ i outcome. (ap (λ (l : LineBufferValue). end_turn old outcome l.bytes) is ∙ end-kept old.mode old outcome taken) i) concludes
+    subst (λ (turns : Outcome → Turn). TurnedBy (Unit {0}) turns new reply) (λ i outcome. (ap (λ (l : LineBufferValue). end_turn old outcome l.bytes) is ∙ end-kept old.mode old outcome taken) i) concludes

@@ -12,7 +12,7 @@ use Rattle.pn_region.specs.Rounds.{joins, IsHalfTaken}
 use Rattle.pn_region.specs.declared.fault.RoundFault.{RoundFault}
 use Rattle.pn_region.proofs.RoundEnds.{fit}
 use Rattle.pn_serve.specs.Machine.PartRounds.{some_stepped, partly_marked, partly_taken}
-use Rattle.pn_serve.specs.Script.Taken.{some_tablet}
+use Rattle.pn_serve.specs.Script.Events.{some_tablet}
 
 pub some_or_none : (flags : List Bool) (ts : List TabletStateValue) (ops : List TabletOp) → AreJoinsIn ts ops → AreOldOrStepped ts ops (some_stepped flags ts ops)
 some_or_none [] [] [] fits = tt

@@ -1,4 +1,5 @@
 -- What lines do, one after another.
+pub mod Events
 pub mod Losses
 pub mod Parts
 pub mod Taken

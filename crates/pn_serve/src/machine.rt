@@ -4,20 +4,22 @@ ghost use Rattle.std.specs.Prelude.{◌≡◌, ◌≤◌};
 ghost use Rattle.pn_apply.specs.Limits.{most_workers};
 ghost use Rattle.pn_serve.specs.Command.Meaning.{command_value, deliver as asking};
 ghost use Rattle.pn_serve.specs.Machine.Modes.{IsBegun, with_mode};
-ghost use Rattle.pn_serve.specs.Machine.Outcomes.{serving};
-ghost use Rattle.pn_serve.specs.Machine.Turns.{Answers, Concludes, Obeys};
-ghost use Rattle.pn_serve.specs.Machine.Ways.{BeginsTo, Lasts};
+ghost use Rattle.pn_serve.specs.Machine.Outcomes.{waiting};
+ghost use Rattle.pn_serve.specs.Machine.Turns.{AnswersBy, ConcludesBy, Obeys};
+ghost use Rattle.pn_serve.specs.Machine.Ways.{BeginsTo, LastsBy};
 
 pub(crate) mod announced;
 mod lookups;
+pub(crate) mod reading;
 mod tablets;
 
 use crate::machine::announced::{Announced, adopt, finish, go_on};
-use crate::machine::lookups::{get, read, scan, shown};
+use crate::machine::lookups::{get, notices, read, scan, shown};
+use crate::machine::reading::Reads;
 use crate::machine::tablets::{copy, lose};
 use crate::reply::marks::marks_reply;
 use crate::reply::tablets::tablets_reply;
-use crate::{Command, Refusal, Reply, command_of, fault_reply};
+use crate::{Command, Refusal, Reply, fault_reply};
 use pn_apply::Open;
 use pn_region::{Region, RoundFault};
 use pn_stream::Delivery;
@@ -29,8 +31,8 @@ pub(crate) type Done = (Reply, Option<Announced>);
 
 /// Takes a line, which stood before a newline, with 1 to 16 workers: a command, or one of the lines that were
 /// announced. A refusal leaves the region as it was; but after a round that ran out of memory, each tablet is as
-/// it was or has taken its part.
-pub(crate) fn answer<R: Threads + Sync>(
+/// it was or has taken its part. Where `C` never runs out of memory, a loss never does.
+pub(crate) fn answer<R: Threads + Sync, C: Reads>(
     rt: &R,
     alloc: Global,
     region: &mut Region,
@@ -39,15 +41,15 @@ pub(crate) fn answer<R: Threads + Sync>(
     line: &[u8],
 ) -> Done
     requires workers { (1 ≤ workers) × (workers ≤ most_workers) }
-    ensures { Answers (with_mode announced region.old.state) line.now (with_mode result.1 region.new.state) result.0 }
+    ensures { AnswersBy C.may_run_out (with_mode announced region.old) line.now (with_mode result.1 region.new) result.0 }
 {
     match announced {
-        None => command(rt, alloc, region, workers, line),
+        None => command::<R, C>(rt, alloc, region, workers, line),
         Some(announced) => go_on(alloc, region, announced, line),
     }
 }
 
-fn command<R: Threads + Sync>(
+fn command<R: Threads + Sync, C: Reads>(
     rt: &R,
     alloc: Global,
     region: &mut Region,
@@ -55,9 +57,9 @@ fn command<R: Threads + Sync>(
     line: &[u8],
 ) -> Done
     requires workers { (1 ≤ workers) × (workers ≤ most_workers) }
-    ensures { Answers (serving region.old.state) line.now (with_mode result.1 region.new.state) result.0 }
+    ensures { AnswersBy C.may_run_out (waiting region.old) line.now (with_mode result.1 region.new) result.0 }
 {
-    match command_of(alloc, line) {
+    match C::command_of(alloc, line) {
         Ok(command) => announce(alloc, obey(rt, alloc, region, workers, command)),
         Err(refusal) => (Reply::Refused(refusal), None),
     }
@@ -75,7 +77,7 @@ fn announce(alloc: Global, begun: Begun) -> Done
 
 /// The input is at its end, behind a part of a line that no newline ends: a command, a part of what was announced,
 /// or nothing.
-pub(crate) fn end<R: Threads + Sync>(
+pub(crate) fn end<R: Threads + Sync, C: Reads>(
     rt: &R,
     alloc: Global,
     region: &mut Region,
@@ -84,17 +86,17 @@ pub(crate) fn end<R: Threads + Sync>(
     part: &[u8],
 ) -> Reply
     requires workers { (1 ≤ workers) × (workers ≤ most_workers) }
-    ensures { Concludes (with_mode announced region.old.state) part.now (serving region.new.state) result }
+    ensures { ConcludesBy C.may_run_out (with_mode announced region.old) part.now (waiting region.new) result }
 {
     match announced {
         Some(announced) => finish(alloc, region, announced, part),
         None if part.is_empty() => Reply::Silent,
-        None => last_command(rt, alloc, region, workers, part),
+        None => last_command::<R, C>(rt, alloc, region, workers, part),
     }
 }
 
 // A last line without newline. No line that it announces comes.
-fn last_command<R: Threads + Sync>(
+fn last_command<R: Threads + Sync, C: Reads>(
     rt: &R,
     alloc: Global,
     region: &mut Region,
@@ -102,9 +104,9 @@ fn last_command<R: Threads + Sync>(
     line: &[u8],
 ) -> Reply
     requires workers { (1 ≤ workers) × (workers ≤ most_workers) }
-    ensures { Lasts region.old.state line.now region.new.state result }
+    ensures { LastsBy C.may_run_out region.old line.now region.new result }
 {
-    match command_of(alloc, line) {
+    match C::command_of(alloc, line) {
         Ok(command) => match obey(rt, alloc, region, workers, command) {
             Begun::Obeyed(reply) => reply,
             Begun::Announces(_) => adopt(alloc, region, Some(Vec::new(alloc))),
@@ -130,7 +132,7 @@ fn obey<R: Threads + Sync>(
     command: Command,
 ) -> Begun
     requires workers { (1 ≤ workers) × (workers ≤ most_workers) }
-    ensures { BeginsTo region.old.state (command_value command) region.new.state result }
+    ensures { BeginsTo region.old (command_value command) region.new result }
 {
     match command {
         Command::Adopt { lines } => Begun::Announces(lines),
@@ -141,6 +143,7 @@ fn obey<R: Threads + Sync>(
         Command::Get(keys) => Begun::Obeyed(get(alloc, region, &keys)),
         Command::Lose { tablet } => Begun::Obeyed(lose(region, tablet)),
         Command::Marks => Begun::Obeyed(shown(marks_reply(alloc, region.marks()))),
+        Command::Notices { since } => Begun::Obeyed(notices(alloc, region, since)),
         Command::Read { key, version } => Begun::Obeyed(read(alloc, region, &key, version)),
         Command::Scan(query) => Begun::Obeyed(scan(alloc, region, &query)),
         Command::Tablets => Begun::Obeyed(shown(tablets_reply(alloc, region))),
@@ -156,7 +159,7 @@ fn deliver<R: Threads + Sync>(
     deliveries: Vec<Delivery>,
 ) -> Reply
     requires workers { (1 ≤ workers) × (workers ≤ most_workers) }
-    ensures { Obeys (serving region.old.state) (asking deliveries.items) (serving region.new.state) result }
+    ensures { Obeys (waiting region.old) (asking deliveries.items) (waiting region.new) result }
 {
     match region.round(rt, deliveries, workers, &Open) {
         Ok(round) => Reply::Changed(round.changed),

@@ -1,5 +1,5 @@
 -- How many lines the spellings of a copy have.
-use Rattle.std.proofs.Common.{◌≡◌, ◌≢◌, ℕ, suc, ◌+◌, List, [], ◌∷◌, ◌++◌, length, All, refl, sym, ap, ◌∙◌, append-nil, arith, length-append}
+use Rattle.std.proofs.Common.{◌≡◌, ℕ, suc, List, [], ◌∷◌, ◌++◌, length, All, refl, sym, ap, ◌∙◌, append-nil, arith, length-append}
 use Rattle.std.proofs.lemmas.List.Elements.{All-head, All-tail, All-cons}
 use Rattle.pn_line.specs.Reads.{IsUnbroken}
 use Rattle.pn_line.specs.Text.{lines_of, text_of}
@@ -20,12 +20,15 @@ as_many [] (line ∷ says) are = absurd are
 as_many (line ∷ lines) [] are = absurd are
 as_many (line ∷ lines) (first ∷ says) are = ap suc (as_many lines says are.1)
 
+-- the lines of a copy's text are its head and the lines behind it
+pub same_lines : (lines : List (List ℕ)) (copy : TabletCopyValue) → All IsUnbroken lines → (is : IsCopyText (text_of lines) copy) → lines ≡ is.head ∷ is.lines
+same_lines lines copy unbroken is = sym (lines_again lines unbroken) ∙ ap lines_of is.text_is ∙ lines_again (is.head ∷ is.lines) is.unbroken
+
 -- a line for each mark and each image, and two more
 lines_counted : (lines : List (List ℕ)) (copy : TabletCopyValue) → All IsUnbroken lines → IsCopyText (text_of lines) copy → length lines ≡ suc (length (lines_behind_head copy.marks (spell copy.cells)))
 lines_counted lines copy unbroken is =
-    let same : lines ≡ is.head ∷ is.lines = sym (lines_again lines unbroken) ∙ ap lines_of is.text_is ∙ lines_again (is.head ∷ is.lines) is.unbroken in
     let images = sym (spelled_again is.images is.images_rise) ∙ ap spell (sym is.cells) in
-    ap length same ∙ ap suc (as_many is.lines (lines_behind_head copy.marks is.images) is.lines_are ∙ ap (λ images. length (lines_behind_head copy.marks images)) images)
+    ap length (same_lines lines copy unbroken is) ∙ ap suc (as_many is.lines (lines_behind_head copy.marks is.images) is.lines_are ∙ ap (λ images. length (lines_behind_head copy.marks images)) images)
 
 pub same_count : (one other : List (List ℕ)) (copy : TabletCopyValue) → All IsUnbroken one → All IsUnbroken other → IsCopyText (text_of one) copy → IsCopyText (text_of other) copy → length one ≡ length other
 same_count one other copy one_lines other_lines first second = lines_counted one copy one_lines first ∙ sym (lines_counted other copy other_lines second)

@@ -1,5 +1,6 @@
 pub mod BoundSteps
 pub mod Changed
+pub mod CopyExchanges
 pub mod CopyGrammar
 pub mod CopyLineCounts
 pub mod CopyLineTexts

@@ -36,3 +36,10 @@ pub fn spellings_of_a_copy_have_as_many_lines()
     ensures doubled { (before behind : List (List ℕ)) (line : List ℕ) (copy : TabletCopyValue) → All IsUnbroken (before ++ line ∷ behind)
         → IsCopyText (text_of (before ++ line ∷ behind)) copy → ¬ IsCopyText (text_of (before ++ line ∷ line ∷ behind)) copy }
 {}
+
+/// Where two lines of a copy's text are exchanged, whichever they are, it spells no copy at all.
+pub fn no_exchanged_lines_are_a_copy()
+    ensures { (before between behind : List (List ℕ)) (one other : List ℕ) (copy another : TabletCopyValue)
+        → All IsUnbroken (before ++ one ∷ (between ++ other ∷ behind)) → IsCopyText (text_of (before ++ one ∷ (between ++ other ∷ behind))) copy
+        → ¬ IsCopyText (text_of (before ++ other ∷ (between ++ one ∷ behind))) another }
+{}

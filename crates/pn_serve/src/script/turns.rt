@@ -12,6 +12,7 @@ ghost use Rattle.pn_serve.specs.Runs.Turning.{TurnsTo};
 ghost use Rattle.pn_serve.specs.Script.Written.{one_if};
 
 use crate::machine::announced::Announced;
+use crate::machine::reading::Json;
 use crate::machine::{answer, end};
 use crate::script::MOST_LINES;
 use crate::{
@@ -50,7 +51,7 @@ impl Model for Run {
 
     ghost coded = { run_code };
 
-    ghost view = { λ run. record { machine = with_mode run.announced run.region.state; line = run.line; waits = run.outbox; counts = run.counts } };
+    ghost view = { λ run. record { machine = with_mode run.announced run.region; line = run.line; waits = run.outbox; counts = run.counts } };
 
     ghost invariant = { λ run. (1 ≤ run.workers) × (run.workers ≤ most_workers) × (run.counts.refused ≤ run.counts.lines) };
 }
@@ -136,7 +137,7 @@ impl Run {
     {
         let waiting = self.announced.take();
         let line = self.line.bytes();
-        let done = answer(
+        let done = answer::<R, Json>(
             rt,
             self.alloc,
             &mut self.region,
@@ -165,7 +166,7 @@ impl Run {
     {
         let announced = self.announced.take();
         let part = self.line.bytes();
-        let reply = end(
+        let reply = end::<R, Json>(
             rt,
             self.alloc,
             &mut self.region,

@@ -1,6 +1,9 @@
--- The law is a lemma.
-use Rattle.pn_serve.proofs.ScriptLaws.{not_older}
+-- The laws are lemmas.
+use Rattle.pn_serve.proofs.ScriptLaws.{line_held, lines_held}
 use Rattle.pn_serve.proofs.laws.no_line_makes_a_record_older.Goals as goal
 
-pub returns : goal.returns
-returns c = not_older c.args.settings.now.layout c.layout.ensures.lawful
+pub returns-clause-line : goal.returns-clause-line
+returns-clause-line c = line_held c.args.settings.now.layout c.layout.ensures.lawful
+
+pub returns-clause-lines : goal.returns-clause-lines
+returns-clause-lines c = lines_held c.args.settings.now.layout c.layout.ensures.lawful

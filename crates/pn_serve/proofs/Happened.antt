@@ -1,0 +1,170 @@
+-- What happens by lines leads from the region before them to the region after them.
+use Rattle.std.proofs.Common.{◌≡◌, ℕ, ◌-◌, nat_le, Bool, true, false, if◌then◌else◌, List, [], ◌∷◌, ◌++◌, refl, ap, subst}
+use Rattle.std.specs.Prelude.{Result, Ok, Err, Option, Some, None, slice_get}
+use Rattle.pn_join.specs.Marks.{Positions}
+use Rattle.pn_stream.specs.Positions.{DeliveryValue}
+use Rattle.pn_tablet.specs.Copies.{TabletCopyValue, IsCopy}
+use Rattle.pn_tablet.specs.Copying.{copy_of}
+use Rattle.pn_tablet.specs.CopyReading.{copy_at}
+use Rattle.pn_tablet.specs.Tablets.{TabletStateValue}
+use Rattle.pn_tablet.specs.declared.copy_fault.CopyTextFault.{CopyTextFault}
+use Rattle.pn_tablet.specs.declared.fault.CopyFault.{CopyFault}
+use Rattle.pn_region.specs.Events as events
+use Rattle.pn_region.specs.Events.{RegionEvent, LeadsTo, AllLeadTo}
+use Rattle.pn_region.specs.Logged.{LoggedRegion, breaking}
+use Rattle.pn_region.specs.Marking.{new_marks}
+use Rattle.pn_region.specs.Recovery.{losing, adopting}
+use Rattle.pn_region.specs.Regions.{RegionValue, IsRegion}
+use Rattle.pn_region.specs.Rounds.{IsHalfTaken}
+use Rattle.pn_region.specs.Rounds.{round as taken_round}
+use Rattle.pn_region.specs.declared.fault.AdoptFault.{AdoptFault}
+use Rattle.pn_region.specs.declared.fault.RoundFault.{RoundFault}
+use Rattle.pn_region.proofs.EventSteps.{events_are}
+use Rattle.pn_json.specs.Lines.{line_of}
+use Rattle.pn_serve.specs.declared.refusal.Refusal.{Refusal}
+use Rattle.pn_serve.specs.Command.Meaning.{CommandValue, adopt, copy, deliver, get, lose, marks, notices, read, scan, tablets}
+use Rattle.pn_serve.specs.Command.Lines.{command_at}
+use Rattle.pn_serve.specs.Machine.Announced.{unless_call, with_line}
+use Rattle.pn_serve.specs.Machine.Doing.{delivering}
+use Rattle.pn_serve.specs.Machine.Outcomes.{Outcome, done, line, call, round, Mode, idle, announced, Machine, Turn, logged, silent}
+use Rattle.pn_serve.specs.Machine.PartRounds.{partly_marked}
+use Rattle.pn_serve.specs.Machine.Recovering.{at_tablet, showing_copy, copying, losing_it, adopted, adopting_read, adopting_text}
+use Rattle.pn_serve.specs.Machine.Turns.{turn_of, outcome_at, turn_in, turn}
+use Rattle.pn_serve.specs.Reply.Short.{lost_data}
+use Rattle.pn_serve.specs.Script.Events.{unless_refused, some_tablet, half_happened, happened_by, happened_by_copy, happened_by_text, happened_in, happened_from}
+use Rattle.pn_serve.specs.Script.Written.{first_outcome, later_outcomes, machine_after}
+use Rattle.pn_serve.proofs.PartRounds.{partly_is, partly_none}
+use Rattle.pn_serve.proofs.ReadCopies.{read_is}
+
+-- no event leads nowhere, and one event to what it leads to
+abbrev pub OneLeads : List RegionEvent → RegionValue → RegionValue → Type 0
+OneLeads [] old new = new ≡ old
+OneLeads (event ∷ []) old new = LeadsTo event old new
+OneLeads (event ∷ next ∷ later) old new = ⊥
+
+all_lead : (events : List RegionEvent) (old new : RegionValue) → OneLeads events old new → AllLeadTo events old new
+all_lead [] old new one = one
+all_lead (event ∷ []) old new one = (new, one, refl)
+all_lead (event ∷ next ∷ later) old new one = absurd one
+
+-- a copy changes nothing
+shown_stays : (m : Machine) (tablet : ℕ) (right : Result TabletCopyValue CopyFault) → (showing_copy m tablet right).machine ≡ m
+shown_stays m tablet (Ok given) = refl
+shown_stays m tablet (Err fault) = refl
+
+copy_stays : (m : Machine) (need : Positions) (tablet : ℕ) → (copying m need tablet).machine.region ≡ m.region
+copy_stays m need tablet = at (slice_get m.region.tablets tablet)
+  where
+    at : (found : Option TabletStateValue) → (at_tablet m found (λ state. showing_copy m tablet (copy_of state need))).machine.region ≡ m.region
+    at None = refl
+    at (Some state) = ap (λ (n : Machine). n.region) (shown_stays m tablet (copy_of state need))
+
+round_leads : (m : Machine) (deliveries : List DeliveryValue) (right : Result RegionValue RoundFault) → taken_round m.region deliveries ≡ right
+    → OneLeads (unless_refused (delivering m right) (events.round deliveries)) m.region (delivering m right).machine.region
+round_leads m deliveries (Ok after) is = is
+round_leads m deliveries (Err fault) is = refl
+
+half_leads : (region : RegionValue) (deliveries : List DeliveryValue) (flags : List Bool) (some : Bool) (right : Result Positions RoundFault) → some_tablet flags region.tablets ≡ some
+    → new_marks region.marks deliveries ≡ right → IsRegion region → OneLeads (half_happened deliveries some right) region (partly_marked region deliveries flags right)
+half_leads region deliveries flags false (Ok next) none found is = partly_none region deliveries flags (Ok next) none
+half_leads region deliveries flags false (Err fault) none found is = refl
+half_leads region deliveries flags true (Err fault) some found is = refl
+half_leads region deliveries flags true (Ok next) some found is =
+    subst (λ (right : Result Positions RoundFault). IsHalfTaken region deliveries (partly_marked region deliveries flags right)) found (partly_is region deliveries flags is)
+
+abbrev losing_found : Machine → ℕ → Option TabletStateValue → Turn
+losing_found m tablet found = at_tablet m found (λ state. record { machine = record m { region = losing m.region tablet; log = breaking m.log }; reply = line_of (lost_data tablet); refused = false })
+
+found_leads : (m : Machine) (tablet : ℕ) (found : Option TabletStateValue) → OneLeads (unless_refused (losing_found m tablet found) (events.loss tablet)) m.region (losing_found m tablet found).machine.region
+found_leads m tablet None = refl
+found_leads m tablet (Some state) = refl
+
+loss_leads : (m : Machine) (tablet : ℕ) → OneLeads (unless_refused (losing_it m tablet) (events.loss tablet)) m.region (losing_it m tablet).machine.region
+loss_leads m tablet = found_leads m tablet (slice_get m.region.tablets tablet)
+
+done_leads : (m : Machine) (said : Result CommandValue Refusal) → OneLeads (happened_by m done said) m.region (turn_of m done said).machine.region
+done_leads m (Ok (adopt lines)) = refl
+done_leads m (Ok (copy need tablet)) = copy_stays m need tablet
+done_leads m (Ok (deliver deliveries)) = round_leads m deliveries (taken_round m.region deliveries) refl
+done_leads m (Ok (get keys)) = refl
+done_leads m (Ok (lose tablet)) = loss_leads m tablet
+done_leads m (Ok marks) = refl
+done_leads m (Ok (notices since)) = refl
+done_leads m (Ok (read key version)) = refl
+done_leads m (Ok (scan query)) = refl
+done_leads m (Ok tablets) = refl
+done_leads m (Err refusal) = refl
+
+call_leads : (m : Machine) (said : Result CommandValue Refusal) → OneLeads (happened_by m call said) m.region (turn_of m call said).machine.region
+call_leads m (Ok (adopt lines)) = refl
+call_leads m (Ok (copy need tablet)) = refl
+call_leads m (Ok (deliver deliveries)) = refl
+call_leads m (Ok (get keys)) = refl
+call_leads m (Ok (lose tablet)) = loss_leads m tablet
+call_leads m (Ok marks) = refl
+call_leads m (Ok (notices since)) = refl
+call_leads m (Ok (read key version)) = refl
+call_leads m (Ok (scan query)) = refl
+call_leads m (Ok tablets) = refl
+call_leads m (Err refusal) = refl
+
+partly_leads : (m : Machine) (flags : List Bool) (said : Result CommandValue Refusal) → IsRegion m.region → OneLeads (happened_by m (round flags) said) m.region (turn_of m (round flags) said).machine.region
+partly_leads m flags (Ok (adopt lines)) is = refl
+partly_leads m flags (Ok (copy need tablet)) is = copy_stays m need tablet
+partly_leads m flags (Ok (deliver deliveries)) is = half_leads m.region deliveries flags (some_tablet flags m.region.tablets) (new_marks m.region.marks deliveries) refl refl is
+partly_leads m flags (Ok (get keys)) is = refl
+partly_leads m flags (Ok (lose tablet)) is = loss_leads m tablet
+partly_leads m flags (Ok marks) is = refl
+partly_leads m flags (Ok (notices since)) is = refl
+partly_leads m flags (Ok (read key version)) is = refl
+partly_leads m flags (Ok (scan query)) is = refl
+partly_leads m flags (Ok tablets) is = refl
+partly_leads m flags (Err refusal) is = refl
+
+said_leads : (m : Machine) (outcome : Outcome) (said : Result CommandValue Refusal) → IsRegion m.region → OneLeads (happened_by m outcome said) m.region (turn_of m outcome said).machine.region
+said_leads m done said is = done_leads m said
+said_leads m line said is = refl
+said_leads m call said is = call_leads m said
+said_leads m (round flags) said is = partly_leads m flags said is
+
+adoption_leads : (old : LoggedRegion) (given : TabletCopyValue) (right : Result (ℕ × RegionValue) AdoptFault) → IsCopy given.range given.marks given.cells → adopting old.state given ≡ right
+    → OneLeads (unless_refused (adopted old right) (events.adoption given)) old.state (adopted old right).machine.region
+adoption_leads old given (Ok (tablet, after)) lawful is = record { tablet = tablet; lawful = lawful; adopted = is }
+adoption_leads old given (Err fault) lawful is = refl
+
+copy_leads : (old : LoggedRegion) (right : Result TabletCopyValue CopyTextFault) → ((given : TabletCopyValue) → right ≡ Ok given → IsCopy given.range given.marks given.cells)
+    → OneLeads (happened_by_copy old right) old.state (adopting_read old right).machine.region
+copy_leads old (Ok given) lawful = adoption_leads old given (adopting old.state given) (lawful given refl) refl
+copy_leads old (Err fault) lawful = refl
+
+text_leads : (old : LoggedRegion) (text : Option (List ℕ)) → OneLeads (happened_by_text old text) old.state (adopting_text old text).machine.region
+text_leads old None = refl
+text_leads old (Some text) = copy_leads old (copy_at text) (read_is text)
+
+came_leads : (m : Machine) (left : ℕ) (text : Option (List ℕ)) (last : Bool)
+    → OneLeads (if last then happened_by_text (logged m) text else []) m.region (if last then adopting_text (logged m) text else silent (record m { mode = announced (left - 1) text })).machine.region
+came_leads m left text true = text_leads (logged m) text
+came_leads m left text false = refl
+
+-- what happens by a line leads to the region after it
+mode_leads : (mode : Mode) (m : Machine) (outcome : Outcome) (text : List ℕ) → IsRegion m.region → OneLeads (happened_in mode m outcome text) m.region (turn_in mode m outcome text).machine.region
+mode_leads idle m outcome text is = said_leads m (outcome_at outcome text) (command_at text) is
+mode_leads (announced left came) m outcome text is = came_leads m left (unless_call outcome (with_line came text (10 ∷ []))) (nat_le left 1)
+
+pub line_leads : (m : Machine) (outcome : Outcome) (text : List ℕ) → IsRegion m.region → OneLeads (happened_in m.mode m outcome text) m.region (turn m outcome text).machine.region
+line_leads m outcome text is = mode_leads m.mode m outcome text is
+
+-- some events lead on from where others lead
+lead_on : (first later : List RegionEvent) (old next new : RegionValue) → AllLeadTo first old next → AllLeadTo later next new → AllLeadTo (first ++ later) old new
+lead_on [] later old next new lead more = subst (λ (r : RegionValue). AllLeadTo later r new) lead more
+lead_on (event ∷ first) later old next new lead more = (lead.0, lead.1, lead_on first later lead.0 next new lead.2 more)
+
+-- so do those of lines, one after another
+pub lines_lead : (m : Machine) (lines : List (List ℕ)) (outcomes : List Outcome) → IsRegion m.region → AllLeadTo (happened_from m lines outcomes) m.region (machine_after m lines outcomes).region
+lines_lead m [] outcomes is = refl
+lines_lead m (text ∷ lines) outcomes is =
+    let outcome = first_outcome outcomes in
+    let next = (turn m outcome text).machine in
+    let leads = all_lead (happened_in m.mode m outcome text) m.region next.region (line_leads m outcome text is) in
+    lead_on (happened_in m.mode m outcome text) (happened_from next lines (later_outcomes outcomes)) m.region next.region (machine_after next lines (later_outcomes outcomes)).region
+    leads (lines_lead next lines (later_outcomes outcomes) (events_are (happened_in m.mode m outcome text) m.region next.region is leads))

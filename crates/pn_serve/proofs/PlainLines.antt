@@ -1,0 +1,146 @@
+-- Lines without losses and adoptions.
+use Rattle.std.proofs.Common.{◌≡◌, ℕ, Bool, true, false, List, [], ◌∷◌, ◌++◌, refl, sym, subst}
+use Rattle.std.specs.Prelude.{Result, Ok, Err, Option, Some, None, slice_get}
+use Rattle.std.proofs.lemmas.List.Elements.{All-head, All-tail}
+use Rattle.pn_join.specs.Marks.{Positions}
+use Rattle.pn_stream.specs.Brokers.{BrokerRecord}
+use Rattle.pn_stream.specs.Positions.{DeliveryValue}
+use Rattle.pn_tablet.specs.Copies.{TabletCopyValue}
+use Rattle.pn_tablet.specs.Copying.{copy_of}
+use Rattle.pn_tablet.specs.Layouts.{Bounds}
+use Rattle.pn_tablet.specs.Tablets.{TabletStateValue}
+use Rattle.pn_tablet.specs.declared.fault.CopyFault.{CopyFault}
+use Rattle.pn_region.specs.Events as events
+use Rattle.pn_region.specs.Events.{RegionEvent}
+use Rattle.pn_region.specs.Marking.{new_marks}
+use Rattle.pn_region.specs.Regions.{RegionValue, new_region}
+use Rattle.pn_region.specs.Rounds.{round as taken_round}
+use Rattle.pn_region.specs.Taken.{taken_by, all_taken, IsRound, AreRounds}
+use Rattle.pn_region.specs.declared.fault.RoundFault.{RoundFault}
+use Rattle.pn_serve.specs.declared.refusal.Refusal.{Refusal}
+use Rattle.pn_serve.specs.Command.Meaning.{CommandValue, adopt, copy, deliver, get, lose, marks, notices, read, scan, tablets}
+use Rattle.pn_serve.specs.Command.Lines.{command_at}
+use Rattle.pn_serve.specs.Machine.Doing.{delivering}
+use Rattle.pn_serve.specs.Machine.Outcomes.{Outcome, done, line, call, round, Mode, idle, Machine, Turn, serving}
+use Rattle.pn_serve.specs.Machine.Recovering.{at_tablet, showing_copy, copying}
+use Rattle.pn_serve.specs.Machine.Turns.{turn_of, outcome_at, turn_in, turn}
+use Rattle.pn_serve.specs.Script.Events.{unless_refused, some_tablet, half_happened, happened, happened_by, happened_in, happened_from}
+use Rattle.pn_serve.specs.Script.Losses.{KeepsTablets, NoLosses}
+use Rattle.pn_serve.specs.Script.Taken.{taken, NothingLost, Waits}
+use Rattle.pn_serve.specs.Script.Written.{first_outcome, later_outcomes, machine_after}
+
+-- ---- of rounds the record of brokers says nothing
+
+taken_alike : (broker other : BrokerRecord) (event : RegionEvent) → IsRound event → taken_by broker event ≡ taken_by other event
+taken_alike broker other (events.round deliveries) one = refl
+taken_alike broker other (events.half_round deliveries) one = refl
+taken_alike broker other (events.loss tablet) one = absurd one
+taken_alike broker other (events.adoption given) one = absurd one
+
+all_alike : (broker other : BrokerRecord) (happens : List RegionEvent) → AreRounds happens → all_taken broker happens ≡ all_taken other happens
+all_alike broker other [] rounds = refl
+all_alike broker other (event ∷ happens) rounds = λ i. taken_alike broker other event rounds.0 i ++ all_alike broker other happens rounds.1 i
+
+pub any_record : (bounds : Bounds) (broker other : BrokerRecord) (lines : List (List ℕ)) (outcomes : List Outcome) → NothingLost (new_region bounds) lines outcomes
+    → taken broker (new_region bounds) lines outcomes ≡ taken other (new_region bounds) lines outcomes
+any_record bounds broker other lines outcomes rounds = all_alike broker other (happened (new_region bounds) lines outcomes) rounds
+
+-- ---- lines that say no loss and no adoption
+
+-- rounds alone happened, and a command is waited for
+pub record Plain (happens : List RegionEvent) (turn : Turn) : Type 0 where
+  pub rounds : AreRounds happens
+  pub waits : turn.machine.mode ≡ idle
+
+shown_waits : (m : Machine) (tablet : ℕ) (right : Result TabletCopyValue CopyFault) → m.mode ≡ idle → (showing_copy m tablet right).machine.mode ≡ idle
+shown_waits m tablet (Ok given) waits = waits
+shown_waits m tablet (Err fault) waits = waits
+
+copy_waits : (m : Machine) (need : Positions) (tablet : ℕ) → m.mode ≡ idle → (copying m need tablet).machine.mode ≡ idle
+copy_waits m need tablet waits = at (slice_get m.region.tablets tablet)
+  where
+    at : (found : Option TabletStateValue) → (at_tablet m found (λ state. showing_copy m tablet (copy_of state need))).machine.mode ≡ idle
+    at None = waits
+    at (Some state) = shown_waits m tablet (copy_of state need) waits
+
+quiet : (turn : Turn) → turn.machine.mode ≡ idle → Plain [] turn
+quiet turn waits = record { rounds = tt; waits = waits }
+
+round_plain : (m : Machine) (deliveries : List DeliveryValue) (right : Result RegionValue RoundFault) → m.mode ≡ idle → Plain (unless_refused (delivering m right) (events.round deliveries)) (delivering m right)
+round_plain m deliveries (Ok after) waits = record { rounds = (tt, tt); waits = waits }
+round_plain m deliveries (Err fault) waits = record { rounds = tt; waits = waits }
+
+half_rounds : (deliveries : List DeliveryValue) (some : Bool) (right : Result Positions RoundFault) → AreRounds (half_happened deliveries some right)
+half_rounds deliveries true (Ok next) = (tt, tt)
+half_rounds deliveries true (Err fault) = tt
+half_rounds deliveries false (Ok next) = tt
+half_rounds deliveries false (Err fault) = tt
+
+module _ (m : Machine) (waits : m.mode ≡ idle) where
+  done_plain : (said : Result CommandValue Refusal) → KeepsTablets said → Plain (happened_by m done said) (turn_of m done said)
+  done_plain (Ok (adopt lines)) stay = absurd stay
+  done_plain (Ok (copy need tablet)) stay = quiet _ (copy_waits m need tablet waits)
+  done_plain (Ok (deliver deliveries)) stay = round_plain m deliveries (taken_round m.region deliveries) waits
+  done_plain (Ok (get keys)) stay = quiet _ waits
+  done_plain (Ok (lose tablet)) stay = absurd stay
+  done_plain (Ok marks) stay = quiet _ waits
+  done_plain (Ok (notices since)) stay = quiet _ waits
+  done_plain (Ok (read key version)) stay = quiet _ waits
+  done_plain (Ok (scan query)) stay = quiet _ waits
+  done_plain (Ok tablets) stay = quiet _ waits
+  done_plain (Err refusal) stay = quiet _ waits
+
+  call_plain : (said : Result CommandValue Refusal) → KeepsTablets said → Plain (happened_by m call said) (turn_of m call said)
+  call_plain (Ok (adopt lines)) stay = absurd stay
+  call_plain (Ok (copy need tablet)) stay = quiet _ waits
+  call_plain (Ok (deliver deliveries)) stay = quiet _ waits
+  call_plain (Ok (get keys)) stay = quiet _ waits
+  call_plain (Ok (lose tablet)) stay = absurd stay
+  call_plain (Ok marks) stay = quiet _ waits
+  call_plain (Ok (notices since)) stay = quiet _ waits
+  call_plain (Ok (read key version)) stay = quiet _ waits
+  call_plain (Ok (scan query)) stay = quiet _ waits
+  call_plain (Ok tablets) stay = quiet _ waits
+  call_plain (Err refusal) stay = quiet _ waits
+
+  partly_plain : (flags : List Bool) (said : Result CommandValue Refusal) → KeepsTablets said → Plain (happened_by m (round flags) said) (turn_of m (round flags) said)
+  partly_plain flags (Ok (adopt lines)) stay = absurd stay
+  partly_plain flags (Ok (copy need tablet)) stay = quiet _ (copy_waits m need tablet waits)
+  partly_plain flags (Ok (deliver deliveries)) stay = record { rounds = half_rounds deliveries (some_tablet flags m.region.tablets) (new_marks m.region.marks deliveries); waits = waits }
+  partly_plain flags (Ok (get keys)) stay = quiet _ waits
+  partly_plain flags (Ok (lose tablet)) stay = absurd stay
+  partly_plain flags (Ok marks) stay = quiet _ waits
+  partly_plain flags (Ok (notices since)) stay = quiet _ waits
+  partly_plain flags (Ok (read key version)) stay = quiet _ waits
+  partly_plain flags (Ok (scan query)) stay = quiet _ waits
+  partly_plain flags (Ok tablets) stay = quiet _ waits
+  partly_plain flags (Err refusal) stay = quiet _ waits
+
+  said_plain : (outcome : Outcome) (said : Result CommandValue Refusal) → KeepsTablets said → Plain (happened_by m outcome said) (turn_of m outcome said)
+  said_plain done said stay = done_plain said stay
+  said_plain line said stay = quiet _ waits
+  said_plain call said stay = call_plain said stay
+  said_plain (round flags) said stay = partly_plain flags said stay
+
+  line_plain : (outcome : Outcome) (text : List ℕ) → KeepsTablets (command_at text) → Plain (happened_in m.mode m outcome text) (turn m outcome text)
+  line_plain outcome text stay =
+      subst (λ (mode : Mode). Plain (happened_in mode m outcome text) (turn_in mode m outcome text)) (sym waits) (said_plain (outcome_at outcome text) (command_at text) stay)
+
+rounds_too : (first later : List RegionEvent) → AreRounds first → AreRounds later → AreRounds (first ++ later)
+rounds_too [] later rounds more = more
+rounds_too (event ∷ first) later rounds more = (rounds.0, rounds_too first later rounds.1 more)
+
+-- what no line says
+abbrev Keeping : List ℕ → Type 0
+Keeping text = KeepsTablets (command_at text)
+
+lines_plain : (m : Machine) (lines : List (List ℕ)) (outcomes : List Outcome) → m.mode ≡ idle → NoLosses lines → AreRounds (happened_from m lines outcomes) × ((machine_after m lines outcomes).mode ≡ idle)
+lines_plain m [] outcomes waits stay = (tt, waits)
+lines_plain m (text ∷ lines) outcomes waits stay =
+    let outcome = first_outcome outcomes in
+    let first = line_plain m waits outcome text (All-head Keeping text lines stay) in
+    let later = lines_plain (turn m outcome text).machine lines (later_outcomes outcomes) first.waits (All-tail Keeping text lines stay) in
+    (rounds_too (happened_in m.mode m outcome text) (happened_from (turn m outcome text).machine lines (later_outcomes outcomes)) first.rounds later.0, later.1)
+
+pub nothing_lost : (bounds : Bounds) (lines : List (List ℕ)) (outcomes : List Outcome) → NoLosses lines → NothingLost (new_region bounds) lines outcomes × Waits (new_region bounds) lines outcomes
+nothing_lost bounds lines outcomes stay = lines_plain (serving (new_region bounds)) lines outcomes refl stay

@@ -1,0 +1,69 @@
+-- What lines do to a region, as its events.
+use Rattle.std.specs.Prelude.{ℕ, nat_le, Bool, true, if◌then◌else◌, List, [], ◌∷◌, ◌++◌, length, take, Option, None, Some, Result, Ok, Err}
+use Rattle.std.specs.List.{list_any}
+use Rattle.pn_join.specs.Marks.{Positions}
+use Rattle.pn_stream.specs.Positions.{DeliveryValue}
+use Rattle.pn_tablet.specs.Copies.{TabletCopyValue}
+use Rattle.pn_tablet.specs.CopyReading.{copy_at}
+use Rattle.pn_tablet.specs.Tablets.{TabletStateValue}
+use Rattle.pn_tablet.specs.declared.copy_fault.CopyTextFault.{CopyTextFault}
+use Rattle.pn_region.specs.Events as events
+use Rattle.pn_region.specs.Events.{RegionEvent}
+use Rattle.pn_region.specs.Logged.{LoggedRegion}
+use Rattle.pn_region.specs.Marking.{new_marks}
+use Rattle.pn_region.specs.Recovery.{adopting}
+use Rattle.pn_region.specs.Regions.{RegionValue}
+use Rattle.pn_region.specs.declared.fault.RoundFault.{RoundFault}
+use Rattle.pn_serve.specs.declared.refusal.Refusal.{Refusal}
+use Rattle.pn_serve.specs.Command.Lines.{command_at}
+use Rattle.pn_serve.specs.Command.Meaning.{CommandValue, deliver, lose}
+use Rattle.pn_serve.specs.Machine.Announced.{unless_call, with_line}
+use Rattle.pn_serve.specs.Machine.Outcomes.{Outcome, line, round, Mode, idle, announced, Machine, Turn, logged, serving}
+use Rattle.pn_serve.specs.Machine.Recovering.{adopted}
+use Rattle.pn_serve.specs.Machine.Turns.{turn_of, outcome_at, turn}
+use Rattle.pn_serve.specs.Script.Written.{first_outcome, later_outcomes}
+
+-- what was asked for happened, unless the turn is a refusal
+abbrev pub unless_refused : Turn → RegionEvent → List RegionEvent
+unless_refused turn event = if turn.refused then [] else event ∷ []
+
+-- one of the tablets has a flag
+abbrev pub some_tablet : List Bool → List TabletStateValue → Bool
+some_tablet which all = list_any (λ flag. flag) (take (length all) which)
+
+-- a round that ran out of memory happened where some tablet took its part, and reaches none where it is refused
+abbrev pub half_happened : List DeliveryValue → Bool → Result Positions RoundFault → List RegionEvent
+half_happened deliveries true (Ok next) = events.half_round deliveries ∷ []
+half_happened deliveries some right = []
+
+-- what happens by a line that says this: nothing where memory ran out before it was read
+abbrev pub happened_by : Machine → Outcome → Result CommandValue Refusal → List RegionEvent
+happened_by machine line said = []
+happened_by machine (round which) (Ok (deliver deliveries)) = half_happened deliveries (some_tablet which machine.region.tablets) (new_marks machine.region.marks deliveries)
+happened_by machine outcome (Ok (deliver deliveries)) = unless_refused (turn_of machine outcome (Ok (deliver deliveries))) (events.round deliveries)
+happened_by machine outcome (Ok (lose tablet)) = unless_refused (turn_of machine outcome (Ok (lose tablet))) (events.loss tablet)
+happened_by machine outcome said = []
+
+-- what happens by the copy of a text that was announced, by a text that is none, and where memory ran out
+abbrev pub happened_by_copy : LoggedRegion → Result TabletCopyValue CopyTextFault → List RegionEvent
+happened_by_copy old (Ok copy) = unless_refused (adopted old (adopting old.state copy)) (events.adoption copy)
+happened_by_copy old (Err fault) = []
+
+abbrev pub happened_by_text : LoggedRegion → Option (List ℕ) → List RegionEvent
+happened_by_text old None = []
+happened_by_text old (Some text) = happened_by_copy old (copy_at text)
+
+-- what happens by a line: by a command, or by the last of the lines that an `adopt` line announced
+abbrev pub happened_in : Mode → Machine → Outcome → List ℕ → List RegionEvent
+happened_in idle machine outcome text = happened_by machine (outcome_at outcome text) (command_at text)
+happened_in (announced left came) machine outcome text =
+    if nat_le left 1 then happened_by_text (logged machine) (unless_call outcome (with_line came text (10 ∷ []))) else []
+
+-- what happens by lines, one after another
+abbrev pub happened_from : Machine → List (List ℕ) → List Outcome → List RegionEvent
+happened_from machine [] outcomes = []
+happened_from machine (text ∷ lines) outcomes =
+    happened_in machine.mode machine (first_outcome outcomes) text ++ happened_from (turn machine (first_outcome outcomes) text).machine lines (later_outcomes outcomes)
+
+abbrev pub happened : RegionValue → List (List ℕ) → List Outcome → List RegionEvent
+happened region lines outcomes = happened_from (serving region) lines outcomes
