@@ -21,7 +21,7 @@ pub fn images_by_tablet(
     ensures { IfOk result (λ shares. lists shares.items
         ≡ map (λ range. images_in range (all_images deliveries.items)) (ranges layout.now)) }
 {
-    let mut shares = empty_shares(alloc, layout)?;
+    let mut shares = empty_shares(alloc, layout, images_of(&deliveries))?;
     for delivery in deliveries {
         share_out(&mut shares, delivery.into_images(), layout)?;
     }
@@ -37,21 +37,31 @@ pub fn copies_by_tablet(
     ensures { IfOk result (λ shares. lists shares.items
         ≡ map (λ range. images_in range (all_images deliveries.now)) (ranges layout.now)) }
 {
-    let mut shares = empty_shares(alloc, layout)?;
+    let mut shares = empty_shares(alloc, layout, images_of(deliveries))?;
     for delivery in deliveries {
         share_out(&mut shares, copies(alloc, delivery.images())?, layout)?;
     }
     Ok(shares)
 }
 
-// A share without images for each tablet.
-fn empty_shares(alloc: Global, layout: &Layout) -> Result<Vec<Vec<Image>>, NoMemory>
+// How many images the deliveries have.
+fn images_of(deliveries: &[Delivery]) -> usize {
+    let mut count = 0_usize;
+    for delivery in deliveries {
+        count = count.saturating_add(delivery.images().len());
+    }
+    count
+}
+
+// A share without images for each tablet, with room for an equal part of so many.
+fn empty_shares(alloc: Global, layout: &Layout, images: usize) -> Result<Vec<Vec<Image>>, NoMemory>
     ensures empty { IfOk result (λ shares. lists shares.items ≡ by_tablet layout.now []) }
     ensures lawful { IsLayout layout.now }
 {
+    let room = images / layout.count();
     let mut shares = Vec::with_capacity(alloc, layout.count())?;
     for _tablet in 0..layout.count() {
-        shares.push_reserved(Vec::new(alloc));
+        shares.push_reserved(Vec::with_capacity(alloc, room)?);
     }
     Ok(shares)
 }

@@ -2,7 +2,7 @@
 use Rattle.std.proofs.Common.{◌≡◌, ◌≢◌, ◌⊎◌, ℕ, ◌-◌, ◌<◌, ◌≤◌, Bool, true, false, if◌then◌else◌, List, [], ◌∷◌, ◌++◌, Option, Some, None, nat_le, inl, inr, refl, sym, ap, ◌∙◌, subst, arith}
 use Rattle.std.specs.Prelude.{Result, Ok, Err}
 use Rattle.std.proofs.lemmas.Bool.Decides.{nat_tests}
-use Rattle.pn_region.specs.Regions.{RegionValue}
+use Rattle.pn_region.specs.Logged.{LoggedRegion}
 use Rattle.pn_serve.specs.declared.machine.announced.Announced.{Announced}
 use Rattle.pn_serve.specs.declared.machine.Begun.{Begun}
 use Rattle.pn_serve.specs.declared.machine.Begun.TheVariants.{Obeyed, Announces}
@@ -11,10 +11,10 @@ use Rattle.pn_serve.specs.declared.reply.Reply.TheVariants.{Silent, Refused}
 use Rattle.pn_serve.specs.declared.refusal.Refusal.{Refusal}
 use Rattle.pn_serve.specs.declared.refusal.Refusal.TheVariants.{TooLong, NotJson, BadShape, OutOfRange, Memory}
 use Rattle.pn_serve.specs.Command.Lines.{command_at, is_too_long}
-use Rattle.pn_serve.specs.Command.Meaning.{CommandValue, adopt, copy, deliver, get, lose, marks, read, scan, tablets}
+use Rattle.pn_serve.specs.Command.Meaning.{CommandValue, adopt, copy, deliver, get, lose, marks, notices, read, scan, tablets}
 use Rattle.pn_serve.specs.Machine.Announced.{unless_call, with_line, one_came}
 use Rattle.pn_serve.specs.Machine.Modes.{bytes_of, with_mode, IsBegun}
-use Rattle.pn_serve.specs.Machine.Outcomes.{Outcome, done, line, call, round, announced, Machine, Turn, serving, refusing, silent}
+use Rattle.pn_serve.specs.Machine.Outcomes.{Outcome, done, line, call, round, announced, Machine, Turn, waiting, refusing, silent}
 use Rattle.pn_serve.specs.Machine.Recovering.{adopting_text}
 use Rattle.pn_serve.specs.Machine.Turns.{obeying, obeying_last, turn_of, outcome_at, turn, last_of, end_turn, IsReadUnless, TurnedBy, AnswersBy, ConcludesBy, Obeys}
 use Rattle.pn_serve.specs.Machine.Ways.{ComesTo, IsJoined, IsAlone, BeginsTo, LastsBy}
@@ -48,43 +48,43 @@ twice line next text = refl
 twice (round flags) next text = refl
 
 -- by one outcome a text that may be out of memory is adopted
-adopted_by : (old new : RegionValue) (text : Option (List ℕ)) (reply : Reply) → ComesTo (adopting_text old text) old new reply
-    → TurnedBy ⊥ (λ outcome. adopting_text old (unless_call outcome text)) (serving new) reply
+adopted_by : (old new : LoggedRegion) (text : Option (List ℕ)) (reply : Reply) → ComesTo (adopting_text old text) old new reply
+    → TurnedBy ⊥ (λ outcome. adopting_text old (unless_call outcome text)) (waiting new) reply
 adopted_by old new text reply (inl (machine, replied, refused)) = record { outcome = done; read = tt; machine_is = machine; replied = replied; refused = refused }
 adopted_by old new text reply (inr (same, is)) = record {
   outcome = call;
   read = tt;
-  machine_is = ap serving (sym same);
+  machine_is = ap waiting (sym same);
   replied = ap reply_text (sym is);
   refused = ap is_refusal (sym is);
 }
 
 -- the same behind a line that may have run out of memory
-adopted_behind : (old new : RegionValue) (before text : Option (List ℕ)) (reply : Reply) (joined : (outcome : Outcome) × (text ≡ unless_call outcome before)) → ComesTo (adopting_text old text) old new reply
-    → TurnedBy ⊥ (λ outcome. adopting_text old (unless_call outcome before)) (serving new) reply
+adopted_behind : (old new : LoggedRegion) (before text : Option (List ℕ)) (reply : Reply) (joined : (outcome : Outcome) × (text ≡ unless_call outcome before)) → ComesTo (adopting_text old text) old new reply
+    → TurnedBy ⊥ (λ outcome. adopting_text old (unless_call outcome before)) (waiting new) reply
 adopted_behind old new before text reply (outcome, is) comes =
     let by = adopted_by old new text reply comes in
-    turned_as ⊥ (λ next. adopting_text old (unless_call next text)) (λ next. adopting_text old (unless_call next before)) (serving new) reply by (either_call outcome by.outcome) (either_read outcome by.outcome by.read)
+    turned_as ⊥ (λ next. adopting_text old (unless_call next text)) (λ next. adopting_text old (unless_call next before)) (waiting new) reply by (either_call outcome by.outcome) (either_read outcome by.outcome by.read)
     (ap (adopting_text old) (twice outcome by.outcome before ∙ ap (unless_call by.outcome) (sym is)))
 
 -- an announced line came
-module _ (old : RegionValue) (lines : Announced) (bytes : List ℕ) where
+module _ (old : LoggedRegion) (lines : Announced) (bytes : List ℕ) where
   -- the text that it makes
   abbrev longer : Option (List ℕ)
   longer = with_line (bytes_of lines.text) bytes (10 ∷ [])
 
   tested : (outcome : Outcome) (test : Bool) → nat_le lines.left 1 ≡ test
       → turn (with_mode (Some lines) old) outcome bytes
-      ≡ (if test then adopting_text old (unless_call outcome longer) else silent (record { mode = announced (lines.left - 1) (unless_call outcome longer); region = old }))
+      ≡ (if test then adopting_text old (unless_call outcome longer) else silent (record { mode = announced (lines.left - 1) (unless_call outcome longer); region = old.state; log = old.log }))
   tested outcome test is =
-      ap (λ (b : Bool). if b then adopting_text old (unless_call outcome longer) else silent (record { mode = announced (lines.left - 1) (unless_call outcome longer); region = old })) is
+      ap (λ (b : Bool). if b then adopting_text old (unless_call outcome longer) else silent (record { mode = announced (lines.left - 1) (unless_call outcome longer); region = old.state; log = old.log })) is
 
   -- the last one
-  pub came_last : (new : RegionValue) (text : Option (List ℕ)) (reply : Reply) → lines.left ≤ 1
-      → IsJoined (bytes_of lines.text) bytes (10 ∷ []) text → ComesTo (adopting_text old text) old new reply → AnswersBy ⊥ (with_mode (Some lines) old) bytes (serving new) reply
+  pub came_last : (new : LoggedRegion) (text : Option (List ℕ)) (reply : Reply) → lines.left ≤ 1
+      → IsJoined (bytes_of lines.text) bytes (10 ∷ []) text → ComesTo (adopting_text old text) old new reply → AnswersBy ⊥ (with_mode (Some lines) old) bytes (waiting new) reply
   came_last new text reply last joined comes =
       let by = adopted_behind old new longer text reply joined comes in
-      turned_as ⊥ (λ outcome. adopting_text old (unless_call outcome longer)) (λ outcome. turn (with_mode (Some lines) old) outcome bytes) (serving new) reply by by.outcome by.read
+      turned_as ⊥ (λ outcome. adopting_text old (unless_call outcome longer)) (λ outcome. turn (with_mode (Some lines) old) outcome bytes) (waiting new) reply by by.outcome by.read
       (tested by.outcome true (grind (arith, nat_tests, last)))
 
   -- not the last one
@@ -95,24 +95,24 @@ module _ (old : RegionValue) (lines : Announced) (bytes : List ℕ) where
       let came : bytes_of more.text ≡ unless_call (read_whole outcome) longer = text ∙ sym (whole_text outcome longer) in record {
         outcome = read_whole outcome;
         read = read_always ⊥ outcome;
-        machine_is = ap (λ (t : Turn). t.machine) same ∙ sym (λ i. record { mode = announced (left i) (came i); region = old });
+        machine_is = ap (λ (t : Turn). t.machine) same ∙ sym (λ i. record { mode = announced (left i) (came i); region = old.state; log = old.log });
         replied = ap (λ (t : Turn). t.reply) same;
         refused = ap (λ (t : Turn). t.refused) same;
       }
 
 -- the input ended behind a part of what was announced
-pub came_part : (old new : RegionValue) (lines : Announced) (bytes : List ℕ) (text : Option (List ℕ)) (reply : Reply) → IsJoined (bytes_of lines.text) bytes [] text
-    → ComesTo (adopting_text old text) old new reply → ConcludesBy ⊥ (with_mode (Some lines) old) bytes (serving new) reply
+pub came_part : (old new : LoggedRegion) (lines : Announced) (bytes : List ℕ) (text : Option (List ℕ)) (reply : Reply) → IsJoined (bytes_of lines.text) bytes [] text
+    → ComesTo (adopting_text old text) old new reply → ConcludesBy ⊥ (with_mode (Some lines) old) bytes (waiting new) reply
 came_part old new lines bytes text reply joined comes = adopted_behind old new (with_line (bytes_of lines.text) bytes []) text reply joined comes
 
 -- a line was announced, and so is not read as a command
-pub answered_on : (may : Type 0) (waits : Option Announced) (lines : Announced) (old : RegionValue) (bytes : List ℕ) (new : Machine) (reply : Reply) → waits ≡ Some lines
+pub answered_on : (may : Type 0) (waits : Option Announced) (lines : Announced) (old : LoggedRegion) (bytes : List ℕ) (new : Machine) (reply : Reply) → waits ≡ Some lines
     → AnswersBy ⊥ (with_mode (Some lines) old) bytes new reply → AnswersBy may (with_mode waits old) bytes new reply
 answered_on may waits lines old bytes new reply is answers =
     subst (λ (w : Option Announced). AnswersBy may (with_mode w old) bytes new reply) (sym is)
     (turned_always may (λ outcome. turn (with_mode (Some lines) old) outcome bytes) new reply answers)
 
-pub concluded_on : (may : Type 0) (waits : Option Announced) (lines : Announced) (old : RegionValue) (part : List ℕ) (new : Machine) (reply : Reply) → waits ≡ Some lines
+pub concluded_on : (may : Type 0) (waits : Option Announced) (lines : Announced) (old : LoggedRegion) (part : List ℕ) (new : Machine) (reply : Reply) → waits ≡ Some lines
     → ConcludesBy ⊥ (with_mode (Some lines) old) part new reply → ConcludesBy may (with_mode waits old) part new reply
 concluded_on may waits lines old part new reply is concludes =
     subst (λ (w : Option Announced). ConcludesBy may (with_mode w old) part new reply) (sym is)
@@ -128,6 +128,7 @@ alone machine outcome (deliver deliveries) is = refl
 alone machine outcome (get keys) is = refl
 alone machine outcome (lose tablet) is = refl
 alone machine outcome marks is = refl
+alone machine outcome (notices since) is = refl
 alone machine outcome (read key version) is = refl
 alone machine outcome (scan query) is = refl
 alone machine outcome tablets is = refl
@@ -145,46 +146,46 @@ as_done machine call command = refl
 as_done machine (round flags) command = refl
 
 -- a command that is not too long, as the last one
-last_said : (old : RegionValue) (bytes : List ℕ) (command : CommandValue) (outcome : Outcome) → command_at bytes ≡ Ok command
-    → last_of (serving old) (outcome_at (read_whole outcome) bytes) (command_at bytes) ≡ obeying_last (serving old) (read_whole outcome) command
+last_said : (old : LoggedRegion) (bytes : List ℕ) (command : CommandValue) (outcome : Outcome) → command_at bytes ≡ Ok command
+    → last_of (waiting old) (outcome_at (read_whole outcome) bytes) (command_at bytes) ≡ obeying_last (waiting old) (read_whole outcome) command
 last_said old bytes command outcome said =
-    ap (λ (o : Outcome). last_of (serving old) o (command_at bytes)) (as_it_goes (read_whole outcome) bytes (within bytes command said))
-    ∙ ap (last_of (serving old) (read_whole outcome)) said ∙ as_last (serving old) outcome command
+    ap (λ (o : Outcome). last_of (waiting old) o (command_at bytes)) (as_it_goes (read_whole outcome) bytes (within bytes command said))
+    ∙ ap (last_of (waiting old) (read_whole outcome)) said ∙ as_last (waiting old) outcome command
 
-pub last_obeyed : (may : Type 0) (old new : RegionValue) (bytes : List ℕ) (command : CommandValue) (reply : Reply) → command_at bytes ≡ Ok command → IsAlone command → Obeys (serving old) command (serving new) reply → LastsBy may old bytes new reply
+pub last_obeyed : (may : Type 0) (old new : LoggedRegion) (bytes : List ℕ) (command : CommandValue) (reply : Reply) → command_at bytes ≡ Ok command → IsAlone command → Obeys (waiting old) command (waiting new) reply → LastsBy may old bytes new reply
 last_obeyed may old new bytes command reply said is obeys =
-    turned_read may (λ outcome. obeying (serving old) outcome command) (λ outcome. last_of (serving old) (outcome_at outcome bytes) (command_at bytes)) (serving new) reply obeys (read_whole obeys.outcome) (read_always may obeys.outcome)
-    (last_said old bytes command obeys.outcome said ∙ alone (serving old) (read_whole obeys.outcome) command is ∙ as_done (serving old) obeys.outcome command)
+    turned_read may (λ outcome. obeying (waiting old) outcome command) (λ outcome. last_of (waiting old) (outcome_at outcome bytes) (command_at bytes)) (waiting new) reply obeys (read_whole obeys.outcome) (read_always may obeys.outcome)
+    (last_said old bytes command obeys.outcome said ∙ alone (waiting old) (read_whole obeys.outcome) command is ∙ as_done (waiting old) obeys.outcome command)
 
-pub last_adopted : (may : Type 0) (old new : RegionValue) (bytes : List ℕ) (lines : ℕ) (reply : Reply) → command_at bytes ≡ Ok (adopt lines) → ComesTo (adopting_text old (Some [])) old new reply → LastsBy may old bytes new reply
+pub last_adopted : (may : Type 0) (old new : LoggedRegion) (bytes : List ℕ) (lines : ℕ) (reply : Reply) → command_at bytes ≡ Ok (adopt lines) → ComesTo (adopting_text old (Some [])) old new reply → LastsBy may old bytes new reply
 last_adopted may old new bytes lines reply said comes =
     let by = adopted_by old new (Some []) reply comes in
-    turned_as may (λ outcome. adopting_text old (unless_call outcome (Some []))) (λ outcome. last_of (serving old) (outcome_at outcome bytes) (command_at bytes)) (serving new) reply by (read_whole by.outcome) (read_always may by.outcome)
+    turned_as may (λ outcome. adopting_text old (unless_call outcome (Some []))) (λ outcome. last_of (waiting old) (outcome_at outcome bytes) (command_at bytes)) (waiting new) reply by (read_whole by.outcome) (read_always may by.outcome)
     (last_said old bytes (adopt lines) by.outcome said ∙ ap (adopting_text old) (whole_text by.outcome (Some [])))
 
 -- the last line announces lines, of which none comes
-pub last_announced : (may : Type 0) (old begun new : RegionValue) (bytes : List ℕ) (command : CommandValue) (lines : ℕ) (text : List ℕ) (reply : Reply) → command_at bytes ≡ Ok command
+pub last_announced : (may : Type 0) (old begun new : LoggedRegion) (bytes : List ℕ) (command : CommandValue) (lines : ℕ) (text : List ℕ) (reply : Reply) → command_at bytes ≡ Ok command
     → (command ≡ adopt lines) × (begun ≡ old) → text ≡ [] → ComesTo (adopting_text begun (Some text)) begun new reply → LastsBy may old bytes new reply
 last_announced may old begun new bytes command lines text reply said announces none comes =
     last_adopted may old new bytes lines reply (said ∙ ap Ok announces.0)
     (subst (λ (came : List ℕ). ComesTo (adopting_text old (Some came)) old new reply) none
-    (subst (λ (region : RegionValue). ComesTo (adopting_text region (Some text)) region new reply) announces.1 comes))
+    (subst (λ (region : LoggedRegion). ComesTo (adopting_text region (Some text)) region new reply) announces.1 comes))
 
 -- memory ran out before a command was found
-pub last_unread : (may : Type 0) (old : RegionValue) (bytes : List ℕ) → may → is_too_long bytes ≡ false → LastsBy may old bytes old (Refused Memory)
+pub last_unread : (may : Type 0) (old : LoggedRegion) (bytes : List ℕ) → may → is_too_long bytes ≡ false → LastsBy may old bytes old (Refused Memory)
 last_unread may old bytes out short =
-    let same : last_of (serving old) (outcome_at line bytes) (command_at bytes) ≡ refusing (serving old) Memory = ap (λ (o : Outcome). last_of (serving old) o (command_at bytes)) (as_it_goes line bytes short) in
+    let same : last_of (waiting old) (outcome_at line bytes) (command_at bytes) ≡ refusing (waiting old) Memory = ap (λ (o : Outcome). last_of (waiting old) o (command_at bytes)) (as_it_goes line bytes short) in
     record { outcome = line; read = out; machine_is = ap (λ (t : Turn). t.machine) same; replied = ap (λ (t : Turn). t.reply) same; refused = ap (λ (t : Turn). t.refused) same }
 
 -- the line was refused
-pub last_fault : (may : Type 0) (old : RegionValue) (bytes : List ℕ) (refusal : Refusal) → command_at bytes ≡ Err refusal → LastsBy may old bytes old (Refused refusal)
+pub last_fault : (may : Type 0) (old : LoggedRegion) (bytes : List ℕ) (refusal : Refusal) → command_at bytes ≡ Err refusal → LastsBy may old bytes old (Refused refusal)
 last_fault may old bytes refusal said =
-    let same : last_of (serving old) (outcome_at done bytes) (command_at bytes) ≡ refusing (serving old) refusal =
-    ap (λ (o : Outcome). last_of (serving old) o (command_at bytes)) (as_said (is_too_long bytes)) ∙ ap (last_of (serving old) done) said in
+    let same : last_of (waiting old) (outcome_at done bytes) (command_at bytes) ≡ refusing (waiting old) refusal =
+    ap (λ (o : Outcome). last_of (waiting old) o (command_at bytes)) (as_said (is_too_long bytes)) ∙ ap (last_of (waiting old) done) said in
     record { outcome = done; read = tt; machine_is = ap (λ (t : Turn). t.machine) same; replied = ap (λ (t : Turn). t.reply) same; refused = ap (λ (t : Turn). t.refused) same }
 
 -- it was refused, or memory ran out before a command was found
-pub last_err : (may : Type 0) (old : RegionValue) (bytes : List ℕ) (refusal : Refusal) → (refusal ≢ Memory → command_at bytes ≡ Err refusal) → (refusal ≡ Memory → is_too_long bytes ≡ false) → (refusal ≡ Memory → may)
+pub last_err : (may : Type 0) (old : LoggedRegion) (bytes : List ℕ) (refusal : Refusal) → (refusal ≢ Memory → command_at bytes ≡ Err refusal) → (refusal ≡ Memory → is_too_long bytes ≡ false) → (refusal ≡ Memory → may)
     → LastsBy may old bytes old (Refused refusal)
 last_err may old bytes Memory is short out = last_unread may old bytes (out refl) (short refl)
 last_err may old bytes TooLong is short out = last_fault may old bytes TooLong (is (λ same. cc))
@@ -193,26 +194,26 @@ last_err may old bytes (BadShape part) is short out = last_fault may old bytes (
 last_err may old bytes (OutOfRange part) is short out = last_fault may old bytes (OutOfRange part) (is (λ same. cc))
 
 -- where the input ends behind a newline, nothing is left to do
-pub concluded_nothing : (may : Type 0) (old : RegionValue) → ConcludesBy may (serving old) [] (serving old) Silent
+pub concluded_nothing : (may : Type 0) (old : LoggedRegion) → ConcludesBy may (waiting old) [] (waiting old) Silent
 concluded_nothing may old = record { outcome = done; read = tt; machine_is = refl; replied = refl; refused = refl }
 
 -- what the last line comes to is what the end of the input does
-pub concluded_last : (may : Type 0) (old new : RegionValue) (b : ℕ) (bytes : List ℕ) (reply : Reply) → LastsBy may old (b ∷ bytes) new reply → ConcludesBy may (serving old) (b ∷ bytes) (serving new) reply
+pub concluded_last : (may : Type 0) (old new : LoggedRegion) (b : ℕ) (bytes : List ℕ) (reply : Reply) → LastsBy may old (b ∷ bytes) new reply → ConcludesBy may (waiting old) (b ∷ bytes) (waiting new) reply
 concluded_last may old new b bytes reply lasts = lasts
 
 -- ---- a command and the lines that it announces
 
-pub begun_said : (may : Type 0) (old new : RegionValue) (bytes : List ℕ) (command : CommandValue) (begun : Begun) (reply : Reply) (lines : Option Announced) → command_at bytes ≡ Ok command
-    → BeginsTo old command new begun → IsBegun begun reply lines → AnswersBy may (serving old) bytes (with_mode lines new) reply
+pub begun_said : (may : Type 0) (old new : LoggedRegion) (bytes : List ℕ) (command : CommandValue) (begun : Begun) (reply : Reply) (lines : Option Announced) → command_at bytes ≡ Ok command
+    → BeginsTo old command new begun → IsBegun begun reply lines → AnswersBy may (waiting old) bytes (with_mode lines new) reply
 begun_said may old new bytes command (Obeyed told) reply lines said (alone, obeys) (same, none) =
-    subst (λ (l : Option Announced). AnswersBy may (serving old) bytes (with_mode l new) reply) (sym none)
-    (subst (λ (r : Reply). AnswersBy may (serving old) bytes (serving new) r) (sym same) (turned_said may bytes command old (serving new) told said obeys))
+    subst (λ (l : Option Announced). AnswersBy may (waiting old) bytes (with_mode l new) reply) (sym none)
+    (subst (λ (r : Reply). AnswersBy may (waiting old) bytes (waiting new) r) (sym same) (turned_said may bytes command old (waiting new) told said obeys))
 begun_said may old new bytes command (Announces count) reply lines said (adopts, stays) (none, mode) =
-    let goes : turn (serving old) done bytes ≡ silent (record { mode = announced count (Some []); region = old }) =
-    ap (λ (o : Outcome). turn_of (serving old) o (command_at bytes)) (as_said (is_too_long bytes)) ∙ ap (turn_of (serving old) done) (said ∙ ap Ok adopts) in record {
+    let goes : turn (waiting old) done bytes ≡ silent (record { mode = announced count (Some []); region = old.state; log = old.log }) =
+    ap (λ (o : Outcome). turn_of (waiting old) o (command_at bytes)) (as_said (is_too_long bytes)) ∙ ap (turn_of (waiting old) done) (said ∙ ap Ok adopts) in record {
       outcome = done;
       read = tt;
-      machine_is = ap (λ (t : Turn). t.machine) goes ∙ sym (λ i. record { mode = mode i; region = stays i });
+      machine_is = ap (λ (t : Turn). t.machine) goes ∙ sym (λ i. record { mode = mode i; region = (stays i).state; log = (stays i).log });
       replied = ap (λ (t : Turn). t.reply) goes ∙ ap reply_text (sym none);
       refused = ap (λ (t : Turn). t.refused) goes ∙ ap is_refusal (sym none);
     }

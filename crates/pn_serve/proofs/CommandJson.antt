@@ -15,20 +15,21 @@ use Rattle.pn_record.specs.Sets.{Stamp}
 use Rattle.pn_json.proofs.LookUps.{Rise}
 use Rattle.pn_join.specs.Marks.{Positions}
 use Rattle.pn_record.specs.Marks.{is_mark}
-use Rattle.pn_serve.specs.Command.Json.{delivery_data, tablet_member, adopt_command, copy_command, deliver_command, get_command, read_command, scan_command, IsNeed, IsRequired, Says, IsCommand}
+use Rattle.pn_serve.specs.Command.Json.{delivery_data, tablet_member, adopt_command, copy_command, deliver_command, get_command, notices_command, read_command, scan_command, IsNeed, IsRequired, Says, IsCommand}
 use Rattle.pn_serve.specs.Command.Lines.{deliver_in, get_in, marks_in, read_in, scan_in, tablets_in, command_as, command_in}
-use Rattle.pn_serve.specs.Command.Limits.{may_announce, may_be_required, is_command}
-use Rattle.pn_serve.specs.Command.Meaning.{CommandValue, adopt, copy, deliver, lose, marks, read, scan, tablets}
+use Rattle.pn_serve.specs.Command.Limits.{may_announce, may_be_asked, may_be_required, is_command}
+use Rattle.pn_serve.specs.Command.Meaning.{CommandValue, adopt, copy, deliver, lose, marks, notices, read, scan, tablets}
 use Rattle.pn_serve.specs.Command.Meaning as meaning
 use Rattle.pn_serve.specs.Command.Needs.{need_at, need_shape}
+use Rattle.pn_serve.specs.Command.Notices.{notices_in}
 use Rattle.pn_serve.specs.Command.Recovery.{adopt_in, copy_in, lose_in}
 use Rattle.pn_serve.specs.Command.Queries.{query_at, query_shape, fitting_query}
 use Rattle.pn_serve.specs.Command.RangeChecks.{fits, batches_fit, keys_fit, fitting_version}
 use Rattle.pn_serve.specs.Command.ShapeChecks.{named_alone, batch_shape, key_shape, version_shape}
 use Rattle.pn_serve.specs.Command.Words.{word_in}
 use Rattle.pn_serve.specs.declared.command.word.Word.{Word}
-use Rattle.pn_serve.specs.declared.command.word.Word.TheVariants.{Adopt, Copy, Deliver, Get, Lose, Marks, Read, Scan, Tablets}
-use Rattle.pn_serve.specs.declared.refusal.Part.TheVariants.{Whole, Do, Batches, Key, Keys, Lines, Tablet}
+use Rattle.pn_serve.specs.declared.command.word.Word.TheVariants.{Adopt, Copy, Deliver, Get, Lose, Marks, Notices, Read, Scan, Tablets}
+use Rattle.pn_serve.specs.declared.refusal.Part.TheVariants.{Whole, Do, Batches, Key, Keys, Lines, Since, Tablet}
 use Rattle.pn_serve.specs.declared.refusal.Refusal.TheVariants.{BadShape}
 use Rattle.pn_serve.proofs.CommandNeeds.{need_found, need_again}
 use Rattle.pn_serve.proofs.CommandLimits.{fits_true, deliver_members, deliveries_kept, deliveries_again, keys_kept, keys_again, read_kept, version_again}
@@ -129,6 +130,17 @@ module _ (ms : Members) (order : InOrder (object ms)) where
       let same : marks ≡ command = cc in
       subst (λ c. IsCommand (object ms) c) same (alone_found Marks marks refl refl refl says named.1)
 
+  notices_found : Found Notices
+  unfolding notices_in
+  notices_found command says is =
+      let since = bind_ok (member_as whole_number (BadShape Since) (get_member (codes "since") ms)) _ command is in
+      let named = bind_ok (named_alone (names_of Notices) ms) _ command since.2 in
+      let fit = bind_ok (fits Since (may_be_asked since.0)) _ command named.2 in
+      let same : notices since.0 ≡ command = cc in
+      let whole = named_object (names_of Notices) (member (codes "do") (string (codes "notices")) (member (codes "since") (number (unsigned since.0)) no_members)) named.1 tt refl
+      (says, (number_at Since _ since.0 since.1, tt)) in
+      subst (λ c. IsCommand (object ms) c) same (record { value = whole; limits = fits_true Since (may_be_asked since.0) fit.1 })
+
   read_members : (key : List ℕ) (o : Option Data) → get_member (codes "version") ms ≡ o → get_member (codes "do") ms ≡ Some (string (codes "read")) → get_member (codes "key") ms ≡ Some (string key)
       → named_alone (names_of Read) ms ≡ Ok tt → object ms ≡ read_command key (behind_key o)
   read_members key None at says there named =
@@ -175,6 +187,7 @@ module _ (ms : Members) (order : InOrder (object ms)) where
   word_found Get = get_found
   word_found Lose = lose_found
   word_found Marks = marks_found
+  word_found Notices = notices_found
   word_found Read = read_found
   word_found Scan = scan_found
   word_found Tablets = tablets_found
@@ -204,6 +217,10 @@ adopt_again : (lines : ℕ) → may_announce lines ≡ true → command_in (adop
 unfolding command_in adopt_in
 adopt_again lines keeps = rw keeps refl
 
+notices_again : (since : ℕ) → may_be_asked since ≡ true → command_in (notices_command since) ≡ Ok (notices since)
+unfolding command_in notices_in
+notices_again since keeps = rw keeps refl
+
 copy_again : (said : Option Data) (need : Positions) (tablet : ℕ) → need_at said ≡ Ok need → command_in (copy_command said tablet) ≡ Ok (copy need tablet)
 unfolding command_in copy_in
 copy_again None need tablet is = let none : [] ≡ need = cc in ap (λ (marks : Positions). Ok (copy marks tablet)) none
@@ -218,6 +235,7 @@ says_again d (deliver deliveries) says keeps = ap command_in says ∙ rw (each_a
 says_again d (meaning.get keys) says keeps = ap command_in says ∙ rw (each_again key_shape string key_again keys, keys_again keys keeps) refl
 says_again d (lose tablet) says keeps = ap command_in says
 says_again d marks says keeps = ap command_in says
+says_again d (notices since) says keeps = ap command_in says ∙ notices_again since keeps
 says_again d (read key required) (others, about, says) keeps =
     let parts = and_parts (is_key key) (may_be_required required) keeps in
     ap command_in says ∙ read_again key required others about parts.0 (version_again required parts.1)

@@ -25,7 +25,7 @@ use Rattle.pn_serve.specs.Command.Queries.{query_at}
 use Rattle.pn_serve.specs.Command.ShapeChecks.{named_alone, image_shape, batch_shape, key_shape, required_in, version_shape}
 use Rattle.pn_serve.specs.Command.Words.{word_of, word_in}
 use Rattle.pn_serve.specs.declared.command.word.Word.{Word}
-use Rattle.pn_serve.specs.declared.command.word.Word.TheVariants.{Adopt, Copy, Deliver, Get, Lose, Marks, Read, Scan, Tablets}
+use Rattle.pn_serve.specs.declared.command.word.Word.TheVariants.{Adopt, Copy, Deliver, Get, Lose, Marks, Notices, Read, Scan, Tablets}
 use Rattle.pn_serve.specs.declared.refusal.Part.{Part}
 use Rattle.pn_serve.specs.declared.refusal.Part.TheVariants.{Do, Batches, First, Images, Keys, Stream, Version, Other}
 use Rattle.pn_serve.specs.declared.refusal.Refusal.{Refusal}
@@ -65,6 +65,7 @@ names_of Deliver = codes "batches" ∷ codes "do" ∷ []
 names_of Get = codes "do" ∷ codes "keys" ∷ []
 names_of Lose = codes "do" ∷ codes "tablet" ∷ []
 names_of Marks = codes "do" ∷ []
+names_of Notices = codes "do" ∷ codes "since" ∷ []
 names_of Read = codes "do" ∷ codes "key" ∷ codes "version" ∷ []
 names_of Scan = codes "do" ∷ codes "query" ∷ []
 names_of Tablets = codes "do" ∷ []
@@ -138,6 +139,7 @@ text_of Deliver = codes "deliver"
 text_of Get = codes "get"
 text_of Lose = codes "lose"
 text_of Marks = codes "marks"
+text_of Notices = codes "notices"
 text_of Read = codes "read"
 text_of Scan = codes "scan"
 text_of Tablets = codes "tablets"
@@ -150,8 +152,8 @@ text_from_word : (text : List ℕ) (word : Word) → word_of text ≡ Some word 
 text_from_word text word found =
     this_or_next _ text Adopt word _ refl found (λ found. this_or_next _ text Copy word _ refl found (λ found. this_or_next _ text Deliver word _ refl found (λ found.
     this_or_next _ text Get word _ refl found (λ found. this_or_next _ text Lose word _ refl found (λ found. this_or_next _ text Marks word _ refl found (λ found.
-    this_or_next _ text Read word _ refl found (λ found. this_or_next _ text Scan word _ refl found (λ found.
-    this_or_next _ text Tablets word _ refl found (λ none. absurd (cc))))))))))
+    this_or_next _ text Notices word _ refl found (λ found. this_or_next _ text Read word _ refl found (λ found. this_or_next _ text Scan word _ refl found (λ found.
+    this_or_next _ text Tablets word _ refl found (λ none. absurd (cc)))))))))))
 
 pub word_at : (o : Option Data) (word : Word) → member_as word_in (BadShape Do) o ≡ Ok word → o ≡ Some (string (text_of word))
 word_at o word is =

@@ -11,6 +11,7 @@ use Rattle.pn_tablet.specs.declared.copy_fault.CopyTextFault.{CopyTextFault}
 use Rattle.pn_tablet.specs.declared.fault.CopyFault.{CopyFault}
 use Rattle.pn_region.specs.Events as events
 use Rattle.pn_region.specs.Events.{RegionEvent, LeadsTo, AllLeadTo}
+use Rattle.pn_region.specs.Logged.{LoggedRegion, breaking}
 use Rattle.pn_region.specs.Marking.{new_marks}
 use Rattle.pn_region.specs.Recovery.{losing, adopting}
 use Rattle.pn_region.specs.Regions.{RegionValue, IsRegion}
@@ -21,11 +22,11 @@ use Rattle.pn_region.specs.declared.fault.RoundFault.{RoundFault}
 use Rattle.pn_region.proofs.EventSteps.{events_are}
 use Rattle.pn_json.specs.Lines.{line_of}
 use Rattle.pn_serve.specs.declared.refusal.Refusal.{Refusal}
-use Rattle.pn_serve.specs.Command.Meaning.{CommandValue, adopt, copy, deliver, get, lose, marks, read, scan, tablets}
+use Rattle.pn_serve.specs.Command.Meaning.{CommandValue, adopt, copy, deliver, get, lose, marks, notices, read, scan, tablets}
 use Rattle.pn_serve.specs.Command.Lines.{command_at}
 use Rattle.pn_serve.specs.Machine.Announced.{unless_call, with_line}
 use Rattle.pn_serve.specs.Machine.Doing.{delivering}
-use Rattle.pn_serve.specs.Machine.Outcomes.{Outcome, done, line, call, round, Mode, idle, announced, Machine, Turn, silent}
+use Rattle.pn_serve.specs.Machine.Outcomes.{Outcome, done, line, call, round, Mode, idle, announced, Machine, Turn, logged, silent}
 use Rattle.pn_serve.specs.Machine.PartRounds.{partly_marked}
 use Rattle.pn_serve.specs.Machine.Recovering.{at_tablet, showing_copy, copying, losing_it, adopted, adopting_read, adopting_text}
 use Rattle.pn_serve.specs.Machine.Turns.{turn_of, outcome_at, turn_in, turn}
@@ -72,7 +73,7 @@ half_leads region deliveries flags true (Ok next) some found is =
     subst (λ (right : Result Positions RoundFault). IsHalfTaken region deliveries (partly_marked region deliveries flags right)) found (partly_is region deliveries flags is)
 
 abbrev losing_found : Machine → ℕ → Option TabletStateValue → Turn
-losing_found m tablet found = at_tablet m found (λ state. record { machine = record m { region = losing m.region tablet }; reply = line_of (lost_data tablet); refused = false })
+losing_found m tablet found = at_tablet m found (λ state. record { machine = record m { region = losing m.region tablet; log = breaking m.log }; reply = line_of (lost_data tablet); refused = false })
 
 found_leads : (m : Machine) (tablet : ℕ) (found : Option TabletStateValue) → OneLeads (unless_refused (losing_found m tablet found) (events.loss tablet)) m.region (losing_found m tablet found).machine.region
 found_leads m tablet None = refl
@@ -88,6 +89,7 @@ done_leads m (Ok (deliver deliveries)) = round_leads m deliveries (taken_round m
 done_leads m (Ok (get keys)) = refl
 done_leads m (Ok (lose tablet)) = loss_leads m tablet
 done_leads m (Ok marks) = refl
+done_leads m (Ok (notices since)) = refl
 done_leads m (Ok (read key version)) = refl
 done_leads m (Ok (scan query)) = refl
 done_leads m (Ok tablets) = refl
@@ -100,6 +102,7 @@ call_leads m (Ok (deliver deliveries)) = refl
 call_leads m (Ok (get keys)) = refl
 call_leads m (Ok (lose tablet)) = loss_leads m tablet
 call_leads m (Ok marks) = refl
+call_leads m (Ok (notices since)) = refl
 call_leads m (Ok (read key version)) = refl
 call_leads m (Ok (scan query)) = refl
 call_leads m (Ok tablets) = refl
@@ -112,6 +115,7 @@ partly_leads m flags (Ok (deliver deliveries)) is = half_leads m.region deliveri
 partly_leads m flags (Ok (get keys)) is = refl
 partly_leads m flags (Ok (lose tablet)) is = loss_leads m tablet
 partly_leads m flags (Ok marks) is = refl
+partly_leads m flags (Ok (notices since)) is = refl
 partly_leads m flags (Ok (read key version)) is = refl
 partly_leads m flags (Ok (scan query)) is = refl
 partly_leads m flags (Ok tablets) is = refl
@@ -123,23 +127,23 @@ said_leads m line said is = refl
 said_leads m call said is = call_leads m said
 said_leads m (round flags) said is = partly_leads m flags said is
 
-adoption_leads : (region : RegionValue) (given : TabletCopyValue) (right : Result (ℕ × RegionValue) AdoptFault) → IsCopy given.range given.marks given.cells → adopting region given ≡ right
-    → OneLeads (unless_refused (adopted region right) (events.adoption given)) region (adopted region right).machine.region
-adoption_leads region given (Ok (tablet, after)) lawful is = record { tablet = tablet; lawful = lawful; adopted = is }
-adoption_leads region given (Err fault) lawful is = refl
+adoption_leads : (old : LoggedRegion) (given : TabletCopyValue) (right : Result (ℕ × RegionValue) AdoptFault) → IsCopy given.range given.marks given.cells → adopting old.state given ≡ right
+    → OneLeads (unless_refused (adopted old right) (events.adoption given)) old.state (adopted old right).machine.region
+adoption_leads old given (Ok (tablet, after)) lawful is = record { tablet = tablet; lawful = lawful; adopted = is }
+adoption_leads old given (Err fault) lawful is = refl
 
-copy_leads : (region : RegionValue) (right : Result TabletCopyValue CopyTextFault) → ((given : TabletCopyValue) → right ≡ Ok given → IsCopy given.range given.marks given.cells)
-    → OneLeads (happened_by_copy region right) region (adopting_read region right).machine.region
-copy_leads region (Ok given) lawful = adoption_leads region given (adopting region given) (lawful given refl) refl
-copy_leads region (Err fault) lawful = refl
+copy_leads : (old : LoggedRegion) (right : Result TabletCopyValue CopyTextFault) → ((given : TabletCopyValue) → right ≡ Ok given → IsCopy given.range given.marks given.cells)
+    → OneLeads (happened_by_copy old right) old.state (adopting_read old right).machine.region
+copy_leads old (Ok given) lawful = adoption_leads old given (adopting old.state given) (lawful given refl) refl
+copy_leads old (Err fault) lawful = refl
 
-text_leads : (region : RegionValue) (text : Option (List ℕ)) → OneLeads (happened_by_text region text) region (adopting_text region text).machine.region
-text_leads region None = refl
-text_leads region (Some text) = copy_leads region (copy_at text) (read_is text)
+text_leads : (old : LoggedRegion) (text : Option (List ℕ)) → OneLeads (happened_by_text old text) old.state (adopting_text old text).machine.region
+text_leads old None = refl
+text_leads old (Some text) = copy_leads old (copy_at text) (read_is text)
 
 came_leads : (m : Machine) (left : ℕ) (text : Option (List ℕ)) (last : Bool)
-    → OneLeads (if last then happened_by_text m.region text else []) m.region (if last then adopting_text m.region text else silent (record m { mode = announced (left - 1) text })).machine.region
-came_leads m left text true = text_leads m.region text
+    → OneLeads (if last then happened_by_text (logged m) text else []) m.region (if last then adopting_text (logged m) text else silent (record m { mode = announced (left - 1) text })).machine.region
+came_leads m left text true = text_leads (logged m) text
 came_leads m left text false = refl
 
 -- what happens by a line leads to the region after it

@@ -14,7 +14,7 @@ use Rattle.pn_serve.specs.declared.refusal.Refusal.TheVariants.{TooLong}
 use Rattle.pn_serve.specs.declared.reply.Reply.{Reply}
 use Rattle.pn_serve.specs.Command.Lines.{is_too_long, command_at, command_in, refusal_of}
 use Rattle.pn_serve.specs.Machine.Announced.{unless_call, one_came}
-use Rattle.pn_serve.specs.Machine.Outcomes.{Outcome, done, Mode, idle, announced, Machine, Turn, refusing}
+use Rattle.pn_serve.specs.Machine.Outcomes.{Outcome, done, Mode, idle, announced, Machine, logged, Turn, refusing}
 use Rattle.pn_serve.specs.Machine.Recovering.{adopting_text}
 use Rattle.pn_serve.specs.Machine.Turns.{turn_of, outcome_at, turn_in, turn, last_of, end_in, end_turn, TurnedBy, Answers, Concludes}
 
@@ -57,7 +57,7 @@ end-kept idle machine outcome part = elim (cases_lt 65536 (length part)) [
   | inr short ↦ ap (end_in idle machine outcome) (kept-short part short)
 ]
 end-kept (announced left came) machine outcome part =
-    ap (λ (bytes : List ℕ). adopting_text machine.region (unless_call outcome (option_map (λ text. text ++ (bytes ++ [])) came))) (kept-kept part)
+    ap (λ (bytes : List ℕ). adopting_text (logged machine) (unless_call outcome (option_map (λ text. text ++ (bytes ++ [])) came))) (kept-kept part)
 
 pub answers_kept : (old new : Machine) (line : LineBufferValue) (taken : List ℕ) (reply : Reply) → line ≡ so_far taken → Answers old line.bytes new reply → Answers old taken new reply
 answers_kept old new line taken reply is answers =

@@ -18,7 +18,7 @@ use Rattle.pn_region.specs.Rounds.{round as taken_round}
 use Rattle.pn_region.specs.Taken.{taken_by, all_taken, IsRound, AreRounds}
 use Rattle.pn_region.specs.declared.fault.RoundFault.{RoundFault}
 use Rattle.pn_serve.specs.declared.refusal.Refusal.{Refusal}
-use Rattle.pn_serve.specs.Command.Meaning.{CommandValue, adopt, copy, deliver, get, lose, marks, read, scan, tablets}
+use Rattle.pn_serve.specs.Command.Meaning.{CommandValue, adopt, copy, deliver, get, lose, marks, notices, read, scan, tablets}
 use Rattle.pn_serve.specs.Command.Lines.{command_at}
 use Rattle.pn_serve.specs.Machine.Doing.{delivering}
 use Rattle.pn_serve.specs.Machine.Outcomes.{Outcome, done, line, call, round, Mode, idle, Machine, Turn, serving}
@@ -84,6 +84,7 @@ module _ (m : Machine) (waits : m.mode ≡ idle) where
   done_plain (Ok (get keys)) stay = quiet _ waits
   done_plain (Ok (lose tablet)) stay = absurd stay
   done_plain (Ok marks) stay = quiet _ waits
+  done_plain (Ok (notices since)) stay = quiet _ waits
   done_plain (Ok (read key version)) stay = quiet _ waits
   done_plain (Ok (scan query)) stay = quiet _ waits
   done_plain (Ok tablets) stay = quiet _ waits
@@ -96,6 +97,7 @@ module _ (m : Machine) (waits : m.mode ≡ idle) where
   call_plain (Ok (get keys)) stay = quiet _ waits
   call_plain (Ok (lose tablet)) stay = absurd stay
   call_plain (Ok marks) stay = quiet _ waits
+  call_plain (Ok (notices since)) stay = quiet _ waits
   call_plain (Ok (read key version)) stay = quiet _ waits
   call_plain (Ok (scan query)) stay = quiet _ waits
   call_plain (Ok tablets) stay = quiet _ waits
@@ -108,6 +110,7 @@ module _ (m : Machine) (waits : m.mode ≡ idle) where
   partly_plain flags (Ok (get keys)) stay = quiet _ waits
   partly_plain flags (Ok (lose tablet)) stay = absurd stay
   partly_plain flags (Ok marks) stay = quiet _ waits
+  partly_plain flags (Ok (notices since)) stay = quiet _ waits
   partly_plain flags (Ok (read key version)) stay = quiet _ waits
   partly_plain flags (Ok (scan query)) stay = quiet _ waits
   partly_plain flags (Ok tablets) stay = quiet _ waits

@@ -16,6 +16,7 @@ use Rattle.pn_tablet.specs.declared.copy_fault.CopyTextFault.{CopyTextFault}
 use Rattle.pn_tablet.specs.declared.copy_fault.CopyTextFault.TheVariants as text
 use Rattle.pn_tablet.specs.declared.fault.CopyFault.{CopyFault}
 use Rattle.pn_tablet.specs.declared.fault.CopyFault.TheVariants as copying
+use Rattle.pn_region.specs.Logged.{LoggedRegion, breaking}
 use Rattle.pn_region.specs.Recovery.{adopting}
 use Rattle.pn_region.specs.Recovery as recovery
 use Rattle.pn_region.specs.Regions.{RegionValue, IsRegion}
@@ -28,7 +29,7 @@ use Rattle.pn_serve.specs.declared.refusal.Part.TheVariants.{Tablet}
 use Rattle.pn_serve.specs.declared.refusal.Refusal.TheVariants.{OutOfRange, Memory}
 use Rattle.pn_serve.specs.Command.Meaning.{CommandValue, copy, lose}
 use Rattle.pn_serve.specs.Machine.Doing.{doing}
-use Rattle.pn_serve.specs.Machine.Outcomes.{Outcome, done, call, Machine, Turn, serving, refusing}
+use Rattle.pn_serve.specs.Machine.Outcomes.{Outcome, done, call, idle, Machine, Turn, waiting, refusing}
 use Rattle.pn_serve.specs.Machine.Recovering.{at_tablet, showing_copy, adopted, adopting_read, adopting_text}
 use Rattle.pn_serve.specs.Machine.Turns.{obeying, Obeys}
 use Rattle.pn_serve.specs.Machine.Ways.{Tells, TellsNoCopy, TellsBadText, TellsNotAdopted, ShowsCopy, ComesTo}
@@ -38,13 +39,13 @@ use Rattle.pn_serve.specs.Reply.Texts.{reply_text, is_refusal}
 use Rattle.pn_serve.proofs.Turns.{turned_call}
 
 -- a refusal that changes nothing
-abbrev telling : RegionValue → Data → Turn
-telling region said = record { machine = serving region; reply = line_of said; refused = true }
+abbrev telling : LoggedRegion → Data → Turn
+telling region said = record { machine = waiting region; reply = line_of said; refused = true }
 
 -- a refusal was told, or there was no memory for it
-told : (turn : Turn) (old new : RegionValue) (right : Type 0) (said : Data) (reply : Reply) → new ≡ old → (right → turn ≡ telling old said) → Tells right said reply → ComesTo turn old new reply
+told : (turn : Turn) (old new : LoggedRegion) (right : Type 0) (said : Data) (reply : Reply) → new ≡ old → (right → turn ≡ telling old said) → Tells right said reply → ComesTo turn old new reply
 told turn old new right said (NotTaken text) same is (knows, says) =
-    inl (ap (λ (t : Turn). t.machine) (is knows) ∙ ap serving (sym same), ap (λ (t : Turn). t.reply) (is knows) ∙ sym says, ap (λ (t : Turn). t.refused) (is knows))
+    inl (ap (λ (t : Turn). t.machine) (is knows) ∙ ap waiting (sym same), ap (λ (t : Turn). t.reply) (is knows) ∙ sym says, ap (λ (t : Turn). t.refused) (is knows))
 told turn old new right said (Adopted tablet) same is tells = inr (same, tells)
 told turn old new right said (Changed count) same is tells = inr (same, tells)
 told turn old new right said (Copied lines text) same is tells = inr (same, tells)
@@ -54,32 +55,32 @@ told turn old new right said (Text text) same is tells = inr (same, tells)
 told turn old new right said (Refused refusal) same is tells = inr (same, tells)
 
 -- a turn that other turns come to
-came_as : (one other : Turn) (old new : RegionValue) (reply : Reply) → one ≡ other → ComesTo other old new reply → ComesTo one old new reply
+came_as : (one other : Turn) (old new : LoggedRegion) (reply : Reply) → one ≡ other → ComesTo other old new reply → ComesTo one old new reply
 came_as one other old new reply same comes = subst (λ (t : Turn). ComesTo t old new reply) (sym same) comes
 
 -- ---- adoptions
 
-pub adopts : (old new : RegionValue) (given : TabletCopyValue) (tablet : ℕ) → adopting old given ≡ Ok (tablet, new) → ComesTo (adopted old (adopting old given)) old new (Adopted tablet)
-adopts old new given tablet is = came_as _ _ old new (Adopted tablet) (ap (adopted old) is) (inl (refl, refl, refl))
+pub adopts : (old new : LoggedRegion) (given : TabletCopyValue) (tablet : ℕ) → adopting old.state given ≡ Ok (tablet, new.state) → new.log ≡ breaking old.log → ComesTo (adopted old (adopting old.state given)) old new (Adopted tablet)
+adopts old new given tablet is noted = came_as _ _ old new (Adopted tablet) (ap (adopted old) is) (inl (λ i. record { mode = idle; region = new.state; log = sym noted i }, refl, refl))
 
 not_memory : (fault : AdoptFault) (right : Result (ℕ × RegionValue) AdoptFault) → Refuses recovery.is_memory fault right → fault ≢ adoption.Memory → right ≡ Err fault
 not_memory adoption.WrongRange right is other = is
 not_memory (adoption.TooOld stream has needs) right is other = is
 not_memory adoption.Memory right is other = absurd (other refl)
 
-pub adopts_not : (old new : RegionValue) (given : TabletCopyValue) (fault : AdoptFault) (reply : Reply) → new ≡ old → Refuses recovery.is_memory fault (adopting old given) → TellsNotAdopted fault reply
-    → ComesTo (adopted old (adopting old given)) old new reply
+pub adopts_not : (old new : LoggedRegion) (given : TabletCopyValue) (fault : AdoptFault) (reply : Reply) → new ≡ old → Refuses recovery.is_memory fault (adopting old.state given) → TellsNotAdopted fault reply
+    → ComesTo (adopted old (adopting old.state given)) old new reply
 adopts_not old new given fault reply same right tells =
-    told (adopted old (adopting old given)) old new (fault ≢ adoption.Memory) (not_adopted_data fault) reply same (λ other. ap (adopted old) (not_memory fault (adopting old given) right other)) tells
+    told (adopted old (adopting old.state given)) old new (fault ≢ adoption.Memory) (not_adopted_data fault) reply same (λ other. ap (adopted old) (not_memory fault (adopting old.state given) right other)) tells
 
-pub adopts_text : (old new : RegionValue) (bytes : List ℕ) (given : TabletCopyValue) (reply : Reply) → copy_at bytes ≡ Ok given → ComesTo (adopted old (adopting old given)) old new reply
+pub adopts_text : (old new : LoggedRegion) (bytes : List ℕ) (given : TabletCopyValue) (reply : Reply) → copy_at bytes ≡ Ok given → ComesTo (adopted old (adopting old.state given)) old new reply
     → ComesTo (adopting_text old (Some bytes)) old new reply
 adopts_text old new bytes given reply is comes = came_as _ _ old new reply (ap (adopting_read old) is) comes
 
 no_text : (fault : CopyTextFault) (right : Result TabletCopyValue CopyTextFault) → IsUnless text.Memory (Err fault) right → fault ≢ text.Memory → right ≡ Err fault
 no_text fault right is other = is other
 
-pub adopts_no_text : (old : RegionValue) (bytes : List ℕ) (fault : CopyTextFault) (reply : Reply) → IsUnless {A = TabletCopyValue} text.Memory (Err fault) (copy_at bytes) → TellsBadText fault reply
+pub adopts_no_text : (old : LoggedRegion) (bytes : List ℕ) (fault : CopyTextFault) (reply : Reply) → IsUnless {A = TabletCopyValue} text.Memory (Err fault) (copy_at bytes) → TellsBadText fault reply
     → ComesTo (adopting_text old (Some bytes)) old old reply
 adopts_no_text old bytes fault reply right tells =
     told (adopting_text old (Some bytes)) old old (fault ≢ text.Memory) (bad_text_data fault) reply refl (λ other. ap (adopting_read old) (no_text fault (copy_at bytes) right other)) tells
@@ -90,17 +91,17 @@ pub no_tablet : (region : RegionValue) (tablet : ℕ) → IsRegion region → le
 no_tablet region tablet is past = slice_get_past region.tablets tablet (omega (arith, past, tablet_count region.marks region.layout region.tablets is.tablets))
 
 -- there is no such tablet
-refused_there : (region : RegionValue) (tablet : ℕ) (command : CommandValue) (does : TabletStateValue → Turn) → slice_get region.tablets tablet ≡ None
-    → doing (serving region) command ≡ at_tablet (serving region) (slice_get region.tablets tablet) does → obeying (serving region) done command ≡ doing (serving region) command
-    → Obeys (serving region) command (serving region) (Refused (OutOfRange Tablet))
+refused_there : (region : LoggedRegion) (tablet : ℕ) (command : CommandValue) (does : TabletStateValue → Turn) → slice_get region.state.tablets tablet ≡ None
+    → doing (waiting region) command ≡ at_tablet (waiting region) (slice_get region.state.tablets tablet) does → obeying (waiting region) done command ≡ doing (waiting region) command
+    → Obeys (waiting region) command (waiting region) (Refused (OutOfRange Tablet))
 refused_there region tablet command does none is obeys =
-    let all = obeys ∙ is ∙ ap (λ (found : Option TabletStateValue). at_tablet (serving region) found does) none in
+    let all = obeys ∙ is ∙ ap (λ (found : Option TabletStateValue). at_tablet (waiting region) found does) none in
     record { outcome = done; machine_is = ap (λ (t : Turn). t.machine) all; replied = ap (λ (t : Turn). t.reply) all; refused = ap (λ (t : Turn). t.refused) all }
 
-pub lost_nothing : (region : RegionValue) (tablet : ℕ) → slice_get region.tablets tablet ≡ None → Obeys (serving region) (lose tablet) (serving region) (Refused (OutOfRange Tablet))
+pub lost_nothing : (region : LoggedRegion) (tablet : ℕ) → slice_get region.state.tablets tablet ≡ None → Obeys (waiting region) (lose tablet) (waiting region) (Refused (OutOfRange Tablet))
 lost_nothing region tablet none = refused_there region tablet (lose tablet) _ none refl refl
 
-pub copied_nothing : (region : RegionValue) (need : Positions) (tablet : ℕ) → slice_get region.tablets tablet ≡ None → Obeys (serving region) (copy need tablet) (serving region) (Refused (OutOfRange Tablet))
+pub copied_nothing : (region : LoggedRegion) (need : Positions) (tablet : ℕ) → slice_get region.state.tablets tablet ≡ None → Obeys (waiting region) (copy need tablet) (waiting region) (Refused (OutOfRange Tablet))
 copied_nothing region need tablet none = refused_there region tablet (copy need tablet) _ none refl refl
 
 -- there is a tablet of each number below the layout's count
@@ -110,23 +111,23 @@ tablet_there region tablet is within = elim (slice_get_cases region.tablets tabl
   | inr (past, none) ↦ absurd (omega (arith, past, within, tablet_count region.marks region.layout region.tablets is.tablets))
 ]
 
-pub lost_there : (old new : RegionValue) (tablet : ℕ) (state : TabletStateValue) → slice_get old.tablets tablet ≡ Some state → new ≡ recovery.losing old tablet → Obeys (serving old) (lose tablet) (serving new) (Lost tablet)
-lost_there old new tablet state there is =
-    let does : TabletStateValue → Turn = λ state. record { machine = serving (recovery.losing old tablet); reply = line_of (lost_data tablet); refused = false } in
-    let all = ap (λ (found : Option TabletStateValue). at_tablet (serving old) found does) there in
-    record { outcome = done; machine_is = ap (λ (t : Turn). t.machine) all ∙ ap serving (sym is); replied = ap (λ (t : Turn). t.reply) all; refused = ap (λ (t : Turn). t.refused) all }
+pub lost_there : (old new : LoggedRegion) (tablet : ℕ) (state : TabletStateValue) → slice_get old.state.tablets tablet ≡ Some state → new.state ≡ recovery.losing old.state tablet → new.log ≡ breaking old.log → Obeys (waiting old) (lose tablet) (waiting new) (Lost tablet)
+lost_there old new tablet state there is noted =
+    let does : TabletStateValue → Turn = λ state. record { machine = record { mode = idle; region = recovery.losing old.state tablet; log = breaking old.log }; reply = line_of (lost_data tablet); refused = false } in
+    let all = ap (λ (found : Option TabletStateValue). at_tablet (waiting old) found does) there in
+    record { outcome = done; machine_is = ap (λ (t : Turn). t.machine) all ∙ (λ i. record { mode = idle; region = sym is i; log = sym noted i }); replied = ap (λ (t : Turn). t.reply) all; refused = ap (λ (t : Turn). t.refused) all }
 
 -- a copy was looked for in a tablet
-module _ (region : RegionValue) (need : Positions) (tablet : ℕ) (state : TabletStateValue) (there : slice_get region.tablets tablet ≡ Some state) where
-  looked : (right : Result TabletCopyValue CopyFault) → copy_of state need ≡ right → obeying (serving region) done (copy need tablet) ≡ showing_copy (serving region) tablet right
+module _ (region : LoggedRegion) (need : Positions) (tablet : ℕ) (state : TabletStateValue) (there : slice_get region.state.tablets tablet ≡ Some state) where
+  looked : (right : Result TabletCopyValue CopyFault) → copy_of state need ≡ right → obeying (waiting region) done (copy need tablet) ≡ showing_copy (waiting region) tablet right
   looked right is =
-      ap (λ (found : Option TabletStateValue). at_tablet (serving region) found (λ state. showing_copy (serving region) tablet (copy_of state need))) there
-      ∙ ap (showing_copy (serving region) tablet) is
+      ap (λ (found : Option TabletStateValue). at_tablet (waiting region) found (λ state. showing_copy (waiting region) tablet (copy_of state need))) there
+      ∙ ap (showing_copy (waiting region) tablet) is
 
-  out : (reply : Reply) → reply ≡ Refused Memory → Obeys (serving region) (copy need tablet) (serving region) reply
-  out reply is = subst (λ (r : Reply). Obeys (serving region) (copy need tablet) (serving region) r) (sym is) (turned_call region region (copy need tablet) refl refl)
+  out : (reply : Reply) → reply ≡ Refused Memory → Obeys (waiting region) (copy need tablet) (waiting region) reply
+  out reply is = subst (λ (r : Reply). Obeys (waiting region) (copy need tablet) (waiting region) r) (sym is) (turned_call region region (copy need tablet) refl refl)
 
-  pub copied_there : (copied : TabletCopyValue) (reply : Reply) → copy_of state need ≡ Ok copied → ShowsCopy copied reply → Obeys (serving region) (copy need tablet) (serving region) reply
+  pub copied_there : (copied : TabletCopyValue) (reply : Reply) → copy_of state need ≡ Ok copied → ShowsCopy copied reply → Obeys (waiting region) (copy need tablet) (waiting region) reply
   copied_there copied (Copied lines text) is shows =
       let all = looked (Ok copied) is in
       record { outcome = done; machine_is = ap (λ (t : Turn). t.machine) all; replied = ap (λ (t : Turn). t.reply) all ∙ sym shows; refused = ap (λ (t : Turn). t.refused) all }
@@ -144,7 +145,7 @@ module _ (region : RegionValue) (need : Positions) (tablet : ℕ) (state : Table
   right_fault copying.NoEntry right is other = is
   right_fault copying.Memory right is other = absurd (other refl)
 
-  pub not_copied_there : (fault : CopyFault) (reply : Reply) → Refuses is_memory fault (copy_of state need) → TellsNoCopy tablet fault reply → Obeys (serving region) (copy need tablet) (serving region) reply
+  pub not_copied_there : (fault : CopyFault) (reply : Reply) → Refuses is_memory fault (copy_of state need) → TellsNoCopy tablet fault reply → Obeys (waiting region) (copy need tablet) (waiting region) reply
   not_copied_there fault (NotTaken text) right (other, says) =
       let all = looked (Err fault) (right_fault fault (copy_of state need) right other) in
       record { outcome = done; machine_is = ap (λ (t : Turn). t.machine) all; replied = ap (λ (t : Turn). t.reply) all ∙ sym says; refused = ap (λ (t : Turn). t.refused) all }

@@ -28,7 +28,7 @@ use Rattle.pn_scan.specs.declared.fault.ScanFault.{ScanFault}
 use Rattle.serde_json.specs.Data.{Data}
 use Rattle.pn_json.specs.Lines.{line_of}
 use Rattle.pn_serve.specs.declared.refusal.Refusal.{Refusal}
-use Rattle.pn_serve.specs.Command.Meaning.{CommandValue, adopt, copy, deliver, get, lose, marks, read, scan, tablets}
+use Rattle.pn_serve.specs.Command.Meaning.{CommandValue, adopt, copy, deliver, get, lose, marks, notices, read, scan, tablets}
 use Rattle.pn_serve.specs.Command.Lines.{is_too_long, command_at}
 use Rattle.pn_serve.specs.Command.Lookups.{AsksForRecords}
 use Rattle.pn_serve.specs.Machine.Doing.{found_data, looking}
@@ -116,6 +116,7 @@ look_alike m n (Ok (get keys)) looks is too same =
     found_alike m n (get_data keys) _ _
     (get_of_all m.region is.0 is.1 keys ∙ ap (λ (cells : Entries). Ok (map (λ key. find bytes_cmp key cells) keys)) same ∙ sym (get_of_all n.region too.0 too.1 keys))
 look_alike m n (Ok (lose tablet)) looks is too same = absurd looks
+look_alike m n (Ok (notices since)) looks is too same = absurd looks
 look_alike m n (Ok marks) looks is too same = absurd looks
 look_alike m n (Ok (read key version)) looks is too same =
     found_alike m n (read_data key) _ _

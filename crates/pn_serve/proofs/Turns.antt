@@ -14,6 +14,7 @@ use Rattle.pn_tablet.specs.Tablets.{TabletStateValue}
 use Rattle.pn_tablet.specs.declared.op.TabletOp.{TabletOp}
 use Rattle.pn_apply.specs.Applying.{AreOldOrStepped}
 use Rattle.pn_region.specs.Marking.{new_marks}
+use Rattle.pn_region.specs.Logged.{LoggedRegion, noting, breaking}
 use Rattle.pn_region.specs.Regions.{RegionValue}
 use Rattle.pn_region.specs.Rounds.{joins, changed, IsHalfTaken}
 use Rattle.pn_region.specs.Rounds.{round as taken_round}
@@ -25,7 +26,7 @@ use Rattle.pn_serve.specs.declared.refusal.Refusal.TheVariants.{TooLong, NotJson
 use Rattle.pn_serve.specs.Command.Meaning.{CommandValue, deliver}
 use Rattle.pn_serve.specs.Command.Lines.{command_at, is_too_long}
 use Rattle.pn_serve.proofs.LongLines.{too_long}
-use Rattle.pn_serve.specs.Machine.Outcomes.{Outcome, Machine, done, line, call, round, Turn, serving, refusing, showing}
+use Rattle.pn_serve.specs.Machine.Outcomes.{Outcome, Machine, done, line, call, round, idle, Turn, waiting, refusing, showing}
 use Rattle.pn_serve.specs.Machine.PartRounds.{some_stepped, partly_marked}
 use Rattle.pn_serve.specs.Machine.Doing.{delivering, looking}
 use Rattle.pn_serve.specs.Machine.Turns.{obeying, turn_of, outcome_at, turn, IsReadUnless, Turned, TurnedBy, AnswersBy, Obeys, Refuses}
@@ -34,14 +35,14 @@ use Rattle.pn_serve.specs.Reply.Short.{changed_data}
 use Rattle.pn_json.specs.Lines.{line_of}
 
 -- what memory that ran out in a call makes of a command
-abbrev pub RunsOut : RegionValue → CommandValue → Type 0
-RunsOut region command = obeying (serving region) call command ≡ refusing (serving region) Memory
+abbrev pub RunsOut : LoggedRegion → CommandValue → Type 0
+RunsOut region command = obeying (waiting region) call command ≡ refusing (waiting region) Memory
 
 -- memory ran out, and nothing changed
-pub turned_call : (old new : RegionValue) (command : CommandValue) → RunsOut old command → new ≡ old → Obeys (serving old) command (serving new) (Refused Memory)
+pub turned_call : (old new : LoggedRegion) (command : CommandValue) → RunsOut old command → new ≡ old → Obeys (waiting old) command (waiting new) (Refused Memory)
 turned_call old new command out same = record {
   outcome = call;
-  machine_is = ap (λ (t : Turn). t.machine) out ∙ ap serving (sym same);
+  machine_is = ap (λ (t : Turn). t.machine) out ∙ ap waiting (sym same);
   replied = ap (λ (t : Turn). t.reply) out;
   refused = ap (λ (t : Turn). t.refused) out;
 }
@@ -111,29 +112,29 @@ pub turned_always : (may : Type 0) (turns : Outcome → Turn) (machine : Machine
 turned_always may turns machine reply is = turned_as may turns turns machine reply is is.outcome (weaker may is.outcome is.read) refl
 
 -- the command that a line is was obeyed
-pub turned_said : (may : Type 0) (text : List ℕ) (command : CommandValue) (old : RegionValue) (new : Machine) (reply : Reply) → command_at text ≡ Ok command → Obeys (serving old) command new reply → AnswersBy may (serving old) text new reply
+pub turned_said : (may : Type 0) (text : List ℕ) (command : CommandValue) (old : LoggedRegion) (new : Machine) (reply : Reply) → command_at text ≡ Ok command → Obeys (waiting old) command new reply → AnswersBy may (waiting old) text new reply
 turned_said may text command old new reply said obeys =
     let outcome = read_whole obeys.outcome in
-    turned_read may (λ outcome. obeying (serving old) outcome command) (λ outcome. turn (serving old) outcome text) new reply obeys outcome (read_always may obeys.outcome)
-    (ap (λ (o : Outcome). turn_of (serving old) o (command_at text)) (as_it_goes outcome text (within text command said))
-    ∙ ap (turn_of (serving old) outcome) said ∙ as_obeyed (serving old) obeys.outcome command)
+    turned_read may (λ outcome. obeying (waiting old) outcome command) (λ outcome. turn (waiting old) outcome text) new reply obeys outcome (read_always may obeys.outcome)
+    (ap (λ (o : Outcome). turn_of (waiting old) o (command_at text)) (as_it_goes outcome text (within text command said))
+    ∙ ap (turn_of (waiting old) outcome) said ∙ as_obeyed (waiting old) obeys.outcome command)
 
 -- memory ran out before a command was found, in a line that is not too long
-pub turned_unread : (may : Type 0) (text : List ℕ) (region : RegionValue) → may → is_too_long text ≡ false → AnswersBy may (serving region) text (serving region) (Refused Memory)
+pub turned_unread : (may : Type 0) (text : List ℕ) (region : LoggedRegion) → may → is_too_long text ≡ false → AnswersBy may (waiting region) text (waiting region) (Refused Memory)
 turned_unread may text region out short =
-    let same : turn (serving region) line text ≡ refusing (serving region) Memory = ap (λ (o : Outcome). turn_of (serving region) o (command_at text)) (as_it_goes line text short) in
+    let same : turn (waiting region) line text ≡ refusing (waiting region) Memory = ap (λ (o : Outcome). turn_of (waiting region) o (command_at text)) (as_it_goes line text short) in
     record { outcome = line; read = out; machine_is = ap (λ (t : Turn). t.machine) same; replied = ap (λ (t : Turn). t.reply) same; refused = ap (λ (t : Turn). t.refused) same }
 
 -- the line was refused
-pub turned_fault : (may : Type 0) (text : List ℕ) (region : RegionValue) (refusal : Refusal) → command_at text ≡ Err refusal → AnswersBy may (serving region) text (serving region) (Refused refusal)
+pub turned_fault : (may : Type 0) (text : List ℕ) (region : LoggedRegion) (refusal : Refusal) → command_at text ≡ Err refusal → AnswersBy may (waiting region) text (waiting region) (Refused refusal)
 turned_fault may text region refusal said =
-    let same : turn (serving region) done text ≡ refusing (serving region) refusal =
-    ap (λ (o : Outcome). turn_of (serving region) o (command_at text)) (as_said (is_too_long text)) ∙ ap (turn_of (serving region) done) said in
+    let same : turn (waiting region) done text ≡ refusing (waiting region) refusal =
+    ap (λ (o : Outcome). turn_of (waiting region) o (command_at text)) (as_said (is_too_long text)) ∙ ap (turn_of (waiting region) done) said in
     record { outcome = done; read = tt; machine_is = ap (λ (t : Turn). t.machine) same; replied = ap (λ (t : Turn). t.reply) same; refused = ap (λ (t : Turn). t.refused) same }
 
 -- it was refused, or memory ran out before a command was found
-pub turned_err : (may : Type 0) (text : List ℕ) (region : RegionValue) (refusal : Refusal) → (refusal ≢ Memory → command_at text ≡ Err refusal) → (refusal ≡ Memory → is_too_long text ≡ false) → (refusal ≡ Memory → may)
-    → AnswersBy may (serving region) text (serving region) (Refused refusal)
+pub turned_err : (may : Type 0) (text : List ℕ) (region : LoggedRegion) (refusal : Refusal) → (refusal ≢ Memory → command_at text ≡ Err refusal) → (refusal ≡ Memory → is_too_long text ≡ false) → (refusal ≡ Memory → may)
+    → AnswersBy may (waiting region) text (waiting region) (Refused refusal)
 turned_err may text region Memory is short out = turned_unread may text region (out refl) (short refl)
 turned_err may text region TooLong is short out = turned_fault may text region TooLong (is (λ same. cc))
 turned_err may text region NotJson is short out = turned_fault may text region NotJson (is (λ same. cc))
@@ -141,32 +142,32 @@ turned_err may text region (BadShape part) is short out = turned_fault may text 
 turned_err may text region (OutOfRange part) is short out = turned_fault may text region (OutOfRange part) (is (λ same. cc))
 
 -- a text was shown, and nothing changed
-pub turned_text : (old new : RegionValue) (command : CommandValue) (reply : List ℕ) (text : Vec ℕ Global) → obeying (serving old) done command ≡ showing (serving old) reply → new ≡ old → text.items ≡ reply
-    → Obeys (serving old) command (serving new) (Text text)
+pub turned_text : (old new : LoggedRegion) (command : CommandValue) (reply : List ℕ) (text : Vec ℕ Global) → obeying (waiting old) done command ≡ showing (waiting old) reply → new ≡ old → text.items ≡ reply
+    → Obeys (waiting old) command (waiting new) (Text text)
 turned_text old new command reply text shows same is = record {
   outcome = done;
-  machine_is = ap (λ (t : Turn). t.machine) shows ∙ ap serving (sym same);
+  machine_is = ap (λ (t : Turn). t.machine) shows ∙ ap waiting (sym same);
   replied = ap (λ (t : Turn). t.reply) shows ∙ sym is;
   refused = ap (λ (t : Turn). t.refused) shows;
 }
 
 -- a lookup of the region, and what is right for it
-module _ {A : Type 0} (region : RegionValue) (command : CommandValue) (show : A → Data) (right : Result A ScanFault) (does : obeying (serving region) done command ≡ looking (serving region) show right) (out : RunsOut region command) where
+module _ {A : Type 0} (region : LoggedRegion) (command : CommandValue) (show : A → Data) (right : Result A ScanFault) (does : obeying (waiting region) done command ≡ looking (waiting region) show right) (out : RunsOut region command) where
   -- what it found was shown, or there was no memory for the text
   pub turned_found : {E : Type 0} (found : A) (text : Result (Vec ℕ Global) E) (reply : Reply) → right ≡ Ok found → IfOk text (λ t. t.items ≡ line_of (show found))
-      → MatchResult text (λ t. reply ≡ Text t) (λ _. reply ≡ Refused Memory) → Obeys (serving region) command (serving region) reply
+      → MatchResult text (λ t. reply ≡ Text t) (λ _. reply ≡ Refused Memory) → Obeys (waiting region) command (waiting region) reply
   turned_found found (Ok text) reply is says shown =
-      subst (λ (r : Reply). Obeys (serving region) command (serving region) r) (sym shown) (turned_text region region command (line_of (show found)) text (does ∙ ap (looking (serving region) show) is) refl says)
+      subst (λ (r : Reply). Obeys (waiting region) command (waiting region) r) (sym shown) (turned_text region region command (line_of (show found)) text (does ∙ ap (looking (waiting region) show) is) refl says)
   turned_found found (Err e) reply is says shown =
-      subst (λ (r : Reply). Obeys (serving region) command (serving region) r) (sym shown) (turned_call region region command out refl)
+      subst (λ (r : Reply). Obeys (waiting region) command (waiting region) r) (sym shown) (turned_call region region command out refl)
 
-  no_memory : (reply : Reply) → reply ≡ Refused Memory → Obeys (serving region) command (serving region) reply
-  no_memory reply is = subst (λ (r : Reply). Obeys (serving region) command (serving region) r) (sym is) (turned_call region region command out refl)
+  no_memory : (reply : Reply) → reply ≡ Refused Memory → Obeys (waiting region) command (waiting region) reply
+  no_memory reply is = subst (λ (r : Reply). Obeys (waiting region) command (waiting region) r) (sym is) (turned_call region region command out refl)
 
   -- it was refused
-  pub turned_why : (fault : ScanFault) (reply : Reply) → (fault ≢ scan.Memory → right ≡ Err fault) → Refuses fault reply → Obeys (serving region) command (serving region) reply
+  pub turned_why : (fault : ScanFault) (reply : Reply) → (fault ≢ scan.Memory → right ≡ Err fault) → Refuses fault reply → Obeys (waiting region) command (waiting region) reply
   turned_why fault (NotTaken text) is (other, says) =
-      let all : obeying (serving region) done command ≡ looking (serving region) show (Err fault) = does ∙ ap (looking (serving region) show) (is other) in record {
+      let all : obeying (waiting region) done command ≡ looking (waiting region) show (Err fault) = does ∙ ap (looking (waiting region) show) (is other) in record {
         outcome = done;
         machine_is = ap (λ (t : Turn). t.machine) all;
         replied = ap (λ (t : Turn). t.reply) all ∙ sym says;
@@ -187,23 +188,23 @@ read_fault before right (scan.Recovering tablet) is other = is
 read_fault before right (scan.Behind has) is other = is
 read_fault before right scan.NoEntry is other = is
 
-module _ (old new : RegionValue) (deliveries : List DeliveryValue) where
+module _ (old new : LoggedRegion) (deliveries : List DeliveryValue) where
   -- the round ended
-  pub turned_ok : (count : ℕ) → taken_round old deliveries ≡ Ok new → count ≡ changed old new → Obeys (serving old) (deliver deliveries) (serving new) (Changed count)
-  turned_ok count ended counted = record {
+  pub turned_ok : (count : ℕ) → taken_round old.state deliveries ≡ Ok new.state → new.log ≡ noting old.log old.state new.state → count ≡ changed old.state new.state → Obeys (waiting old) (deliver deliveries) (waiting new) (Changed count)
+  turned_ok count ended noted counted = record {
     outcome = done;
-    machine_is = ap (λ (r : Result RegionValue RoundFault). (delivering (serving old) r).machine) ended;
-    replied = ap (λ (r : Result RegionValue RoundFault). (delivering (serving old) r).reply) ended ∙ ap (λ (n : ℕ). line_of (changed_data n)) (sym counted);
-    refused = ap (λ (r : Result RegionValue RoundFault). (delivering (serving old) r).refused) ended;
+    machine_is = ap (λ (r : Result RegionValue RoundFault). (delivering (waiting old) r).machine) ended ∙ (λ i. record { mode = idle; region = new.state; log = sym noted i });
+    replied = ap (λ (r : Result RegionValue RoundFault). (delivering (waiting old) r).reply) ended ∙ ap (λ (n : ℕ). line_of (changed_data n)) (sym counted);
+    refused = ap (λ (r : Result RegionValue RoundFault). (delivering (waiting old) r).refused) ended;
   }
 
   -- the round was refused
-  pub turned_refused : (fault : RoundFault) (text : Vec ℕ Global) → taken_round old deliveries ≡ Err fault → new ≡ old → text.items ≡ line_of (fault_data fault) → Obeys (serving old) (deliver deliveries) (serving new) (NotTaken text)
-  turned_refused fault text refused same is = record {
+  pub turned_refused : (fault : RoundFault) (text : Vec ℕ Global) → taken_round old.state deliveries ≡ Err fault → new.state ≡ old.state → new.log ≡ old.log → text.items ≡ line_of (fault_data fault) → Obeys (waiting old) (deliver deliveries) (waiting new) (NotTaken text)
+  turned_refused fault text refused same kept is = record {
     outcome = done;
-    machine_is = ap (λ (r : Result RegionValue RoundFault). (delivering (serving old) r).machine) refused ∙ ap serving (sym same);
-    replied = ap (λ (r : Result RegionValue RoundFault). (delivering (serving old) r).reply) refused ∙ sym is;
-    refused = ap (λ (r : Result RegionValue RoundFault). (delivering (serving old) r).refused) refused;
+    machine_is = ap (λ (r : Result RegionValue RoundFault). (delivering (waiting old) r).machine) refused ∙ (λ i. record { mode = idle; region = sym same i; log = sym kept i });
+    replied = ap (λ (r : Result RegionValue RoundFault). (delivering (waiting old) r).reply) refused ∙ sym is;
+    refused = ap (λ (r : Result RegionValue RoundFault). (delivering (waiting old) r).refused) refused;
   }
 
 -- which tablets took their part
@@ -236,7 +237,7 @@ half_found old new deliveries (Ok next) layout positions half =
 half_found old new deliveries (Err fault) layout positions same = ([], λ i. record { layout = sym layout i; tablets = sym same i; marks = sym positions i })
 
 -- the round ran out of memory
-pub turned_half : (old new : RegionValue) (deliveries : List DeliveryValue) → IsHalfTaken old deliveries new → Obeys (serving old) (deliver deliveries) (serving new) (Refused Memory)
-turned_half old new deliveries half =
-    let (flags, is) = half_found old new deliveries (new_marks old.marks deliveries) half.0 half.1 half.2 in
-    record { outcome = round flags; machine_is = ap serving is; replied = refl; refused = refl }
+pub turned_half : (old new : LoggedRegion) (deliveries : List DeliveryValue) → IsHalfTaken old.state deliveries new.state → new.log ≡ breaking old.log → Obeys (waiting old) (deliver deliveries) (waiting new) (Refused Memory)
+turned_half old new deliveries half broken =
+    let (flags, is) = half_found old.state new.state deliveries (new_marks old.state.marks deliveries) half.0 half.1 half.2 in
+    record { outcome = round flags; machine_is = λ i. record { mode = idle; region = is i; log = sym broken i }; replied = refl; refused = refl }

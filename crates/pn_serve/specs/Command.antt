@@ -5,6 +5,7 @@ pub mod Lines
 pub mod Lookups
 pub mod Meaning
 pub mod Needs
+pub mod Notices
 pub mod Queries
 pub mod RangeChecks
 pub mod Recovery

@@ -3,6 +3,7 @@ pub mod About
 pub mod Faults
 pub mod Lookups
 pub mod Marks
+pub mod Notices
 pub mod Record
 pub mod Recovery
 pub mod Rows

@@ -4,6 +4,7 @@ pub(crate) mod batch;
 mod build;
 pub(crate) mod laws;
 mod lookups;
+mod notices;
 pub(crate) mod parse;
 mod ranges;
 mod recovery;
@@ -30,6 +31,8 @@ pub enum Command {
     Lose { tablet: u64 },
     /// Show how far streams were taken.
     Marks,
+    /// Show what changed behind this number.
+    Notices { since: u64 },
     /// Show the record of a key: in this version or a later one, where a version is required.
     Read { key: Key, version: Option<Version> },
     /// Show the records that a query asks for, up to its limit.

@@ -4,7 +4,7 @@ ghost use Rattle.std.specs.Prelude.{◌≡◌, ◌≤◌};
 ghost use Rattle.pn_apply.specs.Limits.{most_workers};
 ghost use Rattle.pn_serve.specs.Command.Meaning.{command_value, deliver as asking};
 ghost use Rattle.pn_serve.specs.Machine.Modes.{IsBegun, with_mode};
-ghost use Rattle.pn_serve.specs.Machine.Outcomes.{serving};
+ghost use Rattle.pn_serve.specs.Machine.Outcomes.{waiting};
 ghost use Rattle.pn_serve.specs.Machine.Turns.{AnswersBy, ConcludesBy, Obeys};
 ghost use Rattle.pn_serve.specs.Machine.Ways.{BeginsTo, LastsBy};
 
@@ -14,7 +14,7 @@ pub(crate) mod reading;
 mod tablets;
 
 use crate::machine::announced::{Announced, adopt, finish, go_on};
-use crate::machine::lookups::{get, read, scan, shown};
+use crate::machine::lookups::{get, notices, read, scan, shown};
 use crate::machine::reading::Reads;
 use crate::machine::tablets::{copy, lose};
 use crate::reply::marks::marks_reply;
@@ -41,7 +41,7 @@ pub(crate) fn answer<R: Threads + Sync, C: Reads>(
     line: &[u8],
 ) -> Done
     requires workers { (1 ≤ workers) × (workers ≤ most_workers) }
-    ensures { AnswersBy C.may_run_out (with_mode announced region.old.state) line.now (with_mode result.1 region.new.state) result.0 }
+    ensures { AnswersBy C.may_run_out (with_mode announced region.old) line.now (with_mode result.1 region.new) result.0 }
 {
     match announced {
         None => command::<R, C>(rt, alloc, region, workers, line),
@@ -57,7 +57,7 @@ fn command<R: Threads + Sync, C: Reads>(
     line: &[u8],
 ) -> Done
     requires workers { (1 ≤ workers) × (workers ≤ most_workers) }
-    ensures { AnswersBy C.may_run_out (serving region.old.state) line.now (with_mode result.1 region.new.state) result.0 }
+    ensures { AnswersBy C.may_run_out (waiting region.old) line.now (with_mode result.1 region.new) result.0 }
 {
     match C::command_of(alloc, line) {
         Ok(command) => announce(alloc, obey(rt, alloc, region, workers, command)),
@@ -86,7 +86,7 @@ pub(crate) fn end<R: Threads + Sync, C: Reads>(
     part: &[u8],
 ) -> Reply
     requires workers { (1 ≤ workers) × (workers ≤ most_workers) }
-    ensures { ConcludesBy C.may_run_out (with_mode announced region.old.state) part.now (serving region.new.state) result }
+    ensures { ConcludesBy C.may_run_out (with_mode announced region.old) part.now (waiting region.new) result }
 {
     match announced {
         Some(announced) => finish(alloc, region, announced, part),
@@ -104,7 +104,7 @@ fn last_command<R: Threads + Sync, C: Reads>(
     line: &[u8],
 ) -> Reply
     requires workers { (1 ≤ workers) × (workers ≤ most_workers) }
-    ensures { LastsBy C.may_run_out region.old.state line.now region.new.state result }
+    ensures { LastsBy C.may_run_out region.old line.now region.new result }
 {
     match C::command_of(alloc, line) {
         Ok(command) => match obey(rt, alloc, region, workers, command) {
@@ -132,7 +132,7 @@ fn obey<R: Threads + Sync>(
     command: Command,
 ) -> Begun
     requires workers { (1 ≤ workers) × (workers ≤ most_workers) }
-    ensures { BeginsTo region.old.state (command_value command) region.new.state result }
+    ensures { BeginsTo region.old (command_value command) region.new result }
 {
     match command {
         Command::Adopt { lines } => Begun::Announces(lines),
@@ -143,6 +143,7 @@ fn obey<R: Threads + Sync>(
         Command::Get(keys) => Begun::Obeyed(get(alloc, region, &keys)),
         Command::Lose { tablet } => Begun::Obeyed(lose(region, tablet)),
         Command::Marks => Begun::Obeyed(shown(marks_reply(alloc, region.marks()))),
+        Command::Notices { since } => Begun::Obeyed(notices(alloc, region, since)),
         Command::Read { key, version } => Begun::Obeyed(read(alloc, region, &key, version)),
         Command::Scan(query) => Begun::Obeyed(scan(alloc, region, &query)),
         Command::Tablets => Begun::Obeyed(shown(tablets_reply(alloc, region))),
@@ -158,7 +159,7 @@ fn deliver<R: Threads + Sync>(
     deliveries: Vec<Delivery>,
 ) -> Reply
     requires workers { (1 ≤ workers) × (workers ≤ most_workers) }
-    ensures { Obeys (serving region.old.state) (asking deliveries.items) (serving region.new.state) result }
+    ensures { Obeys (waiting region.old) (asking deliveries.items) (waiting region.new) result }
 {
     match region.round(rt, deliveries, workers, &Open) {
         Ok(round) => Reply::Changed(round.changed),

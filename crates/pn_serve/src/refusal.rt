@@ -22,6 +22,7 @@ pub enum Part {
     Need,
     Stream,
     Query,
+    Since,
     Tablet,
     Version,
     /// A member by a name that has no meaning there.
@@ -47,6 +48,7 @@ impl Part {
             Part::Need => "need",
             Part::Stream => "stream",
             Part::Query => "query",
+            Part::Since => "since",
             Part::Tablet => "tablet",
             Part::Version => "version",
             Part::Other => "other",

@@ -3,6 +3,7 @@
 pub(crate) mod faults;
 pub(crate) mod lookups;
 pub(crate) mod marks;
+pub(crate) mod notices;
 pub(crate) mod record;
 pub(crate) mod recovery;
 mod rows;

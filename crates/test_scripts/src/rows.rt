@@ -23,6 +23,28 @@ pub(crate) const FIRST_RUN: Row = Row {
 "#,
 };
 
+// What changed is told by numbers, and behind a loss only what came after it.
+const NOTICES_MISSED: Row = Row {
+    script: r#"{"batches":[{"first":1,"images":[{"fields":{"v":"x"},"key":"k","master":"w","version":[1,0]}],"stream":"east"}],"do":"deliver"}
+{"batches":[{"first":1,"images":[{"fields":{"v":"x"},"key":"k","master":"w","version":[1,0]}],"stream":"east"}],"do":"deliver"}
+{"do":"scan","query":{}}
+{"do":"notices","since":0}
+{"do":"lose","tablet":0}
+{"do":"notices","since":1}
+{"do":"notices","since":2}
+{"do":"notices","since":3}
+"#,
+    replies: r#"{"changed":1}
+{"changed":0}
+{"next":null,"rows":[{"contents":[{"fields":{"v":"x"},"master":"w"}],"key":"k","state":"one","version":[1,0]}]}
+{"next":1,"notices":[{"after":[1,0],"before":null,"key":"k","number":1}]}
+{"lost":0}
+{"missed":true,"next":2}
+{"next":2,"notices":[]}
+{"missed":true,"next":2}
+"#,
+};
+
 // A later generation stays, whatever the numbers within them.
 const GENERATION_FIRST: Row = Row {
     script: r#"{"batches":[{"first":1,"images":[{"fields":{"v":"x"},"key":"k","master":"w","version":[2,0]}],"stream":"east"}],"do":"deliver"}
@@ -244,9 +266,10 @@ pub(crate) const PAGES_AND_CONTINUATIONS: Row = Row {
 };
 
 /// Each row with its name.
-const ROWS: [(&str, Row); 15] = [
+const ROWS: [(&str, Row); 16] = [
     ("empty scan", EMPTY_SCAN),
     ("first run", FIRST_RUN),
+    ("notices missed", NOTICES_MISSED),
     ("generation first", GENERATION_FIRST),
     ("equal versions conflict", EQUAL_VERSIONS_CONFLICT),
     (

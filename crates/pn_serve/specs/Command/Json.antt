@@ -10,7 +10,7 @@ use Rattle.pn_record.specs.Writing.{image_data, version_data}
 use Rattle.pn_scan.specs.QueryGrammar.{HasShape}
 use Rattle.pn_stream.specs.Positions.{DeliveryValue}
 use Rattle.pn_serve.specs.Command.Limits.{is_command}
-use Rattle.pn_serve.specs.Command.Meaning.{CommandValue, adopt, copy, deliver, get, lose, marks, read, scan, tablets}
+use Rattle.pn_serve.specs.Command.Meaning.{CommandValue, adopt, copy, deliver, get, lose, marks, notices, read, scan, tablets}
 
 -- a delivery: the position of its first image, its images, and its stream
 abbrev pub delivery_data : DeliveryValue → Data
@@ -55,6 +55,10 @@ get_command keys = command_data (codes "get") (member (codes "keys") (array (ite
 abbrev pub lose_command : ℕ → Data
 lose_command tablet = command_data (codes "lose") (tablet_member tablet)
 
+-- a `notices` command: behind which number
+abbrev pub notices_command : ℕ → Data
+notices_command since = command_data (codes "notices") (member (codes "since") (number (unsigned since)) no_members)
+
 -- a `read` command, with what stands behind its key
 abbrev pub read_command : List ℕ → Members → Data
 read_command key others = command_data (codes "read") (member (codes "key") (string key) others)
@@ -76,6 +80,7 @@ Says d (deliver deliveries) = d ≡ deliver_command deliveries
 Says d (get keys) = d ≡ get_command keys
 Says d (lose tablet) = d ≡ lose_command tablet
 Says d marks = d ≡ command_data (codes "marks") no_members
+Says d (notices since) = d ≡ notices_command since
 Says d (read key version) = (others : Members) × IsRequired others version × (d ≡ read_command key others)
 Says d (scan query) = (asked : Data) × HasShape asked query × (d ≡ scan_command asked)
 Says d tablets = d ≡ command_data (codes "tablets") no_members

@@ -6,9 +6,10 @@ use Rattle.pn_record.specs.Canonical.{is_image}
 use Rattle.pn_record.specs.Limits.{is_key, is_version}
 use Rattle.pn_record.specs.Marks.{is_mark}
 use Rattle.pn_record.specs.Sets.{Stamp}
+use Rattle.pn_region.specs.Log.{last_number}
 use Rattle.pn_scan.specs.QueryGrammar.{is_query}
 use Rattle.pn_stream.specs.Positions.{DeliveryValue, are_positions}
-use Rattle.pn_serve.specs.Command.Meaning.{CommandValue, adopt, copy, deliver, get, read, scan}
+use Rattle.pn_serve.specs.Command.Meaning.{CommandValue, adopt, copy, deliver, get, notices, read, scan}
 
 -- the most batches of a command
 abbrev pub most_batches : ℕ
@@ -31,6 +32,10 @@ most_announced = 1000000
 abbrev pub may_announce : ℕ → Bool
 may_announce lines = nat_le 1 lines && nat_le lines most_announced
 
+-- notices are asked for behind a number that an entry may have
+abbrev pub may_be_asked : ℕ → Bool
+may_be_asked since = nat_le since last_number
+
 -- at least one, and not more than so many
 abbrev pub are_few : {A : Type 0} → ℕ → List A → Bool
 are_few most list = nat_le 1 (length list) && nat_le (length list) most
@@ -41,12 +46,13 @@ may_be_required None = true
 may_be_required (Some version) = is_version version
 
 -- 1 to 1,000,000 lines, names and positions of streams, 1 to 64 deliveries that keep their limits, 1 to 100 keys, each of
--- 1 to 256 bytes, a key and a version, or a query; another command has no limits of its own
+-- 1 to 256 bytes, a number up to 10^18, a key and a version, or a query; another command has no limits of its own
 abbrev pub is_command : CommandValue → Bool
 is_command (adopt lines) = may_announce lines
 is_command (copy need tablet) = list_all is_mark need
 is_command (deliver deliveries) = are_few most_batches deliveries && list_all is_delivery deliveries
 is_command (get keys) = are_few most_keys keys && list_all is_key keys
+is_command (notices since) = may_be_asked since
 is_command (read key version) = is_key key && may_be_required version
 is_command (scan query) = is_query query
 is_command command = true

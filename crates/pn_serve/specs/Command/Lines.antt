@@ -12,12 +12,13 @@ use Rattle.pn_record.specs.declared.fault.ImageFault.TheVariants as image
 use Rattle.pn_serve.specs.Command.Meaning.{CommandValue, deliver, marks, read, scan, tablets}
 use Rattle.pn_serve.specs.Command.Meaning as command
 use Rattle.pn_serve.specs.Command.Words.{word_in}
+use Rattle.pn_serve.specs.Command.Notices.{notices_in}
 use Rattle.pn_serve.specs.Command.Recovery.{adopt_in, copy_in, lose_in}
 use Rattle.pn_serve.specs.Command.Queries.{query_at, query_shape, fitting_query}
 use Rattle.pn_serve.specs.Command.ShapeChecks.{named_alone, batch_shape, key_shape, version_shape}
 use Rattle.pn_serve.specs.Command.RangeChecks.{fits, batches_fit, keys_fit, fitting_version}
 use Rattle.pn_serve.specs.declared.command.word.Word.{Word}
-use Rattle.pn_serve.specs.declared.command.word.Word.TheVariants.{Adopt, Copy, Deliver, Get, Lose, Marks, Read, Scan, Tablets}
+use Rattle.pn_serve.specs.declared.command.word.Word.TheVariants.{Adopt, Copy, Deliver, Get, Lose, Marks, Notices, Read, Scan, Tablets}
 use Rattle.pn_serve.specs.declared.refusal.Part.TheVariants.{Whole, Do, Batches, Key, Keys}
 use Rattle.pn_serve.specs.declared.refusal.Part.TheVariants as part
 use Rattle.pn_serve.specs.declared.refusal.Refusal.{Refusal}
@@ -83,6 +84,7 @@ command_as Deliver members d = deliver_in members d
 command_as Get members d = get_in members d
 command_as Lose members d = lose_in members d
 command_as Marks members d = marks_in members
+command_as Notices members d = notices_in members d
 command_as Read members d = read_in members d
 command_as Scan members d = scan_in members d
 command_as Tablets members d = tablets_in members

@@ -1,7 +1,7 @@
 -- Lines that an `adopt` line announced.
 use Rattle.std.specs.Prelude.{ℕ, ◌-◌, nat_le, if◌then◌else◌, List, [], ◌∷◌, ◌++◌, Option, None, option_map}
 use Rattle.pn_line.specs.Line.{kept}
-use Rattle.pn_serve.specs.Machine.Outcomes.{Outcome, call, announced, Machine, Turn, silent}
+use Rattle.pn_serve.specs.Machine.Outcomes.{Outcome, call, announced, Machine, Turn, logged, silent}
 use Rattle.pn_serve.specs.Machine.Recovering.{adopting_text}
 
 -- the text, unless memory ran out in the call
@@ -15,7 +15,7 @@ with_line text line newline = option_map (λ came. came ++ (kept line ++ newline
 
 -- one announced line has come: further ones are waited for, or it was the last
 abbrev pub one_came : Machine → ℕ → Option (List ℕ) → Turn
-one_came machine left text = if nat_le left 1 then adopting_text machine.region text else silent (record machine { mode = announced (left - 1) text })
+one_came machine left text = if nat_le left 1 then adopting_text (logged machine) text else silent (record machine { mode = announced (left - 1) text })
 
 -- what an announced line does
 abbrev pub announced_turn : Machine → ℕ → Option (List ℕ) → Outcome → List ℕ → Turn
@@ -23,4 +23,4 @@ announced_turn machine left text outcome line = one_came machine left (unless_ca
 
 -- what the end of the input does where announced lines are still to come: it has this part of a line
 abbrev pub announced_end : Machine → Option (List ℕ) → Outcome → List ℕ → Turn
-announced_end machine text outcome part = adopting_text machine.region (unless_call outcome (with_line text part []))
+announced_end machine text outcome part = adopting_text (logged machine) (unless_call outcome (with_line text part []))

@@ -2,18 +2,20 @@
 use Rattle.std.specs.Prelude.{true, false, Option, Some, [], Result, Ok, Err, is_err}
 use Rattle.serde_json.specs.Data.{Data}
 use Rattle.pn_json.specs.Lines.{line_of}
+use Rattle.pn_region.specs.Logged.{noting}
 use Rattle.pn_region.specs.Reads.{read_in, get_in, page_in}
 use Rattle.pn_region.specs.Regions.{RegionValue}
 use Rattle.pn_region.specs.Rounds.{changed}
 use Rattle.pn_region.specs.Rounds.{round as taken_round}
 use Rattle.pn_region.specs.declared.fault.RoundFault.{RoundFault}
 use Rattle.pn_scan.specs.declared.fault.ScanFault.{ScanFault}
-use Rattle.pn_serve.specs.Command.Meaning.{CommandValue, adopt, copy, deliver, get, lose, marks, read, scan, tablets}
+use Rattle.pn_serve.specs.Command.Meaning.{CommandValue, adopt, copy, deliver, get, lose, marks, notices, read, scan, tablets}
 use Rattle.pn_serve.specs.Machine.Outcomes.{announced, Machine, Turn, silent, showing}
 use Rattle.pn_serve.specs.Machine.Recovering.{losing_it, copying}
 use Rattle.pn_serve.specs.Reply.Faults.{fault_data}
 use Rattle.pn_serve.specs.Reply.Lookups.{refused_data}
 use Rattle.pn_serve.specs.Reply.Marks.{shown_marks}
+use Rattle.pn_serve.specs.Reply.Notices.{since_data}
 use Rattle.pn_serve.specs.Reply.Record.{read_data, get_data}
 use Rattle.pn_serve.specs.Reply.Scan.{scan_data}
 use Rattle.pn_serve.specs.Reply.Short.{changed_data}
@@ -21,7 +23,7 @@ use Rattle.pn_serve.specs.Reply.Tablets.{tablets_data}
 
 -- what a delivery does where its round goes like this
 abbrev pub delivering : Machine → Result RegionValue RoundFault → Turn
-delivering machine (Ok after) = record { machine = record machine { region = after }; reply = line_of (changed_data (changed machine.region after)); refused = false }
+delivering machine (Ok after) = record { machine = record machine { region = after; log = noting machine.log machine.region after }; reply = line_of (changed_data (changed machine.region after)); refused = false }
 delivering machine (Err fault) = record { machine = machine; reply = line_of (fault_data fault); refused = true }
 
 -- what a lookup found, or why it was refused
@@ -41,6 +43,7 @@ doing machine (deliver deliveries) = delivering machine (taken_round machine.reg
 doing machine (get keys) = looking machine (get_data keys) (get_in machine.region keys)
 doing machine (lose tablet) = losing_it machine tablet
 doing machine marks = showing machine (line_of (shown_marks machine.region.marks))
+doing machine (notices since) = showing machine (line_of (since_data machine.log since))
 doing machine (read key version) = looking machine (read_data key) (read_in machine.region key version)
 doing machine (scan query) = looking machine scan_data (page_in machine.region query)
 doing machine tablets = showing machine (line_of (tablets_data machine.region.tablets))

@@ -1,7 +1,7 @@
 -- The lines that a machine waits for, as its mode.
 use Rattle.std.specs.Prelude.{◌≡◌, ℕ, List, [], Option, Some, None, Vec, option_map}
 use Rattle.std.specs.declared.alloc.Global.{Global}
-use Rattle.pn_region.specs.Regions.{RegionValue}
+use Rattle.pn_region.specs.Logged.{LoggedRegion}
 use Rattle.pn_serve.specs.declared.machine.announced.Announced.{Announced}
 use Rattle.pn_serve.specs.declared.machine.Begun.{Begun}
 use Rattle.pn_serve.specs.declared.machine.Begun.TheVariants.{Obeyed, Announces}
@@ -19,8 +19,8 @@ mode_of None = idle
 mode_of (Some lines) = announced lines.left (bytes_of lines.text)
 
 -- a machine that waits for this
-abbrev pub with_mode : Option Announced → RegionValue → Machine
-with_mode lines region = record { mode = mode_of lines; region = region }
+abbrev pub with_mode : Option Announced → LoggedRegion → Machine
+with_mode lines logged = record { mode = mode_of lines; region = logged.state; log = logged.log }
 
 -- the reply to a command, or the lines that it announces
 abbrev pub IsBegun : Begun → Reply → Option Announced → Type 0

@@ -1,6 +1,8 @@
 -- How lines go, and what they leave.
 use Rattle.std.specs.Prelude.{ℕ, Bool, true, false, List, [], Option}
+use Rattle.pn_region.specs.Logged.{LoggedRegion}
 use Rattle.pn_region.specs.Regions.{RegionValue}
+use Rattle.pn_region.specs.declared.entry.Entry.{Entry}
 use Rattle.pn_serve.specs.declared.refusal.Refusal.{Refusal}
 use Rattle.pn_json.specs.Lines.{line_of}
 use Rattle.pn_serve.specs.Reply.Short.{refusal_data}
@@ -20,10 +22,11 @@ pub data Mode : Type 0 where
   idle : Mode
   announced : ℕ → Option (List ℕ) → Mode
 
--- what is served, and what the next line is for
+-- what is served, the log of what changed, and what the next line is for
 pub record Machine : Type 0 where
   pub mode : Mode
   pub region : RegionValue
+  pub log : List Entry
 
 -- what a line did: the machine after it, its reply, and whether that is a refusal
 pub record Turn : Type 0 where
@@ -31,9 +34,17 @@ pub record Turn : Type 0 where
   pub reply : List ℕ
   pub refused : Bool
 
--- a machine that waits for a command
+-- a machine that waits for a command, over a region with its log
+abbrev pub waiting : LoggedRegion → Machine
+waiting logged = record { mode = idle; region = logged.state; log = logged.log }
+
+-- the same where the log is empty
 abbrev pub serving : RegionValue → Machine
-serving region = record { mode = idle; region = region }
+serving region = record { mode = idle; region = region; log = [] }
+
+-- what is served, with the log
+abbrev pub logged : Machine → LoggedRegion
+logged machine = record { state = machine.region; log = machine.log }
 
 -- the line was refused, and nothing changed
 abbrev pub refusing : Machine → Refusal → Turn

@@ -7,13 +7,14 @@ use Rattle.pn_tablet.specs.CopyReading.{copy_at}
 use Rattle.pn_tablet.specs.Tablets.{TabletStateValue}
 use Rattle.pn_tablet.specs.declared.fault.CopyFault.{CopyFault}
 use Rattle.pn_tablet.specs.declared.copy_fault.CopyTextFault.{CopyTextFault}
+use Rattle.pn_region.specs.Logged.{LoggedRegion, breaking}
 use Rattle.pn_region.specs.Recovery.{losing, adopting}
 use Rattle.pn_region.specs.Regions.{RegionValue}
 use Rattle.pn_region.specs.declared.fault.AdoptFault.{AdoptFault}
 use Rattle.pn_json.specs.Lines.{line_of}
 use Rattle.pn_serve.specs.declared.refusal.Part.TheVariants.{Tablet}
 use Rattle.pn_serve.specs.declared.refusal.Refusal.TheVariants.{OutOfRange, Memory}
-use Rattle.pn_serve.specs.Machine.Outcomes.{Machine, Turn, serving, refusing, showing}
+use Rattle.pn_serve.specs.Machine.Outcomes.{Machine, Turn, waiting, refusing, showing}
 use Rattle.pn_serve.specs.Reply.Recovery.{copy_reply, no_copy_data, bad_text_data, not_adopted_data}
 use Rattle.pn_serve.specs.Reply.Short.{lost_data, adopted_data}
 
@@ -25,7 +26,7 @@ at_tablet machine (Some state) does = does state
 -- a tablet is lost
 abbrev pub losing_it : Machine → ℕ → Turn
 losing_it machine tablet =
-    at_tablet machine (slice_get machine.region.tablets tablet) (λ state. record { machine = record machine { region = losing machine.region tablet }; reply = line_of (lost_data tablet); refused = false })
+    at_tablet machine (slice_get machine.region.tablets tablet) (λ state. record { machine = record machine { region = losing machine.region tablet; log = breaking machine.log }; reply = line_of (lost_data tablet); refused = false })
 
 -- a copy is shown, or why there is none
 abbrev pub showing_copy : Machine → ℕ → Result TabletCopyValue CopyFault → Turn
@@ -37,16 +38,16 @@ abbrev pub copying : Machine → Positions → ℕ → Turn
 copying machine need tablet = at_tablet machine (slice_get machine.region.tablets tablet) (λ state. showing_copy machine tablet (copy_of state need))
 
 -- a region takes a copy, or refuses it
-abbrev pub adopted : RegionValue → Result (ℕ × RegionValue) AdoptFault → Turn
-adopted region (Ok (tablet, after)) = record { machine = serving after; reply = line_of (adopted_data tablet); refused = false }
-adopted region (Err fault) = record { machine = serving region; reply = line_of (not_adopted_data fault); refused = true }
+abbrev pub adopted : LoggedRegion → Result (ℕ × RegionValue) AdoptFault → Turn
+adopted old (Ok (tablet, after)) = record { machine = waiting (record { state = after; log = breaking old.log }); reply = line_of (adopted_data tablet); refused = false }
+adopted old (Err fault) = record { machine = waiting old; reply = line_of (not_adopted_data fault); refused = true }
 
 -- a region takes the copy of a text, or the text is none
-abbrev pub adopting_read : RegionValue → Result TabletCopyValue CopyTextFault → Turn
-adopting_read region (Ok copy) = adopted region (adopting region copy)
-adopting_read region (Err fault) = record { machine = serving region; reply = line_of (bad_text_data fault); refused = true }
+abbrev pub adopting_read : LoggedRegion → Result TabletCopyValue CopyTextFault → Turn
+adopting_read old (Ok copy) = adopted old (adopting old.state copy)
+adopting_read old (Err fault) = record { machine = waiting old; reply = line_of (bad_text_data fault); refused = true }
 
 -- a region takes the copy of a text that was announced, unless memory ran out
-abbrev pub adopting_text : RegionValue → Option (List ℕ) → Turn
-adopting_text region None = refusing (serving region) Memory
-adopting_text region (Some text) = adopting_read region (copy_at text)
+abbrev pub adopting_text : LoggedRegion → Option (List ℕ) → Turn
+adopting_text old None = refusing (waiting old) Memory
+adopting_text old (Some text) = adopting_read old (copy_at text)

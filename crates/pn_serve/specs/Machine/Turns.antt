@@ -1,6 +1,7 @@
 -- What a line does to what is served, and its reply.
 use Rattle.std.specs.Prelude.{◌≡◌, ◌≢◌, ℕ, Bool, if◌then◌else◌, List, [], ◌∷◌, Some, None, Result, Ok, Err}
 use Rattle.pn_json.specs.Lines.{line_of}
+use Rattle.pn_region.specs.Logged.{breaking}
 use Rattle.pn_scan.specs.declared.fault.ScanFault.{ScanFault}
 use Rattle.pn_scan.specs.declared.fault.ScanFault.TheVariants as fault_of
 use Rattle.pn_serve.specs.declared.refusal.Refusal.{Refusal}
@@ -11,7 +12,7 @@ use Rattle.pn_serve.specs.Command.Meaning.{CommandValue, adopt, deliver, lose}
 use Rattle.pn_serve.specs.Command.Lines.{command_at, is_too_long}
 use Rattle.pn_serve.specs.Machine.Announced.{unless_call, announced_turn, announced_end}
 use Rattle.pn_serve.specs.Machine.Doing.{doing}
-use Rattle.pn_serve.specs.Machine.Outcomes.{Outcome, done, line, call, round, Mode, idle, announced, Machine, Turn, refusing, silent}
+use Rattle.pn_serve.specs.Machine.Outcomes.{Outcome, done, line, call, round, Mode, idle, announced, Machine, Turn, logged, refusing, silent}
 use Rattle.pn_serve.specs.Machine.PartRounds.{partly_taken}
 use Rattle.pn_serve.specs.Machine.Recovering.{adopting_text}
 use Rattle.pn_serve.specs.Reply.Lookups.{refused_data}
@@ -23,7 +24,7 @@ abbrev pub obeying : Machine → Outcome → CommandValue → Turn
 obeying machine call (adopt lines) = silent (record machine { mode = announced lines None })
 obeying machine call (lose tablet) = doing machine (lose tablet)
 obeying machine call command = refusing machine Memory
-obeying machine (round which) (deliver deliveries) = refusing (record machine { region = partly_taken machine.region deliveries which }) Memory
+obeying machine (round which) (deliver deliveries) = refusing (record machine { region = partly_taken machine.region deliveries which; log = breaking machine.log }) Memory
 obeying machine outcome command = doing machine command
 
 -- what a line does that says this
@@ -46,7 +47,7 @@ turn machine outcome text = turn_in machine.mode machine outcome text
 
 -- what the last command does: behind an adoption there is no line
 abbrev pub obeying_last : Machine → Outcome → CommandValue → Turn
-obeying_last machine outcome (adopt lines) = adopting_text machine.region (unless_call outcome (Some []))
+obeying_last machine outcome (adopt lines) = adopting_text (logged machine) (unless_call outcome (Some []))
 obeying_last machine outcome command = obeying machine outcome command
 
 -- what the last line does that says this, without newline

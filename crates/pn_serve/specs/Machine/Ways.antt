@@ -7,14 +7,14 @@ use Rattle.pn_tablet.specs.declared.copy_fault.CopyTextFault.{CopyTextFault}
 use Rattle.pn_tablet.specs.declared.copy_fault.CopyTextFault.TheVariants as text
 use Rattle.pn_tablet.specs.declared.fault.CopyFault.{CopyFault}
 use Rattle.pn_tablet.specs.declared.fault.CopyFault.TheVariants as copy
-use Rattle.pn_region.specs.Regions.{RegionValue}
+use Rattle.pn_region.specs.Logged.{LoggedRegion}
 use Rattle.pn_region.specs.declared.fault.AdoptFault.{AdoptFault}
 use Rattle.pn_region.specs.declared.fault.AdoptFault.TheVariants as adoption
 use Rattle.pn_serve.specs.declared.reply.Reply.{Reply}
 use Rattle.pn_serve.specs.declared.reply.Reply.TheVariants.{Copied, Refused, NotTaken}
 use Rattle.pn_serve.specs.declared.refusal.Refusal.TheVariants.{Memory}
 use Rattle.pn_serve.specs.Machine.Announced.{unless_call, with_line}
-use Rattle.pn_serve.specs.Machine.Outcomes.{Outcome, Turn, serving}
+use Rattle.pn_serve.specs.Machine.Outcomes.{Outcome, Turn, waiting}
 use Rattle.pn_serve.specs.Command.Lines.{command_at}
 use Rattle.pn_serve.specs.Command.Meaning.{CommandValue, adopt}
 use Rattle.pn_serve.specs.declared.machine.Begun.{Begun}
@@ -48,9 +48,9 @@ ShowsCopy copy (Copied lines text) = reply_text (Copied lines text) ≡ copy_rep
 ShowsCopy copy reply = reply ≡ Refused Memory
 
 -- a turn of a region comes to this region and this reply, or memory ran out and nothing changed
-abbrev pub ComesTo : Turn → RegionValue → RegionValue → Reply → Type 0
+abbrev pub ComesTo : Turn → LoggedRegion → LoggedRegion → Reply → Type 0
 ComesTo turn old new reply =
-    ((turn.machine ≡ serving new) × (turn.reply ≡ reply_text reply) × (turn.refused ≡ is_refusal reply)) ⊎ ((new ≡ old) × (reply ≡ Refused Memory))
+    ((turn.machine ≡ waiting new) × (turn.reply ≡ reply_text reply) × (turn.refused ≡ is_refusal reply)) ⊎ ((new ≡ old) × (reply ≡ Refused Memory))
 
 -- no line behind the command belongs to it
 abbrev pub IsAlone : CommandValue → Type 0
@@ -58,13 +58,13 @@ IsAlone (adopt lines) = ⊥
 IsAlone command = Unit {0}
 
 -- what the program made of a command before the next line: it obeyed it, or waits for the lines that it announces
-abbrev pub BeginsTo : RegionValue → CommandValue → RegionValue → Begun → Type 0
-BeginsTo old command new (Obeyed reply) = IsAlone command × Obeys (serving old) command (serving new) reply
+abbrev pub BeginsTo : LoggedRegion → CommandValue → LoggedRegion → Begun → Type 0
+BeginsTo old command new (Obeyed reply) = IsAlone command × Obeys (waiting old) command (waiting new) reply
 BeginsTo old command new (Announces lines) = (command ≡ adopt lines) × (new ≡ old)
 
 -- what the program made of the last line, without newline
-abbrev pub LastsBy : Type 0 → RegionValue → List ℕ → RegionValue → Reply → Type 0
-LastsBy may_run_out old text new reply = TurnedBy may_run_out (λ outcome. last_of (serving old) (outcome_at outcome text) (command_at text)) (serving new) reply
+abbrev pub LastsBy : Type 0 → LoggedRegion → List ℕ → LoggedRegion → Reply → Type 0
+LastsBy may_run_out old text new reply = TurnedBy may_run_out (λ outcome. last_of (waiting old) (outcome_at outcome text) (command_at text)) (waiting new) reply
 
 -- the line stands behind the text that came, or memory ran out
 abbrev pub IsJoined : Option (List ℕ) → List ℕ → List ℕ → Option (List ℕ) → Type 0

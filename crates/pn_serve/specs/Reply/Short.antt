@@ -3,7 +3,7 @@ use Rattle.std.specs.Prelude.{ℕ, List, codes}
 use Rattle.serde_json.specs.Data.{Data, number, string, object, unsigned, Members, no_members, member}
 use Rattle.pn_record.specs.Words.{word_of}
 use Rattle.pn_serve.specs.declared.refusal.Part.{Part}
-use Rattle.pn_serve.specs.declared.refusal.Part.TheVariants.{Whole, Do, Batches, First, Images, Key, Keys, Lines, Need, Stream, Query, Tablet, Version, Other, Image}
+use Rattle.pn_serve.specs.declared.refusal.Part.TheVariants.{Whole, Do, Batches, First, Images, Key, Keys, Lines, Need, Stream, Query, Since, Tablet, Version, Other, Image}
 use Rattle.pn_serve.specs.declared.refusal.Refusal.{Refusal}
 use Rattle.pn_serve.specs.Reply.Faults.{error_data}
 use Rattle.pn_serve.specs.declared.refusal.Refusal.TheVariants.{TooLong, NotJson, BadShape, OutOfRange, Memory}
@@ -21,6 +21,7 @@ part_word Lines = codes "lines"
 part_word Need = codes "need"
 part_word Stream = codes "stream"
 part_word Query = codes "query"
+part_word Since = codes "since"
 part_word Tablet = codes "tablet"
 part_word Version = codes "version"
 part_word Other = codes "other"

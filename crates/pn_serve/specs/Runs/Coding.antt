@@ -1,8 +1,9 @@
 -- How what a run has is stored in a proof.
 use Rattle.std.specs.Prelude.{◌≡◌, ℕ, List, Option, None, Some, refl}
 use Rattle.std.specs.Coded.{Coded, code_by, coded×, coded_ℕ, coded_list, coded_option}
-use Rattle.pn_region.specs.Proofs.Coding.{region_code}
+use Rattle.pn_region.specs.Proofs.Coding.{region_code, entry_code}
 use Rattle.pn_region.specs.Regions.{RegionValue}
+use Rattle.pn_region.specs.declared.entry.Entry.{Entry}
 use Rattle.pn_serve.specs.Machine.Outcomes.{Mode, idle, announced, Machine}
 use Rattle.pn_serve.specs.Runs.Served.{RunValue}
 
@@ -22,10 +23,13 @@ same_mode (announced left text) = refl
 abbrev pub mode_code : Coded Mode
 mode_code = code_by (Option (ℕ × Option (List ℕ))) (coded_option (coded× coded_ℕ (coded_option (coded_list coded_ℕ)))) mode_in mode_from same_mode
 
--- a machine as its mode and its region
+-- a machine as its mode, its region and its log
 abbrev pub machine_code : Coded Machine
 machine_code =
-    code_by (Mode × RegionValue) (coded× mode_code region_code) (λ m. (m.mode, m.region)) (λ p. record { mode = p.0; region = p.1 }) (λ _. refl)
+    code_by ((Mode × RegionValue) × List Entry) (coded× (coded× mode_code region_code) (coded_list entry_code))
+    (λ m. ((m.mode, m.region), m.log))
+    (λ p. record { mode = p.0.0; region = p.0.1; log = p.1 })
+    (λ _. refl)
 
 -- what a run has as pairs
 abbrev pub run_code : Coded RunValue

@@ -9,6 +9,7 @@ use Rattle.pn_tablet.specs.Tablets.{TabletStateValue}
 use Rattle.pn_tablet.specs.declared.copy_fault.CopyTextFault.{CopyTextFault}
 use Rattle.pn_region.specs.Events as events
 use Rattle.pn_region.specs.Events.{RegionEvent}
+use Rattle.pn_region.specs.Logged.{LoggedRegion}
 use Rattle.pn_region.specs.Marking.{new_marks}
 use Rattle.pn_region.specs.Recovery.{adopting}
 use Rattle.pn_region.specs.Regions.{RegionValue}
@@ -17,7 +18,7 @@ use Rattle.pn_serve.specs.declared.refusal.Refusal.{Refusal}
 use Rattle.pn_serve.specs.Command.Lines.{command_at}
 use Rattle.pn_serve.specs.Command.Meaning.{CommandValue, deliver, lose}
 use Rattle.pn_serve.specs.Machine.Announced.{unless_call, with_line}
-use Rattle.pn_serve.specs.Machine.Outcomes.{Outcome, line, round, Mode, idle, announced, Machine, Turn, serving}
+use Rattle.pn_serve.specs.Machine.Outcomes.{Outcome, line, round, Mode, idle, announced, Machine, Turn, logged, serving}
 use Rattle.pn_serve.specs.Machine.Recovering.{adopted}
 use Rattle.pn_serve.specs.Machine.Turns.{turn_of, outcome_at, turn}
 use Rattle.pn_serve.specs.Script.Written.{first_outcome, later_outcomes}
@@ -44,19 +45,19 @@ happened_by machine outcome (Ok (lose tablet)) = unless_refused (turn_of machine
 happened_by machine outcome said = []
 
 -- what happens by the copy of a text that was announced, by a text that is none, and where memory ran out
-abbrev pub happened_by_copy : RegionValue → Result TabletCopyValue CopyTextFault → List RegionEvent
-happened_by_copy region (Ok copy) = unless_refused (adopted region (adopting region copy)) (events.adoption copy)
-happened_by_copy region (Err fault) = []
+abbrev pub happened_by_copy : LoggedRegion → Result TabletCopyValue CopyTextFault → List RegionEvent
+happened_by_copy old (Ok copy) = unless_refused (adopted old (adopting old.state copy)) (events.adoption copy)
+happened_by_copy old (Err fault) = []
 
-abbrev pub happened_by_text : RegionValue → Option (List ℕ) → List RegionEvent
-happened_by_text region None = []
-happened_by_text region (Some text) = happened_by_copy region (copy_at text)
+abbrev pub happened_by_text : LoggedRegion → Option (List ℕ) → List RegionEvent
+happened_by_text old None = []
+happened_by_text old (Some text) = happened_by_copy old (copy_at text)
 
 -- what happens by a line: by a command, or by the last of the lines that an `adopt` line announced
 abbrev pub happened_in : Mode → Machine → Outcome → List ℕ → List RegionEvent
 happened_in idle machine outcome text = happened_by machine (outcome_at outcome text) (command_at text)
 happened_in (announced left came) machine outcome text =
-    if nat_le left 1 then happened_by_text machine.region (unless_call outcome (with_line came text (10 ∷ []))) else []
+    if nat_le left 1 then happened_by_text (logged machine) (unless_call outcome (with_line came text (10 ∷ []))) else []
 
 -- what happens by lines, one after another
 abbrev pub happened_from : Machine → List (List ℕ) → List Outcome → List RegionEvent

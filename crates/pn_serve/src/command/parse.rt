@@ -10,6 +10,7 @@ ghost use Rattle.pn_serve.specs.Command.Lines.{refusal_of, deliver_in, marks_in,
 
 use crate::command::build::built_deliveries;
 use crate::command::lookups::{get_of, read_of, scan_of};
+use crate::command::notices::notices_of;
 use crate::command::ranges::check_batches;
 use crate::command::recovery::{adopt_of, copy_of, lose_of};
 use crate::command::shapes::{batches_of, check_members};
@@ -73,6 +74,7 @@ fn command_in(alloc: Global, value: &Value) -> Result<Command, Refusal>
         Word::Get => get_of(alloc, members, value),
         Word::Lose => lose_of(members, value),
         Word::Marks => marks_of(members),
+        Word::Notices => notices_of(members, value),
         Word::Read => read_of(alloc, members, value),
         Word::Scan => scan_of(alloc, members, value),
         Word::Tablets => tablets_of(members),

@@ -6,7 +6,7 @@ ghost use Rattle.pn_json.specs.Answers.{IsUnless};
 ghost use Rattle.pn_region.specs.Recovery.{adopting};
 ghost use Rattle.pn_tablet.specs.CopyReading.{copy_at};
 ghost use Rattle.pn_serve.specs.Machine.Modes.{bytes_of, mode_of, with_mode};
-ghost use Rattle.pn_serve.specs.Machine.Outcomes.{announced as announced_mode, serving};
+ghost use Rattle.pn_serve.specs.Machine.Outcomes.{announced as announced_mode, waiting};
 ghost use Rattle.pn_serve.specs.Machine.Recovering.{adopted, adopting_text};
 ghost use Rattle.pn_serve.specs.Machine.Turns.{AnswersBy, ConcludesBy};
 ghost use Rattle.pn_serve.specs.Machine.Ways.{ComesTo, IsJoined, TellsBadText, TellsNotAdopted};
@@ -43,7 +43,7 @@ impl Announced {
 
 /// A line that was announced: further ones are waited for, or the copy is adopted.
 pub(crate) fn go_on(alloc: Global, region: &mut Region, announced: Announced, line: &[u8]) -> Done
-    ensures { AnswersBy ⊥ (with_mode (Some announced) region.old.state) line.now (with_mode result.1 region.new.state) result.0 }
+    ensures { AnswersBy ⊥ (with_mode (Some announced) region.old) line.now (with_mode result.1 region.new) result.0 }
 {
     let Announced { left, text } = announced;
     let text = joined(text, line, b"\n");
@@ -56,7 +56,7 @@ pub(crate) fn go_on(alloc: Global, region: &mut Region, announced: Announced, li
 
 /// The input ended behind this part of a line, though further lines were announced.
 pub(crate) fn finish(alloc: Global, region: &mut Region, announced: Announced, part: &[u8]) -> Reply
-    ensures { ConcludesBy ⊥ (with_mode (Some announced) region.old.state) part.now (serving region.new.state) result }
+    ensures { ConcludesBy ⊥ (with_mode (Some announced) region.old) part.now (waiting region.new) result }
 {
     adopt(alloc, region, joined(announced.text, part, b""))
 }
@@ -81,7 +81,7 @@ fn extended(text: Vec<u8>, line: &[u8], newline: &[u8]) -> Result<Vec<u8>, NoMem
 
 /// Adopts the copy that the text spells. None: memory ran out before.
 pub(crate) fn adopt(alloc: Global, region: &mut Region, text: Option<Vec<u8>>) -> Reply
-    ensures { ComesTo (adopting_text region.old.state (bytes_of text)) region.old.state region.new.state result }
+    ensures { ComesTo (adopting_text region.old (bytes_of text)) region.old region.new result }
 {
     let Some(text) = text else {
         return Reply::Refused(Refusal::Memory);
@@ -100,7 +100,7 @@ fn read_text(alloc: Global, text: Vec<u8>) -> Result<TabletCopy, CopyTextFault>
 }
 
 fn adopt_copy(alloc: Global, region: &mut Region, copy: TabletCopy) -> Reply
-    ensures { ComesTo (adopted region.old.state (adopting region.old.state copy)) region.old.state region.new.state result }
+    ensures { ComesTo (adopted region.old (adopting region.old.state copy)) region.old region.new result }
 {
     match region.adopt(copy) {
         Ok(tablet) => Reply::Adopted(tablet as u64),

@@ -4,21 +4,23 @@ ghost use Rattle.std.specs.Prelude.{◌≡◌, MatchResult, IfOk};
 ghost use Rattle.pn_json.specs.Lines.{line_of};
 ghost use Rattle.pn_serve.specs.declared.reply.Reply.TheVariants.{NotTaken, Text, Refused};
 ghost use Rattle.pn_serve.specs.declared.refusal.Refusal.TheVariants.{Memory as no_memory};
-ghost use Rattle.pn_serve.specs.Command.Meaning.{get as get_asked, read as read_asked, scan as scan_asked};
-ghost use Rattle.pn_serve.specs.Machine.Outcomes.{serving};
+ghost use Rattle.pn_serve.specs.Command.Meaning.{get as get_asked, notices as notices_asked, read as read_asked, scan as scan_asked};
+ghost use Rattle.pn_serve.specs.Machine.Outcomes.{waiting};
 ghost use Rattle.pn_serve.specs.Machine.Turns.{Obeys, Refuses};
+ghost use Rattle.pn_serve.specs.Reply.Notices.{found_since};
 ghost use Rattle.pn_serve.specs.Reply.Scan.{scan_data};
 
+use crate::reply::notices::since_reply;
 use crate::reply::record::{get_reply, read_reply};
 use crate::{Refusal, Reply, refused_reply, scan_reply};
 use pn_join::NoMemory;
 use pn_record::{Key, Version};
-use pn_region::Region;
+use pn_region::{Region, Since};
 use pn_scan::{Page, Query, ScanFault};
 use std::alloc::Global;
 
 pub(crate) fn get(alloc: Global, region: &Region, keys: &[Key]) -> Reply
-    ensures { Obeys (serving region.now.state) (get_asked keys.now) (serving region.now.state) result }
+    ensures { Obeys (waiting region.now) (get_asked keys.now) (waiting region.now) result }
 {
     match region.get(keys) {
         Ok(cells) => shown(get_reply(alloc, keys, &cells)),
@@ -27,7 +29,7 @@ pub(crate) fn get(alloc: Global, region: &Region, keys: &[Key]) -> Reply
 }
 
 pub(crate) fn read(alloc: Global, region: &Region, key: &Key, version: Option<Version>) -> Reply
-    ensures { Obeys (serving region.now.state) (read_asked key.now version) (serving region.now.state) result }
+    ensures { Obeys (waiting region.now) (read_asked key.now version) (waiting region.now) result }
 {
     match region.read(key, version) {
         Ok(cell) => shown(read_reply(alloc, key, cell.as_ref())),
@@ -36,12 +38,28 @@ pub(crate) fn read(alloc: Global, region: &Region, key: &Key, version: Option<Ve
 }
 
 pub(crate) fn scan(alloc: Global, region: &Region, query: &Query) -> Reply
-    ensures { Obeys (serving region.now.state) (scan_asked query.now) (serving region.now.state) result }
+    ensures { Obeys (waiting region.now) (scan_asked query.now) (waiting region.now) result }
 {
     match region.scan(query) {
         Ok(page) => shown(page_reply(alloc, page)),
         Err(fault) => refused(alloc, &fault),
     }
+}
+
+pub(crate) fn notices(alloc: Global, region: &Region, since: u64) -> Reply
+    ensures { Obeys (waiting region.now) (notices_asked since) (waiting region.now) result }
+{
+    match region.notices_since(since) {
+        Ok(found) => shown(told_reply(alloc, found)),
+        Err(_) => Reply::Refused(Refusal::Memory),
+    }
+}
+
+// The reply of notices that nobody needs behind it.
+fn told_reply(alloc: Global, found: Since) -> Result<Vec<u8>, NoMemory>
+    ensures { IfOk result (λ text. text.items ≡ line_of (found_since found)) }
+{
+    since_reply(alloc, &found)
 }
 
 // The reply to a scan, of a page that nobody needs behind it.

@@ -3,7 +3,7 @@
 ghost use Rattle.std.specs.Prelude.{◌≡◌};
 ghost use Rattle.std.specs.List.{count_by};
 ghost use Rattle.pn_serve.specs.Command.Meaning.{copy as copy_asked, lose as lose_asked};
-ghost use Rattle.pn_serve.specs.Machine.Outcomes.{serving};
+ghost use Rattle.pn_serve.specs.Machine.Outcomes.{waiting};
 ghost use Rattle.pn_serve.specs.Machine.Turns.{Obeys};
 ghost use Rattle.pn_serve.specs.Machine.Ways.{ShowsCopy, TellsNoCopy, is_newline};
 
@@ -15,7 +15,7 @@ use pn_tablet::{CopyFault, TabletCopy, write_copy};
 use std::alloc::Global;
 
 pub(crate) fn lose(region: &mut Region, tablet: u64) -> Reply
-    ensures { Obeys (serving region.old.state) (lose_asked tablet) (serving region.new.state) result }
+    ensures { Obeys (waiting region.old) (lose_asked tablet) (waiting region.new) result }
 {
     if tablet >= region.layout().count() as u64 {
         return Reply::Refused(Refusal::OutOfRange(Part::Tablet));
@@ -25,7 +25,7 @@ pub(crate) fn lose(region: &mut Region, tablet: u64) -> Reply
 }
 
 pub(crate) fn copy(alloc: Global, region: &Region, need: &Marks, tablet: u64) -> Reply
-    ensures { Obeys (serving region.now.state) (copy_asked need.now tablet) (serving region.now.state) result }
+    ensures { Obeys (waiting region.now) (copy_asked need.now tablet) (waiting region.now) result }
 {
     if tablet >= region.layout().count() as u64 {
         return Reply::Refused(Refusal::OutOfRange(Part::Tablet));

@@ -54,7 +54,10 @@ fn write_recovering(writer: &mut Writer, tablet: usize) -> Result<(), NoMemory>
     Ok(())
 }
 
-fn write_version_or_null(writer: &mut Writer, version: Option<Version>) -> Result<(), NoMemory>
+pub(crate) fn write_version_or_null(
+    writer: &mut Writer,
+    version: Option<Version>,
+) -> Result<(), NoMemory>
     ensures { OnOk result (Appends writer.old writer.new (value_tokens (version_or_null version))) }
 {
     match version {

@@ -51,7 +51,7 @@ impl Model for Run {
 
     ghost coded = { run_code };
 
-    ghost view = { λ run. record { machine = with_mode run.announced run.region.state; line = run.line; waits = run.outbox; counts = run.counts } };
+    ghost view = { λ run. record { machine = with_mode run.announced run.region; line = run.line; waits = run.outbox; counts = run.counts } };
 
     ghost invariant = { λ run. (1 ≤ run.workers) × (run.workers ≤ most_workers) × (run.counts.refused ≤ run.counts.lines) };
 }

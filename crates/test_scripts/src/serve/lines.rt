@@ -18,6 +18,7 @@ fn told(alloc: Global, line: &[u8]) -> Result<String, Fail> {
         Command::Deliver(deliveries) => told_deliveries(alloc, &deliveries),
         Command::Get(keys) => told_keys(alloc, &keys),
         Command::Lose { tablet } => Ok(format!(in alloc; "lose {tablet}")?),
+        Command::Notices { since } => Ok(format!(in alloc; "notices {since}")?),
         Command::Read { key, version } => told_read(alloc, &key, version),
         Command::Scan(query) => Ok(format!(in alloc; "scan {}", query.limit())?),
         Command::Marks => Ok(String::from_str(alloc, "marks")?),
@@ -57,7 +58,7 @@ fn told_deliveries(alloc: Global, deliveries: &[Delivery]) -> Result<String, Fai
 
 #[test]
 fn commands_are_read(rt: HostRuntime) -> Result<(), Fail> {
-    let lines: [(&[u8], &str); 14] = [
+    let lines: [(&[u8], &str); 15] = [
         (br#"{"do":"adopt","lines":1000000}"#, "adopt 1000000"),
         (br#"{"do":"copy","tablet":0}"#, "copy 0 0"),
         (br#"{"do":"copy","need":null,"tablet":0}"#, "copy 0 0"),
@@ -71,6 +72,10 @@ fn commands_are_read(rt: HostRuntime) -> Result<(), Fail> {
         (br#"{"do":"scan","query":{}}"#, "scan 100"),
         (br#"{"do":"scan","query":{"limit":5}}"#, "scan 5"),
         (br#"{"do":"marks"}"#, "marks"),
+        (
+            br#"{"do":"notices","since":1000000000000000000}"#,
+            "notices 1000000000000000000",
+        ),
         (br#"{"do":"tablets"}"#, "tablets"),
     ];
     for (line, want) in lines {
@@ -96,6 +101,26 @@ fn names_the_first_fault(rt: HostRuntime) {
         (br#"{"do":"fly"}"#, Refusal::BadShape(Part::Do)),
         (br#"{"do":"marks","key":"k"}"#, other),
         (scanned, other),
+    ];
+    assert_refused(&rt, rt.alloc(), &lines);
+}
+
+#[test]
+fn names_the_first_fault_of_notices(rt: HostRuntime) {
+    let past = br#"{"do":"notices","since":1000000000000000001}"#;
+    let other = br#"{"do":"notices","key":"k","since":1000000000000000001}"#;
+    let lines: [(&[u8], Refusal); 5] = [
+        (br#"{"do":"notices"}"#, Refusal::BadShape(Part::Since)),
+        (
+            br#"{"do":"notices","since":-1}"#,
+            Refusal::BadShape(Part::Since),
+        ),
+        (
+            br#"{"do":"notices","since":"1"}"#,
+            Refusal::BadShape(Part::Since),
+        ),
+        (other, Refusal::BadShape(Part::Other)),
+        (past, Refusal::OutOfRange(Part::Since)),
     ];
     assert_refused(&rt, rt.alloc(), &lines);
 }

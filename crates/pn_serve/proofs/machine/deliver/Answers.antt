@@ -5,4 +5,5 @@ use Rattle.pn_serve.proofs.machine.deliver.Goals as goal
 pub returns-in-Err-Memory : goal.returns-in-Err-Memory
 returns-in-Err-Memory g c =
     let half = rw c.in-Err-Memory.field-0-is at c.in-Err-Memory.ensures.err in
-    turned_half c.args.region.now.state c.round.new.self.state c.args.deliveries.items half
+    let broken = rw c.in-Err-Memory.field-0-is at c.in-Err-Memory.ensures.broken in
+    turned_half c.args.region.now c.round.new.self c.args.deliveries.items half broken

@@ -5,6 +5,6 @@ use Rattle.pn_serve.proofs.machine.tablets.copy.Goals as goal
 
 pub returns-then-tablet-count : goal.returns-then-tablet-count
 returns-then-tablet-count c =
-    let region = c.args.region.now.state in
-    let past : length region.layout + 1 ≤ c.args.tablet = omega (arith, c.if-tablet-count.true, c.count.ensures.count, ap length c.layout.ensures.layout) in
-    copied_nothing region c.args.need.now c.args.tablet (no_tablet region c.args.tablet c.layout.ensures.region past)
+    let region = c.args.region.now in
+    let past : length region.state.layout + 1 ≤ c.args.tablet = omega (arith, c.if-tablet-count.true, c.count.ensures.count, ap length c.layout.ensures.layout) in
+    copied_nothing region c.args.need.now c.args.tablet (no_tablet region.state c.args.tablet c.layout.ensures.region past)
