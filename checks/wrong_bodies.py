@@ -6,6 +6,8 @@ TOP = os.path.dirname(os.path.dirname(os.path.abspath(__file__)))
 
 FUNCTION = re.compile(r"^\s*(?:pub(?:\(\w+\))? )?(?:const )?fn (\w+)", re.M)
 BEGINS_ITEM = re.compile(r"^(?:pub(?:\(\w+\))? )?(?:const|static|struct|enum|impl|trait|mod|use|type|macro_rules!)\b", re.M)
+IMPL = re.compile(r"^impl\b(?:<.*?>)? (?:.* for )?&?(?:'\w+ )?(\w+)", re.M)
+DECLARED = re.compile(r"(?m)^(?=(?: {2})?(?:pub )?[^\s:(-][^\s:]* : )")
 VERDICT = re.compile(r"^(?:note: (src/\S+): it is not proved .*|fn (\S+): (.*))$", re.M)
 WAITS = re.compile(r"no proof: (it calls .*|it waits .*)$")
 ERROR = re.compile(r"^(?:\./)?((?:src|specs|proofs)/\S+?):(\d+):\d+: error(?:\[\w+\])?: (.*)$", re.M)
@@ -63,7 +65,7 @@ def source(crate, path):
 
 
 def place_in(path, text, at):
-    """The module and function whose body has this place of a text, or None where it is in no body."""
+    """The module, function and type of an impl whose body has this place of a text, or None where it is in no body."""
     functions = [it for it in FUNCTION.finditer(text) if it.start() <= at]
     if not path.startswith("src/") or not functions:
         return None
@@ -73,8 +75,9 @@ def place_in(path, text, at):
     signature = re.compile(r"^\s*(?:\{|.*\{)$", re.M).search(text, last.start())
     if others or body < 0 or not signature or at < signature.start():
         return None
+    owners = [it for it in IMPL.finditer(text, 0, last.start()) if not text.find("\n}\n", it.end(), last.start()) >= 0]
     module = path[len("src/") : -len(".rt")].replace("/", "::")
-    return (module, last[1])
+    return (module, last[1], owners[-1][1] if owners else "")
 
 
 def places_at(crate, path, at):
@@ -94,11 +97,12 @@ def sources_of(crate):
 
 
 def is_at(function, place):
-    """Whether a function that a check names is the one at this place, or a closure in it."""
-    module, name = place
+    """Whether a function that a check names is the one at this place, or a closure in it. A method is named by its type's module."""
+    module, name, owner = place
     inner = "::".join(function.split("::")[1:])
-    within = inner if module == "lib" else inner[len(module) + 2 :]
-    return (module == "lib" or inner.startswith(module + "::")) and name in within.split("::")
+    begins = module == "lib" or inner.startswith(module + "::")
+    parts = inner.split("::")
+    return name in parts and (any(owner in it for it in parts[:-1]) if owner else begins)
 
 
 def edits_of(crate):
@@ -135,14 +139,23 @@ def texts_of(edits):
 
 
 def without_answers(text, lines):
-    """A proof file without the answers that have one of these lines."""
-    blocks, at, kept = re.split(r"(?m)^(?=pub )", text), 1, []
+    """A proof file without the declarations that have one of these lines, and without those that use them."""
+    blocks = DECLARED.split(text)
+    names, at, gone = [], 1, set()
     for block in blocks:
+        name = re.match(r"\s*(?:pub )?(\S+) :", block)
         ends = at + block.count("\n")
-        if not block.startswith("pub ") or not any(at <= line < ends for line in lines):
-            kept.append(block)
+        names.append(name[1] if name else None)
+        if name and any(at <= line < ends for line in lines):
+            gone.add(name[1])
         at = ends
-    return "".join(kept)
+    while True:
+        uses = re.compile(rf"(?<![\w.-])(?:{'|'.join(map(re.escape, gone)) or '$.'})(?![\w-])")
+        more = {name for name, block in zip(names, blocks) if name and name not in gone and uses.search(block)}
+        if not more:
+            left = "".join(block for name, block in zip(names, blocks) if name not in gone)
+            return re.sub(r"(?m)^module _ .* where\n(?=\s*(?:^\S|\Z))", "", left)
+        gone |= more
 
 
 def unproved_in(said):
