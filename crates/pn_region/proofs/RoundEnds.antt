@@ -15,7 +15,7 @@ use Rattle.pn_apply.proofs.Prefixes.{all_old, old_or_stepped, stepped_whole}
 use Rattle.pn_apply.proofs.ReduceLaws.{joins_fit}
 use Rattle.pn_region.specs.Marking.{new_marks}
 use Rattle.pn_region.specs.Regions.{RegionValue, AreTabletsOf, IsRegion, all_cells}
-use Rattle.pn_region.specs.Rounds.{joins, taking, round, changed, Leaves}
+use Rattle.pn_region.specs.Rounds.{joins, taking, round, Leaves}
 use Rattle.pn_region.specs.declared.fault.RoundFault.{RoundFault}
 use Rattle.pn_region.specs.declared.fault.RoundFault.TheVariants.{Gap, TooManyStreams, Memory}
 use Rattle.pn_region.proofs.Apart.{ranges_apart}

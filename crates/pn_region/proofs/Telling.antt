@@ -11,7 +11,6 @@ use Rattle.pn_tablet.specs.declared.change.Change.{Change}
 use Rattle.pn_region.specs.declared.entry.Entry.{Entry}
 use Rattle.pn_region.specs.declared.entry.Entry.TheVariants.{Changed, Break}
 use Rattle.pn_region.specs.declared.since.Notice.{Notice}
-use Rattle.pn_region.specs.declared.since.Since.{Since}
 use Rattle.pn_region.specs.declared.since.Since.TheVariants.{Notices, Missed}
 use Rattle.pn_region.specs.Log.{most_notices, last_number, entries_of, changes_in, is_recent, changes_behind, numbered}
 use Rattle.pn_region.specs.Kept.{AreKept, IsLog}

@@ -1,6 +1,5 @@
 -- A value that is read as a command is the JSON of that command, and that JSON is read as the command.
 use Rattle.std.proofs.Common.{◌≡◌, inl, inr, ℕ, List, [], ◌∷◌, map, codes, true, Option, Some, None, Ok, refl, sym, ap, ◌∙◌, subst}
-use Rattle.std.specs.List.{list_all}
 use Rattle.std.specs.Option.{ok_or}
 use Rattle.serde_json.specs.Data.{Data, number, string, array, object, unsigned, Members, no_members, member}
 use Rattle.serde_json.specs.Find.{get, get_member, as_str, as_array, as_object}
@@ -14,8 +13,7 @@ use Rattle.pn_scan.specs.Queries.{QueryValue}
 use Rattle.pn_record.specs.Sets.{Stamp}
 use Rattle.pn_json.proofs.LookUps.{Rise}
 use Rattle.pn_join.specs.Marks.{Positions}
-use Rattle.pn_record.specs.Marks.{is_mark}
-use Rattle.pn_serve.specs.Command.Json.{delivery_data, tablet_member, adopt_command, copy_command, deliver_command, get_command, notices_command, read_command, scan_command, IsNeed, IsRequired, Says, IsCommand}
+use Rattle.pn_serve.specs.Command.Json.{delivery_data, tablet_member, adopt_command, copy_command, deliver_command, get_command, notices_command, read_command, scan_command, IsRequired, Says, IsCommand}
 use Rattle.pn_serve.specs.Command.Lines.{deliver_in, get_in, marks_in, read_in, scan_in, tablets_in, command_as, command_in}
 use Rattle.pn_serve.specs.Command.Limits.{may_announce, may_be_asked, may_be_required, is_command}
 use Rattle.pn_serve.specs.Command.Meaning.{CommandValue, adopt, copy, deliver, lose, marks, notices, read, scan, tablets}

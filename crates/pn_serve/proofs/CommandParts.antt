@@ -8,7 +8,6 @@ use Rattle.serde_json.specs.View.{items_of}
 use Rattle.pn_json.specs.Members.{whole_number, member_as, each_in, only_named}
 use Rattle.pn_record.specs.Grammar.{numbers_in, shape_in}
 use Rattle.pn_record.specs.Writing.{image_data}
-use Rattle.pn_record.specs.declared.fault.Member.TheVariants as fault
 use Rattle.pn_record.specs.declared.image.Image.{Image}
 use Rattle.pn_json.proofs.Inverses.{bind_ok, guard_ok, map_some, ok_or_ok, and_then_some, string_from_as_str, array_from_as_array, object_from_as_object, number_from_whole}
 use Rattle.pn_record.proofs.Inverses.{version_from_numbers}

@@ -1,7 +1,6 @@
 -- What losses, copies and adoptions come to, by what the program did.
-use Rattle.std.proofs.Common.{true, false, ◌≡◌, ◌≢◌, ◌⊎◌, ℕ, ◌+◌, ◌≤◌, ◌<◌, List, [], ◌∷◌, length, inl, inr, refl, sym, ap, ◌∙◌, subst, arith, slice_get, Option, Some, None}
-use Rattle.std.specs.Prelude.{Result, Ok, Err, Vec, IsSomeAnd}
-use Rattle.std.specs.declared.alloc.Global.{Global}
+use Rattle.std.proofs.Common.{true, false, ◌≡◌, ◌≢◌, ℕ, ◌+◌, ◌≤◌, List, length, inl, inr, refl, sym, ap, ◌∙◌, subst, arith, slice_get, Option, Some, None}
+use Rattle.std.specs.Prelude.{Result, Ok, Err, IsSomeAnd}
 use Rattle.std.proofs.lemmas.Option.{slice_get_past, slice_get_cases}
 use Rattle.serde_json.specs.Data.{Data}
 use Rattle.pn_json.specs.Lines.{line_of}
@@ -10,7 +9,7 @@ use Rattle.pn_join.specs.Marks.{Positions}
 use Rattle.pn_tablet.specs.Copies.{TabletCopyValue}
 use Rattle.pn_tablet.specs.Copying.{copy_of, is_memory}
 use Rattle.pn_tablet.specs.CopyReading.{copy_at}
-use Rattle.pn_tablet.specs.Refusals.{Answers, Refuses}
+use Rattle.pn_tablet.specs.Refusals.{Refuses}
 use Rattle.pn_tablet.specs.Tablets.{TabletStateValue}
 use Rattle.pn_tablet.specs.declared.copy_fault.CopyTextFault.{CopyTextFault}
 use Rattle.pn_tablet.specs.declared.copy_fault.CopyTextFault.TheVariants as text
@@ -29,13 +28,12 @@ use Rattle.pn_serve.specs.declared.refusal.Part.TheVariants.{Tablet}
 use Rattle.pn_serve.specs.declared.refusal.Refusal.TheVariants.{OutOfRange, Memory}
 use Rattle.pn_serve.specs.Command.Meaning.{CommandValue, copy, lose}
 use Rattle.pn_serve.specs.Machine.Doing.{doing}
-use Rattle.pn_serve.specs.Machine.Outcomes.{Outcome, done, call, idle, Machine, Turn, waiting, refusing}
+use Rattle.pn_serve.specs.Machine.Outcomes.{done, idle, Turn, waiting}
 use Rattle.pn_serve.specs.Machine.Recovering.{at_tablet, showing_copy, adopted, adopting_read, adopting_text}
 use Rattle.pn_serve.specs.Machine.Turns.{obeying, Obeys}
 use Rattle.pn_serve.specs.Machine.Ways.{Tells, TellsNoCopy, TellsBadText, TellsNotAdopted, ShowsCopy, ComesTo}
-use Rattle.pn_serve.specs.Reply.Recovery.{no_copy_data, bad_text_data, not_adopted_data}
+use Rattle.pn_serve.specs.Reply.Recovery.{bad_text_data, not_adopted_data}
 use Rattle.pn_serve.specs.Reply.Short.{lost_data}
-use Rattle.pn_serve.specs.Reply.Texts.{reply_text, is_refusal}
 use Rattle.pn_serve.proofs.Turns.{turned_call}
 
 -- a refusal that changes nothing

@@ -1,5 +1,5 @@
 -- What was written where a script is not answered to its end.
-use Rattle.std.proofs.Common.{◌≡◌, ◌≢◌, ℕ, ◌<◌, ◌≤◌, Option, List, [], ◌∷◌, ◌++◌, length, IfSome, OnSome, inl, inr, refl, sym, ap, ◌∙◌, subst, arith, append-nil, append_assoc}
+use Rattle.std.proofs.Common.{◌≡◌, ◌≢◌, ℕ, ◌<◌, ◌≤◌, Option, List, [], ◌∷◌, ◌++◌, length, IfSome, OnSome, inl, inr, refl, sym, ap, ◌∙◌, subst, arith, append_assoc}
 use Rattle.std.specs.Prelude.{Result, Err, IsErrAnd}
 use Rattle.std.proofs.lemmas.Result.{err_from_is_err_and}
 use Rattle.std.specs.Io.KnownBytes.{Appends, IsAtEnd, Keeps}
@@ -18,7 +18,7 @@ use Rattle.pn_serve.specs.Machine.Outcomes.{Outcome, done, Machine, serving}
 use Rattle.pn_serve.specs.Machine.Turns.{turn, Answers}
 use Rattle.pn_serve.specs.Reply.Texts.{reply_text}
 use Rattle.pn_serve.specs.Runs.Ends.{Broken, Cut, Exceeded, Ends, IsAtBound, lines_within}
-use Rattle.pn_serve.specs.Runs.Served.{RunValue, Begun, Answered, AnsweredInPart, Closed, ClosedInPart, AllAnswered, Between}
+use Rattle.pn_serve.specs.Runs.Served.{RunValue, Begun, AnsweredInPart, Closed, ClosedInPart, AllAnswered, Between}
 use Rattle.pn_serve.specs.Runs.Turning.{TurnsTo}
 use Rattle.pn_serve.specs.declared.script.Counts.{Counts}
 use Rattle.pn_serve.specs.declared.script.RunFault.{RunFault}
@@ -27,7 +27,7 @@ use Rattle.pn_serve.specs.declared.script.turns.Next.{Next}
 use Rattle.pn_serve.specs.Script.Written.{replies_from, machine_after, end_of}
 use Rattle.pn_serve.specs.Script.Parts.{parts_of}
 use Rattle.pn_serve.proofs.LongLines.{answers_kept}
-use Rattle.pn_serve.proofs.Serving.{AllAnswered-line, replies_from-push, lines_left, parts_left, parts_read, parts_end, concluded, all_replies, all_sent, nothing_left, stays, of_known}
+use Rattle.pn_serve.proofs.Serving.{replies_from-push, lines_left, parts_left, parts_read, parts_end, concluded, all_replies, all_sent, nothing_left, stays, of_known}
 use Rattle.pn_serve.proofs.Within.{within-million, within-endless, not_all}
 
 -- the replies to lines, and then to more of them

@@ -1,5 +1,5 @@
 -- What a command does where it goes as it says.
-use Rattle.std.specs.Prelude.{true, false, Option, Some, [], Result, Ok, Err, is_err}
+use Rattle.std.specs.Prelude.{true, false, Some, [], Result, Ok, Err, is_err}
 use Rattle.serde_json.specs.Data.{Data}
 use Rattle.pn_json.specs.Lines.{line_of}
 use Rattle.pn_region.specs.Logged.{noting}

@@ -1,5 +1,5 @@
 -- What a line does to what is served, and its reply.
-use Rattle.std.specs.Prelude.{◌≡◌, ◌≢◌, ℕ, Bool, if◌then◌else◌, List, [], ◌∷◌, Some, None, Result, Ok, Err}
+use Rattle.std.specs.Prelude.{◌≡◌, ◌≢◌, ℕ, if◌then◌else◌, List, [], ◌∷◌, Some, None, Result, Ok, Err}
 use Rattle.pn_json.specs.Lines.{line_of}
 use Rattle.pn_region.specs.Logged.{breaking}
 use Rattle.pn_scan.specs.declared.fault.ScanFault.{ScanFault}

@@ -1,5 +1,5 @@
 -- The text is that of the copy, with as many lines as are said.
-use Rattle.std.proofs.Common.{ℕ, List, ◌∷◌, ◌++◌, length, ap, sym, ◌∙◌}
+use Rattle.std.proofs.Common.{ℕ, List, ◌∷◌, ◌++◌, length, ap, ◌∙◌}
 use Rattle.pn_json.specs.Lines.{line_of}
 use Rattle.pn_line.specs.Text.{lines_of}
 use Rattle.std.specs.List.{count_by}
