@@ -1,0 +1,17 @@
+use Rattle.std.proofs.Common.{ap, ◌∙◌, ◌++◌, ◌∷◌, []}
+use Rattle.pn_live.specs.Attempts.{settled_of, tried_of, one_more}
+use Rattle.pn_live.proofs.Chains.{one_more_follows, settled_last, tried_last}
+use Rattle.pn_live.proofs.tablet.noting.tried.Goals as goal
+
+pub note-requires-clause-lawful : goal.note-requires-clause-lawful
+note-requires-clause-lawful g c = rw (c.again.ensures) (one_more_follows c.args.latest.seen.log c.of.result.value c.requires.goes_on)
+
+pub returns-clause-settled : goal.returns-clause-settled
+returns-clause-settled g c =
+    let attempt = one_more c.again.result.seen.log c.of.result.value in
+    ap settled_of c.note.ensures.log ∙ (settled_last [] c.args.latest.seen.log attempt ∙ ap (λ s. settled_of s.seen.log) c.again.ensures)
+
+pub returns-clause-tried : goal.returns-clause-tried
+returns-clause-tried g c =
+    let attempt = one_more c.again.result.seen.log c.of.result.value in
+    ap tried_of c.note.ensures.log ∙ (tried_last [] c.args.latest.seen.log attempt ∙ (λ i. settled_of (c.again.ensures i).seen.log ++ c.of.ensures i ∷ []))

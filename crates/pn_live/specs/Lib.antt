@@ -1,0 +1,5 @@
+pub mod Attempts
+pub mod Books
+pub mod Laws
+pub mod Orders
+pub mod Published
