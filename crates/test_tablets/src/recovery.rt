@@ -1,12 +1,11 @@
 //! Losses and copies of a region's tablet.
 
-use crate::given::{delivery, layout};
+use crate::given::{new_region, region_of, take, take_at};
+use crate::reads::{has, recovering};
 use crate::region::text_of;
-use pn_apply::Open;
 use pn_join::{Marks, Name, raise_at};
-use pn_record::{Key, KeyFault, Version, read_image};
+use pn_record::{KeyFault, Version, read_image};
 use pn_region::{AdoptFault, Region};
-use pn_scan::ScanFault;
 use pn_stream::Delivery;
 use pn_tablet::{Status, TabletCopy};
 use std::alloc::Global;
@@ -15,23 +14,7 @@ use std::thread::Threads;
 
 const FIVE: &[&str] = &["a", "b", "c", "d", "e"];
 
-fn take(
-    rt: &(impl Threads + Sync),
-    alloc: Global,
-    region: &mut Region,
-    delivery: Delivery,
-) -> Result<u64, Fail> {
-    let mut deliveries = Vec::new(alloc);
-    deliveries.push(delivery)?;
-    Ok(region.round(rt, deliveries, 1, &Open)?.changed)
-}
-
-// A region of one tablet that took images at these keys, from the start of a stream.
-fn region(rt: &(impl Threads + Sync), alloc: Global, keys: &[&str]) -> Result<Region, Fail> {
-    let mut region = Region::new(alloc, layout(alloc, &[])?)?;
-    take(rt, alloc, &mut region, delivery(alloc, "east", 1, keys)?)?;
-    Ok(region)
-}
+const FOUR: &[&str] = &["a", "b", "c", "d"];
 
 // Images of a at these versions, from this position of the stream on.
 fn of_a(alloc: Global, first: u64, numbers: &[u64]) -> Result<Delivery, Fail> {
@@ -47,10 +30,10 @@ fn of_a(alloc: Global, first: u64, numbers: &[u64]) -> Result<Delivery, Fail> {
 
 // A region whose tablet was lost after five images, and took two more.
 fn lost(rt: &(impl Threads + Sync), alloc: Global) -> Result<Region, Fail> {
-    let mut region = region(rt, alloc, FIVE)?;
+    let mut region = region_of(rt, alloc, &[], FIVE)?;
     region.lose(0);
     take(rt, alloc, &mut region, of_a(alloc, 6, &[1])?)?;
-    take(rt, alloc, &mut region, delivery(alloc, "east", 7, &["f"])?)?;
+    take_at(rt, alloc, &mut region, 7, &["f"])?;
     Ok(region)
 }
 
@@ -60,19 +43,42 @@ fn need(alloc: Global, position: u64) -> Result<Marks, Fail> {
     Ok(marks)
 }
 
-// A copy that reaches the first five, of a region that took six.
-fn sixth(rt: &(impl Threads + Sync), alloc: Global) -> Result<TabletCopy, Fail> {
-    let mut other = region(rt, alloc, FIVE)?;
-    take(rt, alloc, &mut other, of_a(alloc, 6, &[1])?)?;
-    Ok(other.copy(0, &need(alloc, 5)?)?)
+// A copy of the region's first tablet that reaches the position.
+fn copied(alloc: Global, region: &Region, position: u64) -> Result<TabletCopy, Fail> {
+    let need = need(alloc, position)?;
+    Ok(region.copy(0, &need)?)
 }
 
-// What the region's one tablet needs; nothing where it serves.
-fn needs(alloc: Global, region: &Region) -> Result<String, Fail> {
-    match region.tablet(0).status() {
+// A copy that reaches the first five, of a region that took six.
+fn sixth(rt: &(impl Threads + Sync), alloc: Global) -> Result<TabletCopy, Fail> {
+    let mut other = region_of(rt, alloc, &[], FIVE)?;
+    take(rt, alloc, &mut other, of_a(alloc, 6, &[1])?)?;
+    copied(alloc, &other, 5)
+}
+
+// A copy of a region that took the first four.
+fn fourth(rt: &(impl Threads + Sync), alloc: Global) -> Result<TabletCopy, Fail> {
+    let other = region_of(rt, alloc, &[], FOUR)?;
+    copied(alloc, &other, 4)
+}
+
+// What a tablet needs; nothing where it serves.
+fn need_told(alloc: Global, status: &Status) -> Result<String, Fail> {
+    match status {
         Status::Serving => Ok(String::new(alloc)),
         Status::Recovering { need } => text_of(alloc, need),
     }
+}
+
+// How the region's first tablet stands: what it needs, what it took, what the region took, and how many records
+// it has.
+fn told(alloc: Global, region: &Region) -> Result<String, Fail> {
+    let state = region.tablet(0);
+    let need = need_told(alloc, state.status())?;
+    let cover = text_of(alloc, state.cover())?;
+    let marks = text_of(alloc, region.marks())?;
+    let records = state.cells().len();
+    Ok(format!(in alloc; "needs {need}has {cover}of {marks}and {records}")?)
 }
 
 // The number of the tablet that adopts the copy, or why none does.
@@ -84,114 +90,114 @@ fn adopted(alloc: Global, region: &mut Region, copy: TabletCopy) -> Result<Strin
 }
 
 #[test]
-fn a_lost_tablet_takes_what_comes_and_recovers(rt: HostRuntime) -> Result<(), Fail> {
-    let alloc = rt.alloc();
-    let mut region = lost(&rt, alloc)?;
-    let key = Key::of(alloc, "a")?;
-    assert!(rt; matches!(region.read(&key, None), Err(ScanFault::Recovering(0))));
-    assert_eq!(rt; needs(alloc, &region)?.as_str(), "east:5 ");
-    assert_eq!(rt; region.tablet(0).cells().len(), 2);
+fn a_lost_tablet_takes_what_comes(rt: HostRuntime) -> Result<(), Fail> {
+    let region = lost(&rt, rt.alloc())?;
+    let told = told(rt.alloc(), &region)?;
+    assert_eq!(rt; recovering(rt.alloc(), &region, "a")?, Some(0));
+    assert_eq!(rt; told.as_str(), "needs east:5 has east:7 of east:7 and 2");
+    Ok(())
+}
 
-    assert_eq!(rt;
-        adopted(alloc, &mut region, sixth(&rt, alloc)?)?.as_str(),
-        "0"
-    );
-    assert_eq!(rt; needs(alloc, &region)?.as_str(), "");
-    assert_eq!(rt;
-        text_of(alloc, region.tablet(0).cover())?.as_str(),
-        "east:7 "
-    );
-    assert_eq!(rt; text_of(alloc, region.marks())?.as_str(), "east:7 ");
-    assert_eq!(rt; region.tablet(0).cells().len(), 6);
-    assert!(rt; region.read(&key, Version::new(1, 1))?.is_some());
+#[test]
+fn a_lost_tablet_recovers(rt: HostRuntime) -> Result<(), Fail> {
+    let mut region = lost(&rt, rt.alloc())?;
+    let adopted = adopted(rt.alloc(), &mut region, sixth(&rt, rt.alloc())?)?;
+    assert_eq!(rt; adopted.as_str(), "0");
+    let told = told(rt.alloc(), &region)?;
+    assert_eq!(rt; told.as_str(), "needs has east:7 of east:7 and 6");
+    assert!(rt; has(rt.alloc(), &region, "a", Version::new(1, 1))?);
     Ok(())
 }
 
 #[test]
 fn a_copy_that_is_too_old_changes_nothing(rt: HostRuntime) -> Result<(), Fail> {
-    let alloc = rt.alloc();
-    let mut region = lost(&rt, alloc)?;
-    let copy = self::region(&rt, alloc, &["a", "b", "c", "d"])?.copy(0, &need(alloc, 4)?)?;
+    let mut region = lost(&rt, rt.alloc())?;
+    let adopted = adopted(rt.alloc(), &mut region, fourth(&rt, rt.alloc())?)?;
     assert_eq!(rt;
-        adopted(alloc, &mut region, copy)?.as_str(),
+        adopted.as_str(),
         "too old: the copy has 4 of stream east, and 5 are needed"
     );
-    assert_eq!(rt; needs(alloc, &region)?.as_str(), "east:5 ");
-    assert_eq!(rt; region.tablet(0).cells().len(), 2);
+    let told = told(rt.alloc(), &region)?;
+    assert_eq!(rt; told.as_str(), "needs east:5 has east:7 of east:7 and 2");
     Ok(())
+}
+
+// A copy of the second of two tablets.
+fn second(alloc: Global) -> Result<TabletCopy, Fail> {
+    let halves = new_region(alloc, &["m"])?;
+    if halves.layout().count() != 2 {
+        return Err(Fail::new("not two tablets"));
+    }
+    let nothing = Marks::new(alloc);
+    Ok(halves.copy(1, &nothing)?)
 }
 
 #[test]
 fn a_copy_of_another_range_is_refused(rt: HostRuntime) -> Result<(), Fail> {
-    let alloc = rt.alloc();
-    let mut halves = Region::new(alloc, layout(alloc, &["m"])?)?;
-    assert_eq!(rt;
-        adopted(alloc, &mut halves, sixth(&rt, alloc)?)?.as_str(),
-        "wrong range"
-    );
-    let other = Region::new(alloc, layout(alloc, &["m"])?)?;
-    assert!(rt; other.layout().count() == 2);
-    let second = other.copy(1, &Marks::new(alloc))?;
-    assert_eq!(rt; adopted(alloc, &mut halves, second)?.as_str(), "1");
+    let mut halves = new_region(rt.alloc(), &["m"])?;
+    let whole = adopted(rt.alloc(), &mut halves, sixth(&rt, rt.alloc())?)?;
+    assert_eq!(rt; whole.as_str(), "wrong range");
+    let half = adopted(rt.alloc(), &mut halves, second(rt.alloc())?)?;
+    assert_eq!(rt; half.as_str(), "1");
     Ok(())
+}
+
+// Why the region's first tablet gives no copy that reaches the first five.
+fn why_no_copy(alloc: Global, region: &Region) -> Result<String, Fail> {
+    let need = need(alloc, 5)?;
+    match region.copy(0, &need) {
+        Ok(_) => Err(Fail::new("a copy")),
+        Err(fault) => Ok(format!(in alloc; "{fault}")?),
+    }
 }
 
 #[test]
 fn no_copy_is_given_below_the_need_or_while_recovering(rt: HostRuntime) -> Result<(), Fail> {
-    let alloc = rt.alloc();
-    let mut region = region(&rt, alloc, &["a", "b", "c", "d"])?;
-    let Err(fault) = region.copy(0, &need(alloc, 5)?) else {
-        return Err(Fail::from(KeyFault::OutOfRange));
-    };
+    let mut region = region_of(&rt, rt.alloc(), &[], FOUR)?;
+    let behind = why_no_copy(rt.alloc(), &region)?;
     assert_eq!(rt;
-        format!(in alloc; "{fault}")?.as_str(),
+        behind.as_str(),
         "behind: the tablet has 4 of stream east, and 5 are wanted"
     );
     region.lose(0);
-    let Err(fault) = region.copy(0, &need(alloc, 5)?) else {
-        return Err(Fail::from(KeyFault::OutOfRange));
-    };
-    assert_eq!(rt; format!(in alloc; "{fault}")?.as_str(), "recovering");
+    let lost = why_no_copy(rt.alloc(), &region)?;
+    assert_eq!(rt; lost.as_str(), "recovering");
     Ok(())
+}
+
+// A copy of a region that took five images of one key.
+fn ahead(rt: &(impl Threads + Sync), alloc: Global) -> Result<TabletCopy, Fail> {
+    let mut other = new_region(alloc, &[])?;
+    take(rt, alloc, &mut other, of_a(alloc, 1, &[0, 1, 2, 3, 4])?)?;
+    let nothing = Marks::new(alloc);
+    Ok(other.copy(0, &nothing)?)
 }
 
 #[test]
 fn a_cover_ahead_of_the_marks_is_the_need(rt: HostRuntime) -> Result<(), Fail> {
-    let alloc = rt.alloc();
-    let mut region = region(&rt, alloc, &["a"])?;
-    let mut other = Region::new(alloc, layout(alloc, &[])?)?;
-    take(&rt, alloc, &mut other, of_a(alloc, 1, &[0, 1, 2, 3, 4])?)?;
-    let copy = other.copy(0, &Marks::new(alloc))?;
-    assert_eq!(rt; adopted(alloc, &mut region, copy)?.as_str(), "0");
+    let mut region = region_of(&rt, rt.alloc(), &[], &["a"])?;
+    let adopted = adopted(rt.alloc(), &mut region, ahead(&rt, rt.alloc())?)?;
+    assert_eq!(rt; adopted.as_str(), "0");
     region.lose(0);
-    assert_eq!(rt; text_of(alloc, region.marks())?.as_str(), "east:1 ");
-    assert_eq!(rt;
-        text_of(alloc, region.tablet(0).cover())?.as_str(),
-        "east:5 "
-    );
-    assert_eq!(rt; needs(alloc, &region)?.as_str(), "east:5 ");
+    let told = told(rt.alloc(), &region)?;
+    assert_eq!(rt; told.as_str(), "needs east:5 has east:5 of east:1 and 0");
+    Ok(())
+}
+
+fn lose_second(region: &mut Region) -> Result<(), Fail> {
+    if region.layout().count() != 2 {
+        return Err(Fail::new("not two tablets"));
+    }
+    region.lose(1);
     Ok(())
 }
 
 #[test]
 fn a_loss_is_one_tablets_alone(rt: HostRuntime) -> Result<(), Fail> {
-    let alloc = rt.alloc();
-    let mut halves = Region::new(alloc, layout(alloc, &["m"])?)?;
-    take(
-        &rt,
-        alloc,
-        &mut halves,
-        delivery(alloc, "east", 1, &["l", "m", "n"])?,
-    )?;
-    assert!(rt; halves.layout().count() == 2);
-    halves.lose(1);
-    assert!(rt; halves.read(&Key::of(alloc, "l")?, None)?.is_some());
-    assert!(rt;
-        matches!(
-            halves.read(&Key::of(alloc, "m")?, None),
-            Err(ScanFault::Recovering(1))
-        )
-    );
+    let mut halves = region_of(&rt, rt.alloc(), &["m"], &["l", "m", "n"])?;
+    lose_second(&mut halves)?;
+    assert!(rt; has(rt.alloc(), &halves, "l", None)?);
+    assert_eq!(rt; recovering(rt.alloc(), &halves, "m")?, Some(1));
     Ok(())
 }
 

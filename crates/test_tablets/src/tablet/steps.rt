@@ -5,7 +5,9 @@ ghost use Rattle.pn_join.specs.Marks.{are_positions, is_position};
 ghost use Rattle.pn_tablet.specs.Operations.{HasPositions};
 
 use pn_join::{Marks, Name, raise_at};
-use pn_record::{Body, Cell, Image, Key, KeyFault, Records, Value, read_image, take_image};
+use pn_record::{
+    Body, Cell, Image, Key, KeyFault, Records, Value, Version, read_image, take_image,
+};
 use pn_tablet::{Change, Range, Status, TabletOp, TabletState};
 use std::alloc::Global;
 use std::test::Fail;
@@ -179,8 +181,15 @@ pub(crate) fn stands(state: &TabletState, want: Standing) -> bool {
     needs(state.status(), need) && stands_at(state.cover(), cover) && has(state.cells(), rows)
 }
 
+fn number(version: Option<Version>) -> Option<u64> {
+    match version {
+        Some(version) => Some(version.number),
+        None => None,
+    }
+}
+
 fn tells(change: &Change, told: &Told) -> bool {
-    let before = change.before.map(|version| version.number);
+    let before = number(change.before);
     change.key.as_str() == told.0 && before == told.1 && change.after.number == told.2
 }
 
