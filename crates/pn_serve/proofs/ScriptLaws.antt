@@ -3,7 +3,6 @@ use Rattle.std.proofs.Common.{◌≡◌, ◌⊎◌, inl, inr, ℕ, List, [], ◌
 use Rattle.std.specs.Prelude.{Result, Ok, Err}
 use Rattle.std.specs.FinMap.{find}
 use Rattle.pn_record.specs.Order.{bytes_cmp}
-use Rattle.pn_record.specs.Cells.{SameImages}
 use Rattle.pn_record.specs.CellMap.{Entries, table_of}
 use Rattle.pn_stream.specs.Brokers.{BrokerRecord}
 use Rattle.pn_tablet.specs.Layouts.{Bounds, IsLayout}
@@ -28,18 +27,20 @@ use Rattle.pn_scan.specs.declared.fault.ScanFault.{ScanFault}
 use Rattle.serde_json.specs.Data.{Data}
 use Rattle.pn_json.specs.Lines.{line_of}
 use Rattle.pn_serve.specs.declared.refusal.Refusal.{Refusal}
+use Rattle.pn_serve.specs.declared.refusal.Refusal.TheVariants.{Memory}
 use Rattle.pn_serve.specs.Command.Meaning.{CommandValue, adopt, copy, deliver, get, lose, marks, notices, read, scan, tablets}
-use Rattle.pn_serve.specs.Command.Lines.{is_too_long, command_at}
+use Rattle.pn_serve.specs.Command.Lines.{command_at}
 use Rattle.pn_serve.specs.Command.Lookups.{AsksForRecords}
 use Rattle.pn_serve.specs.Machine.Doing.{found_data, looking}
-use Rattle.pn_serve.specs.Machine.Outcomes.{Outcome, done, Mode, idle, Machine, serving}
-use Rattle.pn_serve.specs.Machine.Turns.{turn_of, turn_in, turn}
+use Rattle.pn_serve.specs.Machine.Outcomes.{Outcome, done, line, call, round as in_part, Mode, idle, Machine, serving}
+use Rattle.pn_serve.specs.Machine.Turns.{turn_of, outcome_at, turn_in, turn, last_of, end_in, end_turn}
 use Rattle.pn_serve.specs.Reply.Record.{read_data, get_data}
 use Rattle.pn_serve.specs.Reply.Scan.{scan_data}
+use Rattle.pn_serve.specs.Reply.Short.{refusal_data}
 use Rattle.pn_serve.specs.Script.Events.{happened, happened_in, happened_from}
-use Rattle.pn_serve.specs.Script.Taken.{taken, NothingLost, AllHonest, Settled, Waits}
+use Rattle.pn_serve.specs.Script.Taken.{taken, NothingLost, AllHonest, Settled}
+use Rattle.pn_serve.specs.Script.Told.{Told, machine_of, records_of, images_of, TookTheSame, AwaitsCommand, reply_of, last_reply, AreAlike, IsNoOlder}
 use Rattle.pn_serve.specs.Script.Written.{machine_after, region_after}
-use Rattle.pn_serve.proofs.Turns.{as_said}
 use Rattle.pn_serve.proofs.Happened.{OneLeads, line_leads, lines_lead}
 
 -- a new region is one
@@ -83,23 +84,19 @@ module _ (broker : BrokerRecord) (bounds : Bounds) (lawful : IsLayout bounds) (l
     | inr honest ↦ taken_together broker bounds (happened (new_region bounds) lines outcomes) after lawful lead_after honest.0 honest.1 settled.retried
   ]
 
-same_records : (bounds others : Bounds) → IsLayout bounds → IsLayout others → (broker : BrokerRecord) (lines more : List (List ℕ)) (went goes : List Outcome)
-    → Settled broker (new_region bounds) lines went → Settled broker (new_region others) more goes
-    → SameImages (taken broker (new_region bounds) lines went) (taken broker (new_region others) more goes)
-    → all_cells (region_after (new_region bounds) lines went) ≡ all_cells (region_after (new_region others) more goes)
-same_records bounds others lawful lawful_too broker lines more went goes settled settled_too same =
-    alike (region_after (new_region bounds) lines went) (region_after (new_region others) more goes) (taken broker (new_region bounds) lines went) (taken broker (new_region others) more goes)
-    (held_records broker bounds lawful lines went settled) (held_records broker others lawful_too more goes settled_too) same
+-- regions that took the same images
+module _ (broker : BrokerRecord) (one other : Told) (took : TookTheSame broker one other) where
+  first_records : records_of one ≡ table_of (images_of broker one)
+  first_records = held_records broker one.layout one.lawful one.lines one.outcomes took.settled
 
--- so both have the records of the images that either took
-pub both_records : (bounds others : Bounds) → IsLayout bounds → IsLayout others → (broker : BrokerRecord) (lines more : List (List ℕ)) (went goes : List Outcome)
-    → Settled broker (new_region bounds) lines went → Settled broker (new_region others) more goes
-    → SameImages (taken broker (new_region bounds) lines went) (taken broker (new_region others) more goes)
-    → (all_cells (region_after (new_region bounds) lines went) ≡ table_of (taken broker (new_region bounds) lines went))
-    × (all_cells (region_after (new_region others) more goes) ≡ table_of (taken broker (new_region bounds) lines went))
-both_records bounds others lawful lawful_too broker lines more went goes settled settled_too same =
-    let first = held_records broker bounds lawful lines went settled in
-    (first, sym (same_records bounds others lawful lawful_too broker lines more went goes settled settled_too same) ∙ first)
+  same_records : records_of one ≡ records_of other
+  same_records =
+      alike (machine_of one).region (machine_of other).region (images_of broker one) (images_of broker other)
+      first_records (held_records broker other.layout other.lawful other.lines other.outcomes took.settled_too) took.same
+
+  -- so both have the records of the images that either took
+  pub both_records : (records_of one ≡ table_of (images_of broker one)) × (records_of other ≡ table_of (images_of broker one))
+  both_records = (first_records, sym same_records ∙ first_records)
 
 found_alike : {A : Type 0} (m n : Machine) (show : A → Data) (one other : Result A ScanFault) → one ≡ other → (looking m show one).reply ≡ (looking n show other).reply
 found_alike m n show one other same = ap (λ right. line_of (found_data show right)) same
@@ -127,24 +124,106 @@ look_alike m n (Ok (scan query)) looks is too same =
 look_alike m n (Ok tablets) looks is too same = absurd looks
 look_alike m n (Err refusal) looks is too same = absurd looks
 
-said_done : (m : Machine) (text : List ℕ) → m.mode ≡ idle → (turn m done text).reply ≡ (turn_of m done (command_at text)).reply
-said_done m text waits =
-    ap (λ (mode : Mode). (turn_in mode m done text).reply) waits ∙ ap (λ (outcome : Outcome). (turn_of m outcome (command_at text)).reply) (as_said (is_too_long text))
+-- a line that asks for records goes as it says, or memory ran out
+abbrev out_of_memory : List ℕ
+out_of_memory = line_of (refusal_data Memory)
 
-pub same_replies : (bounds others : Bounds) → IsLayout bounds → IsLayout others → (broker : BrokerRecord) (lines more : List (List ℕ)) (went goes : List Outcome)
-    → Settled broker (new_region bounds) lines went → Settled broker (new_region others) more goes
-    → SameImages (taken broker (new_region bounds) lines went) (taken broker (new_region others) more goes)
-    → Waits (new_region bounds) lines went → Waits (new_region others) more goes
-    → (text : List ℕ) → AsksForRecords (command_at text)
-    → (turn (machine_after (serving (new_region bounds)) lines went) done text).reply
-    ≡ (turn (machine_after (serving (new_region others)) more goes) done text).reply
-same_replies bounds others lawful lawful_too broker lines more went goes settled settled_too same waits waits_too text looks =
-    let m = machine_after (serving (new_region bounds)) lines went in
-    let n = machine_after (serving (new_region others)) more goes in
-    said_done m text waits
-    ∙ look_alike m n (command_at text) looks (after_is broker bounds lawful lines went, serves broker bounds lawful lines went settled) (after_is broker others lawful_too more goes, serves broker others lawful_too more goes settled_too)
-    (same_records bounds others lawful lawful_too broker lines more went goes settled settled_too same)
-    ∙ sym (said_done n text waits_too)
+as_it_says : (m : Machine) (outcome : Outcome) (said : Result CommandValue Refusal) → AsksForRecords said → ((turn_of m outcome said).reply ≡ out_of_memory) ⊎ ((turn_of m outcome said).reply ≡ (turn_of m done said).reply)
+as_it_says m done said asks = inr refl
+as_it_says m line said asks = inl refl
+as_it_says m call said asks = called said asks
+  where
+    called : (said : Result CommandValue Refusal) → AsksForRecords said → ((turn_of m call said).reply ≡ out_of_memory) ⊎ ((turn_of m call said).reply ≡ (turn_of m done said).reply)
+    called (Ok (adopt lines)) asks = absurd asks
+    called (Ok (copy need tablet)) asks = absurd asks
+    called (Ok (deliver deliveries)) asks = absurd asks
+    called (Ok (get keys)) asks = inl refl
+    called (Ok (lose tablet)) asks = absurd asks
+    called (Ok (notices since)) asks = absurd asks
+    called (Ok marks) asks = absurd asks
+    called (Ok (read key version)) asks = inl refl
+    called (Ok (scan query)) asks = inl refl
+    called (Ok tablets) asks = absurd asks
+    called (Err refusal) asks = absurd asks
+as_it_says m (in_part flags) said asks = partly said asks
+  where
+    partly : (said : Result CommandValue Refusal) → AsksForRecords said → ((turn_of m (in_part flags) said).reply ≡ out_of_memory) ⊎ ((turn_of m (in_part flags) said).reply ≡ (turn_of m done said).reply)
+    partly (Ok (adopt lines)) asks = absurd asks
+    partly (Ok (copy need tablet)) asks = absurd asks
+    partly (Ok (deliver deliveries)) asks = absurd asks
+    partly (Ok (get keys)) asks = inr refl
+    partly (Ok (lose tablet)) asks = absurd asks
+    partly (Ok (notices since)) asks = absurd asks
+    partly (Ok marks) asks = absurd asks
+    partly (Ok (read key version)) asks = inr refl
+    partly (Ok (scan query)) asks = inr refl
+    partly (Ok tablets) asks = absurd asks
+    partly (Err refusal) asks = absurd asks
+
+-- without its newline it does the same
+last_alike : (m : Machine) (outcome : Outcome) (said : Result CommandValue Refusal) → AsksForRecords said → (last_of m outcome said).reply ≡ (turn_of m outcome said).reply
+last_alike m outcome (Ok (adopt lines)) asks = absurd asks
+last_alike m outcome (Ok (copy need tablet)) asks = absurd asks
+last_alike m outcome (Ok (deliver deliveries)) asks = absurd asks
+last_alike m outcome (Ok (lose tablet)) asks = absurd asks
+last_alike m outcome (Ok (notices since)) asks = absurd asks
+last_alike m outcome (Ok marks) asks = absurd asks
+last_alike m outcome (Ok tablets) asks = absurd asks
+last_alike m outcome (Err refusal) asks = absurd asks
+last_alike m done (Ok (get keys)) asks = refl
+last_alike m line (Ok (get keys)) asks = refl
+last_alike m call (Ok (get keys)) asks = refl
+last_alike m (in_part flags) (Ok (get keys)) asks = refl
+last_alike m done (Ok (read key version)) asks = refl
+last_alike m line (Ok (read key version)) asks = refl
+last_alike m call (Ok (read key version)) asks = refl
+last_alike m (in_part flags) (Ok (read key version)) asks = refl
+last_alike m done (Ok (scan query)) asks = refl
+last_alike m line (Ok (scan query)) asks = refl
+last_alike m call (Ok (scan query)) asks = refl
+last_alike m (in_part flags) (Ok (scan query)) asks = refl
+
+alike_if : {a b x y : List ℕ} → (a ≡ out_of_memory) ⊎ (a ≡ x) → (b ≡ out_of_memory) ⊎ (b ≡ y) → x ≡ y → AreAlike a b
+alike_if (inl short) goes same = inl (inl short)
+alike_if (inr went) (inl short) same = inl (inr short)
+alike_if (inr went) (inr goes) same = inr (went ∙ same ∙ sym goes)
+
+-- replies of a machine that waits for a command
+replied : (m : Machine) (outcome : Outcome) (text : List ℕ) → m.mode ≡ idle → (turn m outcome text).reply ≡ (turn_of m (outcome_at outcome text) (command_at text)).reply
+replied m outcome text waits = ap (λ (mode : Mode). (turn_in mode m outcome text).reply) waits
+
+module _ (m n : Machine) (waits : m.mode ≡ idle) (waits_too : n.mode ≡ idle) (same : (said : Result CommandValue Refusal) → AsksForRecords said → (turn_of m done said).reply ≡ (turn_of n done said).reply) (went goes : Outcome) where
+  said_alike : (text : List ℕ) → AsksForRecords (command_at text) → AreAlike (turn_of m (outcome_at went text) (command_at text)).reply (turn_of n (outcome_at goes text) (command_at text)).reply
+  said_alike text asks = alike_if (as_it_says m (outcome_at went text) (command_at text) asks) (as_it_says n (outcome_at goes text) (command_at text) asks) (same (command_at text) asks)
+
+  turns_alike : (text : List ℕ) → AsksForRecords (command_at text) → AreAlike (turn m went text).reply (turn n goes text).reply
+  turns_alike text asks =
+      subst (λ (r : List ℕ). AreAlike r (turn n goes text).reply) (sym (replied m went text waits))
+      (subst (λ (r : List ℕ). AreAlike (turn_of m (outcome_at went text) (command_at text)).reply r) (sym (replied n goes text waits_too)) (said_alike text asks))
+
+  ends_in : (text : List ℕ) → AsksForRecords (command_at text) → AreAlike (end_in idle m went text).reply (end_in idle n goes text).reply
+  ends_in [] asks = inr refl
+  ends_in (b ∷ part) asks =
+      let text = b ∷ part in
+      subst (λ (r : List ℕ). AreAlike r (end_in idle n goes text).reply) (sym (last_alike m (outcome_at went text) (command_at text) asks))
+      (subst (λ (r : List ℕ). AreAlike (turn_of m (outcome_at went text) (command_at text)).reply r) (sym (last_alike n (outcome_at goes text) (command_at text) asks)) (said_alike text asks))
+
+  ends_alike : (text : List ℕ) → AsksForRecords (command_at text) → AreAlike (end_turn m went text).reply (end_turn n goes text).reply
+  ends_alike text asks =
+      subst (λ (r : List ℕ). AreAlike r (end_turn n goes text).reply) (sym (ap (λ (mode : Mode). (end_in mode m went text).reply) waits))
+      (subst (λ (r : List ℕ). AreAlike (end_in idle m went text).reply r) (sym (ap (λ (mode : Mode). (end_in mode n goes text).reply) waits_too)) (ends_in text asks))
+
+pub same_replies : (broker : BrokerRecord) (one other : Told) → TookTheSame broker one other → AwaitsCommand one → AwaitsCommand other
+    → (text : List ℕ) (went goes : Outcome) → AsksForRecords (command_at text)
+    → AreAlike (reply_of one went text) (reply_of other goes text) × AreAlike (last_reply one went text) (last_reply other goes text)
+same_replies broker one other took waits waits_too text went goes asks =
+    let m = machine_of one in
+    let n = machine_of other in
+    let holds : Holds m.region = (after_is broker one.layout one.lawful one.lines one.outcomes, serves broker one.layout one.lawful one.lines one.outcomes took.settled) in
+    let holds_too : Holds n.region = (after_is broker other.layout other.lawful other.lines other.outcomes, serves broker other.layout other.lawful other.lines other.outcomes took.settled_too) in
+    let same : (said : Result CommandValue Refusal) → AsksForRecords said → (turn_of m done said).reply ≡ (turn_of n done said).reply =
+    λ said looks. look_alike m n said looks holds holds_too (same_records broker one other took) in
+    (turns_alike m n waits waits_too same went goes text asks, ends_alike m n waits waits_too same went goes text asks)
 
 -- a record whose tablet serves before and after one event or none is held still
 one_held : (events : List RegionEvent) (old new : RegionValue) (key : List ℕ) → IsRegion old → OneLeads events old new → ServesAt old key → ServesAt new key
@@ -154,23 +233,19 @@ one_held [] old new key is lead serves serves_too =
 one_held (event ∷ []) old new key is lead serves serves_too = event_record event old new key is lead serves serves_too
 one_held (event ∷ next ∷ later) old new key is lead serves serves_too = absurd lead
 
-pub line_held : (bounds : Bounds) → IsLayout bounds → (lines : List (List ℕ)) (outcomes : List Outcome) (outcome : Outcome) (text key : List ℕ)
-    → let before : Machine = machine_after (serving (new_region bounds)) lines outcomes in
-    ServesAt before.region key → ServesAt (turn before outcome text).machine.region key
-    → HoldsStill (find bytes_cmp key (all_cells before.region)) (find bytes_cmp key (all_cells (turn before outcome text).machine.region))
-line_held bounds lawful lines outcomes outcome text key serves_before serves_after =
-    let before = machine_after (serving (new_region bounds)) lines outcomes in
-    let is = after_is (λ name. []) bounds lawful lines outcomes in
+pub line_held : (told : Told) (outcome : Outcome) (text key : List ℕ) → IsNoOlder (machine_of told).region (turn (machine_of told) outcome text).machine.region key
+line_held told outcome text key serves_before serves_after =
+    let before = machine_of told in
+    let is = after_is (λ name. []) told.layout told.lawful told.lines told.outcomes in
     one_held (happened_in before.mode before outcome text) before.region (turn before outcome text).machine.region key is (line_leads before outcome text is) serves_before serves_after
 
-pub lines_held : (bounds : Bounds) → IsLayout bounds → (broker : BrokerRecord) (lines more : List (List ℕ)) (went goes : List Outcome) (key : List ℕ)
-    → let before : Machine = machine_after (serving (new_region bounds)) lines went in
-    let after : Machine = machine_after before more goes in
-    AllHonest broker (new_region bounds) lines went → AreHonestEvents broker (happened_from before more goes) → ServesAt before.region key → ServesAt after.region key
-    → HoldsStill (find bytes_cmp key (all_cells before.region)) (find bytes_cmp key (all_cells after.region))
-lines_held bounds lawful broker lines more went goes key honest honest_too serves_before serves_after =
-    let before = machine_after (serving (new_region bounds)) lines went in
-    let is = after_is broker bounds lawful lines went in
+pub lines_held : (broker : BrokerRecord) (told : Told) (more : List (List ℕ)) (goes : List Outcome) (key : List ℕ)
+    → AreHonestEvents broker (happened (new_region told.layout) told.lines told.outcomes) → AreHonestEvents broker (happened_from (machine_of told) more goes)
+    → IsNoOlder (machine_of told).region (machine_after (machine_of told) more goes).region key
+lines_held broker told more goes key honest honest_too serves_before serves_after =
+    let before = machine_of told in
+    let region = new_region told.layout in
+    let is = after_is broker told.layout told.lawful told.lines told.outcomes in
     events_record broker (happened_from before more goes) before.region (machine_after before more goes).region key is
-    (events_faithful broker (happened (new_region bounds) lines went) (new_region bounds) before.region (new_one bounds lawful) (new_faithful broker bounds) honest (lead_after broker bounds lawful lines went))
+    (events_faithful broker (happened region told.lines told.outcomes) region before.region (new_one told.layout told.lawful) (new_faithful broker told.layout) honest (lead_after broker told.layout told.lawful told.lines told.outcomes))
     honest_too (lines_lead before more goes is) serves_before serves_after

@@ -3,4 +3,5 @@ pub mod Events
 pub mod Losses
 pub mod Parts
 pub mod Taken
+pub mod Told
 pub mod Written

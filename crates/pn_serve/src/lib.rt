@@ -12,9 +12,7 @@ mod settings;
 pub use command::Command;
 pub use command::laws::a_line_is_one_command;
 pub use command::parse::command_of;
-pub use laws::{
-    no_line_makes_a_record_older, records_are_what_was_taken, same_images_same_replies,
-};
+pub use laws::regions_converge;
 pub use refusal::{Part, Refusal};
 pub use reply::Reply;
 pub use reply::faults::fault_reply;
