@@ -3,7 +3,7 @@
 ghost use Rattle.std.specs.Prelude.{◌≡◌, IsErrOf};
 ghost use Rattle.pn_serve.specs.declared.script.RunFault.TheVariants.{Write, Memory};
 ghost use Rattle.pn_serve.specs.Runs.Ends.{Ends};
-ghost use Rattle.pn_serve.specs.Runs.Served.{begins};
+ghost use Rattle.pn_serve.specs.Runs.Served.{Begun, Served, begins};
 
 mod turns;
 
@@ -12,6 +12,7 @@ use crate::script::turns::{Next, Run};
 use pn_join::NoMemory;
 use pn_line::{Sink, Source, WriteFault};
 use std::alloc::Global;
+use std::mem;
 use std::thread::Threads;
 use thiserror::Error;
 
@@ -73,6 +74,41 @@ pub fn run<R: Threads + Sync, S: Source, W: Sink>(
     ensures write { IsErrOf result RunFault.Write → W.may_fail }
 {
     let mut run = Run::new(alloc, settings)?;
+    answer_all(rt, &mut run, input, output)
+}
+
+/// As [`run`], for a process that ends then: its region's memory is not given back piece by piece, but goes
+/// with the process.
+pub fn run_to_exit<R: Threads + Sync, S: Source, W: Sink>(
+    rt: &R,
+    alloc: Global,
+    input: &mut S,
+    output: &mut W,
+    settings: Settings,
+) -> Result<Counts, RunFault>
+    ensures ends { Ends (begins settings (S.left input.old) (W.contents output.old)) (S.left input.new) (W.contents output.new) result }
+    ensures read { IsErrOf result RunFault.Read → S.may_fail }
+    ensures write { IsErrOf result RunFault.Write → W.may_fail }
+{
+    let mut kept = Run::new(alloc, settings)?;
+    let ended = answer_all(rt, &mut kept, input, output);
+    mem::forget(kept);
+    ended
+}
+
+// Answers all lines, of which the run has answered none.
+fn answer_all<R: Threads + Sync, S: Source, W: Sink>(
+    rt: &R,
+    run: &mut Run,
+    input: &mut S,
+    output: &mut W,
+) -> Result<Counts, RunFault>
+    requires none { run.old.counts.lines ≡ 0 }
+    ensures ends { (begun : Begun) → Served begun (S.left input.old) (W.contents output.old) run.old
+        → Ends begun (S.left input.new) (W.contents output.new) result }
+    ensures read { IsErrOf result RunFault.Read → S.may_fail }
+    ensures write { IsErrOf result RunFault.Write → W.may_fail }
+{
     'lines: for _turn in 0..MOST_LINES {
         match run.turn(rt, input, output)? {
             Next::Line => {}

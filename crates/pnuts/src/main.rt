@@ -1,7 +1,7 @@
 //! `pnuts`: a script on standard input becomes replies on standard output.
 #![tactic(auto)]
 
-use pn_serve::{Counts, RunFault, Settings, run};
+use pn_serve::{Counts, RunFault, Settings, run_to_exit};
 use pn_tablet::Layout;
 use std::alloc::Global;
 use std::io;
@@ -30,7 +30,7 @@ fn answer_input(
         return Err(RunFault::Memory);
     };
     let settings = one_tablet(rt.alloc());
-    run(rt, rt.alloc(), &mut input, &mut io::writer(rt), settings)
+    run_to_exit(rt, rt.alloc(), &mut input, &mut io::writer(rt), settings)
 }
 
 // One tablet for all keys, and one worker.
