@@ -35,3 +35,4 @@ pub mod TakenImages
 pub mod Telling
 pub mod Together
 pub mod Untraced
+pub mod Sound

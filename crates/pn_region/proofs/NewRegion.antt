@@ -28,13 +28,18 @@ new_is layout ts marks lawful empty none =
     (subst (λ (m : Positions). IsRegion (record { layout = layout; tablets = map empty_tablet (ranges layout); marks = m })) (sym none)
     (record { lawful = lawful; tablets = empty_ones (ranges layout) }))
 
+-- one more of what is made for each range
+pub range_more : {A : Type 0} (made : Ends → A) (bounds : Bounds) (n : ℕ) (xs : List A) (x : A) → xs ≡ map made (map (tablet_ends bounds) (range_with_len 0 n)) → x ≡ made (tablet_ends bounds n)
+    → xs ++ x ∷ [] ≡ map made (map (tablet_ends bounds) (range_with_len 0 (n + 1)))
+range_more made bounds n xs x so_far one =
+    (λ i. so_far i ++ one i ∷ [])
+    ∙ sym (map-append made (map (tablet_ends bounds) (range_with_len 0 n)) (tablet_ends bounds n ∷ []))
+    ∙ ap (map made) (sym (map-range_with_len_more (tablet_ends bounds) 0 n n (omega arith)))
+
 -- one more empty tablet
 pub empty_more : (bounds : Bounds) (n : ℕ) (ts : List TabletStateValue) (t : TabletStateValue) (ends : Ends) → ts ≡ map empty_tablet (map (tablet_ends bounds) (range_with_len 0 n)) → t ≡ empty_tablet ends → ends ≡ tablet_ends bounds n
     → ts ++ t ∷ [] ≡ map empty_tablet (map (tablet_ends bounds) (range_with_len 0 (n + 1)))
-empty_more bounds n ts t ends so_far empty at =
-    (λ i. so_far i ++ (empty ∙ ap empty_tablet at) i ∷ [])
-    ∙ sym (map-append empty_tablet (map (tablet_ends bounds) (range_with_len 0 n)) (tablet_ends bounds n ∷ []))
-    ∙ ap (map empty_tablet) (sym (map-range_with_len_more (tablet_ends bounds) 0 n n (omega arith)))
+empty_more bounds n ts t ends so_far empty at = range_more empty_tablet bounds n ts t so_far (empty ∙ ap empty_tablet at)
 
 pub tablet_at : (ts : List TabletStateValue) (n : ℕ) (t : TabletStateValue) → n < length ts → t ≡ get_or ts n t → slice_get ts n ≡ Some t
 tablet_at [] n t within is = absurd (omega arith)

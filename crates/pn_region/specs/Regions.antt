@@ -23,6 +23,22 @@ pub record IsTabletOf (marks : Positions) (ends : Ends) (tablet : TabletStateVal
   pub spelled : IsSpelled tablet.cells
   pub covered : Reaches tablet.cover marks
 
+-- the tablet has the range, and its cover reaches the marks
+pub record IsPartOf (marks : Positions) (ends : Ends) (tablet : TabletStateValue) : Type 0 where
+  pub range : tablet.range ≡ ends
+  pub covered : Reaches tablet.cover marks
+
+-- there is one tablet for each range, in their order
+abbrev pub ArePartsOf : Positions → List Ends → List TabletStateValue → Type 0
+ArePartsOf marks [] [] = Unit {0}
+ArePartsOf marks (range ∷ others) (tablet ∷ tablets) = IsPartOf marks range tablet × ArePartsOf marks others tablets
+ArePartsOf marks _ _ = ⊥
+
+-- its keys lie in its range, and its cells are those of images, as every tablet's are
+pub record IsSound (tablet : TabletStateValue) : Type 0 where
+  pub inside : IsTrue (lie_in tablet.range tablet.cells)
+  pub spelled : IsSpelled tablet.cells
+
 -- each range has its own tablet, in their order
 abbrev pub AreTabletsOf : Positions → List Ends → List TabletStateValue → Type 0
 AreTabletsOf marks [] [] = Unit {0}

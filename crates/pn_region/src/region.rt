@@ -18,6 +18,7 @@ ghost use Rattle.pn_region.specs.Regions.{IsRegion, all_cells};
 ghost use Rattle.pn_region.specs.Rounds.{round, changed, Leaves};
 ghost use Rattle.pn_region.specs.Since.{IsSince};
 
+mod parts;
 mod recovery;
 
 use crate::{Log, RoundFault, Since, next_marks};

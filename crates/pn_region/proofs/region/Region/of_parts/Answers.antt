@@ -1,0 +1,17 @@
+-- Parts that fit are a region.
+use Rattle.std.proofs.Common.{List, subst}
+use Rattle.std.specs.List.{AllByRecursion}
+use Rattle.pn_tablet.specs.Tablets.{TabletStateValue}
+use Rattle.pn_apply.specs.Reducing.{ranges}
+use Rattle.pn_region.specs.Regions.{IsSound}
+use Rattle.pn_region.proofs.Sound.{parts_are_tablets}
+use Rattle.pn_region.proofs.region.Region.of_parts.Goals as goal
+
+pub invariant_of-result : goal.invariant_of-result
+invariant_of-result c = record {
+  is_region = record {
+    lawful = c.are_sound.ensures.lawful;
+    tablets = parts_are_tablets c.args.marks (ranges c.args.layout) c.args.tablets.items c.requires.tablets (subst (λ (ts : List TabletStateValue). AllByRecursion IsSound ts) c.deref.ensures.value c.are_sound.ensures.sound);
+  };
+  are_marks = record { few = c.requires.few; positions = c.requires.positions };
+}

@@ -1,0 +1,63 @@
+//! Regions of parts that are known to fit.
+
+ghost use Rattle.std.specs.Prelude.{◌≡◌, ◌≤◌, length, IsTrue};
+ghost use Rattle.std.specs.List.{AllByRecursion};
+ghost use Rattle.pn_join.specs.Marks.{are_positions};
+ghost use Rattle.pn_tablet.specs.Layouts.{IsLayout};
+ghost use Rattle.pn_apply.specs.Reducing.{ranges};
+ghost use Rattle.pn_region.specs.Limits.{most_streams};
+ghost use Rattle.pn_region.specs.Regions.{ArePartsOf, IsSound};
+
+use super::Region;
+use crate::Log;
+use pn_join::Marks;
+use pn_tablet::{Layout, TabletState};
+use std::alloc::Global;
+
+impl Region {
+    /// The region of these parts, whose later growth is taken from the allocator. There is one tablet for each
+    /// range of the layout, in their order, the cover of each reaches the marks, and the marks name at most 16
+    /// streams, at positions of 1 to 10^15. It takes no memory.
+    pub fn of_parts(
+        alloc: Global,
+        layout: Layout,
+        tablets: Vec<TabletState>,
+        marks: Marks,
+        log: Log,
+    ) -> Region
+        requires tablets { ArePartsOf marks (ranges layout) tablets.items }
+        requires few { length marks ≤ most_streams }
+        requires positions { IsTrue (are_positions marks) }
+        ensures layout { result.state.layout ≡ layout }
+        ensures tablets { result.state.tablets ≡ tablets.items }
+        ensures marks { result.state.marks ≡ marks }
+        ensures log { result.log ≡ log }
+    {
+        are_sound(&layout, &tablets);
+        Region {
+            layout,
+            tablets,
+            marks,
+            log,
+            alloc,
+        }
+    }
+}
+
+// What every layout and every tablet keeps is known behind this call, which does nothing.
+fn are_sound(layout: &Layout, tablets: &[TabletState])
+    ensures lawful { IsLayout layout.now }
+    ensures sound { AllByRecursion IsSound tablets.now }
+{
+    let _ = layout.count();
+    for tablet in tablets {
+        is_sound(tablet);
+    }
+}
+
+fn is_sound(tablet: &TabletState)
+    ensures { IsSound tablet.now }
+{
+    let _ = tablet.range();
+    let _ = tablet.cells();
+}
