@@ -128,4 +128,119 @@ AHEAD = [
     ([TABLETS], [tablets(5, '{"east":5}')]),
 ]
 
-TALKS = [("copies", COPIES), ("recovery", RECOVERY), ("copy too old", TOO_OLD), ("cover ahead of marks", AHEAD)]
+DAMAGED = [
+    ([deliver(1, image("q"))], ['{"changed":1}']),
+    (['{"do":"adopt","lines":2}', *COPY[:2]], ['{"error":"truncated"}']),
+    (['{"do":"adopt","lines":3}', *COPY[:2], '{"end":2}'], ['{"error":"bad-end"}']),
+    (['{"do":"adopt","lines":2}', '{"copy":1,"from":"m","to":null}', '{"end":0}'], ['{"error":"wrong-range"}']),
+    (['{"do":"adopt","lines":2}', '{"copy":1,"from":"m","to":null}', FIVE[0]], ['{"error":"outside-range","line":2}']),
+    (['{"do":"adopt","lines":8}', *COPY[:3], FIVE[2], FIVE[1], *COPY[5:]], ['{"error":"not-rising","line":5}']),
+    ([SCAN], [page(row("q"))]),
+    ([TABLETS], [tablets(1)]),
+]
+
+TALKS = [
+    ("copies", COPIES),
+    ("recovery", RECOVERY),
+    ("copy too old", TOO_OLD),
+    ("cover ahead of marks", AHEAD),
+    ("damaged copies", DAMAGED),
+]
+
+
+# Talks with a log: each command with the lines that it announces, its reply, and what it does to the log: the changes of a
+# round, as notices without their numbers, or a break. Where the reply is a number, notices are asked for behind it.
+BREAK = [None]
+
+
+def change(key, after=0, before="null"):
+    return f'{{"after":[1,{after}],"before":{before},"key":"{key}","number":%d}}'
+
+
+def round_of(line, *changes):
+    return ([line], ['{"changed":%d}' % len(changes)], list(changes))
+
+
+def notices(*numbers):
+    return [([f'{{"do":"notices","since":{number}}}'], number, []) for number in numbers]
+
+
+def halves(lower, upper):
+    """Two tablets, with their covers, and their needs or null."""
+    ends = (("null", '"m"'), ('"m"', "null"))
+    shown = [
+        f'{{"cover":{{"east":{cover}}},"from":{start},"need":{need},"to":{end}}}'
+        for (cover, need), (start, end) in zip((lower, upper), ends)
+    ]
+    return f'{{"tablets":[{",".join(shown)}]}}'
+
+
+def copy_of(start, end, position, *images):
+    text = [f'{{"copy":1,"from":{start},"to":{end}}}', f'{{"at":{position},"stream":"east"}}', *images]
+    return [*text, f'{{"end":{len(images) + 1}}}']
+
+
+def lose(tablet):
+    return ([f'{{"do":"lose","tablet":{tablet}}}'], [f'{{"lost":{tablet}}}'], BREAK)
+
+
+def adopt(tablet, lines):
+    return ([f'{{"do":"adopt","lines":{len(lines)}}}', *lines], [f'{{"adopted":{tablet}}}'], BREAK)
+
+
+def copied(tablet, lines):
+    return ([f'{{"do":"copy","tablet":{tablet}}}'], [f'{{"lines":{len(lines)}}}', *lines], [])
+
+
+def told(line, reply):
+    return ([line], [reply], [])
+
+
+def read(key):
+    return f'{{"do":"read","key":"{key}"}}'
+
+
+NOTICES_MISSED = [
+    round_of(deliver(1, image("k")), change("k")),
+    round_of(deliver(1, image("k"))),
+    told(SCAN, page(row("k"))),
+    *notices(0),
+    lose(0),
+    *notices(1, 2, 3),
+]
+
+
+def deleted(key):
+    return f'{{"deleted":true,"key":"{key}","master":"w","version":[1,0]}}'
+
+
+MANY_KEYS = [f"{number:04}" for number in range(1, 1026)]
+TOO_MANY_NOTICES = [
+    round_of(deliver(1, *map(deleted, MANY_KEYS[:600])), *map(change, MANY_KEYS[:600])),
+    round_of(deliver(601, *map(deleted, MANY_KEYS[600:])), *map(change, MANY_KEYS[600:])),
+    *notices(0, 1),
+]
+LOWER, UPPER = copy_of("null", '"m"', 3, image("l")), copy_of('"m"', "null", 3, image("m"), image("n"))
+BOTH_LOST = [
+    round_of(deliver(1, image("l"), image("m"), image("n")), change("l"), change("m"), change("n")),
+    *notices(0),
+    told(SCAN, page(*map(row, "lmn"))),
+    copied(0, LOWER),
+    copied(1, UPPER),
+    lose(1),
+    told(read("m"), '{"error":"recovering","tablet":1}'),
+    told(read("l"), f'{{"row":{row("l")}}}'),
+    lose(0),
+    told(SCAN, '{"error":"recovering","tablet":0}'),
+    told(TABLETS, halves((3, '{"east":3}'), (3, '{"east":3}'))),
+    *notices(3, 5),
+    round_of(deliver(4, image("a"), image("n", 1, "y")), change("a"), change("n", 1)),
+    *notices(3, 5),
+    adopt(0, LOWER),
+    told('{"do":"get","keys":["l","a"]}', f'{{"rows":[{row("l")},{row("a")}]}}'),
+    told(SCAN, '{"error":"recovering","tablet":1}'),
+    adopt(1, UPPER),
+    told(SCAN, page(*map(row, "alm"), row("n", 1, "y"))),
+    told(TABLETS, halves((5, "null"), (5, "null"))),
+    *notices(7, 9),
+]

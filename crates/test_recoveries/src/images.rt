@@ -8,11 +8,18 @@ use std::alloc::{AllocError, Global};
 pub(crate) const KEYS: [&str; 6] = ["a", "b", "c", "d", "e", "f"];
 
 /// The members that say what an image is, in content order.
-const BODIES: [&str; 3] = [
+const BODIES: [&str; 5] = [
     r#""deleted":true"#,
+    r#""fields":{}"#,
+    r#""fields":{"u":"x","v":"y"}"#,
     r#""fields":{"v":"x"}"#,
-    r#""fields":{"v":"y"}"#,
+    r#""fields":{"v":"xy"}"#,
 ];
+
+/// The texts of the two fields in these bodies.
+const U_TEXTS: [&str; 5] = ["", "", "x", "", ""];
+
+const V_TEXTS: [&str; 5] = ["", "", "y", "x", "xy"];
 
 /// How many contents there are, from the first, which is a deletion.
 pub(crate) const CONTENTS: usize = BODIES.len();
@@ -40,6 +47,13 @@ pub(crate) fn images_of(
         })?;
     }
     Ok(images)
+}
+
+/// The text that a body has in the field `u` or `v`.
+pub(crate) fn text_in(body: usize, field: &str) -> Option<&'static str> {
+    let texts = if field == "u" { &U_TEXTS } else { &V_TEXTS };
+    let text = texts.get(body).copied().unwrap_or("");
+    if text.is_empty() { None } else { Some(text) }
 }
 
 /// The text of a key.

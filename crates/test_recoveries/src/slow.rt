@@ -1,7 +1,8 @@
 //! A region of the slow program, which says what the fast one has to reply.
 
 use crate::images::{KEYS, PlainImage, line_of, push_item};
-use crate::tablet::{Positions, SlowTablet, all_shown, greater, positions_text, row_text};
+use crate::notices::Change;
+use crate::tablet::{Positions, SlowTablet, all_shown, greater, positions_text};
 use std::alloc::{AllocError, Global};
 
 /// Tablets, and how far streams were taken into all of them.
@@ -9,6 +10,7 @@ use std::alloc::{AllocError, Global};
 pub(crate) struct SlowRegion {
     pub(crate) tablets: Vec<SlowTablet>,
     pub(crate) marks: Positions,
+    pub(crate) log: Vec<Option<Change>>,
 }
 
 /// A copy: how far streams were taken, and the images that are shown.
@@ -47,6 +49,7 @@ impl SlowRegion {
         Ok(SlowRegion {
             tablets,
             marks: (0, 0),
+            log: Vec::new(alloc),
         })
     }
 
@@ -59,11 +62,12 @@ impl SlowRegion {
     ) -> Result<String, AllocError> {
         self.marks = greater(self.marks, reached);
         let marks = self.marks;
-        let mut changed = 0u64;
+        let before = self.log.len();
         for tablet in self.tablets.iter_mut() {
-            changed = changed.saturating_add(tablet.take(alloc, images)?);
+            tablet.take(alloc, images, &mut self.log)?;
             tablet.cover = greater(tablet.cover, marks);
         }
+        let changed = self.log.len().saturating_sub(before);
         format!(in alloc; "{{\"changed\":{changed}}}\n")
     }
 
@@ -73,6 +77,7 @@ impl SlowRegion {
             tablet.images.clear();
             tablet.need = Some(tablet.cover);
         }
+        self.log.push(None)?;
         format!(in alloc; "{{\"lost\":{number}}}\n")
     }
 
@@ -122,6 +127,7 @@ impl SlowRegion {
             tablet.cover = greater(tablet.cover, copy.marks);
             tablet.need = None;
         }
+        self.log.push(None)?;
         format!(in alloc; "{{\"adopted\":{number}}}\n")
     }
 
@@ -151,22 +157,6 @@ impl SlowRegion {
         let end = format!(in alloc; "{{\"end\":{}}}\n", lines.saturating_sub(1))?;
         text.push_str(end.as_str())?;
         Ok((text, lines.saturating_add(1)))
-    }
-
-    /// The reply to a scan of all records.
-    pub(crate) fn scan(&self, alloc: Global) -> Result<String, AllocError> {
-        let mut rows = String::new(alloc);
-        for (number, tablet) in self.tablets.iter().enumerate() {
-            if tablet.need.is_some() {
-                return format!(in alloc; "{{\"error\":\"recovering\",\"tablet\":{number}}}\n");
-            }
-            for key in tablet.from..tablet.to {
-                if let Some(row) = row_text(alloc, &tablet.images, key)? {
-                    push_item(&mut rows, row.as_str())?;
-                }
-            }
-        }
-        format!(in alloc; "{{\"next\":null,\"rows\":[{rows}]}}\n")
     }
 
     /// The reply that shows all tablets.

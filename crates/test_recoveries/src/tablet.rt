@@ -1,6 +1,7 @@
 //! A tablet of the slow program: all images that it was given in one list, through which each record is found.
 
 use crate::images::{CONTENTS, KEYS, PlainImage, content_text, key_text, line_of, push_item};
+use crate::notices::Change;
 use std::alloc::{AllocError, Global};
 
 /// How far the two streams were taken, of which the first has the lesser name.
@@ -34,8 +35,8 @@ pub(crate) fn positions_text(alloc: Global, positions: Positions) -> Result<Stri
     format!(in alloc; "{{{list}}}")
 }
 
-// The greatest version that came with a key.
-fn number_of(images: &[PlainImage], key: usize) -> Option<u64> {
+/// The greatest version that came with a key.
+pub(crate) fn number_of(images: &[PlainImage], key: usize) -> Option<u64> {
     let mut greatest = None;
     for image in images {
         if image.key == key && greatest < Some(image.number) {
@@ -94,7 +95,7 @@ fn record_text(alloc: Global, images: &[PlainImage], key: usize) -> Result<Strin
     Ok(text)
 }
 
-/// The row of a key, where it is shown.
+/// The row of a key, where there is a record.
 pub(crate) fn row_text(
     alloc: Global,
     images: &[PlainImage],
@@ -102,16 +103,18 @@ pub(crate) fn row_text(
 ) -> Result<Option<String>, AllocError> {
     let shown = shown_of(alloc, images, key)?;
     let mut contents = String::new(alloc);
-    let mut has_fields = false;
     for image in &shown {
-        has_fields |= image.body > 0;
         push_item(&mut contents, content_text(alloc, image.body)?.as_str())?;
     }
-    if !has_fields {
+    let Some(first) = shown.first() else {
         return Ok(None);
-    }
-    let state = if shown.len() == 1 { "one" } else { "conflict" };
-    let number = number_of(images, key).unwrap_or(0);
+    };
+    let state = match (shown.len(), first.body) {
+        (1, 0) => "deleted",
+        (1, _) => "one",
+        _ => "conflict",
+    };
+    let number = first.number;
     let key = key_text(key);
     Ok(Some(format!(in alloc;
         "{{\"contents\":[{contents}],\"key\":\"{key}\",\"state\":\"{state}\",\"version\":[1,{number}]}}"
@@ -123,21 +126,29 @@ impl SlowTablet {
         self.from <= key && key < self.to
     }
 
-    /// Takes the images of its own keys, and says how many records these changed.
-    pub(crate) fn take(&mut self, alloc: Global, images: &[PlainImage]) -> Result<u64, AllocError> {
+    /// Takes the images of its own keys, and adds which records these changed.
+    pub(crate) fn take(
+        &mut self,
+        alloc: Global,
+        images: &[PlainImage],
+        changes: &mut Vec<Option<Change>>,
+    ) -> Result<(), AllocError> {
         let before = self.images.clone()?;
         for image in images {
             if self.holds(image.key) {
                 self.images.push(*image)?;
             }
         }
-        let mut changed = 0u64;
         for key in self.from..self.to {
             if record_text(alloc, &before, key)? != record_text(alloc, &self.images, key)? {
-                changed = changed.saturating_add(1);
+                changes.push(Some(Change {
+                    key,
+                    before: number_of(&before, key),
+                    after: number_of(&self.images, key).unwrap_or(0),
+                }))?;
             }
         }
-        Ok(changed)
+        Ok(())
     }
 
     /// Its two ends as JSON.
