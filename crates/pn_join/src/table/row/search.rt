@@ -37,7 +37,14 @@ impl<K: Ord + Dup, C: Join> Row<K, C> {
         ensures leaf { IsTrue result → place ≡ leaf_for K.cmp key.now self.now }
         ensures row { IsRow K.cmp C.valid self.now }
     {
-        place < self.count() && self.is_behind(place, key) && self.reaches(place, key)
+        let count = self.count();
+        if place >= count {
+            return false;
+        }
+        if self.is_behind(place, key) {
+            return self.reaches(place, key);
+        }
+        false
     }
 
     /// Whether the leaf before it ends below the key, if there is one.
