@@ -11,9 +11,9 @@ returns-then-is_behind-clause-leaf g c = λ yes.
     let key = c.args.key.now in
     let rows = c.args.self.now in
     let place = c.args.place in
-    let row = c.count.ensures.row in
+    let row = c.count-count.ensures.row in
     leaf_for-at cmp key g.met.K.Ord.total rows (row_some cmp g.C.Join.valid rows row) (row_rising cmp g.C.Join.valid rows row) place
-    (omega (arith, c.if-place-count.false, c.count.ensures.count))
+    (omega (arith, c.if-place-count.false, c.count-count.ensures.count))
     (λ i e.
       let at : place - 1 ≡ i = omega (arith, e) in
       ap (λ k. ends_below cmp key (get_or rows k [])) (sym at) ∙ c.is_behind.ensures c.if-is_behind.true (omega (arith, e)))
