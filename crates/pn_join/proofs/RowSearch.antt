@@ -185,6 +185,15 @@ module _ {K X : Type 0} (cmp : K → K → Ordering) (key : K) where
           | false ↦ omega arith
         ]
 
+    -- a leaf that does not end below the key, or is the last, where the one before it does
+    pub leaf_for-at : (rows : List (List (K × X))) → AllByRecursion (λ leaf. 0 < length leaf) rows → Rising cmp (all_entries rows) → (j : ℕ) → j < length rows → ((i : ℕ) → suc i ≡ j → ends_below cmp key (get_or rows i []) ≡ true) → (j + 1 < length rows → ends_below cmp key (get_or rows j []) ≡ false) → j ≡ leaf_for cmp key rows
+    leaf_for-at [] some h j lt before here = absurd (omega (arith, lt))
+    leaf_for-at (l ∷ []) some h j lt before here = omega (arith, lt)
+    leaf_for-at (l ∷ m ∷ ls) some h zero lt before here = sym (ap (λ b. cond b (suc (leaf_for cmp key (m ∷ ls))) 0) (here (omega arith)))
+    leaf_for-at (l ∷ m ∷ ls) some h (suc j) lt before here =
+        let rest = leaf_for-at (m ∷ ls) some.1 (Rising-back cmp l (all_entries (m ∷ ls)) h) j (omega (arith, lt)) (λ i e. before (suc i) (ap suc e)) (λ more. here (omega (arith, more))) in
+        ap suc rest ∙ sym (ap (λ b. cond b (suc (leaf_for cmp key (m ∷ ls))) 0) (parted (l ∷ m ∷ ls) some h 0 j (omega arith) (omega (arith, lt)) (before j refl)))
+
     -- the search for the first that does not end below the key, and no further than the last
     pub leaf_for-search : (rows : List (List (K × X))) → leaf_for cmp key rows ≡ min (prefix_len (λ leaf. ends_below cmp key leaf) rows) (length rows - 1)
     leaf_for-search [] = omega arith

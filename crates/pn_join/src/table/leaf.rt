@@ -37,10 +37,17 @@ impl<K: Ord, C> Leaf<K, C> {
     pub fn ends_below(&self, key: &K) -> bool
         ensures { result ≡ ends_below K.cmp key.now (leaf_entries self.now) }
     {
-        match self.entries().last() {
-            Some((last, _)) => last.cmp(key).is_lt(),
-            None => false,
-        }
+        is_last_below(self.entries(), key)
+    }
+}
+
+/// Whether the last key is less.
+pub fn is_last_below<K: Ord, C>(entries: &[(K, C)], key: &K) -> bool
+    ensures { result ≡ ends_below K.cmp key.now entries.now }
+{
+    match entries.last() {
+        Some((last, _)) => last.cmp(key).is_lt(),
+        None => false,
     }
 }
 

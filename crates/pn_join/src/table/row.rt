@@ -12,11 +12,13 @@ ghost use Rattle.pn_join.specs.RowChanges.{with_back};
 ghost use Rattle.pn_join.specs.Tables.{IsTable};
 
 mod room;
+mod search;
 mod together;
 
 use crate::table::ends::{copied, count_in};
 use crate::table::entries::Entries;
 use crate::table::leaf::{Leaf, shared};
+use crate::table::row::search::{keys_of, note_last};
 use crate::table::single::{join_in_leaf, place_in};
 use crate::{Dup, Join, NoMemory};
 use std::alloc::Global;
@@ -30,6 +32,9 @@ const FIRST_ROOM: usize = 4;
 pub struct Row<K: Ord + Dup, C: Join> {
     leaves: Vec<Leaf<K, C>>,
     ends: Vec<usize>,
+    // The last keys of all leaves but the last, side by side: where a search looks first. No promise rests on
+    // them: a wrong one costs time alone.
+    lasts: Vec<K>,
 }
 
 impl<K: Ord + Dup, C: Join> Model for Row<K, C> {
@@ -53,6 +58,7 @@ impl<K: Ord + Dup, C: Join> Row<K, C> {
         Row {
             leaves: Vec::new(alloc),
             ends: Vec::new(alloc),
+            lasts: Vec::new(alloc),
         }
     }
 
@@ -104,17 +110,6 @@ impl<K: Ord + Dup, C: Join> Row<K, C> {
         ensures row { IsRow K.cmp C.valid self.now }
     {
         if place == 0 { 0 } else { self.ends[place - 1] }
-    }
-
-    /// The leaf that a key belongs into.
-    fn leaf_for(&self, key: &K) -> usize
-        ensures leaf { result ≡ leaf_for K.cmp key.now self.now }
-        ensures row { IsRow K.cmp C.valid self.now }
-    {
-        let last = self.leaves.len().saturating_sub(1);
-        self.leaves
-            .partition_point(|leaf| leaf.ends_below(key))
-            .min(last)
     }
 
     /// The first leaf that ends after a place among all entries.
@@ -177,6 +172,7 @@ impl<K: Ord + Dup, C: Join> Row<K, C> {
         Ok(Row {
             leaves: shared(alloc, &self.leaves)?,
             ends: copied(alloc, &self.ends)?,
+            lasts: keys_of(alloc, &self.lasts)?,
         })
     }
 
@@ -261,6 +257,7 @@ impl<K: Ord + Dup, C: Join> Row<K, C> {
         let more = front + back.len() - before;
         count_in(&mut self.ends, place, more, start + front, &back);
         add_back(alloc, &mut self.leaves, place, back);
+        note_last(&mut self.lasts, &self.leaves, place);
         Ok(())
     }
 }

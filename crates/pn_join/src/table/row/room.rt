@@ -4,6 +4,7 @@ ghost use Rattle.std.specs.Prelude.{◌≡◌, ◌<◌, length, IfOk};
 ghost use Rattle.pn_join.specs.Edits.{changes_in, AreAimed};
 ghost use Rattle.pn_join.specs.Leaves.{all_entries, IsRow};
 
+use super::search::note_last;
 use super::{Row, add_back};
 use crate::table::edit::Edit;
 use crate::table::ends::count_in;
@@ -75,6 +76,7 @@ impl<K: Ord + Dup, C: Join> Row<K, C> {
         let front = leaf.entries().len();
         count_in(&mut self.ends, place, 0, start + front, &back);
         add_back(alloc, &mut self.leaves, place, back);
+        note_last(&mut self.lasts, &self.leaves, place);
         Ok(())
     }
 }

@@ -3,7 +3,7 @@ use Rattle.std.proofs.lemmas.List.Sorted.{IsPartitionPoint-from_clause}
 use Rattle.pn_join.specs.Leaves.{leaf_for}
 use Rattle.pn_join.proofs.Partitions.{prefix_at}
 use Rattle.pn_join.proofs.RowFacts.{leaf_ends_below, leaves_parted, leaf_searched}
-use Rattle.pn_join.proofs.table.row.Row.leaf_for.Goals as goal
+use Rattle.pn_join.proofs.table.row.Row.leaf_searched.Goals as goal
 
 pub returns-clause-leaf : goal.returns-clause-leaf
 returns-clause-leaf g c =

@@ -1,0 +1,95 @@
+//! Searches for the leaf that a key belongs into.
+
+ghost use Rattle.std.specs.Prelude.{◌≡◌, ◌+◌, ◌-◌, ◌<◌, true, false, [], length, get_or, IsTrue};
+ghost use Rattle.pn_join.specs.Leaves.{ends_below, leaf_for, IsRow};
+
+use super::Row;
+use crate::table::leaf::{Leaf, is_last_below};
+use crate::{Dup, Join, NoMemory};
+use std::alloc::Global;
+
+impl<K: Ord + Dup, C: Join> Row<K, C> {
+    /// The leaf that a key belongs into.
+    pub(super) fn leaf_for(&self, key: &K) -> usize
+        ensures leaf { result ≡ leaf_for K.cmp key.now self.now }
+        ensures row { IsRow K.cmp C.valid self.now }
+    {
+        let near = self.lasts.partition_point(|last| last.cmp(key).is_lt());
+        if self.belongs(near, key) {
+            return near;
+        }
+        self.leaf_searched(key)
+    }
+
+    /// The same, by a look into leaves alone.
+    fn leaf_searched(&self, key: &K) -> usize
+        ensures leaf { result ≡ leaf_for K.cmp key.now self.now }
+        ensures row { IsRow K.cmp C.valid self.now }
+    {
+        let last = self.leaves.len().saturating_sub(1);
+        self.leaves
+            .partition_point(|leaf| leaf.ends_below(key))
+            .min(last)
+    }
+
+    /// Whether it is this leaf that the key belongs into, as far as two looks tell.
+    fn belongs(&self, place: usize, key: &K) -> bool
+        ensures leaf { IsTrue result → place ≡ leaf_for K.cmp key.now self.now }
+        ensures row { IsRow K.cmp C.valid self.now }
+    {
+        let count = self.count();
+        if place >= count {
+            return false;
+        }
+        if self.is_behind(place, key) {
+            return self.reaches(place, key);
+        }
+        false
+    }
+
+    /// Whether the leaf before it ends below the key, if there is one.
+    fn is_behind(&self, place: usize, key: &K) -> bool
+        ensures { IsTrue result → 0 < place → ends_below K.cmp key.now (get_or self.now (place - 1) []) ≡ true }
+    {
+        if place == 0 {
+            return true;
+        }
+        is_last_below(self.entries_of(place - 1), key)
+    }
+
+    /// Whether the leaf does not end below the key, or is the last.
+    fn reaches(&self, place: usize, key: &K) -> bool
+        requires { place < length self.now }
+        ensures { IsTrue result → place + 1 < length self.now → ends_below K.cmp key.now (get_or self.now place []) ≡ false }
+    {
+        let count = self.count();
+        if place + 1 == count {
+            return true;
+        }
+        !is_last_below(self.entries_of(place), key)
+    }
+}
+
+/// Notes the last key of a leaf beside those of the others, where a leaf was cut and there is memory for it.
+pub(super) fn note_last<K: Dup, C>(lasts: &mut Vec<K>, leaves: &[Leaf<K, C>], place: usize) {
+    if lasts.len() >= leaves.len().saturating_sub(1) || place > lasts.len() {
+        return;
+    }
+    if let Some(Ok(key)) = last_key(leaves, place) {
+        let _ = lasts.insert(place, key);
+    }
+}
+
+fn last_key<K: Dup, C>(leaves: &[Leaf<K, C>], place: usize) -> Option<Result<K, NoMemory>> {
+    let (last, _) = leaves.get(place)?.entries().last()?;
+    Some(last.dup())
+}
+
+/// Copies of keys.
+pub(super) fn keys_of<K: Dup>(alloc: Global, keys: &[K]) -> Result<Vec<K>, NoMemory> {
+    let mut copies = Vec::with_capacity(alloc, keys.len())?;
+    for key in keys {
+        copies.push(key.dup()?)?;
+    }
+    Ok(copies)
+}
