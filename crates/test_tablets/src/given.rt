@@ -9,6 +9,7 @@ use pn_record::{KeyFault, read_image};
 use pn_region::Region;
 use pn_stream::Delivery;
 use std::alloc::Global;
+use std::fmt::Display;
 use std::test::Fail;
 use std::thread::Threads;
 use test_given::image_line;
@@ -38,6 +39,11 @@ pub(crate) fn delivery(
         images.push(read_image(alloc, line.as_bytes())?)?;
     }
     Ok(Delivery::new(Name::read(stream.as_bytes())?, first, images).ok_or(KeyFault::OutOfRange)?)
+}
+
+/// The fault in words.
+pub(crate) fn words(alloc: Global, fault: &impl Display) -> Result<String, Fail> {
+    Ok(format!(in alloc; "{fault}")?)
 }
 
 /// A region of the tablets between these bounds, which took nothing.

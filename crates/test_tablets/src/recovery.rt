@@ -1,6 +1,6 @@
 //! Losses and copies of a region's tablet.
 
-use crate::given::{new_region, region_of, take, take_at};
+use crate::given::{new_region, region_of, take, take_at, words};
 use crate::reads::{has, recovering};
 use crate::region::text_of;
 use pn_join::{Marks, Name, raise_at};
@@ -85,7 +85,7 @@ fn told(alloc: Global, region: &Region) -> Result<String, Fail> {
 fn adopted(alloc: Global, region: &mut Region, copy: TabletCopy) -> Result<String, Fail> {
     match region.adopt(copy) {
         Ok(tablet) => Ok(format!(in alloc; "{tablet}")?),
-        Err(fault) => Ok(format!(in alloc; "{fault}")?),
+        Err(fault) => words(alloc, &fault),
     }
 }
 
@@ -147,7 +147,7 @@ fn why_no_copy(alloc: Global, region: &Region) -> Result<String, Fail> {
     let need = need(alloc, 5)?;
     match region.copy(0, &need) {
         Ok(_) => Err(Fail::new("a copy")),
-        Err(fault) => Ok(format!(in alloc; "{fault}")?),
+        Err(fault) => words(alloc, &fault),
     }
 }
 
@@ -203,7 +203,7 @@ fn a_loss_is_one_tablets_alone(rt: HostRuntime) -> Result<(), Fail> {
 
 #[test]
 fn out_of_memory_is_printed(rt: HostRuntime) -> Result<(), Fail> {
-    let text = format!(in rt.alloc(); "{}", AdoptFault::Memory)?;
-    assert_eq!(rt; text.as_str(), "out of memory");
+    let told = words(rt.alloc(), &AdoptFault::Memory)?;
+    assert_eq!(rt; told.as_str(), "out of memory");
     Ok(())
 }

@@ -3,7 +3,7 @@
 ghost use Rattle.std.specs.Prelude.{IsTrue};
 ghost use Rattle.pn_join.specs.Marks.{are_positions};
 
-use crate::given::{delivery, marks, new_region};
+use crate::given::{delivery, marks, new_region, words};
 use pn_apply::Open;
 use pn_join::Marks;
 use pn_region::{Region, RoundFault, next_marks};
@@ -30,7 +30,7 @@ fn told(alloc: Global, marks: &Marks, delivery: Delivery) -> Result<String, Fail
 {
     match next_marks(marks, &[delivery]) {
         Ok(next) => text_of(alloc, &next),
-        Err(fault) => Ok(format!(in alloc; "{fault}")?),
+        Err(fault) => words(alloc, &fault),
     }
 }
 

@@ -1,6 +1,6 @@
 //! Layouts, and the tablets of keys.
 
-use crate::given::{keys, layout};
+use crate::given::{keys, layout, words};
 use pn_join::Dup;
 use pn_record::Key;
 use pn_tablet::{Layout, LayoutFault};
@@ -61,10 +61,10 @@ fn faulty_bounds_are_refused(rt: HostRuntime) -> Result<(), Fail> {
 #[test]
 fn faults_are_printed(rt: HostRuntime) -> Result<(), Fail> {
     let alloc = rt.alloc();
-    let text = format!(in alloc; "{}", LayoutFault::TooMany)?;
-    assert!(rt; text.as_str() == "a layout has at most 63 bounds");
-    let text = format!(in alloc; "{}", LayoutFault::NotRising(1))?;
-    assert!(rt; text.as_str() == "bound 1 is not greater than the one before it");
+    let told = words(alloc, &LayoutFault::TooMany)?;
+    assert!(rt; told.as_str() == "a layout has at most 63 bounds");
+    let told = words(alloc, &LayoutFault::NotRising(1))?;
+    assert!(rt; told.as_str() == "bound 1 is not greater than the one before it");
     Ok(())
 }
 

@@ -3,6 +3,7 @@
 ghost use Rattle.std.specs.Prelude.{IfOk};
 ghost use Rattle.pn_tablet.specs.Operations.{HasPositions};
 
+use crate::given::words;
 use crate::tablet::steps::{
     ALL, ARRIVALS, FIVE, FIVE_LOST, FOUR_TAKEN, NEWER, NEWER_TAKEN, RECOVERING, SIX_TAKEN,
     Standing, Step, TWO, TWO_TAKEN, Taken, Told, after, join, marks, operation, stands, stands_at,
@@ -73,13 +74,9 @@ fn adopt(state: &mut TabletState, alloc: Global, steps: &[Step], need: u64) -> R
 fn why_no_copy(state: &TabletState, alloc: Global, need: Option<u64>) -> Result<String, Fail> {
     let need = need_of(alloc, need)?;
     match state.copy(&need).err() {
-        Some(fault) => copy_fault_in_words(alloc, &fault),
+        Some(fault) => words(alloc, &fault),
         None => Ok(String::new(alloc)),
     }
-}
-
-fn copy_fault_in_words(alloc: Global, fault: &CopyFault) -> Result<String, Fail> {
-    Ok(format!(in alloc; "{fault}")?)
 }
 
 // Why a tablet gives no copy after these steps.
@@ -93,13 +90,9 @@ fn why_refused(state: &mut TabletState, alloc: Global, op: &TabletOp) -> Result<
     requires { HasPositions op.now }
 {
     match state.apply(op).err() {
-        Some(fault) => fault_in_words(alloc, &fault),
+        Some(fault) => words(alloc, &fault),
         None => Ok(String::new(alloc)),
     }
-}
-
-fn fault_in_words(alloc: Global, fault: &OpFault) -> Result<String, Fail> {
-    Ok(format!(in alloc; "{fault}")?)
 }
 
 // Why a copy of a tablet after these steps is not adopted, in words.
@@ -231,34 +224,42 @@ fn another_range_is_refused(rt: HostRuntime) -> Result<(), Fail> {
 
 #[test]
 fn why_an_operation_is_refused_is_printed(rt: HostRuntime) -> Result<(), Fail> {
-    let fault = OpFault::TooOld {
+    let too_old = OpFault::TooOld {
         stream: Name::read(b"east")?,
         has: 4,
         needs: 5,
     };
-    let text = format!(in rt.alloc(); "{fault}, {}, {}", OpFault::WrongRange, OpFault::Memory)?;
-    assert_eq!(rt;
-        text.as_str(),
-        "too old: the copy has 4 of stream east, and 5 are needed, wrong range, out of memory"
-    );
+    for (fault, want) in [
+        (
+            too_old,
+            "too old: the copy has 4 of stream east, and 5 are needed",
+        ),
+        (OpFault::WrongRange, "wrong range"),
+        (OpFault::Memory, "out of memory"),
+    ] {
+        let told = words(rt.alloc(), &fault)?;
+        assert_eq!(rt; told.as_str(), want);
+    }
     Ok(())
 }
 
 #[test]
 fn why_no_copy_is_given_is_printed(rt: HostRuntime) -> Result<(), Fail> {
-    let fault = CopyFault::Behind {
+    let behind = CopyFault::Behind {
         stream: Name::read(b"east")?,
         has: 4,
         wanted: 5,
     };
-    let text = format!(in rt.alloc();
-        "{fault}, {}, {}",
-        CopyFault::Recovering,
-        CopyFault::NoEntry
-    )?;
-    assert_eq!(rt;
-        text.as_str(),
-        "behind: the tablet has 4 of stream east, and 5 are wanted, recovering, no entry"
-    );
+    for (fault, want) in [
+        (
+            behind,
+            "behind: the tablet has 4 of stream east, and 5 are wanted",
+        ),
+        (CopyFault::Recovering, "recovering"),
+        (CopyFault::NoEntry, "no entry"),
+    ] {
+        let told = words(rt.alloc(), &fault)?;
+        assert_eq!(rt; told.as_str(), want);
+    }
     Ok(())
 }
