@@ -92,6 +92,14 @@ fn messages_are_read(rt: HostRuntime) -> Result<(), Fail> {
     Ok(())
 }
 
+fn shape(member: Member) -> Option<ImageFault> {
+    Some(ImageFault::BadShape(member))
+}
+
+fn range(member: Member) -> Option<ImageFault> {
+    Some(ImageFault::OutOfRange(member))
+}
+
 // Each line is refused for the fault beside it, or is a message where there is none.
 fn assert_faults(rt: &impl Abort, alloc: Global, rows: &[(&[u8], Option<ImageFault>)]) {
     for (line, fault) in rows {
@@ -101,7 +109,6 @@ fn assert_faults(rt: &impl Abort, alloc: Global, rows: &[(&[u8], Option<ImageFau
 
 #[test]
 fn the_first_wrong_shape_of_a_message_is_named(rt: HostRuntime) {
-    let shape = |member| Some(ImageFault::BadShape(member));
     let rows: [(&[u8], Option<ImageFault>); 10] = [
         (b"", Some(ImageFault::NotJson)),
         (b"[]", shape(Member::Whole)),
@@ -125,7 +132,6 @@ fn the_first_wrong_shape_of_a_message_is_named(rt: HostRuntime) {
 
 #[test]
 fn the_first_broken_limit_of_a_message_is_named(rt: HostRuntime) {
-    let range = |member| Some(ImageFault::OutOfRange(member));
     let rows: [(&[u8], Option<ImageFault>); 4] = [
         (
             br#"{"at":0,"image":{"deleted":true,"key":"","master":"w","version":[1,0]}}"#,
