@@ -58,6 +58,13 @@ fn a_condition_beyond_its_limits_is_refused(rt: HostRuntime) -> Result<(), Fail>
     Ok(())
 }
 
+fn is(key: Option<&Key>, text: &str) -> bool {
+    match key {
+        Some(key) => key.as_str() == text,
+        None => false,
+    }
+}
+
 #[test]
 fn parts_are_lent(rt: HostRuntime) -> Result<(), Fail> {
     let alloc = rt.alloc();
@@ -65,9 +72,9 @@ fn parts_are_lent(rt: HostRuntime) -> Result<(), Fail> {
         alloc,
         "{\"after\":\"k\",\"from\":\"a\",\"limit\":7,\"to\":\"z\",\"where\":[[\"has\",\"v\"]]}",
     )?;
-    assert!(rt; query.after().is_some_and(|key| key.as_str() == "k"));
-    assert!(rt; query.from().is_some_and(|key| key.as_str() == "a"));
-    assert!(rt; query.to().is_some_and(|key| key.as_str() == "z"));
+    assert!(rt; is(query.after(), "k"));
+    assert!(rt; is(query.from(), "a"));
+    assert!(rt; is(query.to(), "z"));
     assert_eq!(rt; query.limit(), 7);
     assert_eq!(rt; query.conditions().len(), 1);
     assert!(rt;
