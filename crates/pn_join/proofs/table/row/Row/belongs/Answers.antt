@@ -15,6 +15,6 @@ returns-then-is_behind-clause-leaf g c = λ yes.
     leaf_for-at cmp key g.met.K.Ord.total rows (row_some cmp g.C.Join.valid rows row) (row_rising cmp g.C.Join.valid rows row) place
     (omega (arith, c.if-place-count.false, c.count-count.ensures.count))
     (λ i e.
-      let at : place - 1 ≡ i = omega (arith, e) in
-      ap (λ k. ends_below cmp key (get_or rows k [])) (sym at) ∙ c.is_behind.ensures c.if-is_behind.true (omega (arith, e)))
+    let at : place - 1 ≡ i = omega (arith, e) in
+    ap (λ k. ends_below cmp key (get_or rows k [])) (sym at) ∙ c.is_behind.ensures c.if-is_behind.true (omega (arith, e)))
     (λ more. c.reaches.ensures yes more)
