@@ -13,7 +13,6 @@ use Rattle.pn_record.specs.declared.image.Image.{Image}
 use Rattle.pn_record.specs.CellMap.{Entries, table_of}
 use Rattle.pn_tablet.specs.Ranges.{Ends, in_range}
 use Rattle.pn_tablet.specs.Layouts.{Bounds, IsLayout, tablet_of, tablet_ends}
-use Rattle.pn_tablet.specs.declared.op.TabletOp.{TabletOp}
 use Rattle.pn_tablet.specs.declared.op.TabletOp.TheVariants.{Join}
 use Rattle.pn_tablet.proofs.LayoutFacts.{key_in_tablet, tablet_of_key, tablet_of_within}
 use Rattle.pn_apply.specs.Reducing.{images_in, ranges, joins_of}
@@ -103,12 +102,18 @@ share_more bounds taken image shares old new is was pushed =
     ∙ ap (λ (all : List (List Image)). set all at (images_at bounds taken at ++ image ∷ [])) is
     ∙ more_by_tablet bounds taken image
 
--- the joins of the shares are the joins in the ranges
-pub joins_by_share : (bounds : Bounds) (marks : Positions) (images : List Image) (shares : List Share) → lists shares ≡ map (λ (range : Ends). images_in range images) (ranges bounds)
-    → map (λ (cells : Entries). Join cells marks) (map (λ (share : Share). table_of share.items) shares) ≡ joins_of bounds marks images
-joins_by_share bounds marks images shares is =
-    let join : List Image → TabletOp = λ own. Join (table_of own) marks in
-    map_twice (λ (cells : Entries). Join cells marks) (λ (share : Share). table_of share.items) shares ∙ sym (map_twice join items shares) ∙ ap (map join) is ∙ map_twice join (λ (range : Ends). images_in range images) (ranges bounds)
+-- the joins of cells made of shares are those of the shares' images
+pub joined_shares : (marks : Positions) (shares : List Share)
+    → map (λ (cells : Entries). Join cells marks) (map (λ (share : Share). table_of share.items) shares) ≡ map (λ (own : List Image). Join (table_of own) marks) (lists shares)
+joined_shares marks shares =
+    map_twice (λ (cells : Entries). Join cells marks) (λ (share : Share). table_of share.items) shares
+    ∙ sym (map_twice (λ (own : List Image). Join (table_of own) marks) items shares)
+
+-- the joins of the images in the ranges are what images bring to the tablets
+pub joins_in_ranges : (bounds : Bounds) (marks : Positions) (images : List Image) (shares : List (List Image)) → shares ≡ map (λ (range : Ends). images_in range images) (ranges bounds)
+    → map (λ (own : List Image). Join (table_of own) marks) shares ≡ joins_of bounds marks images
+joins_in_ranges bounds marks images shares is =
+    ap (map (λ (own : List Image). Join (table_of own) marks)) is ∙ map_twice (λ (own : List Image). Join (table_of own) marks) (λ (range : Ends). images_in range images) (ranges bounds)
 
 -- one more share without images
 pub empty_more : (bounds : Bounds) (n : ℕ) (shares new : List Share) (share : Share) → lists shares ≡ map (images_at bounds []) (range_with_len 0 n) → share.items ≡ [] → new ≡ shares ++ share ∷ []

@@ -7,6 +7,7 @@ ghost use Rattle.pn_record.specs.CellMap.{table_of};
 ghost use Rattle.pn_tablet.specs.declared.op.TabletOp.TheVariants.{Join};
 ghost use Rattle.pn_apply.specs.Limits.{most_workers};
 ghost use Rattle.pn_apply.specs.Reducing.{all_images, joins_of};
+ghost use Rattle.pn_apply.specs.Shares.{lists};
 
 use crate::Gate;
 use crate::cut::{Share, gathered};
@@ -40,9 +41,8 @@ pub fn reduce<R: Threads + Sync, G: Gate + Sync>(
     requires workers { (1 ≤ workers) × (workers ≤ most_workers) }
     ensures { IfOk result (λ operations. operations.items ≡ joins_of layout.now marks.now (all_images deliveries.now)) }
 {
-    let mut shares = copies_by_tablet(alloc, deliveries, layout)?;
-    let cells = work_all(rt, alloc, gate, workers, shares.as_mut_slice())?;
-    joins(alloc, cells, marks)
+    let shares = copies_by_tablet(alloc, deliveries, layout)?;
+    joins_of_shares(rt, alloc, gate, workers, shares, marks)
 }
 
 /// As [`reduce`], of deliveries that are given away: their images are moved into the cells.
@@ -59,7 +59,21 @@ pub fn reduce_owned<R: Threads + Sync, G: Gate + Sync>(
     requires workers { (1 ≤ workers) × (workers ≤ most_workers) }
     ensures { IfOk result (λ operations. operations.items ≡ joins_of layout.now marks.now (all_images deliveries.items)) }
 {
-    let mut shares = images_by_tablet(alloc, deliveries, layout)?;
+    let shares = images_by_tablet(alloc, deliveries, layout)?;
+    joins_of_shares(rt, alloc, gate, workers, shares, marks)
+}
+
+// The join of the cells of each share, with the marks, by so many workers at most.
+fn joins_of_shares<R: Threads + Sync, G: Gate + Sync>(
+    rt: &R,
+    alloc: Global,
+    gate: &G,
+    workers: usize,
+    mut shares: Vec<Vec<Image>>,
+    marks: &Marks,
+) -> Result<Vec<TabletOp>, NoMemory>
+    ensures { IfOk result (λ operations. operations.items ≡ map (λ own. Join (table_of own) marks.now) (lists shares.items)) }
+{
     let cells = work_all(rt, alloc, gate, workers, shares.as_mut_slice())?;
     joins(alloc, cells, marks)
 }

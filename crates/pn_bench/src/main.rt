@@ -2,12 +2,14 @@
 //! a scan or as JSON alone, and scripts and rounds over several tablets.
 //!
 //! Its words are a way and how often rows are written; or `script`, how many workers, and the bounds of the
-//! tablets; or `rounds`, how many workers, how many images in a round, and the bounds. It prints how many lines
-//! were read well, and how many bytes were written or how long the rounds took.
+//! tablets; or `rounds`, how many workers, how many images in a round, and the bounds; or `copies`. It prints how many
+//! lines were read well, and how many bytes were written or how long the steps took.
 #![tactic(auto)]
 
+mod copies;
 mod rounds;
 
+use crate::copies::time_copies;
 use crate::rounds::time_rounds;
 use pn_apply::{MOST_WORKERS, Open};
 use pn_join::{Name, NoMemory};
@@ -51,6 +53,8 @@ enum Way {
     Script,
     /// Each is an image, and rounds of images are taken.
     Rounds,
+    /// The same, by one tablet, of which copies are made.
+    Copies,
 }
 
 impl Way {
@@ -64,6 +68,7 @@ impl Way {
             "writes" => Some(Way::Writes),
             "script" => Some(Way::Script),
             "rounds" => Some(Way::Rounds),
+            "copies" => Some(Way::Copies),
             _ => None,
         }
     }
@@ -86,6 +91,9 @@ fn main(rt: HostRuntime) -> io::Result<()> {
     if let Way::Rounds = way {
         let took = take_rounds(&rt, images, words).unwrap_or(Duration::ZERO);
         return println!(rt; "{lines} lines, {} microseconds", took.as_micros());
+    }
+    if let Way::Copies = way {
+        return print_copies(&rt, lines, images);
     }
     let times = number_of(&mut words).unwrap_or(0);
     let bytes = match region_of(&rt, rt.alloc(), images) {
@@ -136,6 +144,20 @@ fn take_rounds(
     time_rounds(rt, rt.alloc(), layout, images, in_round, workers)
 }
 
+// Prints how long a tablet of these images takes to be built, copies of it, and rounds without a copy and with one.
+fn print_copies(
+    rt: &(impl AllocGlobal + Clock + Print),
+    lines: u64,
+    images: Vec<Image>,
+) -> io::Result<()> {
+    let Some(took) = time_copies(rt, rt.alloc(), images) else {
+        return println!(rt; "{lines} lines, no time");
+    };
+    let (building, copying) = (took.building.as_micros(), took.copying.as_micros());
+    let (alone, kept) = (took.alone.as_micros(), took.kept.as_micros());
+    println!(rt; "{lines} lines, {building} {copying} {alone} {kept} microseconds")
+}
+
 // How many lines were read well.
 fn take_lines<S: Source>(
     alloc: Global,
@@ -177,7 +199,7 @@ fn is_taken(alloc: Global, way: Way, images: &mut Vec<Image>, line: &[u8]) -> bo
         Way::Lines | Way::Messages | Way::Script => true,
         Way::Values => Value::from_slice(alloc, line).is_ok(),
         Way::Images => read_image(alloc, line).is_ok(),
-        Way::Scans | Way::Writes | Way::Rounds => match read_image(alloc, line) {
+        Way::Scans | Way::Writes | Way::Rounds | Way::Copies => match read_image(alloc, line) {
             Ok(image) => images.push(image).is_ok(),
             Err(_) => false,
         },

@@ -8,10 +8,10 @@ ghost use Rattle.pn_json.specs.Lines.{line_of};
 ghost use Rattle.pn_json.specs.Tokens.{Appends, value_tokens, values_tokens};
 ghost use Rattle.pn_serve.specs.Reply.Record.{row_or_null, read_data, rows_or_nulls, get_data};
 
-use crate::reply::rows::write_row;
+use crate::reply::rows::{begin_rows, write_row};
 use json::Writer;
 use pn_join::NoMemory;
-use pn_json::{begin_line, finish_line};
+use pn_json::finish_line;
 use pn_record::{Cell, Key};
 use std::alloc::Global;
 
@@ -19,7 +19,7 @@ use std::alloc::Global;
 pub(crate) fn read_reply(alloc: Global, key: &Key, cell: Option<&Cell>) -> Result<Vec<u8>, NoMemory>
     ensures { IfOk result (λ text. text.items ≡ line_of (read_data key.now (option_copied cell.entry))) }
 {
-    let mut writer = begin_line(alloc)?;
+    let mut writer = begin_rows(alloc, 1)?;
     write_read(&mut writer, key, cell)?;
     finish_line(writer)
 }
@@ -52,7 +52,7 @@ pub(crate) fn get_reply(
 ) -> Result<Vec<u8>, NoMemory>
     ensures { IfOk result (λ text. text.items ≡ line_of (get_data keys.now cells.now)) }
 {
-    let mut writer = begin_line(alloc)?;
+    let mut writer = begin_rows(alloc, keys.len())?;
     write_get(&mut writer, keys, cells)?;
     finish_line(writer)
 }
