@@ -1,4 +1,4 @@
-"""Random talks with regions: two that take the same streams and hand each other copies, and one that takes the same images anew."""
+"""Random talks with regions: one that loses tablets, one that it takes copies from, and one that takes the same images anew."""
 import json
 import random
 
@@ -41,13 +41,13 @@ class Talk:
 
 
 class Meeting:
-    """The talks of one seed."""
+    """The talks of one seed. Those that are to be stored have no long line, and do not show 64 tablets."""
 
-    def __init__(self, seed, events, has_long):
+    def __init__(self, seed, events, is_stored=False):
         self.rng = rng = random.Random(seed)
         tablets = rng.choice(TABLETS)
         self.keys = MANY_KEYS if tablets == 64 else KEYS
-        self.long = LONG if has_long else 0
+        self.long = 0 if is_stored else LONG
         names = ["east", "west"] if rng.random() < 0.8 else [f"s{number:02}" for number in range(18)]
         self.streams = {name: [image(rng, self.keys, place) for place in range(MESSAGES)] for name in names}
         bounds = bounds_of(rng, tablets)
@@ -94,7 +94,7 @@ class Meeting:
     def copied(self, tablet, need):
         """The lines of a copy of the second region, which are kept; none where it is refused."""
         members = {} if need is None and self.rng.random() < 0.5 else {"need": need}
-        head, *lines = self.second.ask(do="copy", tablet=tablet, **members).splitlines()
+        head, *lines = self.second.ask(do="copy", tablet=tablet, **members).rstrip("\n").split("\n")
         if "lines" in head:
             self.copies.append([line.encode() for line in lines])
         return [line.encode() for line in lines]
@@ -207,6 +207,8 @@ class Meeting:
         for number, tablet in enumerate(self.first.region.tablets):
             if tablet.need is not None:
                 self.adopt(self.copied(number, tablet.need))
+        if self.long:
+            self.first.ask(do="tablets")
 
     def take_again(self):
         """The third region takes all images that the first accepted: in another order, in other batches, and some twice."""

@@ -22,8 +22,8 @@ EDGES = {
 }
 BATCH = {"first": 1, "images": [], "stream": "s"}
 LENGTHS = [65_536, 65_537, 70_000]
-NO_JSON = [b"", b" ", b"\r", b"nul", b"NaN", b"-Infinity", b"{'do':'marks'}", b'{"do":"marks",}', b'{"do":"marks"}}', b"\xff",
-           b"\xef\xbb\xbf{}", b'"\\ud800"', b"[01]", b'"a\tb"', b'{"do":"marks"}\0', b"[" * 200 + b"]" * 200, b"+1", b".5", b'"\\x"']
+NO_JSON = [b"", b" ", b"\r", b"nul", b"NaN", b"-Infinity", b"{'do':'marks'}", b'{"do":"marks",}', b'{"do":"marks"}}',
+           b"\xff", b"\xef\xbb\xbf{}", b'"\\ud800"', b"[01]", b'"a\tb"', b'{"do":"marks"}\0', b"[" * 200 + b"]" * 200, b"+1", b".5", b'"\\x"']
 
 
 def bounds_of(rng, tablets):
