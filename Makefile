@@ -11,6 +11,9 @@ SCRIPT ?= crates/pnuts/stdin
 PROGRAM := crates/pnuts/out/pnuts
 STEPS := crates/pn_bench/out/pn_bench
 
+# The program that answers many scripts in one input.
+SCRIPTS := crates/test_rows/out/test_rows
+
 # The crate whose edits `make edits` tries; none: all crates.
 CRATE ?=
 
@@ -42,11 +45,14 @@ bench: build
 	@cd crates/pn_bench && rt run < stdin > /dev/null
 	@bench/run "$(PROGRAM)" "$(STEPS)"
 
-# Brings the built program to each of its ends, and refuses each of its allocations in turn.
+# Brings the built program to each of its ends, refuses each of its allocations in turn, and compares its replies to random
+# scripts with those of a plain, slow program.
 checks: build
 	@cd crates/pn_bench && rt run < stdin > /dev/null
+	@cd crates/test_rows && rt run < stdin > /dev/null
 	@checks/exit-statuses "$(PROGRAM)"
 	@checks/out-of-memory "$(PROGRAM)" "$(STEPS)"
+	@checks/random-scripts "$(SCRIPTS)"
 
 # Runs the worked rows through the built program, where they are at hand.
 rows:

@@ -1,30 +1,15 @@
-//! Tests of scripts: worked rows through `run`, records beside a plain, slow program, and the calls of `pn_serve`.
+//! Tests of scripts, of what stored scripts cannot say: readers and writers that fail or take their time, runs without
+//! memory, and the calls of `pn_serve` that take values.
 #![tactic(auto)]
 
 #[cfg(test)]
-mod agreement;
-#[cfg(test)]
-mod faults;
-#[cfg(test)]
-mod images;
-#[cfg(test)]
-mod limits;
+mod calls;
 #[cfg(test)]
 mod out_of_memory;
 #[cfg(test)]
 mod readers;
 #[cfg(test)]
-mod recovery;
-#[cfg(test)]
-mod row;
-#[cfg(test)]
 mod rows;
-#[cfg(test)]
-mod serve;
-#[cfg(test)]
-mod slow;
-#[cfg(test)]
-mod tablets;
 #[cfg(test)]
 mod talk;
 #[cfg(test)]

@@ -2,18 +2,18 @@
 //!
 //! These tests hold as they are, and hold too where one allocation of theirs is refused, whichever it is.
 
-use crate::readers::Twice;
-use crate::row::{Row, one_tablet, settings};
-use crate::rows::{
-    EQUAL_VERSIONS_CONFLICT, FIRST_RUN, GET_AND_BEHIND, OVERLAP_TAKEN, PAGES_AND_CONTINUATIONS,
-};
-use crate::tablets::{SPLIT_REPLIES, SPLIT_TABLETS};
-use crate::writers::Room;
+use crate::rows::{FIRST_RUN, LOOKUPS, PAGES, Row, one_tablet};
+use pn_record::KeyFault;
 use pn_serve::{RunFault, Settings, run};
+use std::io::{BufRead, ErrorKind, Read, Write};
 use std::process::Abort;
-use std::str;
 use std::test::Fail;
 use std::thread::Threads;
+use std::{io, str};
+use test_given::layout;
+
+/// How many bytes of replies are kept.
+const ROOM: usize = 2_048;
 
 const NO_MEMORY: &str = r#"{"error":"memory"}"#;
 
@@ -21,38 +21,69 @@ const CHANGE: &str = r#"{"changed":"#;
 
 const NO_CHANGE: &str = r#"{"changed":0}"#;
 
+/// Shows each line of a text twice, one after the other.
+#[derive(Drop)]
+struct Twice<'a> {
+    rest: &'a [u8],
+    is_second: bool,
+}
+
+impl Read for Twice<'_> {
+    fn read(&mut self, _buf: &mut [u8]) -> io::Result<usize> {
+        Err(io::Error::from(ErrorKind::Unsupported))
+    }
+}
+
+impl BufRead for Twice<'_> {
+    fn fill_buf(&mut self) -> io::Result<&[u8]> {
+        Ok(self.rest)
+    }
+
+    fn consume(&mut self, amount: usize) {
+        if self.is_second {
+            self.rest = &self.rest[amount.min(self.rest.len())..];
+        }
+        self.is_second = !self.is_second;
+    }
+}
+
+/// Keeps what is written in place, as far as there is room, and takes no memory.
+#[derive(Drop)]
+struct Room {
+    bytes: [u8; ROOM],
+    len: usize,
+}
+
+impl Write for Room {
+    fn write(&mut self, buf: &[u8]) -> io::Result<usize> {
+        let start = self.len.min(ROOM);
+        let count = buf.len().min(ROOM - start);
+        let end = start + count;
+        self.bytes[start..end].copy_from_slice(&buf[..count]);
+        self.len = end;
+        Ok(count)
+    }
+
+    fn flush(&mut self) -> io::Result<()> {
+        Ok(())
+    }
+}
+
 #[test]
 fn first_run_twice_over(rt: HostRuntime) -> Result<(), Fail> {
     assert_retried(&rt, FIRST_RUN, one_tablet(rt.alloc()))
 }
 
 #[test]
-fn equal_versions_conflict_twice_over(rt: HostRuntime) -> Result<(), Fail> {
-    assert_retried(&rt, EQUAL_VERSIONS_CONFLICT, one_tablet(rt.alloc()))
+fn lookups_twice_over(rt: HostRuntime) -> Result<(), Fail> {
+    assert_retried(&rt, LOOKUPS, one_tablet(rt.alloc()))
 }
 
 #[test]
-fn overlap_taken_twice_over(rt: HostRuntime) -> Result<(), Fail> {
-    assert_retried(&rt, OVERLAP_TAKEN, one_tablet(rt.alloc()))
-}
-
-#[test]
-fn get_and_behind_twice_over(rt: HostRuntime) -> Result<(), Fail> {
-    assert_retried(&rt, GET_AND_BEHIND, one_tablet(rt.alloc()))
-}
-
-#[test]
-fn pages_and_continuations_twice_over(rt: HostRuntime) -> Result<(), Fail> {
-    assert_retried(&rt, PAGES_AND_CONTINUATIONS, one_tablet(rt.alloc()))
-}
-
-#[test]
-fn a_round_over_two_tablets_twice_over(rt: HostRuntime) -> Result<(), Fail> {
-    let row = Row {
-        script: SPLIT_TABLETS,
-        replies: SPLIT_REPLIES,
-    };
-    assert_retried(&rt, row, settings(rt.alloc(), &["m"], 2)?)
+fn rounds_over_two_tablets_and_pages_twice_over(rt: HostRuntime) -> Result<(), Fail> {
+    let layout = layout(rt.alloc(), &["m"])?;
+    let settings = Settings::new(layout, 2).ok_or(KeyFault::OutOfRange)?;
+    assert_retried(&rt, PAGES, settings)
 }
 
 // Sends each line of a row twice: one has the row's reply and the other that of a retried line, but a single
@@ -62,15 +93,16 @@ fn assert_retried<R: Abort + AllocGlobal + Threads + Sync>(
     row: Row,
     settings: Settings,
 ) -> Result<(), Fail> {
-    let mut output = Room::new();
-    let ended = run(
-        rt,
-        rt.alloc(),
-        &mut Twice::new(row.script),
-        &mut output,
-        settings,
-    );
-    let replies = str::from_utf8(output.as_bytes())?;
+    let mut input = Twice {
+        rest: row.script.as_bytes(),
+        is_second: false,
+    };
+    let mut output = Room {
+        bytes: [0; ROOM],
+        len: 0,
+    };
+    let ended = run(rt, rt.alloc(), &mut input, &mut output, settings);
+    let replies = str::from_utf8(&output.bytes[..output.len.min(ROOM)])?;
     if ended == Err(RunFault::Memory) {
         // There was none to begin with.
         assert!(rt; replies.is_empty(), "{replies}");

@@ -1,123 +1,86 @@
-//! Readers that repeat their lines, or never come to an end.
+//! Readers that show little at a time, or fail: the replies are those to the whole lines.
 
-use std::io;
-use std::io::{BufRead, ErrorKind, Read};
+use crate::rows::{FIRST_RUN, one_tablet};
+use pn_line::{FailingSource, Source};
+use pn_serve::{Counts, RunFault, run};
+use std::process::Abort;
+use std::thread::Threads;
+use test_io::Pieces;
 
-/// Shows each line of a text twice, one after the other.
-#[derive(Drop)]
-pub(crate) struct Twice<'a> {
-    rest: &'a [u8],
-    is_second: bool,
+// How many bytes the replies to so many lines have.
+fn bytes_of(lines: usize) -> usize {
+    let mut bytes = 0usize;
+    for line in FIRST_RUN.replies.lines().take(lines) {
+        bytes = bytes.saturating_add(line.len()).saturating_add(1);
+    }
+    bytes
 }
 
-impl<'a> Twice<'a> {
-    /// Each line of the text has to end in a newline.
-    pub(crate) fn new(text: &'a str) -> Twice<'a> {
-        Twice {
-            rest: text.as_bytes(),
-            is_second: false,
-        }
-    }
+// Runs over a source, and answers how the run ended and whether it wrote the replies to so many lines.
+fn ended<R: AllocGlobal + Threads + Sync, S: Source + Drop>(
+    rt: &R,
+    mut input: S,
+    lines: usize,
+) -> (Result<Counts, RunFault>, bool) {
+    let alloc = rt.alloc();
+    let mut output = Vec::new(alloc);
+    let ended = run(rt, alloc, &mut input, &mut output, one_tablet(alloc));
+    let wanted = FIRST_RUN.replies.as_bytes().get(..bytes_of(lines));
+    (ended, Some(output.as_slice()) == wanted)
 }
 
-impl Read for Twice<'_> {
-    fn read(&mut self, _buf: &mut [u8]) -> io::Result<usize> {
-        Err(io::Error::from(ErrorKind::Unsupported))
-    }
-}
-
-impl BufRead for Twice<'_> {
-    fn fill_buf(&mut self) -> io::Result<&[u8]> {
-        Ok(self.rest)
-    }
-
-    fn consume(&mut self, amount: usize) {
-        if self.is_second {
-            self.rest = &self.rest[amount.min(self.rest.len())..];
-        }
-        self.is_second = !self.is_second;
-    }
-}
-
-/// Shows one line so many times.
-#[derive(Drop)]
-pub(crate) struct Repeated {
-    block: &'static [u8],
-    left: usize,
-}
-
-/// Lines that are shown together.
-const OBJECTS: &[u8] = b"{}\n{}\n{}\n{}\n{}\n{}\n{}\n{}\n{}\n{}\n{}\n{}\n";
-
-const MARKS: &[u8] =
-    b"{\"do\":\"marks\"}\n{\"do\":\"marks\"}\n{\"do\":\"marks\"}\n{\"do\":\"marks\"}\n";
-
-impl Repeated {
-    /// So many lines of an object without members.
-    pub(crate) fn objects(lines: usize) -> Repeated {
-        Repeated {
-            block: OBJECTS,
-            left: lines.saturating_mul(3),
-        }
-    }
-
-    /// So many lines that ask for the marks.
-    pub(crate) fn marks(lines: usize) -> Repeated {
-        Repeated {
-            block: MARKS,
-            left: lines.saturating_mul(15),
-        }
+#[test]
+fn pieces_of_a_script_have_its_replies(rt: HostRuntime) {
+    for size in [1, 2, 7, 1_000] {
+        let input = Pieces::new(FIRST_RUN.script.as_bytes(), size);
+        let counts = Counts {
+            lines: 4,
+            refused: 1,
+        };
+        assert!(rt; ended(&rt, input, 4) == (Ok(counts), true), "{size}");
     }
 }
 
-impl Read for Repeated {
-    fn read(&mut self, _buf: &mut [u8]) -> io::Result<usize> {
-        Err(io::Error::from(ErrorKind::Unsupported))
+// How many whole lines the first bytes of the script have.
+fn whole_lines(bytes: &[u8]) -> usize {
+    bytes.iter().filter(|byte| **byte == b'\n').count()
+}
+
+// A run over a source that shows these first bytes and then fails.
+fn assert_whole_lines<R: Abort + AllocGlobal + Threads + Sync, S: Source + Drop>(
+    rt: &R,
+    input: S,
+    shown: &[u8],
+) {
+    let lines = whole_lines(shown);
+    assert!(rt;
+        ended(rt, input, lines) == (Err(RunFault::Read), true),
+        "after {} bytes",
+        shown.len()
+    );
+}
+
+#[test]
+fn a_reader_that_fails_leaves_the_replies_to_whole_lines(rt: HostRuntime) {
+    let script = FIRST_RUN.script.as_bytes();
+    for count in 0..=script.len() {
+        let (shown, _) = script.split_at(count);
+        assert_whole_lines(
+            &rt,
+            Pieces::failing(script, 1, count.wrapping_add(1)),
+            shown,
+        );
     }
 }
 
-impl BufRead for Repeated {
-    fn fill_buf(&mut self) -> io::Result<&[u8]> {
-        Ok(&self.block[..self.left.min(self.block.len())])
-    }
+#[test]
+fn a_source_of_known_bytes_that_fails_leaves_the_replies_to_whole_lines(rt: HostRuntime) {
+    let script = FIRST_RUN.script.as_bytes();
+    for count in 0..=script.len() {
+        let (shown, _) = script.split_at(count);
 
-    fn consume(&mut self, amount: usize) {
-        self.left = self.left.saturating_sub(amount);
-    }
-}
-
-/// Shows a text, and then the same bytes over and over.
-#[derive(Drop)]
-pub(crate) struct Endless<'a> {
-    text: &'a [u8],
-    block: &'a [u8],
-}
-
-impl<'a> Endless<'a> {
-    pub(crate) fn new(text: &'a str, block: &'a [u8]) -> Endless<'a> {
-        Endless {
-            text: text.as_bytes(),
-            block,
-        }
-    }
-}
-
-impl Read for Endless<'_> {
-    fn read(&mut self, _buf: &mut [u8]) -> io::Result<usize> {
-        Err(io::Error::from(ErrorKind::Unsupported))
-    }
-}
-
-impl BufRead for Endless<'_> {
-    fn fill_buf(&mut self) -> io::Result<&[u8]> {
-        if self.text.is_empty() {
-            Ok(self.block)
-        } else {
-            Ok(self.text)
-        }
-    }
-
-    fn consume(&mut self, amount: usize) {
-        self.text = &self.text[amount.min(self.text.len())..];
+        // Each whole line takes one look, and the next look fails.
+        let fails_at = whole_lines(shown).wrapping_add(1);
+        assert_whole_lines(&rt, FailingSource::new(shown, fails_at), shown);
     }
 }

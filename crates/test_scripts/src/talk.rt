@@ -1,7 +1,6 @@
 //! A script that is a talk: each line comes only once the replies to those before it are out.
 
-use crate::row::one_tablet;
-use crate::rows::{DELETION_HIDES_AND_STAYS, FIRST_RUN};
+use crate::rows::{FIRST_RUN, LOOKUPS, one_tablet};
 use pn_serve::run;
 use std::cell::Cell;
 use std::io;
@@ -58,7 +57,7 @@ impl Write for Hearing<'_> {
 
 #[test]
 fn a_reply_is_out_before_the_next_line_is_waited_for(rt: HostRuntime) -> Result<(), Fail> {
-    for row in [FIRST_RUN, DELETION_HIDES_AND_STAYS] {
+    for row in [FIRST_RUN, LOOKUPS] {
         let heard = Cell::new(0);
         let mut input = Asking {
             rest: row.script.as_bytes(),

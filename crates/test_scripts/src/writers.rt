@@ -1,56 +1,45 @@
-//! Writers that count, or have little room.
+//! Writers that stop, or take little at a time: what is written is a prefix of the replies.
 
-use std::io;
-use std::io::Write;
+use crate::rows::{FIRST_RUN, one_tablet};
+use pn_line::InMemory;
+use pn_serve::{Counts, RunFault, run};
+use std::thread::Threads;
+use test_io::{Stop, Stopping};
 
-/// Takes all bytes, and keeps how many there were.
-#[derive(Drop)]
-pub(crate) struct Tally {
-    pub(crate) bytes: usize,
+// How the run ends with this writer.
+fn ended<R: AllocGlobal + Threads + Sync>(
+    rt: &R,
+    output: &mut Stopping,
+) -> Result<Counts, RunFault> {
+    let mut input = InMemory::new(FIRST_RUN.script.as_bytes());
+    run(rt, rt.alloc(), &mut input, output, one_tablet(rt.alloc()))
 }
 
-impl Write for Tally {
-    fn write(&mut self, buf: &[u8]) -> io::Result<usize> {
-        self.bytes = self.bytes.wrapping_add(buf.len());
-        Ok(buf.len())
-    }
-
-    fn flush(&mut self) -> io::Result<()> {
-        Ok(())
-    }
-}
-
-/// Keeps what is written in place, as far as there is room, and takes no memory.
-#[derive(Drop)]
-pub(crate) struct Room {
-    bytes: [u8; 2048],
-    len: usize,
-}
-
-impl Room {
-    pub(crate) fn new() -> Room {
-        Room {
-            bytes: [0; 2048],
-            len: 0,
+#[test]
+fn a_writer_that_stops_has_a_prefix_of_the_replies(rt: HostRuntime) {
+    for stop in [Stop::Fails, Stop::TakesNothing] {
+        for count in 0..FIRST_RUN.replies.len() {
+            let mut output = Stopping::new(rt.alloc(), 1, count.wrapping_add(1), stop);
+            assert_eq!(rt; ended(&rt, &mut output), Err(RunFault::Write));
+            let prefix = FIRST_RUN.replies.as_bytes().iter().take(count);
+            assert!(rt;
+                output.taken.iter().eq(prefix),
+                "{stop:?} after {count} bytes"
+            );
         }
     }
-
-    pub(crate) fn as_bytes(&self) -> &[u8] {
-        &self.bytes[..self.len.min(2048)]
-    }
 }
 
-impl Write for Room {
-    fn write(&mut self, buf: &[u8]) -> io::Result<usize> {
-        let start = self.len.min(2048);
-        let count = buf.len().min(2048 - start);
-        let end = start + count;
-        self.bytes[start..end].copy_from_slice(&buf[..count]);
-        self.len = end;
-        Ok(count)
-    }
+#[test]
+fn a_writer_that_fails_in_flush_has_all_replies(rt: HostRuntime) {
+    let mut output = Stopping::new(rt.alloc(), 1, 1, Stop::FailsInFlush);
+    assert_eq!(rt; ended(&rt, &mut output), Err(RunFault::Write));
+    assert_eq!(rt; output.taken.as_slice(), FIRST_RUN.replies.as_bytes());
+}
 
-    fn flush(&mut self) -> io::Result<()> {
-        Ok(())
-    }
+#[test]
+fn a_writer_that_takes_a_byte_at_a_time_has_all_replies(rt: HostRuntime) {
+    let mut output = Stopping::never(rt.alloc(), 1);
+    assert!(rt; ended(&rt, &mut output).is_ok());
+    assert_eq!(rt; output.taken.as_slice(), FIRST_RUN.replies.as_bytes());
 }

@@ -1,0 +1,241 @@
+"""Random talks with regions: one that loses tablets, one that it takes copies from, and one that takes the same images anew."""
+import json
+import random
+
+from random_values import (BATCH, KEYS, MANY_KEYS, bent, bounds_of, damaged, image, line_of, no_json, query)
+from slow import Region, greater, text_of
+from slow_copies import read_copy
+from slow_lines import Refused, command_of
+
+TABLETS = [1, 1, 2, 3, 3, 64]
+WORKERS = [1, 2, 3, 5, 16]
+MESSAGES = 40
+LONG = 0.005
+
+
+class Talk:
+    """What is said to one region, with the slow program's replies."""
+
+    def __init__(self, rng, name, bounds):
+        self.rng, self.name, self.bounds = rng, name, bounds
+        self.region = Region(bounds)
+        self.lines, self.told = [], []
+        self.workers = rng.choice(WORKERS)
+
+    def head(self):
+        return " ".join(["##", self.name, str(self.workers), *self.bounds]).encode() + b"\n"
+
+    def script(self):
+        return self.head() + b"".join(line + b"\n" for line in self.lines)
+
+    def replies(self):
+        return self.head() + "".join([*self.told, self.region.end()]).encode()
+
+    def say(self, line):
+        self.lines.append(line)
+        self.told.append(self.region.feed(line))
+        return self.told[-1]
+
+    def ask(self, **command):
+        return self.say(line_of(self.rng, command))
+
+
+class Meeting:
+    """The talks of one seed. Those that are to be stored have no long line, and do not show 64 tablets."""
+
+    def __init__(self, seed, events, is_stored=False):
+        self.rng = rng = random.Random(seed)
+        tablets = rng.choice(TABLETS)
+        self.keys = MANY_KEYS if tablets == 64 else KEYS
+        self.long = 0 if is_stored else LONG
+        names = ["east", "west"] if rng.random() < 0.8 else [f"s{number:02}" for number in range(18)]
+        self.streams = {name: [image(rng, self.keys, place) for place in range(MESSAGES)] for name in names}
+        bounds = bounds_of(rng, tablets)
+        self.first = Talk(rng, f"random-{seed}-first", bounds)
+        self.second = Talk(rng, f"random-{seed}-second", bounds)
+        self.again = Talk(rng, f"random-{seed}-again", bounds_of(rng, 64 if self.keys is MANY_KEYS else rng.randrange(1, 4)))
+        self.accepted, self.copies = [], []
+        self.closing = 0
+        for _ in range(events):
+            self.go_on()
+        self.settle()
+        self.take_again()
+        self.close()
+
+    def talks(self):
+        return [self.first, self.second, self.again]
+
+    def batch(self, name, mark, is_gap):
+        behind = mark + self.rng.randrange(1, 4) if is_gap else max(mark - self.rng.choice([0, 0, 1, 3]), 0)
+        images = self.streams[name][behind:behind + self.rng.randrange(5)]
+        return {"first": behind + 1, "images": images, "stream": name}
+
+    def deliver(self, talk, batches):
+        reply = talk.ask(do="deliver", batches=batches)
+        if talk is self.first and "changed" in reply:
+            self.accepted += [image for batch in batches for image in batch["images"]]
+
+    def take(self, talk):
+        """A round of what stands next, or before, or too far ahead."""
+        names = list(self.streams)
+        if talk is self.second and len(names) > 16:
+            names = list(self.first.region.marks)
+        batches, marks = [], dict(talk.region.marks)
+        count = self.rng.choice([1, 1, 2, 3]) if len(self.streams) == 2 else self.rng.choice([1, 4, 17])
+        for name in self.rng.choices(names, k=count if names else 0):
+            batch = self.batch(name, marks.get(name, 0), self.rng.random() < 0.04)
+            marks[name] = max(marks.get(name, 0), batch["first"] + len(batch["images"]) - 1)
+            batches.append(batch)
+        self.deliver(talk, batches or [BATCH])
+
+    def tablet(self):
+        return self.rng.randrange(len(self.first.region.tablets))
+
+    def copied(self, tablet, need):
+        """The lines of a copy of the second region, which are kept; none where it is refused."""
+        members = {} if need is None and self.rng.random() < 0.5 else {"need": need}
+        head, *lines = self.second.ask(do="copy", tablet=tablet, **members).rstrip("\n").split("\n")
+        if "lines" in head:
+            self.copies.append([line.encode() for line in lines])
+        return [line.encode() for line in lines]
+
+    def adopt(self, lines):
+        talk = self.first
+        talk.ask(do="adopt", lines=len(lines))
+        for line in lines:
+            reply = talk.say(line)
+        if "adopted" in reply:
+            self.accepted += read_copy(b"".join(line + b"\n" for line in lines))["images"]
+
+    def recover(self):
+        """The first region adopts what the second copies, or an older copy, or is given one with a fault."""
+        tablet, rng = self.tablet(), self.rng
+        lost = [number for number, other in enumerate(self.first.region.tablets) if other.need is not None]
+        tablet = rng.choice(lost) if lost and rng.random() < 0.7 else tablet
+        need = self.first.region.tablets[tablet].need
+        lines = self.copied(tablet, need if rng.random() < 0.4 else rng.choice([None, {}, {"east": 3}]))
+        if self.copies and rng.random() < 0.4:
+            lines = rng.choice(self.copies)
+        if not lines:
+            return
+        if rng.random() < 0.6:
+            self.adopt_damaged(damaged(rng, lines, rng.random() < self.long))
+        if rng.random() < 0.7:
+            self.adopt(lines)
+
+    def adopt_damaged(self, lines):
+        """Adopts lines where these are no copy, or one of another range: a false copy would part the regions."""
+        try:
+            ends = read_copy(b"".join(line + b"\n" for line in lines))["ends"]
+        except Refused:
+            ends = ()
+        if lines and ends not in [tablet.ends for tablet in self.first.region.tablets]:
+            self.adopt(lines)
+
+    def walk(self, talk, asked, most=6):
+        lines = []
+        while asked is not None and len(lines) < most:
+            lines.append(line_of(self.rng, {"do": "scan", "query": asked}))
+            asked = json.loads(talk.say(lines[-1])).get("next")
+        return lines
+
+    def read(self, talk):
+        members = self.rng.choice([{}, {"version": None}, {"version": [1, self.rng.randrange(6)]}])
+        return talk.ask(do="read", key=self.rng.choice(self.keys), **members)
+
+    def question(self, talk):
+        """A command that changes nothing."""
+        rng, last = self.rng, len(talk.region.log)
+        return rng.choice([
+            lambda: {"do": "get", "keys": rng.choices(self.keys, k=rng.randrange(1, 5))},
+            lambda: {"do": "notices", "since": max(last + rng.randrange(-7, 3), 0)},
+            lambda: {"do": "copy", "need": rng.choice([None, {"east": 2, "west": 9}]), "tablet": self.tablet()},
+            lambda: {"do": rng.choice(["marks", "tablets"] if len(self.keys) < 20 else ["marks"])},
+            lambda: {"do": "read", "key": rng.choice(self.keys), "version": [1, rng.randrange(6)]},
+            lambda: {"do": "scan", "query": query(rng, self.keys)},
+        ])()
+
+    def fault(self, talk):
+        """A line that is refused as it stands, or one that only asks."""
+        rng = self.rng
+        if rng.random() < 0.2:
+            return talk.say(no_json(rng, {"do": "marks"}, rng.random() < 10 * self.long))
+        batches = [self.batch(name, 0, False) for name in rng.choices(list(self.streams), k=rng.randrange(1, 3))]
+        whole = rng.choice([{"do": "deliver", "batches": batches}, {"do": "deliver", "batches": batches},
+                            {"do": "adopt", "lines": 3}, {"do": "lose", "tablet": 0}, self.question(talk)])
+        line = line_of(rng, bent(rng, whole))
+        try:
+            word = command_of(line, len(talk.region.tablets))["do"]
+        except Refused:
+            word = None
+        if word not in ("adopt", "deliver", "lose"):
+            talk.say(line)
+
+    def ask(self, talk):
+        way = self.rng.randrange(7)
+        if way == 0:
+            self.read(talk)
+        elif way <= 2:
+            self.walk(talk, query(self.rng, self.keys))
+        elif way <= 4:
+            self.fault(talk)
+        else:
+            talk.ask(**self.question(talk))
+
+    def go_on(self):
+        way = self.rng.randrange(8)
+        if way <= 2:
+            self.take(self.first)
+        elif way <= 4:
+            self.take(self.second)
+        elif way == 5:
+            self.first.ask(do="lose", tablet=self.tablet())
+        else:
+            self.recover()
+        for talk in (self.first, self.first, self.second):
+            self.ask(talk)
+
+    def settle(self):
+        """Brings all that the first region took into the second, and the copies of this into what the first has lost."""
+        last = self.first.region.marks
+        for tablet in self.first.region.tablets:
+            last = greater(last, tablet.cover)
+        for name, at in sorted(last.items()):
+            has = self.second.region.marks.get(name, 0)
+            if has < at:
+                self.deliver(self.second, [{"first": has + 1, "images": self.streams[name][has:at], "stream": name}])
+        for number, tablet in enumerate(self.first.region.tablets):
+            if tablet.need is not None:
+                self.adopt(self.copied(number, tablet.need))
+        if self.long:
+            self.first.ask(do="tablets")
+
+    def take_again(self):
+        """The third region takes all images that the first accepted: in another order, in other batches, and some twice."""
+        rng, marks = self.rng, {"x": 0, "y": 0}
+        images = rng.sample(self.accepted, len(self.accepted))
+        images += images[:len(images) // 4]
+        while images:
+            batches = []
+            for name in rng.choices(["x", "y"], k=rng.randrange(1, 4)):
+                some = rng.randrange(8)
+                batches.append({"first": marks[name] + 1, "images": images[:some], "stream": name})
+                marks[name] += len(images[:some])
+                images = images[some:]
+            self.deliver(self.again, batches)
+
+    def close(self):
+        """Asks the first and the third region the same, which they have to answer alike."""
+        lines = [text_of({"do": "get", "keys": self.keys[at:at + 100]}).encode() for at in range(0, len(self.keys), 100)]
+        for line in lines:
+            self.first.say(line)
+        for _ in range(4):
+            lines += self.walk(self.first, query(self.rng, self.keys))
+        for line in lines:
+            self.again.say(line)
+        self.closing = len(lines)
+        if self.copies and self.rng.random() < 0.3:
+            lines = self.rng.choice(self.copies)
+            self.second.ask(do="adopt", lines=len(lines) + 2)
+            for line in lines[self.rng.randrange(2):]:
+                self.second.say(line)

@@ -1,0 +1,135 @@
+"""Random keys, images, queries and faults, from small pools so that they often meet."""
+import json
+
+from slow import text_of
+
+KEYS = ["a", "a ", "aa", "b", "c", "ca", "d", "\u00e9", "\uffff", "\U0001f600"]
+MANY_KEYS = [f"{number:03}" for number in range(128)]
+FIELDS = [{}, {"v": "x"}, {"v": "xy"}, {"v": ""}, {"u": "x", "v": "y"}, {"u": ""}, {"u": "", "v": "x"}, {"u": "x"}, {"uu": ""},
+          {"w": "\u00e9\n\""}]
+MASTERS = ["w", "w", "u", "-", "0"]
+WORDS = ["adopt", "copy", "deliver", "get", "lose", "marks", "notices", "read", "scan", "tablets", "fly"]
+ODD = [None, True, False, 0, 1, -1, 1.5, 1000.0, 2**64 - 1, 2**64, 10**15, 10**15 + 1, 10**18, 10**18 + 1, "", "k", "W", "x" * 33,
+       "x" * 65, "x" * 256, "x" * 257, [], [1], [1, 2], [1, 0, 0], [0, 1], [10**15, 10**15], {}, {"v": "x"}, {"v": 7},
+       {"EAST": 5}, {"east": 0}, [["has", "v"]] * 17, [["has", ""]], [["is", "v"]], [["eq", "v"]], [["has", "v", "x"]]]
+LARGE = ["x" * 4_097, {f"{number}": "" for number in range(65)}, {"u": "x" * 4_096, "v": "x" * 4_096}]
+EDGES = {
+    "batches": [[], [{"first": 1, "images": [], "stream": "s"}] * 65], "fields": LARGE, "first": [0, 10**15, 10**15 + 1],
+    "key": ["", "x" * 257], "keys": [[], [""], ["a"] * 101, ["a"] * 100], "lines": [0, 1_000_001], "master": ["", "W", "x" * 33],
+    "need": [{"EAST": 5}, {"east": 0}, {"east": 10**15 + 1}], "since": [10**18, 10**18 + 1], "stream": ["", "E", "x" * 33],
+    "query": [{"limit": 0}, {"limit": 1_001}, {"after": ""}, {"from": "x" * 257}, {"where": [["has", ""]]}],
+    "version": [[0, 1], [10**15 + 1, 0], [1, 10**15 + 1]],
+}
+BATCH = {"first": 1, "images": [], "stream": "s"}
+LENGTHS = [65_536, 65_537, 70_000]
+NO_JSON = [b"", b" ", b"\r", b"nul", b"NaN", b"-Infinity", b"{'do':'marks'}", b'{"do":"marks",}', b'{"do":"marks"}}',
+           b"\xff", b"\xef\xbb\xbf{}", b'"\\ud800"', b"[01]", b'"a\tb"', b'{"do":"marks"}\0', b"[" * 200 + b"]" * 200, b"+1", b".5", b'"\\x"']
+
+
+def bounds_of(rng, tablets):
+    """Bounds that divide the keys into so many tablets."""
+    if tablets == 64:
+        return MANY_KEYS[2::2]
+    return sorted(rng.sample([key for key in [*KEYS, "bb", "cb"] if " " not in key], tablets - 1))
+
+
+def image(rng, keys, place):
+    number = place // 8 + rng.randrange(3)
+    generation = rng.choice([1, 1, 1, 1, 1, 1, 2, 10**15])
+    body = {"deleted": True} if rng.random() < 0.2 else {"fields": rng.choice(FIELDS)}
+    return {**body, "key": rng.choice(keys), "master": rng.choice(MASTERS), "version": [generation, number]}
+
+
+def condition(rng):
+    word, field = rng.choice(["has", "eq", "lt", "gt", "prefix"]), rng.choice(["u", "v", "v", "w"])
+    return [word, field] if word == "has" else [word, field, rng.choice(["", "x", "xy", "y", "\u00e9"])]
+
+
+def query(rng, keys):
+    asked = {}
+    for name in ("from", "to", "after"):
+        if rng.random() < 0.3:
+            asked[name] = rng.choice([None, *keys])
+    if rng.random() < 0.7:
+        asked["limit"] = rng.choice([1, 2, 3, 4, 1_000])
+    if rng.random() < 0.5:
+        asked["where"] = [condition(rng) for _ in range(rng.choice([0, 1, 1, 2]))]
+    return asked
+
+
+def places_of(value):
+    """Each place within a value: what holds it, and by which name or number."""
+    names = list(value) if isinstance(value, dict) else range(len(value)) if isinstance(value, list) else []
+    places = []
+    for name in names:
+        places += [(value, name), *places_of(value[name])]
+    return places
+
+
+def bent(rng, value):
+    """A value in which one part is another, is missing, or is one too many."""
+    value = json.loads(json.dumps(value))
+    holder, name = rng.choice(places_of(value))
+    way = rng.randrange(8)
+    if way == 0 and isinstance(holder, dict):
+        del holder[name]
+    elif way == 1 and isinstance(holder, dict):
+        holder[rng.choice(["other", "deleted", "fields", "key"])] = rng.choice(ODD)
+    elif way == 2 and isinstance(holder, list):
+        holder += [holder[name]] * rng.choice([1, 16, 64])
+    elif name == "do":
+        holder[name] = rng.choice(WORDS)
+    else:
+        holder[name] = rng.choice(EDGES[name] if name in EDGES and rng.random() < 0.3 else ODD)
+    return value
+
+
+def no_json(rng, value, is_long):
+    """Bytes that are no JSON, or too long a line."""
+    text = text_of(value).encode()
+    if is_long:
+        return text.ljust(rng.choice(LENGTHS))
+    return rng.choice([text[:rng.randrange(len(text))], text + b"x", *NO_JSON])
+
+
+def shuffled(rng, value):
+    if isinstance(value, list):
+        return [shuffled(rng, item) for item in value]
+    if not isinstance(value, dict):
+        return value
+    names = rng.sample(list(value), len(value))
+    return {name: shuffled(rng, value[name]) for name in names}
+
+
+def line_of(rng, value):
+    """A value as a line: mostly compact, and otherwise with white space, escapes and members in another order."""
+    if rng.random() < 0.85:
+        return text_of(value).encode()
+    text = json.dumps(shuffled(rng, value), separators=(" ,\t", ": "))
+    return f" {text}\r".encode()
+
+
+def damaged(rng, lines, is_long):
+    """The lines of a copy with one fault, or with one that is none."""
+    lines = list(lines)
+    place, other = rng.randrange(len(lines)), rng.randrange(len(lines))
+    way = rng.randrange(10)
+    if is_long:
+        lines[place] = lines[place].ljust(rng.choice(LENGTHS))
+    elif way == 0:
+        del lines[place]
+    elif way == 1:
+        lines.insert(place, lines[other])
+    elif way == 2:
+        lines[place], lines[other] = lines[other], lines[place]
+    elif way == 3:
+        lines[0] = text_of({"copy": 1, "from": rng.choice([None, *KEYS]), "to": rng.choice([None, *KEYS])}).encode()
+    elif way == 4:
+        lines[-1] = text_of({"end": rng.choice([0, 1, len(lines) - 1, 2**64 - 1])}).encode()
+    elif way == 5:
+        lines.append(rng.choice([b"", b"{}", lines[place]]))
+    elif way == 6:
+        lines[place] = rng.choice(NO_JSON)
+    else:
+        lines[place] = text_of(bent(rng, json.loads(lines[place]))).encode()
+    return lines

@@ -1,0 +1,240 @@
+"""A plain, slow region: each tablet keeps all images that it was given in one list, and finds each record by going through it.
+
+docs/formats.md says what it has to reply.
+"""
+import json
+
+from slow_copies import content_of, is_in, read_copy
+from slow_lines import LONGEST_LINE, Refused, command_of
+
+MOST_STREAMS = 16
+MOST_TOLD = 1_024
+
+
+def text_of(value):
+    return json.dumps(value, ensure_ascii=False, separators=(",", ":"), sort_keys=True)
+
+
+def greater(one, other):
+    return {name: max(one.get(name, 0), other.get(name, 0)) for name in {*one, *other}}
+
+
+def shortfall(has, wanted):
+    """The first stream that falls short, with both positions."""
+    short = [(name, has.get(name, 0), at) for name, at in sorted(wanted.items()) if has.get(name, 0) < at]
+    return short[0] if short else None
+
+
+def shown_content(content):
+    kind, fields, master = content
+    return {"deleted": True, "master": master} if kind == 0 else {"fields": dict(fields), "master": master}
+
+
+def row_of(key, record):
+    version, contents = record
+    kinds = {kind for kind, _, _ in contents}
+    state = "deleted" if kinds == {0} else "one" if len(contents) == 1 else "conflict"
+    return {"contents": list(map(shown_content, contents)), "key": key, "state": state, "version": version}
+
+
+def is_met(condition, fields):
+    word, field, *text = condition
+    if field not in fields:
+        return False
+    has = fields[field]
+    return {"has": lambda: True, "eq": lambda: has == text[0], "lt": lambda: has < text[0],
+            "gt": lambda: has > text[0], "prefix": lambda: has.startswith(text[0])}[word]()
+
+
+def is_shown(record, conditions):
+    return any(kind == 1 and all(is_met(condition, dict(fields)) for condition in conditions)
+               for kind, fields, _ in record[1])
+
+
+class Tablet:
+    def __init__(self, ends):
+        self.ends, self.images, self.cover, self.need = ends, [], {}, None
+
+    def records(self):
+        """Each key with the greatest version that came, and the contents that came with it."""
+        records = {}
+        for key in sorted({image["key"] for image in self.images}):
+            images = [image for image in self.images if image["key"] == key]
+            version = max(image["version"] for image in images)
+            contents = []
+            for image in images:
+                if image["version"] == version and content_of(image) not in contents:
+                    contents.append(content_of(image))
+            records[key] = version, sorted(contents)
+        return records
+
+    def take(self, images, marks):
+        """Joins the images of its range, and answers which records are others than before."""
+        before = self.records()
+        self.images += [image for image in images if is_in(self.ends, image["key"])]
+        self.cover = greater(self.cover, marks)
+        after = self.records()
+        return [(key, before[key][0] if key in before else None, after[key][0])
+                for key in after if before.get(key) != after[key]]
+
+    def copy_lines(self):
+        images = [{"key": key, "version": record[0], **shown_content(content)}
+                  for key, record in self.records().items() for content in record[1]]
+        marks = [{"at": at, "stream": name} for name, at in sorted(self.cover.items())]
+        head = {"copy": 1, "from": self.ends[0], "to": self.ends[1]}
+        return list(map(text_of, [head, *marks, *images, {"end": len(marks) + len(images)}]))
+
+
+class Region:
+    """A region that is given line after line, and answers each by its replies."""
+
+    def __init__(self, bounds):
+        self.tablets = [Tablet(ends) for ends in zip([None, *bounds], [*bounds, None])]
+        self.marks, self.log = {}, []
+        self.announced, self.text = 0, b""
+
+    def tablet_of(self, key):
+        return next(number for number, tablet in enumerate(self.tablets) if is_in(tablet.ends, key))
+
+    def serving(self, number):
+        if self.tablets[number].need is not None:
+            raise Refused("recovering", tablet=number)
+        return self.tablets[number]
+
+    def record(self, key):
+        return self.serving(self.tablet_of(key)).records().get(key)
+
+    def deliver(self, batches):
+        marks, images = dict(self.marks), []
+        for batch in batches:
+            first, stream, last = batch["first"], batch["stream"], batch["first"] + len(batch["images"]) - 1
+            if not batch["images"]:
+                continue
+            mark = marks.get(stream, 0)
+            if first > mark + 1:
+                raise Refused("gap", got=first, stream=stream, wanted=mark + 1)
+            marks[stream] = max(mark, last)
+            images += batch["images"]
+        if len(marks) > MOST_STREAMS:
+            raise Refused("too-many-streams")
+        changes = [change for tablet in self.tablets for change in tablet.take(images, marks)]
+        self.marks = marks
+        self.log += changes
+        return {"changed": len(changes)}
+
+    def read(self, key, version=None):
+        record = self.record(key)
+        has = None if record is None else record[0]
+        if version is not None and (has is None or has < version):
+            raise Refused("behind", has=has)
+        return {"row": None if record is None else row_of(key, record)}
+
+    def get(self, keys):
+        records = [(key, self.record(key)) for key in keys]
+        return {"rows": [None if record is None else row_of(key, record) for key, record in records]}
+
+    def scan(self, query):
+        start, end, after = query.get("from"), query.get("to"), query.get("after")
+        limit, conditions = query.get("limit", 100), query.get("where", [])
+        first = max(self.tablet_of(key) for key in (start or "\0", after or "\0"))
+        rows = []
+        for number in range(first, len(self.tablets)):
+            below = self.tablets[number].ends[0]
+            if len(rows) > limit or below is not None and end is not None and not below < end:
+                break
+            rows += [row_of(key, record) for key, record in self.serving(number).records().items()
+                     if is_in((start, end), key) and (after is None or after < key) and is_shown(record, conditions)]
+        if len(rows) <= limit:
+            return {"next": None, "rows": rows}
+        rows = rows[:limit]
+        ends = {"after": rows[-1]["key"], "from": start, "to": end}
+        return {"next": {**ends, "limit": limit, "where": conditions}, "rows": rows}
+
+    def lose(self, number):
+        tablet = self.tablets[number]
+        tablet.images, tablet.need = [], dict(tablet.cover)
+        self.log.append(None)
+        return {"lost": number}
+
+    def copy(self, number, need):
+        tablet = self.serving(number)
+        short = shortfall(tablet.cover, need)
+        if short:
+            raise Refused("behind", stream=short[0], has=short[1], wanted=short[2])
+        return tablet.copy_lines()
+
+    def adopt(self, text):
+        copy = read_copy(text)
+        numbers = [number for number, tablet in enumerate(self.tablets) if tablet.ends == copy["ends"]]
+        if not numbers:
+            raise Refused("wrong-range")
+        tablet = self.tablets[numbers[0]]
+        short = shortfall(copy["marks"], tablet.need or {})
+        if short:
+            raise Refused("too-old", stream=short[0], has=short[1], needs=short[2])
+        tablet.take(copy["images"], copy["marks"])
+        tablet.need = None
+        self.log.append(None)
+        return {"adopted": numbers[0]}
+
+    def notices(self, since):
+        last = len(self.log)
+        told = self.log[since:]
+        if since > last or len(told) > MOST_TOLD or None in told:
+            return {"missed": True, "next": last}
+        notices = [{"after": after, "before": before, "key": key, "number": number}
+                   for number, (key, before, after) in enumerate(told, since + 1)]
+        return {"next": last, "notices": notices}
+
+    def shown_tablets(self):
+        return {"tablets": [{"cover": tablet.cover, "from": tablet.ends[0], "need": tablet.need, "to": tablet.ends[1]}
+                            for tablet in self.tablets]}
+
+    def reply_to(self, line):
+        command = command_of(line, len(self.tablets))
+        word = command["do"]
+        if word == "adopt":
+            self.announced, self.text = command["lines"], b""
+            return None
+        if word == "copy":
+            lines = self.copy(command["tablet"], command.get("need") or {})
+            return "\n".join([text_of({"lines": len(lines)}), *lines])
+        return text_of({
+            "deliver": lambda: self.deliver(command["batches"]), "get": lambda: self.get(command["keys"]),
+            "lose": lambda: self.lose(command["tablet"]), "marks": lambda: {"marks": self.marks},
+            "notices": lambda: self.notices(command["since"]), "scan": lambda: self.scan(command["query"]),
+            "read": lambda: self.read(command["key"], command.get("version")), "tablets": self.shown_tablets,
+        }[word]())
+
+    def end_text(self):
+        self.announced = 0
+        return text_of(self.adopt(self.text))
+
+    def answered(self, answer, *given):
+        try:
+            reply = answer(*given)
+        except Refused as refused:
+            reply = text_of(refused.reply)
+        return "" if reply is None else reply + "\n"
+
+    def feed(self, line, newline=b"\n"):
+        """The reply to a line, with its newline; nothing where a command goes on."""
+        if not self.announced:
+            return self.answered(self.reply_to, line)
+        self.text += line[:LONGEST_LINE + 1] + newline
+        self.announced -= 1
+        return "" if self.announced else self.answered(self.end_text)
+
+    def end(self):
+        """The reply that is left at the end of the input."""
+        return self.answered(self.end_text) if self.announced else ""
+
+
+def replies(bounds, script):
+    """All replies to a script, as bytes."""
+    region = Region(bounds)
+    *lines, rest = script.split(b"\n")
+    told = [region.feed(line) for line in lines]
+    if rest:
+        told.append(region.feed(rest, b""))
+    return "".join([*told, region.end()]).encode()

@@ -1,0 +1,100 @@
+"""Copies of tablets, read line by line from their text."""
+from slow_lines import (LONGEST_LINE, Refused, check_image_range, check_image_shape, is_key, is_name, is_position,
+                        is_whole, json_of)
+
+
+def content_of(image):
+    """What an image says beside key and version. Contents compare in content order."""
+    if "deleted" in image:
+        return (0, [], image["master"])
+    return (1, sorted(image["fields"].items()), image["master"])
+
+
+def is_end(value):
+    return value is None or isinstance(value, str) and is_key(value)
+
+
+def range_of(value):
+    """The two ends that a head names. None: it is no head."""
+    if not isinstance(value, dict) or set(value) != {"copy", "from", "to"}:
+        return None
+    start, end = value["from"], value["to"]
+    if not is_whole(value["copy"]) or value["copy"] != 1 or not is_end(start) or not is_end(end):
+        return None
+    if start is not None and end is not None and not start < end:
+        return None
+    return start, end
+
+
+def is_mark(value):
+    if not isinstance(value, dict) or set(value) != {"at", "stream"} or not isinstance(value["stream"], str):
+        return False
+    return is_whole(value["at"]) and is_position(value["at"]) and is_name(value["stream"])
+
+
+def is_last(value):
+    return isinstance(value, dict) and set(value) == {"end"} and is_whole(value["end"])
+
+
+def is_image(value):
+    try:
+        check_image_shape(value)
+        check_image_range(value)
+    except Refused:
+        return False
+    return True
+
+
+def is_in(ends, key):
+    start, end = ends
+    return (start is None or start <= key) and (end is None or key < end)
+
+
+def is_behind(image, last):
+    if image["key"] == last["key"]:
+        return image["version"] == last["version"] and content_of(last) < content_of(image)
+    return last["key"] < image["key"]
+
+
+def value_of(line, number):
+    if len(line) <= LONGEST_LINE:
+        try:
+            return json_of(line)
+        except Refused:
+            pass
+    raise Refused("bad-line", line=number)
+
+
+def check_line(value, number, copy):
+    """Refuses a line that is neither a mark nor an image, or may not stand here."""
+    if not (is_mark(value) and not copy["images"]) and not is_image(value):
+        raise Refused("bad-line", line=number)
+    if "at" in value:
+        if any(value["stream"] <= name for name in copy["marks"]):
+            raise Refused("not-rising", line=number)
+    elif not is_in(copy["ends"], value["key"]):
+        raise Refused("outside-range", line=number)
+    elif copy["images"] and not is_behind(value, copy["images"][-1]):
+        raise Refused("not-rising", line=number)
+
+
+def read_copy(text):
+    """The range, the marks and the images of a copy."""
+    *lines, rest = text.split(b"\n")
+    if not lines:
+        raise Refused("truncated")
+    copy = {"ends": range_of(value_of(lines[0], 1)), "marks": {}, "images": []}
+    if copy["ends"] is None:
+        raise Refused("bad-line", line=1)
+    for number, line in enumerate(lines[1:], 2):
+        value = value_of(line, number)
+        if is_last(value):
+            if value["end"] != number - 2 or number != len(lines) or rest:
+                raise Refused("bad-end")
+            return copy
+        check_line(value, number, copy)
+        if "at" in value:
+            copy["marks"][value["stream"]] = value["at"]
+        else:
+            copy["images"].append(value)
+    raise Refused("truncated")
