@@ -71,7 +71,9 @@ fn keys_told(alloc: Global, page: &Page) -> Result<String, Fail> {
     }
     if let Some(next) = &page.next {
         told.push_str("then ")?;
-        told.push_str(next.after().map_or("", |key| key.as_str()))?;
+        if let Some(key) = next.after() {
+            told.push_str(key.as_str())?;
+        }
     }
     Ok(told)
 }
@@ -93,7 +95,7 @@ pub(crate) fn get_told(
     Ok(told)
 }
 
-/// Whether a key has a record of at least this version of the first generation, or why there is no answer.
+/// Whether a key has a record whose version has this number or a greater one, or why there is no answer.
 pub(crate) fn read_told(
     alloc: Global,
     view: &mut TakesTurns,

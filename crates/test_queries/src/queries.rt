@@ -93,7 +93,7 @@ fn each_part_has_its_limit(rt: HostRuntime) -> Result<(), Fail> {
             "at {before}"
         );
         assert!(rt;
-            !is_read(rt.alloc(), before, part, most + 1, behind)?,
+            !is_read(rt.alloc(), before, part, most.saturating_add(1), behind)?,
             "at {before}"
         );
     }

@@ -15,7 +15,7 @@ use std::process::Abort;
 use std::test::Fail;
 use std::thread::Threads;
 
-/// The layout's tablets, which have taken nothing, and which note their work.
+// The layout's tablets, which have taken nothing yet and note their work.
 fn slots_of<'a>(alloc: Global, layout: &Layout, notes: &'a Notes) -> Result<Vec<Noted<'a>>, Fail>
     ensures { IfOk result (λ slots. map (λ slot. slot.range) slots.items ≡ ranges layout.now) }
 {
@@ -32,7 +32,7 @@ fn slots_of<'a>(alloc: Global, layout: &Layout, notes: &'a Notes) -> Result<Vec<
     Ok(slots)
 }
 
-/// What the deliveries of a round change in the tablets of the layout.
+// Takes a round: what its deliveries change in each slot.
 fn take(
     rt: &(impl AllocGlobal + Threads + Sync),
     slots: &mut [Noted<'_>],
@@ -90,7 +90,7 @@ fn each_tablet_is_entered_once_and_then_worked(rt: HostRuntime) -> Result<(), Fa
     Ok(())
 }
 
-// In a round a tablet is refused memory, and then that round comes again.
+// A tablet is refused memory in a round, which then comes again.
 fn assert_retried(
     rt: &(impl Abort + AllocGlobal + Threads + Sync),
     layout: &Layout,
