@@ -1,125 +1,110 @@
-//! What the tests are given: tablets of a layout, queries, and pages in words.
+//! What the tests are given: tablets of a layout, and what reads of them answer, in words.
 
-use crate::views::Moments;
-use pn_join::Marks;
-use pn_record::{Cell, CellState, Key, Records, read_image, take_image};
-use pn_scan::{Page, Query, Row, ScanFault, read_query};
+use crate::view::TakesTurns;
+use pn_join::{Dup, Marks};
+use pn_record::{Key, Records, Version, read_image, take_image};
+use pn_scan::{Page, get, page, read_at_least, read_query};
 use pn_tablet::{Layout, Range, TabletOp, TabletState};
 use serde_json::Value;
 use std::alloc::Global;
 use std::test::Fail;
-use test_given::{image_line, layout};
+use test_given::{image_line, keys};
 
-/// The query of this text.
-pub(crate) fn query(alloc: Global, text: &str) -> Result<Query, Fail> {
-    Ok(read_query(alloc, &Value::from_str(alloc, text)?)?)
-}
-
-/// The lines of an image at each key, all of one version.
-pub(crate) fn lines(alloc: Global, keys: &[&str]) -> Result<Vec<String>, Fail> {
-    let mut lines = Vec::with_capacity(alloc, keys.len())?;
-    for key in keys {
-        lines.push(image_line(alloc, key)?)?;
+/// The tablets of the layout, with a record at each of the keys.
+pub(crate) fn tablets(
+    alloc: Global,
+    layout: &Layout,
+    texts: &[&str],
+) -> Result<Vec<TabletState>, Fail> {
+    let mut tablets = Vec::new(alloc);
+    for number in 0..layout.count() {
+        let (from, to) = layout.range(number);
+        tablets.push(tablet(alloc, Range::copied(from, to)?, texts)?)?;
     }
-    Ok(lines)
+    Ok(tablets)
 }
 
-/// The records of those of the images whose keys lie in the range.
-pub(crate) fn records_in(alloc: Global, range: &Range, lines: &[String]) -> Result<Records, Fail> {
-    let mut records = Records::new(alloc);
-    for line in lines {
-        let image = read_image(alloc, line.as_bytes())?;
+// A tablet with a record at each of the keys that lie in its range.
+fn tablet(alloc: Global, range: Range, texts: &[&str]) -> Result<TabletState, Fail> {
+    let mut cells = Records::new(alloc);
+    for text in texts {
+        let image = read_image(alloc, image_line(alloc, text)?.as_bytes())?;
         if range.contains(&image.key) {
-            take_image(alloc, &mut records, image)?;
+            take_image(alloc, &mut cells, image)?;
         }
     }
-    Ok(records)
-}
-
-fn tablet(alloc: Global, range: Range, lines: &[String]) -> Result<TabletState, Fail> {
-    let cells = records_in(alloc, &range, lines)?;
     let marks = Marks::new(alloc);
     let mut state = TabletState::new(alloc, range);
     state.apply(&TabletOp::Join { cells, marks })?;
     Ok(state)
 }
 
-fn lose(state: &mut TabletState) -> Result<(), Fail> {
-    state.apply(&TabletOp::Lose)?;
-    Ok(())
-}
-
-/// The tablets of the layout, which took the images; the one of the number, if one is given, is lost.
-pub(crate) fn tablets(
+/// Copies of tablets, of which the last is lost.
+pub(crate) fn without_the_last(
     alloc: Global,
-    layout: &Layout,
-    lines: &[String],
-    lost: Option<usize>,
+    tablets: &[TabletState],
 ) -> Result<Vec<TabletState>, Fail> {
-    let mut tablets = Vec::with_capacity(alloc, layout.count())?;
-    for number in 0..layout.count() {
-        let (from, to) = layout.range(number);
-        let mut state = tablet(alloc, Range::copied(from, to)?, lines)?;
-        if lost == Some(number) {
-            lose(&mut state)?;
-        }
-        tablets.push(state)?;
+    let mut copies = Vec::new(alloc);
+    for tablet in tablets {
+        copies.push(tablet.dup()?)?;
     }
-    Ok(tablets)
+    if let Some(last) = copies.last_mut() {
+        last.apply(&TabletOp::Lose)?;
+    }
+    Ok(copies)
 }
 
-/// A view of tablets that stay.
-pub(crate) fn view(alloc: Global, bounds: &[&str], lines: &[String]) -> Result<Moments, Fail> {
-    let layout = layout(alloc, bounds)?;
-    let tablets = tablets(alloc, &layout, lines, None)?;
-    Ok(Moments::new(layout, vec![in alloc; tablets]?))
-}
-
-fn word(state: CellState) -> &'static str {
-    match state {
-        CellState::One => "one",
-        CellState::Deleted => "deleted",
-        CellState::Conflict => "conflict",
+/// The keys of a page and the one behind which there is more, or why there is no page.
+pub(crate) fn page_told(alloc: Global, view: &mut TakesTurns, text: &str) -> Result<String, Fail> {
+    let query = read_query(alloc, &Value::from_str(alloc, text)?)?;
+    match page(alloc, view, &query) {
+        Ok(page) => keys_told(alloc, &page),
+        Err(fault) => Ok(format!(in alloc; "{fault}")?),
     }
 }
 
-/// The key of a row and what its contents say together.
-pub(crate) fn push_row(text: &mut String, row: &Row) -> Result<(), Fail> {
-    push_row_of(text, &row.key, &row.cell)
-}
-
-pub(crate) fn push_row_of(text: &mut String, key: &Key, cell: &Cell) -> Result<(), Fail> {
-    text.push_str(key.as_str())?;
-    text.push_str(":")?;
-    text.push_str(word(cell.state()))?;
-    text.push_str(" ")?;
-    Ok(())
-}
-
-/// The rows, and the key behind which there is more.
-pub(crate) fn told(alloc: Global, page: &Page) -> Result<String, Fail> {
-    let mut text = String::new(alloc);
+fn keys_told(alloc: Global, page: &Page) -> Result<String, Fail> {
+    let mut told = String::new(alloc);
     for row in &page.rows {
-        push_row(&mut text, row)?;
+        told.push_str(row.key.as_str())?;
+        told.push(' ')?;
     }
     if let Some(next) = &page.next {
-        text.push_str("then ")?;
-        text.push_str(next.after().map_or("", |key| key.as_str()))?;
+        told.push_str("then ")?;
+        if let Some(key) = next.after() {
+            told.push_str(key.as_str())?;
+        }
     }
-    Ok(text)
+    Ok(told)
 }
 
-/// The fault in words.
-pub(crate) fn fault_told(alloc: Global, fault: &ScanFault) -> Result<String, Fail> {
-    Ok(format!(in alloc; "{fault}")?)
+/// Which of the keys have a record, or why there is no answer.
+pub(crate) fn get_told(
+    alloc: Global,
+    view: &mut TakesTurns,
+    texts: &[&str],
+) -> Result<String, Fail> {
+    let cells = match get(alloc, view, &keys(alloc, texts)?) {
+        Ok(cells) => cells,
+        Err(fault) => return Ok(format!(in alloc; "{fault}")?),
+    };
+    let mut told = String::new(alloc);
+    for cell in &cells {
+        told.push_str(if cell.is_some() { "one " } else { "none " })?;
+    }
+    Ok(told)
 }
 
-/// What there is of each key that was asked for.
-pub(crate) fn cells_told(alloc: Global, cells: &[Option<Cell>]) -> Result<String, Fail> {
-    let mut text = String::new(alloc);
-    for cell in cells {
-        text.push_str(cell.as_ref().map_or("none", |cell| word(cell.state())))?;
-        text.push_str(" ")?;
+/// Whether a key has a record whose version has this number or a greater one, or why there is no answer.
+pub(crate) fn read_told(
+    alloc: Global,
+    view: &mut TakesTurns,
+    text: &str,
+    number: u64,
+) -> Result<String, Fail> {
+    match read_at_least(view, &Key::of(alloc, text)?, Version::new(1, number)) {
+        Ok(Some(_)) => Ok(String::from_str(alloc, "one")?),
+        Ok(None) => Ok(String::from_str(alloc, "none")?),
+        Err(fault) => Ok(format!(in alloc; "{fault}")?),
     }
-    Ok(text)
 }

@@ -1,15 +1,9 @@
-//! Tests of pages and point reads, at tablets that were worked out by hand and at random ones.
+//! Tests of pages and point reads, over tablets that stay and over tablets that change between two reads.
 #![tactic(auto)]
 
 #[cfg(test)]
-mod changing;
-#[cfg(test)]
 mod given;
 #[cfg(test)]
-mod random;
+mod reads;
 #[cfg(test)]
-mod rows;
-#[cfg(test)]
-mod slow;
-#[cfg(test)]
-mod views;
+mod view;

@@ -1,9 +1,11 @@
-//! Tests of streams: the calls of `pn_stream`, at values that were worked out by hand.
+//! Tests of streams: messages, deliveries and readers, at values that were worked out by hand.
 #![tactic(auto)]
 
 #[cfg(test)]
+mod given;
+#[cfg(test)]
 mod messages;
 #[cfg(test)]
-mod sources;
+mod pipe;
 #[cfg(test)]
 mod streams;

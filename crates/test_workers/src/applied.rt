@@ -4,25 +4,19 @@ ghost use Rattle.std.specs.Prelude.{◌≡◌, ◌≤◌, map, IfOk};
 ghost use Rattle.pn_apply.specs.Limits.{most_workers};
 ghost use Rattle.pn_apply.specs.Reducing.{ranges};
 
-use crate::given::{deliveries_of, layout_of};
-use crate::images::{FROM_STREAM, PlainImage, images_of};
+use crate::given::{KEYS, deliveries_of, tablets_of_keys};
 use crate::slot::{Noted, Notes};
-use crate::slow;
-use crate::told::changes_told;
-use pn_apply::{Open, apply_all, reduce};
+use pn_apply::{Open, apply_all, reduce, reduce_owned};
 use pn_join::{Marks, NoMemory};
 use pn_stream::Delivery;
 use pn_tablet::{Change, Layout, Range, TabletState};
 use std::alloc::Global;
+use std::process::Abort;
 use std::test::Fail;
 use std::thread::Threads;
 
-/// The layout's tablets, which have taken nothing, and which note their work.
-pub(crate) fn slots_of<'a>(
-    alloc: Global,
-    layout: &Layout,
-    notes: &'a Notes,
-) -> Result<Vec<Noted<'a>>, Fail>
+// The layout's tablets, which have taken nothing yet and note their work.
+fn slots_of<'a>(alloc: Global, layout: &Layout, notes: &'a Notes) -> Result<Vec<Noted<'a>>, Fail>
     ensures { IfOk result (λ slots. map (λ slot. slot.range) slots.items ≡ ranges layout.now) }
 {
     let mut slots = Vec::new(alloc);
@@ -38,8 +32,8 @@ pub(crate) fn slots_of<'a>(
     Ok(slots)
 }
 
-/// What the deliveries of a round change in the tablets of the layout.
-pub(crate) fn take(
+// Takes a round: what its deliveries change in each slot.
+fn take(
     rt: &(impl AllocGlobal + Threads + Sync),
     slots: &mut [Noted<'_>],
     deliveries: &[Delivery],
@@ -57,71 +51,30 @@ pub(crate) fn take(
     apply_all(rt, alloc, slots, &operations, workers, gate)
 }
 
-// What each round changes in each tablet.
-fn rounds_told(
-    rt: &(impl AllocGlobal + Threads + Sync),
-    images: &[PlainImage],
-    layout: &Layout,
-    workers: usize,
-) -> Result<String, Fail>
-    requires { (1 ≤ workers) × (workers ≤ most_workers) }
-{
-    let alloc = rt.alloc();
-    let notes = Notes::new();
-    let mut slots = slots_of(alloc, layout, &notes)?;
-    let mut text = String::new(alloc);
-    for (number, round) in images.chunks(2 * FROM_STREAM).enumerate() {
-        let deliveries = deliveries_of(alloc, number, round)?;
-        let lists = take(
-            rt,
-            slots.as_mut_slice(),
-            &deliveries,
-            layout,
-            workers,
-            &notes,
-        )?;
-        text.push_str(changes_told(alloc, &lists)?.as_str())?;
-    }
-    Ok(text)
-}
-
-#[test]
-fn changes_are_those_of_the_slow_program_with_any_number_of_workers(
-    rt: HostRuntime,
-) -> Result<(), Fail> {
-    let images = images_of(rt.alloc(), 2, 6 * FROM_STREAM + 1)?;
-    for tablets in [1, 2, 3, 64] {
-        let wanted = slow::all_changes(rt.alloc(), &images, tablets)?;
-        let layout = layout_of(rt.alloc(), tablets)?;
-        for workers in [1, 2, 3, 5, 16] {
-            let told = rounds_told(&rt, &images, &layout, workers)?;
-            assert_eq!(rt;
-                told.as_str(),
-                wanted.as_str(),
-                "{workers} workers over {tablets} tablets"
-            );
+// The keys that the slots hold, in the order of the slots.
+fn keys_told(alloc: Global, slots: &[Noted<'_>]) -> Result<String, Fail> {
+    let mut told = String::new(alloc);
+    for slot in slots {
+        for (key, _cell) in slot.state.cells().iter() {
+            told.push_str(key.as_str())?;
         }
     }
-    Ok(())
+    Ok(told)
 }
 
 #[test]
 fn each_tablet_is_entered_once_and_then_worked(rt: HostRuntime) -> Result<(), Fail> {
     let alloc = rt.alloc();
-    let images = images_of(alloc, 3, FROM_STREAM)?;
-    let layout = layout_of(alloc, 64)?;
-    let deliveries = deliveries_of(alloc, 0, &images)?;
+    let layout = tablets_of_keys(alloc)?;
+    let deliveries = deliveries_of(alloc, &KEYS)?;
+    let marks = Marks::new(alloc);
     for workers in [1, 2, 3, 5, 16] {
         let (first, second) = (Notes::new(), Notes::new());
-        reduce(
-            &rt,
-            alloc,
-            &deliveries,
-            &layout,
-            &Marks::new(alloc),
-            workers,
-            &first,
-        )?;
+        let owned = deliveries_of(alloc, &KEYS)?;
+        let joins = reduce_owned(&rt, alloc, owned, &layout, &marks, workers, &first)?;
+        assert_eq!(rt; joins.len(), 8);
+        assert_eq!(rt; first.told(), (255, 0, 0), "{workers} workers");
+
         let mut slots = slots_of(alloc, &layout, &second)?;
         take(
             &rt,
@@ -131,17 +84,65 @@ fn each_tablet_is_entered_once_and_then_worked(rt: HostRuntime) -> Result<(), Fa
             workers,
             &second,
         )?;
-        assert_eq!(rt; first.told(), (u64::MAX, 0, 0), "{workers} workers");
-        assert_eq!(rt; second.told(), (u64::MAX, u64::MAX, 0), "{workers} workers");
+        assert_eq!(rt; keys_told(alloc, &slots)?.as_str(), "abcdefgh");
+        assert_eq!(rt; second.told(), (255, 255, 0), "{workers} workers");
     }
     Ok(())
 }
 
+// A tablet is refused memory in a round, which then comes again.
+fn assert_retried(
+    rt: &(impl Abort + AllocGlobal + Threads + Sync),
+    layout: &Layout,
+    deliveries: &[Delivery],
+    workers: usize,
+    refused: usize,
+) -> Result<(), Fail>
+    requires { (1 ≤ workers) × (workers ≤ most_workers) }
+{
+    let notes = Notes::new();
+    let mut slots = slots_of(rt.alloc(), layout, &notes)?;
+    notes.refuse(refused);
+    let ended = take(
+        rt,
+        slots.as_mut_slice(),
+        deliveries,
+        layout,
+        workers,
+        &notes,
+    );
+    assert!(rt; ended.is_err(), "{workers} workers, {refused} refused");
+    for slot in &slots {
+        let count = slot.state.cells().len();
+        let most = if slot.tablet == refused { 0 } else { 1 };
+        assert!(rt;
+            count <= most,
+            "tablet {}, {workers} workers, {refused} refused",
+            slot.tablet
+        );
+    }
+
+    notes.refuse_none();
+    take(
+        rt,
+        slots.as_mut_slice(),
+        deliveries,
+        layout,
+        workers,
+        &notes,
+    )?;
+    assert_eq!(rt; keys_told(rt.alloc(), &slots)?.as_str(), "abcdefgh");
+    Ok(())
+}
+
 #[test]
-fn two_empty_lists_have_no_changes(rt: HostRuntime) -> Result<(), Fail> {
-    let mut slots = Vec::<TabletState>::new(rt.alloc());
-    let operations = Vec::new(rt.alloc());
-    let changes = apply_all(&rt, rt.alloc(), slots.as_mut_slice(), &operations, 1, &Open)?;
-    assert!(rt; changes.is_empty());
+fn a_tablet_that_is_refused_memory_leaves_each_old_or_new(rt: HostRuntime) -> Result<(), Fail> {
+    let layout = tablets_of_keys(rt.alloc())?;
+    let deliveries = deliveries_of(rt.alloc(), &KEYS)?;
+    for workers in [1, 2, 3, 5, 16] {
+        for refused in 0..8 {
+            assert_retried(&rt, &layout, &deliveries, workers, refused)?;
+        }
+    }
     Ok(())
 }

@@ -1,56 +1,27 @@
-//! What workers are given: layouts, and the deliveries of a round.
+//! What workers are given: a layout of eight tablets, and a delivery with an image for each.
 
-use crate::images::{BODIES, FROM_STREAM, PlainImage, first_key, key_text, streams_of};
 use pn_join::Name;
-use pn_record::{Image, Key, KeyFault, read_image};
+use pn_record::{KeyFault, read_image};
 use pn_stream::Delivery;
 use pn_tablet::Layout;
 use std::alloc::Global;
 use std::test::Fail;
+use test_given::{image_line, layout};
 
-/// The keys divided into so many tablets.
-pub(crate) fn layout_of(alloc: Global, tablets: usize) -> Result<Layout, Fail> {
-    let mut bounds = Vec::new(alloc);
-    for tablet in 1..tablets {
-        let text = key_text(alloc, first_key(tablet, tablets))?;
-        bounds.push(Key::of(alloc, text.as_str())?)?;
+/// A key in each tablet.
+pub(crate) const KEYS: [&str; 8] = ["a", "b", "c", "d", "e", "f", "g", "h"];
+
+/// The layout whose tablets have one of the keys each.
+pub(crate) fn tablets_of_keys(alloc: Global) -> Result<Layout, Fail> {
+    layout(alloc, &KEYS[1..])
+}
+
+/// One delivery, with an image at each of the keys.
+pub(crate) fn deliveries_of(alloc: Global, keys: &[&str]) -> Result<Vec<Delivery>, Fail> {
+    let mut images = Vec::new(alloc);
+    for key in keys {
+        images.push(read_image(alloc, image_line(alloc, key)?.as_bytes())?)?;
     }
-    Ok(Layout::new(bounds)?)
-}
-
-fn image_of(alloc: Global, image: PlainImage) -> Result<Image, Fail> {
-    let body = BODIES.get(image.body).copied().unwrap_or("");
-    let key = key_text(alloc, image.key)?;
-    let number = image.number;
-    let line = format!(in alloc;
-        "{{{body},\"key\":\"{key}\",\"master\":\"w\",\"version\":[1,{number}]}}"
-    )?;
-    Ok(read_image(alloc, line.as_bytes())?)
-}
-
-fn delivery_of(
-    alloc: Global,
-    stream: &[u8],
-    first: u64,
-    list: &[PlainImage],
-) -> Result<Delivery, Fail> {
-    let mut images = Vec::with_capacity(alloc, list.len())?;
-    for image in list {
-        images.push(image_of(alloc, *image)?)?;
-    }
-    Ok(Delivery::new(Name::read(stream)?, first, images).ok_or(KeyFault::OutOfRange)?)
-}
-
-/// What two streams deliver in a round of this number.
-pub(crate) fn deliveries_of(
-    alloc: Global,
-    number: usize,
-    round: &[PlainImage],
-) -> Result<Vec<Delivery>, Fail> {
-    let first = number.saturating_mul(FROM_STREAM).saturating_add(1) as u64;
-    let (east, west) = streams_of(round);
-    Ok(vec![in alloc;
-        delivery_of(alloc, b"east", first, east)?,
-        delivery_of(alloc, b"west", first, west)?,
-    ]?)
+    let delivery = Delivery::new(Name::read(b"east")?, 1, images).ok_or(KeyFault::OutOfRange)?;
+    Ok(vec![in alloc; delivery]?)
 }

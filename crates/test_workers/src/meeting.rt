@@ -1,12 +1,12 @@
 //! Two workers that meet.
 
-use crate::given::{deliveries_of, layout_of};
-use crate::images::{KEYS, PlainImage};
+use crate::given::deliveries_of;
 use pn_apply::Gate;
 use pn_region::Region;
 use std::sync::atomic::{AtomicBool, AtomicU64, Ordering};
 use std::test::Fail;
 use std::thread;
+use test_given::layout;
 
 /// How often a worker looks whether the other has come.
 const MOST_TURNS: u64 = 1_000_000;
@@ -34,17 +34,12 @@ impl Gate for Meeting {
 #[test]
 fn two_workers_meet(rt: HostRuntime) -> Result<(), Fail> {
     let alloc = rt.alloc();
-    let mut region = Region::new(alloc, layout_of(alloc, 2)?)?;
-    let images = [0, KEYS - 1].map(|key| PlainImage {
-        key,
-        number: 0,
-        body: 1,
-    });
+    let mut region = Region::new(alloc, layout(alloc, &["m"])?)?;
     let gate = Meeting {
         entered: [AtomicU64::new(0), AtomicU64::new(0)],
         missed: AtomicBool::new(false),
     };
-    let round = region.round(&rt, deliveries_of(alloc, 0, &images)?, 2, &gate)?;
+    let round = region.round(&rt, deliveries_of(alloc, &["a", "n"])?, 2, &gate)?;
     assert_eq!(rt; round.changed, 2);
     assert!(rt; !gate.missed.load(Ordering::SeqCst));
     Ok(())

@@ -7,7 +7,7 @@ use std::marker::Model;
 use std::sync::atomic::{AtomicU64, Ordering};
 
 /// Which of 64 tablets were entered and which were worked, a bit each, and how many calls came out of order: a tablet is entered
-/// once, and then worked once. Some may be refused memory.
+/// once, and then worked once. One may be refused memory.
 #[derive(Drop)]
 pub(crate) struct Notes {
     entered: AtomicU64,
@@ -27,10 +27,14 @@ impl Notes {
         }
     }
 
-    /// From now on this tablet alone is refused memory; none where there is no tablet.
-    pub(crate) fn refuse(&self, tablet: Option<usize>) {
-        self.refused
-            .store(tablet.map_or(0, |tablet| bit(tablet)), Ordering::SeqCst);
+    /// From now on this tablet alone is refused memory.
+    pub(crate) fn refuse(&self, tablet: usize) {
+        self.refused.store(bit(tablet), Ordering::SeqCst);
+    }
+
+    /// From now on no tablet is refused memory.
+    pub(crate) fn refuse_none(&self) {
+        self.refused.store(0, Ordering::SeqCst);
     }
 
     fn is_refused(&self, tablet: usize) -> bool {

@@ -1,80 +1,57 @@
-//! Views over plain tablets: some that stay, and some that change from one read to the next.
+//! A view of two lists of tablets, which take turns from one read to the next.
 
-ghost use Rattle.std.specs.Prelude.{◌≡◌, ◌⊎◌, ℕ, Option, None, Some, IfSome, IsTrue, slice_get};
-ghost use Rattle.std.specs.Option.{option_and_then, option_copied};
-ghost use Rattle.pn_tablet.specs.Layouts.{tablet_ends, tablet_of};
+ghost use Rattle.std.specs.Prelude.{◌≡◌, Option, IfSome, IsTrue};
+ghost use Rattle.std.specs.Option.{option_copied};
 ghost use Rattle.pn_tablet.specs.Laws.{IsSpelled};
 ghost use Rattle.pn_tablet.specs.Tablets.{TabletStateValue, lie_in};
-ghost use Rattle.pn_scan.specs.Candidates.{Look};
 ghost use Rattle.pn_scan.specs.Views.{IsStateOf, IsFoundIn, Answers, rows_at, cell_at};
-ghost use Rattle.test_pages.specs.Found.{IsFoundNow};
 
 use pn_record::{Cell, Key};
 use pn_scan::{Query, Row, ScanFault, View, cell_of, part_of};
 use pn_tablet::{Layout, TabletState};
 use std::alloc::Global;
+use std::mem;
 
-/// Tablets at one moment after another: each read is at the next, and those after the last are at the last. It
-/// notes for how many rows it was asked, up to eight times.
+/// Each read finds the tablets that the read before did not find.
 #[derive(Drop)]
-pub(crate) struct Moments {
+pub(crate) struct TakesTurns {
     layout: Layout,
-    moments: Vec<Vec<TabletState>>,
-    at: usize,
-    asked: [usize; 8],
-    asks: usize,
+    tablets: Vec<TabletState>,
+    others: Vec<TabletState>,
+    rooms: [usize; 2],
 }
 
-impl Moments {
-    pub(crate) fn new(layout: Layout, moments: Vec<Vec<TabletState>>) -> Moments {
-        Moments {
+impl TakesTurns {
+    /// A view that finds the first list at its first read. An entry into what is no tablet of the layout is refused.
+    pub(crate) fn new(
+        layout: Layout,
+        tablets: Vec<TabletState>,
+        others: Vec<TabletState>,
+    ) -> TakesTurns {
+        TakesTurns {
             layout,
-            moments,
-            at: 0,
-            asked: [0; 8],
-            asks: 0,
+            tablets,
+            others,
+            rooms: [0; 2],
         }
     }
 
-    /// For how many rows it was asked, and how often.
-    pub(crate) fn asked(&self) -> ([usize; 8], usize) {
-        (self.asked, self.asks)
+    /// For how many rows the last two parts were asked.
+    pub(crate) fn rooms(&self) -> [usize; 2] {
+        self.rooms
     }
 
-    fn ask(&mut self, room: usize)
-        ensures layout { self.new.layout ≡ self.old.layout }
-        ensures moments { self.new.moments ≡ self.old.moments }
-        ensures at { self.new.at ≡ self.old.at }
-    {
-        if self.asks < 8 {
-            self.asked[self.asks] = room;
-            self.asks += 1;
-        }
-    }
-
-    fn move_on(&mut self)
-        ensures layout { self.new.layout ≡ self.old.layout }
-    {
-        if self.moments.len().saturating_sub(self.at) > 1 {
-            self.at += 1;
-        }
-    }
-
-    // The tablet at this moment, where it is one of the layout's.
     fn state(&self, tablet: usize) -> Option<&TabletState>
-        ensures found { IfSome result (λ state. IsStateOf self.now.layout tablet state.now) }
-        ensures there { IsFoundNow (option_and_then (λ tablets. slice_get tablets.items tablet) (slice_get self.now.moments.items self.now.at)) (option_copied result) }
+        ensures { IfSome result (λ state. IsStateOf self.now.layout tablet state.now) }
     {
-        let state = self.moments.get(self.at)?.get(tablet)?;
+        let state = self.tablets.get(tablet)?;
         if is_of(&self.layout, tablet, state) {
             Some(state)
         } else {
             None
         }
     }
-}
 
-impl Moments {
     fn part_now(
         &self,
         alloc: Global,
@@ -83,7 +60,6 @@ impl Moments {
         room: usize,
     ) -> Result<(Vec<Row>, bool), ScanFault>
         ensures { (found : Option TabletStateValue)
-            × IsFoundNow (option_and_then (λ tablets. slice_get tablets.items tablet) (slice_get self.now.moments.items self.now.at)) found
             × IsFoundIn self.now.layout (tablet, found)
             × Answers (λ part. (part.0.items, part.1)) result (rows_at query.now room (tablet, found)) }
     {
@@ -95,7 +71,6 @@ impl Moments {
 
     fn cell_now(&self, tablet: usize, key: &Key) -> Result<Option<Cell>, ScanFault>
         ensures { (found : Option TabletStateValue)
-            × IsFoundNow (option_and_then (λ tablets. slice_get tablets.items tablet) (slice_get self.now.moments.items self.now.at)) found
             × IsFoundIn self.now.layout (tablet, found)
             × Answers (λ cell. cell) result (cell_at key.now (tablet, found)) }
     {
@@ -127,10 +102,11 @@ fn has_ends(state: &TabletState, from: Option<&Key>, to: Option<&Key>) -> bool
     state.range().from() == from && state.range().to() == to
 }
 
-impl View for Moments {
+impl View for TakesTurns {
     ghost bounds = { λ view. view.layout };
 
-    ghost looks = { λ old look new. IsFoundNow (option_and_then (λ tablets. slice_get tablets.items look.0) (slice_get old.moments.items old.at)) look.1 };
+    // What a read finds is left open.
+    ghost looks = { λ old look new. Unit {0} };
 
     fn layout(&self) -> &Layout {
         &self.layout
@@ -143,15 +119,15 @@ impl View for Moments {
         query: &Query,
         room: usize,
     ) -> Result<(Vec<Row>, bool), ScanFault> {
-        self.ask(room);
+        self.rooms = [self.rooms[1], room];
         let part = self.part_now(alloc, tablet, query, room);
-        self.move_on();
+        mem::swap(&mut self.tablets, &mut self.others);
         part
     }
 
     fn cell(&mut self, key: &Key) -> Result<Option<Cell>, ScanFault> {
         let cell = self.cell_now(self.layout.tablet_of(key), key);
-        self.move_on();
+        mem::swap(&mut self.tablets, &mut self.others);
         cell
     }
 }
