@@ -1,0 +1,79 @@
+//! Writers that take little or nothing, and writers that fail.
+
+use pn_line::{Discard, OUTBOX_ROOM, Outbox, Sink, write_all_of};
+use std::alloc::Global;
+use std::test::Fail;
+use test_io::{Stop, Stopping};
+
+// How a write of three bytes ended, and how many bytes were taken.
+fn write(alloc: Global, mut writer: Stopping) -> Result<String, Fail> {
+    match write_all_of(&mut writer, b"abc") {
+        Ok(()) => Ok(format!(in alloc; "whole after {}", writer.taken.len())?),
+        Err(fault) => Ok(format!(in alloc; "{fault} after {}", writer.taken.len())?),
+    }
+}
+
+#[test]
+fn a_write_says_why_it_stopped(rt: HostRuntime) -> Result<(), Fail> {
+    for (size, fails_at, want) in [
+        (1, 0, "whole after 3"),
+        (1, 3, "the writer failed: broken pipe after 2"),
+        (0, 0, "the writer takes no more bytes after 0"),
+    ] {
+        let writer = Stopping::new(rt.alloc(), size, fails_at, Stop::Fails);
+        assert_eq!(rt; write(rt.alloc(), writer)?.as_str(), want);
+    }
+    write_all_of(&mut Discard, b"abc")?;
+    Discard.hand_on()?;
+    Ok(())
+}
+
+// How many writes there were and how many bytes were out after a push of three bytes and then of this block; and how
+// many are out after a flush.
+fn pushed(alloc: Global, block: &[u8]) -> Result<(usize, usize, usize), Fail> {
+    let mut writer = Stopping::never(alloc, 1_000_000);
+    let mut outbox = Outbox::new(alloc)?;
+    outbox.push(&mut writer, b"abc")?;
+    outbox.push(&mut writer, block)?;
+    let (writes, out) = (writer.writes, writer.taken.len());
+    outbox.flush(&mut writer)?;
+    Ok((writes, out, writer.taken.len()))
+}
+
+#[test]
+fn an_outbox_writes_what_waits_when_it_is_full(rt: HostRuntime) -> Result<(), Fail> {
+    for (bytes, writes, out) in [
+        (OUTBOX_ROOM - 3, 0, 0),
+        (OUTBOX_ROOM - 2, 1, 3),
+        (70_000, 2, 70_003),
+    ] {
+        let block = vec![in rt.alloc(); b'x'; bytes]?;
+        assert_eq!(rt; pushed(rt.alloc(), &block)?, (writes, out, bytes + 3));
+    }
+    Ok(())
+}
+
+// The bytes that are out after a flush that stopped, and after another one.
+fn flushed_twice(alloc: Global, mut writer: Stopping) -> Result<(usize, usize), Fail> {
+    let mut outbox = Outbox::new(alloc)?;
+    outbox.push(&mut writer, b"abc")?;
+    if outbox.flush(&mut writer).is_ok() {
+        return Err(Fail::new("no fault of the writer"));
+    }
+    let first = writer.taken.len();
+    outbox.flush(&mut writer)?;
+    Ok((first, writer.taken.len()))
+}
+
+#[test]
+fn an_outbox_gives_up_what_did_not_go_out(rt: HostRuntime) -> Result<(), Fail> {
+    for (stop, stops_at, out) in [
+        (Stop::Fails, 1, 0),
+        (Stop::Fails, 3, 2),
+        (Stop::FailsInFlush, 1, 3),
+    ] {
+        let writer = Stopping::new(rt.alloc(), 1, stops_at, stop);
+        assert_eq!(rt; flushed_twice(rt.alloc(), writer)?, (out, out));
+    }
+    Ok(())
+}
