@@ -1,143 +1,225 @@
-//! Rounds over two tablets, and the marks of deliveries.
+//! A region of two tablets through a loss and an adoption, with its notices and reads.
 
-ghost use Rattle.std.specs.Prelude.{IsTrue};
-ghost use Rattle.pn_join.specs.Marks.{are_positions};
-
-use crate::given::{delivery, marks, new_region, words};
+use crate::given::{change_told, copy, images, need, reached, told, words};
 use pn_apply::Open;
-use pn_join::Marks;
-use pn_region::{Region, RoundFault, next_marks};
+use pn_join::Name;
+use pn_record::{Key, Version};
+use pn_region::{AdoptFault, Region, RoundFault, Since};
+use pn_scan::{Page, Query};
 use pn_stream::Delivery;
+use pn_tablet::TabletCopy;
 use std::alloc::Global;
 use std::test::Fail;
 use std::thread::Threads;
+use test_given::{keys, layout};
 
-/// Each stream with its position.
-pub(crate) fn text_of(alloc: Global, marks: &Marks) -> Result<String, Fail> {
+// Images at these keys, all of one version, that stand in the stream from this position on.
+fn delivery(alloc: Global, first: u64, keys: &str, number: u64) -> Result<Delivery, Fail> {
+    let images = images(alloc, keys, number)?;
+    match Delivery::new(Name::read(b"east")?, first, images) {
+        Some(delivery) => Ok(delivery),
+        None => Err(Fail::new("no delivery")),
+    }
+}
+
+// How many records a round of one delivery changes and how many messages are taken then, or why it is refused.
+fn round(
+    rt: &(impl Threads + Sync),
+    alloc: Global,
+    region: &mut Region,
+    delivery: Delivery,
+) -> Result<String, Fail> {
+    match region.round(rt, vec![in alloc; delivery]?, 2, &Open) {
+        Ok(done) => {
+            let taken = reached(region.marks());
+            Ok(format!(in alloc; "{} changed, {taken} taken", done.changed)?)
+        }
+        Err(fault) => words(alloc, &fault),
+    }
+}
+
+// A region whose second tablet begins at c, and that took these keys.
+fn region_of(rt: &(impl Threads + Sync), alloc: Global, keys: &str) -> Result<Region, Fail> {
+    let mut region = Region::new(alloc, layout(alloc, &["c"])?)?;
+    round(rt, alloc, &mut region, delivery(alloc, 1, keys, 0)?)?;
+    Ok(region)
+}
+
+// The notices behind a number.
+fn notices(alloc: Global, region: &Region, number: u64) -> Result<String, Fail> {
+    match region.notices_since(number)? {
+        Since::Missed { next } => Ok(format!(in alloc; "missed, next {next}")?),
+        Since::Notices { next, list } => {
+            let mut text = format!(in alloc; "next {next}: ")?;
+            for notice in &list {
+                let change = change_told(alloc, &notice.change)?;
+                text.push_str(format!(in alloc; "{} {change}", notice.number)?.as_str())?;
+            }
+            Ok(text)
+        }
+    }
+}
+
+#[test]
+fn rounds_change_records_and_are_told(rt: HostRuntime) -> Result<(), Fail> {
+    let alloc = rt.alloc();
+    let mut region = region_of(&rt, alloc, "bad")?;
+    for (first, keys, number, want) in [
+        (3, "de", 0, "1 changed, 4 taken"),
+        (1, "bad", 0, "0 changed, 4 taken"),
+        (5, "a", 1, "1 changed, 5 taken"),
+        (
+            9,
+            "a",
+            2,
+            "a gap in stream east: position 6 was wanted, and 9 came",
+        ),
+    ] {
+        let told = round(
+            &rt,
+            alloc,
+            &mut region,
+            delivery(alloc, first, keys, number)?,
+        )?;
+        assert_eq!(rt; told.as_str(), want);
+    }
+    let all = notices(alloc, &region, 0)?;
+    assert_eq!(rt; all.as_str(), "next 5: 1 a-0 2 b-0 3 d-0 4 e-0 5 a01 ");
+    assert_eq!(rt; notices(alloc, &region, 4)?.as_str(), "next 5: 5 a01 ");
+    Ok(())
+}
+
+// The number of the tablet that adopts the copy, or why none does.
+fn adopted(alloc: Global, region: &mut Region, copy: TabletCopy) -> Result<String, Fail> {
+    match region.adopt(copy) {
+        Ok(tablet) => Ok(format!(in alloc; "{tablet}")?),
+        Err(fault) => words(alloc, &fault),
+    }
+}
+
+// A copy of the first tablet of a region that took these keys.
+fn copy_of(rt: &(impl Threads + Sync), alloc: Global, keys: &str) -> Result<TabletCopy, Fail> {
+    let region = region_of(rt, alloc, keys)?;
+    Ok(region.copy(0, &need(alloc, 4)?)?)
+}
+
+// The number of the record at a key, which is to have a version, or why it is not read.
+fn read(
+    alloc: Global,
+    region: &Region,
+    key: &str,
+    version: Option<Version>,
+) -> Result<String, Fail> {
+    match region.read(&Key::of(alloc, key)?, version) {
+        Ok(Some(cell)) => Ok(format!(in alloc; "{}", cell.version().number)?),
+        Ok(None) => Ok(String::from_str(alloc, "absent")?),
+        Err(fault) => words(alloc, &fault),
+    }
+}
+
+// A region that took the keys a to e, lost its first tablet, and took two messages since.
+fn lost(rt: &(impl Threads + Sync), alloc: Global) -> Result<Region, Fail> {
+    let mut region = region_of(rt, alloc, "abcde")?;
+    region.lose(0);
+    round(rt, alloc, &mut region, delivery(alloc, 6, "a", 1)?)?;
+    round(rt, alloc, &mut region, delivery(alloc, 7, "f", 0)?)?;
+    Ok(region)
+}
+
+#[test]
+fn a_lost_tablet_recovers(rt: HostRuntime) -> Result<(), Fail> {
+    let alloc = rt.alloc();
+    let mut region = lost(&rt, alloc)?;
+    assert_eq!(rt;
+        told(alloc, region.tablet(0))?.as_str(),
+        "needs 5, has 7: a1"
+    );
+    assert_eq!(rt;
+        read(alloc, &region, "a", None)?.as_str(),
+        "tablet 0 is recovering"
+    );
+    assert_eq!(rt; notices(alloc, &region, 5)?.as_str(), "missed, next 8");
+    assert_eq!(rt;
+        notices(alloc, &region, 6)?.as_str(),
+        "next 8: 7 a-1 8 f-0 "
+    );
+    let whole = adopted(alloc, &mut region, copy(alloc, 7, "a", 0)?)?;
+    assert_eq!(rt; whole.as_str(), "wrong range");
+    let old = adopted(alloc, &mut region, copy_of(&rt, alloc, "abcd")?)?;
+    let too_old = "too old: the copy has 4 of stream east, and 5 are needed";
+    assert_eq!(rt; old.as_str(), too_old);
+    let new = adopted(alloc, &mut region, copy_of(&rt, alloc, "abcde")?)?;
+    assert_eq!(rt; new.as_str(), "0");
+    assert_eq!(rt;
+        told(alloc, region.tablet(0))?.as_str(),
+        "serves, has 7: a1 b0"
+    );
+    assert_eq!(rt; notices(alloc, &region, 8)?.as_str(), "missed, next 9");
+    Ok(())
+}
+
+// The keys of a page.
+fn page_told(alloc: Global, page: &Page) -> Result<String, Fail> {
     let mut text = String::new(alloc);
-    for place in 0..marks.len() {
-        if let Some((stream, position)) = marks.entry_at(place) {
-            let position = position.0;
-            text.push_str(format!(in alloc; "{}:{position} ", stream.as_str())?.as_str())?;
+    for row in &page.rows {
+        text.push_str(row.key.as_str())?;
+    }
+    Ok(text)
+}
+
+// The keys of each page of two, one page after another.
+fn walked(alloc: Global, region: &Region) -> Result<String, Fail> {
+    let mut text = String::new(alloc);
+    let mut query = Query::new(None, None, None, Vec::new(alloc), 2);
+    for _ in 0..4 {
+        if let Some(next) = query {
+            let page = region.scan(&next)?;
+            text.push_str(page_told(alloc, &page)?.as_str())?;
+            text.push_str(".")?;
+            query = page.next;
         }
     }
     Ok(text)
 }
 
-// The marks after one delivery, or why it was refused.
-fn told(alloc: Global, marks: &Marks, delivery: Delivery) -> Result<String, Fail>
-    requires { IsTrue (are_positions marks.now) }
-{
-    match next_marks(marks, &[delivery]) {
-        Ok(next) => text_of(alloc, &next),
-        Err(fault) => words(alloc, &fault),
+// A plus for each key that has a record, and a minus for each that has none.
+fn got(alloc: Global, region: &Region, texts: &[&str]) -> Result<String, Fail> {
+    let mut text = String::new(alloc);
+    for cell in &region.get(&keys(alloc, texts)?)? {
+        text.push_str(if cell.is_some() { "+" } else { "-" })?;
     }
-}
-
-const SIXTEEN: &[&str] = &[
-    "a", "b", "c", "d", "e", "f", "g", "h", "i", "j", "k", "l", "m", "n", "o", "p",
-];
-
-// What comes of a delivery of images at these keys, from a position of a stream on, where the first three of each
-// of some streams were taken.
-fn told_of(
-    alloc: Global,
-    taken: &[&str],
-    from: (&str, u64),
-    keys: &[&str],
-) -> Result<String, Fail> {
-    let marks = marks(alloc, taken)?;
-    told(alloc, &marks, delivery(alloc, from.0, from.1, keys)?)
+    Ok(text)
 }
 
 #[test]
-fn an_overlap_takes_its_stream_to_its_last_position(rt: HostRuntime) -> Result<(), Fail> {
-    let told = told_of(rt.alloc(), &["east"], ("east", 2), &["a", "b", "c"])?;
-    assert_eq!(rt; told.as_str(), "east:4 ");
-    Ok(())
-}
-
-#[test]
-fn a_gap_names_the_position_that_was_wanted(rt: HostRuntime) -> Result<(), Fail> {
-    let told = told_of(rt.alloc(), &["east"], ("east", 6), &["a"])?;
+fn reads_go_over_all_tablets(rt: HostRuntime) -> Result<(), Fail> {
+    let alloc = rt.alloc();
+    let region = region_of(&rt, alloc, "abcde")?;
+    assert_eq!(rt; walked(alloc, &region)?.as_str(), "ab.cd.e.");
     assert_eq!(rt;
-        told.as_str(),
-        "a gap in stream east: position 4 was wanted, and 6 came"
+        got(alloc, &region, &["e", "x", "a", "e"])?.as_str(),
+        "+-++"
     );
+    assert_eq!(rt;
+        read(alloc, &region, "d", Version::new(1, 0))?.as_str(),
+        "0"
+    );
+    assert_eq!(rt;
+        read(alloc, &region, "d", Version::new(1, 1))?.as_str(),
+        "behind"
+    );
+    assert_eq!(rt; read(alloc, &region, "x", None)?.as_str(), "absent");
     Ok(())
 }
 
 #[test]
-fn a_delivery_without_images_names_no_stream(rt: HostRuntime) -> Result<(), Fail> {
-    let told = told_of(rt.alloc(), &["east"], ("west", 9), &[])?;
-    assert_eq!(rt; told.as_str(), "east:3 ");
-    Ok(())
-}
-
-#[test]
-fn a_seventeenth_stream_is_refused(rt: HostRuntime) -> Result<(), Fail> {
-    let told = told_of(rt.alloc(), SIXTEEN, ("q", 1), &["a"])?;
-    assert_eq!(rt; told.as_str(), "more than 16 streams");
-    Ok(())
-}
-
-// How many records a round of one delivery from the start of a stream changes, taken by two workers.
-fn changed(
-    rt: &(impl Threads + Sync),
-    alloc: Global,
-    region: &mut Region,
-    keys: &[&str],
-) -> Result<u64, Fail> {
-    let deliveries = vec![in alloc; delivery(alloc, "east", 1, keys)?]?;
-    Ok(region.round(rt, deliveries, 2, &Open)?.changed)
-}
-
-// What rounds over two tablets change, one after another, and the marks behind them.
-fn rounds_told(
-    rt: &(impl Threads + Sync),
-    alloc: Global,
-    rounds: &[&[&str]],
-) -> Result<String, Fail> {
-    let mut region = new_region(alloc, &["m"])?;
-    let mut text = String::new(alloc);
-    for keys in rounds {
-        let changed = changed(rt, alloc, &mut region, keys)?;
-        text.push_str(format!(in alloc; "{changed}, ")?.as_str())?;
-    }
-    text.push_str(text_of(alloc, region.marks())?.as_str())?;
-    Ok(text)
-}
-
-#[test]
-fn a_round_that_comes_again_changes_nothing(rt: HostRuntime) -> Result<(), Fail> {
-    let told = rounds_told(&rt, rt.alloc(), &[&["l", "m"], &["l", "m"]])?;
-    assert_eq!(rt; told.as_str(), "2, 0, east:2 ");
-    Ok(())
-}
-
-#[test]
-fn the_new_tail_of_an_overlap_is_taken(rt: HostRuntime) -> Result<(), Fail> {
-    let told = rounds_told(&rt, rt.alloc(), &[&["m"], &["m", "l", "n"]])?;
-    assert_eq!(rt; told.as_str(), "1, 2, east:3 ");
-    Ok(())
-}
-
-// How many records each tablet has.
-fn counts_told(alloc: Global, region: &Region) -> Result<String, Fail> {
-    let mut text = String::new(alloc);
-    for tablet in 0..region.layout().count() {
-        let count = region.tablet(tablet).cells().len();
-        text.push_str(format!(in alloc; "{count} ")?.as_str())?;
-    }
-    Ok(text)
-}
-
-#[test]
-fn each_tablet_has_the_records_of_its_range(rt: HostRuntime) -> Result<(), Fail> {
-    let mut region = new_region(rt.alloc(), &["m"])?;
-    let changed = changed(&rt, rt.alloc(), &mut region, &["l", "m", "n"])?;
-    assert_eq!(rt; changed, 3);
-    let counts = counts_told(rt.alloc(), &region)?;
-    assert_eq!(rt; counts.as_str(), "1 2 ");
+fn other_faults_are_put_into_words(rt: HostRuntime) -> Result<(), Fail> {
+    let alloc = rt.alloc();
+    let told = format!(in alloc; "{}, {}", RoundFault::Memory, RoundFault::TooManyStreams)?;
+    assert_eq!(rt; told.as_str(), "out of memory, more than 16 streams");
+    assert_eq!(rt;
+        words(alloc, &AdoptFault::Memory)?.as_str(),
+        "out of memory"
+    );
     Ok(())
 }
