@@ -3,7 +3,7 @@
 use crate::given::words;
 use pn_join::Dup;
 use pn_record::Key;
-use pn_tablet::{Layout, Range};
+use pn_tablet::{Layout, LayoutFault, Range};
 use std::alloc::Global;
 use std::test::Fail;
 use test_given::{keys, layout};
@@ -30,17 +30,9 @@ fn told(alloc: Global, bounds: &[&str]) -> Result<String, Fail> {
     Ok(text)
 }
 
-/// 64 bounds, which are one too many.
-const MANY: &[&str] = &[
-    "0", "1", "2", "3", "4", "5", "6", "7", "8", "9", "A", "B", "C", "D", "E", "F", "G", "H", "I",
-    "J", "K", "L", "M", "N", "O", "P", "Q", "R", "S", "T", "U", "V", "W", "X", "Y", "Z", "a", "b",
-    "c", "d", "e", "f", "g", "h", "i", "j", "k", "l", "m", "n", "o", "p", "q", "r", "s", "t", "u",
-    "v", "w", "x", "y", "z", "{", "|",
-];
-
 #[test]
 fn bounds_divide_the_keys(rt: HostRuntime) -> Result<(), Fail> {
-    let bounds: [(&[&str], &str); 5] = [
+    let bounds: [(&[&str], &str); 4] = [
         (&[], "( to )"),
         (&["m", "t"], "( to m)(m to t)(t to )"),
         (&["m", "m"], "bound 1 is not greater than the one before it"),
@@ -48,11 +40,12 @@ fn bounds_divide_the_keys(rt: HostRuntime) -> Result<(), Fail> {
             &["a", "b", "d", "c", "a"],
             "bound 3 is not greater than the one before it",
         ),
-        (MANY, "a layout has at most 63 bounds"),
     ];
     for (bounds, want) in bounds {
         assert_eq!(rt; told(rt.alloc(), bounds)?.as_str(), want);
     }
+    let many = words(rt.alloc(), &LayoutFault::TooMany)?;
+    assert_eq!(rt; many.as_str(), "a layout has at most 63 bounds");
     Ok(())
 }
 

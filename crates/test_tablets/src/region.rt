@@ -1,48 +1,84 @@
-//! A region of two tablets through a loss and an adoption, with its notices and reads.
+//! A region of two tablets through rounds, a loss and an adoption, with its notices and reads.
 
 use crate::given::{change_told, copy, images, need, reached, told, words};
 use pn_apply::Open;
 use pn_join::Name;
 use pn_record::{Key, Version};
 use pn_region::{AdoptFault, Region, RoundFault, Since};
-use pn_scan::{Page, Query};
+use pn_scan::Query;
 use pn_stream::Delivery;
 use pn_tablet::TabletCopy;
 use std::alloc::Global;
 use std::test::Fail;
 use std::thread::Threads;
-use test_given::{keys, layout};
+use test_given::layout;
 
-// Images at these keys, all of one version, that stand in the stream from this position on.
-fn delivery(alloc: Global, first: u64, keys: &str, number: u64) -> Result<Delivery, Fail> {
-    let images = images(alloc, keys, number)?;
-    match Delivery::new(Name::read(b"east")?, first, images) {
+/// What is done with a region: a letter says what (`answer`), and then come a position or a number of a notice or a
+/// version, keys, and the number of their versions.
+type Step = (char, u64, &'static str, u64);
+
+/// Steps, and what is answered.
+const STEPS: &[(Step, &str)] = &[
+    (('r', 1, "bad", 0), "3 changed, 3 taken"),
+    (('r', 3, "dce", 0), "2 changed, 5 taken"),
+    (('r', 1, "bad", 0), "0 changed, 5 taken"),
+    (
+        ('r', 9, "a", 2),
+        "a gap in stream east: position 6 was wanted, and 9 came",
+    ),
+    (('n', 0, "", 0), "next 5: 1 a-0 2 b-0 3 d-0 4 c-0 5 e-0 "),
+    (('s', 2, "", 0), "ab.cd.e."),
+    (('g', 0, "exae", 0), "+-++"),
+    (('v', 0, "d", 0), "0"),
+    (('v', 1, "d", 0), "behind"),
+    (('l', 0, "", 0), "needs 5, has 5:"),
+    (('r', 6, "a", 1), "1 changed, 6 taken"),
+    (('r', 7, "f", 0), "1 changed, 7 taken"),
+    (('t', 0, "", 0), "needs 5, has 7: a1"),
+    (('v', 0, "a", 0), "tablet 0 is recovering"),
+    (('v', 0, "d", 0), "0"),
+    (('n', 5, "", 0), "missed, next 8"),
+    (('n', 6, "", 0), "next 8: 7 a-1 8 f-0 "),
+    (('w', 7, "a", 0), "wrong range"),
+    (
+        ('a', 4, "abcd", 0),
+        "too old: the copy has 4 of stream east, and 5 are needed",
+    ),
+    (('a', 5, "abcde", 0), "0"),
+    (('t', 0, "", 0), "serves, has 7: a1 b0"),
+    (('v', 1, "a", 0), "1"),
+    (('n', 8, "", 0), "missed, next 9"),
+];
+
+// A region whose second tablet begins at c.
+fn new_region(alloc: Global) -> Result<Region, Fail> {
+    Ok(Region::new(alloc, layout(alloc, &["c"])?)?)
+}
+
+// The delivery of a step.
+fn delivery(alloc: Global, step: Step) -> Result<Delivery, Fail> {
+    let images = images(alloc, step.2, step.3)?;
+    match Delivery::new(Name::read(b"east")?, step.1, images) {
         Some(delivery) => Ok(delivery),
         None => Err(Fail::new("no delivery")),
     }
 }
 
-// How many records a round of one delivery changes and how many messages are taken then, or why it is refused.
+// How many records a round changes and how many messages are taken then, or why it is refused.
 fn round(
     rt: &(impl Threads + Sync),
     alloc: Global,
     region: &mut Region,
-    delivery: Delivery,
+    step: Step,
 ) -> Result<String, Fail> {
-    match region.round(rt, vec![in alloc; delivery]?, 2, &Open) {
+    let deliveries = vec![in alloc; delivery(alloc, step)?]?;
+    match region.round(rt, deliveries, 2, &Open) {
         Ok(done) => {
             let taken = reached(region.marks());
             Ok(format!(in alloc; "{} changed, {taken} taken", done.changed)?)
         }
         Err(fault) => words(alloc, &fault),
     }
-}
-
-// A region whose second tablet begins at c, and that took these keys.
-fn region_of(rt: &(impl Threads + Sync), alloc: Global, keys: &str) -> Result<Region, Fail> {
-    let mut region = Region::new(alloc, layout(alloc, &["c"])?)?;
-    round(rt, alloc, &mut region, delivery(alloc, 1, keys, 0)?)?;
-    Ok(region)
 }
 
 // The notices behind a number.
@@ -60,33 +96,11 @@ fn notices(alloc: Global, region: &Region, number: u64) -> Result<String, Fail> 
     }
 }
 
-#[test]
-fn rounds_change_records_and_are_told(rt: HostRuntime) -> Result<(), Fail> {
-    let alloc = rt.alloc();
-    let mut region = region_of(&rt, alloc, "bad")?;
-    for (first, keys, number, want) in [
-        (3, "de", 0, "1 changed, 4 taken"),
-        (1, "bad", 0, "0 changed, 4 taken"),
-        (5, "a", 1, "1 changed, 5 taken"),
-        (
-            9,
-            "a",
-            2,
-            "a gap in stream east: position 6 was wanted, and 9 came",
-        ),
-    ] {
-        let told = round(
-            &rt,
-            alloc,
-            &mut region,
-            delivery(alloc, first, keys, number)?,
-        )?;
-        assert_eq!(rt; told.as_str(), want);
-    }
-    let all = notices(alloc, &region, 0)?;
-    assert_eq!(rt; all.as_str(), "next 5: 1 a-0 2 b-0 3 d-0 4 e-0 5 a01 ");
-    assert_eq!(rt; notices(alloc, &region, 4)?.as_str(), "next 5: 5 a01 ");
-    Ok(())
+// A copy of the first tablet of a region that took so many messages, of these keys.
+fn copy_of(rt: &(impl Threads + Sync), alloc: Global, step: Step) -> Result<TabletCopy, Fail> {
+    let mut region = new_region(alloc)?;
+    round(rt, alloc, &mut region, ('r', 1, step.2, step.3))?;
+    Ok(region.copy(0, &need(alloc, step.1)?)?)
 }
 
 // The number of the tablet that adopts the copy, or why none does.
@@ -97,84 +111,38 @@ fn adopted(alloc: Global, region: &mut Region, copy: TabletCopy) -> Result<Strin
     }
 }
 
-// A copy of the first tablet of a region that took these keys.
-fn copy_of(rt: &(impl Threads + Sync), alloc: Global, keys: &str) -> Result<TabletCopy, Fail> {
-    let region = region_of(rt, alloc, keys)?;
-    Ok(region.copy(0, &need(alloc, 4)?)?)
-}
-
-// The number of the record at a key, which is to have a version, or why it is not read.
-fn read(
-    alloc: Global,
-    region: &Region,
-    key: &str,
-    version: Option<Version>,
-) -> Result<String, Fail> {
-    match region.read(&Key::of(alloc, key)?, version) {
+// The number of the record at a key, which is to have one as great, or why it is not read.
+fn read(alloc: Global, region: &Region, key: &str, number: u64) -> Result<String, Fail> {
+    match region.read(&Key::of(alloc, key)?, Version::new(1, number)) {
         Ok(Some(cell)) => Ok(format!(in alloc; "{}", cell.version().number)?),
-        Ok(None) => Ok(String::from_str(alloc, "absent")?),
+        Ok(None) => Err(Fail::new("absent")),
         Err(fault) => words(alloc, &fault),
     }
 }
 
-// A region that took the keys a to e, lost its first tablet, and took two messages since.
-fn lost(rt: &(impl Threads + Sync), alloc: Global) -> Result<Region, Fail> {
-    let mut region = region_of(rt, alloc, "abcde")?;
-    region.lose(0);
-    round(rt, alloc, &mut region, delivery(alloc, 6, "a", 1)?)?;
-    round(rt, alloc, &mut region, delivery(alloc, 7, "f", 0)?)?;
-    Ok(region)
-}
-
-#[test]
-fn a_lost_tablet_recovers(rt: HostRuntime) -> Result<(), Fail> {
-    let alloc = rt.alloc();
-    let mut region = lost(&rt, alloc)?;
-    assert_eq!(rt;
-        told(alloc, region.tablet(0))?.as_str(),
-        "needs 5, has 7: a1"
-    );
-    assert_eq!(rt;
-        read(alloc, &region, "a", None)?.as_str(),
-        "tablet 0 is recovering"
-    );
-    assert_eq!(rt; notices(alloc, &region, 5)?.as_str(), "missed, next 8");
-    assert_eq!(rt;
-        notices(alloc, &region, 6)?.as_str(),
-        "next 8: 7 a-1 8 f-0 "
-    );
-    let whole = adopted(alloc, &mut region, copy(alloc, 7, "a", 0)?)?;
-    assert_eq!(rt; whole.as_str(), "wrong range");
-    let old = adopted(alloc, &mut region, copy_of(&rt, alloc, "abcd")?)?;
-    let too_old = "too old: the copy has 4 of stream east, and 5 are needed";
-    assert_eq!(rt; old.as_str(), too_old);
-    let new = adopted(alloc, &mut region, copy_of(&rt, alloc, "abcde")?)?;
-    assert_eq!(rt; new.as_str(), "0");
-    assert_eq!(rt;
-        told(alloc, region.tablet(0))?.as_str(),
-        "serves, has 7: a1 b0"
-    );
-    assert_eq!(rt; notices(alloc, &region, 8)?.as_str(), "missed, next 9");
-    Ok(())
-}
-
-// The keys of a page.
-fn page_told(alloc: Global, page: &Page) -> Result<String, Fail> {
+// A plus for each key that has a record, and a minus for each that has none.
+fn got(alloc: Global, region: &Region, texts: &str) -> Result<String, Fail> {
+    let mut keys = Vec::new(alloc);
+    for letter in texts.chars() {
+        keys.push(Key::of(alloc, format!(in alloc; "{letter}")?.as_str())?)?;
+    }
     let mut text = String::new(alloc);
-    for row in &page.rows {
-        text.push_str(row.key.as_str())?;
+    for cell in &region.get(&keys)? {
+        text.push_str(if cell.is_some() { "+" } else { "-" })?;
     }
     Ok(text)
 }
 
-// The keys of each page of two, one page after another.
-fn walked(alloc: Global, region: &Region) -> Result<String, Fail> {
+// The keys of all pages, one page after another, of which each has two.
+fn scanned(alloc: Global, region: &Region) -> Result<String, Fail> {
     let mut text = String::new(alloc);
     let mut query = Query::new(None, None, None, Vec::new(alloc), 2);
     for _ in 0..4 {
         if let Some(next) = query {
             let page = region.scan(&next)?;
-            text.push_str(page_told(alloc, &page)?.as_str())?;
+            for row in &page.rows {
+                text.push_str(row.key.as_str())?;
+            }
             text.push_str(".")?;
             query = page.next;
         }
@@ -182,33 +150,36 @@ fn walked(alloc: Global, region: &Region) -> Result<String, Fail> {
     Ok(text)
 }
 
-// A plus for each key that has a record, and a minus for each that has none.
-fn got(alloc: Global, region: &Region, texts: &[&str]) -> Result<String, Fail> {
-    let mut text = String::new(alloc);
-    for cell in &region.get(&keys(alloc, texts)?)? {
-        text.push_str(if cell.is_some() { "+" } else { "-" })?;
+// What a step answers.
+fn answer(
+    rt: &(impl Threads + Sync),
+    alloc: Global,
+    region: &mut Region,
+    step: Step,
+) -> Result<String, Fail> {
+    match step.0 {
+        'r' => round(rt, alloc, region, step),
+        'a' => adopted(alloc, region, copy_of(rt, alloc, step)?),
+        'w' => adopted(alloc, region, copy(alloc, step.1, step.2, step.3)?),
+        'n' => notices(alloc, region, step.1),
+        's' => scanned(alloc, region),
+        'g' => got(alloc, region, step.2),
+        'v' => read(alloc, region, step.2, step.1),
+        'l' => {
+            region.lose(0);
+            told(alloc, region.tablet(0))
+        }
+        _ => told(alloc, region.tablet(0)),
     }
-    Ok(text)
 }
 
 #[test]
-fn reads_go_over_all_tablets(rt: HostRuntime) -> Result<(), Fail> {
-    let alloc = rt.alloc();
-    let region = region_of(&rt, alloc, "abcde")?;
-    assert_eq!(rt; walked(alloc, &region)?.as_str(), "ab.cd.e.");
-    assert_eq!(rt;
-        got(alloc, &region, &["e", "x", "a", "e"])?.as_str(),
-        "+-++"
-    );
-    assert_eq!(rt;
-        read(alloc, &region, "d", Version::new(1, 0))?.as_str(),
-        "0"
-    );
-    assert_eq!(rt;
-        read(alloc, &region, "d", Version::new(1, 1))?.as_str(),
-        "behind"
-    );
-    assert_eq!(rt; read(alloc, &region, "x", None)?.as_str(), "absent");
+fn a_region_answers_each_step(rt: HostRuntime) -> Result<(), Fail> {
+    let mut region = new_region(rt.alloc())?;
+    for (step, want) in STEPS {
+        let told = answer(&rt, rt.alloc(), &mut region, *step)?;
+        assert_eq!(rt; told.as_str(), *want);
+    }
     Ok(())
 }
 
