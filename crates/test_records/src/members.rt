@@ -17,21 +17,10 @@ const MESSAGE: &str =
 fn members_are_read_by_their_kinds(rt: HostRuntime) -> Result<(), Fail> {
     let message = Value::from_str(rt.alloc(), MESSAGE)?;
     assert!(rt; text_of(message.get("stream"), Fault) == Ok("east"));
+    assert!(rt; text_of(message.get("at"), Fault) == Err(Fault));
     assert!(rt; whole_number_of(message.get("at"), Fault) == Ok(7));
     assert!(rt; items_of(message.get("names"), Fault).map(|items| items.len()) == Ok(2));
     assert!(rt; object_of(message.get("parts"), Fault).map(Map::len) == Ok(1));
-    Ok(())
-}
-
-#[test]
-fn members_of_another_kind_are_faults(rt: HostRuntime) -> Result<(), Fail> {
-    let message = Value::from_str(rt.alloc(), "{\"at\":-7}")?;
-    for name in ["at", "absent"] {
-        assert!(rt; text_of(message.get(name), Fault).is_err());
-        assert!(rt; whole_number_of(message.get(name), Fault).is_err());
-        assert!(rt; items_of(message.get(name), Fault).is_err());
-        assert!(rt; object_of(message.get(name), Fault).is_err());
-    }
     Ok(())
 }
 

@@ -47,8 +47,13 @@ fn join_least(own: &mut Counts, had: Keys) -> Result<bool, NoMemory> {
     Ok(is_left)
 }
 
-// Whether joins to a table that is held alone, and to one whose copy is held, are done or not begun; the copy stays.
-fn are_joined(alloc: Global, had: Keys, other: Keys, both: Keys) -> Result<bool, NoMemory> {
+/// Whether joins to a table that is held alone, and to one whose copy is held, are done or not begun; the copy stays.
+pub(crate) fn are_joined(
+    alloc: Global,
+    had: Keys,
+    other: Keys,
+    both: Keys,
+) -> Result<bool, NoMemory> {
     let other = built(alloc, other)?;
     let mut alone = built(alloc, had)?;
     let mut shared = built(alloc, had)?;

@@ -1,5 +1,6 @@
 //! Tables of many leaves, joined with themselves and with others, and with keys in no order.
 
+use crate::refused::are_joined;
 use pn_join::{Dup, Highest, Join, NoMemory, Table};
 use std::alloc::Global;
 use std::test::Fail;
@@ -55,23 +56,12 @@ pub(crate) fn others(count: u64) -> [(Keys, Keys); 5] {
     ]
 }
 
-// Whether the keys become those of both, also while a copy of them is held, which stays as it was.
-fn join_to(alloc: Global, own: Keys, other: Keys, both: Keys) -> Result<bool, Fail> {
-    let other = table(alloc, other)?;
-    let mut alone = table(alloc, own)?;
-    let mut shared = table(alloc, own)?;
-    let held = shared.dup()?;
-    alone.join_from(&other)?;
-    shared.join_from(&other)?;
-    Ok(holds(&alone, both) && holds(&shared, both) && holds(&held, own))
-}
-
 #[test]
 fn tables_join_key_by_key(rt: HostRuntime) -> Result<(), Fail> {
     for count in SIZES {
         for (other, both) in others(count) {
             assert!(rt;
-                join_to(rt.alloc(), Keys(FIRST, 10, count), other, both)?,
+                are_joined(rt.alloc(), Keys(FIRST, 10, count), other, both)?,
                 "{count}"
             );
         }

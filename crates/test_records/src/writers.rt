@@ -52,28 +52,3 @@ fn an_outbox_writes_what_waits_when_it_is_full(rt: HostRuntime) -> Result<(), Fa
     }
     Ok(())
 }
-
-// The bytes that are out after a flush that stopped, and after another one.
-fn flushed_twice(alloc: Global, mut writer: Stopping) -> Result<(usize, usize), Fail> {
-    let mut outbox = Outbox::new(alloc)?;
-    outbox.push(&mut writer, b"abc")?;
-    if outbox.flush(&mut writer).is_ok() {
-        return Err(Fail::new("no fault of the writer"));
-    }
-    let first = writer.taken.len();
-    outbox.flush(&mut writer)?;
-    Ok((first, writer.taken.len()))
-}
-
-#[test]
-fn an_outbox_gives_up_what_did_not_go_out(rt: HostRuntime) -> Result<(), Fail> {
-    for (stop, stops_at, out) in [
-        (Stop::Fails, 1, 0),
-        (Stop::Fails, 3, 2),
-        (Stop::FailsInFlush, 1, 3),
-    ] {
-        let writer = Stopping::new(rt.alloc(), 1, stops_at, stop);
-        assert_eq!(rt; flushed_twice(rt.alloc(), writer)?, (out, out));
-    }
-    Ok(())
-}
