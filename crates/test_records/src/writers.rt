@@ -1,6 +1,6 @@
 //! Writers that take little or nothing, and writers that fail.
 
-use pn_line::{Discard, OUTBOX_ROOM, Outbox, Sink, write_all_of};
+use pn_line::{Discard, Outbox, Sink, write_all_of};
 use std::alloc::Global;
 use std::test::Fail;
 use test_io::{Stop, Stopping};
@@ -29,26 +29,27 @@ fn a_write_says_why_it_stopped(rt: HostRuntime) -> Result<(), Fail> {
 }
 
 // How many writes there were and how many bytes were out after a push of three bytes and then of this block; and how
-// many are out after a flush.
-fn pushed(alloc: Global, block: &[u8]) -> Result<(usize, usize, usize), Fail> {
+// many flushes there were and how many bytes were out after a flush.
+fn pushed(alloc: Global, block: &[u8]) -> Result<String, Fail> {
     let mut writer = Stopping::never(alloc, 1_000_000);
     let mut outbox = Outbox::new(alloc)?;
     outbox.push(&mut writer, b"abc")?;
     outbox.push(&mut writer, block)?;
     let (writes, out) = (writer.writes, writer.taken.len());
     outbox.flush(&mut writer)?;
-    Ok((writes, out, writer.taken.len()))
+    let (flushes, all) = (writer.flushes, writer.taken.len());
+    Ok(format!(in alloc; "{writes} of {out}, {flushes} of {all}")?)
 }
 
 #[test]
 fn an_outbox_writes_what_waits_when_it_is_full(rt: HostRuntime) -> Result<(), Fail> {
-    for (bytes, writes, out) in [
-        (OUTBOX_ROOM - 3, 0, 0),
-        (OUTBOX_ROOM - 2, 1, 3),
-        (70_000, 2, 70_003),
+    for (bytes, want) in [
+        (65_533, "0 of 0, 1 of 65536"),
+        (65_534, "1 of 3, 1 of 65537"),
+        (70_000, "2 of 70003, 1 of 70003"),
     ] {
         let block = vec![in rt.alloc(); b'x'; bytes]?;
-        assert_eq!(rt; pushed(rt.alloc(), &block)?, (writes, out, bytes + 3));
+        assert_eq!(rt; pushed(rt.alloc(), &block)?.as_str(), want);
     }
     Ok(())
 }
