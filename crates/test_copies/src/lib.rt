@@ -4,8 +4,4 @@
 #[cfg(test)]
 mod damaged;
 #[cfg(test)]
-mod given;
-#[cfg(test)]
-mod sizes;
-#[cfg(test)]
 mod worked;

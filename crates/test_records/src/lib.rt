@@ -1,13 +1,22 @@
 //! Tests of lines, tables, JSON and records: the calls of `pn_line`, `pn_join`, `pn_json` and `pn_record`, at values that were worked out by hand.
 //!
-//! They stand here and not beside their code, since the proof of a crate's tests proves the crate again.
+//! They stand here and not beside their code, since the proof of a crate's tests proves the crate again. Most compare texts, which is the
+//! cheapest to prove.
 #![tactic(auto)]
 
 #[cfg(test)]
-mod join;
+mod cells;
 #[cfg(test)]
-mod line;
+mod images;
+#[cfg(test)]
+mod lines;
+#[cfg(test)]
+mod marks;
 #[cfg(test)]
 mod members;
 #[cfg(test)]
-mod record;
+mod refused;
+#[cfg(test)]
+mod tables;
+#[cfg(test)]
+mod writers;

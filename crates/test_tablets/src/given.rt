@@ -1,44 +1,55 @@
-//! What the tests are given: keys, layouts, marks, deliveries, and regions that took some.
+//! What the tests are given: images, marks and copies; and how tablets and changes are put into words.
+//!
+//! Each letter is a key, and a version is the number that stands behind generation 1.
 
-ghost use Rattle.std.specs.Prelude.{IsTrue, IfOk};
-ghost use Rattle.pn_join.specs.Marks.{are_positions};
-
-use pn_apply::Open;
 use pn_join::{Marks, Name, raise_at};
-use pn_record::{KeyFault, read_image};
-use pn_region::Region;
-use pn_stream::Delivery;
-use std::alloc::Global;
+use pn_record::{Image, Version, read_image};
+use pn_tablet::{Change, Status, TabletCopy, TabletState, read_copy};
+use std::alloc::{AllocError, Global};
 use std::fmt::Display;
 use std::test::Fail;
-use std::thread::Threads;
-use test_given::image_line;
-pub(crate) use test_given::{keys, layout};
 
-/// Marks of the streams, each with its first three positions taken.
-pub(crate) fn marks(alloc: Global, streams: &[&str]) -> Result<Marks, Fail>
-    ensures { IfOk result (λ marks. IsTrue (are_positions marks)) }
-{
-    let mut marks = Marks::new(alloc);
-    for stream in streams {
-        raise_at(&mut marks, Name::read(stream.as_bytes())?, 3)?;
-    }
-    Ok(marks)
+// The line of an image.
+fn line(alloc: Global, key: char, number: u64) -> Result<String, AllocError> {
+    format!(in alloc;
+        "{{\"fields\":{{\"v\":\"x\"}},\"key\":\"{key}\",\"master\":\"w\",\"version\":[1,{number}]}}\n"
+    )
 }
 
-/// A delivery from this position on of an image at each of these keys, all of one version.
-pub(crate) fn delivery(
-    alloc: Global,
-    stream: &str,
-    first: u64,
-    keys: &[&str],
-) -> Result<Delivery, Fail> {
-    let mut images = Vec::with_capacity(alloc, keys.len())?;
-    for key in keys {
-        let line = image_line(alloc, key)?;
+/// An image at each key, all of one version.
+pub(crate) fn images(alloc: Global, keys: &str, number: u64) -> Result<Vec<Image>, Fail> {
+    let mut images = Vec::new(alloc);
+    for key in keys.chars() {
+        let line = line(alloc, key, number)?;
         images.push(read_image(alloc, line.as_bytes())?)?;
     }
-    Ok(Delivery::new(Name::read(stream.as_bytes())?, first, images).ok_or(KeyFault::OutOfRange)?)
+    Ok(images)
+}
+
+/// The text of a copy of a tablet of all keys that holds these, all of one version, and took so many messages.
+pub(crate) fn copy_text(alloc: Global, at: u64, keys: &str, number: u64) -> Result<String, Fail> {
+    let mut text = format!(in alloc;
+        "{{\"copy\":1,\"from\":null,\"to\":null}}\n{{\"at\":{at},\"stream\":\"east\"}}\n"
+    )?;
+    for key in keys.chars() {
+        text.push_str(line(alloc, key, number)?.as_str())?;
+    }
+    let lines = keys.len().saturating_add(1);
+    text.push_str(format!(in alloc; "{{\"end\":{lines}}}\n")?.as_str())?;
+    Ok(text)
+}
+
+/// Such a copy.
+pub(crate) fn copy(alloc: Global, at: u64, keys: &str, number: u64) -> Result<TabletCopy, Fail> {
+    let text = copy_text(alloc, at, keys, number)?;
+    Ok(read_copy(alloc, text.as_bytes())?)
+}
+
+/// The need of so many messages.
+pub(crate) fn need(alloc: Global, position: u64) -> Result<Marks, Fail> {
+    let mut marks = Marks::new(alloc);
+    raise_at(&mut marks, Name::read(b"east")?, position)?;
+    Ok(marks)
 }
 
 /// The fault in words.
@@ -46,41 +57,40 @@ pub(crate) fn words(alloc: Global, fault: &impl Display) -> Result<String, Fail>
     Ok(format!(in alloc; "{fault}")?)
 }
 
-/// A region of the tablets between these bounds, which took nothing.
-pub(crate) fn new_region(alloc: Global, bounds: &[&str]) -> Result<Region, Fail> {
-    Ok(Region::new(alloc, layout(alloc, bounds)?)?)
+fn number(version: Option<Version>) -> Option<u64> {
+    match version {
+        Some(version) => Some(version.number),
+        None => None,
+    }
 }
 
-/// How many records a round of this one delivery changes.
-pub(crate) fn take(
-    rt: &(impl Threads + Sync),
-    alloc: Global,
-    region: &mut Region,
-    delivery: Delivery,
-) -> Result<u64, Fail> {
-    let deliveries = vec![in alloc; delivery]?;
-    Ok(region.round(rt, deliveries, 1, &Open)?.changed)
+/// The key of a change, its number before, or a minus where it was not there, and the one after.
+pub(crate) fn change_told(alloc: Global, change: &Change) -> Result<String, AllocError> {
+    let (key, after) = (change.key.as_str(), change.after.number);
+    match number(change.before) {
+        Some(before) => format!(in alloc; "{key}{before}{after} "),
+        None => format!(in alloc; "{key}-{after} "),
+    }
 }
 
-/// How many records a round of images at these keys changes, from this position of the one stream on.
-pub(crate) fn take_at(
-    rt: &(impl Threads + Sync),
-    alloc: Global,
-    region: &mut Region,
-    first: u64,
-    keys: &[&str],
-) -> Result<u64, Fail> {
-    take(rt, alloc, region, delivery(alloc, "east", first, keys)?)
+/// How many messages of the stream the marks reach.
+pub(crate) fn reached(marks: &Marks) -> u64 {
+    match marks.entry_at(0) {
+        Some((_, position)) => position.0,
+        None => 0,
+    }
 }
 
-/// A region that took images at these keys, from the start of the one stream.
-pub(crate) fn region_of(
-    rt: &(impl Threads + Sync),
-    alloc: Global,
-    bounds: &[&str],
-    keys: &[&str],
-) -> Result<Region, Fail> {
-    let mut region = new_region(alloc, bounds)?;
-    take_at(rt, alloc, &mut region, 1, keys)?;
-    Ok(region)
+/// How a tablet stands: what it needs, if it recovers, how many messages it took, and its keys with their numbers.
+pub(crate) fn told(alloc: Global, state: &TabletState) -> Result<String, Fail> {
+    let cover = reached(state.cover());
+    let mut text = match state.status() {
+        Status::Serving => format!(in alloc; "serves, has {cover}:")?,
+        Status::Recovering { need } => format!(in alloc; "needs {}, has {cover}:", reached(need))?,
+    };
+    for (key, cell) in state.cells().iter() {
+        let record = format!(in alloc; " {}{}", key.as_str(), cell.version().number)?;
+        text.push_str(record.as_str())?;
+    }
+    Ok(text)
 }

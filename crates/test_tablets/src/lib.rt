@@ -4,11 +4,7 @@
 #[cfg(test)]
 mod given;
 #[cfg(test)]
-mod notices;
-#[cfg(test)]
-mod reads;
-#[cfg(test)]
-mod recovery;
+mod layouts;
 #[cfg(test)]
 mod region;
 #[cfg(test)]

@@ -1,143 +1,196 @@
-//! Rounds over two tablets, and the marks of deliveries.
+//! A region of two tablets through rounds, a loss and an adoption, with its notices and reads.
 
-ghost use Rattle.std.specs.Prelude.{IsTrue};
-ghost use Rattle.pn_join.specs.Marks.{are_positions};
-
-use crate::given::{delivery, marks, new_region, words};
+use crate::given::{change_told, copy, images, need, reached, told, words};
 use pn_apply::Open;
-use pn_join::Marks;
-use pn_region::{Region, RoundFault, next_marks};
+use pn_join::Name;
+use pn_record::{Key, Version};
+use pn_region::{AdoptFault, Region, RoundFault, Since};
+use pn_scan::Query;
 use pn_stream::Delivery;
+use pn_tablet::TabletCopy;
 use std::alloc::Global;
 use std::test::Fail;
 use std::thread::Threads;
+use test_given::layout;
 
-/// Each stream with its position.
-pub(crate) fn text_of(alloc: Global, marks: &Marks) -> Result<String, Fail> {
+/// What is done with a region: a letter says what (`answer`), and then come a position or a number of a notice or a
+/// version, keys, and the number of their versions.
+type Step = (char, u64, &'static str, u64);
+
+/// Steps, and what is answered.
+const STEPS: &[(Step, &str)] = &[
+    (('r', 1, "bad", 0), "3 changed, 3 taken"),
+    (('r', 3, "dce", 0), "2 changed, 5 taken"),
+    (('r', 1, "bad", 0), "0 changed, 5 taken"),
+    (
+        ('r', 9, "a", 2),
+        "a gap in stream east: position 6 was wanted, and 9 came",
+    ),
+    (('n', 0, "", 0), "next 5: 1 a-0 2 b-0 3 d-0 4 c-0 5 e-0 "),
+    (('s', 2, "", 0), "ab.cd.e."),
+    (('g', 0, "exae", 0), "+-++"),
+    (('v', 0, "d", 0), "0"),
+    (('v', 1, "d", 0), "behind"),
+    (('l', 0, "", 0), "needs 5, has 5:"),
+    (('r', 6, "a", 1), "1 changed, 6 taken"),
+    (('r', 7, "f", 0), "1 changed, 7 taken"),
+    (('t', 0, "", 0), "needs 5, has 7: a1"),
+    (('v', 0, "a", 0), "tablet 0 is recovering"),
+    (('v', 0, "d", 0), "0"),
+    (('n', 5, "", 0), "missed, next 8"),
+    (('n', 6, "", 0), "next 8: 7 a-1 8 f-0 "),
+    (('w', 7, "a", 0), "wrong range"),
+    (
+        ('a', 4, "abcd", 0),
+        "too old: the copy has 4 of stream east, and 5 are needed",
+    ),
+    (('a', 5, "abcde", 0), "0"),
+    (('t', 0, "", 0), "serves, has 7: a1 b0"),
+    (('v', 1, "a", 0), "1"),
+    (('n', 8, "", 0), "missed, next 9"),
+];
+
+// A region whose second tablet begins at c.
+fn new_region(alloc: Global) -> Result<Region, Fail> {
+    Ok(Region::new(alloc, layout(alloc, &["c"])?)?)
+}
+
+// The delivery of a step.
+fn delivery(alloc: Global, step: Step) -> Result<Delivery, Fail> {
+    let images = images(alloc, step.2, step.3)?;
+    match Delivery::new(Name::read(b"east")?, step.1, images) {
+        Some(delivery) => Ok(delivery),
+        None => Err(Fail::new("no delivery")),
+    }
+}
+
+// How many records a round changes and how many messages are taken then, or why it is refused.
+fn round(
+    rt: &(impl Threads + Sync),
+    alloc: Global,
+    region: &mut Region,
+    step: Step,
+) -> Result<String, Fail> {
+    let deliveries = vec![in alloc; delivery(alloc, step)?]?;
+    match region.round(rt, deliveries, 2, &Open) {
+        Ok(done) => {
+            let taken = reached(region.marks());
+            Ok(format!(in alloc; "{} changed, {taken} taken", done.changed)?)
+        }
+        Err(fault) => words(alloc, &fault),
+    }
+}
+
+// The notices behind a number.
+fn notices(alloc: Global, region: &Region, number: u64) -> Result<String, Fail> {
+    match region.notices_since(number)? {
+        Since::Missed { next } => Ok(format!(in alloc; "missed, next {next}")?),
+        Since::Notices { next, list } => {
+            let mut text = format!(in alloc; "next {next}: ")?;
+            for notice in &list {
+                let change = change_told(alloc, &notice.change)?;
+                text.push_str(format!(in alloc; "{} {change}", notice.number)?.as_str())?;
+            }
+            Ok(text)
+        }
+    }
+}
+
+// A copy of the first tablet of a region that took so many messages, of these keys.
+fn copy_of(rt: &(impl Threads + Sync), alloc: Global, step: Step) -> Result<TabletCopy, Fail> {
+    let mut region = new_region(alloc)?;
+    round(rt, alloc, &mut region, ('r', 1, step.2, step.3))?;
+    Ok(region.copy(0, &need(alloc, step.1)?)?)
+}
+
+// The number of the tablet that adopts the copy, or why none does.
+fn adopted(alloc: Global, region: &mut Region, copy: TabletCopy) -> Result<String, Fail> {
+    match region.adopt(copy) {
+        Ok(tablet) => Ok(format!(in alloc; "{tablet}")?),
+        Err(fault) => words(alloc, &fault),
+    }
+}
+
+// The number of the record at a key, which is to have one as great, or why it is not read.
+fn read(alloc: Global, region: &Region, key: &str, number: u64) -> Result<String, Fail> {
+    match region.read(&Key::of(alloc, key)?, Version::new(1, number)) {
+        Ok(Some(cell)) => Ok(format!(in alloc; "{}", cell.version().number)?),
+        Ok(None) => Err(Fail::new("absent")),
+        Err(fault) => words(alloc, &fault),
+    }
+}
+
+// A plus for each key that has a record, and a minus for each that has none.
+fn got(alloc: Global, region: &Region, texts: &str) -> Result<String, Fail> {
+    let mut keys = Vec::new(alloc);
+    for letter in texts.chars() {
+        keys.push(Key::of(alloc, format!(in alloc; "{letter}")?.as_str())?)?;
+    }
     let mut text = String::new(alloc);
-    for place in 0..marks.len() {
-        if let Some((stream, position)) = marks.entry_at(place) {
-            let position = position.0;
-            text.push_str(format!(in alloc; "{}:{position} ", stream.as_str())?.as_str())?;
+    for cell in &region.get(&keys)? {
+        text.push_str(if cell.is_some() { "+" } else { "-" })?;
+    }
+    Ok(text)
+}
+
+// The keys of all pages, one page after another, of which each has two.
+fn scanned(alloc: Global, region: &Region) -> Result<String, Fail> {
+    let mut text = String::new(alloc);
+    let mut query = Query::new(None, None, None, Vec::new(alloc), 2);
+    for _ in 0..4 {
+        if let Some(next) = query {
+            let page = region.scan(&next)?;
+            for row in &page.rows {
+                text.push_str(row.key.as_str())?;
+            }
+            text.push_str(".")?;
+            query = page.next;
         }
     }
     Ok(text)
 }
 
-// The marks after one delivery, or why it was refused.
-fn told(alloc: Global, marks: &Marks, delivery: Delivery) -> Result<String, Fail>
-    requires { IsTrue (are_positions marks.now) }
-{
-    match next_marks(marks, &[delivery]) {
-        Ok(next) => text_of(alloc, &next),
-        Err(fault) => words(alloc, &fault),
-    }
-}
-
-const SIXTEEN: &[&str] = &[
-    "a", "b", "c", "d", "e", "f", "g", "h", "i", "j", "k", "l", "m", "n", "o", "p",
-];
-
-// What comes of a delivery of images at these keys, from a position of a stream on, where the first three of each
-// of some streams were taken.
-fn told_of(
-    alloc: Global,
-    taken: &[&str],
-    from: (&str, u64),
-    keys: &[&str],
-) -> Result<String, Fail> {
-    let marks = marks(alloc, taken)?;
-    told(alloc, &marks, delivery(alloc, from.0, from.1, keys)?)
-}
-
-#[test]
-fn an_overlap_takes_its_stream_to_its_last_position(rt: HostRuntime) -> Result<(), Fail> {
-    let told = told_of(rt.alloc(), &["east"], ("east", 2), &["a", "b", "c"])?;
-    assert_eq!(rt; told.as_str(), "east:4 ");
-    Ok(())
-}
-
-#[test]
-fn a_gap_names_the_position_that_was_wanted(rt: HostRuntime) -> Result<(), Fail> {
-    let told = told_of(rt.alloc(), &["east"], ("east", 6), &["a"])?;
-    assert_eq!(rt;
-        told.as_str(),
-        "a gap in stream east: position 4 was wanted, and 6 came"
-    );
-    Ok(())
-}
-
-#[test]
-fn a_delivery_without_images_names_no_stream(rt: HostRuntime) -> Result<(), Fail> {
-    let told = told_of(rt.alloc(), &["east"], ("west", 9), &[])?;
-    assert_eq!(rt; told.as_str(), "east:3 ");
-    Ok(())
-}
-
-#[test]
-fn a_seventeenth_stream_is_refused(rt: HostRuntime) -> Result<(), Fail> {
-    let told = told_of(rt.alloc(), SIXTEEN, ("q", 1), &["a"])?;
-    assert_eq!(rt; told.as_str(), "more than 16 streams");
-    Ok(())
-}
-
-// How many records a round of one delivery from the start of a stream changes, taken by two workers.
-fn changed(
+// What a step answers.
+fn answer(
     rt: &(impl Threads + Sync),
     alloc: Global,
     region: &mut Region,
-    keys: &[&str],
-) -> Result<u64, Fail> {
-    let deliveries = vec![in alloc; delivery(alloc, "east", 1, keys)?]?;
-    Ok(region.round(rt, deliveries, 2, &Open)?.changed)
-}
-
-// What rounds over two tablets change, one after another, and the marks behind them.
-fn rounds_told(
-    rt: &(impl Threads + Sync),
-    alloc: Global,
-    rounds: &[&[&str]],
+    step: Step,
 ) -> Result<String, Fail> {
-    let mut region = new_region(alloc, &["m"])?;
-    let mut text = String::new(alloc);
-    for keys in rounds {
-        let changed = changed(rt, alloc, &mut region, keys)?;
-        text.push_str(format!(in alloc; "{changed}, ")?.as_str())?;
+    match step.0 {
+        'r' => round(rt, alloc, region, step),
+        'a' => adopted(alloc, region, copy_of(rt, alloc, step)?),
+        'w' => adopted(alloc, region, copy(alloc, step.1, step.2, step.3)?),
+        'n' => notices(alloc, region, step.1),
+        's' => scanned(alloc, region),
+        'g' => got(alloc, region, step.2),
+        'v' => read(alloc, region, step.2, step.1),
+        'l' => {
+            region.lose(0);
+            told(alloc, region.tablet(0))
+        }
+        _ => told(alloc, region.tablet(0)),
     }
-    text.push_str(text_of(alloc, region.marks())?.as_str())?;
-    Ok(text)
 }
 
 #[test]
-fn a_round_that_comes_again_changes_nothing(rt: HostRuntime) -> Result<(), Fail> {
-    let told = rounds_told(&rt, rt.alloc(), &[&["l", "m"], &["l", "m"]])?;
-    assert_eq!(rt; told.as_str(), "2, 0, east:2 ");
+fn a_region_answers_each_step(rt: HostRuntime) -> Result<(), Fail> {
+    let mut region = new_region(rt.alloc())?;
+    for (step, want) in STEPS {
+        let told = answer(&rt, rt.alloc(), &mut region, *step)?;
+        assert_eq!(rt; told.as_str(), *want);
+    }
     Ok(())
 }
 
 #[test]
-fn the_new_tail_of_an_overlap_is_taken(rt: HostRuntime) -> Result<(), Fail> {
-    let told = rounds_told(&rt, rt.alloc(), &[&["m"], &["m", "l", "n"]])?;
-    assert_eq!(rt; told.as_str(), "1, 2, east:3 ");
-    Ok(())
-}
-
-// How many records each tablet has.
-fn counts_told(alloc: Global, region: &Region) -> Result<String, Fail> {
-    let mut text = String::new(alloc);
-    for tablet in 0..region.layout().count() {
-        let count = region.tablet(tablet).cells().len();
-        text.push_str(format!(in alloc; "{count} ")?.as_str())?;
-    }
-    Ok(text)
-}
-
-#[test]
-fn each_tablet_has_the_records_of_its_range(rt: HostRuntime) -> Result<(), Fail> {
-    let mut region = new_region(rt.alloc(), &["m"])?;
-    let changed = changed(&rt, rt.alloc(), &mut region, &["l", "m", "n"])?;
-    assert_eq!(rt; changed, 3);
-    let counts = counts_told(rt.alloc(), &region)?;
-    assert_eq!(rt; counts.as_str(), "1 2 ");
+fn other_faults_are_put_into_words(rt: HostRuntime) -> Result<(), Fail> {
+    let alloc = rt.alloc();
+    let told = format!(in alloc; "{}, {}", RoundFault::Memory, RoundFault::TooManyStreams)?;
+    assert_eq!(rt; told.as_str(), "out of memory, more than 16 streams");
+    assert_eq!(rt;
+        words(alloc, &AdoptFault::Memory)?.as_str(),
+        "out of memory"
+    );
     Ok(())
 }

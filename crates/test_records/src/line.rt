@@ -1,4 +1,0 @@
-//! Lines and writers, each call by itself.
-
-mod reading;
-mod writing;
