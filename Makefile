@@ -52,7 +52,7 @@ checks: build
 	@cd crates/test_rows && rt run < stdin > /dev/null
 	@checks/exit-statuses "$(PROGRAM)"
 	@checks/out-of-memory "$(PROGRAM)" "$(STEPS)"
-	@checks/random-scripts "$(SCRIPTS)"
+	@checks/random-scripts "$(SCRIPTS)" --scripts 3000
 
 # Runs the worked rows through the built program, where they are at hand.
 rows:

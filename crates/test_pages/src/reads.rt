@@ -75,11 +75,7 @@ fn each_tablet_is_read_at_its_own_moment(rt: HostRuntime) -> Result<(), Fail> {
 
 #[test]
 fn faults_are_told_in_words(rt: HostRuntime) -> Result<(), Fail> {
-    for (fault, want) in [
-        (ScanFault::Memory, "out of memory"),
-        (ScanFault::NoEntry, "no entry"),
-    ] {
-        assert_eq!(rt; format!(in rt.alloc(); "{fault}")?.as_str(), want);
-    }
+    let told = format!(in rt.alloc(); "{}, {}", ScanFault::Memory, ScanFault::NoEntry)?;
+    assert_eq!(rt; told.as_str(), "out of memory, no entry");
     Ok(())
 }

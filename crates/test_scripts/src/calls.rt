@@ -9,6 +9,7 @@ use pn_serve::{
     no_copy_reply, not_adopted_reply, refusal_reply, refused_reply, scan_reply,
 };
 use pn_tablet::{CopyFault, CopyTextFault, Layout};
+use std::alloc::Global;
 use std::process::Abort;
 use std::test::Fail;
 
@@ -22,14 +23,21 @@ fn there_are_1_to_16_workers(rt: HostRuntime) -> Result<(), Fail> {
     Ok(())
 }
 
+// The keys that a line asks for, one after another.
+fn keys_asked(alloc: Global, line: &[u8]) -> Result<String, Fail> {
+    let mut text = String::new(alloc);
+    if let Command::Get(keys) = command_of(alloc, line)? {
+        for key in &keys {
+            text.push_str(key.as_str())?;
+        }
+    }
+    Ok(text)
+}
+
 #[test]
 fn a_line_is_read_as_a_command(rt: HostRuntime) -> Result<(), Fail> {
     let line = br#"{"do":"get","keys":["k","z","k"]}"#;
-    let is_read = match command_of(rt.alloc(), line)? {
-        Command::Get(keys) => keys.iter().map(|key| key.as_str()).eq(["k", "z", "k"]),
-        _ => false,
-    };
-    assert!(rt; is_read);
+    assert_eq!(rt; keys_asked(rt.alloc(), line)?.as_str(), "kzk");
     Ok(())
 }
 

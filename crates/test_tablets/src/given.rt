@@ -26,8 +26,8 @@ pub(crate) fn images(alloc: Global, keys: &str, number: u64) -> Result<Vec<Image
     Ok(images)
 }
 
-/// The text of a copy of a tablet of all keys that holds these, all of one version, and took so many messages.
-pub(crate) fn copy_text(alloc: Global, at: u64, keys: &str, number: u64) -> Result<String, Fail> {
+// The text of a copy of a tablet of all keys that holds these, all of one version, and took so many messages.
+fn copy_text(alloc: Global, at: u64, keys: &str, number: u64) -> Result<String, Fail> {
     let mut text = format!(in alloc;
         "{{\"copy\":1,\"from\":null,\"to\":null}}\n{{\"at\":{at},\"stream\":\"east\"}}\n"
     )?;

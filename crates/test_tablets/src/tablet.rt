@@ -3,8 +3,7 @@
 ghost use Rattle.std.specs.Prelude.{IfOk};
 ghost use Rattle.pn_tablet.specs.Operations.{HasPositions};
 
-use crate::given::{change_told, copy, copy_text, need, told, words};
-use pn_join::Dup;
+use crate::given::{change_told, copy, need, told, words};
 use pn_record::Key;
 use pn_tablet::{CopyFault, OpFault, Range, TabletCopy, TabletOp, TabletState, write_copy};
 use std::alloc::Global;
@@ -91,25 +90,49 @@ fn keys_outside_of_the_range_are_refused(rt: HostRuntime) -> Result<(), Fail> {
     Ok(())
 }
 
+fn copy_written(alloc: Global, copy: &TabletCopy) -> Result<String, Fail> {
+    Ok(write_copy(alloc, copy)?)
+}
+
 // The text of the copy that reaches so many messages, or why there is none.
 fn copied(alloc: Global, state: &TabletState, position: u64) -> Result<String, Fail> {
-    match state.copy(&need(alloc, position)?) {
-        Ok(copy) => Ok(write_copy(alloc, &copy)?),
+    let need = need(alloc, position)?;
+    match state.copy(&need) {
+        Ok(copy) => copy_written(alloc, &copy),
         Err(fault) => words(alloc, &fault),
     }
 }
 
+// The same of a tablet after these steps.
+fn copied_after(alloc: Global, steps: &[Step], position: u64) -> Result<String, Fail> {
+    let mut state = tablet_from(alloc, None)?;
+    for step in steps {
+        taken(alloc, &mut state, *step)?;
+    }
+    copied(alloc, &state, position)
+}
+
+/// Steps of a tablet, how many messages a copy of it has to reach, and the copy's text, or why there is none.
+const COPIES: &[(&[Step], u64, &str)] = &[
+    (
+        &[('j', 5, "a", 2)],
+        4,
+        "{\"copy\":1,\"from\":null,\"to\":null}\n{\"at\":5,\"stream\":\"east\"}\n{\"fields\":{\"v\":\"x\"},\"key\":\"a\",\"master\":\"w\",\"version\":[1,2]}\n{\"end\":2}\n",
+    ),
+    (
+        &[('j', 5, "a", 2)],
+        6,
+        "behind: the tablet has 5 of stream east, and 6 are wanted",
+    ),
+    (&[('j', 5, "a", 2), ('l', 0, "", 0)], 4, "recovering"),
+];
+
 #[test]
 fn a_tablet_gives_copies_of_itself(rt: HostRuntime) -> Result<(), Fail> {
-    let mut state = tablet_from(rt.alloc(), None)?;
-    taken(rt.alloc(), &mut state, ('j', 5, "abc", 2))?;
-    let before = state.dup()?;
-    taken(rt.alloc(), &mut state, ('l', 0, "", 0))?;
-    let text = copy_text(rt.alloc(), 5, "abc", 2)?;
-    assert_eq!(rt; copied(rt.alloc(), &before, 4)?.as_str(), text.as_str());
-    let behind = "behind: the tablet has 5 of stream east, and 6 are wanted";
-    assert_eq!(rt; copied(rt.alloc(), &before, 6)?.as_str(), behind);
-    assert_eq!(rt; copied(rt.alloc(), &state, 4)?.as_str(), "recovering");
+    for (steps, position, want) in COPIES {
+        let told = copied_after(rt.alloc(), steps, *position)?;
+        assert_eq!(rt; told.as_str(), *want);
+    }
     Ok(())
 }
 
