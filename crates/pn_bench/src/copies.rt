@@ -16,6 +16,7 @@ const MEASURED: usize = 64;
 
 /// How long steps took: all rounds that built the tablet, all copies, and the rounds that are measured, without
 /// a copy and with one that is kept.
+#[derive(Drop)]
 pub struct Took {
     pub building: Duration,
     pub copying: Duration,
