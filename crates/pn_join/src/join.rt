@@ -10,6 +10,9 @@ pub trait Dup: Sized + Drop {
     /// An equal value.
     fn dup(&self) -> Result<Self, NoMemory>
         ensures { IfOk result (λ copy. copy ≡ self.now) };
+
+    /// Reads what a copy will count up, so that it is near when many are copied one after another.
+    fn prefetch(&self) {}
 }
 
 /// A value that joins with others of its kind. The order in which values are joined, and how often

@@ -126,6 +126,10 @@ impl Dup for Cell {
             alloc: self.alloc,
         })
     }
+
+    fn prefetch(&self) {
+        Arc::strong_count(&self.contents);
+    }
 }
 
 impl Join for Cell {

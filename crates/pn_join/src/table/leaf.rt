@@ -52,8 +52,8 @@ pub fn is_last_below<K: Ord, C>(entries: &[(K, C)], key: &K) -> bool
 }
 
 impl<K: Dup, C: Dup> Leaf<K, C> {
-    /// Takes the entries out: moves them where nobody shares them, and else copies them. An error
-    /// leaves them in.
+    /// Takes the entries out: moves them where nobody shares them, and else copies them, with room for
+    /// as many as a leaf may have. An error leaves them in.
     pub fn take(&mut self, alloc: Global) -> Result<Vec<(K, C)>, NoMemory>
         ensures ok { IfOk result (λ entries. entries.items ≡ leaf_entries self.old) }
         ensures err { OnErr result (leaf_entries self.new ≡ leaf_entries self.old) }
@@ -63,7 +63,7 @@ impl<K: Dup, C: Dup> Leaf<K, C> {
             Leaf::Shared(shared) => match Arc::try_unwrap(shared) {
                 Ok(entries) => Ok(entries),
                 Err(shared) => {
-                    let copy = copy_of(alloc, &shared);
+                    let copy = copy_of(alloc, MOST, &shared);
                     *self = Leaf::Shared(shared);
                     copy
                 }
@@ -112,21 +112,34 @@ impl<K: Dup, C: Dup> Leaf<K, C> {
         ensures { IfOk result (λ copy. leaf_entries copy ≡ leaf_entries self.now) }
     {
         match self {
-            Leaf::Own(entries) => Ok(Leaf::Own(copy_of(alloc, entries)?)),
+            Leaf::Own(entries) => Ok(Leaf::Own(copy_of(alloc, 0, entries)?)),
             Leaf::Shared(entries) => Ok(Leaf::Shared(Arc::try_clone(entries)?)),
         }
     }
 }
 
-/// Copies entries.
-pub fn copy_of<K: Dup, C: Dup>(alloc: Global, entries: &[(K, C)]) -> Result<Vec<(K, C)>, NoMemory>
+/// Copies entries, with room for so many or for all, whichever is more.
+pub fn copy_of<K: Dup, C: Dup>(
+    alloc: Global,
+    room: usize,
+    entries: &[(K, C)],
+) -> Result<Vec<(K, C)>, NoMemory>
     ensures { IfOk result (λ copy. copy.items ≡ entries.now) }
 {
-    let mut copy = Vec::with_capacity(alloc, entries.len())?;
+    prefetch(entries);
+    let mut copy = Vec::with_capacity(alloc, room.max(entries.len()))?;
     for (key, content) in entries {
         copy.push_reserved((key.dup()?, content.dup()?));
     }
     Ok(copy)
+}
+
+/// Reads what copies of the entries will count up, each without waiting for the one before.
+fn prefetch<K: Dup, C: Dup>(entries: &[(K, C)]) {
+    for (key, content) in entries {
+        key.prefetch();
+        content.prefetch();
+    }
 }
 
 /// Shares leaves.
