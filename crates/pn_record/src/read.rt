@@ -18,7 +18,7 @@ ghost use Rattle.pn_record.specs.declared.image.Image.{Image as ImageRecord};
 use crate::content::Value as FieldValue;
 use crate::ranges::field_text;
 use crate::shape::{numbers_of, shape_of};
-use crate::{Body, Content, Image, ImageFault, Key, Member, Shape, Version};
+use crate::{Body, Content, Image, ImageFault, Key, Member, Shape, Version, image_from};
 use pn_join::{Name, NoMemory};
 use pn_line::LONGEST_LINE;
 use serde_json::{Error, Map, Value};
@@ -110,7 +110,20 @@ fn image_read(alloc: Global, read: Result<Value, ImageFault>) -> Result<Image, I
     ensures unread { IfErr read (λ fault. result ≡ Err fault) }
 {
     let value = read?;
-    image_of(alloc, &value)
+    image_taken(alloc, value)
+}
+
+// The same image or fault as `image_of`, with the names and the texts of the fields moved out of the value.
+#[tactic(auto, unfolding(crate::specs::Grammar::image_in))]
+fn image_taken(alloc: Global, value: Value) -> Result<Image, ImageFault>
+    ensures found { IfOk result (λ image. IsImage (view value) image) }
+    ensures exact { IsUnless ImageFault.Memory result (image_in (view value)) }
+    ensures memory { IsErrOf result ImageFault.Memory → IsOk (image_in (view value)) }
+    ensures faults { IfErr result IsOfValue }
+{
+    let shape = shape_of(&value).map_err(ImageFault::BadShape)?;
+    shape.check_ranges().map_err(ImageFault::OutOfRange)?;
+    Ok(image_from(alloc, value)?)
 }
 
 impl Shape<'_> {
