@@ -1,8 +1,8 @@
 -- What stands at the members of a value that is an image.
-use Rattle.std.proofs.Common.{◌≡◌, ℕ, List, codes, true, Option, Some, None, Result, Ok, Err, IsOk, IsTrue, refl, sym, ap, ◌∙◌}
+use Rattle.std.proofs.Common.{◌≡◌, List, codes, Option, Some, None, Result, Ok, Err, IsOk, IsTrue, refl, sym, ap, ◌∙◌}
 use Rattle.std.specs.Option.{ok_or}
 use Rattle.serde_json.specs.Data.{Data, object, Members}
-use Rattle.serde_json.specs.Find.{get, get_member, as_object}
+use Rattle.serde_json.specs.Find.{get, as_object}
 use Rattle.pn_json.specs.Answers.{fault_as}
 use Rattle.pn_json.proofs.Inverses.{bind_ok, ok_or_ok, passed, object_from_as_object}
 use Rattle.pn_join.specs.Naming.{is_name}
@@ -64,7 +64,7 @@ parts_of d image is =
     let whole : shape.0 ≡ image = cc fits.2 in
     in_range d (is ∙ ap Ok (sym (same ∙ whole))) (ap ranges_in same ∙ named_ok _ (ranges_in shape.0) fits.0 fits.1)
 
-is_there : {A E : Type 0} (r : Result A E) → IsOk r → (a : A) × (r ≡ Ok a)
+pub is_there : {A E : Type 0} (r : Result A E) → IsOk r → (a : A) × (r ≡ Ok a)
 is_there (Ok a) found = (a, refl)
 is_there (Err e) found = absurd (cc)
 
