@@ -1,10 +1,9 @@
 -- What stands at the members of a batch, and of a `deliver` command.
 use Rattle.std.proofs.Common.{◌≡◌, ℕ, List, [], ◌∷◌, length, codes, true, Option, unwrap_or, option_and_then, Result, Ok, IsOk, IsTrue, refl, sym, ap, ◌∙◌}
 use Rattle.std.specs.Option.{ok_or}
-use Rattle.serde_json.specs.Data.{Data, Items, no_items, item, Members}
+use Rattle.serde_json.specs.Data.{Data, Items, no_items, item}
 use Rattle.serde_json.specs.Find.{get, as_str, as_array, as_object}
 use Rattle.pn_join.specs.Naming.{is_name}
-use Rattle.pn_json.specs.Answers.{◌>>=◌, fault_as}
 use Rattle.pn_json.specs.Members.{whole_number, member_as, each_in}
 use Rattle.pn_json.proofs.Inverses.{bind_ok, guard_ok, ok_or_ok}
 use Rattle.pn_record.specs.Grammar.{shape_in, ranges_in, image_in}
