@@ -1,5 +1,12 @@
 //! The bounds that the words say.
 
+ghost use Rattle.std.specs.Option.{ok_or};
+ghost use Rattle.serde_json.specs.View.{view, items_view};
+ghost use Rattle.pn_json.specs.Answers.{IsUnless, ShowsUnless};
+ghost use Rattle.pn_json.specs.Members.{each_in};
+ghost use Rattle.pn_record.specs.Reading.{reading};
+ghost use Rattle.pn_serve.specs.Words.Bounds.{bounds_in, key_in};
+
 use crate::PlanFault;
 use pn_json::items_of;
 use pn_record::{Key, KeyFault};
@@ -8,7 +15,10 @@ use serde_json::Value;
 use std::alloc::Global;
 
 /// The layout whose bounds are a JSON array of keys.
-pub(crate) fn layout_of(alloc: Global, text: &str) -> Result<Layout, PlanFault> {
+#[tactic(auto, unfolding(crate::specs::Words::Bounds::bounds_in))]
+pub(crate) fn layout_of(alloc: Global, text: &str) -> Result<Layout, PlanFault>
+    ensures { IsUnless PlanFault.Memory result (bounds_in text.now) }
+{
     let value = value_of(alloc, text)?;
     let keys = keys_of(alloc, items_of(Some(&value), PlanFault::Bounds)?)?;
     match Layout::new(keys) {
@@ -17,7 +27,10 @@ pub(crate) fn layout_of(alloc: Global, text: &str) -> Result<Layout, PlanFault> 
     }
 }
 
-fn value_of(alloc: Global, text: &str) -> Result<Value, PlanFault> {
+#[tactic(auto, unfolding(pn_record::specs::Reading::reading))]
+fn value_of(alloc: Global, text: &str) -> Result<Value, PlanFault>
+    ensures { ShowsUnless PlanFault.Memory view result (ok_or (reading text.now) PlanFault.Bounds) }
+{
     match Value::from_slice(alloc, text.as_bytes()) {
         Ok(value) => Ok(value),
         Err(error) => {
@@ -30,7 +43,9 @@ fn value_of(alloc: Global, text: &str) -> Result<Value, PlanFault> {
     }
 }
 
-fn keys_of(alloc: Global, items: &[Value]) -> Result<Vec<Key>, PlanFault> {
+fn keys_of(alloc: Global, items: &[Value]) -> Result<Vec<Key>, PlanFault>
+    ensures { ShowsUnless PlanFault.Memory (λ keys. keys.items) result (each_in key_in (items_view items.now)) }
+{
     let mut keys = Vec::with_capacity(alloc, items.len())?;
     for item in items {
         keys.push_reserved(key_of(alloc, item)?);
@@ -38,7 +53,9 @@ fn keys_of(alloc: Global, items: &[Value]) -> Result<Vec<Key>, PlanFault> {
     Ok(keys)
 }
 
-fn key_of(alloc: Global, item: &Value) -> Result<Key, PlanFault> {
+fn key_of(alloc: Global, item: &Value) -> Result<Key, PlanFault>
+    ensures { IsUnless PlanFault.Memory result (key_in (view item.now)) }
+{
     let text = item.as_str().ok_or(PlanFault::Bounds)?;
     match Key::of(alloc, text) {
         Ok(key) => Ok(key),

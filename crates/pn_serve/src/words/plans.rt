@@ -1,5 +1,7 @@
 //! What words plan, and why they are refused.
 
+ghost use Rattle.std.specs.Prelude.{◌≡◌};
+
 use crate::Settings;
 use pn_join::{Name, NoMemory};
 use std::alloc::AllocError;
@@ -41,12 +43,16 @@ pub enum PlanFault {
 }
 
 impl From<NoMemory> for PlanFault {
+    ghost from_gives = { λ _ fault. fault ≡ PlanFault.Memory };
+
     fn from(_fault: NoMemory) -> PlanFault {
         PlanFault::Memory
     }
 }
 
 impl From<AllocError> for PlanFault {
+    ghost from_gives = { λ _ fault. fault ≡ PlanFault.Memory };
+
     fn from(_fault: AllocError) -> PlanFault {
         PlanFault::Memory
     }
