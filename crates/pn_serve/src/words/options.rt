@@ -1,7 +1,8 @@
 //! The commands of the program, and the options of each, for `clap`.
 
 ghost use Rattle.std.specs.Prelude.{◌≡◌, ◌≤◌, false, IfOk};
-ghost use Rattle.clap.specs.Words.{app_of, fields_of, found_of, rows_of, rule_of};
+ghost use Rattle.clap.specs.Words.{app_of, found_of, rows_of, rule_of};
+ghost use Rattle.clap.specs.declared.builder.Command.TheViews.{out-Command};
 ghost use Rattle.pn_serve.specs.Words.Options.{bounds_option, port_option, program, replay as replay_app, serve as serve_app, sessions_option, streams_words, workers_option};
 ghost use Rattle.pn_serve.specs.Words.Plans.{number_at};
 
@@ -23,7 +24,7 @@ pub(crate) fn command<'w>(alloc: Global) -> Result<Command<'w>, AllocError>
 
 fn replay<'w>(alloc: Global) -> Result<Command<'w>, AllocError>
     ensures app { IfOk result (λ command. app_of command ≡ replay_app) }
-    ensures local { IfOk result (λ command. (fields_of command).has_globals ≡ false) }
+    ensures local { IfOk result (λ command. (out-Command command).has_globals ≡ false) }
 {
     Command::new(alloc, "replay")
         .about("Answers the script on standard input, a reply a line, on standard output")
@@ -33,7 +34,7 @@ fn replay<'w>(alloc: Global) -> Result<Command<'w>, AllocError>
 
 fn serve<'w>(alloc: Global) -> Result<Command<'w>, AllocError>
     ensures app { IfOk result (λ command. app_of command ≡ serve_app) }
-    ensures local { IfOk result (λ command. (fields_of command).has_globals ≡ false) }
+    ensures local { IfOk result (λ command. (out-Command command).has_globals ≡ false) }
 {
     Command::new(alloc, "serve")
         .about("Reads streams from files while it serves sessions on 127.0.0.1")

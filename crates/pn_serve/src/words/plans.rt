@@ -1,6 +1,7 @@
 //! What words plan, and why they are refused.
 
 ghost use Rattle.std.specs.Prelude.{◌≡◌};
+ghost use Rattle.pn_serve.specs.declared.words.plans.PlanFault.TheVariants.{Memory as no_memory};
 
 use crate::Settings;
 use pn_join::{Name, NoMemory};
@@ -43,7 +44,7 @@ pub enum PlanFault {
 }
 
 impl From<NoMemory> for PlanFault {
-    ghost from_gives = { λ _ fault. fault ≡ PlanFault.Memory };
+    ghost from_gives = { λ _ fault. fault ≡ no_memory };
 
     fn from(_fault: NoMemory) -> PlanFault {
         PlanFault::Memory
@@ -51,7 +52,7 @@ impl From<NoMemory> for PlanFault {
 }
 
 impl From<AllocError> for PlanFault {
-    ghost from_gives = { λ _ fault. fault ≡ PlanFault.Memory };
+    ghost from_gives = { λ _ fault. fault ≡ no_memory };
 
     fn from(_fault: AllocError) -> PlanFault {
         PlanFault::Memory
