@@ -1,6 +1,7 @@
 //! The streams that the words say.
 
 ghost use Rattle.std.specs.Prelude.{◌≡◌, map};
+ghost use Rattle.std.specs.Str.{bytes_eq};
 ghost use Rattle.pn_json.specs.Answers.{ShowsUnless};
 ghost use Rattle.pn_json.specs.Members.{texts};
 ghost use Rattle.pn_serve.specs.Words.Streams.{each_stream, has_name as name_among, names_differ as all_differ, stream_in, stream_value, streams_in};
@@ -64,5 +65,16 @@ fn names_differ(streams: &[(Name, String)]) -> bool
 fn has_name(streams: &[(Name, String)], name: &Name) -> bool
     ensures { result ≡ name_among (map stream_value streams.now) name.now }
 {
-    streams.iter().any(|stream| stream.0 == *name)
+    for stream in streams {
+        if is_named(stream, name) {
+            return true;
+        }
+    }
+    false
+}
+
+fn is_named(stream: &(Name, String), name: &Name) -> bool
+    ensures { result ≡ bytes_eq (stream_value stream.now).0 name.now }
+{
+    stream.0 == *name
 }
