@@ -19,13 +19,13 @@ CRATE ?=
 
 # Worked rows that are kept outside the repository, and which of them `make rows` runs.
 ROWS ?= ../shared/rows
-STAGE ?= first-path
+STAGE ?= notices
 
 .PHONY: run test edits build bench checks rows toolchain
 
 # Shows the program at work: the replies to the script on standard output. It proves nothing.
 run: toolchain
-	@(cd crates/pnuts && rt try) < "$(SCRIPT)"
+	@(cd crates/pnuts && rt try -- replay) < "$(SCRIPT)"
 
 # The gate: every proof from nothing, the edits that must fail, the program and the tests.
 test: toolchain
@@ -37,7 +37,7 @@ edits: build
 
 # Proves the program, and leaves it built with optimisation.
 build: toolchain
-	@cd crates/pnuts && rt run < /dev/null
+	@cd crates/pnuts && rt run -- replay < /dev/null
 	@echo "the proved, optimised program: $(PROGRAM)"
 
 # Measures the built program, and prints a table.
@@ -57,7 +57,7 @@ checks: build
 # Runs the worked rows through the built program, where they are at hand.
 rows:
 	@if [[ -x "$(ROWS)/check" ]]; then \
-		$(MAKE) build && "$(ROWS)/check" "$(PROGRAM)" "$(STAGE)" --bare; \
+		$(MAKE) build && "$(ROWS)/check" "$(PROGRAM)" "$(STAGE)"; \
 	else \
 		echo "make rows: skipped, for there is no $(ROWS)/check"; \
 	fi

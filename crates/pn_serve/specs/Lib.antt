@@ -4,3 +4,4 @@ pub mod Reply
 pub mod Runs
 pub mod Script
 pub mod Settings
+pub mod Words

@@ -8,6 +8,7 @@ mod refusal;
 mod reply;
 mod script;
 mod settings;
+mod words;
 
 pub use command::Command;
 pub use command::laws::a_line_is_one_command;
@@ -24,3 +25,5 @@ pub use reply::short::{
 };
 pub use script::{Counts, MOST_LINES, RunFault, run, run_to_exit};
 pub use settings::Settings;
+pub use words::plan;
+pub use words::plans::{Plan, PlanFault};

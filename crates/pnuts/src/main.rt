@@ -1,47 +1,76 @@
-//! `pnuts`: a script on standard input becomes replies on standard output.
+//! `pnuts`: its words say whether a script is answered or streams are served.
 #![tactic(auto)]
 
-use pn_serve::{Counts, RunFault, Settings, run_to_exit};
-use pn_tablet::Layout;
+use pn_serve::{Plan, PlanFault, RunFault, Settings, plan, run_to_exit};
 use std::alloc::Global;
-use std::io;
+use std::env::Env;
 use std::io::BufReader;
 use std::process::ExitCode;
 use std::thread::Threads;
+use std::{env, io};
 
 /// How many bytes of the script are read at a time.
 const INPUT_ROOM: usize = 65_536;
 
+/// The status of words that are refused.
+const REFUSED: u8 = 2;
+
 fn main(rt: HostRuntime) -> ExitCode {
-    match answer_input(&rt) {
-        Ok(_) => ExitCode::SUCCESS,
-        Err(fault) => {
-            // Where standard error takes nothing, the status alone tells of the fault.
-            let _ = eprintln!(rt; "pnuts: {}", word_of(fault));
-            ExitCode::FAILURE
-        }
+    let Ok(words) = words_of(&rt) else {
+        return fail(&rt, "memory");
+    };
+    match plan(rt.alloc(), &words) {
+        Ok(Plan::Replay(settings)) => replay(&rt, settings),
+        Ok(Plan::Serve { .. }) => fail(&rt, "cannot start"),
+        Ok(Plan::Help(text)) => show(&rt, text.as_str()),
+        Err(PlanFault::Words(text)) => refuse(&rt, text.as_str()),
+        Err(PlanFault::Bounds) => refuse(&rt, "pnuts: bounds\n"),
+        Err(PlanFault::Stream) => refuse(&rt, "pnuts: stream\n"),
+        Err(PlanFault::Memory) => fail(&rt, "memory"),
+    }
+}
+
+fn words_of(rt: &(impl AllocGlobal + Env)) -> io::Result<Vec<String>> {
+    Ok(env::args(rt)?.collect(rt.alloc())?)
+}
+
+fn show(rt: &impl Print, text: &str) -> ExitCode {
+    match print!(rt; "{text}") {
+        Ok(()) => ExitCode::SUCCESS,
+        Err(_) => ExitCode::FAILURE,
+    }
+}
+
+// Where standard error takes nothing, the status alone tells of the fault.
+fn refuse(rt: &impl Eprint, text: &str) -> ExitCode {
+    let _ = eprint!(rt; "{text}");
+    ExitCode::from(REFUSED)
+}
+
+fn fail(rt: &impl Eprint, why: &str) -> ExitCode {
+    let _ = eprintln!(rt; "pnuts: {why}");
+    ExitCode::FAILURE
+}
+
+fn replay(
+    rt: &(impl AllocGlobal + Input + Print + Eprint + Threads + Sync),
+    settings: Settings,
+) -> ExitCode {
+    match answer_input(rt, settings) {
+        Ok(()) => ExitCode::SUCCESS,
+        Err(fault) => fail(rt, word_of(fault)),
     }
 }
 
 fn answer_input(
     rt: &(impl AllocGlobal + Input + Print + Threads + Sync),
-) -> Result<Counts, RunFault> {
+    settings: Settings,
+) -> Result<(), RunFault> {
     let Ok(mut input) = BufReader::with_capacity(rt.alloc(), INPUT_ROOM, rt.reader()) else {
         return Err(RunFault::Memory);
     };
-    let settings = one_tablet(rt.alloc());
-    run_to_exit(rt, rt.alloc(), &mut input, &mut io::writer(rt), settings)
-}
-
-// One tablet for all keys, and one worker.
-fn one_tablet(alloc: Global) -> Settings {
-    let Ok(layout) = Layout::new(Vec::new(alloc)) else {
-        unreachable!()
-    };
-    let Some(settings) = Settings::new(layout, 1) else {
-        unreachable!()
-    };
-    settings
+    run_to_exit(rt, rt.alloc(), &mut input, &mut io::writer(rt), settings)?;
+    Ok(())
 }
 
 fn word_of(fault: RunFault) -> &'static str {

@@ -1,0 +1,136 @@
+-- What `clap` takes has a command, and what a command says is a plan or a fault of its options.
+use Rattle.std.proofs.Common.{◌≡◌, ℕ, Bool, true, false, cond, List, [], ◌∷◌, Option, Some, None, Result, Ok, Err, String, refl, ap, subst, is_some}
+use Rattle.std.specs.Prelude.{IfErr, IsSome}
+use Rattle.std.specs.Option.{ok_or}
+use Rattle.std.specs.declared.alloc.Global.{Global}
+use Rattle.clap.specs.Kinds.{Kinds, or_else}
+use Rattle.clap.specs.Faults.{check_fault, fault_of}
+use Rattle.clap.specs.Simple.{built, subcommand_of}
+use Rattle.clap.specs.Walk.{Row, Text}
+use Rattle.serde_json.specs.Data.{Data, Items, no_items, item}
+use Rattle.serde_json.specs.Find.{as_array, as_str}
+use Rattle.pn_json.specs.Answers.{◌>>=◌, ShowsUnless}
+use Rattle.pn_json.specs.Members.{each_in}
+use Rattle.pn_json.proofs.Inverses.{bind_ok}
+use Rattle.pn_record.specs.Limits.{is_key}
+use Rattle.pn_record.specs.Reading.{reading}
+use Rattle.pn_tablet.specs.Layouts.{Bounds, layout_of}
+use Rattle.pn_tablet.specs.declared.layout.LayoutFault.{LayoutFault}
+use Rattle.pn_serve.specs.Words.Bounds.{bounds_in, key_in, or_bounds}
+use Rattle.pn_serve.specs.Words.Options.{program}
+use Rattle.pn_serve.specs.Words.Plans.{PlanValue, Plans, help, plan_in, plan_value, replay_in, serve_in, settings_in}
+use Rattle.pn_serve.specs.Words.Streams.{each_stream, is_stream, names_differ, stream_in, streams_in}
+use Rattle.pn_serve.specs.declared.words.plans.Plan.{Plan}
+use Rattle.pn_serve.specs.declared.words.plans.Plan.TheVariants as plan
+use Rattle.pn_serve.specs.declared.words.plans.PlanFault.{PlanFault}
+use Rattle.pn_serve.specs.declared.words.plans.PlanFault.TheVariants as fault
+
+-- ---- a command is there
+
+last_kinds : (first next : Kinds) → or_else first next ≡ [] → next ≡ []
+last_kinds [] next e = e
+last_kinds (kind ∷ kinds) next e = absurd (cc)
+
+checked : (rows : List Row) (command : Option (Text × List Row)) → check_fault (built program).top rows (is_some command) ≡ [] → IsSome command
+checked rows (Some command) e = tt
+checked rows None e = absurd (cc)
+
+pub has_command : (words : List Text) → fault_of program words ≡ [] → IsSome (subcommand_of program words)
+has_command words e = checked _ (subcommand_of program words) (last_kinds _ _ (last_kinds _ _ (last_kinds _ _ (last_kinds _ _ e))))
+
+-- ---- the fault of an option says no words
+
+abbrev IsOfOption : PlanFault → Type 0
+IsOfOption (fault.Words text) = ⊥
+IsOfOption found = Unit {0}
+
+then_of_option : {A B : Type 0} (first : Result A PlanFault) (next : A → Result B PlanFault) → IfErr first IsOfOption
+    → ((a : A) → IfErr (next a) IsOfOption) → IfErr (first >>= next) IsOfOption
+then_of_option (Ok a) next one other = other a
+then_of_option (Err found) next one other = one
+
+bounds_or : {A : Type 0} (o : Option A) → IfErr (ok_or o fault.Bounds) IsOfOption
+bounds_or None = tt
+bounds_or (Some a) = tt
+
+when : {A : Type 0} (b : Bool) (a : A) → IfErr (cond b (Ok a) (Err fault.Bounds)) IsOfOption
+when true a = tt
+when false a = tt
+
+key_of : (d : Data) → IfErr (key_in d) IsOfOption
+key_of d = then_of_option (ok_or (as_str d) fault.Bounds) _ (bounds_or (as_str d)) (λ text. when (is_key text) text)
+
+each_key : (ds : Items) → IfErr (each_in key_in ds) IsOfOption
+each_key no_items = tt
+each_key (item d ds) = then_of_option (key_in d) _ (key_of d) (λ key. then_of_option (each_in key_in ds) _ (each_key ds) (λ keys. tt))
+
+layout_or : (r : Result Bounds LayoutFault) → IfErr (or_bounds r) IsOfOption
+layout_or (Ok layout) = tt
+layout_or (Err found) = tt
+
+bounds_of : (text : List ℕ) → IfErr (bounds_in text) IsOfOption
+unfolding bounds_in
+bounds_of text = then_of_option (ok_or (reading text) fault.Bounds) _ (bounds_or (reading text))
+    (λ value. then_of_option (ok_or (as_array value) fault.Bounds) _ (bounds_or (as_array value))
+    (λ items. then_of_option (each_in key_in items) _ (each_key items) (λ keys. layout_or (layout_of keys))))
+
+settings_of : (options : List Row) → IfErr (settings_in options) IsOfOption
+settings_of options = then_of_option (bounds_in _) _ (bounds_of _) (λ layout. tt)
+
+stream_or : {A : Type 0} (b : Bool) (a : A) → IfErr (cond b (Ok a) (Err fault.Stream)) IsOfOption
+stream_or true a = tt
+stream_or false a = tt
+
+each_of : (words : List (List ℕ)) → IfErr (each_stream words) IsOfOption
+each_of [] = tt
+each_of (word ∷ words) = then_of_option (stream_in word) _ (stream_or _ _) (λ stream. then_of_option (each_stream words) _ (each_of words) (λ streams. tt))
+
+unless_many : {A : Type 0} (b : Bool) (r : Result A PlanFault) → IfErr r IsOfOption → IfErr (cond b (Err fault.Stream) r) IsOfOption
+unless_many true r of = tt
+unless_many false r of = of
+
+streams_of : (words : List (List ℕ)) → IfErr (streams_in words) IsOfOption
+unfolding streams_in
+streams_of words = unless_many _ _ (then_of_option (each_stream words) _ (each_of words) (λ streams. stream_or (names_differ streams) streams))
+
+serve_of : (options : List Row) → IfErr (serve_in options) IsOfOption
+serve_of options = then_of_option (settings_in options) _ (settings_of options) (λ settings. then_of_option (streams_in _) _ (streams_of _) (λ streams. tt))
+
+replay_of : (options : List Row) → IfErr (replay_in options) IsOfOption
+replay_of options = then_of_option (settings_in options) _ (settings_of options) (λ settings. tt)
+
+one_of_both : {A : Type 0} (b : Bool) (r s : Result A PlanFault) → IfErr r IsOfOption → IfErr s IsOfOption → IfErr (cond b r s) IsOfOption
+one_of_both true r s one other = one
+one_of_both false r s one other = other
+
+no_words : (command : Text × List Row) (text : String Global) → plan_in command ≡ Err (fault.Words text) → ⊥
+no_words command text e = subst (λ r. IfErr r IsOfOption) e (one_of_both _ _ _ (serve_of command.1) (replay_of command.1))
+
+-- ---- and its plan is no help
+
+serve_helps : (options : List Row) → serve_in options ≡ Ok help → ⊥
+serve_helps options e =
+    let one = bind_ok (settings_in options) _ help e in
+    let two = bind_ok (streams_in _) _ help one.2 in
+    let last = two.2 in cc
+
+replay_helps : (options : List Row) → replay_in options ≡ Ok help → ⊥
+replay_helps options e =
+    let one = bind_ok (settings_in options) _ help e in
+    let last = one.2 in cc
+
+neither_helps : (b : Bool) (options : List Row) → cond b (serve_in options) (replay_in options) ≡ Ok help → ⊥
+neither_helps true options e = serve_helps options e
+neither_helps false options e = replay_helps options e
+
+-- ---- a command's plan is that of the words
+
+pub planned : (words : List Text) → fault_of program words ≡ [] → (command : Text × List Row) → subcommand_of program words ≡ Some command
+    → (result : Result Plan PlanFault) → ShowsUnless fault.Memory plan_value result (plan_in command) → Plans words result
+planned words taken command found (Ok (plan.Replay settings)) shows = record { taken = taken; command = command; found = found; means = shows }
+planned words taken command found (Ok (plan.Serve settings sessions port streams)) shows = record { taken = taken; command = command; found = found; means = shows }
+planned words taken command found (Ok (plan.Help text)) shows = absurd (neither_helps _ command.1 shows)
+planned words taken command found (Err (fault.Words text)) shows = absurd (no_words command text (shows (λ e. cc)))
+planned words taken command found (Err fault.Bounds) shows = record { taken = taken; command = command; found = found; means = shows (λ e. cc) }
+planned words taken command found (Err fault.Stream) shows = record { taken = taken; command = command; found = found; means = shows (λ e. cc) }
+planned words taken command found (Err fault.Memory) shows = tt
