@@ -24,7 +24,7 @@ Takes-trans {l = l} {a = a} {b = b} {c = c} {behind = behind} first second =
     }
 
 -- what holds of bytes that are told behind some others holds where those are told
-pub known_before : (first between : Option (List ℕ)) (bs : List ℕ) {P : Type 0} → Consumes first between bs → OnSome between P → OnSome first P
-known_before None between bs consumed holds = tt
-known_before (Some xs) None bs consumed holds = absurd consumed
-known_before (Some xs) (Some ys) bs consumed holds = holds
+pub known_before : (P : Type 0) (first between : Option (List ℕ)) (bs : List ℕ) → Consumes first between bs → OnSome between P → OnSome first P
+known_before P None between bs consumed holds = tt
+known_before P (Some xs) None bs consumed holds = absurd consumed
+known_before P (Some xs) (Some ys) bs consumed holds = holds

@@ -79,15 +79,15 @@ SoFar-push position wanted front part now images found (Some text) left leaves i
     record { rest = more; run = Run-push position (front ++ text) images so.rest line more found.image wanted is so.run at said; is_left = is_left }
 
 -- before the first line nothing was shown
-pub shown_none : (first : Option (List ℕ)) {left : Option (List ℕ)} → OnSome first (HasShown false left)
+pub shown_none : (first : Option (List ℕ)) → OnSome first (Unit {0})
 shown_none None = tt
 shown_none (Some text) = tt
 
 -- what was shown behind the next line is told where the text is
-pub shown_on : (position : ℕ) (front part : List ℕ) (images : List Image) (first left : Option (List ℕ)) {P : Type 0}
+pub shown_on : (P : Type 0) (position : ℕ) (front part : List ℕ) (images : List Image) (first left : Option (List ℕ))
     → IfSome first (λ text. SoFar position (front ++ text) images part left) → OnSome left P → OnSome first P
-shown_on position front part images None left so shown = tt
-shown_on position front part images (Some text) left {P = P} so shown =
+shown_on P position front part images None left so shown = tt
+shown_on P position front part images (Some text) left so shown =
     let told : OnSome (Some so.is_left.0) P = subst (λ (l : Option (List ℕ)). OnSome l P) so.is_left.1 shown in told
 
 -- a text with a newline that was shown has a whole line

@@ -14,7 +14,7 @@ returns-then-is_too_long-clause-takes g c =
 pub returns-in-Ended-clause-takes : goal.returns-in-Ended-clause-takes
 returns-in-Ended-clause-takes g c =
     let short : c.take_some.new.line.count ≤ LONGEST_LINE = search (arith, rules) in
-    (Takes-trans c.pieces.invariant (rw c.in-Ended.is at c.in_ok-take_some.ensures.takes), short, known_before _ _ _ c.pieces.invariant.source (rw c.in-Ended.is at c.in_ok-take_some.ensures.more))
+    (Takes-trans c.pieces.invariant (rw c.in-Ended.is at c.in_ok-take_some.ensures.takes), short, known_before _ _ _ _ c.pieces.invariant.source (rw c.in-Ended.is at c.in_ok-take_some.ensures.more))
 
 pub returns-then-is_too_long-2-clause-takes : goal.returns-then-is_too_long-2-clause-takes
 returns-then-is_too_long-2-clause-takes g c =
@@ -24,4 +24,4 @@ returns-then-is_too_long-2-clause-takes g c =
 pub returns-in-NoMore-clause-takes : goal.returns-in-NoMore-clause-takes
 returns-in-NoMore-clause-takes g c =
     let short : c.take_some.new.line.count ≤ LONGEST_LINE = search (arith, rules) in
-    (Takes-trans c.pieces.invariant (rw c.in-NoMore.is at c.in_ok-take_some.ensures.takes), known_before _ _ _ c.pieces.invariant.source (c.in_ok-take_some.ensures.end (ap Ok c.in-NoMore.is)), short)
+    (Takes-trans c.pieces.invariant (rw c.in-NoMore.is at c.in_ok-take_some.ensures.takes), known_before _ _ _ _ c.pieces.invariant.source (c.in_ok-take_some.ensures.end (ap Ok c.in-NoMore.is)), short)

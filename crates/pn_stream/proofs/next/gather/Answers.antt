@@ -35,7 +35,7 @@ images-preserved g c =
       positions = omega (arith, count, is, last);
       part = c.in_ok-found.ensures.part;
       taken = λ some. (rw c.in-Some.is at c.in_ok-found.ensures.taken) refl;
-      shown = shown_on _ _ _ _ _ _ c.images.invariant.so_far (rw c.in-Some.is at c.in_ok-found.ensures.more);
+      shown = shown_on _ _ _ _ _ _ _ c.images.invariant.so_far (rw c.in-Some.is at c.in_ok-found.ensures.more);
       so_far = rw grown (SoFar-push _ _ _ _ _ _ _ _ _ _ is c.images.invariant.so_far (rw c.in-Some.is at c.in_ok-found.ensures.next));
     }
 
