@@ -1,5 +1,11 @@
 pub mod Attempts
 pub mod Books
 pub mod Laws
+pub mod Limits
+pub mod LiveRegions
+pub mod Looks
 pub mod Orders
+pub mod Places
 pub mod Published
+pub mod Readers
+pub mod Windows
