@@ -5,3 +5,5 @@ pub mod Orders
 pub mod Ranges
 pub mod Replays
 pub mod ListLaws
+pub mod Walks
+pub mod Appending

@@ -5,7 +5,7 @@ use Rattle.pn_stream.specs.Positions.{DeliveryValue}
 use Rattle.pn_tablet.specs.Layouts.{Bounds}
 use Rattle.pn_apply.specs.Reducing.{ranges}
 use Rattle.pn_region.specs.Marking.{new_marks}
-use Rattle.pn_region.specs.Regions.{RegionValue, ArePartsOf, AreRegionMarks}
+use Rattle.pn_region.specs.Regions.{RegionValue}
 use Rattle.pn_region.specs.Rounds.{joins}
 use Rattle.pn_region.specs.declared.entry.Entry.{Entry}
 use Rattle.pn_region.specs.declared.fault.RoundFault.{RoundFault}
@@ -23,11 +23,6 @@ pub record LiveRegionValue : Type 0 where
 -- the region that stands behind it: each tablet is at the state of what is published
 abbrev pub core : LiveRegionValue → RegionValue
 core live = record { layout = live.layout; tablets = map state_at live.places; marks = live.marks }
-
--- what holds of every live region: there is a tablet for each range, in their order, and its cover reaches the marks
-pub record IsLive (live : LiveRegionValue) : Type 0 where
-  pub parts : ArePartsOf live.marks (ranges live.layout) (map state_at live.places)
-  pub marks : AreRegionMarks live.marks
 
 -- nothing was taken, and nothing is published
 pub record IsNewLive (layout : Bounds) (live : LiveRegionValue) : Type 0 where

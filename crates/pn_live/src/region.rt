@@ -3,8 +3,6 @@
 ghost use Rattle.std.specs.Prelude.{◌≡◌, ◌≤◌, length, IsTrue};
 ghost use Rattle.pn_join.specs.Marks.{are_positions};
 ghost use Rattle.pn_region.specs.Limits.{most_streams};
-ghost use Rattle.pn_live.specs.LiveRegions.{core};
-ghost use Rattle.pn_region.specs.Regions.{IsRegion};
 
 mod closing;
 mod opening;
@@ -30,13 +28,14 @@ pub struct LiveRegion {
 }
 
 impl Model for LiveRegion {
-    ghost use Rattle.pn_live.specs.LiveRegions.{LiveRegionValue, IsLive};
+    ghost use Rattle.pn_region.specs.Regions.{IsLawfulRegion};
+    ghost use Rattle.pn_live.specs.LiveRegions.{LiveRegionValue, core};
 
     ghost Value = { LiveRegionValue };
 
     ghost view = { λ live. record { layout = live.layout; places = live.places.items; marks = live.marks; log = live.log } };
 
-    ghost invariant = { λ live. IsLive (record { layout = live.layout; places = live.places.items; marks = live.marks; log = live.log }) };
+    ghost invariant = { λ live. IsLawfulRegion (core (record { layout = live.layout; places = live.places.items; marks = live.marks; log = live.log })) };
 }
 
 impl LiveRegion {

@@ -1,6 +1,6 @@
 //! Rounds of a live region.
 
-ghost use Rattle.std.specs.Prelude.{◌≡◌, ◌≤◌, ◌<◌, ◌^◌, length, map, Ok, IfOk, IfErr, OnOk, OnErr};
+ghost use Rattle.std.specs.Prelude.{◌≡◌, ◌≤◌, length, Ok, IfOk, IfErr, OnOk};
 ghost use Rattle.std.specs.List.{flat_map};
 ghost use Rattle.pn_tablet.specs.Changes.{changes};
 ghost use Rattle.pn_tablet.specs.Refusals.{Refuses};
@@ -22,6 +22,14 @@ use pn_stream::Delivery;
 use pn_tablet::Change;
 use std::sync::Wait;
 use std::thread::Threads;
+
+// What changed in each tablet, how many records that are, and what is published then.
+#[derive(Drop)]
+struct Taken {
+    lists: Vec<Vec<Change>>,
+    changed: u64,
+    front: Front,
+}
 
 impl LiveRegion {
     /// Takes deliveries, as a region's round does: the workers make the next states, and then this thread publishes
@@ -50,9 +58,10 @@ impl LiveRegion {
         ensures same { tablets_in self.new ≡ tablets_in self.old }
     {
         match self.take(rt, deliveries, workers, gate) {
-            Ok((lists, changed, front)) => {
-                self.log.add(lists);
-                Ok((Round { changed }, front))
+            Ok(taken) => {
+                self.log.add(taken.lists);
+                let changed = taken.changed;
+                Ok((Round { changed }, taken.front))
             }
             Err(RoundFault::Memory) => {
                 self.log.cut();
@@ -62,15 +71,25 @@ impl LiveRegion {
         }
     }
 
-    // The same, but for the log. Answers what changed in each tablet, and how many records that are.
+    // The same, but for the log.
     fn take<R: Threads + Wait + Sync, G: Gate + Sync>(
         &mut self,
         rt: &R,
         deliveries: Vec<Delivery>,
         workers: usize,
         gate: &G,
-    ) -> Result<(Vec<Vec<Change>>, u64, Front), RoundFault>
+    ) -> Result<Taken, RoundFault>
         requires workers { (1 ≤ workers) × (workers ≤ most_workers) }
+        ensures ok { OnOk result (round (core self.old) deliveries.items ≡ Ok (core self.new)) }
+        ensures published { OnOk result (self.new.places ≡ publishing self.old deliveries.items self.new.marks) }
+        ensures front { IfOk result (λ taken. taken.front ≡ notes_of self.new.places) }
+        ensures changed { IfOk result (λ taken. taken.changed ≡ length (flat_map (λ list. list.items) taken.lists.items)) }
+        ensures changes { IfOk result (λ taken. flat_map (λ list. list.items) taken.lists.items ≡ changes (all_cells (core self.old)) (all_cells (core self.new))) }
+        ensures refused { IfErr result (λ fault. Refuses is_memory fault (round (core self.old) deliveries.items)) }
+        ensures err { IfErr result (λ fault. LeavesLive fault self.old deliveries.items self.new) }
+        ensures left { IfErr result (λ fault. Leaves fault (core self.old) deliveries.items (core self.new)) }
+        ensures log { self.new.log ≡ self.old.log }
+        ensures same { tablets_in self.new ≡ tablets_in self.old }
     {
         let marks = next_marks(&self.marks, &deliveries)?;
         let operations = reduce_owned(
@@ -86,6 +105,10 @@ impl LiveRegion {
         publish_all(rt, self.places.as_mut_slice(), plan.nexts, &operations)?;
         self.marks = marks;
         let front = front_of(plan.notes, &self.places);
-        Ok((plan.lists, plan.changed, front))
+        Ok(Taken {
+            lists: plan.lists,
+            changed: plan.changed,
+            front,
+        })
     }
 }
