@@ -7,3 +7,4 @@ pub mod Replays
 pub mod ListLaws
 pub mod Walks
 pub mod Appending
+pub mod Knowing

@@ -16,11 +16,11 @@ pub record WindowValue : Type 0 where
   pub told : List TabletOp
 
 -- a state was found: that of a list which begins with all that was seen and told of, and which is then what was seen
-pub record Finds (old : WindowValue) (state : TabletStateValue) (new : WindowValue) : Type 0 where
+pub record Finds (old : WindowValue) (found : TabletStateValue) (new : WindowValue) : Type 0 where
   pub same : new ≡ record old { seen = new.seen }
   pub seen : IsPrefix old.seen new.seen
   pub told : IsPrefix old.told new.seen
-  pub state : state ≡ state_of new.range new.seen
+  pub state : found ≡ state_of new.range new.seen
 
 -- an entry found a state, or was refused and changed nothing
 abbrev pub Sees : WindowValue → Option TabletStateValue → WindowValue → Type 0
@@ -28,10 +28,10 @@ Sees old None new = new ≡ old
 Sees old (Some state) new = Finds old state new
 
 -- a note was taken in: the longer of both lists is what the reader was told of
-pub record Learns (old : WindowValue) (note : NoteValue) (new : WindowValue) : Type 0 where
+pub record Learns (old : WindowValue) (heard : NoteValue) (new : WindowValue) : Type 0 where
   pub same : new ≡ record old { told = new.told }
   pub told : IsPrefix old.told new.told
-  pub note : IsPrefix note.list new.told
+  pub note : IsPrefix heard.list new.told
 
 -- each note was taken in at its own window
 abbrev pub AllLearn : List WindowValue → List NoteValue → List WindowValue → Type 0
