@@ -6,6 +6,8 @@ mod given;
 #[cfg(test)]
 mod meeting;
 #[cfg(test)]
+mod race;
+#[cfg(test)]
 mod rows;
 #[cfg(test)]
 mod served;
