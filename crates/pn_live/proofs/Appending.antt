@@ -1,5 +1,5 @@
 -- Live tablets of which one operation more is published.
-use Rattle.std.proofs.Common.{◌≡◌, ◌⊎◌, ℕ, zero, suc, ◌+◌, ◌<◌, ◌≤◌, List, [], ◌∷◌, ◌++◌, fold, length, map, drop, get_or, refl, sym, ap, ◌∙◌, subst, inl, inr, arith}
+use Rattle.std.proofs.Common.{◌≡◌, ◌⊎◌, ℕ, zero, suc, ◌+◌, ◌<◌, ◌≤◌, List, [], ◌∷◌, ◌++◌, fold, length, map, drop, set, get_or, refl, sym, ap, ◌∙◌, subst, inl, inr, arith}
 use Rattle.logbook.specs.Pages.{Book}
 use Rattle.pn_tablet.specs.Steps.{stepped}
 use Rattle.pn_tablet.specs.Tablets.{TabletStateValue, empty_tablet}
@@ -7,7 +7,7 @@ use Rattle.pn_tablet.specs.declared.op.TabletOp.{TabletOp}
 use Rattle.pn_apply.specs.Applying.{all_stepped, AreOldOrStepped}
 use Rattle.pn_live.specs.Places.{PlaceValue, state_at, appended, all_appended, AreOldOrAppended}
 use Rattle.pn_live.proofs.Replays.{fold_last}
-use Rattle.pn_live.proofs.Walks.{DoneFirst, within_of, first_of, rest_of}
+use Rattle.pn_live.proofs.Walks.{DoneFirst, done_count, done_at, done_more, done_still, within_of, first_of}
 
 -- the operation is published of the tablet, and nothing else
 abbrev pub Appends : PlaceValue → TabletOp → PlaceValue → Type 0
@@ -99,12 +99,32 @@ stepped_at (o ∷ olds) (p ∷ ops) (suc n) old op d same within = stepped_at ol
 -- the next states of all tablets, of which so many are published
 module _ (olds : List PlaceValue) (ops : List TabletOp) (same : length olds ≡ length ops) (n : ℕ) (news : List PlaceValue) (so_far : AppendedFirst n olds ops news)
     (state : TabletStateValue) (rest : List TabletStateValue) (left : state ∷ rest ≡ drop n (all_stepped (map state_at olds) ops)) where
-  pub next_within : n < length olds
+  next_within : n < length olds
   next_within = omega (arith, within_of (all_stepped (map state_at olds) ops) n state rest left, count_stepped olds ops same)
 
   -- the next state is what the operation makes of the tablet
-  pub next_is : (old : PlaceValue) (op : TabletOp) → old ≡ get_or news n old → op ≡ get_or ops n op → get_or news n old ≡ get_or olds n old → state ≡ stepped (state_at old) op
+  next_is : (old : PlaceValue) (op : TabletOp) → old ≡ get_or news n old → op ≡ get_or ops n op → get_or news n old ≡ get_or olds n old → state ≡ stepped (state_at old) op
   next_is old op at there before =
       first_of (all_stepped (map state_at olds) ops) n state rest left
       ∙ (stepped_at olds ops n old op state same next_within
       ∙ λ i. stepped (state_at (sym (at ∙ before) i)) (sym there i))
+
+  pub place_within : n < length news
+  place_within = omega (arith, next_within, done_count Appends n olds ops news so_far)
+
+  pub op_within : n < length ops
+  op_within = omega (arith, next_within, same)
+
+  place_before : (old : PlaceValue) → old ≡ get_or news n old → old ≡ get_or olds n old
+  place_before old at = at ∙ done_at Appends n olds ops news old so_far
+
+  -- what is published next is what the operation makes of the tablet
+  pub publishes : (old : PlaceValue) (op : TabletOp) → old ≡ get_or news n old → op ≡ get_or ops n op → state ≡ stepped (state_at old) op
+  publishes old op at there = next_is old op at there (done_at Appends n olds ops news old so_far)
+
+  pub one_appended : (old new : PlaceValue) (op : TabletOp) → old ≡ get_or news n old → op ≡ get_or ops n op → new ≡ appended old op → AppendedFirst (n + 1) olds ops (set news n new)
+  one_appended old new op at there is = done_more Appends n olds ops news old op new so_far next_within op_within (place_before old at) there is
+
+  -- a refusal leaves each tablet old or with its operation
+  pub one_refused : (old new : PlaceValue) → old ≡ get_or news n old → new ≡ old → AreOldOrAppended olds ops (set news n new)
+  one_refused old new at is = some_first n olds ops (set news n new) (done_still Appends n olds ops news old new so_far at is)

@@ -8,3 +8,7 @@ pub mod ListLaws
 pub mod Walks
 pub mod Appending
 pub mod Knowing
+pub mod Learning
+pub mod Opening
+pub mod Closing
+pub mod WindowLaws

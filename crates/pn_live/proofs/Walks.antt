@@ -1,6 +1,6 @@
 -- Lists of which the first so many places were changed, each by what stands for it in another list.
-use Rattle.std.proofs.Common.{◌≡◌, ℕ, zero, suc, ◌+◌, ◌<◌, ◌≤◌, List, [], ◌∷◌, length, drop, set, get_or, refl, sym, ap, ◌∙◌, subst, arith, add-one}
-use Rattle.std.proofs.lemmas.List.{set-get_or}
+use Rattle.std.proofs.Common.{◌≡◌, ℕ, zero, suc, ◌+◌, ◌<◌, ◌≤◌, List, [], ◌∷◌, ◌++◌, length, map, drop, set, get_or, refl, sym, ap, ◌∙◌, subst, arith, add-one, append_assoc, length-append}
+use Rattle.std.proofs.lemmas.List.{set-get_or, append-nil}
 
 -- a list that goes on behind a place has that place
 pub within_of : {A : Type 0} (xs : List A) (n : ℕ) (x : A) (rest : List A) → x ∷ rest ≡ drop n xs → n < length xs
@@ -77,3 +77,22 @@ module _ {A B : Type 0} (Does : A → B → A → Type 0) where
   pub done_still : (n : ℕ) (olds : List A) (bs : List B) (news : List A) (a same : A) → DoneFirst n olds bs news → a ≡ get_or news n a → same ≡ a → DoneFirst n olds bs (set news n same)
   done_still n olds bs news a same done at is =
       subst (DoneFirst n olds bs) (sym (ap (set news n) (is ∙ at) ∙ set-get_or news n a)) done
+
+-- a list is moved over, one after another
+module _ {A B : Type 0} (f : A → B) (all : List B) (done : List B) (left : List A) (so_far : done ++ map f left ≡ all) where
+  pub moved_more : (a : A) (rest : List A) (b : B) → left ≡ a ∷ rest → b ≡ f a → (done ++ b ∷ []) ++ map f rest ≡ all
+  moved_more a rest b is made =
+      append_assoc done (b ∷ []) (map f rest)
+      ∙ ((λ i. done ++ made i ∷ map f rest) ∙ (ap (λ (xs : List A). done ++ map f xs) (sym is) ∙ so_far))
+
+  pub moved_whole : left ≡ [] → done ≡ all
+  moved_whole is = sym (append-nil done) ∙ (ap (λ (xs : List A). done ++ map f xs) (sym is) ∙ so_far)
+
+  pub moved_room : (a : A) (rest : List A) → left ≡ a ∷ rest → length done < length all
+  moved_room a rest is =
+      let whole : length (done ++ (f a ∷ map f rest)) ≡ length all = ap length (ap (λ (xs : List A). done ++ map f xs) (sym is) ∙ so_far) in
+      omega (arith, whole, length-append done (f a ∷ map f rest))
+
+pub nothing_left : {A : Type 0} (xs : List A) → length xs ≡ 0 → xs ≡ []
+nothing_left [] none = refl
+nothing_left (x ∷ xs) none = absurd (omega arith)

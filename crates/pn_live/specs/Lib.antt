@@ -6,6 +6,7 @@ pub mod LiveRegions
 pub mod Looks
 pub mod Orders
 pub mod Places
+pub mod Proofs
 pub mod Published
 pub mod Readers
 pub mod Windows

@@ -25,9 +25,9 @@ abbrev pub core : LiveRegionValue → RegionValue
 core live = record { layout = live.layout; tablets = map state_at live.places; marks = live.marks }
 
 -- nothing was taken, and nothing is published
-pub record IsNewLive (layout : Bounds) (live : LiveRegionValue) : Type 0 where
-  pub layout : live.layout ≡ layout
-  pub places : AreNewPlaces (ranges layout) live.places
+pub record IsNewLive (bounds : Bounds) (live : LiveRegionValue) : Type 0 where
+  pub layout : live.layout ≡ bounds
+  pub places : AreNewPlaces (ranges bounds) live.places
   pub marks : live.marks ≡ []
   pub log : live.log ≡ []
 

@@ -19,6 +19,10 @@ impl Model for Note {
 
     ghost Value = { NoteValue };
 
+    ghost use Rattle.pn_live.specs.Proofs.Coding.{note_code};
+
+    ghost coded = { note_code };
+
     ghost view = { λ note. record { book = note.stamp.seen.book; list = settled_of note.stamp.seen.log } };
 }
 
@@ -53,6 +57,11 @@ impl Model for Front {
     ghost use Rattle.pn_live.specs.Places.{NoteValue};
 
     ghost Value = { List NoteValue };
+
+    ghost use Rattle.std.specs.Coded.{coded_list};
+    ghost use Rattle.pn_live.specs.Proofs.Coding.{note_code};
+
+    ghost coded = { coded_list note_code };
 
     ghost view = { λ front. front.notes.items };
 }

@@ -29,6 +29,10 @@ impl Model for Place {
 
     ghost Value = { PlaceValue };
 
+    ghost use Rattle.pn_live.specs.Proofs.Coding.{place_code};
+
+    ghost coded = { place_code };
+
     ghost view = { λ place. record { book = place.tablet.note.seen.book; range = place.tablet.state.range; list = published place.tablet } };
 
     ghost invariant = { λ place. place.tablet.state ≡ state_of place.tablet.state.range (published place.tablet) };

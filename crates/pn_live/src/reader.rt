@@ -27,6 +27,10 @@ impl Model for LiveReader {
 
     ghost Value = { LiveReaderValue };
 
+    ghost use Rattle.pn_live.specs.Proofs.Coding.{reader_code};
+
+    ghost coded = { reader_code };
+
     ghost view = { λ reader. record { layout = reader.layout; windows = reader.windows.items } };
 
     ghost invariant = { λ reader. AreWindowsOf reader.layout reader.windows.items };

@@ -33,6 +33,10 @@ impl Model for LiveRegion {
 
     ghost Value = { LiveRegionValue };
 
+    ghost use Rattle.pn_live.specs.Proofs.Coding.{live_code};
+
+    ghost coded = { live_code };
+
     ghost view = { λ live. record { layout = live.layout; places = live.places.items; marks = live.marks; log = live.log } };
 
     ghost invariant = { λ live. IsLawfulRegion (core (record { layout = live.layout; places = live.places.items; marks = live.marks; log = live.log })) };

@@ -27,6 +27,10 @@ impl Model for Window {
 
     ghost Value = { WindowValue };
 
+    ghost use Rattle.pn_live.specs.Proofs.Coding.{window_code};
+
+    ghost coded = { window_code };
+
     ghost view = { λ window. record { book = window.seat.told.seen.book; range = range_of window.seat; seen = seen_by window.seat; told = told_to window.seat } };
 }
 

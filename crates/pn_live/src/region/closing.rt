@@ -49,11 +49,12 @@ fn was_all_seen(places: &[Place], readers: Vec<LiveReader>) -> bool
     requires { AllByRecursion (λ reader. AreOfPlaces places.now reader.windows) readers.items }
     ensures { IsTrue result → AllByRecursion (λ reader. AreBehind places.now reader.windows) readers.items }
 {
-    let mut all_seen = true;
     for reader in readers {
-        all_seen &= was_seen(places, reader.into_windows());
+        if !was_seen(places, reader.into_windows()) {
+            return false;
+        }
     }
-    all_seen
+    true
 }
 
 // The same of one reader.
@@ -61,13 +62,14 @@ fn was_seen(places: &[Place], windows: Vec<Window>) -> bool
     requires { AreOfPlaces places.now windows.items }
     ensures { IsTrue result → AreBehind places.now windows.items }
 {
-    let mut was_seen = true;
     let mut tablet = 0;
     for window in windows {
-        was_seen &= places[tablet].was_all_seen(window);
+        if !places[tablet].was_all_seen(window) {
+            return false;
+        }
         tablet += 1;
     }
-    was_seen
+    true
 }
 
 // The states of the tablets, which all end, also where memory runs out.

@@ -5,7 +5,7 @@ use Rattle.pn_live.proofs.region.opening.windows_of.Given as goal
 
 abbrev pub invariant-loop-tablet : goal.invariant-loop-tablet
 invariant-loop-tablet l = record {
-  windows : l.windows.items ≡ map opening (take l.tablet l.initial.places);
-  same : l.places ≡ l.initial.places;
-  room : vec_capacity l.windows ≡ length l.initial.places;
+  windows : l.windows.items ≡ map opening (take l.tablet l.fn.places);
+  same : l.places ≡ l.fn.places;
+  room : vec_capacity l.windows ≡ length l.fn.places;
 }
