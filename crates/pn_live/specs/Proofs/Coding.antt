@@ -1,5 +1,6 @@
 -- How live tablets, and what readers know of them, are stored in a proof.
-use Rattle.std.specs.Prelude.{◌≡◌, ◌⊎◌, inl, inr, List, refl}
+use Rattle.std.specs.Prelude.{◌≡◌, ◌⊎◌, List, refl}
+use mathlib.Core.Logic.{inl, inr}
 use Rattle.std.specs.Coded.{Coded, code_by, coded×, coded⊎, coded_ℕ, coded_list}
 use base.Stored.{coded_unit}
 use Rattle.logbook.specs.Pages.{Book, book_coded}
