@@ -139,6 +139,11 @@ newline_read (Ok EndOfInput) more ends is read = cc
 newline_read (Ok TooLong) more ends is read = cc
 newline_read (Err error) more ends is read = cc
 
+-- an option that is no value is none
+pub no_line : {A : Type 0} (seen : Option A) → ((x : A) → seen ≡ Some x → ⊥) → seen ≡ None
+no_line None none = refl
+no_line (Some x) none = absurd (none x refl)
+
 -- at the end of the input
 pub input_ended : {E : Type 0} (end : Result BoundedEnd E) (ends : BoundedEnd → Type 0) → line_ended end ≡ Ok None → IfOk end ends → ends EndOfInput
 input_ended (Ok (Newline more)) ends is read = cc

@@ -1,6 +1,6 @@
 //! The next messages of a stream, from the lines that its source has.
 
-ghost use Rattle.std.specs.Prelude.{◌≡◌, ◌+◌, ◌<◌, ◌≤◌, false, [], ◌∷◌, ◌++◌, length, IfOk, IfErr, IfSome, OnOk, OnErr, IsErrOf, IsSome, IsTrue};
+ghost use Rattle.std.specs.Prelude.{◌≡◌, ◌+◌, ◌<◌, ◌≤◌, false, [], ◌∷◌, ◌++◌, length, IfOk, IfErr, IfSome, OnOk, OnSome, OnErr, IsErrOf, IsSome, IsTrue};
 ghost use Rattle.pn_line.specs.Line.{so_far};
 ghost use Rattle.pn_line.specs.Reads.{HasShown};
 ghost use Rattle.pn_record.specs.Limits.{greatest};
@@ -153,7 +153,8 @@ fn next_image<S: Source>(
     ensures next { IfOk result (λ found. IfSome (S.left source.old) (λ text.
         IsNext wanted (line.old.bytes ++ text) found line.new.bytes (S.left source.new))) }
     ensures taken { IfOk result (λ found. IsSome found → line.new.bytes ≡ []) }
-    ensures more { IfOk result (λ found. IfSome found (λ message. HasShown message.more (S.left source.new))) }
+    ensures more { IfOk result (λ found. IfSome found (λ message.
+        OnSome (S.left source.old) (HasShown message.more (S.left source.new)))) }
     ensures stands { IfErr result (λ fault. IfSome (S.left source.old) (λ text.
         Stands wanted (line.old.bytes ++ text) fault)) }
     ensures part { OnOk result (IsPart line.new) }

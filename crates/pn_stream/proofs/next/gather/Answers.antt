@@ -36,7 +36,7 @@ images-preserved g c =
       part = c.in_ok-found.ensures.part;
       taken = λ some. (rw c.in-Some.is at c.in_ok-found.ensures.taken) refl;
       shown = shown_on _ _ _ _ _ _ _ c.images.invariant.so_far (rw c.in-Some.is at c.in_ok-found.ensures.more);
-      so_far = rw grown (SoFar-push _ _ _ _ _ _ _ _ _ _ is c.images.invariant.so_far (rw c.in-Some.is at c.in_ok-found.ensures.next));
+      so_far = rw grown (SoFar-push _ _ _ _ _ _ c.in-Some.found _ _ _ is c.images.invariant.so_far (rw c.in-Some.is at c.in_ok-found.ensures.next));
     }
 
 pub returns-in_err-push_image-in-Some-clause-err : goal.returns-in_err-push_image-in-Some-clause-err
@@ -48,7 +48,7 @@ returns-in_err-push_image-in-Some-clause-err g c =
 pub returns-in-None-clause-ok : goal.returns-in-None-clause-ok
 returns-in-None-clause-ok g c =
     let few : c.images.more ≡ false → length c.images.images.items < c.args.asked.least = search (rules, arith) in
-    Batch-end _ _ c.args.position _ _ _ _ _ c.images.more _ _ _ c.images.invariant.within few c.images.invariant.shown c.images.invariant.so_far (rw c.in-None.is at c.in_ok-found.ensures.next)
+    Batch-end _ _ c.args.position (c.args.position + c.len-in-images.result + 1) _ _ _ _ c.images.more _ _ _ c.images.invariant.within few c.images.invariant.shown c.images.invariant.so_far (rw c.in-None.is at c.in_ok-found.ensures.next)
 
 pub returns-clause-ok : goal.returns-clause-ok
 returns-clause-ok g c =
