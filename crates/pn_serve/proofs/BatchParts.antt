@@ -95,6 +95,26 @@ parts_in d batch is =
 pub parts_found : (d : Data) → IsOk (batch_in d) → IsOfParts d
 parts_found d found = let batch = is_there (batch_in d) found in parts_in d batch.0 batch.1
 
+-- the images of a batch that were read are those of the parts
+images_found : (d : Data) (found : IsOk (batch_in d)) (images : List Image) → each_in image_in (items_at (get (codes "images") d)) ≡ Ok images → (parts_found d found).images ≡ images
+images_found d found images is = let read = (parts_found d found).read in cc (read, is)
+
+-- so that they have positions
+pub positions_found : (d : Data) → IsOk (batch_in d) → (first : ℕ) (images : List Image) → first ≡ number_at (get (codes "first") d) → each_in image_in (items_at (get (codes "images") d)) ≡ Ok images
+    → IsTrue (are_positions first (length images))
+positions_found d found first images at is =
+    let parts = parts_found d found in
+    ap (λ n. are_positions n (length images)) at ∙ ap (λ (l : List Image). are_positions (number_at (get (codes "first") d)) (length l)) (sym (images_found d found images is)) ∙ parts.positions
+
+-- and what is put together of the parts is the batch
+pub batch_found : (d : Data) → IsOk (batch_in d) → (batch : DeliveryValue) → batch.stream ≡ text_at (get (codes "stream") d) → batch.first ≡ number_at (get (codes "first") d)
+    → each_in image_in (items_at (get (codes "images") d)) ≡ Ok batch.images → batch_in d ≡ Ok batch
+batch_found d found batch named at is =
+    let parts = parts_found d found in
+    let same = images_found d found batch.images is in
+    let whole : ◌≡◌ {A = DeliveryValue} (record { stream = text_at (get (codes "stream") d); first = number_at (get (codes "first") d); images = parts.images }) batch = rw (sym named, sym at, same) refl in
+    parts.batch ∙ ap Ok whole
+
 batch_whole : (d : Data) (batch : DeliveryValue) → batch_shape d ≡ Ok batch → batch_fits batch ≡ Ok tt → batch_in d ≡ Ok batch
 batch_whole d batch shape fit = rw (shape, fit) refl
 
