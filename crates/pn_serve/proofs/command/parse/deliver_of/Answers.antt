@@ -1,5 +1,5 @@
 -- What is moved out of a line that was checked are its batches.
-use Rattle.std.proofs.Common.{◌≡◌, codes, Ok, refl, sym, ap, ◌∙◌, rules}
+use Rattle.std.proofs.Common.{◌≡◌, codes, Ok, refl, ap, ◌∙◌, rules}
 use Rattle.serde_json.specs.Find.{get}
 use Rattle.serde_json.specs.View.{view, items_view}
 use Rattle.pn_json.specs.Members.{each_in}
