@@ -58,6 +58,12 @@ text_found o e text is = ap (λ found. unwrap_or found []) (ok_or_ok (option_and
 made : (batch : DeliveryValue) (stream : List ℕ) (first : ℕ) → stream ≡ batch.stream → first ≡ batch.first → batch ≡ record { stream = stream; first = first; images = batch.images }
 made batch stream first named at = rw (named, at) refl
 
+members_same : (stream : List ℕ) (first : ℕ) (images : List Image) (batch : DeliveryValue) → ◌≡◌ {A = Result DeliveryValue Refusal} (Ok (record { stream = stream; first = first; images = images })) (Ok batch)
+    → (stream ≡ batch.stream) × (first ≡ batch.first) × (images ≡ batch.images)
+members_same stream first images batch is =
+    let same : ◌≡◌ {A = DeliveryValue} (record { stream = stream; first = first; images = images }) batch = cc is in
+    (ap (λ (b : DeliveryValue). b.stream) same, ap (λ (b : DeliveryValue). b.first) same, ap (λ (b : DeliveryValue). b.images) same)
+
 batch_parts : (d : Data) (batch : DeliveryValue) → batch_shape d ≡ Ok batch → batch_fits batch ≡ Ok tt → batch_in d ≡ Ok batch → IsOfParts d
 unfolding batch_shape batch_fits
 batch_parts d batch shape fit is =
@@ -67,13 +73,13 @@ batch_parts d batch shape fit is =
     let images = bind_ok (each_in image_shape items.0) _ batch items.2 in
     let stream = bind_ok (member_as as_str (BadShape Stream) (get (codes "stream") d)) _ batch images.2 in
     let named = bind_ok (named_alone (codes "first" ∷ codes "images" ∷ codes "stream" ∷ []) members.0) _ batch stream.2 in
-    let same : ◌≡◌ {A = DeliveryValue} (record { stream = stream.0; first = first.0; images = images.0 }) batch = cc named.2 in
-    let at_first : number_at (get (codes "first") d) ≡ batch.first = number_found _ (BadShape First) first.0 first.1 ∙ ap (λ (b : DeliveryValue). b.first) same in
-    let at_stream : text_at (get (codes "stream") d) ≡ batch.stream = text_found _ (BadShape Stream) stream.0 stream.1 ∙ ap (λ (b : DeliveryValue). b.stream) same in
+    let same = members_same stream.0 first.0 images.0 batch named.2 in
+    let at_first : number_at (get (codes "first") d) ≡ batch.first = number_found _ (BadShape First) first.0 first.1 ∙ same.1 in
+    let at_stream : text_at (get (codes "stream") d) ≡ batch.stream = text_found _ (BadShape Stream) stream.0 stream.1 ∙ same.0 in
     let array = items_found _ (BadShape Images) items.0 items.1 in
     let positions = both_fit (fits First (are_positions batch.first (length batch.images))) _ fit in
     let each = both_fit (each_fits image_fits batch.images) _ positions.1 in
-    let shapes : each_in image_shape items.0 ≡ Ok batch.images = images.1 ∙ ap (λ (b : DeliveryValue). Ok b.images) same in
+    let shapes : each_in image_shape items.0 ≡ Ok batch.images = images.1 ∙ ap Ok same.2 in
     let placed : are_positions batch.first (length batch.images) ≡ true = (guard_ok _ tt tt (OutOfRange First) positions.0).0 in
     let written : is_name batch.stream ≡ true = (guard_ok _ tt tt (OutOfRange Stream) each.1).0 in
     record {
@@ -94,6 +100,26 @@ parts_in d batch is =
 -- a value that is a batch is that of its parts
 pub parts_found : (d : Data) → IsOk (batch_in d) → IsOfParts d
 parts_found d found = let batch = is_there (batch_in d) found in parts_in d batch.0 batch.1
+
+-- the images of a batch that were read are those of the parts
+images_found : (d : Data) (found : IsOk (batch_in d)) (images : List Image) → each_in image_in (items_at (get (codes "images") d)) ≡ Ok images → (parts_found d found).images ≡ images
+images_found d found images is = let read = (parts_found d found).read in cc (read, is)
+
+-- so that they have positions
+pub positions_found : (d : Data) → IsOk (batch_in d) → (first : ℕ) (images : List Image) → first ≡ number_at (get (codes "first") d) → each_in image_in (items_at (get (codes "images") d)) ≡ Ok images
+    → IsTrue (are_positions first (length images))
+positions_found d found first images at is =
+    let parts = parts_found d found in
+    ap (λ n. are_positions n (length images)) at ∙ ap (λ (l : List Image). are_positions (number_at (get (codes "first") d)) (length l)) (sym (images_found d found images is)) ∙ parts.positions
+
+-- and what is put together of the parts is the batch
+pub batch_found : (d : Data) → IsOk (batch_in d) → (batch : DeliveryValue) → batch.stream ≡ text_at (get (codes "stream") d) → batch.first ≡ number_at (get (codes "first") d)
+    → each_in image_in (items_at (get (codes "images") d)) ≡ Ok batch.images → batch_in d ≡ Ok batch
+batch_found d found batch named at is =
+    let parts = parts_found d found in
+    let same = images_found d found batch.images is in
+    let whole : ◌≡◌ {A = DeliveryValue} (record { stream = text_at (get (codes "stream") d); first = number_at (get (codes "first") d); images = parts.images }) batch = rw (sym named, sym at, same) refl in
+    parts.batch ∙ ap Ok whole
 
 batch_whole : (d : Data) (batch : DeliveryValue) → batch_shape d ≡ Ok batch → batch_fits batch ≡ Ok tt → batch_in d ≡ Ok batch
 batch_whole d batch shape fit = rw (shape, fit) refl

@@ -1,6 +1,8 @@
 -- Going through the items of an array, of which the first fault stands.
-use Rattle.std.proofs.Common.{◌≡◌, List, ◌++◌, Result, Ok, Err, IsOk, refl, subst}
-use Rattle.serde_json.specs.Data.{Data, Items, item}
+use Rattle.std.proofs.Common.{◌≡◌, List, ◌∷◌, ◌++◌, Result, Ok, Err, IsOk, refl, ap, ◌∙◌, subst}
+use Rattle.serde_json.specs.Data.{Data}
+use Rattle.serde_json.specs.View.{view, items_view}
+use Rattle.serde_json.specs.declared.value.Value.{Value}
 use Rattle.pn_json.specs.Answers.{◌>>=◌}
 use Rattle.pn_json.specs.Members.{each_in}
 
@@ -13,5 +15,8 @@ first_ok (Ok a) next found = refl
 first_ok (Err e) next found = found
 
 -- where all have values, the first of what is left has one
-pub next_there : {A F : Type 0} (read : Data → Result A F) (all : Result (List A) F) (done : List A) (d : Data) (ds : Items) → all ≡ onto done (each_in read (item d ds)) → IsOk all → IsOk (read d)
-next_there read all done d ds is found = first_ok (read d) _ (first_ok (each_in read (item d ds)) (λ values. Ok (done ++ values)) (subst IsOk is found))
+pub next_there : {A F : Type 0} (read : Data → Result A F) (all : Result (List A) F) (done : List A) (left rest : List Value) (value : Value) → all ≡ onto done (each_in read (items_view left)) → left ≡ value ∷ rest
+    → IsOk all → IsOk (read (view value))
+next_there read all done left rest value is next found =
+    let here = is ∙ ap (λ values. onto done (each_in read (items_view values))) next in
+    first_ok (read (view value)) _ (first_ok (each_in read (items_view (value ∷ rest))) (λ values. Ok (done ++ values)) (subst IsOk here found))

@@ -57,7 +57,10 @@ fn text_of<'v>(value: Option<&'v Value>) -> &'v str
 pub(crate) fn items_at(alloc: Global, value: Option<Value>) -> Vec<Value>
     ensures { items_view result.items ≡ items_there (option_map view value) }
 {
-    match value.and_then(items_from) {
+    let Some(value) = value else {
+        return Vec::new(alloc);
+    };
+    match items_from(value) {
         Some(items) => items,
         None => Vec::new(alloc),
     }
