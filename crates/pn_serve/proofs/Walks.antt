@@ -1,8 +1,7 @@
 -- Going through the items of an array, of which the first fault stands.
 use Rattle.std.proofs.Common.{List, ◌++◌, Result, Ok}
 use Rattle.pn_json.specs.Answers.{◌>>=◌}
-use Rattle.pn_serve.specs.declared.refusal.Refusal.{Refusal}
 
 -- the values so far, before those of what is left
-abbrev pub onto : {A : Type 0} → List A → Result (List A) Refusal → Result (List A) Refusal
+abbrev pub onto : {A F : Type 0} → List A → Result (List A) F → Result (List A) F
 onto done rest = rest >>= λ values. Ok (done ++ values)
