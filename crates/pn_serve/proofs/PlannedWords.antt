@@ -1,11 +1,16 @@
 -- What `clap` takes has a command, and what a command says is a plan or a fault of its options.
-use Rattle.std.proofs.Common.{◌≡◌, ℕ, Bool, true, false, cond, List, [], ◌∷◌, Option, Some, None, Result, Ok, Err, String, refl, ap, subst, is_some}
+use Rattle.std.proofs.Common.{◌≡◌, ◌⊎◌, inl, inr, ℕ, Bool, true, false, cond, List, [], ◌∷◌, Option, Some, None, Result, Ok, Err, String, refl, ap, subst, is_some}
 use Rattle.std.specs.Prelude.{IfErr, IsSome}
 use Rattle.std.specs.Option.{ok_or}
 use Rattle.std.specs.declared.alloc.Global.{Global}
 use Rattle.clap.specs.Kinds.{Kinds, or_else}
 use Rattle.clap.specs.Faults.{check_fault, fault_of}
-use Rattle.clap.specs.Simple.{built, subcommand_of}
+use Rattle.clap.specs.Kinds.{IsAmong}
+use Rattle.clap.specs.Faults.{is_simple_and_free}
+use Rattle.clap.specs.Simple.{App, HasMatchesOf, built, subcommand_of, subcommand_rows_of}
+use Rattle.clap.specs.declared.error.kind.ErrorKind.{ErrorKind}
+use Rattle.clap.specs.declared.error.kind.ErrorKind.TheVariants as error
+use Rattle.clap.specs.declared.parser.matches.ArgMatches.{ArgMatches}
 use Rattle.clap.specs.Walk.{Row, Text}
 use Rattle.serde_json.specs.Data.{Data, Items, no_items, item}
 use Rattle.serde_json.specs.Find.{as_array, as_str}
@@ -18,7 +23,7 @@ use Rattle.pn_tablet.specs.Layouts.{Bounds, layout_of}
 use Rattle.pn_tablet.specs.declared.layout.LayoutFault.{LayoutFault}
 use Rattle.pn_serve.specs.Words.Bounds.{bounds_in, key_in, or_bounds}
 use Rattle.pn_serve.specs.Words.Options.{program}
-use Rattle.pn_serve.specs.Words.Plans.{PlanValue, Plans, help, plan_in, plan_value, replay_in, serve_in, settings_in}
+use Rattle.pn_serve.specs.Words.Plans.{Answers, PlanValue, Plans, help, plan_in, plan_value, replay_in, serve_in, settings_in}
 use Rattle.pn_serve.specs.Words.Streams.{each_stream, is_stream, names_differ, stream_in, streams_in}
 use Rattle.pn_serve.specs.declared.words.plans.Plan.{Plan}
 use Rattle.pn_serve.specs.declared.words.plans.Plan.TheVariants as plan
@@ -37,6 +42,40 @@ checked rows None e = absurd (cc)
 
 pub has_command : (words : List Text) → fault_of program words ≡ [] → IsSome (subcommand_of program words)
 has_command words e = checked _ (subcommand_of program words) (last_kinds _ _ (last_kinds _ _ (last_kinds _ _ (last_kinds _ _ e))))
+
+some_of : {A : Type 0} (o : Option A) → IsSome o → (a : A) × (o ≡ Some a)
+some_of None is = absurd is
+some_of (Some a) is = (a, refl)
+
+pub met : (words : List Text) → fault_of program words ≡ [] → (command : Text × List Row) × (subcommand_of program words ≡ Some command)
+met words e = some_of _ (has_command words e)
+
+-- what `clap` found, by the definitions of the program
+pub matched : (app : App) (words : List Text) (m : ArgMatches) → app ≡ program → (is_simple_and_free app ≡ true → fault_of app words ≡ [])
+    → HasMatchesOf app words m → (fault_of program words ≡ []) × (subcommand_rows_of m ≡ subcommand_of program words)
+matched app words m is taken has = (
+  subst (λ (a : App). is_simple_and_free a ≡ true → fault_of a words ≡ []) is taken refl,
+  (subst (λ (a : App). HasMatchesOf a words m) is has refl).1,
+)
+
+-- and why it found nothing
+pub has_kind : (app : App) (words : List Text) (kind : ErrorKind) → app ≡ program
+    → (is_simple_and_free app ≡ true → (kind ≡ error.OutOfMemory) ⊎ IsAmong kind (fault_of app words))
+    → (kind ≡ error.OutOfMemory) ⊎ IsAmong kind (fault_of program words)
+has_kind app words kind is has =
+    subst (λ (a : App). is_simple_and_free a ≡ true → (kind ≡ error.OutOfMemory) ⊎ IsAmong kind (fault_of a words)) is has refl
+
+pub answered : (words : List Text) (kind : ErrorKind) → (kind ≡ error.OutOfMemory) ⊎ IsAmong kind (fault_of program words)
+    → (result : Result Plan PlanFault) → Answers kind result → Plans words result
+answered words kind (inl memory) (Ok (plan.Help text)) is = absurd (cc)
+answered words kind (inr among) (Ok (plan.Help text)) is = subst (λ (k : ErrorKind). IsAmong k (fault_of program words)) is among
+answered words kind has (Ok (plan.Replay settings)) is = absurd is
+answered words kind has (Ok (plan.Serve settings sessions port streams)) is = absurd is
+answered words kind (inl memory) (Err (fault.Words text)) is = absurd (is.1 memory)
+answered words kind (inr among) (Err (fault.Words text)) is = record { kind = kind; among = among; other = is.0 }
+answered words kind has (Err fault.Bounds) is = absurd is
+answered words kind has (Err fault.Stream) is = absurd is
+answered words kind has (Err fault.Memory) is = tt
 
 -- ---- the fault of an option says no words
 

@@ -3,6 +3,7 @@
 
 mod command;
 mod laws;
+mod lists;
 mod machine;
 mod refusal;
 mod reply;

@@ -11,7 +11,7 @@ pub(crate) mod plans;
 mod streams;
 
 use crate::words::bounds::layout_of;
-use crate::words::options::{command, number_of};
+use crate::words::options::{command, number_of, text_of, words_of};
 use crate::words::streams::streams_of;
 use crate::{Plan, PlanFault, Settings};
 use clap::error::ErrorKind;
@@ -43,9 +43,15 @@ fn plan_of(alloc: Global, matches: &ArgMatches<'_>) -> Result<Plan, PlanFault>
     requires { IsSome (subcommand_rows_of matches.now) }
     ensures { (found : _) → subcommand_rows_of matches.now ≡ Some found → ShowsUnless PlanFault.Memory plan_value result (plan_in found) }
 {
-    let Some((name, options)) = matches.subcommand() else {
-        unreachable!()
-    };
+    match matches.subcommand() {
+        Some((name, options)) => command_plan(alloc, name, options),
+        None => unreachable!(),
+    }
+}
+
+fn command_plan(alloc: Global, name: &str, options: &ArgMatches<'_>) -> Result<Plan, PlanFault>
+    ensures { ShowsUnless PlanFault.Memory plan_value result (plan_in (name.now, rows_of (found_of options.now))) }
+{
     if name == "serve" {
         serve_of(alloc, options)
     } else {
@@ -57,7 +63,7 @@ fn serve_of(alloc: Global, options: &ArgMatches<'_>) -> Result<Plan, PlanFault>
     ensures { ShowsUnless PlanFault.Memory plan_value result (serve_in (rows_of (found_of options.now))) }
 {
     let settings = settings_of(alloc, options)?;
-    let streams = streams_of(alloc, options.get_raw("streams").unwrap_or_default())?;
+    let streams = streams_of(alloc, words_of(options, "streams"))?;
     Ok(Plan::Serve {
         settings,
         sessions: usize::from(number_of(options, "sessions", 16)),
@@ -75,7 +81,7 @@ fn replay_of(alloc: Global, options: &ArgMatches<'_>) -> Result<Plan, PlanFault>
 fn settings_of(alloc: Global, options: &ArgMatches<'_>) -> Result<Settings, PlanFault>
     ensures { IsUnless PlanFault.Memory result (settings_in (rows_of (found_of options.now))) }
 {
-    let layout = layout_of(alloc, options.get_str("bounds").unwrap_or_default())?;
+    let layout = layout_of(alloc, text_of(options, "bounds"))?;
     let workers = usize::from(number_of(options, "workers", 16));
     match Settings::new(layout, workers) {
         Some(settings) => Ok(settings),

@@ -1,14 +1,14 @@
 //! The shapes of a line's parts, looked at in the parsed value.
 
-ghost use Rattle.std.specs.Prelude.{◌≡◌, [], ◌∷◌, ◌++◌, IfOk, OnOk, IsErrOf};
+ghost use Rattle.std.specs.Prelude.{◌≡◌, IsErrOf};
 ghost use Rattle.serde_json.specs.View.{view, items_view, members_view};
 ghost use Rattle.pn_json.specs.Answers.{Shows, ShowsUnless, IsUnless};
 ghost use Rattle.pn_json.specs.Members.{seen, texts, each_in};
 ghost use Rattle.pn_serve.specs.Command.ShapeChecks.{named_alone, image_shape, batch_shape, key_shape, required_in, version_shape};
 
 use crate::command::batch::BatchShape;
+use crate::lists::{push, room};
 use crate::{Part, Refusal};
-use pn_join::NoMemory;
 use pn_json::{check_names, items_of, text_of, whole_number_of};
 use pn_record::{Shape, numbers_of, shape_of};
 use serde_json::{Map, Value};
@@ -20,20 +20,6 @@ pub(crate) fn check_members(members: &Map<String, Value>, names: &[&str]) -> Res
     ensures memory { IsErrOf result Refusal.Memory → ⊥ }
 {
     check_names(members, names, Refusal::BadShape(Part::Other))
-}
-
-// An empty vector with room for this many.
-fn room<T: Drop>(alloc: Global, count: usize) -> Result<Vec<T>, NoMemory>
-    ensures { IfOk result (λ items. items.items ≡ []) }
-{
-    Ok(Vec::with_capacity(alloc, count)?)
-}
-
-fn push<T: Drop>(items: &mut Vec<T>, item: T) -> Result<(), NoMemory>
-    ensures { OnOk result (items.new.items ≡ items.old.items ++ item ∷ []) }
-{
-    items.push(item)?;
-    Ok(())
 }
 
 fn image_of(value: &Value) -> Result<Shape<'_>, Refusal>

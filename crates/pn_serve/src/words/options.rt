@@ -1,11 +1,14 @@
 //! The commands of the program, and the options of each, for `clap`.
 
-ghost use Rattle.std.specs.Prelude.{◌≡◌, ◌≤◌, false, IfOk};
-ghost use Rattle.clap.specs.Words.{app_of, found_of, rows_of, rule_of};
-ghost use Rattle.clap.specs.declared.builder.Command.TheViews.{out-Command};
+ghost use Rattle.std.specs.Prelude.{◌≡◌, ◌≤◌, [], false, unwrap_or, IfOk, pos};
+ghost use Rattle.clap.specs.Words.{all_of, app_of, first_of, found_of, rows_of, rule_of};
+ghost use Rattle.clap.specs.declared.builder.command.Command.TheViews.{out-Command};
+ghost use Rattle.clap.specs.declared.builder.value_parser.ValueParser.TheVariants as values;
+ghost use Rattle.pn_json.specs.Members.{texts};
 ghost use Rattle.pn_serve.specs.Words.Options.{bounds_option, port_option, program, replay as replay_app, serve as serve_app, sessions_option, streams_words, workers_option};
 ghost use Rattle.pn_serve.specs.Words.Plans.{number_at};
 
+use clap::builder::ValueParser;
 use clap::{Arg, ArgAction, ArgMatches, Command, value_parser};
 use std::alloc::{AllocError, Global};
 
@@ -66,7 +69,7 @@ fn workers<'w>(alloc: Global) -> Arg<'w>
         .long("workers")
         .value_name("N")
         .default_value("1")
-        .value_parser(value_parser!(u16).range(1..=16))
+        .value_parser(one_to_16())
         .help("How many threads work a round: 1 to 16")
 }
 
@@ -78,7 +81,7 @@ fn sessions<'w>(alloc: Global) -> Arg<'w>
         .long("sessions")
         .value_name("N")
         .default_value("4")
-        .value_parser(value_parser!(u16).range(1..=16))
+        .value_parser(one_to_16())
         .help("How many sessions are served: 1 to 16")
 }
 
@@ -90,7 +93,7 @@ fn port<'w>(alloc: Global) -> Arg<'w>
         .long("port")
         .value_name("P")
         .default_value("7070")
-        .value_parser(value_parser!(u16).range(1..=65_535))
+        .value_parser(one_to_65_535())
         .help("The port that is listened on")
 }
 
@@ -105,10 +108,42 @@ fn streams<'w>(alloc: Global) -> Arg<'w>
         .help("A stream's name and the file of its messages, for 1 to 16 streams")
 }
 
+fn one_to_16<'w>() -> ValueParser<'w>
+    ensures { result ≡ values.Signed (pos 1) (pos 16) }
+{
+    value_parser!(u16).range(1..=16)
+}
+
+fn one_to_65_535<'w>() -> ValueParser<'w>
+    ensures { result ≡ values.Signed (pos 1) (pos 65535) }
+{
+    value_parser!(u16).range(1..=65_535)
+}
+
 /// The number of an option, from 1 to the most that `clap` lets through.
 pub(crate) fn number_of(options: &ArgMatches<'_>, name: &str, most: u16) -> u16
     requires { 1 ≤ most }
     ensures { result ≡ number_at name.now most (rows_of (found_of options.now)) }
 {
     options.get_one::<u16>(name).unwrap_or(1).clamp(1, most)
+}
+
+/// The text of an option; it is empty where there is none.
+pub(crate) fn text_of<'w>(options: &ArgMatches<'w>, name: &str) -> &'w str
+    ensures { result.now ≡ unwrap_or (first_of name.now (rows_of (found_of options.now))) [] }
+{
+    match options.get_str(name) {
+        Some(text) => text,
+        None => "",
+    }
+}
+
+/// The words that go by a name.
+pub(crate) fn words_of<'m, 'w>(options: &'m ArgMatches<'w>, name: &str) -> &'m [&'w str]
+    ensures { texts result.now ≡ unwrap_or (all_of name.now (rows_of (found_of options.now))) [] }
+{
+    match options.get_raw(name) {
+        Some(words) => words,
+        None => &[],
+    }
 }
