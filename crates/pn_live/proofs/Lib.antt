@@ -11,4 +11,5 @@ pub mod Knowing
 pub mod Learning
 pub mod Opening
 pub mod Closing
+pub mod Rounds
 pub mod WindowLaws
