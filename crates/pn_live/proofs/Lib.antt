@@ -12,4 +12,5 @@ pub mod Learning
 pub mod Opening
 pub mod Closing
 pub mod Rounds
+pub mod Taken
 pub mod WindowLaws

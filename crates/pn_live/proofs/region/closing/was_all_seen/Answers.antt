@@ -32,7 +32,7 @@ loop-reader-preserved c =
     }
 
 pub returns : goal.returns
-returns c yes =
+returns c every =
     let at = c.loop-reader in
     let none = c.in-None.ensures.steps in
     let items = into_iter_items at.reader-iterator in

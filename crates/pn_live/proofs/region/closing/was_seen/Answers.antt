@@ -6,7 +6,7 @@ use Rattle.pn_live.proofs.Walks.{nothing_left}
 use Rattle.pn_live.proofs.region.closing.was_seen.Goals as goal
 
 pub returns : goal.returns
-returns c yes =
+returns c every =
     let at = c.loop-window in
     let none = c.in-None.ensures.steps in
     let items = into_iter_items at.window-iterator in

@@ -7,7 +7,7 @@ use Rattle.pn_apply.proofs.ReduceLaws.{joins_have_positions}
 use Rattle.pn_live.specs.LiveRegions.{LiveRegionValue}
 use Rattle.pn_live.specs.Places.{state_at}
 use Rattle.pn_live.proofs.Rounds.{fit_live}
-use Rattle.pn_live.proofs.region.rounds.LiveRegion.prepared.Goals as goal
+use Rattle.pn_live.proofs.region.LiveRegion.prepared.Goals as goal
 
 pub planned-plan-requires-clause-joins : goal.planned-plan-requires-clause-joins
 planned-plan-requires-clause-joins g c =
