@@ -71,9 +71,13 @@ impl LiveRegion {
     {
         match self.take(rt, deliveries, workers, gate) {
             Ok(taken) => {
-                self.log.add(taken.lists);
-                let changed = taken.changed;
-                Ok((Round { changed }, taken.front))
+                let Taken {
+                    lists,
+                    changed,
+                    front,
+                } = taken;
+                self.log.add(lists);
+                Ok((Round { changed }, front))
             }
             Err(RoundFault::Memory) => {
                 self.log.cut();
@@ -105,13 +109,24 @@ impl LiveRegion {
         ensures same { tablets_in self.new ≡ tablets_in self.old }
     {
         let ready = self.prepared(rt, deliveries, workers, gate)?;
+        let Ready {
+            marks,
+            operations,
+            plan,
+        } = ready;
+        let Plan {
+            nexts,
+            lists,
+            changed,
+            notes,
+        } = plan;
         let places = self.places.as_mut_slice();
-        publish_all(rt, places, ready.plan.nexts, &ready.operations)?;
-        self.marks = ready.marks;
-        let front = front_of(ready.plan.notes, &self.places);
+        publish_all(rt, places, nexts, &operations)?;
+        self.marks = marks;
+        let front = front_of(notes, &self.places);
         Ok(Taken {
-            lists: ready.plan.lists,
-            changed: ready.plan.changed,
+            lists,
+            changed,
             front,
         })
     }

@@ -24,7 +24,7 @@ publish_all-requires-clause-count g c =
     let ready = c.in_ok-ready.ready in
     let here : c.as_mut_slice-places.result.now ≡ was.places = c.as_mut_slice-places.ensures.value ∙ ap (λ (l : LiveRegionValue). l.places) c.self.view_is in
     let ops = c.deref.ensures.value in
-    ap length ops ∙ (count_live was c.args.deliveries.items c.in_ok-ready.ensures.is_region ready.marks ready.operations.items c.in_ok-ready.ensures.operations ∙ ap length (sym here))
+    ap length ops ∙ (count_live was c.args.deliveries.items c.in_ok-ready.ensures.is_region ready.marks operations.items c.in_ok-ready.ensures.operations ∙ ap length (sym here))
 
 pub publish_all-requires-clause-nexts : goal.publish_all-requires-clause-nexts
 publish_all-requires-clause-nexts g c =
