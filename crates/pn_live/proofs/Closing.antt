@@ -4,12 +4,14 @@ use Rattle.std.specs.List.{AllByRecursion}
 use Rattle.logbook.specs.Pages.{Book}
 use Rattle.pn_join.specs.Marks.{Positions}
 use Rattle.pn_tablet.specs.Ranges.{Ends}
-use Rattle.pn_tablet.specs.Tablets.{TabletStateValue}
+use Rattle.pn_tablet.specs.Tablets.{TabletStateValue, empty_tablet}
+use Rattle.pn_apply.specs.Reducing.{ranges}
 use Rattle.pn_region.specs.Regions.{AreTabletsOf, ArePartsOf}
 use Rattle.pn_live.specs.LiveRegions.{LiveRegionValue, IsReaderIn}
-use Rattle.pn_live.specs.Places.{PlaceValue}
-use Rattle.pn_live.specs.Readers.{LiveReaderValue, Tablets}
+use Rattle.pn_live.specs.Places.{PlaceValue, state_at}
+use Rattle.pn_live.specs.Readers.{LiveReaderValue, Tablets, AreWindowsOf, ReadsFrom}
 use Rattle.pn_live.specs.Windows.{WindowValue, IsOfPlace, AreOfPlaces, IsBehind, AreBehind}
+use Rattle.pn_live.proofs.ListLaws.{range_kept}
 
 pub of_within : (places : List PlaceValue) (n : ℕ) (w : WindowValue) (rest : List WindowValue) → AreOfPlaces (drop n places) (w ∷ rest) → n < length places
 of_within [] zero w rest of = absurd of
@@ -62,3 +64,19 @@ parts_of_tablets marks [] [] are = tt
 parts_of_tablets marks [] (t ∷ ts) are = absurd are
 parts_of_tablets marks (r ∷ rs) [] are = absurd are
 parts_of_tablets marks (r ∷ rs) (t ∷ ts) are = (record { range = are.0.range; covered = are.0.covered }, parts_of_tablets marks rs ts are.1)
+
+pub windows_of_places : (places : List PlaceValue) (reader : LiveReaderValue) → ReadsFrom places reader → AreWindowsOf reader.layout reader.windows → AreOfPlaces places reader.windows
+windows_of_places places reader reads own = of_places places reader.windows reads.books (own ∙ reads.ends)
+
+-- readers of a live region read its tablets
+pub all_read : (live : LiveRegionValue) (readers : List LiveReaderValue) → map (λ (p : PlaceValue). p.range) live.places ≡ ranges live.layout → AllByRecursion (IsReaderIn live) readers
+    → AllByRecursion (ReadsFrom live.places) readers
+all_read live [] own all = tt
+all_read live (reader ∷ readers) own all = (
+  record { books = ap (λ (t : Tablets). t.books) all.0; ends = ap (λ (t : Tablets). ranges t.layout) all.0 ∙ sym own },
+  all_read live readers own all.1,
+)
+
+pub ranges_of_places : (places : List PlaceValue) → map (λ (t : TabletStateValue). t.range) (map state_at places) ≡ map (λ (p : PlaceValue). p.range) places
+ranges_of_places [] = refl
+ranges_of_places (p ∷ places) = λ i. range_kept (empty_tablet p.range) p.list i ∷ ranges_of_places places i

@@ -9,7 +9,7 @@ use Rattle.pn_tablet.specs.declared.op.TabletOp.{TabletOp}
 use Rattle.pn_scan.specs.Candidates.{Look}
 use Rattle.pn_live.specs.Laws.{AllKnowMore}
 use Rattle.pn_live.specs.Places.{NoteValue}
-use Rattle.pn_live.specs.Readers.{LiveReaderValue, LooksLive}
+use Rattle.pn_live.specs.Readers.{LiveReaderValue, LooksLive, tablets_of}
 use Rattle.pn_live.specs.Windows.{WindowValue, Sees, Finds, Learns, AllLearn, KnowsMore}
 use Rattle.pn_live.proofs.Prefixes.{begins_itself, begins_on}
 
@@ -93,3 +93,12 @@ ends_known [] [] more = refl
 ends_known [] (new ∷ news) more = absurd more
 ends_known (old ∷ olds) [] more = absurd more
 ends_known (old ∷ olds) (new ∷ news) more = let here = more.0.range in let rest = ends_known olds news more.1 in cc (here, rest)
+
+-- the reader reads the same tablets
+pub looks_same : (old new : LiveReaderValue) (look : Look) → LooksLive old look new → tablets_of new ≡ tablets_of old
+looks_same old new look looked =
+    λ i. record { layout = ap (λ (r : LiveReaderValue). r.layout) looked.4 i; books = books_known old.windows new.windows (looks_know old new look looked) i }
+
+pub learns_same : (old new : LiveReaderValue) (front : List NoteValue) → new.layout ≡ old.layout → AllLearn old.windows front new.windows → tablets_of new ≡ tablets_of old
+learns_same old new front layout learn =
+    λ i. record { layout = layout i; books = books_known old.windows new.windows (learning_all_knows old.windows new.windows front learn) i }

@@ -9,6 +9,9 @@ pub mod Walks
 pub mod Appending
 pub mod Knowing
 pub mod Learning
+pub mod Entering
 pub mod Opening
 pub mod Closing
+pub mod Rounds
+pub mod Taken
 pub mod WindowLaws

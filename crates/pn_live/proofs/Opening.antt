@@ -9,7 +9,7 @@ use Rattle.pn_tablet.specs.Layouts.{Bounds, IsLayout, tablet_ends}
 use Rattle.pn_tablet.specs.Ranges.{Ends}
 use Rattle.pn_tablet.specs.Tablets.{TabletStateValue, empty_tablet}
 use Rattle.pn_apply.specs.Reducing.{ranges}
-use Rattle.pn_region.specs.Regions.{IsLawfulRegion}
+use Rattle.pn_region.specs.Regions.{AreRegionMarks, IsLawfulRegion}
 use Rattle.pn_region.proofs.NewRegion.{new_is}
 use Rattle.pn_live.specs.LiveRegions.{LiveRegionValue, core, tablets_in}
 use Rattle.pn_live.specs.Places.{PlaceValue, IsNewPlace, AreNewPlaces, state_at}
@@ -47,7 +47,7 @@ new_states (r ∷ rs) (p ∷ ps) new = λ i. new_state r p new.0 i ∷ new_state
 pub new_lawful : (live : LiveRegionValue) → IsLayout live.layout → AreNewPlaces (ranges live.layout) live.places → live.marks ≡ [] → IsLawfulRegion (core live)
 new_lawful live lawful new none = record {
   is_region = new_is live.layout (map state_at live.places) live.marks lawful (new_states (ranges live.layout) live.places new) none;
-  are_marks = record { few = omega (arith, ap length none); positions = rw none refl };
+  are_marks = subst AreRegionMarks (sym none) (record { few = omega arith; positions = refl });
 }
 
 -- the windows of places are of their tablets and ranges

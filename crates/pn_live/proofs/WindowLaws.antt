@@ -99,8 +99,8 @@ joined_there range before more images marks kept image there lies =
     (more_held (image ∷ []) ((first.0 ++ own) ++ rest.0) image.key among)))
   where
     only_one : (image one : Image) → Contains (image ∷ []) one → image ≡ one
-    only_one image one (zero, (within, is)) = is
-    only_one image one (suc n, (within, is)) = absurd (omega (arith, within))
+    only_one image one (zero, within, is) = is
+    only_one image one (suc n, within, is) = absurd (omega (arith, within))
 
 pub not_missed : (place : PlaceValue) (marks : Positions) (images : List Image) (window learnt later last : WindowValue) (now : TabletStateValue)
     → window.range ≡ place.range → Learns window (note_of (appended place (join_in marks images place.range))) learnt

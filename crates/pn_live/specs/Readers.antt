@@ -31,6 +31,11 @@ AreNotesOf tablets notes = map (λ note. note.book) notes ≡ tablets.books
 abbrev pub IsFrontFor : LiveReaderValue → List NoteValue → Type 0
 IsFrontFor reader front = AreNotesOf (tablets_of reader) front
 
+-- the reader reads these live tablets
+pub record ReadsFrom (places : List PlaceValue) (reader : LiveReaderValue) : Type 0 where
+  pub books : map (λ window. window.book) reader.windows ≡ map (λ place. place.book) places
+  pub ends : ranges reader.layout ≡ map (λ place. place.range) places
+
 -- there is a window for each range, in their order
 abbrev pub AreWindowsOf : Bounds → List WindowValue → Type 0
 AreWindowsOf layout windows = map (λ window. window.range) windows ≡ ranges layout

@@ -77,7 +77,7 @@ impl LiveReader {
     pub fn read(&mut self, key: &Key, version: Option<Version>) -> Result<Option<Cell>, ScanFault>
         ensures read { (found : Option TabletStateValue) × IsRead LooksLive self.old.layout key.now version self.old self.new result
             (tablet_of self.old.layout key.now, found) }
-        ensures layout { self.new.layout ≡ self.old.layout }
+        ensures same { tablets_of self.new ≡ tablets_of self.old }
     {
         read_at_least(self, key, version)
     }

@@ -2,6 +2,7 @@
 
 ghost use Rattle.std.specs.Prelude.{◌≡◌, ◌≤◌, Option};
 ghost use Rattle.pn_tablet.specs.Tablets.{TabletStateValue};
+ghost use Rattle.pn_region.specs.Regions.{IsSound};
 ghost use Rattle.pn_scan.specs.Views.{rows_at, cell_at};
 ghost use Rattle.pn_live.specs.Looks.{IsOneLook};
 ghost use Rattle.pn_live.specs.Published.{seen_by, told_to, range_of};
@@ -12,6 +13,7 @@ use crate::seat::Seat;
 use core::mem::replace_with;
 use pn_record::{Cell, Key};
 use pn_scan::{Query, Row, ScanFault, cell_of, part_of};
+use pn_tablet::TabletState;
 use std::alloc::Global;
 use std::marker::Model;
 
@@ -76,7 +78,9 @@ impl Window {
     {
         match self.into_seat().enter() {
             Ok(visit) => {
-                let answer = cell_of(visit.state(), tablet, key);
+                let state = visit.state();
+                is_sound(state);
+                let answer = cell_of(state, tablet, key);
                 (Window::of(visit.leave()), answer)
             }
             Err(seat) => (Window::of(seat), Err(ScanFault::NoEntry)),
@@ -112,10 +116,20 @@ impl Window {
     {
         match self.into_seat().enter() {
             Ok(visit) => {
-                let answer = part_of(alloc, visit.state(), tablet, query, room);
+                let state = visit.state();
+                is_sound(state);
+                let answer = part_of(alloc, state, tablet, query, room);
                 (Window::of(visit.leave()), answer)
             }
             Err(seat) => (Window::of(seat), Err(ScanFault::NoEntry)),
         }
     }
+}
+
+// What every tablet keeps is known behind this call, which does nothing.
+fn is_sound(state: &TabletState)
+    ensures { IsSound state.now }
+{
+    let _ = state.range();
+    let _ = state.cells();
 }

@@ -4,6 +4,7 @@ ghost use Rattle.std.specs.Prelude.{◌≡◌, map, IfOk, IsTrue};
 ghost use Rattle.std.specs.List.{AllByRecursion};
 ghost use Rattle.pn_live.specs.LiveRegions.{core, IsReaderIn};
 ghost use Rattle.pn_live.specs.Places.{state_at};
+ghost use Rattle.pn_live.specs.Readers.{ReadsFrom};
 ghost use Rattle.pn_live.specs.Windows.{AreBehind, AreOfPlaces};
 
 use super::LiveRegion;
@@ -46,7 +47,7 @@ impl LiveRegion {
 
 // Whether one more entry of each reader into each tablet finds what is published.
 fn was_all_seen(places: &[Place], readers: Vec<LiveReader>) -> bool
-    requires { AllByRecursion (λ reader. AreOfPlaces places.now reader.windows) readers.items }
+    requires { AllByRecursion (ReadsFrom places.now) readers.items }
     ensures { IsTrue result → AllByRecursion (λ reader. AreBehind places.now reader.windows) readers.items }
 {
     for reader in readers {

@@ -8,6 +8,6 @@ abbrev pub invariant-loop : goal.invariant-loop
 invariant-loop l = record {
   readers : AllByRecursion (λ reader. (reader.layout ≡ l.layout) × (reader.windows ≡ map opening l.fn.places)) l.readers.items;
   same : l.places ≡ l.fn.places;
-  count : length l.readers.items ≡ l.loop;
+  count : length l.readers.items ≡ l.counter;
   room : vec_capacity l.readers ≡ l.fn.count;
 }
