@@ -142,8 +142,5 @@ pub(crate) fn text_of<'w>(options: &ArgMatches<'w>, name: &str) -> &'w str
 pub(crate) fn words_of<'m, 'w>(options: &'m ArgMatches<'w>, name: &str) -> &'m [&'w str]
     ensures { texts result.now ≡ unwrap_or (all_of name.now (rows_of (found_of options.now))) [] }
 {
-    match options.get_raw(name) {
-        Some(words) => words,
-        None => &[],
-    }
+    options.get_raw(name).unwrap_or(&[])
 }
