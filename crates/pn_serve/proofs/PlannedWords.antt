@@ -37,14 +37,14 @@ last_kinds [] next e = e
 last_kinds (kind ∷ kinds) next e = absurd (cc)
 
 checked : (rows : List Row) (command : Option (Text × List Row)) → check_fault (built program).top rows (is_some command) ≡ [] → IsSome command
-checked rows (Some command) e = tt
+checked rows (Some command) e = refl
 checked rows None e = absurd (cc)
 
 pub has_command : (words : List Text) → fault_of program words ≡ [] → IsSome (subcommand_of program words)
 has_command words e = checked _ (subcommand_of program words) (last_kinds _ _ (last_kinds _ _ (last_kinds _ _ (last_kinds _ _ e))))
 
 some_of : {A : Type 0} (o : Option A) → IsSome o → (a : A) × (o ≡ Some a)
-some_of None is = absurd is
+some_of None is = absurd (cc)
 some_of (Some a) is = (a, refl)
 
 pub met : (words : List Text) → fault_of program words ≡ [] → (command : Text × List Row) × (subcommand_of program words ≡ Some command)

@@ -21,4 +21,4 @@ no_streams = refl
 pub returns-in-None : goal.returns-in-None
 returns-in-None c =
     let none = ap (λ (o : Option (List (List ℕ))). unwrap_or o []) (c.in-None.ensures ∙ raw_values-rows (found_of c.args.options.now) (codes "streams")) in
-    ap streams_in (sym none) ∙ no_streams ∙ ap (λ (streams : List (List ℕ × String Global)). Ok (map stream_value streams)) (sym c.new.ensures)
+    ap streams_in (sym none) ∙ no_streams ∙ ap (λ (streams : List (List ℕ × String Global)). Ok (map stream_value streams)) (sym c.new.ensures.items)
