@@ -30,7 +30,9 @@ none_met None none is = absurd (cc)
 none_met (Some b) none is = absurd (cc)
 
 pub returns : goal.returns
-returns c = ?
+returns c = λ found is.
+    let command = is_command (subcommand_rows_of c.args.matches.now) found _ _ is (c.in-Some.ensures.name ∙ name_in (out-ArgMatches c.args.matches.now).subcommand) c.in-Some.ensures.rows in
+    subst (λ (command : Text × List Row). ShowsUnless fault.Memory plan_value c.command_plan.result (plan_in command)) command c.command_plan.ensures
 
 pub unreachable-requires : goal.unreachable-requires
-unreachable-requires c = ?
+unreachable-requires c = none_met (out-ArgMatches c.args.matches.now).subcommand c.in-None.ensures.variant c.requires
