@@ -4,14 +4,14 @@ use Rattle.std.specs.Prelude.{IfErr, IsSome}
 use Rattle.std.specs.Option.{ok_or}
 use Rattle.std.specs.declared.alloc.Global.{Global}
 use Rattle.clap.specs.Kinds.{Kinds, or_else}
-use Rattle.clap.specs.Faults.{check_fault, fault_of}
+use Rattle.clap.specs.Faults.{check_fault, defaults_fault, entered_fault, fault_of, settle_fault, walk_fault}
 use Rattle.clap.specs.Kinds.{IsAmong}
 use Rattle.clap.specs.Faults.{is_simple_and_free}
-use Rattle.clap.specs.Simple.{App, HasMatchesOf, built, subcommand_of, subcommand_rows_of}
+use Rattle.clap.specs.Simple.{App, HasMatchesOf, argument_words, built, names_of, subcommand_of, subcommand_rows_of}
 use Rattle.clap.specs.declared.error.kind.ErrorKind.{ErrorKind}
 use Rattle.clap.specs.declared.error.kind.ErrorKind.TheVariants as error
 use Rattle.clap.specs.declared.parser.matches.ArgMatches.{ArgMatches}
-use Rattle.clap.specs.Walk.{Row, Text}
+use Rattle.clap.specs.Walk.{Row, Text, Walk, finished, nothing_held, settled, walk, walk_from}
 use Rattle.serde_json.specs.Data.{Data, Items, no_items, item}
 use Rattle.serde_json.specs.Find.{as_array, as_str}
 use Rattle.pn_json.specs.Answers.{◌>>=◌, ShowsUnless}
@@ -37,14 +37,25 @@ last_kinds [] next e = e
 last_kinds (kind ∷ kinds) next e = absurd (cc)
 
 checked : (rows : List Row) (command : Option (Text × List Row)) → check_fault (built program).top rows (is_some command) ≡ [] → IsSome command
-checked rows (Some command) e = tt
+checked rows (Some command) e = refl
 checked rows None e = absurd (cc)
 
+-- where the walk over the words ends
+abbrev walked_over : List Text → Walk
+walked_over words = walk (built program).top.rules (names_of (built program)) nothing_held (argument_words program words)
+
 pub has_command : (words : List Text) → fault_of program words ≡ [] → IsSome (subcommand_of program words)
-has_command words e = checked _ (subcommand_of program words) (last_kinds _ _ (last_kinds _ _ (last_kinds _ _ (last_kinds _ _ e))))
+has_command words e =
+    let top = (built program).top in
+    let held = (walked_over words).held in
+    let entered = last_kinds (walk_fault top (names_of (built program)) (walk_from nothing_held) (argument_words program words)) _ e in
+    let settled_last = last_kinds (entered_fault (built program) (walked_over words).stopped) _ entered in
+    let defaults = last_kinds (settle_fault top.rules top.args_override_self held) _ settled_last in
+    let last = last_kinds (defaults_fault (settled top.rules held).rows top.rules) _ defaults in
+    checked (finished top.rules held) (subcommand_of program words) last
 
 some_of : {A : Type 0} (o : Option A) → IsSome o → (a : A) × (o ≡ Some a)
-some_of None is = absurd is
+some_of None is = absurd (cc)
 some_of (Some a) is = (a, refl)
 
 pub met : (words : List Text) → fault_of program words ≡ [] → (command : Text × List Row) × (subcommand_of program words ≡ Some command)

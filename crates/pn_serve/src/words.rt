@@ -11,8 +11,8 @@ pub(crate) mod plans;
 mod streams;
 
 use crate::words::bounds::layout_of;
-use crate::words::options::{command, number_of, text_of, words_of};
-use crate::words::streams::streams_of;
+use crate::words::options::{command, number_of, text_of};
+use crate::words::streams::named_streams;
 use crate::{Plan, PlanFault, Settings};
 use clap::error::ErrorKind;
 use clap::{ArgMatches, Error};
@@ -63,7 +63,7 @@ fn serve_of(alloc: Global, options: &ArgMatches<'_>) -> Result<Plan, PlanFault>
     ensures { ShowsUnless PlanFault.Memory plan_value result (serve_in (rows_of (found_of options.now))) }
 {
     let settings = settings_of(alloc, options)?;
-    let streams = streams_of(alloc, words_of(options, "streams"))?;
+    let streams = named_streams(alloc, options)?;
     Ok(Plan::Serve {
         settings,
         sessions: usize::from(number_of(options, "sessions", 16)),

@@ -1,8 +1,7 @@
 -- What words plan, or why they are refused.
-use Rattle.std.specs.Prelude.{◌≡◌, ◌≢◌, ℕ, if◌then◌else◌, ⊤, List, [], map, codes, Option, Some, None, unwrap_or, option_and_then, Result, Ok, Err}
+use Rattle.std.specs.Prelude.{◌≡◌, ◌≢◌, ℕ, if◌then◌else◌, ⊤, List, [], map, codes, Option, Some, None, unwrap_or, option_and_then, min, max, Result, Ok, Err}
 use Rattle.std.specs.Str.{bytes_eq}
 use Rattle.std.specs.Str.Parse.{digits_value, without_leading_plus}
-use Rattle.std.specs.Ordering.{nat_cmp, ord_clamp}
 use Rattle.clap.specs.ValueTests.{is_unsigned_in}
 use Rattle.clap.specs.Words.{IsAmong, Kinds, Row, Text, all_of, fault_of, first_of, one_of, subcommand_of}
 use Rattle.clap.specs.declared.error.kind.ErrorKind.{ErrorKind}
@@ -36,7 +35,7 @@ number_in text =
 
 -- the number of an option, from 1 to so many; that it is one of these is what `clap` sees to
 abbrev pub number_at : Text → ℕ → List Row → ℕ
-number_at name most options = ord_clamp nat_cmp (unwrap_or (option_and_then number_in (one_of name options)) 1) 1 most
+number_at name most options = max 1 (min (unwrap_or (option_and_then number_in (one_of name options)) 1) most)
 
 -- the layout and the workers that options say
 abbrev pub settings_in : List Row → Result SettingsValue PlanFault

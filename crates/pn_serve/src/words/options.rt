@@ -1,10 +1,9 @@
 //! The commands of the program, and the options of each, for `clap`.
 
 ghost use Rattle.std.specs.Prelude.{◌≡◌, ◌≤◌, [], false, unwrap_or, IfOk, pos};
-ghost use Rattle.clap.specs.Words.{all_of, app_of, first_of, found_of, rows_of, rule_of};
+ghost use Rattle.clap.specs.Words.{app_of, first_of, found_of, rows_of, rule_of};
 ghost use Rattle.clap.specs.declared.builder.command.Command.TheViews.{out-Command};
 ghost use Rattle.clap.specs.declared.builder.value_parser.ValueParser.TheVariants as values;
-ghost use Rattle.pn_json.specs.Members.{texts};
 ghost use Rattle.pn_serve.specs.Words.Options.{bounds_option, port_option, program, replay as replay_app, serve as serve_app, sessions_option, streams_words, workers_option};
 ghost use Rattle.pn_serve.specs.Words.Plans.{number_at};
 
@@ -135,15 +134,5 @@ pub(crate) fn text_of<'w>(options: &ArgMatches<'w>, name: &str) -> &'w str
     match options.get_str(name) {
         Some(text) => text,
         None => "",
-    }
-}
-
-/// The words that go by a name.
-pub(crate) fn words_of<'m, 'w>(options: &'m ArgMatches<'w>, name: &str) -> &'m [&'w str]
-    ensures { texts result.now ≡ unwrap_or (all_of name.now (rows_of (found_of options.now))) [] }
-{
-    match options.get_raw(name) {
-        Some(words) => words,
-        None => &[],
     }
 }

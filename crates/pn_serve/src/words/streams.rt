@@ -1,6 +1,7 @@
 //! The streams that the words say.
 
-ghost use Rattle.std.specs.Prelude.{◌≡◌, map};
+ghost use Rattle.std.specs.Prelude.{◌≡◌, [], codes, map, unwrap_or};
+ghost use Rattle.clap.specs.Words.{all_of, found_of, rows_of};
 ghost use Rattle.std.specs.Str.{bytes_eq};
 ghost use Rattle.pn_json.specs.Answers.{ShowsUnless};
 ghost use Rattle.pn_json.specs.Members.{texts};
@@ -8,6 +9,7 @@ ghost use Rattle.pn_serve.specs.Words.Streams.{each_stream, has_name as name_amo
 
 use crate::PlanFault;
 use crate::lists::{push, room};
+use clap::ArgMatches;
 use pn_join::Name;
 use std::alloc::Global;
 
@@ -15,8 +17,21 @@ use std::alloc::Global;
 const MOST_STREAMS: usize = 16;
 
 /// The names of streams, each once, with the paths of their files.
+pub(crate) fn named_streams(
+    alloc: Global,
+    options: &ArgMatches<'_>,
+) -> Result<Vec<(Name, String)>, PlanFault>
+    ensures { ShowsUnless PlanFault.Memory (λ streams. map stream_value streams.items) result
+        (streams_in (unwrap_or (all_of (codes "streams") (rows_of (found_of options.now))) [])) }
+{
+    match options.get_raw("streams") {
+        Some(words) => streams_of(alloc, words),
+        None => Ok(Vec::new(alloc)),
+    }
+}
+
 #[tactic(auto, unfolding(crate::specs::Words::Streams::streams_in))]
-pub(crate) fn streams_of(alloc: Global, words: &[&str]) -> Result<Vec<(Name, String)>, PlanFault>
+fn streams_of(alloc: Global, words: &[&str]) -> Result<Vec<(Name, String)>, PlanFault>
     ensures { ShowsUnless PlanFault.Memory (λ streams. map stream_value streams.items) result (streams_in (texts words.now)) }
 {
     if words.len() > MOST_STREAMS {

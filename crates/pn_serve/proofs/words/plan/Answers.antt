@@ -1,20 +1,23 @@
 -- What `clap` made of the words decides.
-use Rattle.std.proofs.Common.{sym, subst, ◌∙◌}
+use Rattle.std.proofs.Common.{List, ℕ, map, string_bytes, sym, subst, ◌∙◌}
 use Rattle.std.specs.Prelude.{IsSome}
 use Rattle.pn_serve.proofs.PlannedWords.{answered, has_command, has_kind, matched, met, planned}
 use Rattle.pn_serve.proofs.words.plan.Goals as goal
 
 pub plan_of-requires : goal.plan_of-requires
 plan_of-requires c =
-    let found = matched _ _ c.in-Ok.matches c.in_ok-command.ensures c.in-Ok.ensures.kinds c.in-Ok.ensures.matches in
-    subst IsSome (sym found.1) (has_command _ found.0)
+    let words = map string_bytes c.args.words.now in
+    let found = matched _ words c.in-Ok.matches c.in_ok-command.ensures c.in-Ok.ensures.kinds c.in-Ok.ensures.matches in
+    subst IsSome (sym found.1) (has_command words found.0)
 
 pub returns-in-Ok : goal.returns-in-Ok
 returns-in-Ok c =
-    let found = matched _ _ c.in-Ok.matches c.in_ok-command.ensures c.in-Ok.ensures.kinds c.in-Ok.ensures.matches in
-    let command = met _ found.0 in
-    planned _ found.0 command.0 command.1 c.plan_of.result (c.plan_of.ensures command.0 (found.1 ∙ command.1))
+    let words = map string_bytes c.args.words.now in
+    let found = matched _ words c.in-Ok.matches c.in_ok-command.ensures c.in-Ok.ensures.kinds c.in-Ok.ensures.matches in
+    let command = met words found.0 in
+    planned words found.0 command.0 command.1 c.plan_of.result (c.plan_of.ensures command.0 (found.1 ∙ command.1))
 
 pub returns-in-Err : goal.returns-in-Err
 returns-in-Err c =
-    answered _ _ (has_kind _ _ _ c.in_ok-command.ensures c.in-Err.ensures.kinds) c.answer_to.result c.answer_to.ensures
+    let words = map string_bytes c.args.words.now in
+    answered words _ (has_kind _ words _ c.in_ok-command.ensures c.in-Err.ensures.kinds) c.answer_to.result c.answer_to.ensures

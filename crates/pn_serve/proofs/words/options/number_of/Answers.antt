@@ -1,11 +1,10 @@
 -- The number that is read of an option, its text says.
 use Rattle.std.proofs.Common.{◌≡◌, ℕ, ◌<◌, ◌^◌, Bool, true, false, cond, List, Option, Some, None, Result, Ok, Err, refl, ap, arith, ◌∙◌}
-use Rattle.std.specs.Prelude.{option_and_then, unwrap_or}
-use Rattle.std.specs.Ordering.{nat_cmp, ord_clamp}
+use Rattle.std.specs.Prelude.{max, min, option_and_then, unwrap_or}
 use Rattle.std.specs.Str.Parse.{ParsesUnsigned, ExplainsUnsignedError, HasUnsignedDigitsIfOk, digits_value, without_leading_plus}
 use Rattle.clap.proofs.ValueTestLemmas.{Accepts-accepts, accepts-Accepts}
 use Rattle.clap.proofs.WalkLemmas.{one_text-rows}
-use Rattle.clap.specs.Matches.{ReadsOne}
+use Rattle.clap.specs.Matches.{ReadsOne, found_of}
 use Rattle.clap.specs.ValueTests.{is_unsigned_in}
 use Rattle.clap.specs.declared.builder.value_parser.ValueParser.TheVariants as values
 use Rattle.pn_serve.specs.Words.Plans.{number_in}
@@ -33,5 +32,5 @@ reads_option E G parses (Some t) r none value = reads_number E G parses t r (val
 pub returns : goal.returns
 returns c =
     let read = reads_option _ (λ bs r. ParsesUnsigned 16 10 bs r × ExplainsUnsignedError 10 bs r × HasUnsignedDigitsIfOk bs r) (λ u x g. g.0)
-    _ c.get_one.result c.get_one.ensures.none c.get_one.ensures.value ∙ ap (option_and_then number_in) (one_text-rows _ _) in
-    c.clamp.ensures ∙ ap (λ (n : ℕ). ord_clamp nat_cmp n 1 c.args.most) (c.unwrap_or.ensures ∙ ap (λ (o : Option ℕ). unwrap_or o 1) read)
+    _ c.get_one.result c.get_one.ensures.none c.get_one.ensures.value ∙ ap (option_and_then number_in) (one_text-rows (found_of c.args.options.now) c.args.name.now) in
+    c.clamp.ensures ∙ ap (λ (n : ℕ). max 1 (min n c.args.most)) (c.unwrap_or.ensures ∙ ap (λ (o : Option ℕ). unwrap_or o 1) read)
