@@ -11,7 +11,7 @@ all_entries leaves = flat_map (λ leaf. leaf) leaves
 
 -- how many entries a leaf may have
 abbrev pub most_in_leaf : ℕ
-most_in_leaf = 32
+most_in_leaf = 64
 
 -- at least one entry, and no more than a leaf may have
 abbrev pub IsLeaf : {A : Type 0} → List A → Type 0

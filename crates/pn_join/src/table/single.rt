@@ -13,10 +13,10 @@ use crate::{Dup, Join, NoMemory};
 use std::alloc::Global;
 
 /// How many entries a leaf may have.
-pub const MOST: usize = 32;
+pub const MOST: usize = 64;
 
 /// How many stay in front where a leaf is cut.
-const HALF: usize = 16;
+const HALF: usize = 32;
 
 /// The place of a key among the entries of one leaf.
 pub fn place_in<K: Ord, C>(entries: &[(K, C)], key: &K) -> Result<usize, usize>
@@ -75,7 +75,7 @@ fn join_in<K: Ord + Dup, C: Join>(
 fn cut<T>(items: &mut Vec<T>, back: &mut Vec<T>)
     requires empty { back.old.items ≡ [] }
     requires one_more { length items.old.items ≤ most_in_leaf + 1 }
-    requires room { (most_in_leaf < length items.old.items) → most_in_leaf ≤ vec_capacity back.old + 15 }
+    requires room { (most_in_leaf < length items.old.items) → most_in_leaf ≤ vec_capacity back.old + 31 }
     ensures whole { items.new.items ++ back.new.items ≡ items.old.items }
     ensures sizes { (length items.new.items ≤ most_in_leaf) × (length back.new.items ≤ most_in_leaf) }
     ensures some { (0 < length items.old.items) → 0 < length items.new.items }
@@ -145,7 +145,7 @@ pub fn cut_leaf<K: Dup, C: Dup>(
 fn halve<T>(items: &mut Vec<T>, back: &mut Vec<T>)
     requires empty { back.old.items ≡ [] }
     requires few { length items.old.items ≤ most_in_leaf + 1 }
-    requires room { length items.old.items ≤ vec_capacity back.old + 16 }
+    requires room { length items.old.items ≤ vec_capacity back.old + 32 }
     ensures whole { items.new.items ++ back.new.items ≡ items.old.items }
     ensures sizes { (length items.new.items ≤ most_in_leaf) × (length back.new.items ≤ most_in_leaf) }
     ensures some { (0 < length items.old.items) → 0 < length items.new.items }
