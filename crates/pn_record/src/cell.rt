@@ -127,6 +127,7 @@ impl Dup for Cell {
         })
     }
 
+    // (an atomic read is done also where nothing uses what it gives)
     fn prefetch(&self) {
         Arc::strong_count(&self.contents);
     }
