@@ -6,6 +6,7 @@ pub mod Fields
 pub mod Gathering
 pub mod HeldRecords
 pub mod ImageLines
+pub mod ImageParts
 pub mod ImageText
 pub mod Inverses
 pub mod LawProofs

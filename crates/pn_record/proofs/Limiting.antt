@@ -1,5 +1,5 @@
 -- The members of an image keep the limits exactly where no range is broken.
-use Rattle.std.proofs.Common.{◌≡◌, List, true, ◌&&◌, Option, Some, None, Ok, refl}
+use Rattle.std.proofs.Common.{◌≡◌, ℕ, List, true, ◌&&◌, Option, Some, None, Ok, refl}
 use Rattle.std.proofs.lemmas.Bool.{and_parts, and_from}
 use Rattle.pn_join.specs.Naming.{is_name}
 use Rattle.pn_json.proofs.Inverses.{passed}
@@ -19,6 +19,10 @@ body_from : (f : Option (List Field)) → body_fits f ≡ true → body_rises f 
 body_from None fits rise = refl
 body_from (Some fields) fits rise = and_from (fields_fit fields) (names_rise fields) fits rise
 
+-- a body that fits and whose names rise, and a master, are a content
+pub content_from : (f : Option (List Field)) (master : List ℕ) → body_fits f ≡ true → body_rises f ≡ true → is_name master ≡ true → is_content (f, master) ≡ true
+content_from f master fits rise named = and_from (is_body f) (is_name master) (body_from f fits rise) named
+
 -- an image breaks no range
 pub in_ranges : (image : Image) → is_image image ≡ true → ranges_in image ≡ Ok tt
 unfolding ranges_in
@@ -37,4 +41,4 @@ image_from_ranges image is rise =
     let key = passed (is_key image.key) _ _ tt body.1 in
     let master = passed (is_name image.content.1) _ _ tt key.1 in
     let version = passed (is_version image.version) _ _ tt master.1 in
-    and_from _ _ (and_from _ _ key.0 version.0) (and_from _ _ (body_from image.content.0 body.0 rise) master.0)
+    and_from _ _ (and_from _ _ key.0 version.0) (content_from image.content.0 image.content.1 body.0 rise master.0)

@@ -53,7 +53,7 @@ shape_in_order d image order shape =
     let whole = object_from_as_object d members.0 (ok_or_ok (as_object d) fault.Whole members.0 members.1) in
     whole ∙ shape_found members.0 image (object_rises members.0 (subst InOrder whole order)) (ap shape_in (sym whole) ∙ shape)
 
-named_ok : {A F G : Type 0} (name : F → G) (read : Result A F) (a : A) → fault_as name read ≡ Ok a → read ≡ Ok a
+pub named_ok : {A F G : Type 0} (name : F → G) (read : Result A F) (a : A) → fault_as name read ≡ Ok a → read ≡ Ok a
 named_ok name (Ok x) a is = cc
 named_ok name (Err e) a is = cc
 

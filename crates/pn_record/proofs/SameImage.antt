@@ -75,7 +75,7 @@ all_texts-fields_data : (fields : List Field) → all_texts (fields_data fields)
 all_texts-fields_data [] = refl
 all_texts-fields_data (field ∷ fields) = all_texts-fields_data fields
 
-fields_of-fields_data : (fields : List Field) → fields_of (fields_data fields) ≡ fields
+pub fields_of-fields_data : (fields : List Field) → fields_of (fields_data fields) ≡ fields
 fields_of-fields_data [] = refl
 fields_of-fields_data (field ∷ fields) = ap (λ fs. field ∷ fs) (fields_of-fields_data fields)
 

@@ -12,6 +12,7 @@ pub mod Limits
 pub mod Marks
 pub mod Older
 pub mod Order
+pub mod Parts
 pub mod Reading
 pub mod Reordered
 pub mod SameCells

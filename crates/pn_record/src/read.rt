@@ -18,7 +18,7 @@ ghost use Rattle.pn_record.specs.declared.image.Image.{Image as ImageRecord};
 use crate::content::Value as FieldValue;
 use crate::ranges::field_text;
 use crate::shape::{numbers_of, shape_of};
-use crate::{Body, Content, Image, ImageFault, Key, Member, Shape, Version};
+use crate::{Body, Content, Image, ImageFault, Key, Member, Shape, Version, image_from};
 use pn_join::{Name, NoMemory};
 use pn_line::LONGEST_LINE;
 use serde_json::{Error, Map, Value};
@@ -73,19 +73,31 @@ pub fn image_of(alloc: Global, value: &Value) -> Result<Image, ImageFault>
     ensures memory { IsErrOf result ImageFault.Memory → IsOk (image_in (view value.now)) }
     ensures faults { IfErr result IsOfValue }
 {
-    checked_image(alloc, value)
+    copied_image(alloc, value)
 }
 
-#[tactic(auto, unfolding(crate::specs::Grammar::image_in))]
-fn checked_image(alloc: Global, value: &Value) -> Result<Image, ImageFault>
+fn copied_image(alloc: Global, value: &Value) -> Result<Image, ImageFault>
     ensures found { IfOk result (λ image. IsImage (view value.now) image) }
     ensures exact { IsUnless ImageFault.Memory result (image_in (view value.now)) }
     ensures memory { IsErrOf result ImageFault.Memory → IsOk (image_in (view value.now)) }
     ensures faults { IfErr result IsOfValue }
 {
+    let shape = checked_shape(value)?;
+    Ok(shape.image(alloc)?)
+}
+
+// The members of the image that a value is, in their ranges, or its first fault.
+#[tactic(auto, unfolding(crate::specs::Grammar::image_in))]
+fn checked_shape(value: &Value) -> Result<Shape<'_>, ImageFault>
+    ensures found { IfOk result (λ image. IsImage (view value.now) image) }
+    ensures exact { result ≡ image_in (view value.now) }
+    ensures in_range { IfOk result (λ image. IsOk (ranges_in image)) }
+    ensures memory { IsErrOf result ImageFault.Memory → ⊥ }
+    ensures faults { IfErr result IsOfValue }
+{
     let shape = shape_of(value).map_err(ImageFault::BadShape)?;
     shape.check_ranges().map_err(ImageFault::OutOfRange)?;
-    Ok(shape.image(alloc)?)
+    Ok(shape)
 }
 
 /// The image of a line. `TooLong` where it has more than 65,536 bytes; otherwise `NotJson` where
@@ -110,7 +122,18 @@ fn image_read(alloc: Global, read: Result<Value, ImageFault>) -> Result<Image, I
     ensures unread { IfErr read (λ fault. result ≡ Err fault) }
 {
     let value = read?;
-    image_of(alloc, &value)
+    moved_image(alloc, value)
+}
+
+// The same image or fault as `image_of`, with the names and the texts of the fields moved out of the value.
+fn moved_image(alloc: Global, value: Value) -> Result<Image, ImageFault>
+    ensures found { IfOk result (λ image. IsImage (view value) image) }
+    ensures exact { IsUnless ImageFault.Memory result (image_in (view value)) }
+    ensures memory { IsErrOf result ImageFault.Memory → IsOk (image_in (view value)) }
+    ensures faults { IfErr result IsOfValue }
+{
+    drop(checked_shape(&value)?);
+    Ok(image_from(alloc, value)?)
 }
 
 impl Shape<'_> {

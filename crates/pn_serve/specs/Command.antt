@@ -1,4 +1,5 @@
 -- What a line says.
+pub mod BatchParts
 pub mod Json
 pub mod Limits
 pub mod Lines

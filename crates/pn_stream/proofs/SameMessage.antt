@@ -1,5 +1,5 @@
 -- A value that has the shape of a message is the JSON of that message, and that JSON has its shape.
-use Rattle.std.proofs.Common.{◌≡◌, ℕ, List, codes, true, false, Some, option_and_then, Ok, String, Global, string_cmp, bytes_eq, refl, sym, ap, ◌∙◌}
+use Rattle.std.proofs.Common.{◌≡◌, ℕ, List, codes, true, false, Some, None, option_and_then, Result, Ok, Err, IfOk, IsOk, String, Global, string_cmp, bytes_eq, refl, sym, ap, ◌∙◌}
 use Rattle.std.specs.List.{list_any}
 use Rattle.std.specs.List.Sorted.{IsStrictlySortedBy}
 use Rattle.std.specs.Map.{keys_of}
@@ -9,14 +9,20 @@ use Rattle.serde_json.specs.View.{members_view}
 use Rattle.serde_json.specs.declared.value.Value.{Value}
 use Rattle.pn_record.specs.Canonical.{is_image}
 use Rattle.pn_join.specs.Marks.{is_position}
-use Rattle.pn_json.specs.Members.{whole_number, only_named}
-use Rattle.pn_record.specs.Grammar.{ranges_in as image_ranges_in}
+use Rattle.std.specs.Option.{ok_or}
+use Rattle.pn_json.specs.Answers.{fault_as}
+use Rattle.pn_json.specs.Members.{whole_number, member_as, only_named, no_others}
+use Rattle.pn_record.specs.Grammar.{shape_in as image_shape_in, ranges_in as image_ranges_in, image_in}
+use Rattle.pn_record.specs.declared.fault.Member.TheVariants as fault
+use Rattle.pn_record.specs.declared.image.Image.{Image}
 use Rattle.pn_record.specs.Seen.{body_rises}
 use Rattle.pn_record.specs.Writing.{image_data}
-use Rattle.pn_json.proofs.Inverses.{passed, and_then_some, object_from_as_object, number_from_whole}
+use Rattle.pn_json.proofs.Inverses.{bind_ok, ok_or_ok, passed, and_then_some, object_from_as_object, number_from_whole}
 use Rattle.pn_record.proofs.Lines.{line_again, line_unique}
 use Rattle.pn_record.proofs.Limiting.{in_ranges, image_from_ranges}
 use Rattle.pn_json.proofs.LookUps.{Rise, Rise-map, get_member-unnamed, same_members, or_elsewhere}
+use Rattle.pn_record.proofs.ImageParts.{is_there}
+use Rattle.pn_record.proofs.ReadImages.{named_ok}
 use Rattle.pn_record.proofs.SameImage.{shape_again}
 use Rattle.pn_stream.specs.Messages.{Message, message_members, shape_in, ranges_in, message_in, message_at}
 use Rattle.pn_stream.specs.MessageLines.{message_data, IsMessage, IsMessageLine}
@@ -62,6 +68,52 @@ message_fits d message is rise fits =
 pub image_fits : (message : Message) → ranges_in message ≡ Ok tt → image_ranges_in message.1 ≡ Ok tt
 unfolding ranges_in
 image_fits message fits = (passed (is_position message.0) _ _ tt fits).1
+
+-- where the image of a message stands
+image_in_shape : (d : Data) (message : Message) → shape_in d ≡ Ok message → (value : Data) × (get (codes "image") d ≡ Some value) × (image_shape_in value ≡ Ok message.1)
+unfolding shape_in
+image_in_shape d message is =
+    let members = bind_ok (ok_or (as_object d) fault.Whole) _ message is in
+    let at = bind_ok (member_as whole_number fault.At (get (codes "at") d)) _ message members.2 in
+    let value = bind_ok (ok_or (get (codes "image") d) fault.Image) _ message at.2 in
+    let image = bind_ok (image_shape_in value.0) _ message value.2 in
+    let named = bind_ok (no_others message_members fault.Other members.0) _ message image.2 in
+    let whole : (at.0, image.0) ≡ message = cc named.2 in
+    (value.0, ok_or_ok _ fault.Image value.0 value.1, image.1 ∙ ap (λ (m : Message). Ok m.1) whole)
+
+image_of : (d : Data) (message : Message) → message_in d ≡ Ok message → (value : Data) × (get (codes "image") d ≡ Some value) × (image_in value ≡ Ok message.1)
+unfolding message_in image_in
+image_of d message is =
+    let shape = bind_ok (fault_as _ (shape_in d)) _ message is in
+    let fits = bind_ok (fault_as _ (ranges_in shape.0)) _ message shape.2 in
+    let whole : shape.0 ≡ message = cc fits.2 in
+    let value = image_in_shape d shape.0 (named_ok _ (shape_in d) shape.0 shape.1) in
+    let in_range : image_ranges_in shape.0.1 ≡ Ok tt = image_fits shape.0 (named_ok _ (ranges_in shape.0) tt fits.1) in
+    (value.0, value.1, rw (value.2, in_range) (ap (λ (m : Message). Ok m.1) whole))
+
+-- the value at `image` of a message is its image
+pub image_within : (d value : Data) → IsOk (message_in d) → get (codes "image") d ≡ Some value → (message : Message) × (message_in d ≡ Ok message) × (image_in value ≡ Ok message.1)
+image_within d value found at =
+    let message = is_there (message_in d) found in
+    let inside = image_of d message.0 message.1 in
+    let same : value ≡ inside.0 = cc (at, inside.1) in
+    (message.0, message.1, ap image_in same ∙ inside.2)
+
+-- and there is one
+pub image_there : (d : Data) → IsOk (message_in d) → get (codes "image") d ≡ None → ⊥
+image_there d found none =
+    let message = is_there (message_in d) found in
+    let inside = image_of d message.0 message.1 in
+    cc (none, inside.1)
+
+-- what is read of that value is the message's image
+pub image_moved : {F : Type 0} (d value : Data) (answer : Result Image F) → IsOk (message_in d) → get (codes "image") d ≡ Some value → IfOk answer (λ image. image_in value ≡ Ok image)
+    → IfOk answer (λ image. IfOk (message_in d) (λ message. image ≡ message.1))
+image_moved d value (Err fault) found at right = tt
+image_moved d value (Ok image) found at right =
+    let inside = image_within d value found at in
+    let same : image ≡ inside.0.1 = cc (right, inside.2) in
+    rw inside.1 same
 
 -- a message's value is read as the message
 pub message_again : (d : Data) (message : Message) → IsMessage d message → message_in d ≡ Ok message

@@ -10,9 +10,9 @@ ghost use Rattle.pn_record.specs.Limits.{longest_line};
 ghost use Rattle.pn_stream.specs.Messages.{Message, shape_in, ranges_in, message_in, message_at};
 ghost use Rattle.pn_stream.specs.MessageLines.{IsMessage, IsMessageLine, message_data};
 
-use pn_join::LAST_POSITION;
-use pn_json::{check_names, whole_number_of};
-use pn_record::{Image, ImageFault, Member, Shape, read_value, shape_of};
+use pn_join::{LAST_POSITION, NoMemory};
+use pn_json::{check_names, member_from, whole_number_of};
+use pn_record::{Image, ImageFault, Member, Shape, image_from, read_value, shape_of};
 use serde_json::Value;
 use std::alloc::Global;
 
@@ -40,19 +40,30 @@ fn message_read(alloc: Global, read: Result<Value, ImageFault>) -> Result<(u64, 
     ensures unread { IfErr read (λ fault. result ≡ Err fault) }
 {
     let value = read?;
-    message_of(alloc, &value)
+    message_of(alloc, value)
 }
 
 #[tactic(auto, using(crate::proofs::SameMessage::message_fits, crate::proofs::SameMessage::image_fits), unfolding(crate::specs::Messages::message_in))]
-fn message_of(alloc: Global, value: &Value) -> Result<(u64, Image), ImageFault>
-    ensures found { IfOk result (λ message. IsMessage (view value.now) message) }
-    ensures exact { IsUnless ImageFault.Memory result (message_in (view value.now)) }
-    ensures memory { IsErrOf result ImageFault.Memory → IsOk (message_in (view value.now)) }
+fn message_of(alloc: Global, value: Value) -> Result<(u64, Image), ImageFault>
+    ensures found { IfOk result (λ message. IsMessage (view value) message) }
+    ensures exact { IsUnless ImageFault.Memory result (message_in (view value)) }
+    ensures memory { IsErrOf result ImageFault.Memory → IsOk (message_in (view value)) }
     ensures faults { IfErr result IsOfValue }
 {
-    let (at, shape) = message_shape(value).map_err(ImageFault::BadShape)?;
+    let (at, shape) = message_shape(&value).map_err(ImageFault::BadShape)?;
     check_message(at, &shape).map_err(ImageFault::OutOfRange)?;
-    Ok((at, shape.image(alloc)?))
+    Ok((at, message_image(alloc, value)?))
+}
+
+// The image of a value that is a message, moved out of it.
+fn message_image(alloc: Global, value: Value) -> Result<Image, NoMemory>
+    requires { IsOk (message_in (view value)) }
+    ensures { IfOk result (λ image. IfOk (message_in (view value)) (λ message. image ≡ message.1)) }
+{
+    match member_from(value, "image") {
+        Some(image) => image_from(alloc, image),
+        None => unreachable!(),
+    }
 }
 
 // The position and the image of a message, borrowed from the value.

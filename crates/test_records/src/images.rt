@@ -1,8 +1,8 @@
 //! Images as lines of JSON, and the faults of other lines.
 
 use pn_record::{
-    ImageFault, KeyFault, Member, content_value, image_of, image_value, read_image, read_value,
-    version_of, version_value, write_image,
+    ImageFault, KeyFault, Member, content_value, image_from, image_of, image_value, read_image,
+    read_value, version_of, version_value, write_image,
 };
 use std::alloc::{AllocError, Global};
 use std::test::Fail;
@@ -83,8 +83,10 @@ fn other_faults_are_put_into_words(rt: HostRuntime) -> Result<(), Fail> {
 fn an_image_has_values_of_its_parts(rt: HostRuntime) -> Result<(), Fail> {
     let alloc = rt.alloc();
     let image = image_of(alloc, &read_value(alloc, LINE.as_bytes())?)?;
-    let whole = image_value(alloc, &image)?.to_string(alloc)?;
-    assert_eq!(rt; whole.as_str(), LINE);
+    let whole = image_value(alloc, &image)?;
+    assert_eq!(rt; whole.to_string(alloc)?.as_str(), LINE);
+    let moved = image_from(alloc, whole)?;
+    assert_eq!(rt; write_image(alloc, &moved)?.as_str(), LINE);
     let content = content_value(alloc, &image.content)?.to_string(alloc)?;
     assert_eq!(rt;
         content.as_str(),

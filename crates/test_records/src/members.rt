@@ -1,8 +1,8 @@
 //! Members of JSON values, and values written as lines.
 
 use pn_json::{
-    begin_line, check_names, finish_line, items_of, object_of, text_of, whole_number_of,
-    write_null_member, write_number_member, write_text_member,
+    begin_line, check_names, finish_line, items_from, items_of, member_from, object_of, text_of,
+    whole_number_of, write_null_member, write_number_member, write_text_member,
 };
 use serde_json::{Map, Value};
 use std::test::Fail;
@@ -21,6 +21,16 @@ fn members_are_read_by_their_kinds(rt: HostRuntime) -> Result<(), Fail> {
     assert!(rt; whole_number_of(message.get("at"), Fault) == Ok(7));
     assert!(rt; items_of(message.get("names"), Fault).map(|items| items.len()) == Ok(2));
     assert!(rt; object_of(message.get("parts"), Fault).map(Map::len) == Ok(1));
+    Ok(())
+}
+
+#[test]
+fn members_are_moved_out(rt: HostRuntime) -> Result<(), Fail> {
+    let message = Value::from_str(rt.alloc(), MESSAGE)?;
+    let names = member_from(message, "names").and_then(items_from);
+    assert!(rt; names.map(|items| items.len()) == Some(2));
+    let message = Value::from_str(rt.alloc(), MESSAGE)?;
+    assert!(rt; member_from(message, "name").is_none());
     Ok(())
 }
 

@@ -1,49 +1,78 @@
-//! Batches and keys in their ranges, copied out of the parsed value.
+//! Batches and keys in their ranges, taken out of the parsed value.
 
-ghost use Rattle.std.specs.Prelude.{◌≡◌, IfOk, IsTrue, Ok};
-ghost use Rattle.pn_json.specs.Members.{texts};
+ghost use Rattle.std.specs.Prelude.{◌≡◌, option_map, IfOk, IsOk, IsTrue, Ok};
+ghost use Rattle.serde_json.specs.View.{view, items_view};
+ghost use Rattle.pn_json.specs.Members.{seen, texts, each_in};
+ghost use Rattle.pn_record.specs.Grammar.{image_in};
 ghost use Rattle.pn_record.specs.Limits.{is_key};
-ghost use Rattle.pn_serve.specs.Command.RangeChecks.{each_fits, image_fits, batch_fits, batches_fit, keys_fit};
+ghost use Rattle.pn_record.specs.Parts.{text_at};
+ghost use Rattle.pn_serve.specs.Command.BatchParts.{batch_in, number_at, items_at as items_there};
+ghost use Rattle.pn_serve.specs.Command.RangeChecks.{keys_fit};
 
-use crate::command::batch::BatchShape;
 use pn_join::{Name, NoMemory};
-use pn_record::{Image, Key, KeyFault, Shape};
+use pn_json::{items_from, member_from};
+use pn_record::{Image, Key, KeyFault, image_from};
 use pn_stream::Delivery;
+use serde_json::Value;
 use std::alloc::Global;
 
-/// The deliveries of the batches, with each text copied once.
-#[tactic(auto, unfolding(crate::specs::Command::RangeChecks::batches_fit))]
+/// The deliveries of the batches. The names and the texts of fields are moved out of them, and not copied.
 pub(crate) fn built_deliveries(
     alloc: Global,
-    shapes: &[BatchShape<'_>],
+    batches: Vec<Value>,
 ) -> Result<Vec<Delivery>, NoMemory>
-    requires { batches_fit shapes.now ≡ Ok tt }
-    ensures { IfOk result (λ deliveries. deliveries.items ≡ shapes.now) }
+    requires { IsOk (each_in batch_in (items_view batches.items)) }
+    ensures { IfOk result (λ deliveries. each_in batch_in (items_view batches.items) ≡ Ok deliveries.items) }
 {
-    let mut deliveries = Vec::with_capacity(alloc, shapes.len())?;
-    for shape in shapes {
-        deliveries.push(built_delivery(alloc, shape)?)?;
+    let mut deliveries = Vec::with_capacity(alloc, batches.len())?;
+    for batch in batches {
+        deliveries.push(built_delivery(alloc, batch)?)?;
     }
     Ok(deliveries)
 }
 
-#[tactic(auto, unfolding(crate::specs::Command::RangeChecks::batch_fits))]
-fn built_delivery(alloc: Global, shape: &BatchShape<'_>) -> Result<Delivery, NoMemory>
-    requires { batch_fits shape.now ≡ Ok tt }
-    ensures { IfOk result (λ delivery. delivery ≡ shape.now) }
+fn built_delivery(alloc: Global, batch: Value) -> Result<Delivery, NoMemory>
+    requires { IsOk (batch_in (view batch)) }
+    ensures { IfOk result (λ delivery. batch_in (view batch) ≡ Ok delivery) }
 {
-    let images = built_images(alloc, &shape.images)?;
-    let stream = Name::of(shape.stream.as_bytes());
-    Ok(Delivery::of(stream, shape.first, images))
+    let first = number_of(batch.get("first"));
+    let stream = Name::of(text_of(batch.get("stream")).as_bytes());
+    let images = items_at(alloc, member_from(batch, "images"));
+    Ok(Delivery::of(stream, first, built_images(alloc, images)?))
 }
 
-fn built_images(alloc: Global, shapes: &[Shape<'_>]) -> Result<Vec<Image>, NoMemory>
-    requires { each_fits image_fits shapes.now ≡ Ok tt }
-    ensures { IfOk result (λ images. images.items ≡ shapes.now) }
+fn number_of(value: Option<&Value>) -> u64
+    ensures { result ≡ number_at (seen value.entry) }
 {
-    let mut images = Vec::with_capacity(alloc, shapes.len())?;
-    for shape in shapes {
-        images.push(shape.image(alloc)?)?;
+    value.and_then(Value::as_u64).unwrap_or(0)
+}
+
+fn text_of<'v>(value: Option<&'v Value>) -> &'v str
+    ensures { result.now ≡ text_at (seen value.entry) }
+{
+    value.and_then(Value::as_str).unwrap_or("")
+}
+
+/// The items of an array, and none of any other value.
+pub(crate) fn items_at(alloc: Global, value: Option<Value>) -> Vec<Value>
+    ensures { items_view result.items ≡ items_there (option_map view value) }
+{
+    let Some(value) = value else {
+        return Vec::new(alloc);
+    };
+    match items_from(value) {
+        Some(items) => items,
+        None => Vec::new(alloc),
+    }
+}
+
+fn built_images(alloc: Global, values: Vec<Value>) -> Result<Vec<Image>, NoMemory>
+    requires { IsOk (each_in image_in (items_view values.items)) }
+    ensures { IfOk result (λ images. each_in image_in (items_view values.items) ≡ Ok images.items) }
+{
+    let mut images = Vec::with_capacity(alloc, values.len())?;
+    for value in values {
+        images.push(image_from(alloc, value)?)?;
     }
     Ok(images)
 }

@@ -4,11 +4,13 @@ ghost use Rattle.std.specs.Prelude.{◌≡◌, ◌<◌, false, Ok, length, IfOk,
 ghost use Rattle.serde_json.specs.View.{view, members_view};
 ghost use Rattle.pn_json.specs.Answers.{Shows, ShowsUnless};
 ghost use Rattle.pn_record.specs.Limits.{longest_line};
+ghost use Rattle.pn_serve.specs.Command.BatchParts.{deliver_at};
 ghost use Rattle.pn_serve.specs.Command.Json.{IsCommandLine};
-ghost use Rattle.pn_serve.specs.Command.Meaning.{CommandValue, command_value};
-ghost use Rattle.pn_serve.specs.Command.Lines.{refusal_of, deliver_in, marks_in, tablets_in, command_in as command_seen, command_at, is_too_long, TakesMemory};
+ghost use Rattle.pn_serve.specs.Command.Meaning.{CommandValue, deliver, command_value};
+ghost use Rattle.pn_serve.specs.Command.Lines.{refusal_of, marks_in, tablets_in, command_in as command_seen, command_at, is_too_long, TakesMemory};
 
-use crate::command::build::built_deliveries;
+use crate::command::batch::BatchShape;
+use crate::command::build::{built_deliveries, items_at};
 use crate::command::lookups::{get_of, read_of, scan_of};
 use crate::command::notices::notices_of;
 use crate::command::ranges::check_batches;
@@ -16,7 +18,7 @@ use crate::command::recovery::{adopt_of, copy_of, lose_of};
 use crate::command::shapes::{batches_of, check_members};
 use crate::command::word::{Word, word_of};
 use crate::{Command, Part, Refusal};
-use pn_json::items_of;
+use pn_json::{items_of, member_from};
 use pn_record::{ImageFault, read_value};
 use serde_json::{Map, Value};
 use std::alloc::Global;
@@ -57,43 +59,51 @@ fn line_command(alloc: Global, line: &[u8]) -> Result<Command, Refusal>
     ensures too_long { longest_line < length line.now → IsErrOf result Refusal.TooLong }
 {
     let value = read_value(alloc, line)?;
-    command_in(alloc, &value)
+    command_in(alloc, value)
 }
 
 // The command that a value is. Memory runs out only where it is one, or its batches or keys are gathered.
-#[tactic(auto, unfolding(crate::specs::Command::Lines::command_in))]
-fn command_in(alloc: Global, value: &Value) -> Result<Command, Refusal>
-    ensures exact { ShowsUnless Refusal.Memory command_value result (command_seen (view value.now)) }
-    ensures memory { IsErrOf result Refusal.Memory → TakesMemory (view value.now) }
+#[tactic(auto, unfolding(crate::specs::Command::Lines::command_in, crate::specs::Command::BatchParts::deliver_at))]
+fn command_in(alloc: Global, value: Value) -> Result<Command, Refusal>
+    ensures exact { ShowsUnless Refusal.Memory command_value result (command_seen (view value)) }
+    ensures memory { IsErrOf result Refusal.Memory → TakesMemory (view value) }
 {
     let members = value.as_object().ok_or(Refusal::BadShape(Part::Whole))?;
     match word_of(value.get("do"))? {
-        Word::Adopt => adopt_of(members, value),
-        Word::Copy => copy_of(alloc, members, value),
-        Word::Deliver => deliver_of(alloc, members, value),
-        Word::Get => get_of(alloc, members, value),
-        Word::Lose => lose_of(members, value),
+        Word::Adopt => adopt_of(members, &value),
+        Word::Copy => copy_of(alloc, members, &value),
+        Word::Deliver => deliver_of(alloc, value),
+        Word::Get => get_of(alloc, members, &value),
+        Word::Lose => lose_of(members, &value),
         Word::Marks => marks_of(members),
-        Word::Notices => notices_of(members, value),
-        Word::Read => read_of(alloc, members, value),
-        Word::Scan => scan_of(alloc, members, value),
+        Word::Notices => notices_of(members, &value),
+        Word::Read => read_of(alloc, members, &value),
+        Word::Scan => scan_of(alloc, members, &value),
         Word::Tablets => tablets_of(members),
     }
 }
 
-#[tactic(auto, unfolding(crate::specs::Command::Lines::deliver_in))]
-fn deliver_of(
-    alloc: Global,
-    members: &Map<String, Value>,
-    value: &Value,
-) -> Result<Command, Refusal>
-    ensures { ShowsUnless Refusal.Memory command_value result (deliver_in (members_view members.now.entries) (view value.now)) }
+// All is checked before anything is moved out of the value.
+#[tactic(auto, unfolding(crate::specs::Command::BatchParts::deliver_at))]
+fn deliver_of(alloc: Global, value: Value) -> Result<Command, Refusal>
+    ensures { ShowsUnless Refusal.Memory command_value result (deliver_at (view value)) }
 {
+    drop(checked_batches(alloc, &value)?);
+    let batches = items_at(alloc, member_from(value, "batches"));
+    Ok(Command::Deliver(built_deliveries(alloc, batches)?))
+}
+
+// The batches of a `deliver` command, borrowed from its value.
+#[tactic(auto, unfolding(crate::specs::Command::Lines::deliver_in, crate::specs::Command::BatchParts::deliver_at))]
+fn checked_batches(alloc: Global, value: &Value) -> Result<Vec<BatchShape<'_>>, Refusal>
+    ensures { ShowsUnless Refusal.Memory (λ batches. deliver batches.items) result (deliver_at (view value.now)) }
+{
+    let members = value.as_object().ok_or(Refusal::BadShape(Part::Whole))?;
     let items = items_of(value.get("batches"), Refusal::BadShape(Part::Batches))?;
     let shapes = batches_of(alloc, items)?;
     check_members(members, &["batches", "do"])?;
     check_batches(&shapes)?;
-    Ok(Command::Deliver(built_deliveries(alloc, &shapes)?))
+    Ok(shapes)
 }
 
 #[tactic(auto, unfolding(crate::specs::Command::Lines::marks_in))]
