@@ -1,5 +1,5 @@
 -- How what was taken for a line joins, one piece after another.
-use Rattle.std.proofs.Common.{◌≢◌, ℕ, Option, List, [], ◌++◌, sym, ap, subst, ◌∙◌, append-nil, append_assoc}
+use Rattle.std.proofs.Common.{◌≢◌, ℕ, Option, None, Some, OnSome, List, [], ◌++◌, sym, ap, subst, ◌∙◌, append-nil, append_assoc}
 use Rattle.std.proofs.lemmas.List.Elements.{All-nil, All-append}
 use Rattle.std.specs.Io.KnownBytes.{Consumes}
 use Rattle.std.proofs.KnownBytes.{Consumes-nil, Consumes-trans}
@@ -22,3 +22,9 @@ Takes-trans {l = l} {a = a} {b = b} {c = c} {behind = behind} first second =
       source = subst P (ap (λ l. l ++ (second.taken ++ behind)) (append-nil first.taken) ∙ sym (append_assoc first.taken second.taken behind))
           (Consumes-trans a b c _ _ first.source second.source);
     }
+
+-- what holds of bytes that are told behind some others holds where those are told
+pub known_before : (P : Type 0) (first between : Option (List ℕ)) (bs : List ℕ) → Consumes first between bs → OnSome between P → OnSome first P
+known_before P None between bs consumed holds = tt
+known_before P (Some xs) None bs consumed holds = absurd consumed
+known_before P (Some xs) (Some ys) bs consumed holds = holds

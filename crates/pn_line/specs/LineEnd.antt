@@ -2,7 +2,7 @@
 use Rattle.std.specs.Prelude.{ℕ, ◌<◌, ◌≤◌, List, [], ◌∷◌, Option, OnSome}
 use Rattle.std.specs.Io.KnownBytes.{IsAtEnd}
 use Rattle.pn_line.specs.Line.{LineBufferValue, longest_line}
-use Rattle.pn_line.specs.Reads.{Takes}
+use Rattle.pn_line.specs.Reads.{Takes, HasShown}
 use Rattle.pn_line.specs.declared.reading.LineEnd.{LineEnd}
 use Rattle.pn_line.specs.declared.reading.LineEnd.TheVariants.{Newline, EndOfInput, Endless}
 use Rattle.pn_line.specs.declared.reading.BoundedEnd.{BoundedEnd}
@@ -14,8 +14,14 @@ newline_behind (Newline more) = 10 ∷ []
 newline_behind EndOfInput = []
 newline_behind Endless = []
 
--- the line was read to its newline, or to the end of the input, and is not too long; or it is, with or without its newline
+-- where a further newline was shown behind the line, what is left has one
+abbrev pub HasNext : LineEnd → Option (List ℕ) → Type 0
+HasNext (Newline more) left = HasShown more left
+HasNext EndOfInput left = Unit {0}
+HasNext Endless left = Unit {0}
+
+-- the line was read to its newline, behind which a further one is left where it was shown, or to the end of the input, and is not too long; or it is, with or without its newline
 abbrev pub ReadsTo : BoundedEnd → LineBufferValue → LineBufferValue → Option (List ℕ) → Option (List ℕ) → Type 0
-ReadsTo bounded.Newline old new left leaves = Takes old new left leaves (10 ∷ []) × (new.count ≤ longest_line)
+ReadsTo (bounded.Newline more) old new left leaves = Takes old new left leaves (10 ∷ []) × (new.count ≤ longest_line) × OnSome left (HasShown more leaves)
 ReadsTo bounded.EndOfInput old new left leaves = Takes old new left leaves [] × OnSome left (IsAtEnd leaves) × (new.count ≤ longest_line)
 ReadsTo bounded.TooLong old new left leaves = ((behind : List ℕ) × Takes old new left leaves behind) × (longest_line < new.count)

@@ -1,5 +1,5 @@
 -- What reading takes of a source for a line, and the newline behind it.
-use Rattle.std.specs.Prelude.{◌≡◌, ◌≢◌, ℕ, List, [], ◌∷◌, ◌++◌, Option, All}
+use Rattle.std.specs.Prelude.{◌≡◌, ◌≢◌, ℕ, Bool, true, false, List, [], ◌∷◌, ◌++◌, Option, IfSome, All, Contains}
 use Rattle.std.specs.Io.KnownBytes.{Consumes}
 use Rattle.pn_line.specs.Line.{LineBufferValue, longer}
 use Rattle.pn_line.specs.declared.piece.Piece.{Piece}
@@ -28,3 +28,14 @@ abbrev pub newline_after : Piece → List ℕ
 newline_after Part = []
 newline_after (Ended more) = 10 ∷ []
 newline_after NoMore = []
+
+-- where a further newline was shown, these bytes have one, if they are told
+abbrev pub HasShown : Bool → Option (List ℕ) → Type 0
+HasShown true left = IfSome left (λ rest. Contains rest 10)
+HasShown false left = Unit {0}
+
+-- so has what is left behind a piece of a line
+abbrev pub HasBehind : Piece → Option (List ℕ) → Type 0
+HasBehind Part left = Unit {0}
+HasBehind (Ended more) left = HasShown more left
+HasBehind NoMore left = Unit {0}

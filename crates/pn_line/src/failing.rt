@@ -2,7 +2,7 @@
 //! a contract says what a broken run read and wrote.
 ghost use Rattle.std.specs.Prelude.{◌≡◌, ◌≢◌, ◌-◌, ◌<◌, ◌≤◌, ◌↔◌, [], true, false, Ok, Some, IfOk, IfSome, IsErr, OnErr, OnSome, length, max, min, take};
 ghost use Rattle.std.specs.Io.KnownBytes.{Appends, Keeps, IsAtEnd};
-ghost use Rattle.pn_line.specs.Reads.{Takes, newline_after};
+ghost use Rattle.pn_line.specs.Reads.{Takes, newline_after, HasBehind};
 
 use crate::in_memory::InMemory;
 use crate::line_buffer::{ENDLESS, LineBuffer};
@@ -77,6 +77,7 @@ impl Source for FailingSource<'_> {
         ensures part { result ≡ Ok Piece.Part → line.old.count < line.new.count }
         ensures below { result ≢ Ok Piece.Part → line.new.count < ENDLESS }
         ensures end { result ≡ Ok Piece.NoMore → OnSome (Some self.old.left) (IsAtEnd (Some self.new.left)) }
+        ensures more { IfOk result (λ piece. OnSome (Some self.old.left) (HasBehind piece (Some self.new.left))) }
         ensures fault { OnErr result (Unit {0}) }
         ensures kept { OnErr result (Keeps (Some self.old.left) (Some self.new.left)) }
         ensures line_kept { OnErr result (line.new ≡ line.old) }

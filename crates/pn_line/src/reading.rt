@@ -2,7 +2,7 @@
 ghost use Rattle.std.specs.Prelude.{◌≡◌, ◌≢◌, ◌<◌, ◌↔◌, [], IfOk, OnErr, OnSome};
 ghost use Rattle.std.specs.Io.KnownBytes.{IsAtEnd};
 ghost use Rattle.pn_line.specs.Reads.{Takes};
-ghost use Rattle.pn_line.specs.LineEnd.{newline_behind, ReadsTo};
+ghost use Rattle.pn_line.specs.LineEnd.{newline_behind, HasNext, ReadsTo};
 
 use crate::line_buffer::{ENDLESS, LineBuffer};
 use crate::piece::Piece;
@@ -15,7 +15,7 @@ pub enum LineEnd {
     /// At the line's newline, which was taken and stands in no line.
     Newline {
         /// Whether a further newline was there behind it. Where it is false, the next read of a line
-        /// may have to wait for input. It is a hint, and no contract speaks of it.
+        /// may have to wait for input.
         more: bool,
     },
     /// At the end of the input. The line may go on if more input comes.
@@ -36,6 +36,7 @@ pub fn read_line<S: Source>(line: &mut LineBuffer, source: &mut S) -> io::Result
         → OnSome (S.left source.old) (IsAtEnd (S.left source.new))) }
     ensures endless { IfOk result (λ end. (end ≡ LineEnd.Endless) ↔ (line.new.count ≡ ENDLESS)) }
     ensures below { IfOk result (λ end. end ≢ LineEnd.Endless → line.new.count < ENDLESS) }
+    ensures more { IfOk result (λ end. OnSome (S.left source.old) (HasNext end (S.left source.new))) }
     ensures fault { OnErr result S.may_fail }
     ensures kept { OnErr result
         (Takes line.old line.new (S.left source.old) (S.left source.new) []) }
@@ -54,7 +55,10 @@ pub fn read_line<S: Source>(line: &mut LineBuffer, source: &mut S) -> io::Result
 #[derive(Clone, Copy, Debug, PartialEq, Eq)]
 pub enum BoundedEnd {
     /// At the line's newline, which was taken and stands in no line.
-    Newline,
+    Newline {
+        /// Whether a further newline was there behind it, as `LineEnd` has it.
+        more: bool,
+    },
     /// At the end of the input, before a newline. The line may go on if more input comes.
     EndOfInput,
     /// More than `LONGEST_LINE` bytes came, with no newline among them.
@@ -74,11 +78,11 @@ pub fn read_bounded_line<S: Source>(line: &mut LineBuffer, source: &mut S) -> io
     'pieces: while !line.is_too_long() {
         match source.take_some(line)? {
             Piece::Part => {}
-            Piece::Ended { .. } => {
+            Piece::Ended { more } => {
                 if line.is_too_long() {
                     return Ok(BoundedEnd::TooLong);
                 }
-                return Ok(BoundedEnd::Newline);
+                return Ok(BoundedEnd::Newline { more });
             }
             Piece::NoMore => {
                 if line.is_too_long() {

@@ -2,7 +2,7 @@
 //! reads do not.
 ghost use Rattle.std.specs.Prelude.{◌≡◌, ◌≢◌, ◌<◌, ℕ, List, [], true, false, IfOk, OnErr, IfSome, OnSome, Option};
 ghost use Rattle.std.specs.Io.KnownBytes.{Keeps, IsAtEnd};
-ghost use Rattle.pn_line.specs.Reads.{Takes, newline_after};
+ghost use Rattle.pn_line.specs.Reads.{Takes, newline_after, HasBehind};
 
 use crate::line_buffer::{ENDLESS, LineBuffer};
 use crate::piece::{Piece, take_piece};
@@ -28,6 +28,7 @@ pub trait Source {
         ensures part { result ≡ Ok Piece.Part → line.old.count < line.new.count }
         ensures below { result ≢ Ok Piece.Part → line.new.count < ENDLESS }
         ensures end { result ≡ Ok Piece.NoMore → OnSome (left self.old) (IsAtEnd (left self.new)) }
+        ensures more { IfOk result (λ piece. OnSome (left self.old) (HasBehind piece (left self.new))) }
         ensures fault { OnErr result may_fail }
         ensures kept { OnErr result (Keeps (left self.old) (left self.new)) }
         ensures line_kept { OnErr result (line.new ≡ line.old) };

@@ -3,3 +3,4 @@ pub mod Runs
 pub mod SameBatch
 pub mod SameMessage
 pub mod Steps
+pub mod TwoCalls

@@ -1,6 +1,7 @@
 -- How runs of messages grow, one line after another.
-use Rattle.std.proofs.Common.{◌≡◌, ℕ, ◌+◌, ◌<◌, ◌≤◌, List, [], ◌∷◌, ◌++◌, length, Option, None, Some, Result, Ok, Err, IfErr, IsErrAnd, IfSome, inl, inr, refl, sym, ap, ◌∙◌, subst, arith, append_assoc}
-use Rattle.pn_line.specs.Reads.{IsUnbroken}
+use Rattle.std.proofs.Common.{◌≡◌, ◌≢◌, ℕ, ◌+◌, ◌<◌, ◌≤◌, Bool, true, false, Contains, OnSome, List, [], ◌∷◌, ◌++◌, length, Option, None, Some, Result, Ok, Err, IfErr, IsErrAnd, IfSome, inl, inr, refl, sym, ap, ◌∙◌, subst, arith, append_assoc}
+use Rattle.std.proofs.lemmas.List.Elements.{All-contains, Contains-append_right}
+use Rattle.pn_line.specs.Reads.{IsUnbroken, HasShown}
 use Rattle.pn_line.specs.Text.{text_of}
 use Rattle.pn_line.proofs.TextLaws.{text_of-nil, text_of-append, text_of-push}
 use Rattle.pn_record.specs.declared.image.Image.{Image}
@@ -9,6 +10,7 @@ use Rattle.pn_stream.specs.Streams.{InStep, Run, FirstLine, NoLine, IsLeft}
 use Rattle.pn_stream.specs.Faults.{Stands}
 use Rattle.pn_stream.specs.Batches.{SoFar, Batch, IsNext}
 use Rattle.pn_stream.specs.declared.fault.StreamFault.{StreamFault}
+use Rattle.pn_stream.specs.declared.next.Found.{Found}
 use Rattle.pn_stream.specs.declared.fault.StreamFault.TheVariants.{Memory}
 
 -- one message more at the end
@@ -62,50 +64,71 @@ SoFar-none position part images None none = tt
 SoFar-none position part images (Some text) none = rw none (record { rest = part ++ text; run = Run-none position (part ++ text); is_left = (text, refl, refl) })
 
 -- what is told of what is left, told of the rest of the text
-on_rest : (rest part : List ℕ) (left : Option (List ℕ)) (P : List ℕ → Type 0) → IsLeft rest part left → IfSome left (λ text. P (part ++ text)) → P rest
+pub on_rest : (rest part : List ℕ) (left : Option (List ℕ)) (P : List ℕ → Type 0) → IsLeft rest part left → IfSome left (λ text. P (part ++ text)) → P rest
 on_rest rest part left P is told =
     let at : IfSome (Some is.0) (λ text. P (part ++ text)) = subst (λ (l : Option (List ℕ)). IfSome l (λ text. P (part ++ text))) is.1 told in
     subst P (sym is.2) at
 
 -- one message more
-pub SoFar-push : (position wanted : ℕ) (front part now : List ℕ) (images : List Image) (image : Image) (first left leaves : Option (List ℕ)) → wanted ≡ position + length images + 1
-    → IfSome first (λ text. SoFar position (front ++ text) images part left) → IfSome left (λ text. IsNext wanted (part ++ text) (Some image) now leaves)
-    → IfSome first (λ text. SoFar position (front ++ text) (images ++ image ∷ []) now leaves)
-SoFar-push position wanted front part now images image None left leaves is so next = tt
-SoFar-push position wanted front part now images image (Some text) left leaves is so next =
-    let (line, more, at, said, is_left) = on_rest so.rest part left (λ (t : List ℕ). IsNext wanted t (Some image) now leaves) so.is_left next in
-    record { rest = more; run = Run-push position (front ++ text) images so.rest line more image wanted is so.run at said; is_left = is_left }
+pub SoFar-push : (position wanted : ℕ) (front part now : List ℕ) (images : List Image) (found : Found) (first left leaves : Option (List ℕ)) → wanted ≡ position + length images + 1
+    → IfSome first (λ text. SoFar position (front ++ text) images part left) → IfSome left (λ text. IsNext wanted (part ++ text) (Some found) now leaves)
+    → IfSome first (λ text. SoFar position (front ++ text) (images ++ found.image ∷ []) now leaves)
+SoFar-push position wanted front part now images found None left leaves is so next = tt
+SoFar-push position wanted front part now images found (Some text) left leaves is so next =
+    let (line, more, at, said, is_left) = on_rest so.rest part left (λ (t : List ℕ). IsNext wanted t (Some found) now leaves) so.is_left next in
+    record { rest = more; run = Run-push position (front ++ text) images so.rest line more found.image wanted is so.run at said; is_left = is_left }
 
--- no whole line is left
-pub Batch-end : (max position wanted : ℕ) (front part now : List ℕ) (images : List Image) (first left leaves : Option (List ℕ)) → length images ≤ max
-    → IfSome first (λ text. SoFar position (front ++ text) images part left) → IfSome left (λ text. IsNext wanted (part ++ text) None now leaves)
-    → IfSome first (λ text. Batch max position (front ++ text) images None now leaves)
-Batch-end max position wanted front part now images None left leaves within so next = tt
-Batch-end max position wanted front part now images (Some text) left leaves within so next =
+-- before the first line nothing was shown
+pub shown_none : (first : Option (List ℕ)) → OnSome first (Unit {0})
+shown_none None = tt
+shown_none (Some text) = tt
+
+-- what was shown behind the next line is told where the text is
+pub shown_on : (P : Type 0) (position : ℕ) (front part : List ℕ) (images : List Image) (first left : Option (List ℕ))
+    → IfSome first (λ text. SoFar position (front ++ text) images part left) → OnSome left P → OnSome first P
+shown_on P position front part images None left so shown = tt
+shown_on P position front part images (Some text) left so shown =
+    let told : OnSome (Some so.is_left.0) P = subst (λ (l : Option (List ℕ)). OnSome l P) so.is_left.1 shown in told
+
+-- a text with a newline that was shown has a whole line
+none_shown : (text part rest : List ℕ) (left : Option (List ℕ)) → left ≡ Some rest → text ≡ part ++ rest → HasShown true left → NoLine text → ⊥
+none_shown text part rest left is whole shown none =
+    let there : Contains rest 10 = subst (λ (l : Option (List ℕ)). IfSome l (λ bytes. Contains bytes 10)) is shown in
+    All-contains (λ b. b ≢ 10) text 10 none.unbroken (subst (λ (t : List ℕ). Contains t 10) (sym whole) (Contains-append_right part rest 10 there)) refl
+
+-- no whole line is left: then none was shown, and there are too few messages
+pub Batch-end : (least most position wanted : ℕ) (front part now : List ℕ) (images : List Image) (more : Bool) (first left leaves : Option (List ℕ)) → length images ≤ most → (more ≡ false → length images < least)
+    → OnSome first (HasShown more left) → IfSome first (λ text. SoFar position (front ++ text) images part left) → IfSome left (λ text. IsNext wanted (part ++ text) None now leaves)
+    → IfSome first (λ text. Batch least most position (front ++ text) images None now leaves)
+Batch-end least most position wanted front part now images more None left leaves within few shown so next = tt
+Batch-end least most position wanted front part now images true (Some text) left leaves within few shown so next =
+    let (none, _) = on_rest so.rest part left (λ (t : List ℕ). NoLine t × IsLeft t now leaves) so.is_left next in
+    absurd (none_shown so.rest part so.is_left.0 left so.is_left.1 so.is_left.2 shown none)
+Batch-end least most position wanted front part now images false (Some text) left leaves within few shown so next =
     let (none, is_left) = on_rest so.rest part left (λ (t : List ℕ). NoLine t × IsLeft t now leaves) so.is_left next in
-    record { rest = so.rest; within = within; run = so.run; ends = (inr none, is_left) }
+    record { rest = so.rest; within = within; run = so.run; ends = (inr (few refl, none), is_left) }
 
--- the batch is full
-pub Batch-full : (max position : ℕ) (front part : List ℕ) (images : List Image) (first left : Option (List ℕ)) → length images ≡ max
-    → IfSome first (λ text. SoFar position (front ++ text) images part left) → IfSome first (λ text. Batch max position (front ++ text) images None part left)
-Batch-full max position front part images None left full so = tt
-Batch-full max position front part images (Some text) left full so = record { rest = so.rest; within = omega (arith, full); run = so.run; ends = (inl full, so.is_left) }
+-- the batch has enough
+pub Batch-enough : (least most position : ℕ) (front part : List ℕ) (images : List Image) (first left : Option (List ℕ)) → least ≤ length images → length images ≤ most → part ≡ []
+    → IfSome first (λ text. SoFar position (front ++ text) images part left) → IfSome first (λ text. Batch least most position (front ++ text) images None part left)
+Batch-enough least most position front part images None left enough within taken so = tt
+Batch-enough least most position front part images (Some text) left enough within taken so = record { rest = so.rest; within = within; run = so.run; ends = (inl (enough, taken), so.is_left) }
 
 -- a fault stands next
-pub Batch-fault : (max position wanted : ℕ) (front part now : List ℕ) (images : List Image) (fault : StreamFault) (first left leaves : Option (List ℕ)) → wanted ≡ position + length images + 1 → length images < max
+pub Batch-fault : (least most position wanted : ℕ) (front part now : List ℕ) (images : List Image) (fault : StreamFault) (first left leaves : Option (List ℕ)) → wanted ≡ position + length images + 1 → length images < most
     → IfSome first (λ text. SoFar position (front ++ text) images part left) → IfSome left (λ text. Stands wanted (part ++ text) fault)
-    → IfSome first (λ text. Batch max position (front ++ text) images (Some fault) now leaves)
-Batch-fault max position wanted front part now images fault None left leaves is few so stands = tt
-Batch-fault max position wanted front part now images fault (Some text) left leaves is few so stands =
+    → IfSome first (λ text. Batch least most position (front ++ text) images (Some fault) now leaves)
+Batch-fault least most position wanted front part now images fault None left leaves is few so stands = tt
+Batch-fault least most position wanted front part now images fault (Some text) left leaves is few so stands =
     let at : Stands wanted so.rest fault = on_rest so.rest part left (λ (t : List ℕ). Stands wanted t fault) so.is_left stands in
     record { rest = so.rest; within = omega (arith, few); run = so.run; ends = (few, subst (λ (n : ℕ). Stands n so.rest fault) is at) }
 
 -- memory ran out
-pub Batch-memory : (max position : ℕ) (front part now : List ℕ) (images : List Image) (first left leaves : Option (List ℕ)) → length images < max
+pub Batch-memory : (least most position : ℕ) (front part now : List ℕ) (images : List Image) (first left leaves : Option (List ℕ)) → length images < most
     → IfSome first (λ text. SoFar position (front ++ text) images part left)
-    → IfSome first (λ text. Batch max position (front ++ text) images (Some Memory) now leaves)
-Batch-memory max position front part now images None left leaves few so = tt
-Batch-memory max position front part now images (Some text) left leaves few so = record { rest = so.rest; within = omega (arith, few); run = so.run; ends = (few, tt) }
+    → IfSome first (λ text. Batch least most position (front ++ text) images (Some Memory) now leaves)
+Batch-memory least most position front part now images None left leaves few so = tt
+Batch-memory least most position front part now images (Some text) left leaves few so = record { rest = so.rest; within = omega (arith, few); run = so.run; ends = (few, tt) }
 
 in_step_none : (position : ℕ) (lines : List (List ℕ)) (images : List Image) → length images ≡ 0 → InStep position lines images → text_of lines ≡ []
 in_step_none position [] [] none run = text_of-nil
@@ -113,10 +136,10 @@ in_step_none position (line ∷ lines) [] none run = absurd run
 in_step_none position lines (image ∷ images) none run = absurd (omega (arith, none))
 
 -- a fault with no message before it stands at the start of the text
-pub Stands-first : (max position : ℕ) (part : List ℕ) (images : List Image) (fault : StreamFault) (now : List ℕ) (left leaves : Option (List ℕ)) → length images ≡ 0
-    → IfSome left (λ text. Batch max position (part ++ text) images (Some fault) now leaves) → IfSome left (λ text. Stands (position + 1) (part ++ text) fault)
-Stands-first max position part images fault now None leaves none batch = tt
-Stands-first max position part images fault now (Some text) leaves none batch =
+pub Stands-first : (least most position : ℕ) (part : List ℕ) (images : List Image) (fault : StreamFault) (now : List ℕ) (left leaves : Option (List ℕ)) → length images ≡ 0
+    → IfSome left (λ text. Batch least most position (part ++ text) images (Some fault) now leaves) → IfSome left (λ text. Stands (position + 1) (part ++ text) fault)
+Stands-first least most position part images fault now None leaves none batch = tt
+Stands-first least most position part images fault now (Some text) leaves none batch =
     let all : part ++ text ≡ batch.rest = batch.run.text_is ∙ ap (λ t. t ++ batch.rest) (in_step_none position batch.run.lines images none batch.run.in_step) in
     let at : position + length images + 1 ≡ position + 1 = omega (arith, none) in
     subst (λ (t : List ℕ). Stands (position + 1) t fault) (sym all) (subst (λ (n : ℕ). Stands n batch.rest fault) at batch.ends.1)

@@ -55,10 +55,10 @@ not_another line wanted got image other said stray apart = apart (ap (λ (m : Me
 abbrev Stops : ℕ → ℕ → ℕ → List ℕ → Type 0
 Stops max count position text = (wanted : ℕ) (line rest : List ℕ) (image : Image) → wanted ≡ position + count + 1 → FirstLine text line rest → IsMessageLine line (wanted, image) → count < max → ⊥
 
-stops : (max count position : ℕ) (text : List ℕ) (fault : Option StreamFault) (part : List ℕ) (left : Option (List ℕ)) → IsOfText fault → Ends max count position text fault part left → Stops max count position text
+stops : (max count position : ℕ) (text : List ℕ) (fault : Option StreamFault) (part : List ℕ) (left : Option (List ℕ)) → IsOfText fault → Ends max max count position text fault part left → Stops max count position text
 stops max count position text None part left of_text ends wanted line rest image is first said room = elim ends.0 [
-  | inl full ↦ omega (arith, full, room)
-  | inr none ↦ broken line rest (subst IsUnbroken first.text_is none.unbroken)
+  | inl full ↦ omega (arith, full.0, room)
+  | inr none ↦ broken line rest (subst IsUnbroken first.text_is none.1.unbroken)
 ]
 stops max count position text (Some Read) part left of_text ends wanted line rest image is first said room = absurd of_text
 stops max count position text (Some Memory) part left of_text ends wanted line rest image is first said room = absurd of_text
@@ -167,23 +167,23 @@ one_stands wanted text fault Memory a b one two = absurd b
 one_stands wanted text fault Failed a b one two = absurd two
 
 -- a batch that ends before a fault does not end without
-only_one_ends : (max count position : ℕ) (text : List ℕ) (fault : StreamFault) → IsOfText (Some fault) → (count ≡ max) ⊎ NoLine text → count < max → Stands (position + count + 1) text fault → ⊥
-only_one_ends max count position text fault of_text (inl full) room stands = omega (arith, full, room)
-only_one_ends max count position text fault of_text (inr none) room stands = apart_from_none (position + count + 1) text fault of_text none stands
+only_one_ends : (max count position : ℕ) (text part : List ℕ) (fault : StreamFault) → IsOfText (Some fault) → ((max ≤ count) × (part ≡ [])) ⊎ ((count < max) × NoLine text) → count < max → Stands (position + count + 1) text fault → ⊥
+only_one_ends max count position text part fault of_text (inl full) room stands = omega (arith, full.0, room)
+only_one_ends max count position text part fault of_text (inr none) room stands = apart_from_none (position + count + 1) text fault of_text none.1 stands
 
 one_end : (max count position : ℕ) (text : List ℕ) (fault next : Option StreamFault) (part piece : List ℕ) (left leaves : Option (List ℕ)) → IsOfText fault → IsOfText next
-    → Ends max count position text fault part left → Ends max count position text next piece leaves → fault ≡ next
+    → Ends max max count position text fault part left → Ends max max count position text next piece leaves → fault ≡ next
 one_end max count position text None None part piece left leaves a b one two = refl
-one_end max count position text None (Some next) part piece left leaves a b one two = absurd (only_one_ends max count position text next b one.0 two.0 two.1)
-one_end max count position text (Some fault) None part piece left leaves a b one two = absurd (only_one_ends max count position text fault a two.0 one.0 one.1)
+one_end max count position text None (Some next) part piece left leaves a b one two = absurd (only_one_ends max count position text part next b one.0 two.0 two.1)
+one_end max count position text (Some fault) None part piece left leaves a b one two = absurd (only_one_ends max count position text piece fault a two.0 one.0 one.1)
 one_end max count position text (Some fault) (Some next) part piece left leaves a b one two = ap Some (one_stands (position + count + 1) text fault next a b one.1 two.1)
 
 -- two batches of one text have the same images, and end before the same fault
 pub same_batch : (max position : ℕ) (text : List ℕ) (one other : List Image) (fault next : Option StreamFault) (part piece : List ℕ) (left leaves : Option (List ℕ))
-    → Batch max position text one fault part left → Batch max position text other next piece leaves → IsOfText fault → IsOfText next → (one ≡ other) × (fault ≡ next)
+    → Batch max max position text one fault part left → Batch max max position text other next piece leaves → IsOfText fault → IsOfText next → (one ≡ other) × (fault ≡ next)
 same_batch max position text one other fault next part piece left leaves first second of_text told =
     let (same, rest) = same_runs max position text first.run.lines second.run.lines one other first.rest second.rest first.run.in_step second.run.in_step first.run.text_is second.run.text_is first.within second.within
     (stops max (length one) position first.rest fault part left of_text first.ends) (stops max (length other) position second.rest next piece leaves told second.ends) in
-    let ends : Ends max (length other) position second.rest fault part left =
-    subst (λ (n : ℕ). Ends max n position second.rest fault part left) (ap length same) (subst (λ (t : List ℕ). Ends max (length one) position t fault part left) rest first.ends) in
+    let ends : Ends max max (length other) position second.rest fault part left =
+    subst (λ (n : ℕ). Ends max max n position second.rest fault part left) (ap length same) (subst (λ (t : List ℕ). Ends max max (length one) position t fault part left) rest first.ends) in
     (same, one_end max (length other) position second.rest fault next part piece left leaves of_text told ends second.ends)

@@ -16,10 +16,11 @@ use Rattle.pn_record.specs.declared.fault.ImageFault.{ImageFault}
 use Rattle.pn_record.specs.declared.fault.ImageFault.TheVariants as image
 use Rattle.pn_json.specs.Answers.{IsUnless}
 use Rattle.pn_stream.specs.Messages.{Message, message_at}
-use Rattle.pn_stream.specs.Steps.{whole_line, image_in_step}
+use Rattle.pn_stream.specs.Steps.{line_ended, image_in_step}
 use Rattle.pn_stream.specs.Faults.{Refuses, Stands}
 use Rattle.pn_stream.specs.Batches.{IsPart, IsNext, part_of}
 use Rattle.pn_stream.specs.declared.fault.StreamFault.{StreamFault}
+use Rattle.pn_stream.specs.declared.next.Found.{Found}
 use Rattle.pn_stream.specs.declared.fault.StreamFault.TheVariants.{Read, LineTooLong, BadMessage, OutOfStep, Memory, Failed}
 
 -- a line that holds a part, by its bytes
@@ -89,9 +90,9 @@ pub record TakesLine (text line : List ℕ) (leaves : Option (List ℕ)) : Type 
   pub short : length line ≤ 65536
 
 -- the line that was read to its newline
-pub next_line : (line new : LineBufferValue) (left leaves : Option (List ℕ)) → IsPart line → ReadsTo Newline line new left leaves → IfSome left (λ text. TakesLine (line.bytes ++ text) new.bytes leaves)
-next_line line new None leaves is reads = tt
-next_line line new (Some text) leaves is reads =
+pub next_line : (more : Bool) (line new : LineBufferValue) (left leaves : Option (List ℕ)) → IsPart line → ReadsTo (Newline more) line new left leaves → IfSome left (λ text. TakesLine (line.bytes ++ text) new.bytes leaves)
+next_line more line new None leaves is reads = tt
+next_line more line new (Some text) leaves is reads =
     let read = ReadsPart-from_takes line.bytes text is.part.unbroken (held line new (Some text) leaves (10 ∷ []) is reads.0) in
     let (front, fits) = whole new (line.bytes ++ read.taken) read.line reads.1 in
     let whole_text : line.bytes ++ text ≡ (line.bytes ++ read.taken) ++ 10 ∷ read.rest =
@@ -104,10 +105,10 @@ next_line line new (Some text) leaves is reads =
     })
 
 -- a line that is the message wanted
-pub next_ok : (wanted : ℕ) (part line now : List ℕ) (image : Image) (left leaves : Option (List ℕ)) → IfSome left (λ text. TakesLine (part ++ text) line leaves) → IsMessageLine line (wanted, image) → now ≡ []
-    → IfSome left (λ text. IsNext wanted (part ++ text) (Some image) now leaves)
-next_ok wanted part line now image None leaves takes said none = tt
-next_ok wanted part line now image (Some text) leaves takes said none =
+pub next_ok : (wanted : ℕ) (part line now : List ℕ) (found : Found) (left leaves : Option (List ℕ)) → IfSome left (λ text. TakesLine (part ++ text) line leaves) → IsMessageLine line (wanted, found.image) → now ≡ []
+    → IfSome left (λ text. IsNext wanted (part ++ text) (Some found) now leaves)
+next_ok wanted part line now found None leaves takes said none = tt
+next_ok wanted part line now found (Some text) leaves takes said none =
     (line, takes.rest, takes.first, said, (takes.rest, takes.leaves_is, ap (λ t. t ++ takes.rest) (sym none)))
 
 -- a line that is refused
@@ -132,15 +133,20 @@ part_within (Some line) is = is.part.short
 -- ---- how reading a line ended
 
 -- at a newline
-pub newline_read : {E : Type 0} (end : Result BoundedEnd E) (ends : BoundedEnd → Type 0) → whole_line end ≡ Ok true → IfOk end ends → ends Newline
-newline_read (Ok Newline) ends is read = read
-newline_read (Ok EndOfInput) ends is read = cc
-newline_read (Ok TooLong) ends is read = cc
-newline_read (Err error) ends is read = cc
+pub newline_read : {E : Type 0} (end : Result BoundedEnd E) (more : Bool) (ends : BoundedEnd → Type 0) → line_ended end ≡ Ok (Some more) → IfOk end ends → ends (Newline more)
+newline_read (Ok (Newline seen)) more ends is read = let same : seen ≡ more = cc in subst (λ (b : Bool). ends (Newline b)) same read
+newline_read (Ok EndOfInput) more ends is read = cc
+newline_read (Ok TooLong) more ends is read = cc
+newline_read (Err error) more ends is read = cc
+
+-- an option that is no value is none
+pub no_line : {A : Type 0} (seen : Option A) → ((x : A) → seen ≡ Some x → ⊥) → seen ≡ None
+no_line None none = refl
+no_line (Some x) none = absurd (none x refl)
 
 -- at the end of the input
-pub input_ended : {E : Type 0} (end : Result BoundedEnd E) (ends : BoundedEnd → Type 0) → whole_line end ≡ Ok false → IfOk end ends → ends EndOfInput
-input_ended (Ok Newline) ends is read = cc
+pub input_ended : {E : Type 0} (end : Result BoundedEnd E) (ends : BoundedEnd → Type 0) → line_ended end ≡ Ok None → IfOk end ends → ends EndOfInput
+input_ended (Ok (Newline more)) ends is read = cc
 input_ended (Ok EndOfInput) ends is read = read
 input_ended (Ok TooLong) ends is read = cc
 input_ended (Err error) ends is read = cc
@@ -153,14 +159,14 @@ fault_same : {A : Type 0} (fault other : StreamFault) → ◌≡◌ {A = Result 
 fault_same fault other is = cc
 
 -- with a fault, which stands next
-pub fault_stands : {E : Type 0} (end : Result BoundedEnd E) (fault : StreamFault) (wanted : ℕ) (line new : LineBufferValue) (left leaves : Option (List ℕ)) → IsPart line → whole_line end ≡ Err fault
+pub fault_stands : {E : Type 0} (end : Result BoundedEnd E) (fault : StreamFault) (wanted : ℕ) (line new : LineBufferValue) (left leaves : Option (List ℕ)) → IsPart line → line_ended end ≡ Err fault
     → IfOk end (λ e. ReadsTo e line new left leaves) → IfSome left (λ text. Stands wanted (line.bytes ++ text) fault)
-fault_stands (Ok Newline) fault wanted line new left leaves part is reads = cc
+fault_stands (Ok (Newline more)) fault wanted line new left leaves part is reads = cc
 fault_stands (Ok EndOfInput) fault wanted line new left leaves part is reads = cc
 fault_stands (Ok TooLong) fault wanted line new left leaves part is reads =
-    subst (λ (f : StreamFault). IfSome left (λ text. Stands wanted (line.bytes ++ text) f)) (fault_same {A = Bool} LineTooLong fault is) (next_long wanted line new left leaves part reads)
+    subst (λ (f : StreamFault). IfSome left (λ text. Stands wanted (line.bytes ++ text) f)) (fault_same {A = Option Bool} LineTooLong fault is) (next_long wanted line new left leaves part reads)
 fault_stands (Err error) fault wanted line new left leaves part is reads =
-    subst (λ (f : StreamFault). IfSome left (λ text. Stands wanted (line.bytes ++ text) f)) (fault_same {A = Bool} Read fault is) (told (λ text. Stands wanted (line.bytes ++ text) Read) (λ text. tt) left)
+    subst (λ (f : StreamFault). IfSome left (λ text. Stands wanted (line.bytes ++ text) f)) (fault_same {A = Option Bool} Read fault is) (told (λ text. Stands wanted (line.bytes ++ text) Read) (λ text. tt) left)
 
 -- ---- the message of a line
 

@@ -6,6 +6,7 @@ use Rattle.pn_stream.specs.MessageLines.{IsMessageLine}
 use Rattle.pn_stream.specs.Streams.{Run, FirstLine, NoLine, IsLeft}
 use Rattle.pn_stream.specs.Faults.{Stands}
 use Rattle.pn_stream.specs.declared.fault.StreamFault.{StreamFault}
+use Rattle.pn_stream.specs.declared.next.Found.{Found}
 
 -- what a reader of a stream shows: the stream's name, the last position given, the part of a line that was
 -- taken, the fault that the next call answers if one waits, and the source
@@ -21,17 +22,19 @@ abbrev pub part_of : Option LineBufferValue → List ℕ
 part_of None = []
 part_of (Some line) = line.bytes
 
--- a batch of so many images ends before this text: it is full, or no whole line is left; or this fault stands next
-abbrev pub Ends : ℕ → ℕ → ℕ → List ℕ → Option StreamFault → List ℕ → Option (List ℕ) → Type 0
-Ends max count position text None part left = ((count ≡ max) ⊎ NoLine text) × IsLeft text part left
-Ends max count position text (Some fault) part left = (count < max) × Stands (position + count + 1) text fault
+-- a batch of so many images ends before this text: it has enough, and no byte behind them was taken; or it has too few, and no whole line
+-- is left; or there was room, and this fault stands next
+abbrev pub Ends : ℕ → ℕ → ℕ → ℕ → List ℕ → Option StreamFault → List ℕ → Option (List ℕ) → Type 0
+Ends least most count position text None part left = (((least ≤ count) × (part ≡ [])) ⊎ ((count < least) × NoLine text)) × IsLeft text part left
+Ends least most count position text (Some fault) part left = (count < most) × Stands (position + count + 1) text fault
 
--- these images are the longest run, at most `max`, of messages in step from the start of the text
-pub record Batch (max position : ℕ) (text : List ℕ) (images : List Image) (fault : Option StreamFault) (part : List ℕ) (left : Option (List ℕ)) : Type 0 where
+-- these images are a run of messages in step from the start of the text, at most `most`, and fewer than `least` only where no whole line
+-- is left or a fault stands next. Where the two are the same, it is the longest run of at most so many
+pub record Batch (least most position : ℕ) (text : List ℕ) (images : List Image) (fault : Option StreamFault) (part : List ℕ) (left : Option (List ℕ)) : Type 0 where
   pub rest : List ℕ
-  pub within : length images ≤ max
+  pub within : length images ≤ most
   pub run : Run position text images rest
-  pub ends : Ends max (length images) position rest fault part left
+  pub ends : Ends least most (length images) position rest fault part left
 
 -- so far these images are a run, and this is left
 pub record SoFar (position : ℕ) (text : List ℕ) (images : List Image) (part : List ℕ) (left : Option (List ℕ)) : Type 0 where
@@ -45,7 +48,7 @@ pub record IsPart (line : LineBufferValue) : Type 0 where
   pub part : NoLine line.bytes
 
 -- the next message of the text, if a whole line is there, and what is left then
-abbrev pub IsNext : ℕ → List ℕ → Option Image → List ℕ → Option (List ℕ) → Type 0
-IsNext wanted text (Some image) part left =
-    (line : List ℕ) × (rest : List ℕ) × FirstLine text line rest × IsMessageLine line (wanted, image) × IsLeft rest part left
+abbrev pub IsNext : ℕ → List ℕ → Option Found → List ℕ → Option (List ℕ) → Type 0
+IsNext wanted text (Some found) part left =
+    (line : List ℕ) × (rest : List ℕ) × FirstLine text line rest × IsMessageLine line (wanted, found.image) × IsLeft rest part left
 IsNext wanted text None part left = NoLine text × IsLeft text part left

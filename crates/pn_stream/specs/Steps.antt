@@ -1,5 +1,5 @@
 -- What a line that was read, and a message that was read, come to.
-use Rattle.std.specs.Prelude.{ℕ, ◌==◌, Bool, true, false, if◌then◌else◌, Result, Ok, Err}
+use Rattle.std.specs.Prelude.{ℕ, ◌==◌, Bool, if◌then◌else◌, Option, None, Some, Result, Ok, Err}
 use Rattle.pn_line.specs.declared.reading.BoundedEnd.{BoundedEnd}
 use Rattle.pn_line.specs.declared.reading.BoundedEnd.TheVariants.{Newline, EndOfInput, TooLong}
 use Rattle.pn_record.specs.declared.image.Image.{Image}
@@ -9,12 +9,12 @@ use Rattle.pn_stream.specs.Messages.{Message}
 use Rattle.pn_stream.specs.declared.fault.StreamFault.{StreamFault}
 use Rattle.pn_stream.specs.declared.fault.StreamFault.TheVariants.{Read, LineTooLong, BadMessage, OutOfStep, Memory}
 
--- whether a whole line was read, or why none comes
-abbrev pub whole_line : {E : Type 0} → Result BoundedEnd E → Result Bool StreamFault
-whole_line (Ok Newline) = Ok true
-whole_line (Ok EndOfInput) = Ok false
-whole_line (Ok TooLong) = Err LineTooLong
-whole_line (Err error) = Err Read
+-- whether a further newline was shown behind the whole line that was read, if one was; or why none comes
+abbrev pub line_ended : {E : Type 0} → Result BoundedEnd E → Result (Option Bool) StreamFault
+line_ended (Ok (Newline more)) = Ok (Some more)
+line_ended (Ok EndOfInput) = Ok None
+line_ended (Ok TooLong) = Err LineTooLong
+line_ended (Err error) = Err Read
 
 -- why there is no message where the one at this position is wanted
 abbrev pub fault_at : ℕ → ImageFault → StreamFault

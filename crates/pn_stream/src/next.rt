@@ -1,9 +1,10 @@
 //! The next messages of a stream, from the lines that its source has.
 
-ghost use Rattle.std.specs.Prelude.{◌≡◌, ◌+◌, ◌≤◌, [], ◌∷◌, ◌++◌, length, IfOk, IfErr, IfSome, OnOk, OnErr, IsErrOf, IsSome};
+ghost use Rattle.std.specs.Prelude.{◌≡◌, ◌+◌, ◌<◌, ◌≤◌, false, [], ◌∷◌, ◌++◌, length, IfOk, IfErr, IfSome, OnOk, OnSome, OnErr, IsErrOf, IsSome, IsTrue};
 ghost use Rattle.pn_line.specs.Line.{so_far};
+ghost use Rattle.pn_line.specs.Reads.{HasShown};
 ghost use Rattle.pn_record.specs.Limits.{greatest};
-ghost use Rattle.pn_stream.specs.Steps.{whole_line, image_in_step};
+ghost use Rattle.pn_stream.specs.Steps.{line_ended, image_in_step};
 ghost use Rattle.pn_stream.specs.MessageLines.{IsMessageLine};
 ghost use Rattle.pn_stream.specs.Faults.{Refuses, Stands};
 ghost use Rattle.pn_stream.specs.Batches.{Batch, IsPart, IsNext, part_of};
@@ -16,32 +17,60 @@ use pn_record::{Image, ImageFault};
 use std::alloc::Global;
 use std::io;
 
-// Adds the images of the next messages, until there are `max`, no whole line is left, or a fault comes.
-// The part of a line that was taken is kept. Where there was none, memory for a line is taken first.
+/// How many messages are asked for: no more than `most`, and fewer than `least` only where no further whole line is
+/// there or a fault stands next.
+#[derive(Clone, Copy, Debug)]
+pub(crate) struct Asked {
+    pub(crate) least: usize,
+    pub(crate) most: usize,
+}
+
+impl Asked {
+    // Whether so many messages are too few; or there is room for another one, and its newline was shown.
+    fn wants(self, count: usize, more: bool) -> bool
+        requires { self.least ≤ self.most }
+        ensures room { IsTrue result → count < self.most }
+        ensures few { IsTrue result → more ≡ false → count < self.least }
+        ensures enough { result ≡ false → self.least ≤ count }
+    {
+        count < self.least || more && count < self.most
+    }
+}
+
+// The image of a message, and whether a further newline was shown behind its line.
+#[derive(Drop)]
+struct Found {
+    image: Image,
+    more: bool,
+}
+
+// Adds the images of the next messages, until there are as many as were asked for, no whole line is left, or a fault
+// comes. The part of a line that was taken is kept. Where there was none, memory for a line is taken first.
 pub(crate) fn next_images<S: Source>(
     alloc: Global,
     held: &mut Option<LineBuffer>,
     source: &mut S,
     position: u64,
-    max: usize,
+    asked: Asked,
     images: &mut Vec<Image>,
 ) -> Result<(), StreamFault>
     requires part { IfSome held.old IsPart }
     requires none { images.old.items ≡ [] }
     requires position { position ≤ greatest }
-    requires some { 1 ≤ max }
-    ensures within { length images.new.items ≤ max }
+    requires some { 1 ≤ asked.least }
+    requires few { asked.least ≤ asked.most }
+    ensures within { length images.new.items ≤ asked.most }
     ensures positions { position + length images.new.items ≤ greatest }
     ensures ok { OnOk result (IfSome (S.left source.old) (λ text.
-        Batch max position (part_of held.old ++ text) images.new.items None (part_of held.new) (S.left source.new))) }
+        Batch asked.least asked.most position (part_of held.old ++ text) images.new.items None (part_of held.new) (S.left source.new))) }
     ensures err { IfErr result (λ fault. IfSome (S.left source.old) (λ text.
-        Batch max position (part_of held.old ++ text) images.new.items (Some fault) (part_of held.new) (S.left source.new))) }
+        Batch asked.least asked.most position (part_of held.old ++ text) images.new.items (Some fault) (part_of held.new) (S.left source.new))) }
     ensures part { IfSome held.new IsPart }
     ensures read { IsErrOf result StreamFault.Read → S.may_fail }
     ensures not_failed { IsErrOf result StreamFault.Failed → ⊥ }
 {
     let mut line = held_line(alloc, held)?;
-    gather(alloc, &mut line, source, position, max, images)?;
+    gather(alloc, &mut line, source, position, asked, images)?;
     *held = Some(line);
     Ok(())
 }
@@ -72,26 +101,32 @@ fn gather<S: Source>(
     line: &mut LineBuffer,
     source: &mut S,
     position: u64,
-    max: usize,
+    asked: Asked,
     images: &mut Vec<Image>,
 ) -> Result<(), StreamFault>
     requires part { IsPart line.old }
     requires none { images.old.items ≡ [] }
     requires position { position ≤ greatest }
-    ensures within { length images.new.items ≤ max }
+    requires some { 1 ≤ asked.least }
+    requires few { asked.least ≤ asked.most }
+    ensures within { length images.new.items ≤ asked.most }
     ensures positions { position + length images.new.items ≤ greatest }
     ensures ok { OnOk result (IfSome (S.left source.old) (λ text.
-        Batch max position (line.old.bytes ++ text) images.new.items None line.new.bytes (S.left source.new))) }
+        Batch asked.least asked.most position (line.old.bytes ++ text) images.new.items None line.new.bytes (S.left source.new))) }
     ensures err { IfErr result (λ fault. IfSome (S.left source.old) (λ text.
-        Batch max position (line.old.bytes ++ text) images.new.items (Some fault) [] (S.left source.new))) }
+        Batch asked.least asked.most position (line.old.bytes ++ text) images.new.items (Some fault) [] (S.left source.new))) }
     ensures part { OnOk result (IsPart line.new) }
     ensures read { IsErrOf result StreamFault.Read → S.may_fail }
     ensures not_failed { IsErrOf result StreamFault.Failed → ⊥ }
 {
-    'images: while images.len() < max {
+    let mut more = false;
+    'images: while asked.wants(images.len(), more) {
         let wanted = position + images.len() as u64 + 1;
         match next_image(alloc, line, source, wanted)? {
-            Some(image) => push_image(images, image)?,
+            Some(found) => {
+                more = found.more;
+                push_image(images, found.image)?;
+            }
             None => return Ok(()),
         }
     }
@@ -107,38 +142,41 @@ fn push_image(images: &mut Vec<Image>, image: Image) -> Result<(), NoMemory>
     Ok(())
 }
 
-// The image of the next message, which must be at the position `wanted`. None where no whole line is left.
+// The next message, which must be at the position `wanted`. None where no whole line is left.
 fn next_image<S: Source>(
     alloc: Global,
     line: &mut LineBuffer,
     source: &mut S,
     wanted: u64,
-) -> Result<Option<Image>, StreamFault>
+) -> Result<Option<Found>, StreamFault>
     requires { IsPart line.old }
-    ensures next { IfOk result (λ image. IfSome (S.left source.old) (λ text.
-        IsNext wanted (line.old.bytes ++ text) image line.new.bytes (S.left source.new))) }
+    ensures next { IfOk result (λ found. IfSome (S.left source.old) (λ text.
+        IsNext wanted (line.old.bytes ++ text) found line.new.bytes (S.left source.new))) }
+    ensures taken { IfOk result (λ found. IsSome found → line.new.bytes ≡ []) }
+    ensures more { IfOk result (λ found. IfSome found (λ message.
+        OnSome (S.left source.old) (HasShown message.more (S.left source.new)))) }
     ensures stands { IfErr result (λ fault. IfSome (S.left source.old) (λ text.
         Stands wanted (line.old.bytes ++ text) fault)) }
     ensures part { OnOk result (IsPart line.new) }
-    ensures position { IfOk result (λ image. IsSome image → wanted ≤ greatest) }
+    ensures position { IfOk result (λ found. IsSome found → wanted ≤ greatest) }
     ensures read { IsErrOf result StreamFault.Read → S.may_fail }
     ensures not_failed { IsErrOf result StreamFault.Failed → ⊥ }
 {
-    if !is_whole(read_bounded_line(line, source))? {
+    let Some(more) = whole_line(read_bounded_line(line, source))? else {
         return Ok(None);
-    }
+    };
     let image = image_at(alloc, line.bytes(), wanted)?;
     line.start();
-    Ok(Some(image))
+    Ok(Some(Found { image, more }))
 }
 
-// Whether a whole line was read, or why none comes.
-fn is_whole(end: io::Result<BoundedEnd>) -> Result<bool, StreamFault>
-    ensures { result ≡ whole_line end }
+// Whether a further newline was shown behind the whole line that was read, if one was; or why none comes.
+fn whole_line(end: io::Result<BoundedEnd>) -> Result<Option<bool>, StreamFault>
+    ensures { result ≡ line_ended end }
 {
     match end {
-        Ok(BoundedEnd::Newline) => Ok(true),
-        Ok(BoundedEnd::EndOfInput) => Ok(false),
+        Ok(BoundedEnd::Newline { more }) => Ok(Some(more)),
+        Ok(BoundedEnd::EndOfInput) => Ok(None),
         Ok(BoundedEnd::TooLong) => Err(StreamFault::LineTooLong),
         Err(_) => Err(StreamFault::Read),
     }

@@ -7,7 +7,7 @@ ghost use Rattle.pn_stream.specs.Faults.{Stands};
 
 use crate::delivery::Delivery;
 use crate::fault::StreamFault;
-use crate::next::next_images;
+use crate::next::{Asked, next_images};
 use pn_join::{Dup, LAST_POSITION, StreamName};
 use pn_line::{LineBuffer, Source};
 use pn_record::Image;
@@ -87,7 +87,79 @@ impl<S: Source + Drop> StreamReader<S> {
             delivery ≡ record { stream = self.old.name; first = min (self.old.position + 1) greatest; images = delivery.images }) }
         ensures within { IfOk result (λ delivery. length delivery.images ≤ max) }
         ensures longest { IfOk result (λ delivery. IfSome (S.left self.old.source) (λ text.
-            Batch max self.old.position (self.old.part ++ text) delivery.images self.new.fault self.new.part (S.left self.new.source))) }
+            Batch max max self.old.position (self.old.part ++ text) delivery.images self.new.fault self.new.part (S.left self.new.source))) }
+        ensures waits { IfOk result (λ delivery. length delivery.images ≡ 0 → self.new.fault ≡ None) }
+
+        // Which fault it is.
+        ensures waited { IfSome self.old.fault (λ fault. result ≡ Err fault) }
+        ensures fault { IfErr result (λ fault. self.old.fault ≡ None → IfSome (S.left self.old.source) (λ text.
+            Stands (self.old.position + 1) (self.old.part ++ text) fault)) }
+        ensures read { IsErrOf result StreamFault.Read → self.old.fault ≡ None → S.may_fail }
+        ensures read_next { IfOk result (λ _. self.new.fault ≡ Some StreamFault.Read → S.may_fail) }
+        ensures not_failed { IsErrOf result StreamFault.Failed → self.old.fault ≡ None → ⊥ }
+        ensures not_failed_next { IfOk result (λ _. self.new.fault ≢ Some StreamFault.Failed) }
+
+        // What stands after it.
+        ensures position { IfOk result (λ delivery. self.new.position ≡ self.old.position + length delivery.images) }
+        ensures stays { OnErr result (self.new.position ≡ self.old.position) }
+        ensures failed { OnErr result (self.new.fault ≡ Some StreamFault.Failed) }
+        ensures name { self.new.name ≡ self.old.name }
+        ensures part { length self.new.part ≤ longest_line }
+    {
+        self.next_asked(Asked {
+            least: max,
+            most: max,
+        })
+    }
+
+    /// The images of the next messages that are at hand, at most `max` of them, which is from 1 to 1,000. It waits for
+    /// the first message, and looks for a further line only where that line's newline was shown: of other lines it
+    /// takes nothing. Without images, no whole line is there, as from `next_batch`, and faults come as from there.
+    pub fn next_ready(&mut self, max: usize) -> Result<Delivery, StreamFault>
+        requires some { 1 ≤ max }
+        requires few { max ≤ 1000 }
+
+        // What is given.
+        ensures delivery { IfOk result (λ delivery.
+            delivery ≡ record { stream = self.old.name; first = min (self.old.position + 1) greatest; images = delivery.images }) }
+        ensures within { IfOk result (λ delivery. length delivery.images ≤ max) }
+        ensures run { IfOk result (λ delivery. IfSome (S.left self.old.source) (λ text.
+            Batch 1 max self.old.position (self.old.part ++ text) delivery.images self.new.fault self.new.part (S.left self.new.source))) }
+        ensures waits { IfOk result (λ delivery. length delivery.images ≡ 0 → self.new.fault ≡ None) }
+
+        // Which fault it is.
+        ensures waited { IfSome self.old.fault (λ fault. result ≡ Err fault) }
+        ensures fault { IfErr result (λ fault. self.old.fault ≡ None → IfSome (S.left self.old.source) (λ text.
+            Stands (self.old.position + 1) (self.old.part ++ text) fault)) }
+        ensures read { IsErrOf result StreamFault.Read → self.old.fault ≡ None → S.may_fail }
+        ensures read_next { IfOk result (λ _. self.new.fault ≡ Some StreamFault.Read → S.may_fail) }
+        ensures not_failed { IsErrOf result StreamFault.Failed → self.old.fault ≡ None → ⊥ }
+        ensures not_failed_next { IfOk result (λ _. self.new.fault ≢ Some StreamFault.Failed) }
+
+        // What stands after it.
+        ensures position { IfOk result (λ delivery. self.new.position ≡ self.old.position + length delivery.images) }
+        ensures stays { OnErr result (self.new.position ≡ self.old.position) }
+        ensures failed { OnErr result (self.new.fault ≡ Some StreamFault.Failed) }
+        ensures name { self.new.name ≡ self.old.name }
+        ensures part { length self.new.part ≤ longest_line }
+    {
+        self.next_asked(Asked {
+            least: 1,
+            most: max,
+        })
+    }
+
+    // The images of the next messages, as many as were asked for.
+    fn next_asked(&mut self, asked: Asked) -> Result<Delivery, StreamFault>
+        requires some { 1 ≤ asked.least }
+        requires few { asked.least ≤ asked.most }
+
+        // What is given.
+        ensures delivery { IfOk result (λ delivery.
+            delivery ≡ record { stream = self.old.name; first = min (self.old.position + 1) greatest; images = delivery.images }) }
+        ensures within { IfOk result (λ delivery. length delivery.images ≤ asked.most) }
+        ensures run { IfOk result (λ delivery. IfSome (S.left self.old.source) (λ text.
+            Batch asked.least asked.most self.old.position (self.old.part ++ text) delivery.images self.new.fault self.new.part (S.left self.new.source))) }
         ensures waits { IfOk result (λ delivery. length delivery.images ≡ 0 → self.new.fault ≡ None) }
 
         // Which fault it is.
@@ -109,7 +181,7 @@ impl<S: Source + Drop> StreamReader<S> {
         if let Some(fault) = self.waiting() {
             return Err(self.fail(fault));
         }
-        let (images, fault) = self.take_next(max);
+        let (images, fault) = self.take_next(asked);
         self.settle(fault, images.is_empty())?;
         Ok(self.deliver(images))
     }
@@ -132,12 +204,13 @@ impl<S: Source + Drop> StreamReader<S> {
     }
 
     // The images of the next messages, and the fault that follows them, if there is one.
-    fn take_next(&mut self, max: usize) -> (Vec<Image>, Option<StreamFault>)
-        requires { 1 ≤ max }
-        ensures within { length result.0.items ≤ max }
+    fn take_next(&mut self, asked: Asked) -> (Vec<Image>, Option<StreamFault>)
+        requires some { 1 ≤ asked.least }
+        requires few { asked.least ≤ asked.most }
+        ensures within { length result.0.items ≤ asked.most }
         ensures positions { self.old.position + length result.0.items ≤ greatest }
-        ensures longest { IfSome (S.left self.old.source) (λ text.
-            Batch max self.old.position (self.old.part ++ text) result.0.items result.1 self.new.part (S.left self.new.source)) }
+        ensures run { IfSome (S.left self.old.source) (λ text.
+            Batch asked.least asked.most self.old.position (self.old.part ++ text) result.0.items result.1 self.new.part (S.left self.new.source)) }
         ensures read { result.1 ≡ Some StreamFault.Read → S.may_fail }
         ensures not_failed { result.1 ≢ Some StreamFault.Failed }
         ensures name { self.new.name ≡ self.old.name }
@@ -151,7 +224,7 @@ impl<S: Source + Drop> StreamReader<S> {
             &mut self.line,
             &mut self.source,
             self.position,
-            max,
+            asked,
             &mut images,
         );
         match ended {

@@ -58,7 +58,7 @@ fn bounded_end(alloc: Global, text: &[u8]) -> Result<BoundedEnd, Fail> {
 #[test]
 fn a_line_of_65_537_bytes_is_too_long(rt: HostRuntime) -> Result<(), Fail> {
     for (bytes, kept, end) in [
-        (65_536, 65_536, BoundedEnd::Newline),
+        (65_536, 65_536, BoundedEnd::Newline { more: false }),
         (65_537, 65_537, BoundedEnd::TooLong),
         (200_000, 65_537, BoundedEnd::TooLong),
     ] {

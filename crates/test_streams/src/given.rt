@@ -39,9 +39,31 @@ pub(crate) fn push_delivery(
     Ok(told.push_str("; ")?)
 }
 
-/// What a reader of the source gives behind a position in so many calls, each of so many messages at most: each
-/// delivery or fault in words, and at last where the reader stands.
+/// By which call a stream is read.
+#[derive(Clone, Copy, Debug)]
+pub(crate) enum By {
+    Batch,
+    Ready,
+}
+
+/// What a reader of the source gives behind a position in so many calls of `next_batch`, each of so many messages at
+/// most: each delivery or fault in words, and at last where the reader stands.
 pub(crate) fn told<S: Source + Drop>(
+    alloc: Global,
+    source: S,
+    after: u64,
+    calls: usize,
+    most: usize,
+) -> Result<String, Fail>
+    requires after { after ≤ 10 ^ 15 }
+    requires most { (1 ≤ most) × (most ≤ 1000) }
+{
+    told_by(By::Batch, alloc, source, after, calls, most)
+}
+
+/// The same by calls of either kind.
+pub(crate) fn told_by<S: Source + Drop>(
+    by: By,
     alloc: Global,
     source: S,
     after: u64,
@@ -54,7 +76,11 @@ pub(crate) fn told<S: Source + Drop>(
     let mut reader = StreamReader::new(alloc, east()?, after, source);
     let mut told = String::new(alloc);
     for _ in 0..calls {
-        match reader.next_batch(most) {
+        let given = match by {
+            By::Batch => reader.next_batch(most),
+            By::Ready => reader.next_ready(most),
+        };
+        match given {
             Ok(delivery) => push_delivery(&mut told, alloc, &delivery)?,
             Err(fault) => told.push_str(format!(in alloc; "{fault}; ")?.as_str())?,
         }

@@ -8,4 +8,6 @@ mod messages;
 #[cfg(test)]
 mod pipe;
 #[cfg(test)]
+mod ready;
+#[cfg(test)]
 mod streams;

@@ -1,14 +1,7 @@
-use Rattle.std.proofs.Common.{ℕ, ◌≤◌, ◌<◌, List, Option, None, Some, Ok, OnSome, rules, arith, ap}
-use Rattle.std.specs.Io.KnownBytes.{Consumes, IsAtEnd}
+use Rattle.std.proofs.Common.{◌≤◌, ◌<◌, Ok, rules, arith, ap}
 use Rattle.pn_line.specs.declared.line_buffer.TheConstants.{LONGEST_LINE}
-use Rattle.pn_line.proofs.ReadLaws.{Takes-trans}
+use Rattle.pn_line.proofs.ReadLaws.{Takes-trans, known_before}
 use Rattle.pn_line.proofs.reading.read_bounded_line.Goals as goal
-
--- an end that is known behind some bytes is known before them
-known_before : (first between last : Option (List ℕ)) (bs : List ℕ) → Consumes first between bs → OnSome between (IsAtEnd last) → OnSome first (IsAtEnd last)
-known_before None between last bs consumed end = tt
-known_before (Some xs) None last bs consumed end = absurd consumed
-known_before (Some xs) (Some ys) last bs consumed end = end
 
 pub pieces-preserved : goal.pieces-preserved
 pieces-preserved g c = Takes-trans c.pieces.invariant (rw c.in-Part.is at c.in_ok-take_some.ensures.takes)
@@ -21,7 +14,7 @@ returns-then-is_too_long-clause-takes g c =
 pub returns-in-Ended-clause-takes : goal.returns-in-Ended-clause-takes
 returns-in-Ended-clause-takes g c =
     let short : c.take_some.new.line.count ≤ LONGEST_LINE = search (arith, rules) in
-    (Takes-trans c.pieces.invariant (rw c.in-Ended.is at c.in_ok-take_some.ensures.takes), short)
+    (Takes-trans c.pieces.invariant (rw c.in-Ended.is at c.in_ok-take_some.ensures.takes), short, known_before _ _ _ _ c.pieces.invariant.source (rw c.in-Ended.is at c.in_ok-take_some.ensures.more))
 
 pub returns-then-is_too_long-2-clause-takes : goal.returns-then-is_too_long-2-clause-takes
 returns-then-is_too_long-2-clause-takes g c =

@@ -1,15 +1,18 @@
--- The images so far are a run, and the line holds the part of the next one that was taken.
-use Rattle.std.proofs.Common.{◌-◌, ◌+◌, ◌≤◌, ◌^◌, ◌++◌, length, IfSome}
+-- The images so far are a run, and the line holds the part of the next one that was taken: none behind an image.
+use Rattle.std.proofs.Common.{◌≡◌, ◌-◌, ◌+◌, ◌≤◌, ◌^◌, [], ◌++◌, length, IfSome, OnSome}
+use Rattle.pn_line.specs.Reads.{HasShown}
 use Rattle.pn_stream.specs.Batches.{SoFar, IsPart}
 use Rattle.pn_stream.proofs.next.gather.Given as goal
 
 abbrev pub invariant-images : goal.invariant-images
 invariant-images g l = record {
-  within : length l.images.items ≤ l.max;
+  within : length l.images.items ≤ l.asked.most;
   positions : l.position + length l.images.items ≤ 10 ^ 15;
   part : IsPart l.line;
+  taken : 1 ≤ length l.images.items → l.line.bytes ≡ [];
+  shown : OnSome (g.S.Source.left l.initial.source) (HasShown l.more (g.S.Source.left l.source));
   so_far : IfSome (g.S.Source.left l.initial.source) (λ text. SoFar l.position (l.initial.line.bytes ++ text) l.images.items l.line.bytes (g.S.Source.left l.source));
 }
 
 abbrev pub decreases-images : goal.decreases-images
-decreases-images g l = l.max - length l.images.items
+decreases-images g l = l.asked.most - length l.images.items

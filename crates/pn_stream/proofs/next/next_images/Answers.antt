@@ -6,9 +6,9 @@ use Rattle.pn_stream.proofs.next.next_images.Goals as goal
 pub returns-in_err-line-clause-err : goal.returns-in_err-line-clause-err
 returns-in_err-line-clause-err g c =
     let none : length c.args.images.now.items ≡ 0 = ap length c.requires.none in
-    let few : length c.args.images.now.items < c.args.max = omega (arith, none, c.requires.some) in
+    let few : length c.args.images.now.items < c.args.asked.most = omega (arith, none, c.requires.some, c.requires.few) in
     handed_on c.from_residual.result c.in_err-line.field-0.0 _ c.from_residual.ensures.1
-    (rw c.in_err-line.ensures.memory (Batch-memory _ _ _ _ _ _ _ _ _ few (SoFar-none _ _ _ _ c.requires.none)))
+    (rw c.in_err-line.ensures.memory (Batch-memory _ _ _ _ _ _ _ _ _ _ few (SoFar-none _ _ _ _ c.requires.none)))
 
 pub returns-in_err-gather-clause-err : goal.returns-in_err-gather-clause-err
 returns-in_err-gather-clause-err g c =
