@@ -1,5 +1,8 @@
 //! What live regions are given: deliveries of images, and what is read of them.
 
+ghost use Rattle.std.specs.Prelude.{◌≡◌};
+ghost use Rattle.pn_live.specs.Readers.{tablets_of};
+
 use pn_join::Name;
 use pn_live::LiveReader;
 use pn_record::{Image, Key, Version, read_image};
@@ -36,7 +39,9 @@ fn image(alloc: Global, key: &str, number: u64) -> Option<Image> {
 pub(crate) fn found(
     reader: &mut LiveReader,
     key: &Key,
-) -> Result<Option<(Version, usize)>, ScanFault> {
+) -> Result<Option<(Version, usize)>, ScanFault>
+    ensures { tablets_of reader.new ≡ tablets_of reader.old }
+{
     let cell = reader.read(key, None)?;
     Ok(cell.map(|cell| (cell.version(), cell.contents().len())))
 }

@@ -20,7 +20,7 @@ const PHASES: u64 = 100;
 const ROUNDS: u64 = 10;
 
 /// How often a reader reads each key in a phase.
-const READS: u64 = 300;
+const READS: u64 = 30;
 
 /// A key of each tablet.
 const KEYS: [&str; 3] = ["a", "n", "z"];

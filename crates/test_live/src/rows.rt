@@ -1,9 +1,13 @@
 //! The worked row of live reads.
 
+ghost use Rattle.std.specs.Prelude.{◌≡◌, IfOk};
+ghost use Rattle.pn_live.specs.Readers.{IsFrontFor, tablets_of};
+
 use crate::given::{deliveries, found};
 use pn_apply::Open;
-use pn_live::{LiveReader, LiveRegion};
+use pn_live::{Front, LiveReader, LiveRegion};
 use pn_record::{Key, Version};
+use pn_region::{Round, RoundFault};
 use pn_scan::ScanFault;
 use std::test::Fail;
 use test_given::layout;
@@ -11,8 +15,26 @@ use test_given::layout;
 // The version and the number of contents, whether the version 1.5 is there, and whether 1.9 is not.
 type Found = (Option<(Version, usize)>, bool, bool);
 
-// What the reader with the front finds.
-fn told(reader: &mut LiveReader, key: &Key) -> Result<Found, ScanFault> {
+// What the reader finds that learns the front of a round, where it ended well, and how many records changed.
+fn told(
+    reader: &mut LiveReader,
+    round: Result<(Round, Front), RoundFault>,
+    key: &Key,
+) -> Option<(u64, Found)>
+    requires { IfOk round (λ done. IsFrontFor reader.old done.1) }
+    ensures { tablets_of reader.new ≡ tablets_of reader.old }
+{
+    let Ok((done, front)) = round else {
+        return None;
+    };
+    reader.learn(front);
+    let found = looked(reader, key).ok()?;
+    Some((done.changed, found))
+}
+
+fn looked(reader: &mut LiveReader, key: &Key) -> Result<Found, ScanFault>
+    ensures { tablets_of reader.new ≡ tablets_of reader.old }
+{
     let cell = found(reader, key)?;
     let enough = reader.read(key, Version::new(1, 5))?.is_some();
     let behind = matches!(
@@ -31,17 +53,12 @@ fn a_reader_that_learns_the_front_finds_the_round(rt: HostRuntime) -> Result<(),
     };
     let (mut live, mut readers) = LiveRegion::open(&rt, alloc, layout(alloc, &[])?, 2)?;
     let round = live.round(&rt, given, 1, &Open);
-    let mut answers = None;
-    let mut changed = 0;
-    if let Ok((done, front)) = round {
-        changed = done.changed;
-        readers[0].learn(front);
-        answers = told(&mut readers[0], &key).ok();
-    }
+    let mut reader = readers.take_last();
+    let answer = told(&mut reader, round, &key);
+    let _ = readers.push(reader);
     let region = live.close(&rt, readers)?;
-    assert_eq!(rt; changed, 1);
     let version = Version::new(1, 5).map(|version| (version, 1));
-    assert!(rt; matches!(answers, Some((found, true, true)) if found == version));
+    assert!(rt; matches!(answer, Some((1, (found, true, true))) if found == version));
     let Some(cell) = region.read(&key, None)? else {
         return Ok(assert!(rt; false, "no record"));
     };
