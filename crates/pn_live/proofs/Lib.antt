@@ -5,3 +5,13 @@ pub mod Orders
 pub mod Ranges
 pub mod Replays
 pub mod ListLaws
+pub mod Walks
+pub mod Appending
+pub mod Knowing
+pub mod Learning
+pub mod Entering
+pub mod Opening
+pub mod Closing
+pub mod Rounds
+pub mod Taken
+pub mod WindowLaws

@@ -50,7 +50,7 @@ step_has images t (Join cells marks) kept is = join_has images t cells marks (li
 step_has images t Lose kept is = absurd kept
 step_has images t (Adopt copy) kept is = adopt_has images t copy (same_range t.range copy.range) (lacking t.status copy.marks) is
 
-all_has : (images : List Image) (t : TabletStateValue) (ops : List TabletOp) → AreNoLosses ops → t.cells ≡ table_of images → Has images (fold stepped t ops)
+pub all_has : (images : List Image) (t : TabletStateValue) (ops : List TabletOp) → AreNoLosses ops → t.cells ≡ table_of images → Has images (fold stepped t ops)
 all_has images t [] kept is = none_more images t is
 all_has images t (op ∷ ops) kept is =
     let one = step_has images t op kept.0 is in
@@ -70,14 +70,14 @@ all_listed : (images : List Image) (t : TabletStateValue) (ops : List TabletOp) 
 all_listed images t [] is = (images, is)
 all_listed images t (op ∷ ops) is = let one = step_listed images t op is in all_listed one.0 (stepped t op) ops one.1
 
-list_listed : (range : Ends) (ops : List TabletOp) → (all : List Image) × ((state_of range ops).cells ≡ table_of all)
+pub list_listed : (range : Ends) (ops : List TabletOp) → (all : List Image) × ((state_of range ops).cells ≡ table_of all)
 list_listed range ops = all_listed [] (empty_tablet range) ops no_images
 
-fold_on : (t : TabletStateValue) (ops more : List TabletOp) → fold stepped t (ops ++ more) ≡ fold stepped (fold stepped t ops) more
+pub fold_on : (t : TabletStateValue) (ops more : List TabletOp) → fold stepped t (ops ++ more) ≡ fold stepped (fold stepped t ops) more
 fold_on t [] more = refl
 fold_on t (op ∷ ops) more = fold_on (stepped t op) ops more
 
-range_kept : (t : TabletStateValue) (ops : List TabletOp) → (fold stepped t ops).range ≡ t.range
+pub range_kept : (t : TabletStateValue) (ops : List TabletOp) → (fold stepped t ops).range ≡ t.range
 range_kept t [] = refl
 range_kept t (op ∷ ops) = range_kept (stepped t op) ops ∙ range_stays t op
 
@@ -98,7 +98,7 @@ goes_on_holding range list more kept key =
     (λ image there. Contains-append_left first.0 rest.0 image there)
 
 -- a join of cells in the range is taken
-join_taken : (t : TabletStateValue) (cells : Entries) (marks : Positions) (b : Bool) → IsTrue b → (after_step t (if b then Ok (taking t cells marks) else Err WrongRange)).cells ≡ adds t.cells (spell cells)
+pub join_taken : (t : TabletStateValue) (cells : Entries) (marks : Positions) (b : Bool) → IsTrue b → (after_step t (if b then Ok (taking t cells marks) else Err WrongRange)).cells ≡ adds t.cells (spell cells)
 join_taken t cells marks true inside = refl
 join_taken t cells marks false inside = absurd (cc (inside))
 

@@ -9,7 +9,7 @@ use Rattle.pn_live.proofs.Prefixes.{begins_itself, begins_more, begins_on, begin
 use Rattle.pn_live.proofs.Ranges.{range_stays}
 use mathlib.Core.List.{IsPrefix}
 
-fold_last : {A B : Type 0} (f : A → B → A) (x : A) (ys : List B) (y : B) → fold f x (ys ++ y ∷ []) ≡ f (fold f x ys) y
+pub fold_last : {A B : Type 0} (f : A → B → A) (x : A) (ys : List B) (y : B) → fold f x (ys ++ y ∷ []) ≡ f (fold f x ys) y
 fold_last f x [] y = refl
 fold_last f x (z ∷ ys) y = fold_last f (f x z) ys y
 

@@ -1,5 +1,12 @@
 pub mod Attempts
 pub mod Books
 pub mod Laws
+pub mod Limits
+pub mod LiveRegions
+pub mod Looks
 pub mod Orders
+pub mod Places
+pub mod Proofs
 pub mod Published
+pub mod Readers
+pub mod Windows

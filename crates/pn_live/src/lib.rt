@@ -2,13 +2,20 @@
 #![tactic(auto)]
 
 mod attempt;
+mod fault;
+mod front;
 pub mod laws;
 mod order;
+mod place;
+mod reader;
+mod region;
 mod seat;
 mod shown;
 mod stamp;
 mod tablet;
+mod window;
 
-pub use seat::{Seat, Visit};
-pub use stamp::Stamp;
-pub use tablet::LiveTablet;
+pub use fault::OpenFault;
+pub use front::Front;
+pub use reader::LiveReader;
+pub use region::LiveRegion;

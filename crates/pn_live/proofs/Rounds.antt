@@ -1,0 +1,86 @@
+-- What a round makes of a live region.
+use Rattle.std.proofs.Common.{◌≡◌, List, length, map, refl, sym, ap, ◌∙◌, subst, arith, Ok, Err}
+use Rattle.std.specs.Prelude.{Result, MatchResult}
+use Rattle.std.specs.List.{flat_map}
+use Rattle.std.proofs.lemmas.List.{length-map}
+use Rattle.pn_join.specs.Marks.{Positions}
+use Rattle.pn_stream.specs.Positions.{DeliveryValue}
+use Rattle.pn_tablet.specs.Changes.{changes}
+use Rattle.pn_tablet.specs.Tablets.{TabletStateValue}
+use Rattle.pn_tablet.specs.declared.change.Change.{Change}
+use Rattle.pn_tablet.specs.declared.op.TabletOp.{TabletOp}
+use Rattle.pn_apply.specs.Applying.{AreJoinsIn, all_stepped, all_changes, AreOldOrStepped}
+use Rattle.pn_apply.proofs.Prefixes.{same_length}
+use Rattle.pn_region.specs.Marking.{new_marks}
+use Rattle.pn_region.specs.Regions.{RegionValue, IsRegion, all_cells}
+use Rattle.pn_region.specs.Rounds.{joins, round, Leaves}
+use Rattle.pn_region.specs.declared.entry.Entry.{Entry}
+use Rattle.pn_region.specs.declared.fault.RoundFault.{RoundFault}
+use Rattle.pn_region.specs.declared.fault.RoundFault.TheVariants.{Gap, TooManyStreams, Memory}
+use Rattle.pn_region.proofs.RoundEnds.{fit, half_left, half_region, new_region_is, round_ok, told_changes}
+use Rattle.pn_live.specs.LiveRegions.{LiveRegionValue, core, tablets_in, publishing, LeavesLive}
+use Rattle.pn_live.specs.Places.{PlaceValue, state_at, all_appended, AreOldOrAppended}
+use Rattle.pn_live.proofs.Appending.{none_appended, states_appended, half_stepped, books_appended, books_half}
+
+module _ (old : LiveRegionValue) (deliveries : List DeliveryValue) (is : IsRegion (core old)) where
+  half_none : (right : Result Positions RoundFault) → MatchResult right (λ marks. AreOldOrAppended old.places (joins (core old) deliveries marks) old.places) (λ fault. old.places ≡ old.places)
+  half_none (Ok marks) = none_appended old.places (joins (core old) deliveries marks)
+  half_none (Err fault) = refl
+
+  -- a fault that changed nothing
+  pub same_live : (fault : RoundFault) → LeavesLive fault old deliveries old
+  same_live (Gap stream wanted got) = refl
+  same_live TooManyStreams = refl
+  same_live Memory = (refl, refl, half_none (new_marks old.marks deliveries))
+
+  module _ (marks : Positions) (ops : List TabletOp) (found : ops ≡ joins (core old) deliveries marks) where
+    pub fit_live : AreJoinsIn (map state_at old.places) ops
+    fit_live = subst (AreJoinsIn (map state_at old.places)) (sym found) (fit (core old) deliveries is marks)
+
+    pub count_live : length ops ≡ length old.places
+    count_live = sym (same_length (map state_at old.places) ops fit_live) ∙ length-map old.places state_at
+
+    -- all joins are published
+    module _ (news : List PlaceValue) (all : news ≡ all_appended old.places ops) where
+      pub stepped_live : map state_at news ≡ all_stepped (map state_at old.places) (joins (core old) deliveries marks)
+      stepped_live =
+          ap (map state_at) all ∙ (states_appended old.places ops (sym count_live) ∙ ap (all_stepped (map state_at old.places)) found)
+
+      pub published_live : news ≡ publishing old deliveries marks
+      published_live = all ∙ ap (all_appended old.places) found
+
+      pub region_live : IsRegion (record { layout = old.layout; tablets = map state_at news; marks = marks })
+      region_live = new_region_is (core old) deliveries is marks (map state_at news) stepped_live
+
+      pub ok_live : new_marks old.marks deliveries ≡ Ok marks → round (core old) deliveries ≡ Ok (record { layout = old.layout; tablets = map state_at news; marks = marks })
+      ok_live accepted = round_ok (core old) deliveries is marks (map state_at news) accepted stepped_live
+
+      pub changes_live : (told : List Change) → told ≡ flat_map (λ (list : List Change). list) (all_changes (map state_at old.places) ops)
+          → told ≡ changes (all_cells (core old)) (all_cells (record { layout = old.layout; tablets = map state_at news; marks = marks }))
+      changes_live told are =
+          told_changes (core old) deliveries is marks (map state_at news) told stepped_live
+          (are ∙ ap (λ (os : List TabletOp). flat_map (λ (list : List Change). list) (all_changes (map state_at old.places) os)) found)
+
+      pub books_live : map (λ (p : PlaceValue). p.book) news ≡ map (λ (p : PlaceValue). p.book) old.places
+      books_live = ap (map (λ (p : PlaceValue). p.book)) all ∙ books_appended old.places ops
+
+    -- some joins are published
+    module _ (news : List PlaceValue) (half : AreOldOrAppended old.places ops news) where
+      found_half : AreOldOrAppended old.places (joins (core old) deliveries marks) news
+      found_half = subst (λ (os : List TabletOp). AreOldOrAppended old.places os news) found half
+
+      pub half_live : (log : List Entry) → new_marks old.marks deliveries ≡ Ok marks → LeavesLive Memory old deliveries (record { layout = old.layout; places = news; marks = old.marks; log = log })
+      half_live log accepted =
+          (refl, refl, subst (λ (right : Result Positions RoundFault). MatchResult right (λ m. AreOldOrAppended old.places (joins (core old) deliveries m) news) (λ fault. news ≡ old.places)) (sym accepted) found_half)
+
+      stepped_half : AreOldOrStepped (map state_at old.places) (joins (core old) deliveries marks) (map state_at news)
+      stepped_half = half_stepped old.places (joins (core old) deliveries marks) news (sym count_live ∙ ap length found) found_half
+
+      pub core_half : new_marks old.marks deliveries ≡ Ok marks → Leaves Memory (core old) deliveries (record { layout = old.layout; tablets = map state_at news; marks = old.marks })
+      core_half accepted = half_left (core old) deliveries is marks (map state_at news) accepted stepped_half
+
+      pub region_half : IsRegion (record { layout = old.layout; tablets = map state_at news; marks = old.marks })
+      region_half = half_region (core old) deliveries is marks (map state_at news) stepped_half
+
+      pub books_left : map (λ (p : PlaceValue). p.book) news ≡ map (λ (p : PlaceValue). p.book) old.places
+      books_left = books_half old.places ops news half

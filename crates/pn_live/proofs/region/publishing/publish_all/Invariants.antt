@@ -1,0 +1,14 @@
+-- The first so many tablets are published, and the next states of the others are left.
+use Rattle.std.proofs.Common.{◌≡◌, map, drop, length}
+use Rattle.std.specs.Vec.Iter.{into_iter_items, into_iter_len}
+use Rattle.pn_apply.specs.Applying.{all_stepped}
+use Rattle.pn_live.specs.Places.{state_at}
+use Rattle.pn_live.proofs.Appending.{AppendedFirst}
+use Rattle.pn_live.proofs.region.publishing.publish_all.Given as goal
+
+abbrev pub invariant-loop-next : goal.invariant-loop-next
+invariant-loop-next g l = record {
+  done : AppendedFirst l.tablet l.fn.places l.fn.operations l.places;
+  rest : map (λ next. next.state) (into_iter_items l.next-iterator) ≡ drop l.tablet (all_stepped (map state_at l.fn.places) l.fn.operations);
+  left : into_iter_len l.next-iterator ≡ length (into_iter_items l.next-iterator);
+}

@@ -1,0 +1,56 @@
+-- The state of a live region, and what its rounds leave.
+use Rattle.std.specs.Prelude.{◌≡◌, List, [], map, MatchResult}
+use Rattle.pn_join.specs.Marks.{Positions}
+use Rattle.pn_stream.specs.Positions.{DeliveryValue}
+use Rattle.pn_tablet.specs.Layouts.{Bounds}
+use Rattle.pn_apply.specs.Reducing.{ranges}
+use Rattle.pn_region.specs.Marking.{new_marks}
+use Rattle.pn_region.specs.Regions.{RegionValue}
+use Rattle.pn_region.specs.Rounds.{joins}
+use Rattle.pn_region.specs.declared.entry.Entry.{Entry}
+use Rattle.pn_region.specs.declared.fault.RoundFault.{RoundFault}
+use Rattle.pn_region.specs.declared.fault.RoundFault.TheVariants.{Memory}
+use Rattle.pn_live.specs.Places.{PlaceValue, AreNewPlaces, state_at, all_appended, AreOldOrAppended}
+use Rattle.pn_live.specs.Readers.{LiveReaderValue, Tablets, tablets_of}
+
+-- a layout, a live tablet for each of its ranges, how far streams were taken, and the entries of the log
+pub record LiveRegionValue : Type 0 where
+  pub layout : Bounds
+  pub places : List PlaceValue
+  pub marks : Positions
+  pub log : List Entry
+
+-- the region that stands behind it: each tablet is at the state of what is published
+abbrev pub core : LiveRegionValue → RegionValue
+core live = record { layout = live.layout; tablets = map state_at live.places; marks = live.marks }
+
+-- nothing was taken, and nothing is published
+pub record IsNewLive (bounds : Bounds) (live : LiveRegionValue) : Type 0 where
+  pub layout : live.layout ≡ bounds
+  pub places : AreNewPlaces (ranges bounds) live.places
+  pub marks : live.marks ≡ []
+  pub log : live.log ≡ []
+
+-- which tablets it has
+abbrev pub tablets_in : LiveRegionValue → Tablets
+tablets_in live = record { layout = live.layout; books = map (λ place. place.book) live.places }
+
+-- the reader is one of the region's
+abbrev pub IsReaderIn : LiveRegionValue → LiveReaderValue → Type 0
+IsReaderIn live reader = tablets_of reader ≡ tablets_in live
+
+-- what the deliveries bring is published of each tablet
+abbrev pub publishing : LiveRegionValue → List DeliveryValue → Positions → List PlaceValue
+publishing live deliveries marks = all_appended live.places (joins (core live) deliveries marks)
+
+-- what a round leaves that ran out of memory: of each tablet its join is published, or nothing, and nothing where the round would be refused
+abbrev pub IsHalfPublished : LiveRegionValue → List DeliveryValue → LiveRegionValue → Type 0
+IsHalfPublished old deliveries new = (new.layout ≡ old.layout) × (new.marks ≡ old.marks)
+    × MatchResult (new_marks old.marks deliveries)
+    (λ marks. AreOldOrAppended old.places (joins (core old) deliveries marks) new.places)
+    (λ fault. new.places ≡ old.places)
+
+-- what a fault leaves: where memory ran out some joins may be published, and every other changes nothing
+abbrev pub LeavesLive : RoundFault → LiveRegionValue → List DeliveryValue → LiveRegionValue → Type 0
+LeavesLive Memory old deliveries new = IsHalfPublished old deliveries new
+LeavesLive _ old deliveries new = new ≡ old

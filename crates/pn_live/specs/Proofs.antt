@@ -1,0 +1,2 @@
+-- The proofs that definitions need.
+pub mod Coding

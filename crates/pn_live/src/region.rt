@@ -1,0 +1,61 @@
+//! Live regions.
+
+ghost use Rattle.std.specs.Prelude.{◌≡◌, ◌≤◌, length, IsTrue};
+ghost use Rattle.pn_join.specs.Marks.{are_positions};
+ghost use Rattle.pn_region.specs.Limits.{most_streams};
+
+mod closing;
+mod opening;
+mod planning;
+mod publishing;
+mod rounds;
+
+use crate::place::Place;
+use pn_join::Marks;
+use pn_region::Log;
+use pn_tablet::Layout;
+use std::alloc::Global;
+use std::marker::Model;
+
+/// The live tablets of a layout, how far streams were taken into all of them, and a log of what changed. One thread
+/// calls it, and readers of its own read the tablets meanwhile. It is not `Drop`: end it by `close`.
+pub struct LiveRegion {
+    layout: Layout,
+    places: Vec<Place>,
+    marks: Marks,
+    log: Log,
+    alloc: Global,
+}
+
+impl Model for LiveRegion {
+    ghost use Rattle.pn_region.specs.Regions.{IsLawfulRegion};
+    ghost use Rattle.pn_live.specs.LiveRegions.{LiveRegionValue, core};
+
+    ghost Value = { LiveRegionValue };
+
+    ghost use Rattle.pn_live.specs.Proofs.Coding.{live_code};
+
+    ghost coded = { live_code };
+
+    ghost view = { λ live. record { layout = live.layout; places = live.places.items; marks = live.marks; log = live.log } };
+
+    ghost invariant = { λ live. IsLawfulRegion (core (record { layout = live.layout; places = live.places.items; marks = live.marks; log = live.log })) };
+}
+
+impl LiveRegion {
+    /// How far streams were taken into every tablet. It takes no memory, and waits for nobody.
+    pub fn marks(&self) -> &Marks
+        ensures marks { result.now ≡ self.now.marks }
+        ensures few { length self.now.marks ≤ most_streams }
+        ensures positions { IsTrue (are_positions self.now.marks) }
+    {
+        &self.marks
+    }
+
+    /// How the keys are divided into tablets. It takes no memory, and waits for nobody.
+    pub fn layout(&self) -> &Layout
+        ensures { result.now ≡ self.now.layout }
+    {
+        &self.layout
+    }
+}
