@@ -6,6 +6,7 @@ pub(crate) mod marks;
 pub(crate) mod notices;
 pub(crate) mod record;
 pub(crate) mod recovery;
+mod room;
 mod rows;
 pub(crate) mod scan;
 pub(crate) mod short;

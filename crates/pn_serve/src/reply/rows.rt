@@ -10,18 +10,11 @@ use pn_json::write_text_member;
 use pn_record::{Cell, CellState, Key, write_contents, write_version};
 use std::alloc::Global;
 
-/// The room for each row of a line, in bytes: a record of common size.
-const ROOM_OF_ROW: usize = 512;
-
-/// The most room that a line has before anything is written, in bytes.
-const MOST_ROOM: usize = 65_536;
-
-/// A line in which nothing is written yet, with room for so many rows of common size.
-pub(crate) fn begin_rows(alloc: Global, rows: usize) -> Result<Writer, NoMemory>
+/// A line in which nothing is written yet, with room for so many bytes.
+pub(crate) fn begin_rows(alloc: Global, room: usize) -> Result<Writer, NoMemory>
     ensures { IfOk result IsBegun }
 {
-    let room = rows.saturating_add(1).saturating_mul(ROOM_OF_ROW);
-    Ok(Writer::new(Vec::with_capacity(alloc, room.min(MOST_ROOM))?))
+    Ok(Writer::new(Vec::with_capacity(alloc, room)?))
 }
 
 // The row of a record: `{"contents":[..],"key":K,"state":S,"version":V}`.

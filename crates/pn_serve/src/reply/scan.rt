@@ -9,6 +9,7 @@ ghost use Rattle.pn_json.specs.Tokens.{Appends, value_tokens};
 ghost use Rattle.pn_serve.specs.Reply.Rows.{row_data};
 ghost use Rattle.pn_serve.specs.Reply.Scan.{next_data, scan_data};
 
+use crate::reply::room::room_of_rows;
 use crate::reply::rows::{begin_rows, write_row};
 use json::Writer;
 use pn_join::NoMemory;
@@ -21,7 +22,7 @@ use std::alloc::Global;
 pub fn scan_reply(alloc: Global, page: &Page) -> Result<Vec<u8>, NoMemory>
     ensures { IfOk result (λ text. text.items ≡ line_of (scan_data (page.now.rows.items, page.now.next))) }
 {
-    let mut writer = begin_rows(alloc, page.rows.len())?;
+    let mut writer = begin_rows(alloc, room_of_rows(&page.rows))?;
     write_scan(&mut writer, page)?;
     finish_line(writer)
 }
