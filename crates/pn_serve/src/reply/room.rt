@@ -22,7 +22,7 @@ const CACHE_LINE: usize = 64;
 pub(crate) fn room_of_found(keys: &[Key], cells: &[Option<Cell>]) -> usize {
     let mut room = OF_ROW;
     for (key, cell) in keys.iter().zip(cells) {
-        room = room.saturating_add(room_of_row_or_null(key, cell.as_ref()));
+        room = room.wrapping_add(room_of_row_or_null(key, cell.as_ref()));
     }
     room
 }
@@ -31,7 +31,7 @@ pub(crate) fn room_of_found(keys: &[Key], cells: &[Option<Cell>]) -> usize {
 pub(crate) fn room_of_rows(rows: &[Row]) -> usize {
     let mut room = OF_ROW;
     for row in rows {
-        room = room.saturating_add(room_of_row(&row.key, &row.cell));
+        room = room.wrapping_add(room_of_row(&row.key, &row.cell));
     }
     room
 }
@@ -45,9 +45,9 @@ pub(crate) fn room_of_row_or_null(key: &Key, cell: Option<&Cell>) -> usize {
 }
 
 fn room_of_row(key: &Key, cell: &Cell) -> usize {
-    let mut room = room_of_text(key.as_str()).saturating_add(OF_ROW);
+    let mut room = key.as_str().len().wrapping_add(OF_ROW);
     for content in cell.contents() {
-        room = room.saturating_add(room_of_content(content));
+        room = room.wrapping_add(room_of_content(content));
     }
     room
 }
@@ -62,31 +62,25 @@ fn room_of_content(content: &Content) -> usize {
 fn room_of_fields(fields: &[(String, Value)]) -> usize {
     let mut room = OF_CONTENT;
     for field in fields {
-        room = room.saturating_add(room_of_field(field));
+        room = room.wrapping_add(room_of_field(field));
     }
     room
 }
 
 fn room_of_field(field: &(String, Value)) -> usize {
-    let name = room_of_text(field.0.as_str());
+    let beside = field.0.len().wrapping_add(OF_FIELD);
     match &field.1 {
-        Value::Text(text) => room_of_text(text.as_str())
-            .saturating_add(name)
-            .saturating_add(OF_FIELD),
+        Value::Text(text) => room_of_text(text.as_str()).wrapping_add(beside),
     }
 }
 
-// A byte of each cache line tells whether the text has escapes.
+// The first byte of each cache line has room for its escape, where it may take one.
 fn room_of_text(text: &str) -> usize {
     let mut room = text.len();
-    for piece in text.as_bytes().chunks(CACHE_LINE) {
-        if piece.first().is_some_and(|byte| takes_escape(*byte)) {
-            room = room.saturating_add(1);
+    for line in text.as_bytes().chunks(CACHE_LINE) {
+        if line.first().is_some_and(|byte| *byte <= b'"') {
+            room = room.wrapping_add(1);
         }
     }
     room
-}
-
-fn takes_escape(byte: u8) -> bool {
-    byte == b'"' || byte == b'\\' || byte < b' '
 }
