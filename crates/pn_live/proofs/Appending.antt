@@ -1,5 +1,5 @@
 -- Live tablets of which one operation more is published.
-use Rattle.std.proofs.Common.{◌≡◌, ◌⊎◌, ℕ, zero, suc, ◌+◌, ◌<◌, ◌≤◌, List, [], ◌∷◌, ◌++◌, fold, length, map, drop, set, get_or, refl, sym, ap, ◌∙◌, subst, inl, inr, arith}
+use Rattle.std.proofs.Common.{◌≡◌, ◌⊎◌, ℕ, zero, suc, ◌+◌, ◌<◌, ◌≤◌, List, [], ◌∷◌, length, map, drop, set, get_or, refl, sym, ap, ◌∙◌, inl, inr, arith}
 use Rattle.logbook.specs.Pages.{Book}
 use Rattle.pn_tablet.specs.Steps.{stepped}
 use Rattle.pn_tablet.specs.Tablets.{TabletStateValue, empty_tablet}

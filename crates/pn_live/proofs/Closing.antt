@@ -1,7 +1,6 @@
 -- Windows that are behind what is published, one after another.
 use Rattle.std.proofs.Common.{◌≡◌, ℕ, zero, suc, ◌+◌, ◌<◌, List, [], ◌∷◌, length, drop, map, get_or, refl, sym, ap, ◌∙◌, subst, arith, add-one}
 use Rattle.std.specs.List.{AllByRecursion}
-use Rattle.logbook.specs.Pages.{Book}
 use Rattle.pn_join.specs.Marks.{Positions}
 use Rattle.pn_tablet.specs.Ranges.{Ends}
 use Rattle.pn_tablet.specs.Tablets.{TabletStateValue, empty_tablet}

@@ -1,10 +1,9 @@
 -- One entry of a reader into a tablet.
-use Rattle.std.proofs.Common.{◌≡◌, ℕ, zero, suc, ◌+◌, ◌<◌, List, [], ◌∷◌, length, map, set, get_or, refl, sym, ap, ◌∙◌, subst, Option, Some, None, Result, arith}
+use Rattle.std.proofs.Common.{◌≡◌, ℕ, zero, suc, ◌+◌, ◌<◌, List, [], ◌∷◌, length, set, get_or, refl, sym, ap, ◌∙◌, subst, Option, Some, None, Result, arith}
 use Rattle.std.specs.Prelude.{slice_get, IfSome}
 use Rattle.std.proofs.Math.Seq.{map-set_same}
 use Rattle.std.proofs.lemmas.List.{length-map}
 use Rattle.std.proofs.lemmas.List.FromFn.{length-map-range_with_len, get_or-map-range_with_len}
-use Rattle.logbook.specs.Pages.{Book}
 use mathlib.Core.List.{IsPrefix}
 use Rattle.pn_tablet.specs.Layouts.{Bounds, tablet_ends}
 use Rattle.pn_tablet.specs.Ranges.{Ends}
@@ -17,7 +16,7 @@ use Rattle.pn_scan.specs.Views.{LooksOnce, IsFoundIn}
 use Rattle.pn_scan.specs.declared.fault.ScanFault.{ScanFault}
 use Rattle.pn_region.specs.Regions.{IsSound}
 use Rattle.pn_live.specs.Looks.{IsOneLook}
-use Rattle.pn_live.specs.Readers.{LiveReaderValue, AreWindowsOf, LooksLive}
+use Rattle.pn_live.specs.Readers.{AreWindowsOf, LooksLive}
 use Rattle.pn_live.specs.Windows.{WindowValue, Sees, Finds}
 use Rattle.pn_live.proofs.Knowing.{seeing_knows}
 use Rattle.pn_live.proofs.ListLaws.{range_kept}

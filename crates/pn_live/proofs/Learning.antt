@@ -1,7 +1,6 @@
 -- Windows that take notes in, one after another.
-use Rattle.std.proofs.Common.{◌≡◌, ℕ, zero, suc, ◌+◌, ◌<◌, ◌≤◌, List, [], ◌∷◌, length, drop, map, set, get_or, refl, sym, ap, ◌∙◌, subst, arith}
+use Rattle.std.proofs.Common.{◌≡◌, ℕ, zero, suc, ◌+◌, ◌<◌, ◌≤◌, List, [], ◌∷◌, length, drop, map, set, get_or, sym, ap, ◌∙◌, subst, arith}
 use Rattle.std.proofs.lemmas.List.{length-map}
-use Rattle.logbook.specs.Pages.{Book}
 use Rattle.pn_live.specs.Places.{NoteValue}
 use Rattle.pn_live.specs.Windows.{WindowValue, Learns, AllLearn}
 use Rattle.pn_live.proofs.Walks.{DoneFirst, done_count, done_at, done_more, within_of, first_of}

@@ -1,19 +1,17 @@
 -- Live tablets that are new, and the windows that they give.
-use Rattle.std.proofs.Common.{◌≡◌, ℕ, ◌+◌, List, [], ◌∷◌, ◌++◌, map, length, refl, sym, ap, ◌∙◌, subst, arith}
+use Rattle.std.proofs.Common.{◌≡◌, ℕ, ◌+◌, List, [], ◌∷◌, ◌++◌, map, refl, sym, ap, ◌∙◌, subst, arith}
 use Rattle.std.specs.List.{AllByRecursion, range_with_len}
-use Rattle.std.proofs.lemmas.List.{map-append}
 use Rattle.std.proofs.lemmas.List.FromFn.{map-range_with_len_more}
 use Rattle.logbook.specs.Pages.{Book}
-use Rattle.pn_join.specs.Marks.{Positions}
 use Rattle.pn_tablet.specs.Layouts.{Bounds, IsLayout, tablet_ends}
 use Rattle.pn_tablet.specs.Ranges.{Ends}
-use Rattle.pn_tablet.specs.Tablets.{TabletStateValue, empty_tablet}
+use Rattle.pn_tablet.specs.Tablets.{empty_tablet}
 use Rattle.pn_apply.specs.Reducing.{ranges}
 use Rattle.pn_region.specs.Regions.{AreRegionMarks, IsLawfulRegion}
 use Rattle.pn_region.proofs.NewRegion.{new_is}
 use Rattle.pn_live.specs.LiveRegions.{LiveRegionValue, core, tablets_in}
 use Rattle.pn_live.specs.Places.{PlaceValue, IsNewPlace, AreNewPlaces, state_at}
-use Rattle.pn_live.specs.Readers.{LiveReaderValue, Tablets, tablets_of, opening, IsNewReader}
+use Rattle.pn_live.specs.Readers.{LiveReaderValue, opening, IsNewReader}
 use Rattle.pn_live.specs.Windows.{WindowValue}
 
 pub new_more : (rs : List Ends) (ps : List PlaceValue) (r : Ends) (p : PlaceValue) → AreNewPlaces rs ps → IsNewPlace r p → AreNewPlaces (rs ++ r ∷ []) (ps ++ p ∷ [])

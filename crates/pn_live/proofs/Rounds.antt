@@ -1,24 +1,23 @@
 -- What a round makes of a live region.
-use Rattle.std.proofs.Common.{◌≡◌, List, length, map, refl, sym, ap, ◌∙◌, subst, arith, Ok, Err}
+use Rattle.std.proofs.Common.{◌≡◌, List, length, map, refl, sym, ap, ◌∙◌, subst, Ok, Err}
 use Rattle.std.specs.Prelude.{Result, MatchResult}
 use Rattle.std.specs.List.{flat_map}
 use Rattle.std.proofs.lemmas.List.{length-map}
 use Rattle.pn_join.specs.Marks.{Positions}
 use Rattle.pn_stream.specs.Positions.{DeliveryValue}
 use Rattle.pn_tablet.specs.Changes.{changes}
-use Rattle.pn_tablet.specs.Tablets.{TabletStateValue}
 use Rattle.pn_tablet.specs.declared.change.Change.{Change}
 use Rattle.pn_tablet.specs.declared.op.TabletOp.{TabletOp}
 use Rattle.pn_apply.specs.Applying.{AreJoinsIn, all_stepped, all_changes, AreOldOrStepped}
 use Rattle.pn_apply.proofs.Prefixes.{same_length}
 use Rattle.pn_region.specs.Marking.{new_marks}
-use Rattle.pn_region.specs.Regions.{RegionValue, IsRegion, all_cells}
+use Rattle.pn_region.specs.Regions.{IsRegion, all_cells}
 use Rattle.pn_region.specs.Rounds.{joins, round, Leaves}
 use Rattle.pn_region.specs.declared.entry.Entry.{Entry}
 use Rattle.pn_region.specs.declared.fault.RoundFault.{RoundFault}
 use Rattle.pn_region.specs.declared.fault.RoundFault.TheVariants.{Gap, TooManyStreams, Memory}
 use Rattle.pn_region.proofs.RoundEnds.{fit, half_left, half_region, new_region_is, round_ok, told_changes}
-use Rattle.pn_live.specs.LiveRegions.{LiveRegionValue, core, tablets_in, publishing, LeavesLive}
+use Rattle.pn_live.specs.LiveRegions.{LiveRegionValue, core, publishing, LeavesLive}
 use Rattle.pn_live.specs.Places.{PlaceValue, state_at, all_appended, AreOldOrAppended}
 use Rattle.pn_live.proofs.Appending.{none_appended, states_appended, half_stepped, books_appended, books_half}
 

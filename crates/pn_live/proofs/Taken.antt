@@ -1,6 +1,5 @@
 -- A live region after a round, by its parts.
-use Rattle.std.proofs.Common.{◌≡◌, List, [], ◌∷◌, map, refl, sym, ap, ◌∙◌, subst, Ok, Err}
-use Rattle.std.specs.Prelude.{Result, IfErr}
+use Rattle.std.proofs.Common.{◌≡◌, List, [], ◌∷◌, map, refl, sym, ap, ◌∙◌, subst, Ok}
 use Rattle.std.specs.List.{flat_map}
 use Rattle.logbook.specs.Pages.{Book}
 use Rattle.pn_join.specs.Marks.{Positions}

@@ -1,5 +1,5 @@
 -- What a reader found stays found, and what it was told of is there.
-use Rattle.std.proofs.Common.{◌≡◌, ℕ, zero, suc, Bool, true, cond, List, [], ◌∷◌, ◌++◌, ◌+◌, length, drop, refl, sym, ap, ◌∙◌, subst, Option, Some, None, IsTrue, Contains, ⊎_elim, inl, inr, append_assoc, arith, length-append}
+use Rattle.std.proofs.Common.{◌≡◌, ℕ, zero, suc, Bool, cond, List, [], ◌∷◌, ◌++◌, ◌+◌, length, drop, refl, sym, ap, ◌∙◌, subst, Option, Some, None, IsTrue, Contains, ⊎_elim, inl, inr, append_assoc, arith, length-append}
 use Rattle.std.proofs.lemmas.Cmp.{tied_itself}
 use Rattle.std.proofs.lemmas.List.{drop_at}
 use Rattle.std.proofs.lemmas.List.Elements.{Contains-append_left, Contains-append_right}

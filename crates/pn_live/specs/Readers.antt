@@ -1,9 +1,8 @@
 -- Readers of a live region.
-use Rattle.std.specs.Prelude.{◌≡◌, List, [], ◌∷◌, map, set, slice_get, Option, Some}
+use Rattle.std.specs.Prelude.{◌≡◌, List, [], map, set, slice_get, Some}
 use Rattle.std.specs.List.{AllByRecursion}
 use Rattle.logbook.specs.Pages.{Book}
 use Rattle.pn_tablet.specs.Layouts.{Bounds}
-use Rattle.pn_tablet.specs.declared.op.TabletOp.{TabletOp}
 use Rattle.pn_apply.specs.Reducing.{ranges}
 use Rattle.pn_scan.specs.Candidates.{Look}
 use Rattle.pn_live.specs.Places.{PlaceValue, NoteValue}

@@ -27,7 +27,7 @@ fn members_are_read_by_their_kinds(rt: HostRuntime) -> Result<(), Fail> {
 #[test]
 fn members_are_moved_out(rt: HostRuntime) -> Result<(), Fail> {
     let message = Value::from_str(rt.alloc(), MESSAGE)?;
-    let names = member_from(message, "names").and_then(items_from);
+    let names = member_from(message, "names").and_then(|names| items_from(names));
     assert!(rt; names.map(|items| items.len()) == Some(2));
     let message = Value::from_str(rt.alloc(), MESSAGE)?;
     assert!(rt; member_from(message, "name").is_none());

@@ -1,7 +1,6 @@
 -- The key's tablet was looked into.
-use Rattle.std.proofs.Common.{◌≡◌, length, sym, ap, subst, arith}
-use Rattle.pn_scan.specs.Views.{LooksOnce, cell_at}
-use Rattle.pn_live.specs.Readers.{LiveReaderValue, LooksLive}
+use Rattle.std.proofs.Common.{arith}
+use Rattle.pn_scan.specs.Views.{cell_at}
 use Rattle.pn_live.proofs.Entering.{window_count, still_windows, looked_once}
 use Rattle.pn_live.proofs.reader.LiveReaderView.cell.Goals as goal
 

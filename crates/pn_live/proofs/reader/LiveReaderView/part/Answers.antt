@@ -1,7 +1,7 @@
 -- The tablet was looked into.
-use Rattle.std.proofs.Common.{◌≡◌, length, sym, ap, subst, arith}
-use Rattle.pn_scan.specs.Views.{LooksOnce, rows_at}
-use Rattle.pn_live.specs.Readers.{LiveReaderValue, LooksLive}
+use Rattle.std.proofs.Common.{length, ap, arith}
+use Rattle.pn_scan.specs.Views.{rows_at}
+use Rattle.pn_live.specs.Readers.{LiveReaderValue}
 use Rattle.pn_live.proofs.Entering.{window_count, still_windows, looked_once}
 use Rattle.pn_live.proofs.reader.LiveReaderView.part.Goals as goal
 

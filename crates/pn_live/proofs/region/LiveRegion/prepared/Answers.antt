@@ -1,6 +1,5 @@
 -- What the deliveries bring to the tablets of a live region.
-use Rattle.std.proofs.Common.{List, map, refl, sym, ap, ◌∙◌, subst}
-use Rattle.pn_tablet.specs.declared.op.TabletOp.{TabletOp}
+use Rattle.std.proofs.Common.{map, sym, ◌∙◌, subst}
 use Rattle.pn_apply.specs.Applying.{AreJoinsIn, HavePositions}
 use Rattle.pn_apply.specs.Reducing.{all_images}
 use Rattle.pn_apply.proofs.ReduceLaws.{joins_have_positions}

@@ -1,5 +1,5 @@
 -- The tablets so far are taken out.
-use Rattle.std.proofs.Common.{◌≡◌, ◌+◌, ◌++◌, map, length, vec_capacity}
+use Rattle.std.proofs.Common.{◌≡◌, ◌++◌, map, length, vec_capacity}
 use Rattle.std.specs.Vec.Iter.{into_iter_items, into_iter_len}
 use Rattle.pn_live.specs.Places.{state_at}
 use Rattle.pn_live.proofs.region.closing.states_of.Given as goal

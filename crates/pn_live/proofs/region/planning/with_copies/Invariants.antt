@@ -1,5 +1,5 @@
 -- The states so far have their copies.
-use Rattle.std.proofs.Common.{◌≡◌, ◌+◌, ◌++◌, map, length, vec_capacity}
+use Rattle.std.proofs.Common.{◌≡◌, ◌++◌, map, length, vec_capacity}
 use Rattle.std.specs.Vec.Iter.{into_iter_items, into_iter_len}
 use Rattle.pn_live.proofs.region.planning.with_copies.Given as goal
 
