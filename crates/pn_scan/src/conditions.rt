@@ -16,6 +16,7 @@ use pn_record::{Body, Cell, Content, Key, Value};
 
 /// Whether the query shows the record of a key that is not below its `from` and below its `to`. It takes no
 /// memory.
+#[tactic(auto, using(crate::proofs::Walking::within_ends))]
 pub(crate) fn is_shown(query: &Query, key: &Key, cell: &Cell) -> bool
     requires from { from_end query.now.from key.now ≡ true }
     requires to { before_end query.now.to key.now ≡ true }

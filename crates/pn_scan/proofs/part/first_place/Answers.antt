@@ -6,8 +6,8 @@ use Rattle.pn_scan.specs.Shown.{shown_rows}
 use Rattle.pn_scan.proofs.Walking.{lesser_at, begin_there, from_there}
 use Rattle.pn_scan.proofs.part.first_place.Goals as goal
 
-pub returns-shown : goal.returns-shown
-returns-shown c =
+pub returns-clause-shown : goal.returns-clause-shown
+returns-clause-shown c =
     let query = c.args.query.now in
     let cells = c.args.cells.now in
     ap (λ n. shown_rows query (drop n cells)) c.max.ensures
@@ -15,8 +15,8 @@ returns-shown c =
     (c.place_of.ensures.place ∙ ap (λ end. lesser_at end cells) c.from.ensures)
     (c.place_of-2.ensures.place ∙ ap (λ end. lesser_at end cells) c.after.ensures)
 
-pub returns-from : goal.returns-from
-returns-from c =
+pub returns-clause-from : goal.returns-clause-from
+returns-clause-from c =
     let query = c.args.query.now in
     let cells = c.args.cells.now in
     let at = c.place_of.ensures.place ∙ ap (λ end. lesser_at end cells) c.from.ensures in

@@ -26,6 +26,12 @@ loop-key-init c =
       from = subst (λ (es : Entries). NoneBelow query.from es) (sym left) c.first_place.ensures.from;
     }
 
+pub is_shown-requires-clause-from : goal.is_shown-requires-clause-from
+is_shown-requires-clause-from c = (subst (λ (es : Entries). NoneBelow c.args.query.now.from es) c.in-Some.ensures.steps c.loop-key.invariant.from).0
+
+pub is_shown-requires-clause-to : goal.is_shown-requires-clause-to
+is_shown-requires-clause-to c = ap (λ end. is_before end c.in-Some.key.now) (sym c.to.ensures) ∙ sym c.is_before.ensures ∙ c.if-not-is_before.false
+
 pub returns-then-not-is_before : goal.returns-then-not-is_before
 returns-then-not-is_before c =
     let query = c.args.query.now in
