@@ -8,10 +8,14 @@ pub mod ListLaws
 pub mod Walks
 pub mod Appending
 pub mod Knowing
+pub mod ManyLooks
 pub mod Learning
 pub mod Entering
 pub mod Opening
 pub mod Closing
+pub mod OnePlace
+pub mod Adopting
 pub mod Rounds
 pub mod Taken
 pub mod WindowLaws
+pub mod HonestLists

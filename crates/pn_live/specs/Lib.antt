@@ -1,5 +1,7 @@
 pub mod Attempts
 pub mod Books
+pub mod Copying
+pub mod Honest
 pub mod Laws
 pub mod Limits
 pub mod LiveRegions
@@ -9,4 +11,5 @@ pub mod Places
 pub mod Proofs
 pub mod Published
 pub mod Readers
+pub mod Recovery
 pub mod Windows
