@@ -36,6 +36,10 @@ impl Model for SharedRecords {
 
     ghost Value = { Entries };
 
+    ghost use Rattle.pn_tablet.specs.Proofs.Coding.{entries_code};
+
+    ghost coded = { entries_code };
+
     ghost view = { λ shared. held_entries shared.held };
 }
 
