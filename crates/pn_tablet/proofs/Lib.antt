@@ -1,3 +1,4 @@
+pub mod AddedTo
 pub mod BoundSteps
 pub mod Changed
 pub mod CopyExchanges

@@ -15,9 +15,10 @@ mod parts;
 use crate::change::{add_told, room_for};
 use crate::inside::lie_in;
 use crate::needs::{Short, first_short};
+use crate::sharing::SharedRecords;
 use crate::{Change, OpFault, Range, TabletCopy, TabletOp};
 use pn_join::{Dup, Marks, NoMemory, raise};
-use pn_record::{Records, join_and_tell, join_records};
+use pn_record::Records;
 use std::alloc::Global;
 use std::marker::Model;
 
@@ -33,7 +34,7 @@ pub enum Status {
 #[derive(Drop)]
 pub struct TabletState {
     range: Range,
-    cells: Records,
+    cells: SharedRecords,
     cover: Marks,
     status: Status,
     spare: Option<Marks>,
@@ -63,7 +64,7 @@ impl TabletState {
     {
         TabletState {
             range,
-            cells: Records::new(alloc),
+            cells: SharedRecords::new(alloc),
             cover: Marks::new(alloc),
             status: Status::Serving,
             spare: Some(Marks::new(alloc)),
@@ -116,7 +117,7 @@ impl TabletState {
         }
         let mut changes = room_for(self.alloc, cells.len())?;
         let (cover, spare) = raised_by(&self.cover, marks)?;
-        let told = join_and_tell(&mut self.cells, cells)?;
+        let told = self.cells.join_and_tell(self.alloc, cells)?;
         add_told(&mut changes, told);
         self.cover = cover;
         self.spare = Some(spare);
@@ -126,7 +127,7 @@ impl TabletState {
     fn lose(&mut self)
         ensures { self.new ≡ lost self.old }
     {
-        self.cells = Records::new(self.alloc);
+        self.cells = SharedRecords::new(self.alloc);
         if let Some(need) = self.spare.take() {
             self.status = Status::Recovering { need };
         }
@@ -148,7 +149,7 @@ impl TabletState {
             });
         }
         let (cover, spare) = raised_by(&self.cover, &copy.marks)?;
-        join_records(&mut self.cells, &copy.cells)?;
+        self.cells.join(self.alloc, &copy.cells)?;
         self.cover = cover;
         self.spare = Some(spare);
         self.status = Status::Serving;
@@ -177,7 +178,7 @@ fn raised_by(cover: &Marks, marks: &Marks) -> Result<(Marks, Marks), NoMemory>
 }
 
 impl Dup for TabletState {
-    /// Copies the keys, and shares the contents.
+    /// Shares the records.
     fn dup(&self) -> Result<TabletState, NoMemory>
         ensures { IfOk result (λ copy. copy ≡ self.now) }
     {
