@@ -53,8 +53,11 @@ impl<K: Ord + Dup, C: Join> Row<K, C> {
         ensures same { IfOk result (λ aimed. changes_in aimed.items ≡ changes_in edits.items) }
     {
         let mut aimed = Vec::with_capacity(self.alloc(), edits.len())?;
+        let mut cuts = 0_usize;
         for edit in edits {
-            let leaf = self.leaf_for(&edit.change.key);
+            let near = edit.leaf.saturating_add(cuts);
+            let leaf = self.leaf_near(near, &edit.change.key);
+            cuts = leaf.saturating_sub(edit.leaf);
             let change = edit.change;
             aimed.push(Edit { leaf, change })?;
         }

@@ -21,6 +21,17 @@ impl<K: Ord + Dup, C: Join> Row<K, C> {
         self.leaf_searched(key)
     }
 
+    /// The same, where it is likely to be this leaf.
+    pub(super) fn leaf_near(&self, near: usize, key: &K) -> usize
+        ensures leaf { result ≡ leaf_for K.cmp key.now self.now }
+        ensures row { IsRow K.cmp C.valid self.now }
+    {
+        if self.belongs(near, key) {
+            return near;
+        }
+        self.leaf_for(key)
+    }
+
     /// The same, by a look into leaves alone.
     fn leaf_searched(&self, key: &K) -> usize
         ensures leaf { result ≡ leaf_for K.cmp key.now self.now }
