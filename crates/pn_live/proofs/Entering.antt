@@ -5,16 +5,20 @@ use Rattle.std.proofs.Math.Seq.{map-set_same}
 use Rattle.std.proofs.lemmas.List.{length-map}
 use Rattle.std.proofs.lemmas.List.FromFn.{length-map-range_with_len, get_or-map-range_with_len}
 use mathlib.Core.List.{IsPrefix}
+use Rattle.pn_join.specs.Marks.{Positions}
+use Rattle.pn_tablet.specs.Copies.{TabletCopyValue}
 use Rattle.pn_tablet.specs.Layouts.{Bounds, tablet_ends}
 use Rattle.pn_tablet.specs.Ranges.{Ends}
 use Rattle.pn_tablet.specs.Steps.{state_of}
 use Rattle.pn_tablet.specs.Tablets.{TabletStateValue, empty_tablet}
+use Rattle.pn_tablet.specs.declared.fault.CopyFault.{CopyFault}
 use Rattle.pn_tablet.specs.declared.op.TabletOp.{TabletOp}
 use Rattle.pn_apply.proofs.Prefixes.{mapped_at}
 use Rattle.pn_scan.specs.Candidates.{Look}
 use Rattle.pn_scan.specs.Views.{LooksOnce, IsFoundIn}
 use Rattle.pn_scan.specs.declared.fault.ScanFault.{ScanFault}
 use Rattle.pn_region.specs.Regions.{IsSound}
+use Rattle.pn_live.specs.Copying.{IsOneCopy, IsCopied}
 use Rattle.pn_live.specs.Looks.{IsOneLook}
 use Rattle.pn_live.specs.Readers.{AreWindowsOf, LooksLive}
 use Rattle.pn_live.specs.Windows.{WindowValue, Sees, Finds}
@@ -68,6 +72,15 @@ module _ (layout : Bounds) (windows : List WindowValue) (n : ℕ) (was now : Win
   pub looked_once : {A B : Type 0} (show : A → B) (answer : Result A ScanFault) (right : Look → Result B ScanFault) (found : Option TabletStateValue) → IsOneLook was now show answer right n found
       → LooksOnce LooksLive layout (record { layout = layout; windows = windows }) (record { layout = layout; windows = set windows n now }) show answer right (n, found)
   looked_once show answer right found look = record {
+    looked = (was, now, at_place windows n was within at, look.sees, refl);
+    found = is_found found look.sees look.sound;
+    answers = look.answers;
+  }
+
+  -- the reader copied its tablet by one look
+  pub copied_once : (need : Positions) (answer : Result TabletCopyValue CopyFault) (found : Option TabletStateValue) → IsOneCopy was need now answer found
+      → IsCopied (record { layout = layout; windows = windows }) n need (record { layout = layout; windows = set windows n now }) answer found
+  copied_once need answer found look = record {
     looked = (was, now, at_place windows n was within at, look.sees, refl);
     found = is_found found look.sees look.sound;
     answers = look.answers;

@@ -8,6 +8,7 @@ pub mod ListLaws
 pub mod Walks
 pub mod Appending
 pub mod Knowing
+pub mod ManyLooks
 pub mod Learning
 pub mod Entering
 pub mod Opening

@@ -1,5 +1,6 @@
 pub mod Attempts
 pub mod Books
+pub mod Copying
 pub mod Laws
 pub mod Limits
 pub mod LiveRegions

@@ -15,6 +15,7 @@ ghost use Rattle.pn_region.specs.Held.{HoldsStill};
 ghost use Rattle.pn_apply.specs.Reducing.{join_in};
 ghost use Rattle.pn_record.specs.declared.image.Image.{Image};
 ghost use Rattle.pn_scan.specs.Candidates.{Look};
+ghost use Rattle.pn_scan.specs.Views.{Looks};
 ghost use Rattle.pn_live.specs.Laws.{AreNoLosses, HasImage, HasNoLossBehind, AllKnowMore};
 ghost use Rattle.pn_live.specs.Places.{PlaceValue, NoteValue, note_of, appended};
 ghost use Rattle.pn_live.specs.Readers.{LiveReaderValue, LooksLive};
@@ -38,6 +39,7 @@ pub fn what_was_joined_is_there()
 /// later.
 pub fn nothing_is_forgotten()
     ensures looks { (old new : LiveReaderValue) (look : Look) → LooksLive old look new → AllKnowMore old.windows new.windows }
+    ensures many { (seen : List Look) (old new : LiveReaderValue) → Looks LooksLive old seen new → AllKnowMore old.windows new.windows }
     ensures fronts { (olds news : List WindowValue) (front : List NoteValue) → AllLearn olds front news → AllKnowMore olds news }
     ensures itself { (windows : List WindowValue) → AllKnowMore windows windows }
     ensures on { (first then last : List WindowValue) → AllKnowMore first then → AllKnowMore then last → AllKnowMore first last }

@@ -7,6 +7,9 @@ ghost use Rattle.pn_scan.specs.Reads.{IsRead};
 ghost use Rattle.pn_live.specs.Readers.{LooksLive, IsFrontFor, AreWindowsOf, tablets_of};
 ghost use Rattle.pn_live.specs.Windows.{AllLearn};
 
+mod copying;
+mod scanning;
+
 use crate::front::{Front, Note};
 use crate::window::Window;
 use pn_record::{Cell, Key, Version};
@@ -20,6 +23,7 @@ use std::marker::Model;
 pub struct LiveReader {
     layout: Layout,
     windows: Vec<Window>,
+    alloc: Global,
 }
 
 impl Model for LiveReader {
@@ -37,13 +41,17 @@ impl Model for LiveReader {
 }
 
 impl LiveReader {
-    // The reader that has these windows, one for each range of the layout.
-    pub(crate) fn of(layout: Layout, windows: Vec<Window>) -> LiveReader
+    // The reader that has these windows, one for each range of the layout. What it answers is taken from the allocator.
+    pub(crate) fn of(alloc: Global, layout: Layout, windows: Vec<Window>) -> LiveReader
         requires { AreWindowsOf layout windows.items }
         ensures layout { result.layout ≡ layout }
         ensures windows { result.windows ≡ windows.items }
     {
-        LiveReader { layout, windows }
+        LiveReader {
+            layout,
+            windows,
+            alloc,
+        }
     }
 
     // Its windows.
@@ -54,6 +62,7 @@ impl LiveReader {
         let LiveReader {
             layout: _layout,
             windows,
+            alloc: _alloc,
         } = self;
         windows
     }

@@ -8,6 +8,8 @@ ghost use Rattle.pn_live.specs.Looks.{IsOneLook};
 ghost use Rattle.pn_live.specs.Published.{seen_by, told_to, range_of};
 ghost use Rattle.pn_live.specs.Windows.{Learns};
 
+mod copying;
+
 use crate::front::Note;
 use crate::seat::Seat;
 use core::mem::replace_with;

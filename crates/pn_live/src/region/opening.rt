@@ -95,7 +95,7 @@ fn readers_of(
     let mut readers = Vec::with_capacity(alloc, count)?;
     for _ in 0..count {
         let windows = windows_of(alloc, places)?;
-        readers.push_reserved(LiveReader::of(layout.dup()?, windows));
+        readers.push_reserved(LiveReader::of(alloc, layout.dup()?, windows));
     }
     Ok(readers)
 }

@@ -1,0 +1,33 @@
+-- The tablet was looked into.
+use Rattle.std.proofs.Common.{length, ap, arith}
+use Rattle.pn_live.specs.Readers.{LiveReaderValue}
+use Rattle.pn_live.proofs.Entering.{window_count, still_windows, copied_once}
+use Rattle.pn_live.proofs.Knowing.{looks_same}
+use Rattle.pn_live.proofs.reader.LiveReader.copy.Goals as goal
+
+pub index_mut-requires : goal.index_mut-requires
+index_mut-requires c =
+    let inside = c.self.inside in
+    let layout = ap (λ (r : LiveReaderValue). length r.layout) c.self.view_is in
+    omega (arith, window_count inside.layout inside.windows.items c.self.invariant, layout, c.requires, inside.windows.ok.0)
+
+pub invariant_of-self : goal.invariant_of-self
+invariant_of-self c =
+    let inside = c.self.inside in
+    let layout = ap (λ (r : LiveReaderValue). length r.layout) c.self.view_is in
+    still_windows inside.layout inside.windows.items c.args.tablet c.index_mut.result.now c.copy.new.self c.self.invariant
+    (omega (arith, window_count inside.layout inside.windows.items c.self.invariant, layout, c.requires)) c.index_mut.ensures.value c.copy.ensures.0 c.copy.ensures.1.sees
+
+pub returns-clause-copy : goal.returns-clause-copy
+returns-clause-copy c =
+    let inside = c.self.inside in
+    let layout = ap (λ (r : LiveReaderValue). length r.layout) c.self.view_is in (
+      c.copy.ensures.0,
+      rw (← c.self.view_is)
+          (copied_once inside.layout inside.windows.items c.args.tablet c.index_mut.result.now c.copy.new.self c.self.invariant
+          (omega (arith, window_count inside.layout inside.windows.items c.self.invariant, layout, c.requires)) c.index_mut.ensures.value
+          c.args.need.now c.copy.result c.copy.ensures.0 c.copy.ensures.1),
+    )
+
+pub returns-clause-same : goal.returns-clause-same
+returns-clause-same c = looks_same _ _ _ (returns-clause-copy c).1.looked
