@@ -10,4 +10,5 @@ pub mod Places
 pub mod Proofs
 pub mod Published
 pub mod Readers
+pub mod Recovery
 pub mod Windows

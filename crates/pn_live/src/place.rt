@@ -7,6 +7,8 @@ ghost use Rattle.pn_live.specs.Places.{IsNewPlace, state_at, appended, note_of};
 ghost use Rattle.pn_live.specs.Readers.{opening};
 ghost use Rattle.pn_live.specs.Windows.{IsOfPlace, IsBehind};
 
+mod nexts;
+
 use crate::front::Note;
 use crate::tablet::LiveTablet;
 use crate::window::Window;

@@ -8,6 +8,7 @@ mod closing;
 mod opening;
 mod planning;
 mod publishing;
+mod recovery;
 mod rounds;
 
 use crate::place::Place;

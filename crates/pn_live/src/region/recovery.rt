@@ -1,0 +1,109 @@
+//! Losses and adoptions of live tablets, and notices.
+
+ghost use Rattle.std.specs.Prelude.{◌≡◌, ◌≤◌, length, slice_get, Ok, IfOk, IfErr, OnOk, OnErr, IsSomeAnd};
+ghost use Rattle.std.specs.List.{position};
+ghost use Rattle.pn_tablet.specs.Refusals.{Refuses};
+ghost use Rattle.pn_tablet.specs.Steps.{step};
+ghost use Rattle.pn_tablet.specs.Tablets.{same_range};
+ghost use Rattle.pn_tablet.specs.declared.op.TabletOp.TheVariants.{Lose};
+ghost use Rattle.pn_region.specs.Recovery.{losing, stepping, adopting, is_memory};
+ghost use Rattle.pn_region.specs.Regions.{IsRegion};
+ghost use Rattle.pn_region.specs.Since.{IsSince};
+ghost use Rattle.pn_live.specs.LiveRegions.{core, tablets_in};
+ghost use Rattle.pn_live.specs.Places.{state_at, notes_of};
+ghost use Rattle.pn_live.specs.Readers.{AreNotesOf};
+ghost use Rattle.pn_live.specs.Recovery.{publishing_at, Adopts};
+
+use super::LiveRegion;
+use super::publishing::front_of;
+use crate::front::Front;
+use crate::place::Next;
+use pn_join::NoMemory;
+use pn_region::{AdoptFault, Since};
+use pn_tablet::{Range, TabletCopy, TabletOp};
+use std::sync::Wait;
+
+impl LiveRegion {
+    /// The records of a tablet, whose number is below the layout's count, are lost, as in a region's loss. The front
+    /// tells what is published of all tablets then. It waits for readers that still read the state before last.
+    ///
+    /// An error leaves everything as it was: nothing is published, and the log has no break.
+    pub fn lose<R: Wait>(&mut self, rt: &R, tablet: usize) -> Result<Front, NoMemory>
+        requires { tablet ≤ length self.old.layout }
+        ensures ok { OnOk result (self.new ≡ publishing_at self.old tablet Lose) }
+        ensures state { OnOk result (core self.new ≡ losing (core self.old) tablet) }
+        ensures front { IfOk result (λ front. front ≡ notes_of self.new.places) }
+        ensures err { OnErr result (self.new ≡ self.old) }
+        ensures fits { IfOk result (λ front. AreNotesOf (tablets_in self.old) front) }
+        ensures same { tablets_in self.new ≡ tablets_in self.old }
+    {
+        let next = self.places[tablet].after(&TabletOp::Lose)?;
+        self.publish_one(rt, tablet, next, &TabletOp::Lose)
+    }
+
+    /// The tablet whose range is the copy's takes the copy, as in a region's adoption. The front tells what is published
+    /// of all tablets then. It waits for readers that still read the state before last.
+    ///
+    /// `WrongRange` and `TooOld` come exactly where a region's adoption is refused so, and `Memory` only where it is not.
+    /// An error leaves everything as it was: nothing is published, and the log has no break.
+    pub fn adopt<R: Wait>(&mut self, rt: &R, copy: TabletCopy) -> Result<Front, AdoptFault>
+        ensures ok { OnOk result (Adopts copy self.old self.new) }
+        ensures front { IfOk result (λ front. front ≡ notes_of self.new.places) }
+        ensures refused { IfErr result (λ fault. Refuses is_memory fault (adopting (core self.old) copy)) }
+        ensures err { OnErr result (self.new ≡ self.old) }
+        ensures fits { IfOk result (λ front. AreNotesOf (tablets_in self.old) front) }
+        ensures same { tablets_in self.new ≡ tablets_in self.old }
+    {
+        let Some(tablet) = self.tablet_for(&copy.range) else {
+            return Err(AdoptFault::WrongRange);
+        };
+        if let Some(fault) = self.places[tablet].refusal(&copy.marks) {
+            return Err(fault);
+        }
+        let adoption = TabletOp::Adopt(copy);
+        let Ok(next) = self.places[tablet].after(&adoption) else {
+            return Err(AdoptFault::Memory);
+        };
+        let Ok(front) = self.publish_one(rt, tablet, next, &adoption) else {
+            return Err(AdoptFault::Memory);
+        };
+        Ok(front)
+    }
+
+    /// The notices behind the number, where the log knows all of them. It waits for nobody.
+    pub fn notices_since(&self, number: u64) -> Result<Since, NoMemory>
+        ensures { IfOk result (λ since. IsSince self.now.log number since) }
+    {
+        self.log.since(number)
+    }
+
+    // The number of the tablet that has the range.
+    fn tablet_for(&self, range: &Range) -> Option<usize>
+        ensures { result ≡ position (λ place. same_range place.range range.now) self.now.places }
+    {
+        self.places.iter().position(|place| place.range() == range)
+    }
+
+    // Publishes the state that an operation makes of a tablet. The log has a break.
+    fn publish_one<R: Wait>(
+        &mut self,
+        rt: &R,
+        tablet: usize,
+        next: Next,
+        operation: &TabletOp,
+    ) -> Result<Front, NoMemory>
+        requires next { IsSomeAnd (slice_get self.old.places tablet) (λ place. step (state_at place) operation.now ≡ Ok next.state) }
+        requires region { IsRegion (stepping (core self.old) tablet operation.now) }
+        ensures ok { OnOk result (self.new ≡ publishing_at self.old tablet operation.now) }
+        ensures state { OnOk result (core self.new ≡ stepping (core self.old) tablet operation.now) }
+        ensures front { IfOk result (λ front. front ≡ notes_of self.new.places) }
+        ensures err { OnErr result (self.new ≡ self.old) }
+        ensures fits { IfOk result (λ front. AreNotesOf (tablets_in self.old) front) }
+        ensures same { tablets_in self.new ≡ tablets_in self.old }
+    {
+        let notes = Vec::with_capacity(self.alloc, self.places.len())?;
+        self.places[tablet].publish(rt, next, operation)?;
+        self.log.cut();
+        Ok(front_of(notes, &self.places))
+    }
+}
