@@ -13,6 +13,8 @@ pub mod Learning
 pub mod Entering
 pub mod Opening
 pub mod Closing
+pub mod OnePlace
+pub mod Adopting
 pub mod Rounds
 pub mod Taken
 pub mod WindowLaws

@@ -17,7 +17,7 @@ use Rattle.pn_live.specs.Places.{PlaceValue, NoteValue, state_at, notes_of, all_
 use Rattle.pn_live.specs.Readers.{AreNotesOf}
 use Rattle.pn_live.proofs.Rounds.{published_live, region_live, ok_live, changes_live, books_live, half_live, core_half, region_half, books_left}
 
-notes_books : (places : List PlaceValue) → map (λ (n : NoteValue). n.book) (notes_of places) ≡ map (λ (p : PlaceValue). p.book) places
+pub notes_books : (places : List PlaceValue) → map (λ (n : NoteValue). n.book) (notes_of places) ≡ map (λ (p : PlaceValue). p.book) places
 notes_books [] = refl
 notes_books (p ∷ places) = ap (λ (rest : List Book). p.book ∷ rest) (notes_books places)
 
