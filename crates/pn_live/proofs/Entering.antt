@@ -79,7 +79,7 @@ module _ (layout : Bounds) (windows : List WindowValue) (n : ℕ) (was now : Win
 
   -- the reader copied its tablet by one look
   pub copied_once : (need : Positions) (answer : Result TabletCopyValue CopyFault) (found : Option TabletStateValue) → IsOneCopy was need now answer found
-      → IsCopied (record { layout = layout; windows = windows }) n need (record { layout = layout; windows = set windows n now }) answer found
+      → IsCopied (record { layout = layout; windows = windows }) need (record { layout = layout; windows = set windows n now }) answer (n, found)
   copied_once need answer found look = record {
     looked = (was, now, at_place windows n was within at, look.sees, refl);
     found = is_found found look.sees look.sound;

@@ -1,5 +1,5 @@
 -- Copies of live tablets, each taken by one look of a reader.
-use Rattle.std.specs.Prelude.{ℕ, Option, None, Some, IfSome, Result, Err}
+use Rattle.std.specs.Prelude.{Option, None, Some, IfSome, Result, Err}
 use Rattle.pn_join.specs.Marks.{Positions}
 use Rattle.pn_tablet.specs.Copies.{TabletCopyValue}
 use Rattle.pn_tablet.specs.Copying.{copy_of, is_memory}
@@ -8,6 +8,7 @@ use Rattle.pn_tablet.specs.Tablets.{TabletStateValue}
 use Rattle.pn_tablet.specs.declared.fault.CopyFault.{CopyFault}
 use Rattle.pn_tablet.specs.declared.fault.CopyFault.TheVariants.{NoEntry}
 use Rattle.pn_region.specs.Regions.{IsSound}
+use Rattle.pn_scan.specs.Candidates.{Look}
 use Rattle.pn_scan.specs.Views.{IsFoundIn}
 use Rattle.pn_live.specs.Readers.{LiveReaderValue, LooksLive}
 use Rattle.pn_live.specs.Windows.{WindowValue, Sees}
@@ -24,7 +25,7 @@ pub record IsOneCopy (old : WindowValue) (need : Positions) (new : WindowValue) 
   pub answers : Answers is_memory answer (copy_at need found)
 
 -- a reader copied a tablet by one look
-pub record IsCopied (old : LiveReaderValue) (tablet : ℕ) (need : Positions) (new : LiveReaderValue) (answer : Result TabletCopyValue CopyFault) (found : Option TabletStateValue) : Type 0 where
-  pub looked : LooksLive old (tablet, found) new
-  pub found : IsFoundIn old.layout (tablet, found)
-  pub answers : Answers is_memory answer (copy_at need found)
+pub record IsCopied (old : LiveReaderValue) (need : Positions) (new : LiveReaderValue) (answer : Result TabletCopyValue CopyFault) (look : Look) : Type 0 where
+  pub looked : LooksLive old look new
+  pub found : IsFoundIn old.layout look
+  pub answers : Answers is_memory answer (copy_at need look.1)

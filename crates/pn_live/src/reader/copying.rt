@@ -18,7 +18,7 @@ impl LiveReader {
     /// comes only where none of them does.
     pub fn copy(&mut self, tablet: usize, need: &Marks) -> Result<TabletCopy, CopyFault>
         requires { tablet ≤ length self.old.layout }
-        ensures copy { (found : Option TabletStateValue) × IsCopied self.old tablet need.now self.new result found }
+        ensures copy { (found : Option TabletStateValue) × IsCopied self.old need.now self.new result (tablet, found) }
         ensures same { tablets_of self.new ≡ tablets_of self.old }
     {
         self.windows[tablet].copy(need)
