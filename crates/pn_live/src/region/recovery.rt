@@ -57,11 +57,12 @@ impl LiveRegion {
         let Some(tablet) = self.tablet_for(&copy.range) else {
             return Err(AdoptFault::WrongRange);
         };
-        if let Some(fault) = self.places[tablet].refusal(&copy.marks) {
+        let place = &self.places[tablet];
+        if let Some(fault) = place.refusal(&copy.marks) {
             return Err(fault);
         }
         let adoption = TabletOp::Adopt(copy);
-        let Ok(next) = self.places[tablet].after(&adoption) else {
+        let Ok(next) = place.after(&adoption) else {
             return Err(AdoptFault::Memory);
         };
         let Ok(front) = self.publish_one(rt, tablet, next, &adoption) else {

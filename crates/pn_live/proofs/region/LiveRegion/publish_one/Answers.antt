@@ -17,7 +17,7 @@ index_mut-requires g c =
     let inside = c.self.inside in
     let P = λ (place : PlaceValue). step (state_at place) c.args.operation.now ≡ Ok c.args.next.state in
     let there = subst (λ (l : LiveRegionValue). IsSomeAnd (slice_get l.places c.args.tablet) P) (sym c.self.view_is) c.requires.next in
-    there_within inside.places.items c.args.tablet P there
+    omega (arith, there_within inside.places.items c.args.tablet P there, inside.places.ok.0)
 
 pub publish-requires : goal.publish-requires
 publish-requires g c =
@@ -47,3 +47,32 @@ invariant_of-self-2 g c =
     let is = set_appended inside.places.items c.args.tablet c.index_mut.result.now c.publish.new.self c.args.operation.now c.index_mut.ensures.value c.in_ok-publish.ensures.ok in
     lawful_after old c.args.tablet c.args.operation.now _ is inside.log c.self.invariant
     (subst (λ (l : LiveRegionValue). IsRegion (stepping (core l) c.args.tablet c.args.operation.now)) (sym c.self.view_is) c.requires.region)
+
+pub returns-clause-ok : goal.returns-clause-ok
+returns-clause-ok g c =
+    let inside = c.self.inside in
+    let old : LiveRegionValue = record { layout = inside.layout; places = inside.places.items; marks = inside.marks; log = inside.log } in
+    let is = set_appended inside.places.items c.args.tablet c.index_mut.result.now c.publish.new.self c.args.operation.now c.index_mut.ensures.value c.in_ok-publish.ensures.ok in
+    live_after old c.args.tablet c.args.operation.now _ is _ c.cut.ensures ∙ ap (λ (l : LiveRegionValue). publishing_at l c.args.tablet c.args.operation.now) c.self.view_is
+
+pub returns-clause-state : goal.returns-clause-state
+returns-clause-state g c =
+    let inside = c.self.inside in
+    let old : LiveRegionValue = record { layout = inside.layout; places = inside.places.items; marks = inside.marks; log = inside.log } in
+    let is = set_appended inside.places.items c.args.tablet c.index_mut.result.now c.publish.new.self c.args.operation.now c.index_mut.ensures.value c.in_ok-publish.ensures.ok in
+    core_after old c.args.tablet c.args.operation.now _ is inside.log ∙ ap (λ (l : LiveRegionValue). stepping (core l) c.args.tablet c.args.operation.now) c.self.view_is
+
+pub returns-clause-fits : goal.returns-clause-fits
+returns-clause-fits g c =
+    let inside = c.self.inside in
+    let old : LiveRegionValue = record { layout = inside.layout; places = inside.places.items; marks = inside.marks; log = inside.log } in
+    let is = set_appended inside.places.items c.args.tablet c.index_mut.result.now c.publish.new.self c.args.operation.now c.index_mut.ensures.value c.in_ok-publish.ensures.ok in
+    subst (λ (l : LiveRegionValue). AreNotesOf (tablets_in l) c.front_of.result) c.self.view_is
+    (subst (λ (ns : List NoteValue). AreNotesOf (tablets_in old) ns) (sym (c.front_of.ensures ∙ ap notes_of c.deref.ensures.value)) (fits_after old c.args.tablet c.args.operation.now _ is))
+
+pub returns-clause-same : goal.returns-clause-same
+returns-clause-same g c =
+    let inside = c.self.inside in
+    let old : LiveRegionValue = record { layout = inside.layout; places = inside.places.items; marks = inside.marks; log = inside.log } in
+    let is = set_appended inside.places.items c.args.tablet c.index_mut.result.now c.publish.new.self c.args.operation.now c.index_mut.ensures.value c.in_ok-publish.ensures.ok in
+    same_after old c.args.tablet c.args.operation.now _ is inside.log ∙ ap tablets_in c.self.view_is

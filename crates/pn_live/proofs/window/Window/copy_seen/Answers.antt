@@ -28,6 +28,6 @@ returns-in-Ok c =
             (subst (λ (l : List TabletOp). IsPrefix l list) c.into_seat.ensures.told answer.1)
             (c.state-state.ensures ∙ ap (λ (r : Ends). state_of r list) (sym ranged));
         sound = c.is_sound.ensures;
-        answers = c.copy-answer.ensures;
+        answers = c.copy-answer.ensures.exact;
       },
     )
