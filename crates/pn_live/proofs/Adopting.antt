@@ -2,6 +2,7 @@
 use Rattle.std.proofs.Common.{◌≡◌, ℕ, zero, suc, ◌+◌, ◌<◌, Bool, true, not, cond, if◌then◌else◌, nat_lt, List, [], ◌∷◌, length, map, get_or, slice_get, refl, sym, ap, ◌∙◌, subst, Option, Some, None, Ok, Err, Result, arith}
 use Rattle.std.specs.Prelude.{IsOk, IsSomeAnd, option_map}
 use Rattle.std.specs.List.{position, prefix_len}
+use Rattle.std.specs.Option.{option_and_then}
 use Rattle.std.proofs.lemmas.List.{length-map}
 use Rattle.pn_tablet.specs.Copies.{TabletCopyValue}
 use Rattle.pn_tablet.specs.Needs.{lacking}
@@ -18,7 +19,7 @@ use Rattle.pn_region.specs.Recovery as region
 use Rattle.pn_region.specs.Regions.{RegionValue}
 use Rattle.pn_region.specs.declared.fault.AdoptFault.{AdoptFault}
 use Rattle.pn_region.specs.declared.fault.AdoptFault.TheVariants as region_fault
-use Rattle.pn_region.proofs.OneTablet.{found_at, found_within, adopting_is}
+use Rattle.pn_region.proofs.OneTablet.{found_at, found_within}
 use Rattle.pn_live.specs.LiveRegions.{LiveRegionValue, core}
 use Rattle.pn_live.specs.Places.{PlaceValue, state_at}
 use Rattle.pn_live.specs.Recovery.{too_old}
@@ -72,7 +73,9 @@ module _ (live : LiveRegionValue) (copy : TabletCopyValue) (n : ℕ) (place : Pl
   needs = lacking (state_at place).status copy.marks
 
   is_adopting : region.adopting (core live) copy ≡ adopting_unless (core live) copy n needs
-  is_adopting = adopting_is (core live) copy n (state_at place) found (state_there live.places n place within at)
+  is_adopting =
+      ap (adopting_by (core live) copy) found
+      ∙ ap (λ (t : Option TabletStateValue). adopting_unless (core live) copy n (option_and_then (λ (state : TabletStateValue). lacking state.status copy.marks) t)) (state_there live.places n place within at)
 
   -- the copy is too old
   pub too_old_for : (fault : AdoptFault) → Some fault ≡ option_map too_old needs → Refuses is_memory fault (region.adopting (core live) copy)
