@@ -1,0 +1,25 @@
+//! What answers lines: the region of a script, or a reader of a live one.
+
+ghost use Rattle.std.specs.Prelude.{◌≡◌, ℕ, List};
+ghost use Rattle.pn_line.specs.Line.{so_far};
+
+use crate::Reply;
+use pn_line::LineBuffer;
+use std::alloc::Global;
+
+/// Answers lines one after another. `R` is the runtime that it needs.
+pub(crate) trait Serves<R> {
+    // What it makes of a line: the machine before, the line, the machine behind it, and the reply.
+    ghost makes: { Self → List ℕ → Self → Reply → Type 0 };
+
+    // What it makes of the end of the input, behind a part of a line.
+    ghost ends: { Self → List ℕ → Self → Reply → Type 0 };
+
+    /// Answers the line that was read.
+    fn answer(&mut self, rt: &R, alloc: Global, line: &LineBuffer) -> Reply
+        ensures { (text : List ℕ) → line.now ≡ so_far text → makes self.old text self.new result };
+
+    /// The input ended behind the part of a line that was read.
+    fn end(&mut self, rt: &R, alloc: Global, part: &LineBuffer) -> Reply
+        ensures { (text : List ℕ) → part.now ≡ so_far text → ends self.old text self.new result };
+}
