@@ -2,6 +2,7 @@
 
 use pn_join::{Marks, Name, raise_at};
 use pn_record::{Image, read_image};
+use pn_region::Since;
 use pn_scan::{Page, Query, ScanFault};
 use pn_stream::Delivery;
 use std::alloc::Global;
@@ -56,4 +57,13 @@ pub(crate) fn told(alloc: Global, page: &Result<Page, ScanFault>) -> Result<Stri
         text.push_str(record.as_str())?;
     }
     Ok(text)
+}
+
+/// How many notices a log tells, or that they were missed.
+pub(crate) fn told_since(alloc: Global, since: &Since) -> Result<String, Fail> {
+    let text = match since {
+        Since::Notices { next, list } => format!(in alloc; "{} notices, next {next}", list.len()),
+        Since::Missed { next } => format!(in alloc; "missed, next {next}"),
+    };
+    Ok(text?)
 }

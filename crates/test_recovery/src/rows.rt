@@ -1,6 +1,6 @@
 //! The worked rows of recovery, on a live region of one tablet.
 
-use crate::given::{all_rows, deliveries, need, told};
+use crate::given::{all_rows, deliveries, need, told, told_since};
 use pn_apply::Open;
 use pn_live::{LiveReader, LiveRegion};
 use pn_region::{AdoptFault, Region};
@@ -13,6 +13,20 @@ use std::thread::Threads;
 use test_given::{keys, layout};
 
 const FIRST: [(&str, u64); 5] = [("a", 0), ("b", 0), ("c", 0), ("d", 0), ("e", 0)];
+
+/// What the reader finds at each step, and what the region answers.
+const WANTED: [&str; 10] = [
+    "a0 b0 c0 d0 e0 ",
+    "tablet 0 is recovering",
+    "tablet 0 is recovering",
+    "recovering",
+    "too old: the copy has 4 of stream east, and 5 are needed",
+    "a1 b0 c0 d0 e0 f0 ",
+    "behind: the tablet has 7 of stream east, and 8 are wanted",
+    "6 3 1",
+    "missed, next 9",
+    "0 notices, next 9",
+];
 
 // A copy of the tablet of a region that took the first messages, and then more.
 fn copy_of<R: Threads + Sync>(
@@ -57,6 +71,8 @@ fn recovered<R: Threads + Wait + Sync>(
     let copy = reader.copy(0, &need(alloc, 5)?)?;
     let cells = reader.get(&keys)?;
     texts.push(format!(in alloc; "{} {} {}", copy.cells.len(), cells.len(), copy.marks.len())?)?;
+    texts.push(told_since(alloc, &live.notices_since(5)?)?)?;
+    texts.push(told_since(alloc, &live.notices_since(9)?)?)?;
     Ok(texts)
 }
 
@@ -75,8 +91,9 @@ fn a_recovery_keeps_what_arrived_meanwhile(rt: HostRuntime) -> Result<(), Fail> 
         }
     }
     live.close(&rt, readers)?;
-    for text in &texts {
-        assert_eq!(rt; text.as_str(), "");
+    assert_eq!(rt; texts.len(), WANTED.len());
+    for (text, want) in texts.iter().zip(&WANTED) {
+        assert_eq!(rt; text.as_str(), *want);
     }
     Ok(())
 }

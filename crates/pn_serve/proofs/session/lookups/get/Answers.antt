@@ -1,0 +1,16 @@
+-- What the looks found is shown.
+use Rattle.std.proofs.Common.{Ok, Err}
+use Rattle.pn_serve.specs.Reply.Record.{get_data}
+use Rattle.pn_serve.proofs.Lookups.{shows_found, got_cells, got_none}
+use Rattle.pn_serve.proofs.session.lookups.get.Goals as goal
+
+pub returns-in-Ok : goal.returns-in-Ok
+returns-in-Ok c = record {
+  seen = c.in-Ok.ensures.get.0;
+  answer = Ok c.in-Ok.cells.items;
+  got = got_cells _ _ _ _ _ _ _ c.in-Ok.ensures.get.1;
+  shows = shows_found (get_data c.args.keys.now) c.in-Ok.cells.items c.get_reply.result c.shown.result c.get_reply.ensures c.shown.ensures;
+}
+
+pub returns-in-Err : goal.returns-in-Err
+returns-in-Err c = record { seen = c.in-Err.ensures.get.0; answer = Err c.in-Err.fault; got = got_none _ _ _ _ _ _ _ c.in-Err.ensures.get.1; shows = c.refused.ensures }
