@@ -1,5 +1,5 @@
 -- The live tablet that a copy is for, and why it refuses the copy.
-use Rattle.std.proofs.Common.{◌≡◌, ℕ, zero, suc, ◌+◌, ◌<◌, Bool, true, not, cond, if◌then◌else◌, nat_lt, List, [], ◌∷◌, length, map, get_or, slice_get, refl, sym, ap, ◌∙◌, subst, Option, Some, None, Ok, Err, Result, arith}
+use Rattle.std.proofs.Common.{◌≡◌, ℕ, zero, suc, ◌+◌, ◌<◌, Bool, not, cond, if◌then◌else◌, nat_lt, List, [], ◌∷◌, length, map, get_or, slice_get, refl, sym, ap, ◌∙◌, subst, Option, Some, None, Ok, Err, Result, arith}
 use Rattle.std.specs.Prelude.{IsOk, IsSomeAnd, option_map}
 use Rattle.std.specs.List.{position, prefix_len}
 use Rattle.std.specs.Option.{option_and_then}
@@ -10,7 +10,6 @@ use Rattle.pn_tablet.specs.Ranges.{Ends}
 use Rattle.pn_tablet.specs.Refusals.{Refuses}
 use Rattle.pn_tablet.specs.Steps.{step, adopting}
 use Rattle.pn_tablet.specs.Tablets.{TabletStateValue, empty_tablet, same_range}
-use Rattle.pn_tablet.specs.declared.fault.OpFault.{OpFault}
 use Rattle.pn_tablet.specs.declared.fault.OpFault.TheVariants.{WrongRange}
 use Rattle.pn_tablet.specs.declared.needs.Short.{Short}
 use Rattle.pn_tablet.specs.declared.op.TabletOp.TheVariants.{Adopt}

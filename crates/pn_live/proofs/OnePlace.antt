@@ -1,16 +1,14 @@
 -- Live regions of which one operation more is published, of one tablet.
-use Rattle.std.proofs.Common.{◌≡◌, ℕ, zero, suc, ◌<◌, List, [], ◌∷◌, length, map, set, get_or, slice_get, refl, sym, ap, ◌∙◌, subst, Option, Some, None, Ok, Result, arith}
+use Rattle.std.proofs.Common.{◌≡◌, ℕ, zero, suc, ◌<◌, List, [], ◌∷◌, length, map, set, get_or, slice_get, refl, sym, ap, ◌∙◌, subst, Ok, arith}
 use Rattle.std.specs.Prelude.{IsSomeAnd}
-use Rattle.std.specs.List.{position}
 use Rattle.std.proofs.lemmas.List.{set-get_or}
 use Rattle.logbook.specs.Pages.{Book}
 use Rattle.pn_tablet.specs.Steps.{step, stepped, after_step}
 use Rattle.pn_tablet.specs.Tablets.{TabletStateValue}
-use Rattle.pn_tablet.specs.declared.fault.OpFault.{OpFault}
 use Rattle.pn_tablet.specs.declared.op.TabletOp.{TabletOp}
 use Rattle.pn_region.specs.Logged.{breaking}
 use Rattle.pn_region.specs.Recovery.{stepped_at, stepping}
-use Rattle.pn_region.specs.Regions.{RegionValue, IsRegion, IsLawfulRegion}
+use Rattle.pn_region.specs.Regions.{IsRegion, IsLawfulRegion}
 use Rattle.pn_region.specs.declared.entry.Entry.{Entry}
 use Rattle.pn_live.specs.LiveRegions.{LiveRegionValue, core, tablets_in}
 use Rattle.pn_live.specs.Places.{PlaceValue, state_at, appended, notes_of}

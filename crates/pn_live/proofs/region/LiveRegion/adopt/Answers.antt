@@ -1,5 +1,5 @@
 -- The copy's tablet takes it, or says why not.
-use Rattle.std.proofs.Common.{◌≡◌, true, get_or, slice_get, Some, None, Ok, sym, ap, ◌∙◌, subst}
+use Rattle.std.proofs.Common.{◌≡◌, true, get_or, Ok, sym, ap, ◌∙◌, subst}
 use Rattle.std.specs.Prelude.{option_map}
 use Rattle.std.specs.List.{position}
 use Rattle.pn_tablet.specs.Copies.{TabletCopyValue}

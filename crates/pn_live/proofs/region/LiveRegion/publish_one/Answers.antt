@@ -1,5 +1,5 @@
 -- One tablet has one operation more, and the region behind it took it.
-use Rattle.std.proofs.Common.{◌≡◌, List, length, slice_get, refl, sym, ap, ◌∙◌, subst, Ok, arith}
+use Rattle.std.proofs.Common.{◌≡◌, List, slice_get, sym, ap, ◌∙◌, subst, Ok, arith}
 use Rattle.std.specs.Prelude.{IsSomeAnd}
 use Rattle.pn_apply.proofs.Prefixes.{on_err}
 use Rattle.pn_tablet.specs.Steps.{step}
@@ -7,7 +7,7 @@ use Rattle.pn_region.specs.Recovery.{stepping}
 use Rattle.pn_region.specs.Regions.{IsRegion, IsLawfulRegion}
 use Rattle.pn_live.specs.LiveRegions.{LiveRegionValue, core, tablets_in}
 use Rattle.pn_live.specs.Places.{PlaceValue, NoteValue, state_at, notes_of}
-use Rattle.pn_live.specs.Readers.{AreNotesOf, Tablets}
+use Rattle.pn_live.specs.Readers.{AreNotesOf}
 use Rattle.pn_live.specs.Recovery.{publishing_at}
 use Rattle.pn_live.proofs.OnePlace.{there_within, known_there, stepped_is, set_appended, set_same, core_after, lawful_after, live_after, same_after, fits_after}
 use Rattle.pn_live.proofs.region.LiveRegion.publish_one.Goals as goal
