@@ -95,9 +95,9 @@ pub fn run_to_exit<R: Threads + Sync, S: Source, W: Sink>(
     ensures write { IsErrOf result RunFault.Write → W.may_fail }
 {
     let mut lines = Lines::new(alloc)?;
-    let mut machine = Scripted::new(alloc, settings)?;
-    let ended = answer_all(rt, &mut machine, &mut lines, input, output);
-    mem::forget(machine);
+    let mut kept = Scripted::new(alloc, settings)?;
+    let ended = answer_all(rt, &mut kept, &mut lines, input, output);
+    mem::forget(kept);
     ended
 }
 

@@ -2,7 +2,7 @@
 use Rattle.std.proofs.Common.{Ok, Err}
 use Rattle.pn_serve.specs.Reply.Scan.{scan_data}
 use Rattle.pn_serve.proofs.Lookups.{shows_found, scanned_page, scanned_none}
-use Rattle.pn_serve.proofs.session.lookups.scan.Goals as goal
+use Rattle.pn_serve.proofs.sessions.lookups.scan.Goals as goal
 
 pub returns-in-Ok : goal.returns-in-Ok
 returns-in-Ok c = record {

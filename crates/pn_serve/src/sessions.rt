@@ -9,7 +9,7 @@ mod lookups;
 use crate::machine::serving::Serves;
 use crate::script::answer_all;
 use crate::script::turns::Lines;
-use crate::session::lookups::answer;
+use crate::sessions::lookups::answer;
 use crate::{Counts, Reply, RunFault};
 use pn_line::{LineBuffer, Sink, Source};
 use pn_live::LiveReader;

@@ -2,7 +2,7 @@
 use Rattle.std.proofs.Common.{Ok, Err}
 use Rattle.pn_serve.specs.Reply.Record.{get_data}
 use Rattle.pn_serve.proofs.Lookups.{shows_found, got_cells, got_none}
-use Rattle.pn_serve.proofs.session.lookups.get.Goals as goal
+use Rattle.pn_serve.proofs.sessions.lookups.get.Goals as goal
 
 pub returns-in-Ok : goal.returns-in-Ok
 returns-in-Ok c = record {

@@ -2,7 +2,7 @@
 use Rattle.std.proofs.Common.{Ok, Err}
 use Rattle.pn_serve.specs.Reply.Record.{read_data}
 use Rattle.pn_serve.proofs.Lookups.{shows_found}
-use Rattle.pn_serve.proofs.session.lookups.read.Goals as goal
+use Rattle.pn_serve.proofs.sessions.lookups.read.Goals as goal
 
 pub returns-in-Ok : goal.returns-in-Ok
 returns-in-Ok c = record {
