@@ -9,6 +9,8 @@ use std::alloc::Global;
 
 /// Answers lines one after another. `R` is the runtime that it needs.
 pub(crate) trait Serves<R> {
+    ghost use Rattle.pn_serve.specs.declared.reply.Reply.{Reply};
+
     // What it makes of a line: the machine before, the line, the machine behind it, and the reply.
     ghost makes: { Self → List ℕ → Self → Reply → Type 0 };
 
