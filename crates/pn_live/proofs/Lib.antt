@@ -18,3 +18,4 @@ pub mod Adopting
 pub mod Rounds
 pub mod Taken
 pub mod WindowLaws
+pub mod HonestLists

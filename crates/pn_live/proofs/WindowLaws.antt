@@ -71,7 +71,7 @@ own_content : (content : ContentValue) → IsTrue (contains_key (set_of (content
 own_content content =
     ap is_some (get-from_entries content_cmp_total ((content, tt) ∷ []) content ∙ ap (λ (r : Ordering). cond (is_eq r) (Some tt) None) (tied_itself content_cmp_total content))
 
-has_image : (image : Image) (cell : Option CellValue) → HoldsStill (Some (image.version, set_of (image.content ∷ []))) cell → HasImage image cell
+pub has_image : (image : Image) (cell : Option CellValue) → HoldsStill (Some (image.version, set_of (image.content ∷ []))) cell → HasImage image cell
 has_image image None held = held
 has_image image (Some cell) held = ⊎_elim inl (λ (same : _). inr (same.0, same.1 image.content (own_content image.content))) held
 

@@ -1,6 +1,7 @@
 pub mod Attempts
 pub mod Books
 pub mod Copying
+pub mod Honest
 pub mod Laws
 pub mod Limits
 pub mod LiveRegions

@@ -4,6 +4,7 @@
 mod attempt;
 mod fault;
 mod front;
+pub mod honest_laws;
 pub mod laws;
 mod order;
 mod place;

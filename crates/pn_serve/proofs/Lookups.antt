@@ -1,6 +1,6 @@
 -- What lookups of a session are answered.
-use Rattle.std.proofs.Common.{◌≡◌, ◌≢◌, ◌⊎◌, ◌<◌, ℕ, Bool, true, false, cond, List, [], ◌∷◌, length, nat_lt, inl, inr, refl, sym, ap, ◌∙◌, subst, arith}
-use Rattle.std.specs.Prelude.{Option, Vec, Result, Ok, Err, IfOk, MatchResult}
+use Rattle.std.proofs.Common.{◌≡◌, ◌≢◌, ◌⊎◌, ◌<◌, ℕ, zero, suc, Bool, true, false, cond, List, [], ◌∷◌, length, nat_lt, inl, inr, refl, sym, ap, ◌∙◌, subst, arith}
+use Rattle.std.specs.Prelude.{Option, Vec, Result, Ok, Err, IfOk, IsTrue, MatchResult, ◌↔◌}
 use Rattle.std.specs.Option.{ok_or}
 use Rattle.std.specs.declared.alloc.Global.{Global}
 use Rattle.std.proofs.lemmas.Bool.{cases_lt}
@@ -102,6 +102,10 @@ answers_so_far old new line text reply is answered =
 pub ends_none : (old : LiveReaderValue) (line : LineBufferValue) (part : List ℕ) → line ≡ so_far part → line.count ≡ 0 → EndsLines old part old Silent
 ends_none old line [] is none = (refl, refl)
 ends_none old line (b ∷ part) is none = absurd (omega (arith, none, ap (λ (l : LineBufferValue). l.count) is))
+
+pub not_none : (b : Bool) (n : ℕ) → IsTrue b ↔ (n ≡ 0) → b ≡ false → 0 < n
+not_none b zero both is = let no = both.1 refl in absurd (cc (no, is))
+not_none b (suc n) both is = omega arith
 
 -- or behind a part of a line
 pub ends_some : (old new : LiveReaderValue) (line : LineBufferValue) (part : List ℕ) (reply : Reply) → line ≡ so_far part → 0 < line.count → AnswersLine old line.bytes new reply → EndsLines old part new reply

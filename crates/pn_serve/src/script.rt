@@ -102,7 +102,7 @@ pub fn run_to_exit<R: Threads + Sync, S: Source, W: Sink>(
 }
 
 /// The machine answers all lines, of which none was answered.
-pub(crate) fn answer_all<R, M: Serves<R>, S: Source, W: Sink>(
+pub(crate) fn answer_all<R: Sync, M: Serves<R>, S: Source, W: Sink>(
     rt: &R,
     machine: &mut M,
     lines: &mut Lines,

@@ -1,13 +1,14 @@
 //! What answers lines: the region of a script, or a reader of a live one.
 
 ghost use Rattle.std.specs.Prelude.{◌≡◌, ℕ, List};
+ghost use Rattle.std.specs.Thread.{IsSync};
 ghost use Rattle.pn_line.specs.Line.{so_far};
 
 use crate::Reply;
 use pn_line::LineBuffer;
 use std::alloc::Global;
 
-/// Answers lines one after another. `R` is the runtime that it needs.
+/// Answers lines one after another. `R` is the runtime that it needs, which threads can share.
 pub(crate) trait Serves<R> {
     ghost use Rattle.pn_serve.specs.declared.reply.Reply.{Reply};
 
@@ -19,9 +20,11 @@ pub(crate) trait Serves<R> {
 
     /// Answers the line that was read.
     fn answer(&mut self, rt: &R, alloc: Global, line: &LineBuffer) -> Reply
+        requires sync { IsSync R.row }
         ensures { (text : List ℕ) → line.now ≡ so_far text → makes self.old text self.new result };
 
     /// The input ended behind the part of a line that was read.
     fn end(&mut self, rt: &R, alloc: Global, part: &LineBuffer) -> Reply
+        requires sync { IsSync R.row }
         ensures { (text : List ℕ) → part.now ≡ so_far text → ends self.old text self.new result };
 }

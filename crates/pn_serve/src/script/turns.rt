@@ -70,7 +70,7 @@ impl Lines {
     }
 
     /// Reads a line, which the machine answers. Where no further line is there to be read, all replies go out.
-    pub(crate) fn turn<R, M: Serves<R>, S: Source, W: Sink>(
+    pub(crate) fn turn<R: Sync, M: Serves<R>, S: Source, W: Sink>(
         &mut self,
         rt: &R,
         machine: &mut M,
@@ -110,7 +110,7 @@ impl Lines {
     }
 
     // Answers the line that was read: its reply waits or goes out, and it is counted.
-    fn answer_line<R, M: Serves<R>, W: Sink>(
+    fn answer_line<R: Sync, M: Serves<R>, W: Sink>(
         &mut self,
         rt: &R,
         machine: &mut M,
@@ -129,7 +129,7 @@ impl Lines {
 
     // The input is at its end behind the part of a line that was read: what is left to reply waits or goes out.
     // All lines and refusals are counted.
-    fn close<R, M: Serves<R>, W: Sink>(
+    fn close<R: Sync, M: Serves<R>, W: Sink>(
         &mut self,
         rt: &R,
         machine: &mut M,
@@ -151,7 +151,7 @@ impl Lines {
     }
 
     /// Sends all replies, and looks whether the input is at its end, where no more lines may be answered.
-    pub(crate) fn finish<R, M: Serves<R>, S: Source, W: Sink>(
+    pub(crate) fn finish<R: Sync, M: Serves<R>, S: Source, W: Sink>(
         &mut self,
         rt: &R,
         machine: &mut M,

@@ -1,0 +1,247 @@
+-- Published lists stay honest, and readers of honest lists keep what they found across losses.
+use Rattle.std.proofs.Common.{◌≡◌, ◌⊎◌, ℕ, zero, suc, Bool, true, false, if◌then◌else◌, List, [], ◌∷◌, ◌++◌, fold, map, refl, sym, ap, ◌∙◌, subst, inl, inr, ⊎_elim, Ok, Err, IsTrue, Contains, arith}
+use Rattle.std.proofs.lemmas.List.{append-nil}
+use Rattle.std.specs.FinMap.{find}
+use Rattle.std.specs.Prelude.{Option, Some}
+use Rattle.std.specs.List.{AllByRecursion}
+use mathlib.Core.List.{IsPrefix}
+use Rattle.pn_join.specs.Marks.{Positions, Reaches}
+use Rattle.pn_record.specs.declared.image.Image.{Image}
+use Rattle.pn_record.specs.CellMap.{Entries, table_of}
+use Rattle.pn_record.specs.Order.{bytes_cmp}
+use Rattle.pn_record.specs.Sets.{CellValue, set_of}
+use Rattle.pn_stream.specs.Brokers.{BrokerRecord, up_to, AreHonest}
+use Rattle.pn_stream.specs.Positions.{DeliveryValue}
+use Rattle.pn_tablet.specs.Copies.{TabletCopyValue, IsCopy}
+use Rattle.pn_tablet.specs.Ranges.{Ends, in_range}
+use Rattle.pn_tablet.specs.Steps.{stepped, after_step, taking, state_of}
+use Rattle.pn_tablet.specs.Tablets.{TabletStateValue, empty_tablet, lie_in}
+use Rattle.pn_tablet.specs.declared.fault.OpFault.TheVariants.{WrongRange}
+use Rattle.pn_tablet.specs.declared.op.TabletOp.{TabletOp}
+use Rattle.pn_tablet.specs.declared.op.TabletOp.TheVariants.{Lose, Adopt}
+use Rattle.pn_tablet.specs.declared.state.Status.TheVariants.{Serving}
+use Rattle.pn_tablet.proofs.TabletLaws.{never_falls}
+use Rattle.pn_apply.specs.Reducing.{all_images, images_in, join_in}
+use Rattle.pn_apply.proofs.ReduceLaws.{cells_inside}
+use Rattle.pn_region.specs.Events.{round, half_round, loss, adoption}
+use Rattle.pn_region.specs.Faith.{IsFaithful, AreFaithful}
+use Rattle.pn_region.specs.Held.{HoldsStill}
+use Rattle.pn_region.specs.Honest.{IsHonestCopy}
+use Rattle.pn_region.specs.Marking.{new_marks}
+use Rattle.pn_region.specs.Regions.{RegionValue, IsRegion, new_region}
+use Rattle.pn_region.specs.Rounds as rounds
+use Rattle.pn_region.specs.Rounds.{joins}
+use Rattle.pn_region.proofs.Events.{event_faithful, up_to_more}
+use Rattle.pn_region.proofs.Faith.{brought}
+use Rattle.pn_region.proofs.FaithfulCopies.{serving_has_all, lost_faithful}
+use Rattle.pn_region.proofs.InRange.{more_in, to_images_in}
+use Rattle.pn_region.proofs.RoundSteps.{new_reached}
+use Rattle.pn_region.proofs.StillHeld.{more_held}
+use Rattle.pn_live.specs.Honest.{IsHonestList, AreHonestPlaces}
+use Rattle.pn_live.specs.Laws.{HasImage}
+use Rattle.pn_live.specs.LiveRegions.{LiveRegionValue, core, publishing, IsHalfPublished}
+use Rattle.pn_live.specs.Places.{PlaceValue, state_at, IsNewPlace, AreNewPlaces, appended, all_appended, AreOldOrAppended, note_of}
+use Rattle.pn_live.specs.Recovery.{appended_at, publishing_at, Adopts}
+use Rattle.pn_live.specs.Windows.{WindowValue, Finds, Learns, KnowsMore}
+use Rattle.pn_live.proofs.ListLaws.{fold_on, range_kept}
+use Rattle.pn_live.proofs.OnePlace.{core_after}
+use Rattle.pn_live.proofs.Prefixes.{begins_itself, begins_on}
+use Rattle.pn_live.proofs.WindowLaws.{has_image, found_alone, split_at}
+
+-- a beginning of a list with one more is one of the list, or the whole
+begins_or_whole : {A : Type 0} (first list : List A) (x : A) → IsPrefix first (list ++ x ∷ []) → IsPrefix first list ⊎ (first ≡ list ++ x ∷ [])
+begins_or_whole [] list x p = inl (list, refl)
+begins_or_whole (a ∷ first) [] x (more, is) = inr (nothing_more first more (cc is) (cc is))
+  where
+    nothing_more : (first more : List _) → a ≡ x → first ++ more ≡ [] → a ∷ first ≡ x ∷ []
+    nothing_more [] more same none = ap (λ (y : _). y ∷ []) same
+    nothing_more (b ∷ first) more same none = absurd (cc none)
+begins_or_whole (a ∷ first) (y ∷ list) x (more, is) =
+    let same : a ≡ y = cc is in
+    let rest : first ++ more ≡ list ++ x ∷ [] = cc is in
+    ⊎_elim
+    (λ (early : IsPrefix first list). inl (early.0, λ i. same i ∷ early.1 i))
+    (λ (whole : first ≡ list ++ x ∷ []). inr (λ i. same i ∷ whole i))
+    (begins_or_whole first list x (more, rest))
+
+-- each place is as it was, or has one operation more
+abbrev EachGrows : List PlaceValue → List PlaceValue → Type 0
+EachGrows [] [] = Unit {0}
+EachGrows (old ∷ olds) (new ∷ news) = ((new ≡ old) ⊎ ((op : TabletOp) × (new ≡ appended old op))) × EachGrows olds news
+EachGrows _ _ = ⊥
+
+none_grow : (ps : List PlaceValue) → EachGrows ps ps
+none_grow [] = tt
+none_grow (p ∷ ps) = (inl refl, none_grow ps)
+
+all_grow : (ps : List PlaceValue) (ops : List TabletOp) → EachGrows ps (all_appended ps ops)
+all_grow [] ops = tt
+all_grow (p ∷ ps) [] = none_grow (p ∷ ps)
+all_grow (p ∷ ps) (op ∷ ops) = (inr (op, refl), all_grow ps ops)
+
+one_half : (old new : PlaceValue) (op : TabletOp) → (new ≡ old) ⊎ (new ≡ appended old op) → (new ≡ old) ⊎ ((op : TabletOp) × (new ≡ appended old op))
+one_half old new op (inl same) = inl same
+one_half old new op (inr more) = inr (op, more)
+
+half_grow : (ps : List PlaceValue) (ops : List TabletOp) (news : List PlaceValue) → AreOldOrAppended ps ops news → EachGrows ps news
+half_grow [] ops news half = subst (EachGrows []) (sym half) tt
+half_grow (p ∷ ps) [] news half = subst (EachGrows (p ∷ ps)) (sym half) (none_grow (p ∷ ps))
+half_grow (p ∷ ps) (op ∷ ops) [] half = absurd half
+half_grow (p ∷ ps) (op ∷ ops) (new ∷ news) half = (one_half p new op half.0, half_grow ps ops news half.1)
+
+one_grows : (n : ℕ) (op : TabletOp) (ps : List PlaceValue) → EachGrows ps (appended_at n op ps)
+one_grows n op [] = tt
+one_grows zero op (p ∷ ps) = (inr (op, refl), none_grow ps)
+one_grows (suc n) op (p ∷ ps) = (inl refl, one_grows n op ps)
+
+module _ (broker : BrokerRecord) where
+  abbrev IsHonestPlace : PlaceValue → Type 0
+  IsHonestPlace place = IsHonestList broker place.range place.list
+
+  -- the states of honest lists are faithful
+  now_faithful : (ps : List PlaceValue) → AreHonestPlaces broker ps → AreFaithful broker (map state_at ps)
+  now_faithful [] honest = tt
+  now_faithful (p ∷ ps) honest = (honest.0 p.list (begins_itself p.list), now_faithful ps honest.1)
+
+  one_grown : (old new : PlaceValue) → (new ≡ old) ⊎ ((op : TabletOp) × (new ≡ appended old op)) → IsHonestPlace old → IsFaithful broker (state_at new) → IsHonestPlace new
+  one_grown old new (inl same) honest faithful = subst IsHonestPlace (sym same) honest
+  one_grown old new (inr (op, more)) honest faithful =
+      let now : IsFaithful broker (state_at (appended old op)) = subst (λ (p : PlaceValue). IsFaithful broker (state_at p)) more faithful in
+      let whole : IsHonestPlace (appended old op) =
+      λ first p. ⊎_elim (λ (early : IsPrefix first old.list). honest first early)
+      (λ (is : first ≡ old.list ++ op ∷ []). subst (λ (l : List TabletOp). IsFaithful broker (state_of old.range l)) (sym is) now)
+      (begins_or_whole first old.list op p) in
+      subst IsHonestPlace (sym more) whole
+
+  grown : (olds news : List PlaceValue) → EachGrows olds news → AreHonestPlaces broker olds → AreFaithful broker (map state_at news) → AreHonestPlaces broker news
+  grown [] [] grows honest faithful = tt
+  grown [] (new ∷ news) grows honest faithful = absurd grows
+  grown (old ∷ olds) [] grows honest faithful = absurd grows
+  grown (old ∷ olds) (new ∷ news) grows honest faithful = (one_grown old new grows.0 honest.0 faithful.0, grown olds news grows.1 honest.1 faithful.1)
+
+  -- what is published of a new live region
+  pub opened_honest : (rs : List Ends) (ps : List PlaceValue) → AreNewPlaces rs ps → AreHonestPlaces broker ps
+  opened_honest [] [] are = tt
+  opened_honest [] (p ∷ ps) are = absurd are
+  opened_honest (r ∷ rs) [] are = absurd are
+  opened_honest (r ∷ rs) (p ∷ ps) are = (
+    λ first begins.
+        let none : first ≡ [] = nothing first begins.0 (begins.1 ∙ are.0.1) in
+        subst (λ (l : List TabletOp). IsFaithful broker (state_of p.range l)) (sym none) (empty_faithful p.range),
+    opened_honest rs ps are.1,
+  )
+    where
+      nothing : (first more : List TabletOp) → first ++ more ≡ [] → first ≡ []
+      nothing [] more is = refl
+      nothing (op ∷ first) more is = absurd (cc is)
+
+      empty_faithful : (range : Ends) → IsFaithful broker (empty_tablet range)
+      empty_faithful range = record { images = []; cells = (lost_faithful broker (empty_tablet range)).cells; published = λ image there. absurd (omega (arith, there.1)); all = λ image there. absurd (omega (arith, there.1)) }
+
+  module _ (old new : LiveRegionValue) (is : IsRegion (core old)) (honest : AreHonestPlaces broker old.places) where
+    pub round_honest : (deliveries : List DeliveryValue) → AreHonest broker deliveries → rounds.round (core old) deliveries ≡ Ok (core new) → new.places ≡ publishing old deliveries new.marks → AreHonestPlaces broker new.places
+    round_honest deliveries brings leads all =
+        grown old.places new.places (subst (EachGrows old.places) (sym all) (all_grow old.places (joins (core old) deliveries new.marks))) honest
+        (event_faithful broker (round deliveries) (core old) (core new) is (now_faithful old.places honest) brings leads)
+
+    half_grows : (deliveries : List DeliveryValue) → IsHalfPublished old deliveries new → EachGrows old.places new.places
+    half_grows deliveries half = by_marks (new_marks old.marks deliveries) half.2
+      where
+        by_marks : (right : _) → _ → EachGrows old.places new.places
+        by_marks (Ok marks) left = half_grow old.places (joins (core old) deliveries marks) new.places left
+        by_marks (Err fault) left = subst (EachGrows old.places) (sym left) (none_grow old.places)
+
+    pub half_honest : (deliveries : List DeliveryValue) → AreHonest broker deliveries → IsHalfPublished old deliveries new → rounds.IsHalfTaken (core old) deliveries (core new) → AreHonestPlaces broker new.places
+    half_honest deliveries brings half leads =
+        grown old.places new.places (half_grows deliveries half) honest
+        (event_faithful broker (half_round deliveries) (core old) (core new) is (now_faithful old.places honest) brings leads)
+
+    pub loss_honest : (n : ℕ) → new ≡ publishing_at old n Lose → AreHonestPlaces broker new.places
+    loss_honest n now =
+        let places : new.places ≡ appended_at n Lose old.places = ap (λ (l : LiveRegionValue). l.places) now in
+        grown old.places new.places (subst (EachGrows old.places) (sym places) (one_grows n Lose old.places)) honest
+        (event_faithful broker (loss n) (core old) (core new) is (now_faithful old.places honest) tt
+        (ap core now ∙ core_after old n Lose (appended_at n Lose old.places) refl []))
+
+    pub adoption_honest : (copy : TabletCopyValue) → IsCopy copy.range copy.marks copy.cells → IsHonestCopy broker copy → Adopts copy old new → AreHonestPlaces broker new.places
+    adoption_honest copy lawful gives adopts =
+        let places : new.places ≡ appended_at adopts.tablet (Adopt copy) old.places = ap (λ (l : LiveRegionValue). l.places) adopts.published in
+        grown old.places new.places (subst (EachGrows old.places) (sym places) (one_grows adopts.tablet (Adopt copy) old.places)) honest
+        (event_faithful broker (adoption copy) (core old) (core new) is (now_faithful old.places honest) gives
+        (record { tablet = adopts.tablet; lawful = lawful; adopted = adopts.adopted }))
+
+  -- operations lower no cover
+  covers_on : (t : TabletStateValue) (ops : List TabletOp) → Reaches (fold stepped t ops).cover t.cover
+  covers_on t [] name = omega arith
+  covers_on t (op ∷ ops) name = omega (arith, never_falls t op name, covers_on (stepped t op) ops name)
+
+  -- what a serving tablet of a reader's has
+  found_all : (later last : WindowValue) (now : TabletStateValue) → Finds later now last → IsHonestList broker last.range last.seen → now.status ≡ Serving
+      → now.cells ≡ table_of (images_in last.range (up_to broker now.cover))
+  found_all later last now found honest serves =
+      let faithful = subst (IsFaithful broker) (sym found.state) (honest last.seen (begins_itself last.seen)) in
+      let range : now.range ≡ last.range = ap (λ (t : TabletStateValue). t.range) found.state ∙ range_kept (empty_tablet last.range) last.seen in
+      serving_has_all broker now faithful serves ∙ ap (λ (r : Ends). table_of (images_in r (up_to broker now.cover))) range
+
+  -- a list that begins another leads to no greater cover
+  cover_begins : (range : Ends) (first list : List TabletOp) → IsPrefix first list → Reaches (state_of range list).cover (state_of range first).cover
+  cover_begins range first list begins =
+      subst (λ (t : TabletStateValue). Reaches t.cover (state_of range first).cover)
+      (sym (ap (state_of range) (sym begins.1) ∙ fold_on (empty_tablet range) first begins.0)) (covers_on (state_of range first) begins.0)
+
+  pub never_back_across : (first seen later last : WindowValue) (was now : TabletStateValue) → Finds first was seen → KnowsMore seen later → Finds later now last
+      → IsHonestList broker last.range last.seen → was.status ≡ Serving → now.status ≡ Serving → (key : List ℕ) → HoldsStill (find bytes_cmp key was.cells) (find bytes_cmp key now.cells)
+  never_back_across first seen later last was now found more found_later honest serves serves_too key =
+      let begins = begins_on seen.seen later.seen last.seen more.seen found_later.seen in
+      let range : last.range ≡ seen.range = ap (λ (w : WindowValue). w.range) found_later.same ∙ more.range in
+      let honest_first : IsHonestList broker seen.range seen.seen =
+      λ early p. subst (λ (r : Ends). IsFaithful broker (state_of r early)) range (honest early (begins_on early seen.seen last.seen p begins)) in
+      let had = found_all first seen was found honest_first serves in
+      let has = found_all later last now found_later honest serves_too ∙ ap (λ (r : Ends). table_of (images_in r (up_to broker now.cover))) range in
+      let is : now ≡ state_of seen.range last.seen = found_later.state ∙ ap (λ (r : Ends). state_of r last.seen) range in
+      let reach : Reaches now.cover was.cover =
+      subst (λ (t : TabletStateValue). Reaches now.cover t.cover) (sym found.state)
+      (subst (λ (t : TabletStateValue). Reaches t.cover (state_of seen.range seen.seen).cover) (sym is) (cover_begins seen.range seen.seen last.seen begins)) in
+      subst (λ (cells : Entries). HoldsStill (find bytes_cmp key cells) (find bytes_cmp key now.cells)) (sym had)
+      (subst (λ (cells : Entries). HoldsStill (find bytes_cmp key (table_of (images_in seen.range (up_to broker was.cover)))) (find bytes_cmp key cells)) (sym has)
+      (more_held (images_in seen.range (up_to broker was.cover)) (images_in seen.range (up_to broker now.cover)) key
+      (more_in seen.range (up_to broker was.cover) (up_to broker now.cover) (up_to_more broker now.cover was.cover reach))))
+
+  -- a join's marks are reached
+  joined_cover : (t : TabletStateValue) (cells : Entries) (marks : Positions) (b : Bool) → b ≡ true → Reaches (after_step t (if b then Ok (taking t cells marks) else Err WrongRange)).cover marks
+  joined_cover t cells marks true inside = new_reached t.cover marks
+  joined_cover t cells marks false inside = absurd (cc inside)
+
+  join_reaches : (t : TabletStateValue) (marks : Positions) (images : List Image) (range : Ends) → t.range ≡ range → Reaches (stepped t (join_in marks images range)).cover marks
+  join_reaches t marks images range ranged =
+      joined_cover t (table_of (images_in range images)) marks (lie_in t.range (table_of (images_in range images)))
+      (subst (λ (r : Ends). lie_in r (table_of (images_in range images)) ≡ true) (sym ranged) (cells_inside range images))
+
+  pub not_missed_across : (place : PlaceValue) (old marks : Positions) (deliveries : List DeliveryValue) (window learnt later last : WindowValue) (now : TabletStateValue)
+      → AreHonest broker deliveries → new_marks old deliveries ≡ Ok marks
+      → window.range ≡ place.range → Learns window (note_of (appended place (join_in marks (all_images deliveries) place.range))) learnt
+      → KnowsMore learnt later → Finds later now last → IsHonestList broker last.range last.seen → now.status ≡ Serving
+      → (image : Image) → Contains (all_images deliveries) image → IsTrue (in_range place.range image.key) → HasImage image (find bytes_cmp image.key now.cells)
+  not_missed_across place old marks deliveries window learnt later last now brings accepted ranged learns more found honest serves image there lies =
+      let op = join_in marks (all_images deliveries) place.range in
+      let told = place.list ++ op ∷ [] in
+      let begins : IsPrefix told last.seen = begins_on told later.told last.seen (begins_on told learnt.told later.told learns.note more.told) found.told in
+      let range : last.range ≡ place.range = ap (λ (w : WindowValue). w.range) found.same ∙ (more.range ∙ (ap (λ (w : WindowValue). w.range) learns.same ∙ ranged)) in
+      let is : now ≡ state_of place.range last.seen = found.state ∙ ap (λ (r : Ends). state_of r last.seen) range in
+      let first : Reaches (state_of place.range told).cover marks =
+      subst (λ (t : TabletStateValue). Reaches t.cover marks) (sym (fold_on (empty_tablet place.range) place.list (op ∷ [])))
+      (join_reaches (state_of place.range place.list) marks (all_images deliveries) place.range (range_kept (empty_tablet place.range) place.list)) in
+      let on = cover_begins place.range told last.seen begins in
+      let reach : Reaches now.cover marks =
+      subst (λ (t : TabletStateValue). Reaches t.cover marks) (sym is) (λ name. omega (arith, first name, on name)) in
+      let has = found_all later last now found honest serves ∙ ap (λ (r : Ends). table_of (images_in r (up_to broker now.cover))) range in
+      let up = brought broker old marks deliveries brings accepted now.cover reach image there in
+      let listed = to_images_in place.range (up_to broker now.cover) image up lies in
+      has_image image (find bytes_cmp image.key now.cells)
+      (subst (λ (cells : Entries). HoldsStill (Some (image.version, set_of (image.content ∷ []))) (find bytes_cmp image.key cells)) (sym has)
+      (subst (λ (o : Option CellValue). HoldsStill o (find bytes_cmp image.key (table_of (images_in place.range (up_to broker now.cover))))) (found_alone image)
+      (more_held (image ∷ []) (images_in place.range (up_to broker now.cover)) image.key (only image (images_in place.range (up_to broker now.cover)) listed))))
+    where
+      only : (image : Image) (images : List Image) → Contains images image → (one : Image) → Contains (image ∷ []) one → Contains images one
+      only image images there one (zero, within, is) = subst (Contains images) is there
+      only image images there one (suc n, within, is) = absurd (omega (arith, within))
