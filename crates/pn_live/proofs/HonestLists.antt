@@ -2,12 +2,13 @@
 use Rattle.std.proofs.Common.{◌≡◌, ◌⊎◌, ℕ, zero, suc, Bool, true, false, if◌then◌else◌, List, [], ◌∷◌, ◌++◌, fold, map, refl, sym, ap, ◌∙◌, subst, inl, inr, ⊎_elim, Ok, Err, IsTrue, Contains, arith}
 use Rattle.std.proofs.lemmas.List.{append-nil}
 use Rattle.std.specs.FinMap.{find}
-use Rattle.std.specs.Prelude.{Option, Some}
+use Rattle.std.specs.Prelude.{Option, Some, Result, MatchResult}
 use Rattle.std.specs.List.{AllByRecursion}
 use mathlib.Core.List.{IsPrefix}
 use Rattle.pn_join.specs.Marks.{Positions, Reaches}
 use Rattle.pn_record.specs.declared.image.Image.{Image}
 use Rattle.pn_record.specs.CellMap.{Entries, table_of}
+use Rattle.pn_record.proofs.CellMaps.{table_of-nil}
 use Rattle.pn_record.specs.Order.{bytes_cmp}
 use Rattle.pn_record.specs.Sets.{CellValue, set_of}
 use Rattle.pn_stream.specs.Brokers.{BrokerRecord, up_to, AreHonest}
@@ -31,9 +32,10 @@ use Rattle.pn_region.specs.Marking.{new_marks}
 use Rattle.pn_region.specs.Regions.{RegionValue, IsRegion, new_region}
 use Rattle.pn_region.specs.Rounds as rounds
 use Rattle.pn_region.specs.Rounds.{joins}
+use Rattle.pn_region.specs.declared.fault.RoundFault.{RoundFault}
 use Rattle.pn_region.proofs.Events.{event_faithful, up_to_more}
 use Rattle.pn_region.proofs.Faith.{brought}
-use Rattle.pn_region.proofs.FaithfulCopies.{serving_has_all, lost_faithful}
+use Rattle.pn_region.proofs.FaithfulCopies.{serving_has_all}
 use Rattle.pn_region.proofs.InRange.{more_in, to_images_in}
 use Rattle.pn_region.proofs.RoundSteps.{new_reached}
 use Rattle.pn_region.proofs.StillHeld.{more_held}
@@ -136,7 +138,7 @@ module _ (broker : BrokerRecord) where
       nothing (op ∷ first) more is = absurd (cc is)
 
       empty_faithful : (range : Ends) → IsFaithful broker (empty_tablet range)
-      empty_faithful range = record { images = []; cells = (lost_faithful broker (empty_tablet range)).cells; published = λ image there. absurd (omega (arith, there.1)); all = λ image there. absurd (omega (arith, there.1)) }
+      empty_faithful range = record { images = []; cells = sym table_of-nil; published = λ image there. absurd (omega (arith, there.1)); all = λ image there. absurd (omega (arith, there.1)) }
 
   module _ (old new : LiveRegionValue) (is : IsRegion (core old)) (honest : AreHonestPlaces broker old.places) where
     pub round_honest : (deliveries : List DeliveryValue) → AreHonest broker deliveries → rounds.round (core old) deliveries ≡ Ok (core new) → new.places ≡ publishing old deliveries new.marks → AreHonestPlaces broker new.places
@@ -144,12 +146,13 @@ module _ (broker : BrokerRecord) where
         grown old.places new.places (subst (EachGrows old.places) (sym all) (all_grow old.places (joins (core old) deliveries new.marks))) honest
         (event_faithful broker (round deliveries) (core old) (core new) is (now_faithful old.places honest) brings leads)
 
+    half_by : (deliveries : List DeliveryValue) (right : Result Positions RoundFault) → MatchResult right (λ marks. AreOldOrAppended old.places (joins (core old) deliveries marks) new.places) (λ fault. new.places ≡ old.places)
+        → EachGrows old.places new.places
+    half_by deliveries (Ok marks) left = half_grow old.places (joins (core old) deliveries marks) new.places left
+    half_by deliveries (Err fault) left = subst (EachGrows old.places) (sym left) (none_grow old.places)
+
     half_grows : (deliveries : List DeliveryValue) → IsHalfPublished old deliveries new → EachGrows old.places new.places
-    half_grows deliveries half = by_marks (new_marks old.marks deliveries) half.2
-      where
-        by_marks : (right : _) → _ → EachGrows old.places new.places
-        by_marks (Ok marks) left = half_grow old.places (joins (core old) deliveries marks) new.places left
-        by_marks (Err fault) left = subst (EachGrows old.places) (sym left) (none_grow old.places)
+    half_grows deliveries half = half_by deliveries (new_marks old.marks deliveries) half.2
 
     pub half_honest : (deliveries : List DeliveryValue) → AreHonest broker deliveries → IsHalfPublished old deliveries new → rounds.IsHalfTaken (core old) deliveries (core new) → AreHonestPlaces broker new.places
     half_honest deliveries brings half leads =
