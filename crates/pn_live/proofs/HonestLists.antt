@@ -1,9 +1,7 @@
 -- Published lists stay honest, and readers of honest lists keep what they found across losses.
 use Rattle.std.proofs.Common.{◌≡◌, ◌⊎◌, ℕ, zero, suc, Bool, true, false, if◌then◌else◌, List, [], ◌∷◌, ◌++◌, fold, map, refl, sym, ap, ◌∙◌, subst, inl, inr, ⊎_elim, Ok, Err, IsTrue, Contains, arith}
-use Rattle.std.proofs.lemmas.List.{append-nil}
 use Rattle.std.specs.FinMap.{find}
 use Rattle.std.specs.Prelude.{Option, Some, Result, MatchResult}
-use Rattle.std.specs.List.{AllByRecursion}
 use mathlib.Core.List.{IsPrefix}
 use Rattle.pn_join.specs.Marks.{Positions, Reaches}
 use Rattle.pn_record.specs.declared.image.Image.{Image}
@@ -29,7 +27,7 @@ use Rattle.pn_region.specs.Faith.{IsFaithful, AreFaithful}
 use Rattle.pn_region.specs.Held.{HoldsStill}
 use Rattle.pn_region.specs.Honest.{IsHonestCopy}
 use Rattle.pn_region.specs.Marking.{new_marks}
-use Rattle.pn_region.specs.Regions.{RegionValue, IsRegion, new_region}
+use Rattle.pn_region.specs.Regions.{IsRegion}
 use Rattle.pn_region.specs.Rounds as rounds
 use Rattle.pn_region.specs.Rounds.{joins}
 use Rattle.pn_region.specs.declared.fault.RoundFault.{RoundFault}
@@ -42,13 +40,13 @@ use Rattle.pn_region.proofs.StillHeld.{more_held}
 use Rattle.pn_live.specs.Honest.{IsHonestList, AreHonestPlaces}
 use Rattle.pn_live.specs.Laws.{HasImage}
 use Rattle.pn_live.specs.LiveRegions.{LiveRegionValue, core, publishing, IsHalfPublished}
-use Rattle.pn_live.specs.Places.{PlaceValue, state_at, IsNewPlace, AreNewPlaces, appended, all_appended, AreOldOrAppended, note_of}
+use Rattle.pn_live.specs.Places.{PlaceValue, state_at, AreNewPlaces, appended, all_appended, AreOldOrAppended, note_of}
 use Rattle.pn_live.specs.Recovery.{appended_at, publishing_at, Adopts}
 use Rattle.pn_live.specs.Windows.{WindowValue, Finds, Learns, KnowsMore}
 use Rattle.pn_live.proofs.ListLaws.{fold_on, range_kept}
 use Rattle.pn_live.proofs.OnePlace.{core_after}
 use Rattle.pn_live.proofs.Prefixes.{begins_itself, begins_on}
-use Rattle.pn_live.proofs.WindowLaws.{has_image, found_alone, split_at}
+use Rattle.pn_live.proofs.WindowLaws.{has_image, found_alone}
 
 -- a beginning of a list with one more is one of the list, or the whole
 begins_or_whole : {A : Type 0} (first list : List A) (x : A) → IsPrefix first (list ++ x ∷ []) → IsPrefix first list ⊎ (first ≡ list ++ x ∷ [])
