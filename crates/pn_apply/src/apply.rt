@@ -51,7 +51,7 @@ struct Task<'a> {
     operations: &'a [TabletOp],
 }
 
-// Works the tablets of a share, cut in two as long as there are workers for both halves, and work.
+// Works the tablets of a share, of which one worker's is cut off as long as there are workers for both parts, and work.
 #[cycle(halves)]
 fn work_shares<R: Threads + Sync, S: Slot + Send, G: Gate + Sync>(
     rt: &R,
@@ -92,7 +92,7 @@ fn work_shares<R: Threads + Sync, S: Slot + Send, G: Gate + Sync>(
     gathered(results, front, back)
 }
 
-// Works two halves at the same time; in turn where one of them has nothing to do.
+// Works both parts of a cut at the same time; in turn where one of them has nothing to do.
 #[cycle(halves)]
 fn work_halves<R: Threads + Sync, S: Slot + Send, G: Gate + Sync>(
     rt: &R,

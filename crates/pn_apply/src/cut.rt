@@ -1,4 +1,4 @@
-//! Consecutive tablets, cut in two again and again until each worker has a share of its own.
+//! Consecutive tablets, of which one worker's share is cut off again and again until each worker has a share of its own.
 
 ghost use Rattle.std.specs.Prelude.{◌≡◌, ◌+◌, ◌++◌, ◌≤◌, ◌<◌, ◌^◌, ◌⊎◌, [], length, vec_capacity, IfOk, IsOk, IsErr};
 
@@ -12,7 +12,8 @@ pub(crate) struct Share {
 }
 
 impl Share {
-    /// Half of the workers, the other half, and how many of the tablets the first half works.
+    /// The share of one worker, that of all others, and how many of the tablets the one works. The caller's thread goes on with
+    /// the others, so that no two threads start threads at the same time.
     pub(crate) fn cut(self, tablets: usize) -> (Share, Share, usize)
         requires several { 2 ≤ self.workers }
         requires enough { self.workers ≤ tablets }
@@ -22,8 +23,7 @@ impl Share {
         ensures firsts { (result.0.first ≡ self.first) × (result.1.first ≡ self.first + result.2) }
         ensures enough { (result.0.workers ≤ result.2) × (result.1.workers + result.2 ≤ tablets) }
     {
-        let front = self.workers / 2;
-        let back = self.workers - front;
+        let (front, back) = (1, self.workers - 1);
         let most = tablets.div_ceil(self.workers);
         let place = most.saturating_mul(front).clamp(front, tablets - back);
         (
@@ -40,7 +40,7 @@ impl Share {
     }
 }
 
-/// The results of both halves, in order, in room that was made before they were worked.
+/// The results of both parts, in order, in room that was made before they were worked.
 pub(crate) fn gathered<T: Drop>(
     mut results: Vec<T>,
     front: Result<Vec<T>, NoMemory>,

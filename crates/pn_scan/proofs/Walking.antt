@@ -1,5 +1,6 @@
 -- A walk over rising entries, from the first that may be shown to the end of the keys that are asked for.
 use Rattle.std.proofs.Common.{◌≡◌, ℕ, zero, suc, ◌+◌, ◌≤◌, Bool, true, false, not, ◌&&◌, cond, List, [], ◌∷◌, ◌++◌, length, take, drop, max, Option, Some, None, Less, is_lt, count_by, nat_lt, refl, sym, ap, ◌∙◌, subst, inl, inr, arith, append-nil, length-append}
+use Rattle.std.specs.List.{AllByRecursion}
 use Rattle.std.specs.Option.{option_map_or}
 use Rattle.std.specs.Ordering.{ordering_reverse}
 use Rattle.std.proofs.lemmas.Bool.{cases_lt}
@@ -27,6 +28,15 @@ and_last : (a b c : Bool) → c ≡ false → (a && b && c) ≡ false
 and_last true true c p = p
 and_last true false c p = refl
 and_last false b c p = refl
+
+both_hold : (a b c : Bool) → a ≡ true → b ≡ true → c ≡ (a && b && c)
+both_hold true true c p q = refl
+both_hold true false c p q = cc
+both_hold false b c p q = cc
+
+-- between the ends, what is left to look at is `after` and the contents
+pub within_ends : (q : QueryValue) (e : List ℕ × CellValue) → is_from q.from e.0 ≡ true → is_before q.to e.0 ≡ true → (is_after q.after e.0 && has_shown q.conditions e.1) ≡ is_shown q e
+within_ends q e from to = ap (λ b. b && has_shown q.conditions e.1) (both_hold (is_from q.from e.0) (is_before q.to e.0) (is_after q.after e.0) from to)
 
 pub not_asked : (q : QueryValue) (e : List ℕ × CellValue) → is_asked q e.0 ≡ false → is_shown q e ≡ false
 not_asked q e outside = ap (λ b. b && has_shown q.conditions e.1) outside
@@ -112,6 +122,33 @@ begin_there q es a b rising is_a is_b =
     greater_of a b (λ n. shown_rows q (drop n es) ≡ shown_rows q es)
     (ap (λ n. shown_rows q (drop n es)) is_a ∙ begin_from q es rising q.from refl)
     (ap (λ n. shown_rows q (drop n es)) is_b ∙ begin_after q es rising q.after refl)
+
+-- no key is below the end
+abbrev pub NoneBelow : Option (List ℕ) → Entries → Type 0
+NoneBelow end es = AllByRecursion (λ e. is_from end e.0 ≡ true) es
+
+open_below : (es : Entries) → NoneBelow None es
+open_below [] = tt
+open_below (e ∷ es) = (refl, open_below es)
+
+from_place : (key : List ℕ) (es : Entries) (n : ℕ) → Rising bytes_cmp es → lesser key es ≤ n → NoneBelow (Some key) (drop n es)
+from_place key [] zero rising past = tt
+from_place key [] (suc n) rising past = tt
+from_place key (e ∷ es) zero rising past =
+    elim (is_below e.0 key) as (λ b. is_below e.0 key ≡ b → NoneBelow (Some key) (e ∷ es)) [
+      | true ↦ λ p. absurd (omega (arith, past, lesser-cons key e es true p))
+      | false ↦ λ p. (ap not p, from_place key es zero rising.1 (omega (arith, past, lesser-cons key e es false p)))
+    ] refl
+from_place key (e ∷ es) (suc n) rising past =
+    elim (is_below e.0 key) as (λ b. is_below e.0 key ≡ b → NoneBelow (Some key) (drop n es)) [
+      | true ↦ λ p. from_place key es n rising.1 (omega (arith, past, lesser-cons key e es true p))
+      | false ↦ λ p. from_place key es n rising.1 (omega (arith, none_lesser key e.0 es p rising.0))
+    ] refl
+
+-- at the place of an end, or behind it, no key is below the end
+pub from_there : (end : Option (List ℕ)) (es : Entries) (n : ℕ) → Rising bytes_cmp es → lesser_at end es ≤ n → NoneBelow end (drop n es)
+from_there None es n rising past = open_below (drop n es)
+from_there (Some key) es n rising past = from_place key es n rising past
 
 -- the rows that were found are the first, and whether there are more
 module _ {A : Type 0} where

@@ -1,6 +1,6 @@
 //! Which records meet the conditions of a query.
 
-ghost use Rattle.std.specs.Prelude.{◌≡◌, map, option_map};
+ghost use Rattle.std.specs.Prelude.{◌≡◌, true, map, option_map};
 ghost use Rattle.std.specs.FinMap.{find};
 ghost use Rattle.std.specs.List.{list_all};
 ghost use Rattle.std.specs.Option.{option_copied};
@@ -9,31 +9,20 @@ ghost use Rattle.pn_record.specs.Showing.{shown_field, shown_value};
 ghost use Rattle.pn_tablet.specs.Ranges.{is_from as from_end, is_before as before_end};
 ghost use Rattle.pn_scan.specs.Queries.{shown_condition};
 ghost use Rattle.pn_scan.specs.Conditions.{field_of as name_of, is_met as text_met, meets as one_met, shows as all_met};
-ghost use Rattle.pn_scan.specs.Shown.{has_shown as some_shown, is_asked as key_asked, is_shown as row_shown, is_after as after_end};
+ghost use Rattle.pn_scan.specs.Shown.{has_shown as some_shown, is_shown as row_shown, is_after as after_end};
 
 use crate::{Condition, Query};
 use pn_record::{Body, Cell, Content, Key, Value};
 
-/// Whether the query shows the record of a key. It takes no memory.
+/// Whether the query shows the record of a key that is not below its `from` and below its `to`. It takes no
+/// memory.
+#[tactic(auto, using(crate::proofs::Walking::within_ends))]
 pub(crate) fn is_shown(query: &Query, key: &Key, cell: &Cell) -> bool
+    requires from { from_end query.now.from key.now ≡ true }
+    requires to { before_end query.now.to key.now ≡ true }
     ensures { result ≡ row_shown query.now (key.now, cell.now) }
 {
-    is_asked(query, key) && has_shown(query.conditions(), cell)
-}
-
-fn is_asked(query: &Query, key: &Key) -> bool
-    ensures { result ≡ key_asked query.now key.now }
-{
-    is_from(query.from(), key) && is_before(query.to(), key) && is_after(query.after(), key)
-}
-
-fn is_from(from: Option<&Key>, key: &Key) -> bool
-    ensures { result ≡ from_end (option_copied from.entry) key.now }
-{
-    match from {
-        None => true,
-        Some(from) => key >= from,
-    }
+    is_after(query.after(), key) && has_shown(query.conditions(), cell)
 }
 
 pub(crate) fn is_before(to: Option<&Key>, key: &Key) -> bool

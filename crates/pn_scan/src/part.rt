@@ -1,10 +1,12 @@
 //! What is read of one tablet.
 
-ghost use Rattle.std.specs.Prelude.{◌≡◌, take, drop, length, count_by, nat_lt, Some, IfOk, IsTrue};
+ghost use Rattle.std.specs.Prelude.{◌≡◌, true, take, drop, length, count_by, nat_lt, Some, IfOk, IsTrue};
 ghost use Rattle.std.specs.FinMap.{is_sorted};
+ghost use Rattle.std.specs.List.{AllByRecursion};
 ghost use Rattle.std.specs.Option.{option_copied, option_map_or};
 ghost use Rattle.std.specs.Ordering.{is_lt};
 ghost use Rattle.pn_record.specs.Order.{bytes_cmp};
+ghost use Rattle.pn_tablet.specs.Ranges.{is_from};
 ghost use Rattle.pn_scan.specs.Pages.{refusal, unless};
 ghost use Rattle.pn_scan.specs.Shown.{shown_rows};
 ghost use Rattle.pn_scan.specs.Views.{Answers, rows_at, cell_at};
@@ -81,10 +83,11 @@ fn first_rows(
     Ok((rows, false))
 }
 
-// A place before which no record is shown.
+// A place before which no record is shown, and from which on no key is below `from`.
 fn first_place(cells: &Records, query: &Query) -> usize
     requires { IsTrue (is_sorted bytes_cmp cells.now) }
-    ensures { shown_rows query.now (drop result cells.now) ≡ shown_rows query.now cells.now }
+    ensures shown { shown_rows query.now (drop result cells.now) ≡ shown_rows query.now cells.now }
+    ensures from { AllByRecursion (λ e. is_from query.now.from e.0 ≡ true) (drop result cells.now) }
 {
     place_of(cells, query.from()).max(place_of(cells, query.after()))
 }

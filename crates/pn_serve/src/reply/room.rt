@@ -1,7 +1,7 @@
 //! How much room rows take in a line, by the sizes of their texts. It is a guess, and no promise rests on it.
 //!
 //! It is made before anything is written, so that the line takes its memory once, and reads a byte of each cache line of the
-//! texts, so that they come from memory several at a time and are at hand when they are written.
+//! names and texts, so that they come from memory several at a time and are at hand when they are written.
 
 use pn_record::{Body, Cell, Content, Key, Value};
 use pn_scan::Row;
@@ -68,9 +68,9 @@ fn room_of_fields(fields: &[(String, Value)]) -> usize {
 }
 
 fn room_of_field(field: &(String, Value)) -> usize {
-    let beside = field.0.len().wrapping_add(OF_FIELD);
+    let name = room_of_text(field.0.as_str()).wrapping_add(OF_FIELD);
     match &field.1 {
-        Value::Text(text) => room_of_text(text.as_str()).wrapping_add(beside),
+        Value::Text(text) => room_of_text(text.as_str()).wrapping_add(name),
     }
 }
 

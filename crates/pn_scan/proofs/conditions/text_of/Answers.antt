@@ -1,5 +1,5 @@
 -- A field of the name is the one; another is passed over.
-use Rattle.std.proofs.Common.{Some, sym, ap, ◌∙◌, arith, rules}
+use Rattle.std.proofs.Common.{Some, sym, ap, ◌∙◌, arith}
 use Rattle.std.specs.Str.{bytes_eq}
 use Rattle.std.proofs.lemmas.Map.Text.{is_eq-slice_cmp}
 use Rattle.pn_record.specs.Order.{bytes_cmp}

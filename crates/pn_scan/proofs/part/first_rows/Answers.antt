@@ -6,7 +6,7 @@ use Rattle.pn_record.specs.Order.{bytes_cmp}
 use Rattle.pn_record.specs.Sets.{CellValue}
 use Rattle.pn_tablet.specs.Ranges.{is_before}
 use Rattle.pn_scan.specs.Shown.{shown_rows}
-use Rattle.pn_scan.proofs.Walking.{rising_drop, none_past, all_found}
+use Rattle.pn_scan.proofs.Walking.{NoneBelow, rising_drop, none_past, all_found}
 use Rattle.pn_scan.proofs.part.first_rows.Goals as goal
 
 pub loop-key-init : goal.loop-key-init
@@ -20,10 +20,17 @@ loop-key-init c =
       rows =
           ap (λ (es : Entries). c.in_ok-rows.rows.items ++ shown_rows query es) left
           ∙ ap (λ (rows : Entries). rows ++ shown_rows query (drop c.first_place.result cells)) none
-          ∙ c.first_place.ensures;
+          ∙ c.first_place.ensures.shown;
       few = omega (arith, size);
       rising = subst (λ (es : Entries). Rising bytes_cmp es) (sym left) (rising_drop c.first_place.result cells (Rising-from_sorted bytes_cmp cells c.len.ensures.rising));
+      from = subst (λ (es : Entries). NoneBelow query.from es) (sym left) c.first_place.ensures.from;
     }
+
+pub is_shown-requires-clause-from : goal.is_shown-requires-clause-from
+is_shown-requires-clause-from c = (subst (λ (es : Entries). NoneBelow c.args.query.now.from es) c.in-Some.ensures.steps c.loop-key.invariant.from).0
+
+pub is_shown-requires-clause-to : goal.is_shown-requires-clause-to
+is_shown-requires-clause-to c = ap (λ end. is_before end c.in-Some.key.now) (sym c.to.ensures) ∙ sym c.is_before.ensures ∙ c.if-not-is_before.false
 
 pub returns-then-not-is_before : goal.returns-then-not-is_before
 returns-then-not-is_before c =
