@@ -77,8 +77,8 @@ pub fn run<R: Threads + Sync, S: Source, W: Sink>(
     ensures write { IsErrOf result RunFault.Write → W.may_fail }
 {
     let mut lines = Lines::new(alloc)?;
-    let mut machine = Scripted::new(alloc, settings)?;
-    answer_all(rt, &mut machine, &mut lines, input, output)
+    let mut machine = Scripted::new(rt, alloc, settings)?;
+    answer_all(&mut machine, &mut lines, input, output)
 }
 
 /// As [`run`], for a process that ends then: its region's memory is not given back piece by piece, but goes
@@ -95,15 +95,14 @@ pub fn run_to_exit<R: Threads + Sync, S: Source, W: Sink>(
     ensures write { IsErrOf result RunFault.Write → W.may_fail }
 {
     let mut lines = Lines::new(alloc)?;
-    let mut kept = Scripted::new(alloc, settings)?;
-    let ended = answer_all(rt, &mut kept, &mut lines, input, output);
+    let mut kept = Scripted::new(rt, alloc, settings)?;
+    let ended = answer_all(&mut kept, &mut lines, input, output);
     mem::forget(kept);
     ended
 }
 
 /// The machine answers all lines, of which none was answered.
-pub(crate) fn answer_all<R: Sync, M: Serves<R>, S: Source, W: Sink>(
-    rt: &R,
+pub(crate) fn answer_all<M: Serves, S: Source, W: Sink>(
     machine: &mut M,
     lines: &mut Lines,
     input: &mut S,
@@ -116,10 +115,10 @@ pub(crate) fn answer_all<R: Sync, M: Serves<R>, S: Source, W: Sink>(
     ensures write { IsErrOf result RunFault.Write → W.may_fail }
 {
     'turns: for _turn in 0..MOST_LINES {
-        match lines.turn(rt, machine, input, output)? {
+        match lines.turn(machine, input, output)? {
             Next::Line => {}
             Next::End(counts) => return Ok(counts),
         }
     }
-    lines.finish(rt, machine, input, output)
+    lines.finish(machine, input, output)
 }

@@ -31,21 +31,21 @@ pub fn session<S: Source, W: Sink>(
     ensures write { IsErrOf result RunFault.Write → W.may_fail }
 {
     let mut lines = Lines::new(alloc)?;
-    answer_all(&(), reader, &mut lines, input, output)
+    answer_all(reader, &mut lines, input, output)
 }
 
-impl Serves<()> for LiveReader {
+impl Serves for LiveReader {
     ghost use Rattle.pn_serve.specs.Session.Lines.{AnswersLine, EndsLines};
 
     ghost makes = { AnswersLine };
 
     ghost ends = { EndsLines };
 
-    fn answer(&mut self, _rt: &(), alloc: Global, line: &LineBuffer) -> Reply {
+    fn answer(&mut self, alloc: Global, line: &LineBuffer) -> Reply {
         answer(alloc, self, line.bytes())
     }
 
-    fn end(&mut self, _rt: &(), alloc: Global, part: &LineBuffer) -> Reply {
+    fn end(&mut self, alloc: Global, part: &LineBuffer) -> Reply {
         if part.is_empty() {
             return Reply::Silent;
         }

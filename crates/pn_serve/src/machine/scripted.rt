@@ -18,14 +18,15 @@ use std::thread::Threads;
 
 /// A region, the workers of its rounds, and the lines that were announced.
 #[derive(Drop)]
-pub(crate) struct Scripted {
+pub(crate) struct Scripted<'a, R> {
+    rt: &'a R,
     region: Region,
     workers: usize,
     // Lines that were announced and are still to come. None: the next line is a command.
     announced: Option<Announced>,
 }
 
-impl Model for Scripted {
+impl<'a, R> Model for Scripted<'a, R> {
     ghost use Rattle.std.specs.Prelude.{◌≤◌};
     ghost use Rattle.pn_apply.specs.Limits.{most_workers};
     ghost use Rattle.pn_serve.specs.Machine.Modes.{with_mode};
@@ -42,13 +43,18 @@ impl Model for Scripted {
     ghost invariant = { λ scripted. (1 ≤ scripted.workers) × (scripted.workers ≤ most_workers) };
 }
 
-impl Scripted {
+impl<'a, R: Threads + Sync> Scripted<'a, R> {
     /// A new region that waits for a command.
-    pub(crate) fn new(alloc: Global, settings: Settings) -> Result<Scripted, NoMemory>
+    pub(crate) fn new(
+        rt: &'a R,
+        alloc: Global,
+        settings: Settings,
+    ) -> Result<Scripted<'a, R>, NoMemory>
         ensures { IfOk result (λ scripted. scripted ≡ serving (new_region settings.layout)) }
     {
         let Settings { layout, workers } = settings;
         Ok(Scripted {
+            rt,
             region: Region::new(alloc, layout)?,
             workers,
             announced: None,
@@ -56,26 +62,26 @@ impl Scripted {
     }
 }
 
-impl<R: Threads + Sync> Serves<R> for Scripted {
+impl<'a, R: Threads + Sync> Serves for Scripted<'a, R> {
     ghost use Rattle.pn_serve.specs.Machine.Turns.{Answers, Concludes};
 
     ghost makes = { Answers };
 
     ghost ends = { Concludes };
 
-    fn answer(&mut self, rt: &R, alloc: Global, line: &LineBuffer) -> Reply {
+    fn answer(&mut self, alloc: Global, line: &LineBuffer) -> Reply {
         let waiting = self.announced.take();
         let bytes = line.bytes();
         let region = &mut self.region;
-        let (reply, announced) = answer::<R, Json>(rt, alloc, region, self.workers, waiting, bytes);
+        let (reply, announced) = answer::<R, Json>(self.rt, alloc, region, self.workers, waiting, bytes);
         self.announced = announced;
         reply
     }
 
-    fn end(&mut self, rt: &R, alloc: Global, part: &LineBuffer) -> Reply {
+    fn end(&mut self, alloc: Global, part: &LineBuffer) -> Reply {
         let announced = self.announced.take();
         let bytes = part.bytes();
         let region = &mut self.region;
-        end::<R, Json>(rt, alloc, region, self.workers, announced, bytes)
+        end::<R, Json>(self.rt, alloc, region, self.workers, announced, bytes)
     }
 }

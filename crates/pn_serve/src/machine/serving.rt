@@ -1,15 +1,14 @@
 //! What answers lines: the region of a script, or a reader of a live one.
 
 ghost use Rattle.std.specs.Prelude.{◌≡◌, ℕ, List};
-ghost use Rattle.std.specs.Thread.{IsSync};
 ghost use Rattle.pn_line.specs.Line.{so_far};
 
 use crate::Reply;
 use pn_line::LineBuffer;
 use std::alloc::Global;
 
-/// Answers lines one after another. `R` is the runtime that it needs, which threads can share.
-pub(crate) trait Serves<R> {
+/// Answers lines one after another.
+pub(crate) trait Serves {
     ghost use Rattle.pn_serve.specs.declared.reply.Reply.{Reply};
 
     // What it makes of a line: the machine before, the line, the machine behind it, and the reply.
@@ -19,12 +18,10 @@ pub(crate) trait Serves<R> {
     ghost ends: { Self → List ℕ → Self → Reply → Type 0 };
 
     /// Answers the line that was read.
-    fn answer(&mut self, rt: &R, alloc: Global, line: &LineBuffer) -> Reply
-        requires sync { IsSync R.row }
+    fn answer(&mut self, alloc: Global, line: &LineBuffer) -> Reply
         ensures { (text : List ℕ) → line.now ≡ so_far text → makes self.old text self.new result };
 
     /// The input ended behind the part of a line that was read.
-    fn end(&mut self, rt: &R, alloc: Global, part: &LineBuffer) -> Reply
-        requires sync { IsSync R.row }
+    fn end(&mut self, alloc: Global, part: &LineBuffer) -> Reply
         ensures { (text : List ℕ) → part.now ≡ so_far text → ends self.old text self.new result };
 }

@@ -70,9 +70,8 @@ impl Lines {
     }
 
     /// Reads a line, which the machine answers. Where no further line is there to be read, all replies go out.
-    pub(crate) fn turn<R: Sync, M: Serves<R>, S: Source, W: Sink>(
+    pub(crate) fn turn<M: Serves, S: Source, W: Sink>(
         &mut self,
-        rt: &R,
         machine: &mut M,
         input: &mut S,
         output: &mut W,
@@ -91,14 +90,14 @@ impl Lines {
         };
         match end {
             LineEnd::Newline { more } => {
-                self.answer_line(rt, machine, output)?;
+                self.answer_line(machine, output)?;
                 if !more {
                     self.outbox.flush(output)?;
                 }
                 Ok(Next::Line)
             }
             LineEnd::EndOfInput => {
-                let counts = self.close(rt, machine, output)?;
+                let counts = self.close(machine, output)?;
                 self.outbox.flush(output)?;
                 Ok(Next::End(counts))
             }
@@ -110,9 +109,8 @@ impl Lines {
     }
 
     // Answers the line that was read: its reply waits or goes out, and it is counted.
-    fn answer_line<R: Sync, M: Serves<R>, W: Sink>(
+    fn answer_line<M: Serves, W: Sink>(
         &mut self,
-        rt: &R,
         machine: &mut M,
         output: &mut W,
     ) -> Result<(), WriteFault>
@@ -121,7 +119,7 @@ impl Lines {
         ensures err { OnErr result (AnsweredInPart M.makes machine.old machine.new self.old (W.contents output.old) (W.contents output.new)) }
         ensures fault { OnErr result W.may_fail }
     {
-        let reply = machine.answer(rt, self.alloc, &self.line);
+        let reply = machine.answer(self.alloc, &self.line);
         self.counts.lines += 1;
         count_refused(&mut self.counts, &reply);
         push_reply(&reply, &mut self.outbox, output)
@@ -129,9 +127,8 @@ impl Lines {
 
     // The input is at its end behind the part of a line that was read: what is left to reply waits or goes out.
     // All lines and refusals are counted.
-    fn close<R: Sync, M: Serves<R>, W: Sink>(
+    fn close<M: Serves, W: Sink>(
         &mut self,
-        rt: &R,
         machine: &mut M,
         output: &mut W,
     ) -> Result<Counts, WriteFault>
@@ -140,7 +137,7 @@ impl Lines {
         ensures err { OnErr result (AnsweredInPart M.ends machine.old machine.new self.old (W.contents output.old) (W.contents output.new)) }
         ensures fault { OnErr result W.may_fail }
     {
-        let reply = machine.end(rt, self.alloc, &self.line);
+        let reply = machine.end(self.alloc, &self.line);
         let mut counts = self.counts;
         if !self.line.is_empty() {
             counts.lines += 1;
@@ -151,9 +148,8 @@ impl Lines {
     }
 
     /// Sends all replies, and looks whether the input is at its end, where no more lines may be answered.
-    pub(crate) fn finish<R: Sync, M: Serves<R>, S: Source, W: Sink>(
+    pub(crate) fn finish<M: Serves, S: Source, W: Sink>(
         &mut self,
-        rt: &R,
         machine: &mut M,
         input: &mut S,
         output: &mut W,
@@ -172,7 +168,7 @@ impl Lines {
             return Err(RunFault::TooManyTurns);
         }
         self.line.start();
-        let counts = self.close(rt, machine, output)?;
+        let counts = self.close(machine, output)?;
         self.outbox.flush(output)?;
         Ok(counts)
     }

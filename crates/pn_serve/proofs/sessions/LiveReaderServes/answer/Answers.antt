@@ -2,7 +2,7 @@
 use Rattle.std.proofs.Common.{List, ℕ, subst}
 use Rattle.pn_serve.specs.Session.Lines.{AnswersLine}
 use Rattle.pn_serve.proofs.Lookups.{answers_so_far}
-use Rattle.pn_serve.proofs.sessions.LiveReaderServesUnit.answer.Goals as goal
+use Rattle.pn_serve.proofs.sessions.LiveReaderServes.answer.Goals as goal
 
 pub returns : goal.returns
 returns c text is =

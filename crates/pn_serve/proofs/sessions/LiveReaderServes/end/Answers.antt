@@ -2,7 +2,7 @@
 use Rattle.std.proofs.Common.{List, ℕ, subst}
 use Rattle.pn_serve.specs.Session.Lines.{AnswersLine}
 use Rattle.pn_serve.proofs.Lookups.{ends_some, not_none}
-use Rattle.pn_serve.proofs.sessions.LiveReaderServesUnit.end.Goals as goal
+use Rattle.pn_serve.proofs.sessions.LiveReaderServes.end.Goals as goal
 
 pub returns : goal.returns
 returns c text is =
