@@ -79,12 +79,12 @@ too_long line long =
 said_kept : (line : List ℕ) → (lookup_at (kept line) ≡ lookup_at line) × (is_too_long (kept line) ≡ is_too_long line)
 said_kept line = elim (cases_lt 65536 (length line)) [
   | inl long ↦
-  (
-    let long_too : 65536 < length (kept line) = omega (arith, length-kept_long line long) in
-    let here : is_too_long (kept line) ≡ true = grind (arith, nat_tests) in
-    let there : is_too_long line ≡ true = grind (arith, nat_tests) in
-    (too_long (kept line) long_too ∙ sym (too_long line long), here ∙ sym there)
-  )
+      (
+      let long_too : 65536 < length (kept line) = omega (arith, length-kept_long line long) in
+      let here : is_too_long (kept line) ≡ true = grind (arith, nat_tests) in
+      let there : is_too_long line ≡ true = grind (arith, nat_tests) in
+      (too_long (kept line) long_too ∙ sym (too_long line long), here ∙ sym there)
+      )
   | inr short ↦ (ap lookup_at (kept-short line short), ap is_too_long (kept-short line short))
 ]
 

@@ -73,7 +73,14 @@ impl<'a, R: Threads + Sync> Serves for Scripted<'a, R> {
         let waiting = self.announced.take();
         let bytes = line.bytes();
         let region = &mut self.region;
-        let (reply, announced) = answer::<R, Json>(self.rt, alloc, region, self.workers, waiting, bytes);
+        let (reply, announced) = answer::<R, Json>(
+            self.rt,
+            alloc,
+            region,
+            self.workers,
+            waiting,
+            bytes,
+        );
         self.announced = announced;
         reply
     }
