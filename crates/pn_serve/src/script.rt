@@ -108,6 +108,7 @@ pub(crate) fn answer_all<M: Serves, S: Source, W: Sink>(
     input: &mut S,
     output: &mut W,
 ) -> Result<Counts, RunFault>
+    requires ready { M.ready }
     requires none { lines.old.counts.lines ≡ 0 }
     ensures ends { (start : Start M) → Served M.makes start (S.left input.old) (W.contents output.old) machine.old lines.old
         → EndsBy M.makes M.ends start (S.left input.new) (W.contents output.new) machine.new result }

@@ -65,6 +65,11 @@ impl<'a, R: Threads + Sync> Scripted<'a, R> {
 impl<'a, R: Threads + Sync> Serves for Scripted<'a, R> {
     ghost use Rattle.pn_serve.specs.Machine.Turns.{Answers, Concludes};
 
+    ghost use Rattle.std.specs.Thread.{IsSync};
+
+    // Threads can share the runtime.
+    ghost ready = { IsSync R.row };
+
     ghost makes = { Answers };
 
     ghost ends = { Concludes };

@@ -11,6 +11,9 @@ use std::alloc::Global;
 pub(crate) trait Serves {
     ghost use Rattle.pn_serve.specs.declared.reply.Reply.{Reply};
 
+    // What has to hold of its types for it to answer.
+    ghost ready: { Type 0 };
+
     // What it makes of a line: the machine before, the line, the machine behind it, and the reply.
     ghost makes: { Self → List ℕ → Self → Reply → Type 0 };
 
@@ -19,9 +22,11 @@ pub(crate) trait Serves {
 
     /// Answers the line that was read.
     fn answer(&mut self, alloc: Global, line: &LineBuffer) -> Reply
+        requires { ready }
         ensures { (text : List ℕ) → line.now ≡ so_far text → makes self.old text self.new result };
 
     /// The input ended behind the part of a line that was read.
     fn end(&mut self, alloc: Global, part: &LineBuffer) -> Reply
+        requires { ready }
         ensures { (text : List ℕ) → part.now ≡ so_far text → ends self.old text self.new result };
 }

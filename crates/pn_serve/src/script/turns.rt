@@ -76,6 +76,7 @@ impl Lines {
         input: &mut S,
         output: &mut W,
     ) -> Result<Next, RunFault>
+        requires ready { M.ready }
         requires few { self.old.counts.lines < MOST_LINES }
         ensures turns { (start : Start M) → Served M.makes start (S.left input.old) (W.contents output.old) machine.old self.old
             → TurnsTo M.makes M.ends start (S.left input.new) (W.contents output.new) machine.new self.new result }
@@ -114,6 +115,7 @@ impl Lines {
         machine: &mut M,
         output: &mut W,
     ) -> Result<(), WriteFault>
+        requires ready { M.ready }
         requires few { self.old.counts.lines < MOST_LINES }
         ensures ok { OnOk result (Answered M.makes machine.old machine.new self.old self.new (W.contents output.old) (W.contents output.new)) }
         ensures err { OnErr result (AnsweredInPart M.makes machine.old machine.new self.old (W.contents output.old) (W.contents output.new)) }
@@ -132,6 +134,7 @@ impl Lines {
         machine: &mut M,
         output: &mut W,
     ) -> Result<Counts, WriteFault>
+        requires ready { M.ready }
         requires few { self.old.counts.lines ≤ MOST_LINES }
         ensures ok { IfOk result (λ counts. Closed M.ends machine.old machine.new self.old self.new (W.contents output.old) (W.contents output.new) counts) }
         ensures err { OnErr result (AnsweredInPart M.ends machine.old machine.new self.old (W.contents output.old) (W.contents output.new)) }
@@ -154,6 +157,7 @@ impl Lines {
         input: &mut S,
         output: &mut W,
     ) -> Result<Counts, RunFault>
+        requires ready { M.ready }
         requires all { self.old.counts.lines ≡ MOST_LINES }
         ensures ends { (start : Start M) → Served M.makes start (S.left input.old) (W.contents output.old) machine.old self.old
             → EndsBy M.makes M.ends start (S.left input.new) (W.contents output.new) machine.new result }
