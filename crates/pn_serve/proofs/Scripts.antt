@@ -14,7 +14,7 @@ use Rattle.pn_serve.specs.Lines.Ends as lines
 use Rattle.pn_serve.specs.Lines.Ends.{EndsBy}
 use Rattle.pn_serve.specs.Lines.Served.{Start, AllAnswer, texts_of, refusals_of}
 use Rattle.pn_serve.specs.Machine.Outcomes.{Outcome, done, Machine, serving}
-use Rattle.pn_serve.specs.Machine.Turns.{turn, end_turn, Turned, Answers, Concludes}
+use Rattle.pn_serve.specs.Machine.Turns.{turn, end_turn, Answers, Concludes}
 use Rattle.pn_serve.specs.Reply.Texts.{reply_text, is_refusal}
 use Rattle.pn_serve.specs.Runs.Ends.{Begun, Ended, Broken, Cut, Exceeded, Ends, lines_within}
 use Rattle.pn_serve.specs.Script.Parts.{parts_of}

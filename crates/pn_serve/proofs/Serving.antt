@@ -1,5 +1,5 @@
 -- The replies to the lines read so far went out or wait.
-use Rattle.std.proofs.Common.{◌≡◌, ℕ, ◌+◌, ◌<◌, ◌≤◌, ◌≢◌, Bool, true, false, Option, None, Some, List, [], ◌∷◌, ◌++◌, length, All, IfSome, OnSome, refl, sym, ap, ◌∙◌, subst, arith, append-nil, append_assoc, length-append, nat_lt}
+use Rattle.std.proofs.Common.{◌≡◌, ℕ, ◌+◌, ◌<◌, ◌≤◌, ◌≢◌, true, Option, None, Some, List, [], ◌∷◌, ◌++◌, length, All, IfSome, OnSome, refl, sym, ap, ◌∙◌, subst, arith, append-nil, append_assoc, length-append, nat_lt}
 use Rattle.std.specs.Io.KnownBytes.{Appends, Consumes, Keeps, IsAtEnd}
 use Rattle.std.proofs.lemmas.List.{length_push}
 use Rattle.std.proofs.lemmas.Bool.Decides.{nat_tests}

@@ -36,7 +36,6 @@ pub fn session<S: Source, W: Sink>(
 
 impl Serves for LiveReader {
     ghost use Rattle.pn_serve.specs.Session.Lines.{AnswersLine, EndsLines};
-
     ghost use Rattle.std.specs.Prelude.{⊤};
 
     ghost ready = { ⊤ };

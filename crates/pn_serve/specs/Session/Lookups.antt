@@ -1,6 +1,5 @@
 -- What a session answers to lookups, each by what its reader found.
-use Rattle.std.specs.Prelude.{◌≡◌, ◌⊎◌, ◌<◌, ◌≤◌, ℕ, List, length, Option, Vec, Result, Ok, Err}
-use Rattle.std.specs.declared.alloc.Global.{Global}
+use Rattle.std.specs.Prelude.{◌≡◌, ◌⊎◌, ◌<◌, ◌≤◌, ℕ, List, length, Option, Result, Ok, Err}
 use Rattle.serde_json.specs.Data.{Data}
 use Rattle.pn_json.specs.Lines.{line_of}
 use Rattle.pn_join.specs.Marks.{Positions}

@@ -64,7 +64,6 @@ impl<'a, R: Threads + Sync> Scripted<'a, R> {
 
 impl<'a, R: Threads + Sync> Serves for Scripted<'a, R> {
     ghost use Rattle.pn_serve.specs.Machine.Turns.{Answers, Concludes};
-
     ghost use Rattle.std.specs.Thread.{IsSync};
 
     // Threads can share the runtime.
