@@ -9,7 +9,7 @@ use Rattle.pn_serve.specs.declared.machine.Begun.TheVariants.{Obeyed, Announces}
 use Rattle.pn_serve.specs.declared.reply.Reply.{Reply}
 use Rattle.pn_serve.specs.declared.reply.Reply.TheVariants.{Silent, Refused}
 use Rattle.pn_serve.specs.declared.refusal.Refusal.{Refusal}
-use Rattle.pn_serve.specs.declared.refusal.Refusal.TheVariants.{TooLong, NotJson, BadShape, OutOfRange, Memory}
+use Rattle.pn_serve.specs.declared.refusal.Refusal.TheVariants.{TooLong, NotJson, BadShape, ReadOnly, OutOfRange, Memory}
 use Rattle.pn_serve.specs.Command.Lines.{command_at, is_too_long}
 use Rattle.pn_serve.specs.Command.Meaning.{CommandValue, adopt, copy, deliver, get, lose, marks, notices, read, scan, tablets}
 use Rattle.pn_serve.specs.Machine.Announced.{unless_call, with_line}
@@ -191,6 +191,7 @@ last_err may old bytes Memory is short out = last_unread may old bytes (out refl
 last_err may old bytes TooLong is short out = last_fault may old bytes TooLong (is (λ same. cc))
 last_err may old bytes NotJson is short out = last_fault may old bytes NotJson (is (λ same. cc))
 last_err may old bytes (BadShape part) is short out = last_fault may old bytes (BadShape part) (is (λ same. cc))
+last_err may old bytes ReadOnly is short out = last_fault may old bytes ReadOnly (is (λ same. cc))
 last_err may old bytes (OutOfRange part) is short out = last_fault may old bytes (OutOfRange part) (is (λ same. cc))
 
 -- where the input ends behind a newline, nothing is left to do

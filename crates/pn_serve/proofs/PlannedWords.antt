@@ -1,5 +1,5 @@
 -- What `clap` takes has a command, and what a command says is a plan or a fault of its options.
-use Rattle.std.proofs.Common.{◌≡◌, ◌⊎◌, inl, inr, ℕ, Bool, true, false, cond, List, [], ◌∷◌, Option, Some, None, Result, Ok, Err, String, refl, ap, subst, is_some}
+use Rattle.std.proofs.Common.{◌≡◌, ◌⊎◌, inl, inr, ℕ, Bool, true, false, cond, List, [], ◌∷◌, Option, Some, None, Result, Ok, Err, String, refl, subst, is_some}
 use Rattle.std.specs.Prelude.{IfErr, IsSome}
 use Rattle.std.specs.Option.{ok_or}
 use Rattle.std.specs.declared.alloc.Global.{Global}
@@ -23,8 +23,8 @@ use Rattle.pn_tablet.specs.Layouts.{Bounds, layout_of}
 use Rattle.pn_tablet.specs.declared.layout.LayoutFault.{LayoutFault}
 use Rattle.pn_serve.specs.Words.Bounds.{bounds_in, key_in, or_bounds}
 use Rattle.pn_serve.specs.Words.Options.{program}
-use Rattle.pn_serve.specs.Words.Plans.{Answers, PlanValue, Plans, help, plan_in, plan_value, replay_in, serve_in, settings_in}
-use Rattle.pn_serve.specs.Words.Streams.{each_stream, is_stream, names_differ, stream_in, streams_in}
+use Rattle.pn_serve.specs.Words.Plans.{Answers, Plans, help, plan_in, plan_value, replay_in, serve_in, settings_in}
+use Rattle.pn_serve.specs.Words.Streams.{each_stream, names_differ, stream_in, streams_in}
 use Rattle.pn_serve.specs.declared.words.plans.Plan.{Plan}
 use Rattle.pn_serve.specs.declared.words.plans.Plan.TheVariants as plan
 use Rattle.pn_serve.specs.declared.words.plans.PlanFault.{PlanFault}

@@ -1,5 +1,5 @@
--- The replies to the lines read so far went out or wait, and the machine is the one after these lines.
-use Rattle.std.proofs.Common.{◌≡◌, ℕ, ◌+◌, ◌<◌, ◌≤◌, ◌≢◌, Bool, true, false, Option, None, Some, List, [], ◌∷◌, ◌++◌, length, All, IfSome, OnSome, refl, sym, ap, ◌∙◌, subst, arith, append-nil, append_assoc, length-append, nat_lt}
+-- The replies to the lines read so far went out or wait.
+use Rattle.std.proofs.Common.{◌≡◌, ℕ, ◌+◌, ◌<◌, ◌≤◌, ◌≢◌, true, Option, None, Some, List, [], ◌∷◌, ◌++◌, length, All, IfSome, OnSome, refl, sym, ap, ◌∙◌, subst, arith, append-nil, append_assoc, length-append, nat_lt}
 use Rattle.std.specs.Io.KnownBytes.{Appends, Consumes, Keeps, IsAtEnd}
 use Rattle.std.proofs.lemmas.List.{length_push}
 use Rattle.std.proofs.lemmas.Bool.Decides.{nat_tests}
@@ -12,45 +12,25 @@ use Rattle.pn_line.specs.Sent.{Sends}
 use Rattle.pn_line.proofs.LinesReadLaws.{LinesRead-none, LinesRead-line, LinesRead-part}
 use Rattle.pn_line.proofs.SentLaws.{Sends-none, Sends-trans, Sends-all, Sends-flushed}
 use Rattle.pn_line.proofs.TextLaws.{lines_of-text, lines_of-nil, lines_of-last}
-use Rattle.pn_region.specs.Regions.{RegionValue, new_region}
-use Rattle.std.specs.Prelude.{Result}
 use Rattle.pn_serve.specs.declared.script.Counts.{Counts}
-use Rattle.pn_serve.specs.declared.script.RunFault.{RunFault}
-use Rattle.pn_serve.specs.Settings.{SettingsValue}
-use Rattle.pn_serve.specs.Machine.Outcomes.{Outcome, Machine, serving}
-use Rattle.pn_serve.specs.Machine.Turns.{turn, end_turn, Answers, Concludes}
 use Rattle.pn_serve.specs.declared.reply.Reply.{Reply}
+use Rattle.pn_serve.specs.Lines.Ends.{Ended}
+use Rattle.pn_serve.specs.Lines.Served.{LinesValue, new_lines, Start, texts_of, refusals_of, IsShort, AllAnswer, Answered, Closed, AllAnswered, Between, Served}
 use Rattle.pn_serve.specs.Reply.Texts.{reply_text, is_refusal}
-use Rattle.pn_serve.specs.Runs.Ends.{Ended, Ends}
-use Rattle.pn_serve.specs.Runs.Served.{RunValue, Begun, begins, new_run, Answered, Closed, AllAnswered, IsShort, Between, Served}
-use Rattle.pn_serve.specs.Script.Written.{replies_from, machine_after, refusals_from, replies, refusals, one_if}
 use Rattle.pn_serve.specs.Script.Parts.{parts_of}
-use Rattle.pn_serve.proofs.LongLines.{answers_kept, concludes_kept}
+use Rattle.pn_serve.specs.Script.Written.{one_if}
 use Rattle.pn_serve.proofs.Parts.{parts-text, parts-whole}
 use Rattle.pn_serve.proofs.Within.{within-all}
 
--- one more line
-pub replies_from-push : (machine : Machine) (texts : List (List ℕ)) (outcomes : List Outcome) (text : List ℕ) (outcome : Outcome) → length outcomes ≡ length texts → replies_from machine (texts ++ text ∷ []) (outcomes ++ outcome ∷ []) ≡ replies_from machine texts outcomes ++ (turn (machine_after machine texts outcomes) outcome text).reply
-replies_from-push machine [] [] text outcome same = append-nil (turn machine outcome text).reply
-replies_from-push machine [] (o ∷ outcomes) text outcome same = absurd (omega arith)
-replies_from-push machine (t ∷ texts) [] text outcome same = absurd (omega arith)
-replies_from-push machine (t ∷ texts) (o ∷ outcomes) text outcome same =
-    let next = (turn machine o t).machine in
-    ap (λ (r : List ℕ). (turn machine o t).reply ++ r) (replies_from-push next texts outcomes text outcome (omega arith))
-    ∙ sym (append_assoc (turn machine o t).reply (replies_from next texts outcomes) (turn (machine_after next texts outcomes) outcome text).reply)
+-- one more reply
+pub texts_push : (replies : List Reply) (reply : Reply) → texts_of (replies ++ reply ∷ []) ≡ texts_of replies ++ reply_text reply
+texts_push [] reply = append-nil (reply_text reply)
+texts_push (r ∷ replies) reply =
+    ap (λ (texts : List ℕ). reply_text r ++ texts) (texts_push replies reply) ∙ sym (append_assoc (reply_text r) (texts_of replies) (reply_text reply))
 
-machine_after-push : (machine : Machine) (texts : List (List ℕ)) (outcomes : List Outcome) (text : List ℕ) (outcome : Outcome) → length outcomes ≡ length texts → machine_after machine (texts ++ text ∷ []) (outcomes ++ outcome ∷ []) ≡ (turn (machine_after machine texts outcomes) outcome text).machine
-machine_after-push machine [] [] text outcome same = refl
-machine_after-push machine [] (o ∷ outcomes) text outcome same = absurd (omega arith)
-machine_after-push machine (t ∷ texts) [] text outcome same = absurd (omega arith)
-machine_after-push machine (t ∷ texts) (o ∷ outcomes) text outcome same = machine_after-push (turn machine o t).machine texts outcomes text outcome (omega arith)
-
-refusals_from-push : (machine : Machine) (texts : List (List ℕ)) (outcomes : List Outcome) (text : List ℕ) (outcome : Outcome) → length outcomes ≡ length texts → refusals_from machine (texts ++ text ∷ []) (outcomes ++ outcome ∷ []) ≡ refusals_from machine texts outcomes + one_if (turn (machine_after machine texts outcomes) outcome text).refused
-refusals_from-push machine [] [] text outcome same = omega arith
-refusals_from-push machine [] (o ∷ outcomes) text outcome same = absurd (omega arith)
-refusals_from-push machine (t ∷ texts) [] text outcome same = absurd (omega arith)
-refusals_from-push machine (t ∷ texts) (o ∷ outcomes) text outcome same =
-    let rest = refusals_from-push (turn machine o t).machine texts outcomes text outcome (omega arith) in omega (arith, rest)
+refusals_push : (replies : List Reply) (reply : Reply) → refusals_of (replies ++ reply ∷ []) ≡ refusals_of replies + one_if (is_refusal reply)
+refusals_push [] reply = omega arith
+refusals_push (r ∷ replies) reply = let rest = refusals_push replies reply in omega (arith, rest)
 
 -- one more short line
 pub are_short : (lines : List (List ℕ)) (line : LineBufferValue) (taken : List ℕ) → All IsShort lines → line ≡ so_far taken → line.count < 1000000000 → All IsShort (lines ++ taken ∷ [])
@@ -127,157 +107,119 @@ few_lines lines (b ∷ part) few = omega (arith, few, length-append lines ((b �
 
 -- ---- answered lines
 
-one_if-le : (b : Bool) → one_if b ≤ 1
-one_if-le true = omega arith
-one_if-le false = omega arith
+module _ {V : Type 0} (makes ends : V → List ℕ → V → Reply → Type 0) where
+  pub answer_push : (was : V) (lines : List (List ℕ)) (replies : List Reply) (between : V) (line : List ℕ) (reply : Reply) (now : V) → AllAnswer makes was lines replies between → makes between line now reply
+      → AllAnswer makes was (lines ++ line ∷ []) (replies ++ reply ∷ []) now
+  answer_push was [] [] between line reply now all made = (now, subst (λ (v : V). makes v line now reply) all made, refl)
+  answer_push was [] (r ∷ replies) between line reply now all made = absurd all
+  answer_push was (l ∷ lines) [] between line reply now all made = absurd all
+  answer_push was (l ∷ lines) (r ∷ replies) between line reply now all made = (all.0, all.1, answer_push all.0 lines replies between line reply now all.2 made)
 
-pub Begins : (region : RegionValue) (left written : Option (List ℕ)) → Served (record { region = region; left = left; written = written }) left written (new_run region)
-Begins region None written = tt
-Begins region (Some text) written = record {
-  lines = [];
-  read = LinesRead-none text;
-  short = All-nil IsShort;
-  answered = record { outcomes = []; paired = refl; machine = refl; sends = Sends-none written; lines_are = refl; refused_are = refl };
-}
+  pub Begins : (machine : V) (left written : Option (List ℕ)) → Served makes (record { machine = machine; left = left; written = written }) left written machine new_lines
+  Begins machine None written = tt
+  Begins machine (Some text) written = record {
+    lines = [];
+    read = LinesRead-none text;
+    short = All-nil IsShort;
+    answered = record { replies = []; made = refl; sends = Sends-none written; lines_are = refl; refused_are = refl };
+  }
 
-module _ (begun : Begun) where
-  -- one more line was answered
-  pub AllAnswered-line : (lines : List (List ℕ)) (b c : Option (List ℕ)) (run new : RunValue) (line : LineBufferValue) (text : List ℕ) → AllAnswered begun lines b run → line ≡ so_far text
-      → Answered (record run { line = line }) new b c → AllAnswered begun (lines ++ text ∷ []) c new
-  AllAnswered-line lines b c run new line text is here answered =
-      let from = serving begun.region in
-      let outcomes = is.outcomes in
-      let turned : Answers run.machine text new.machine answered.reply = answers_kept run.machine new.machine line text answered.reply here answered.turned in
-      let at : machine_after from lines outcomes ≡ run.machine = is.machine in
-      let said : replies_from from (lines ++ text ∷ []) (outcomes ++ turned.outcome ∷ []) ≡ replies_from from lines outcomes ++ reply_text answered.reply =
-      replies_from-push from lines outcomes text turned.outcome is.paired
-      ∙ ap (λ (m : Machine). replies_from from lines outcomes ++ (turn m turned.outcome text).reply) at
-      ∙ ap (λ (r : List ℕ). replies_from from lines outcomes ++ r) turned.replied in
-      let counts : refusals_from from (lines ++ text ∷ []) (outcomes ++ turned.outcome ∷ []) ≡ refusals_from from lines outcomes + one_if (is_refusal answered.reply) =
-      refusals_from-push from lines outcomes text turned.outcome is.paired
-      ∙ ap (λ (m : Machine). refusals_from from lines outcomes + one_if (turn m turned.outcome text).refused) at
-      ∙ ap (λ (r : Bool). refusals_from from lines outcomes + one_if r) turned.refused in
-      record {
-        outcomes = outcomes ++ turned.outcome ∷ [];
-        paired = omega (arith, is.paired, length_push outcomes turned.outcome, length_push lines text);
-        machine = machine_after-push from lines outcomes text turned.outcome is.paired ∙ ap (λ (m : Machine). (turn m turned.outcome text).machine) at ∙ turned.machine_is;
-        sends = subst (λ (r : List ℕ). Sends begun.written c [] new.waits r) (sym said) (Sends-trans is.sends answered.sends);
-        lines_are = omega (arith, is.lines_are, answered.lines, length_push lines text);
-        refused_are = omega (arith, counts, is.refused_are, answered.refused);
-      }
+  -- a server of lines begins
+  pub Begins_new : (machine : V) (run : LinesValue) (left written : Option (List ℕ)) → run ≡ new_lines → Served makes (record { machine = machine; left = left; written = written }) left written machine run
+  Begins_new machine run left written is =
+      subst (λ (r : LinesValue). Served makes (record { machine = machine; left = left; written = written }) left written machine r) (sym is) (Begins machine left written)
 
-  -- what waited went out
-  pub Flushes : (script : List ℕ) (left b c : Option (List ℕ)) (run new : RunValue) → Between begun script left b run → Appends b c run.waits
-      → new.machine ≡ run.machine → new.counts ≡ run.counts → new.waits ≡ [] → Between begun script left c new
-  Flushes script left b c run new between sent machine counts none =
-      let is = between.answered in
-      let replies = replies_from (serving begun.region) between.lines is.outcomes in
-      let all : Sends begun.written c [] [] replies = subst (λ (r : List ℕ). Sends begun.written c [] [] r) (append-nil replies) (Sends-trans is.sends (Sends-all b c run.waits sent)) in
-      record {
-        lines = between.lines;
-        read = between.read;
-        short = between.short;
-        answered = record {
-          outcomes = is.outcomes;
-          paired = is.paired;
-          machine = is.machine ∙ sym machine;
-          sends = subst (λ (waits : List ℕ). Sends begun.written c [] waits replies) (sym none) all;
-          lines_are = ap (λ (n : Counts). n.lines) counts ∙ is.lines_are;
-          refused_are = ap (λ (n : Counts). n.refused) counts ∙ is.refused_are;
-        };
-      }
-
-  -- a line was read and answered
-  pub Goes_on : (script : List ℕ) (left leaves b c : Option (List ℕ)) (run new : RunValue) (line : LineBufferValue) → Between begun script left b run
-      → Takes (so_far []) line left leaves (10 ∷ []) → line.count < 1000000000 → Answered (record run { line = line }) new b c → Between begun script leaves c new
-  Goes_on script left leaves b c run new line between takes ends answered =
-      let (taken, is, read) = LinesRead-line between.read takes in record {
-        lines = between.lines ++ taken ∷ [];
-        read = read;
-        short = are_short between.lines line taken between.short is ends;
-        answered = AllAnswered-line between.lines b c run new line taken between.answered is answered;
-      }
-
-  -- the input is at its end behind a part of a line, and what was left to reply went out or waits
-  module _ (script : List ℕ) (b c : Option (List ℕ)) (run new : RunValue) (lines : List (List ℕ)) (line : LineBufferValue) (part : List ℕ) (counts : Counts)
-      (parts : parts_of script ≡ (lines, part)) (is : AllAnswered begun lines b run) (here : line ≡ so_far part) where
-    -- what the part of the line came to
-    pub concluded : (reply : Reply) → Concludes run.machine line.bytes new.machine reply → Concludes run.machine part new.machine reply
-    concluded reply turned = concludes_kept run.machine new.machine line part reply here turned
-
-    -- the replies to the whole script
-    pub all_replies : (reply : Reply) → (turned : Concludes run.machine part new.machine reply)
-        → replies begun.region script is.outcomes turned.outcome ≡ replies_from (serving begun.region) lines is.outcomes ++ reply_text reply
-    all_replies reply turned =
-        let from = serving begun.region in
-        ap (λ (p : List (List ℕ) × List ℕ). replies_from from p.0 is.outcomes ++ (end_turn (machine_after from p.0 is.outcomes) turned.outcome p.1).reply) parts
-        ∙ ap (λ (m : Machine). replies_from from lines is.outcomes ++ (end_turn m turned.outcome part).reply) is.machine
-        ∙ ap (λ (r : List ℕ). replies_from from lines is.outcomes ++ r) turned.replied
-
-    all_refusals : (reply : Reply) → (turned : Concludes run.machine part new.machine reply)
-        → refusals begun.region script is.outcomes turned.outcome ≡ refusals_from (serving begun.region) lines is.outcomes + one_if (is_refusal reply)
-    all_refusals reply turned =
-        let from = serving begun.region in
-        ap (λ (p : List (List ℕ) × List ℕ). refusals_from from p.0 is.outcomes + one_if (end_turn (machine_after from p.0 is.outcomes) turned.outcome p.1).refused) parts
-        ∙ ap (λ (m : Machine). refusals_from from lines is.outcomes + one_if (end_turn m turned.outcome part).refused) is.machine
-        ∙ ap (λ (r : Bool). refusals_from from lines is.outcomes + one_if r) turned.refused
-
-    pub all_sent : (closed : Closed (record run { line = line }) new b c counts) → Sends begun.written c [] new.waits (replies begun.region script is.outcomes (concluded closed.reply closed.turned).outcome)
-    all_sent closed =
-        subst (λ (r : List ℕ). Sends begun.written c [] new.waits r) (sym (all_replies closed.reply (concluded closed.reply closed.turned))) (Sends-trans is.sends closed.sends)
-
-    -- all went out
-    pub all_ended : (leaves d : Option (List ℕ)) → lines_of script ≡ lines ++ last_line part → All IsShort (lines ++ last_line part) → length (lines ++ last_line part) ≤ 1000000
-        → leaves ≡ Some [] → Closed (record run { line = line }) new b c counts → Appends c d new.waits → Ended begun script leaves d counts
-    all_ended leaves d all short few end closed sent =
-        let turned = concluded closed.reply closed.turned in
-        let refused = all_refusals closed.reply turned in
-        let one : length (last_line part) ≡ one_if (nat_lt 0 line.count) = part_count part ∙ ap (λ (l : LineBufferValue). one_if (nat_lt 0 l.count)) (sym here) in
-        let count : counts.lines ≡ length (lines ++ last_line part) = omega (arith, closed.lines, is.lines_are, one, length-append lines (last_line part)) in record {
-          outcomes = is.outcomes;
-          last = turned.outcome;
-          wrote = Sends-flushed d (all_sent closed) sent;
-          lines_are = count ∙ ap length (sym all);
-          refused_are = omega (arith, refused, is.refused_are, closed.refused);
-          within = within-all script (lines ++ last_line part) all short few;
-          at_end = end;
+  module _ (start : Start V) where
+    -- one more line was answered
+    pub AllAnswered-line : (lines : List (List ℕ)) (b c : Option (List ℕ)) (was now : V) (run new : LinesValue) (line : LineBufferValue) (text : List ℕ) → AllAnswered makes start lines b was run → line ≡ so_far text
+        → Answered makes was now (record run { line = line }) new b c → AllAnswered makes start (lines ++ text ∷ []) c now new
+    AllAnswered-line lines b c was now run new line text is here answered =
+        let counts = refusals_push is.replies answered.reply in record {
+          replies = is.replies ++ answered.reply ∷ [];
+          made = answer_push start.machine lines is.replies was text answered.reply now is.made (answered.made text here);
+          sends = subst (λ (r : List ℕ). Sends start.written c [] new.waits r) (sym (texts_push is.replies answered.reply)) (Sends-trans is.sends answered.sends);
+          lines_are = omega (arith, is.lines_are, answered.lines, length_push lines text);
+          refused_are = omega (arith, counts, is.refused_are, answered.refused);
         }
 
-  -- the input ended in a last part of a line, or behind a newline
-  pub Ends_closed : (script : List ℕ) (left leaves b c d : Option (List ℕ)) (run new : RunValue) (line : LineBufferValue) (counts : Counts) → Between begun script left b run
-      → Takes (so_far []) line left leaves [] → OnSome left (IsAtEnd leaves) → line.count < 1000000000 → run.counts.lines < 1000000
-      → Closed (record run { line = line }) new b c counts → Appends c d new.waits → Ended begun script leaves d counts
-  Ends_closed script left leaves b c d run new line counts between takes end ends few closed sent =
-      let (part, is, read) = LinesRead-part between.read takes in
-      let gone = nothing_left left leaves _ _ between.read.left_is takes.source end in
-      let all : lines_of script ≡ between.lines ++ last_line part = lines_in leaves read gone in
-      let parts = parts_read leaves read gone in
-      all_ended script b c run new between.lines line part counts parts between.answered is leaves d all
-      (with_part between.lines line part between.short is ends) (few_lines between.lines part (omega (arith, few, between.answered.lines_are))) gone closed sent
+    -- what waited went out
+    pub Flushes : (script : List ℕ) (left b c : Option (List ℕ)) (machine : V) (run new : LinesValue) → Between makes start script left b machine run → Appends b c run.waits
+        → new.counts ≡ run.counts → new.waits ≡ [] → Between makes start script left c machine new
+    Flushes script left b c machine run new between sent counts none =
+        let is = between.answered in
+        let texts = texts_of is.replies in
+        let all : Sends start.written c [] [] texts = subst (λ (r : List ℕ). Sends start.written c [] [] r) (append-nil texts) (Sends-trans is.sends (Sends-all b c run.waits sent)) in
+        record {
+          lines = between.lines;
+          read = between.read;
+          short = between.short;
+          answered = record {
+            replies = is.replies;
+            made = is.made;
+            sends = subst (λ (waits : List ℕ). Sends start.written c [] waits texts) (sym none) all;
+            lines_are = ap (λ (n : Counts). n.lines) counts ∙ is.lines_are;
+            refused_are = ap (λ (n : Counts). n.refused) counts ∙ is.refused_are;
+          };
+        }
 
-  -- nothing is left behind the last line that may be answered
-  pub Ends_within : (script : List ℕ) (left leaves b c d : Option (List ℕ)) (run new : RunValue) (line : LineBufferValue) (counts : Counts) → Between begun script left b run
-      → IfSome left (λ rest. rest ≡ []) → Keeps left leaves → run.counts.lines ≡ 1000000 → line ≡ so_far []
-      → Closed (record run { line = line }) new b c counts → Appends c d new.waits → Ended begun script leaves d counts
-  Ends_within script left leaves b c d run new line counts between none kept many is closed sent =
-      let rest = between.read.rest in
-      let empty : rest ≡ [] = of_known left rest (λ (r : List ℕ). r ≡ []) between.read.left_is none in
-      let whole : lines_of script ≡ between.lines = lines_left between.read ∙ ap (λ (r : List ℕ). between.lines ++ lines_of r) empty ∙ ap (λ (l : List (List ℕ)). between.lines ++ l) lines_of-nil ∙ append-nil between.lines in
-      let parts = parts_end between.read empty in
-      let same = append-nil between.lines in
-      all_ended script b c run new between.lines line [] counts parts between.answered is leaves d (whole ∙ sym same)
-      (subst (λ (l : List (List ℕ)). All IsShort l) (sym same) between.short)
-      (omega (arith, many, between.answered.lines_are, ap length same))
-      (stays left leaves rest between.read.left_is kept ∙ ap Some empty) closed sent
+    -- a line was read and answered
+    pub Goes_on : (script : List ℕ) (left leaves b c : Option (List ℕ)) (was now : V) (run new : LinesValue) (line : LineBufferValue) → Between makes start script left b was run
+        → Takes (so_far []) line left leaves (10 ∷ []) → line.count < 1000000000 → Answered makes was now (record run { line = line }) new b c → Between makes start script leaves c now new
+    Goes_on script left leaves b c was now run new line between takes below answered =
+        let (taken, is, read) = LinesRead-line between.read takes in record {
+          lines = between.lines ++ taken ∷ [];
+          read = read;
+          short = are_short between.lines line taken between.short is below;
+          answered = AllAnswered-line between.lines b c was now run new line taken between.answered is answered;
+        }
 
--- a run begins
-pub Begins_run : (run : RunValue) (region : RegionValue) (left written : Option (List ℕ)) → run ≡ new_run region
-    → Served (record { region = run.machine.region; left = left; written = written }) left written run
-Begins_run run region left written is =
-    subst (λ (r : RunValue). Served (record { region = r.machine.region; left = left; written = written }) left written r) (sym is) (Begins region left written)
+    -- the input is at its end behind a part of a line, and what was left to reply went out or waits
+    module _ (script : List ℕ) (b c : Option (List ℕ)) (was now : V) (run new : LinesValue) (lines : List (List ℕ)) (line : LineBufferValue) (part : List ℕ) (counts : Counts)
+        (parts : parts_of script ≡ (lines, part)) (is : AllAnswered makes start lines b was run) (here : line ≡ so_far part) where
+      pub all_sent : (closed : Closed ends was now (record run { line = line }) new b c counts) → Sends start.written c [] new.waits (texts_of is.replies ++ reply_text closed.reply)
+      all_sent closed = Sends-trans is.sends closed.sends
 
--- what it began with are its settings
-pub As_begun : (run : RunValue) (settings : SettingsValue) (left written leaves wrote : Option (List ℕ)) (result : Result Counts RunFault) → run ≡ new_run (new_region settings.layout)
-    → Ends (record { region = run.machine.region; left = left; written = written }) leaves wrote result → Ends (begins settings left written) leaves wrote result
-As_begun run settings left written leaves wrote result is ends =
-    subst (λ (r : RunValue). Ends (record { region = r.machine.region; left = left; written = written }) leaves wrote result) is ends
+      -- all went out
+      pub all_ended : (leaves d : Option (List ℕ)) → lines_of script ≡ lines ++ last_line part → All IsShort (lines ++ last_line part) → length (lines ++ last_line part) ≤ 1000000
+          → leaves ≡ Some [] → Closed ends was now (record run { line = line }) new b c counts → Appends c d new.waits → Ended makes ends start script leaves d now counts
+      all_ended leaves d all short few end closed sent =
+          let one : length (last_line part) ≡ one_if (nat_lt 0 line.count) = part_count part ∙ ap (λ (l : LineBufferValue). one_if (nat_lt 0 l.count)) (sym here) in
+          let count : counts.lines ≡ length (lines ++ last_line part) = omega (arith, closed.lines, is.lines_are, one, length-append lines (last_line part)) in record {
+            replies = is.replies;
+            behind = was;
+            made = subst (λ (p : List (List ℕ) × List ℕ). AllAnswer makes start.machine p.0 is.replies was) (sym parts) is.made;
+            last = closed.reply;
+            ended = subst (λ (p : List (List ℕ) × List ℕ). ends was p.1 now closed.reply) (sym parts) (closed.made part here);
+            wrote = Sends-flushed d (all_sent closed) sent;
+            lines_are = count ∙ ap length (sym all);
+            refused_are = omega (arith, is.refused_are, closed.refused);
+            within = within-all script (lines ++ last_line part) all short few;
+            at_end = end;
+          }
+
+    -- the input ended in a last part of a line, or behind a newline
+    pub Ends_closed : (script : List ℕ) (left leaves b c d : Option (List ℕ)) (was now : V) (run new : LinesValue) (line : LineBufferValue) (counts : Counts) → Between makes start script left b was run
+        → Takes (so_far []) line left leaves [] → OnSome left (IsAtEnd leaves) → line.count < 1000000000 → run.counts.lines < 1000000
+        → Closed ends was now (record run { line = line }) new b c counts → Appends c d new.waits → Ended makes ends start script leaves d now counts
+    Ends_closed script left leaves b c d was now run new line counts between takes end below few closed sent =
+        let (part, is, read) = LinesRead-part between.read takes in
+        let gone = nothing_left left leaves _ _ between.read.left_is takes.source end in
+        let all : lines_of script ≡ between.lines ++ last_line part = lines_in leaves read gone in
+        let parts = parts_read leaves read gone in
+        all_ended script b c was now run new between.lines line part counts parts between.answered is leaves d all
+        (with_part between.lines line part between.short is below) (few_lines between.lines part (omega (arith, few, between.answered.lines_are))) gone closed sent
+
+    -- nothing is left behind the last line that may be answered
+    pub Ends_within : (script : List ℕ) (left leaves b c d : Option (List ℕ)) (was now : V) (run new : LinesValue) (line : LineBufferValue) (counts : Counts) → Between makes start script left b was run
+        → IfSome left (λ rest. rest ≡ []) → Keeps left leaves → run.counts.lines ≡ 1000000 → line ≡ so_far []
+        → Closed ends was now (record run { line = line }) new b c counts → Appends c d new.waits → Ended makes ends start script leaves d now counts
+    Ends_within script left leaves b c d was now run new line counts between none kept many is closed sent =
+        let rest = between.read.rest in
+        let empty : rest ≡ [] = of_known left rest (λ (r : List ℕ). r ≡ []) between.read.left_is none in
+        let whole : lines_of script ≡ between.lines = lines_left between.read ∙ ap (λ (r : List ℕ). between.lines ++ lines_of r) empty ∙ ap (λ (l : List (List ℕ)). between.lines ++ l) lines_of-nil ∙ append-nil between.lines in
+        let parts = parts_end between.read empty in
+        let same = append-nil between.lines in
+        all_ended script b c was now run new between.lines line [] counts parts between.answered is leaves d (whole ∙ sym same)
+        (subst (λ (l : List (List ℕ)). All IsShort l) (sym same) between.short)
+        (omega (arith, many, between.answered.lines_are, ap length same))
+        (stays left leaves rest between.read.left_is kept ∙ ap Some empty) closed sent

@@ -1,10 +1,9 @@
 -- What was written where a script is not answered to its end.
-use Rattle.std.proofs.Common.{◌≡◌, ◌≢◌, ℕ, ◌<◌, ◌≤◌, Option, List, [], ◌∷◌, ◌++◌, length, IfSome, OnSome, inl, inr, refl, sym, ap, ◌∙◌, subst, arith, append_assoc}
+use Rattle.std.proofs.Common.{◌≡◌, ◌≢◌, ℕ, ◌<◌, ◌≤◌, Option, Some, List, [], ◌∷◌, ◌++◌, length, IfSome, OnSome, inl, inr, refl, sym, ap, ◌∙◌, subst, arith, append-nil}
 use Rattle.std.specs.Prelude.{Result, Err, IsErrAnd}
 use Rattle.std.proofs.lemmas.Result.{err_from_is_err_and}
 use Rattle.std.specs.Io.KnownBytes.{Appends, IsAtEnd, Keeps}
 use Rattle.std.proofs.lemmas.Bool.{cases_eq}
-use Rattle.std.proofs.lemmas.List.{length_push}
 use Rattle.std.proofs.lemmas.List.Elements.{All-nil}
 use Rattle.pn_line.specs.Line.{LineBufferValue, so_far}
 use Rattle.pn_line.specs.LinesRead.{LinesRead, PartRead}
@@ -12,34 +11,20 @@ use Rattle.pn_line.specs.Reads.{Takes, IsUnbroken}
 use Rattle.pn_line.specs.Sent.{AppendsPrefix}
 use Rattle.pn_line.specs.Text.{lines_of, onto_first}
 use Rattle.pn_line.proofs.LinesReadLaws.{LinesRead-line, LinesRead-part}
-use Rattle.pn_line.proofs.SentLaws.{Sends-flushed, Sends-cut, Sends-cut_flush, AppendsPrefix-more}
+use Rattle.pn_line.proofs.SentLaws.{Sends-flushed, Sends-cut, Sends-cut_flush}
 use Rattle.pn_line.proofs.TextLaws.{lines_of-line, lines_of-byte, lines_of-text, lines_of-begun}
-use Rattle.pn_serve.specs.Machine.Outcomes.{Outcome, done, Machine, serving}
-use Rattle.pn_serve.specs.Machine.Turns.{turn, Answers}
+use Rattle.pn_serve.specs.Lines.Ends.{Broken, Cut, Exceeded, EndsBy}
+use Rattle.pn_serve.specs.Lines.Served.{LinesValue, Start, texts_of, AllAnswer, AnsweredInPart, Closed, AllAnswered, Between}
+use Rattle.pn_serve.specs.Lines.Turning.{TurnsTo}
 use Rattle.pn_serve.specs.Reply.Texts.{reply_text}
-use Rattle.pn_serve.specs.Runs.Ends.{Broken, Cut, Exceeded, Ends, IsAtBound, lines_within}
-use Rattle.pn_serve.specs.Runs.Served.{RunValue, Begun, AnsweredInPart, Closed, ClosedInPart, AllAnswered, Between}
-use Rattle.pn_serve.specs.Runs.Turning.{TurnsTo}
+use Rattle.pn_serve.specs.Runs.Ends.{IsAtBound, lines_within}
+use Rattle.pn_serve.specs.declared.reply.Reply.{Reply}
 use Rattle.pn_serve.specs.declared.script.Counts.{Counts}
 use Rattle.pn_serve.specs.declared.script.RunFault.{RunFault}
 use Rattle.pn_serve.specs.declared.script.RunFault.TheVariants.{Write}
 use Rattle.pn_serve.specs.declared.script.turns.Next.{Next}
-use Rattle.pn_serve.specs.Script.Written.{replies_from, machine_after, end_of}
-use Rattle.pn_serve.specs.Script.Parts.{parts_of}
-use Rattle.pn_serve.proofs.LongLines.{answers_kept}
-use Rattle.pn_serve.proofs.Serving.{replies_from-push, lines_left, parts_left, parts_read, parts_end, concluded, all_replies, all_sent, nothing_left, stays, of_known}
+use Rattle.pn_serve.proofs.Serving.{answer_push, texts_push, lines_left, all_sent, parts_read, parts_end, nothing_left, stays, of_known}
 use Rattle.pn_serve.proofs.Within.{within-million, within-endless, not_all}
-
--- the replies to lines, and then to more of them
-replies_from-more : (machine : Machine) (texts : List (List ℕ)) (outcomes : List Outcome) (more : List (List ℕ)) → length outcomes ≡ length texts
-    → replies_from machine (texts ++ more) outcomes ≡ replies_from machine texts outcomes ++ replies_from (machine_after machine texts outcomes) more []
-replies_from-more machine [] [] more same = refl
-replies_from-more machine [] (o ∷ outcomes) more same = absurd (omega arith)
-replies_from-more machine (t ∷ texts) [] more same = absurd (omega arith)
-replies_from-more machine (t ∷ texts) (o ∷ outcomes) more same =
-    let next = (turn machine o t).machine in
-    ap (λ (r : List ℕ). (turn machine o t).reply ++ r) (replies_from-more next texts outcomes more (omega arith))
-    ∙ sym (append_assoc (turn machine o t).reply (replies_from next texts outcomes) (replies_from (machine_after next texts outcomes) more []))
 
 -- a text with a byte has a line
 some_line : (rest : List ℕ) → rest ≢ [] → (line : List ℕ) × (more : List (List ℕ)) × (lines_of rest ≡ line ∷ more)
@@ -77,186 +62,167 @@ still {left = left} leaves read kept = record {
   left_is = stays left leaves read.rest read.left_is kept;
 }
 
-module _ (begun : Begun) where
-  -- a prefix of the replies to the first lines is one of the replies to all
-  cut : (script : List ℕ) (leaves : Option (List ℕ)) (lines : List (List ℕ)) (part : List ℕ) → PartRead script leaves lines part
-      → (answered more : List (List ℕ)) (outcomes : List Outcome) (written : Option (List ℕ)) → (parts_of script).0 ≡ answered ++ more → length outcomes ≡ length answered
-      → AppendsPrefix begun.written written (replies_from (serving begun.region) answered outcomes) → Cut begun script leaves written
-  cut script leaves lines part read answered more outcomes written all same sent = record {
+module _ {V : Type 0} (makes ends : V → List ℕ → V → Reply → Type 0) (start : Start V) where
+  -- the writer failed behind whole lines
+  cut_lines : (script : List ℕ) (left c : Option (List ℕ)) (machine : V) (lines : List (List ℕ)) (part : List ℕ) (replies : List Reply) → PartRead script left lines part
+      → AllAnswer makes start.machine lines replies machine → AppendsPrefix start.written c (texts_of replies) → Cut makes ends start script left c machine
+  cut_lines script left c machine lines part replies read made sent = record {
     lines = lines;
     part = part;
     read = read;
-    outcomes = outcomes;
-    last = done;
-    prefix = AppendsPrefix-more (end_of begun.region script outcomes done).reply
-        (subst (λ (r : List ℕ). AppendsPrefix begun.written written r)
-        (sym (replies_from-more (serving begun.region) answered outcomes more same) ∙ ap (λ (l : List (List ℕ)). replies_from (serving begun.region) l outcomes) (sym all))
-        (AppendsPrefix-more (replies_from (machine_after (serving begun.region) answered outcomes) more []) sent));
+    replies = replies;
+    behind = machine;
+    made = made;
+    last = [];
+    ended = inl (refl, refl);
+    prefix = subst (λ (r : List ℕ). AppendsPrefix start.written c r) (sym (append-nil (texts_of replies))) sent;
   }
 
-  -- the writer failed at the reply to a line
-  cut_line : (script : List ℕ) (leaves : Option (List ℕ)) (read_lines : List (List ℕ)) (part : List ℕ) → PartRead script leaves read_lines part
-      → (lines : List (List ℕ)) (taken : List ℕ) (more : List (List ℕ)) (b c : Option (List ℕ)) (run new : RunValue) (line : LineBufferValue)
-      → (parts_of script).0 ≡ lines ++ taken ∷ more → AllAnswered begun lines b run → line ≡ so_far taken → AnsweredInPart (record run { line = line }) new b c → Cut begun script leaves c
-  cut_line script leaves read_lines part read lines taken more b c run new line all is at answered =
-      let from = serving begun.region in
-      let turned : Answers run.machine taken new.machine answered.reply = answers_kept run.machine new.machine line taken answered.reply at answered.turned in
-      let outcomes = is.outcomes ++ turned.outcome ∷ [] in
-      let said : replies_from from (lines ++ taken ∷ []) outcomes ≡ replies_from from lines is.outcomes ++ reply_text answered.reply =
-      replies_from-push from lines is.outcomes taken turned.outcome is.paired
-      ∙ ap (λ (m : Machine). replies_from from lines is.outcomes ++ (turn m turned.outcome taken).reply) is.machine
-      ∙ ap (λ (r : List ℕ). replies_from from lines is.outcomes ++ r) turned.replied in
-      cut script leaves read_lines part read (lines ++ taken ∷ []) more outcomes c (all ∙ sym (append_assoc lines (taken ∷ []) more))
-      (omega (arith, is.paired, length_push is.outcomes turned.outcome, length_push lines taken))
-      (subst (λ (r : List ℕ). AppendsPrefix begun.written c r) (sym said) (Sends-cut (reply_text answered.reply) is.sends answered.prefix))
-
-  -- the writer failed at the last reply
-  pub cut_closing : (script : List ℕ) (leaves b c : Option (List ℕ)) (run new : RunValue) (lines : List (List ℕ)) (line : LineBufferValue) (part : List ℕ) → PartRead script leaves lines part
-      → parts_of script ≡ (lines, part) → AllAnswered begun lines b run → line ≡ so_far part → ClosedInPart (record run { line = line }) new b c → Cut begun script leaves c
-  cut_closing script leaves b c run new lines line part read parts is here closed =
-      let turned = concluded begun script b c run new lines line part run.counts parts is here closed.reply closed.turned in record {
-        lines = lines;
-        part = part;
-        read = read;
-        outcomes = is.outcomes;
-        last = turned.outcome;
-        prefix = subst (λ (r : List ℕ). AppendsPrefix begun.written c r) (sym (all_replies begun script b c run new lines line part run.counts parts is here closed.reply turned))
-            (Sends-cut (reply_text closed.reply) is.sends closed.prefix);
-      }
-
   -- the writer failed between two lines, where what waited was to go out
-  pub Cut_between : (script : List ℕ) (left b c : Option (List ℕ)) (run : RunValue) → Between begun script left b run → AppendsPrefix b c run.waits → Cut begun script left c
-  Cut_between script left b c run between sent =
-      cut script left between.lines [] (no_part between.read) between.lines (parts_of between.read.rest).0 between.answered.outcomes c (parts_left between.read) between.answered.paired
-      (Sends-cut_flush between.answered.sends sent)
+  pub Cut_between : (script : List ℕ) (left b c : Option (List ℕ)) (machine : V) (run : LinesValue) → Between makes start script left b machine run → AppendsPrefix b c run.waits → Cut makes ends start script left c machine
+  Cut_between script left b c machine run between sent =
+      cut_lines script left c machine between.lines [] between.answered.replies (no_part between.read) between.answered.made (Sends-cut_flush between.answered.sends sent)
 
   -- the same behind a part of a line
-  pub Cut_part : (script : List ℕ) (left leaves b c : Option (List ℕ)) (run : RunValue) (line : LineBufferValue) → Between begun script left b run
-      → Takes (so_far []) line left leaves [] → AppendsPrefix b c run.waits → Cut begun script leaves c
-  Cut_part script left leaves b c run line between takes sent =
+  pub Cut_part : (script : List ℕ) (left leaves b c : Option (List ℕ)) (machine : V) (run : LinesValue) (line : LineBufferValue) → Between makes start script left b machine run
+      → Takes (so_far []) line left leaves [] → AppendsPrefix b c run.waits → Cut makes ends start script leaves c machine
+  Cut_part script left leaves b c machine run line between takes sent =
       let (part, is, read) = LinesRead-part between.read takes in
-      cut script leaves between.lines part read between.lines (parts_of between.read.rest).0 between.answered.outcomes c (parts_left between.read) between.answered.paired
-      (Sends-cut_flush between.answered.sends sent)
+      cut_lines script leaves c machine between.lines part between.answered.replies read between.answered.made (Sends-cut_flush between.answered.sends sent)
 
   -- the writer failed at the reply to a line with its newline
-  pub Cut_line : (script : List ℕ) (left leaves b c : Option (List ℕ)) (run new : RunValue) (line : LineBufferValue) → Between begun script left b run
-      → Takes (so_far []) line left leaves (10 ∷ []) → AnsweredInPart (record run { line = line }) new b c → Cut begun script leaves c
-  Cut_line script left leaves b c run new line between takes answered =
+  pub Cut_line : (script : List ℕ) (left leaves b c : Option (List ℕ)) (was now : V) (run : LinesValue) (line : LineBufferValue) → Between makes start script left b was run
+      → Takes (so_far []) line left leaves (10 ∷ []) → AnsweredInPart makes was now (record run { line = line }) b c → Cut makes ends start script leaves c now
+  Cut_line script left leaves b c was now run line between takes answered =
       let (taken, is, read) = LinesRead-line between.read takes in
-      cut_line script leaves (between.lines ++ taken ∷ []) [] (no_part read) between.lines taken (parts_of read.rest).0 b c run new line
-      (parts_left read ∙ append_assoc between.lines (taken ∷ []) (parts_of read.rest).0) between.answered is answered
+      let all = between.answered in
+      cut_lines script leaves c now (between.lines ++ taken ∷ []) [] (all.replies ++ answered.reply ∷ []) (no_part read)
+      (answer_push makes ends start.machine between.lines all.replies was taken answered.reply now all.made (answered.made taken is))
+      (subst (λ (r : List ℕ). AppendsPrefix start.written c r) (sym (texts_push all.replies answered.reply)) (Sends-cut (reply_text answered.reply) all.sends answered.prefix))
+
+  -- the writer failed at the reply to the end of the input
+  cut_end : (script : List ℕ) (leaves c : Option (List ℕ)) (was now : V) (lines : List (List ℕ)) (part : List ℕ) (replies : List Reply) (reply : Reply) → PartRead script leaves lines part
+      → leaves ≡ Some [] → AllAnswer makes start.machine lines replies was → ends was part now reply → AppendsPrefix start.written c (texts_of replies ++ reply_text reply) → Cut makes ends start script leaves c now
+  cut_end script leaves c was now lines part replies reply read gone made ended sent = record {
+    lines = lines;
+    part = part;
+    read = read;
+    replies = replies;
+    behind = was;
+    made = made;
+    last = reply_text reply;
+    ended = inr (gone, (reply, refl, ended));
+    prefix = sent;
+  }
 
   -- the input is at its end behind a part of a line
-  module _ (script : List ℕ) (left leaves b c : Option (List ℕ)) (run new : RunValue) (line : LineBufferValue) (between : Between begun script left b run)
+  module _ (script : List ℕ) (left leaves b c : Option (List ℕ)) (was now : V) (run : LinesValue) (line : LineBufferValue) (between : Between makes start script left b was run)
       (takes : Takes (so_far []) line left leaves []) (end : OnSome left (IsAtEnd leaves)) where
     -- and the writer failed at the last reply
-    pub Cut_last : ClosedInPart (record run { line = line }) new b c → Cut begun script leaves c
+    pub Cut_last : AnsweredInPart ends was now (record run { line = line }) b c → Cut makes ends start script leaves c now
     Cut_last closed =
         let (part, is, read) = LinesRead-part between.read takes in
         let gone = nothing_left left leaves _ _ between.read.left_is takes.source end in
-        cut_closing script leaves b c run new between.lines line part read (parts_read leaves read gone) between.answered is closed
+        cut_end script leaves c was now between.lines part between.answered.replies closed.reply read gone between.answered.made (closed.made part is)
+        (Sends-cut (reply_text closed.reply) between.answered.sends closed.prefix)
 
     -- and the writer failed behind the last reply
-    pub Cut_after : (d : Option (List ℕ)) (counts : Counts) → Closed (record run { line = line }) new b c counts → AppendsPrefix c d new.waits → Cut begun script leaves d
-    Cut_after d counts closed sent =
+    pub Cut_after : (d : Option (List ℕ)) (new : LinesValue) (counts : Counts) → Closed ends was now (record run { line = line }) new b c counts → AppendsPrefix c d new.waits → Cut makes ends start script leaves d now
+    Cut_after d new counts closed sent =
         let (part, is, read) = LinesRead-part between.read takes in
         let gone = nothing_left left leaves _ _ between.read.left_is takes.source end in
-        let parts = parts_read leaves read gone in record {
-          lines = between.lines;
-          part = part;
-          read = read;
-          outcomes = between.answered.outcomes;
-          last = (concluded begun script b c run new between.lines line part counts parts between.answered is closed.reply closed.turned).outcome;
-          prefix = Sends-cut_flush (all_sent begun script b c run new between.lines line part counts parts between.answered is closed) sent;
-        }
+        cut_end script leaves d was now between.lines part between.answered.replies closed.reply read gone between.answered.made (closed.made part is)
+        (Sends-cut_flush (all_sent makes ends start script b c was now run new between.lines line part counts (parts_read leaves read gone) between.answered is closed) sent)
 
   -- nothing is left behind the last line that may be answered
-  module _ (script : List ℕ) (left leaves b c : Option (List ℕ)) (run new : RunValue) (line : LineBufferValue) (between : Between begun script left b run)
+  module _ (script : List ℕ) (left leaves b c : Option (List ℕ)) (was now : V) (run : LinesValue) (line : LineBufferValue) (between : Between makes start script left b was run)
       (none : IfSome left (λ rest. rest ≡ [])) (kept : Keeps left leaves) (is : line ≡ so_far []) where
-    nothing : parts_of script ≡ (between.lines, [])
-    nothing = parts_end between.read (of_known left between.read.rest (λ (r : List ℕ). r ≡ []) between.read.left_is none)
+    empty : between.read.rest ≡ []
+    empty = of_known left between.read.rest (λ (r : List ℕ). r ≡ []) between.read.left_is none
+
+    gone : leaves ≡ Some []
+    gone = stays left leaves between.read.rest between.read.left_is kept ∙ ap Some empty
 
     -- and the writer failed at the last reply
-    pub Cut_finish : ClosedInPart (record run { line = line }) new b c → Cut begun script leaves c
-    Cut_finish closed = cut_closing script leaves b c run new between.lines line [] (no_part (still leaves between.read kept)) nothing between.answered is closed
+    pub Cut_finish : AnsweredInPart ends was now (record run { line = line }) b c → Cut makes ends start script leaves c now
+    Cut_finish closed =
+        cut_end script leaves c was now between.lines [] between.answered.replies closed.reply (no_part (still leaves between.read kept)) gone between.answered.made (closed.made [] is)
+        (Sends-cut (reply_text closed.reply) between.answered.sends closed.prefix)
 
     -- and the writer failed behind the last reply
-    pub Cut_finished : (d : Option (List ℕ)) (counts : Counts) → Closed (record run { line = line }) new b c counts → AppendsPrefix c d new.waits → Cut begun script leaves d
-    Cut_finished d counts closed sent = record {
-      lines = between.lines;
-      part = [];
-      read = no_part (still leaves between.read kept);
-      outcomes = between.answered.outcomes;
-      last = (concluded begun script b c run new between.lines line [] counts nothing between.answered is closed.reply closed.turned).outcome;
-      prefix = Sends-cut_flush (all_sent begun script b c run new between.lines line [] counts nothing between.answered is closed) sent;
-    }
+    pub Cut_finished : (d : Option (List ℕ)) (new : LinesValue) (counts : Counts) → Closed ends was now (record run { line = line }) new b c counts → AppendsPrefix c d new.waits → Cut makes ends start script leaves d now
+    Cut_finished d new counts closed sent =
+        cut_end script leaves d was now between.lines [] between.answered.replies closed.reply (no_part (still leaves between.read kept)) gone between.answered.made (closed.made [] is)
+        (Sends-cut_flush (all_sent makes ends start script b c was now run new between.lines line [] counts (parts_end between.read empty) between.answered is closed) sent)
 
   -- a read failed in a line
-  pub Broken_in : (script : List ℕ) (left leaves b c : Option (List ℕ)) (run : RunValue) (line : LineBufferValue) → Between begun script left b run
-      → Takes (so_far []) line left leaves [] → Appends b c run.waits → Broken begun script leaves c
-  Broken_in script left leaves b c run line between takes sent =
+  pub Broken_in : (script : List ℕ) (left leaves b c : Option (List ℕ)) (machine : V) (run : LinesValue) (line : LineBufferValue) → Between makes start script left b machine run
+      → Takes (so_far []) line left leaves [] → Appends b c run.waits → Broken makes ends start script leaves c machine
+  Broken_in script left leaves b c machine run line between takes sent =
       let (part, is, read) = LinesRead-part between.read takes in
-      record { lines = between.lines; part = part; read = read; outcomes = between.answered.outcomes; wrote = Sends-flushed c between.answered.sends sent }
+      record { lines = between.lines; part = part; read = read; replies = between.answered.replies; made = between.answered.made; wrote = Sends-flushed c between.answered.sends sent }
 
   -- a read failed behind the last line that may be answered
-  pub Broken_after : (script : List ℕ) (left leaves b c : Option (List ℕ)) (run : RunValue) → Between begun script left b run
-      → Keeps left leaves → Appends b c run.waits → Broken begun script leaves c
-  Broken_after script left leaves b c run between kept sent = record {
+  pub Broken_after : (script : List ℕ) (left leaves b c : Option (List ℕ)) (machine : V) (run : LinesValue) → Between makes start script left b machine run
+      → Keeps left leaves → Appends b c run.waits → Broken makes ends start script leaves c machine
+  Broken_after script left leaves b c machine run between kept sent = record {
     lines = between.lines;
     part = [];
     read = no_part (still leaves between.read kept);
-    outcomes = between.answered.outcomes;
+    replies = between.answered.replies;
+    made = between.answered.made;
     wrote = Sends-flushed c between.answered.sends sent;
   }
 
-  exceeded : (script : List ℕ) (leaves b c : Option (List ℕ)) (run : RunValue) (lines : List (List ℕ)) (part : List ℕ) → AllAnswered begun lines b run → PartRead script leaves lines part
-      → IsAtBound lines part → lines_within script ≡ lines → lines_within script ≢ lines_of script → Appends b c run.waits → Exceeded begun script leaves c
-  exceeded script leaves b c run lines part is read bound within more sent = record {
+  exceeded : (script : List ℕ) (leaves b c : Option (List ℕ)) (machine : V) (run : LinesValue) (lines : List (List ℕ)) (part : List ℕ) → AllAnswered makes start lines b machine run → PartRead script leaves lines part
+      → IsAtBound lines part → lines_within script ≡ lines → lines_within script ≢ lines_of script → Appends b c run.waits → Exceeded makes ends start script leaves c machine
+  exceeded script leaves b c machine run lines part is read bound within more sent = record {
     part = part;
     read = subst (λ (l : List (List ℕ)). PartRead script leaves l part) (sym within) read;
     stopped = subst (λ (l : List (List ℕ)). IsAtBound l part) (sym within) bound;
-    outcomes = is.outcomes;
-    wrote = subst (λ (l : List (List ℕ)). Appends begun.written c (replies_from (serving begun.region) l is.outcomes)) (sym within) (Sends-flushed c is.sends sent);
+    replies = is.replies;
+    made = subst (λ (l : List (List ℕ)). AllAnswer makes start.machine l is.replies machine) (sym within) is.made;
+    wrote = Sends-flushed c is.sends sent;
     more = more;
   }
 
   -- there are more than a million lines
-  pub Exceeded_lines : (script : List ℕ) (left leaves b c : Option (List ℕ)) (run : RunValue) → Between begun script left b run
-      → IfSome left (λ rest. rest ≢ []) → Keeps left leaves → run.counts.lines ≡ 1000000 → Appends b c run.waits → Exceeded begun script leaves c
-  Exceeded_lines script left leaves b c run between some kept many sent =
+  pub Exceeded_lines : (script : List ℕ) (left leaves b c : Option (List ℕ)) (machine : V) (run : LinesValue) → Between makes start script left b machine run
+      → IfSome left (λ rest. rest ≢ []) → Keeps left leaves → run.counts.lines ≡ 1000000 → Appends b c run.waits → Exceeded makes ends start script leaves c machine
+  Exceeded_lines script left leaves b c machine run between some kept many sent =
       let rest = between.read.rest in
       let (line, more, is) = some_line rest (of_known left rest (λ (r : List ℕ). r ≢ []) between.read.left_is some) in
       let all : lines_of script ≡ between.lines ++ line ∷ more = lines_left between.read ∙ ap (λ (l : List (List ℕ)). between.lines ++ l) is in
       let count : length between.lines ≡ 1000000 = sym between.answered.lines_are ∙ many in
       let within = within-million script between.lines (line ∷ more) all between.short count in
-      exceeded script leaves b c run between.lines [] between.answered (no_part (still leaves between.read kept)) (inl (count, refl)) within (not_all script between.lines line more all within) sent
+      exceeded script leaves b c machine run between.lines [] between.answered (no_part (still leaves between.read kept)) (inl (count, refl)) within (not_all script between.lines line more all within) sent
 
   -- a line has no end
-  pub Exceeded_bytes : (script : List ℕ) (left leaves b c : Option (List ℕ)) (run : RunValue) (line : LineBufferValue) → Between begun script left b run
-      → Takes (so_far []) line left leaves [] → line.count ≡ 1000000000 → run.counts.lines < 1000000 → Appends b c run.waits → Exceeded begun script leaves c
-  Exceeded_bytes script left leaves b c run line between takes endless few sent =
+  pub Exceeded_bytes : (script : List ℕ) (left leaves b c : Option (List ℕ)) (machine : V) (run : LinesValue) (line : LineBufferValue) → Between makes start script left b machine run
+      → Takes (so_far []) line left leaves [] → line.count ≡ 1000000000 → run.counts.lines < 1000000 → Appends b c run.waits → Exceeded makes ends start script leaves c machine
+  Exceeded_bytes script left leaves b c machine run line between takes endless few sent =
       let (part, is, read) = LinesRead-part between.read takes in
       let long : length part ≡ 1000000000 = sym (ap (λ (l : LineBufferValue). l.count) is) ∙ endless in
       let (first, more, all, longer) = begun_line part read.rest read.part_unbroken long in
       let lines_are : lines_of script ≡ between.lines ++ first ∷ more = ap lines_of read.text_is ∙ lines_of-text between.lines (part ++ read.rest) between.read.unbroken ∙ ap (λ (l : List (List ℕ)). between.lines ++ l) all in
       let within = within-endless script between.lines first more lines_are between.short (omega (arith, few, between.answered.lines_are)) longer in
-      exceeded script leaves b c run between.lines part between.answered read (inr long) within (not_all script between.lines first more lines_are within) sent
+      exceeded script leaves b c machine run between.lines part between.answered read (inr long) within (not_all script between.lines first more lines_are within) sent
 
   -- a write fault, as an answer
-  pub Turn_write : (left written : Option (List ℕ)) (run : RunValue) (result : Result Next RunFault) → IsErrAnd result (λ fault. fault ≡ Write)
-      → IfSome begun.left (λ script. Cut begun script left written) → TurnsTo begun left written run result
-  Turn_write left written run result answered ends =
+  pub Turn_write : (left written : Option (List ℕ)) (machine : V) (run : LinesValue) (result : Result Next RunFault) → IsErrAnd result (λ fault. fault ≡ Write)
+      → IfSome start.left (λ script. Cut makes ends start script left written machine) → TurnsTo makes ends start left written machine run result
+  Turn_write left written machine run result answered ended =
       let (fault, is, write) = err_from_is_err_and result answered in
-      subst (TurnsTo begun left written run) (sym is) (subst (λ (f : RunFault). Ends begun left written (Err f)) (sym write) ends)
+      subst (TurnsTo makes ends start left written machine run) (sym is) (subst (λ (f : RunFault). EndsBy makes ends start left written machine (Err f)) (sym write) ended)
 
-  pub Run_write : (left written : Option (List ℕ)) (result : Result Counts RunFault) → IsErrAnd result (λ fault. fault ≡ Write)
-      → IfSome begun.left (λ script. Cut begun script left written) → Ends begun left written result
-  Run_write left written result answered ends =
+  pub Run_write : (left written : Option (List ℕ)) (machine : V) (result : Result Counts RunFault) → IsErrAnd result (λ fault. fault ≡ Write)
+      → IfSome start.left (λ script. Cut makes ends start script left written machine) → EndsBy makes ends start left written machine result
+  Run_write left written machine result answered ended =
       let (fault, is, write) = err_from_is_err_and result answered in
-      subst (Ends begun left written) (sym is) (subst (λ (f : RunFault). Ends begun left written (Err f)) (sym write) ends)
+      subst (EndsBy makes ends start left written machine) (sym is) (subst (λ (f : RunFault). EndsBy makes ends start left written machine (Err f)) (sym write) ended)
 
   -- a fault that is handed on
-  pub Handed_on : (left written : Option (List ℕ)) (fault : RunFault) (result : Result Counts RunFault) → IsErrAnd result (λ other. other ≡ fault) → Ends begun left written (Err fault) → Ends begun left written result
-  Handed_on left written fault result answered ends =
+  pub Handed_on : (left written : Option (List ℕ)) (machine : V) (fault : RunFault) (result : Result Counts RunFault) → IsErrAnd result (λ other. other ≡ fault) → EndsBy makes ends start left written machine (Err fault) → EndsBy makes ends start left written machine result
+  Handed_on left written machine fault result answered ended =
       let (other, is, same) = err_from_is_err_and result answered in
-      subst (Ends begun left written) (sym is) (subst (λ (f : RunFault). Ends begun left written (Err f)) (sym same) ends)
+      subst (EndsBy makes ends start left written machine) (sym is) (subst (λ (f : RunFault). EndsBy makes ends start left written machine (Err f)) (sym same) ended)

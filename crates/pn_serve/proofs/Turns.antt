@@ -22,7 +22,7 @@ use Rattle.pn_region.specs.declared.fault.RoundFault.{RoundFault}
 use Rattle.pn_serve.specs.declared.reply.Reply.{Reply}
 use Rattle.pn_serve.specs.declared.reply.Reply.TheVariants.{Adopted, Changed, Copied, Lost, Silent, Text, Refused, NotTaken}
 use Rattle.pn_serve.specs.declared.refusal.Refusal.{Refusal}
-use Rattle.pn_serve.specs.declared.refusal.Refusal.TheVariants.{TooLong, NotJson, BadShape, OutOfRange, Memory}
+use Rattle.pn_serve.specs.declared.refusal.Refusal.TheVariants.{TooLong, NotJson, BadShape, ReadOnly, OutOfRange, Memory}
 use Rattle.pn_serve.specs.Command.Meaning.{CommandValue, deliver}
 use Rattle.pn_serve.specs.Command.Lines.{command_at, is_too_long}
 use Rattle.pn_serve.proofs.LongLines.{too_long}
@@ -139,6 +139,7 @@ turned_err may text region Memory is short out = turned_unread may text region (
 turned_err may text region TooLong is short out = turned_fault may text region TooLong (is (λ same. cc))
 turned_err may text region NotJson is short out = turned_fault may text region NotJson (is (λ same. cc))
 turned_err may text region (BadShape part) is short out = turned_fault may text region (BadShape part) (is (λ same. cc))
+turned_err may text region ReadOnly is short out = turned_fault may text region ReadOnly (is (λ same. cc))
 turned_err may text region (OutOfRange part) is short out = turned_fault may text region (OutOfRange part) (is (λ same. cc))
 
 -- a text was shown, and nothing changed

@@ -10,5 +10,6 @@ pub mod Notices
 pub mod Queries
 pub mod RangeChecks
 pub mod Recovery
+pub mod Sessions
 pub mod ShapeChecks
 pub mod Words

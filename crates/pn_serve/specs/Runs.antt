@@ -1,5 +1,2 @@
--- What a run of a script has done between two lines, and where it ends.
-pub mod Coding
+-- Where the run of a script ends.
 pub mod Ends
-pub mod Served
-pub mod Turning

@@ -8,6 +8,7 @@ mod notices;
 pub(crate) mod parse;
 mod ranges;
 mod recovery;
+pub(crate) mod sessions;
 mod shapes;
 pub(crate) mod word;
 

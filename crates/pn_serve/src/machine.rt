@@ -9,9 +9,11 @@ ghost use Rattle.pn_serve.specs.Machine.Turns.{AnswersBy, ConcludesBy, Obeys};
 ghost use Rattle.pn_serve.specs.Machine.Ways.{BeginsTo, LastsBy};
 
 pub(crate) mod announced;
-mod lookups;
+pub(crate) mod lookups;
 pub(crate) mod reading;
-mod tablets;
+pub(crate) mod scripted;
+pub(crate) mod serving;
+pub(crate) mod tablets;
 
 use crate::machine::announced::{Announced, adopt, finish, go_on};
 use crate::machine::lookups::{get, notices, read, scan, shown};

@@ -66,6 +66,8 @@ pub enum Refusal {
     NotJson,
     /// A part is absent where it is wanted, or of another kind.
     BadShape(Part),
+    /// A session does not do what the line asks for. No line of a script is refused so.
+    ReadOnly,
     /// All parts are of their kinds, and this one breaks a limit.
     OutOfRange(Part),
     /// Memory ran out. It may stand in place of any check that follows.

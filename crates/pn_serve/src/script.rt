@@ -2,13 +2,16 @@
 
 ghost use Rattle.std.specs.Prelude.{◌≡◌, IsErrOf};
 ghost use Rattle.pn_serve.specs.declared.script.RunFault.TheVariants.{Write, Memory};
-ghost use Rattle.pn_serve.specs.Runs.Ends.{Ends};
-ghost use Rattle.pn_serve.specs.Runs.Served.{Begun, Served, begins};
+ghost use Rattle.pn_serve.specs.Lines.Ends.{EndsBy};
+ghost use Rattle.pn_serve.specs.Lines.Served.{Start, Served};
+ghost use Rattle.pn_serve.specs.Runs.Ends.{Ends, begins};
 
-mod turns;
+pub(crate) mod turns;
 
 use crate::Settings;
-use crate::script::turns::{Next, Run};
+use crate::machine::scripted::Scripted;
+use crate::machine::serving::Serves;
+use crate::script::turns::{Lines, Next};
 use pn_join::NoMemory;
 use pn_line::{Sink, Source, WriteFault};
 use std::alloc::Global;
@@ -73,8 +76,9 @@ pub fn run<R: Threads + Sync, S: Source, W: Sink>(
     ensures read { IsErrOf result RunFault.Read → S.may_fail }
     ensures write { IsErrOf result RunFault.Write → W.may_fail }
 {
-    let mut run = Run::new(alloc, settings)?;
-    answer_all(rt, &mut run, input, output)
+    let mut lines = Lines::new(alloc)?;
+    let mut machine = Scripted::new(rt, alloc, settings)?;
+    answer_all(&mut machine, &mut lines, input, output)
 }
 
 /// As [`run`], for a process that ends then: its region's memory is not given back piece by piece, but goes
@@ -90,30 +94,32 @@ pub fn run_to_exit<R: Threads + Sync, S: Source, W: Sink>(
     ensures read { IsErrOf result RunFault.Read → S.may_fail }
     ensures write { IsErrOf result RunFault.Write → W.may_fail }
 {
-    let mut kept = Run::new(alloc, settings)?;
-    let ended = answer_all(rt, &mut kept, input, output);
+    let mut lines = Lines::new(alloc)?;
+    let mut kept = Scripted::new(rt, alloc, settings)?;
+    let ended = answer_all(&mut kept, &mut lines, input, output);
     mem::forget(kept);
     ended
 }
 
-// Answers all lines, of which the run has answered none.
-fn answer_all<R: Threads + Sync, S: Source, W: Sink>(
-    rt: &R,
-    run: &mut Run,
+/// The machine answers all lines, of which none was answered.
+pub(crate) fn answer_all<M: Serves, S: Source, W: Sink>(
+    machine: &mut M,
+    lines: &mut Lines,
     input: &mut S,
     output: &mut W,
 ) -> Result<Counts, RunFault>
-    requires none { run.old.counts.lines ≡ 0 }
-    ensures ends { (begun : Begun) → Served begun (S.left input.old) (W.contents output.old) run.old
-        → Ends begun (S.left input.new) (W.contents output.new) result }
+    requires ready { M.ready }
+    requires none { lines.old.counts.lines ≡ 0 }
+    ensures ends { (start : Start M) → Served M.makes start (S.left input.old) (W.contents output.old) machine.old lines.old
+        → EndsBy M.makes M.ends start (S.left input.new) (W.contents output.new) machine.new result }
     ensures read { IsErrOf result RunFault.Read → S.may_fail }
     ensures write { IsErrOf result RunFault.Write → W.may_fail }
 {
-    'lines: for _turn in 0..MOST_LINES {
-        match run.turn(rt, input, output)? {
+    'turns: for _turn in 0..MOST_LINES {
+        match lines.turn(machine, input, output)? {
             Next::Line => {}
             Next::End(counts) => return Ok(counts),
         }
     }
-    run.finish(rt, input, output)
+    lines.finish(machine, input, output)
 }

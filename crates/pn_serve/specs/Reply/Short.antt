@@ -6,7 +6,7 @@ use Rattle.pn_serve.specs.declared.refusal.Part.{Part}
 use Rattle.pn_serve.specs.declared.refusal.Part.TheVariants.{Whole, Do, Batches, First, Images, Key, Keys, Lines, Need, Stream, Query, Since, Tablet, Version, Other, Image}
 use Rattle.pn_serve.specs.declared.refusal.Refusal.{Refusal}
 use Rattle.pn_serve.specs.Reply.Faults.{error_data}
-use Rattle.pn_serve.specs.declared.refusal.Refusal.TheVariants.{TooLong, NotJson, BadShape, OutOfRange, Memory}
+use Rattle.pn_serve.specs.declared.refusal.Refusal.TheVariants.{TooLong, NotJson, BadShape, ReadOnly, OutOfRange, Memory}
 
 -- the part's name in lower case, or the name of the image's member
 abbrev pub part_word : Part → List ℕ
@@ -36,6 +36,7 @@ unfoldable pub refusal_data : Refusal → Data
 refusal_data TooLong = error_data (codes "too-long") no_members
 refusal_data NotJson = error_data (codes "not-json") no_members
 refusal_data (BadShape part) = error_data (codes "bad-shape") (about_part part)
+refusal_data ReadOnly = error_data (codes "read-only") no_members
 refusal_data (OutOfRange part) = error_data (codes "out-of-range") (about_part part)
 refusal_data Memory = error_data (codes "memory") no_members
 

@@ -8,9 +8,20 @@ use Rattle.pn_line.specs.Text.{lines_of}
 use Rattle.pn_serve.specs.declared.script.Counts.{Counts}
 use Rattle.pn_serve.specs.declared.script.RunFault.{RunFault}
 use Rattle.pn_serve.specs.declared.script.RunFault.TheVariants.{Read, Write, TooManyTurns, Memory}
+use Rattle.pn_region.specs.Regions.{RegionValue, new_region}
 use Rattle.pn_serve.specs.Machine.Outcomes.{Outcome, serving}
-use Rattle.pn_serve.specs.Runs.Served.{Begun}
+use Rattle.pn_serve.specs.Settings.{SettingsValue}
 use Rattle.pn_serve.specs.Script.Written.{replies, replies_from, refusals}
+
+-- what a run began with: its region, the bytes that its source had left, and those that its writer had
+pub record Begun : Type 0 where
+  pub region : RegionValue
+  pub left : Option (List ℕ)
+  pub written : Option (List ℕ)
+
+-- what a run with these settings begins with
+abbrev pub begins : SettingsValue → Option (List ℕ) → Option (List ℕ) → Begun
+begins settings left written = record { region = new_region settings.layout; left = left; written = written }
 
 -- the lines that may be answered: at most a million, and none from the first of a billion bytes on
 abbrev pub lines_within : List ℕ → List (List ℕ)

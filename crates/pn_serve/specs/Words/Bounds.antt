@@ -1,6 +1,6 @@
 -- The bounds that a text says.
 use Rattle.std.specs.Prelude.{ℕ, List, if◌then◌else◌, Result, Ok, Err}
-use Rattle.std.specs.Option.{ok_or, option_and_then}
+use Rattle.std.specs.Option.{ok_or}
 use Rattle.serde_json.specs.Data.{Data}
 use Rattle.serde_json.specs.Find.{as_array, as_str}
 use Rattle.pn_json.specs.Answers.{◌>>=◌}

@@ -1,6 +1,6 @@
 -- The commands of the program and their options, as far as `clap` reads words by them.
-use Rattle.std.specs.Prelude.{ℕ, List, [], ◌∷◌, ◌++◌, true, codes, Some, pos}
-use Rattle.clap.specs.Words.{App, Rule, Shape, Text, new_app, new_rule, with_rule, with_subcommand}
+use Rattle.std.specs.Prelude.{ℕ, [], ◌∷◌, true, codes, Some, pos}
+use Rattle.clap.specs.Words.{App, Rule, Text, new_app, new_rule, with_rule, with_subcommand}
 use Rattle.clap.specs.declared.builder.action.ArgAction.TheVariants.{Append}
 use Rattle.clap.specs.declared.builder.value_parser.ValueParser.TheVariants as values
 

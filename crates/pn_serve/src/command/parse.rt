@@ -64,7 +64,7 @@ fn line_command(alloc: Global, line: &[u8]) -> Result<Command, Refusal>
 
 // The command that a value is. Memory runs out only where it is one, or its batches or keys are gathered.
 #[tactic(auto, unfolding(crate::specs::Command::Lines::command_in, crate::specs::Command::BatchParts::deliver_at))]
-fn command_in(alloc: Global, value: Value) -> Result<Command, Refusal>
+pub(crate) fn command_in(alloc: Global, value: Value) -> Result<Command, Refusal>
     ensures exact { ShowsUnless Refusal.Memory command_value result (command_seen (view value)) }
     ensures memory { IsErrOf result Refusal.Memory → TakesMemory (view value) }
 {

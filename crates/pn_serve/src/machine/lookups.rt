@@ -62,15 +62,15 @@ fn told_reply(alloc: Global, found: Since) -> Result<Vec<u8>, NoMemory>
     since_reply(alloc, &found)
 }
 
-// The reply to a scan, of a page that nobody needs behind it.
-fn page_reply(alloc: Global, page: Page) -> Result<Vec<u8>, NoMemory>
+/// The reply to a scan, of a page that nobody needs behind it.
+pub(crate) fn page_reply(alloc: Global, page: Page) -> Result<Vec<u8>, NoMemory>
     ensures { IfOk result (λ text. text.items ≡ line_of (scan_data (page.rows.items, page.next))) }
 {
     scan_reply(alloc, &page)
 }
 
-// The reply to a lookup that was refused, where there was memory for it.
-fn refused(alloc: Global, fault: &ScanFault) -> Reply
+/// The reply to a lookup that was refused, where there was memory for it.
+pub(crate) fn refused(alloc: Global, fault: &ScanFault) -> Reply
     ensures { Refuses fault.now result }
 {
     if let ScanFault::Memory = fault {

@@ -36,8 +36,8 @@ pub(crate) fn copy(alloc: Global, region: &Region, need: &Marks, tablet: u64) ->
     }
 }
 
-// The text of a copy, where there was memory for it.
-fn copied(alloc: Global, copy: &TabletCopy) -> Reply
+/// The text of a copy, where there was memory for it.
+pub(crate) fn copied(alloc: Global, copy: &TabletCopy) -> Reply
     ensures { ShowsCopy copy.now result }
 {
     match write_copy(alloc, copy) {
@@ -62,8 +62,8 @@ fn line_count(text: &[u8]) -> usize
     count
 }
 
-// Why there is no copy, where there was memory to say it.
-fn no_copy(alloc: Global, tablet: usize, fault: &CopyFault) -> Reply
+/// Why there is no copy, where there was memory to say it.
+pub(crate) fn no_copy(alloc: Global, tablet: usize, fault: &CopyFault) -> Reply
     ensures { TellsNoCopy tablet fault.now result }
 {
     if let CopyFault::Memory = fault {

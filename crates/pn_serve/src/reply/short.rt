@@ -68,6 +68,7 @@ pub fn refusal_reply(refusal: &Refusal) -> ShortReply
             reply.push(part.word());
             reply.push("\"}\n");
         }
+        Refusal::ReadOnly => reply.push("{\"error\":\"read-only\"}\n"),
         Refusal::OutOfRange(part) => {
             reply.push("{\"error\":\"out-of-range\",\"member\":\"");
             reply.push(part.word());

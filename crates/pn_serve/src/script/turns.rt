@@ -1,59 +1,47 @@
-//! A run from line to line: each is read, takes its turn, and its reply waits or goes out.
+//! Lines, one after another: each is read and answered, and its reply waits or goes out.
 
 ghost use Rattle.std.specs.Prelude.{◌≡◌, ◌+◌, ◌<◌, ◌≤◌, ◌++◌, Ok, IfOk, OnOk, OnErr, IsErrOf};
 ghost use Rattle.pn_line.specs.Sent.{Sends, AppendsPrefix};
-ghost use Rattle.pn_region.specs.Regions.{new_region};
 ghost use Rattle.pn_json.specs.Lines.{line_of};
+ghost use Rattle.pn_serve.specs.Lines.Ends.{EndsBy};
+ghost use Rattle.pn_serve.specs.Lines.Served.{Start, Served, Answered, AnsweredInPart, Closed, new_lines};
+ghost use Rattle.pn_serve.specs.Lines.Turning.{TurnsTo};
 ghost use Rattle.pn_serve.specs.Reply.Short.{lines_data};
 ghost use Rattle.pn_serve.specs.Reply.Texts.{reply_text, is_refusal};
-ghost use Rattle.pn_serve.specs.Runs.Ends.{Ends};
-ghost use Rattle.pn_serve.specs.Runs.Served.{Begun, Served, Answered, AnsweredInPart, Closed, ClosedInPart, new_run};
-ghost use Rattle.pn_serve.specs.Runs.Turning.{TurnsTo};
 ghost use Rattle.pn_serve.specs.Script.Written.{one_if};
 
-use crate::machine::announced::Announced;
-use crate::machine::reading::Json;
-use crate::machine::{answer, end};
+use crate::machine::serving::Serves;
 use crate::script::MOST_LINES;
 use crate::{
-    Counts, Reply, RunFault, Settings, adopted_reply, changed_reply, lines_reply, lost_reply,
-    refusal_reply,
+    Counts, Reply, RunFault, adopted_reply, changed_reply, lines_reply, lost_reply, refusal_reply,
 };
 use pn_join::NoMemory;
 use pn_line::{LineBuffer, LineEnd, Outbox, Sink, Source, WriteFault, read_line};
-use pn_region::Region;
 use std::alloc::Global;
 use std::marker::Model;
-use std::thread::Threads;
 
-/// What a run has between two lines.
+/// What a server of lines has between two of them.
 #[derive(Drop)]
-pub(crate) struct Run {
+pub(crate) struct Lines {
     alloc: Global,
-    region: Region,
-    workers: usize,
-    // Lines that were announced and are still to come. None: the next line is a command.
-    announced: Option<Announced>,
     line: LineBuffer,
     outbox: Outbox,
     counts: Counts,
 }
 
-impl Model for Run {
+impl Model for Lines {
     ghost use Rattle.std.specs.Prelude.{◌≤◌};
-    ghost use Rattle.pn_apply.specs.Limits.{most_workers};
-    ghost use Rattle.pn_serve.specs.Machine.Modes.{with_mode};
-    ghost use Rattle.pn_serve.specs.Runs.Served.{RunValue};
+    ghost use Rattle.pn_serve.specs.Lines.Served.{LinesValue};
 
-    ghost Value = { RunValue };
+    ghost Value = { LinesValue };
 
-    ghost use Rattle.pn_serve.specs.Runs.Coding.{run_code};
+    ghost use Rattle.pn_serve.specs.Lines.Coding.{lines_code};
 
-    ghost coded = { run_code };
+    ghost coded = { lines_code };
 
-    ghost view = { λ run. record { machine = with_mode run.announced run.region; line = run.line; waits = run.outbox; counts = run.counts } };
+    ghost view = { λ run. record { line = run.line; waits = run.outbox; counts = run.counts } };
 
-    ghost invariant = { λ run. (1 ≤ run.workers) × (run.workers ≤ most_workers) × (run.counts.refused ≤ run.counts.lines) };
+    ghost invariant = { λ run. run.counts.refused ≤ run.counts.lines };
 }
 
 /// What comes after a line.
@@ -65,19 +53,15 @@ pub(crate) enum Next {
     End(Counts),
 }
 
-impl Run {
-    /// A run that has answered no line.
-    pub(crate) fn new(alloc: Global, settings: Settings) -> Result<Run, NoMemory>
-        ensures { IfOk result (λ run. run ≡ new_run (new_region settings.layout)) }
+impl Lines {
+    /// One that has answered no line.
+    pub(crate) fn new(alloc: Global) -> Result<Lines, NoMemory>
+        ensures { IfOk result (λ run. run ≡ new_lines) }
     {
-        let Settings { layout, workers } = settings;
-        Ok(Run {
+        Ok(Lines {
             alloc,
             line: LineBuffer::new(alloc)?,
             outbox: Outbox::new(alloc)?,
-            region: Region::new(alloc, layout)?,
-            workers,
-            announced: None,
             counts: Counts {
                 lines: 0,
                 refused: 0,
@@ -85,16 +69,17 @@ impl Run {
         })
     }
 
-    /// Reads a line and answers it. Where no further line is there to be read, all replies go out.
-    pub(crate) fn turn<R: Threads + Sync, S: Source, W: Sink>(
+    /// Reads a line, which the machine answers. Where no further line is there to be read, all replies go out.
+    pub(crate) fn turn<M: Serves, S: Source, W: Sink>(
         &mut self,
-        rt: &R,
+        machine: &mut M,
         input: &mut S,
         output: &mut W,
     ) -> Result<Next, RunFault>
+        requires ready { M.ready }
         requires few { self.old.counts.lines < MOST_LINES }
-        ensures turns { (begun : Begun) → Served begun (S.left input.old) (W.contents output.old) self.old
-            → TurnsTo begun (S.left input.new) (W.contents output.new) self.new result }
+        ensures turns { (start : Start M) → Served M.makes start (S.left input.old) (W.contents output.old) machine.old self.old
+            → TurnsTo M.makes M.ends start (S.left input.new) (W.contents output.new) machine.new self.new result }
         ensures counted { result ≡ Ok Next.Line → self.new.counts.lines ≡ self.old.counts.lines + 1 }
         ensures read { IsErrOf result RunFault.Read → S.may_fail }
         ensures write { IsErrOf result RunFault.Write → W.may_fail }
@@ -106,14 +91,14 @@ impl Run {
         };
         match end {
             LineEnd::Newline { more } => {
-                self.answer_line(rt, output)?;
+                self.answer_line(machine, output)?;
                 if !more {
                     self.outbox.flush(output)?;
                 }
                 Ok(Next::Line)
             }
             LineEnd::EndOfInput => {
-                let counts = self.close(rt, output)?;
+                let counts = self.close(machine, output)?;
                 self.outbox.flush(output)?;
                 Ok(Next::End(counts))
             }
@@ -125,28 +110,18 @@ impl Run {
     }
 
     // Answers the line that was read: its reply waits or goes out, and it is counted.
-    fn answer_line<R: Threads + Sync, W: Sink>(
+    fn answer_line<M: Serves, W: Sink>(
         &mut self,
-        rt: &R,
+        machine: &mut M,
         output: &mut W,
     ) -> Result<(), WriteFault>
+        requires ready { M.ready }
         requires few { self.old.counts.lines < MOST_LINES }
-        ensures ok { OnOk result (Answered self.old self.new (W.contents output.old) (W.contents output.new)) }
-        ensures err { OnErr result (AnsweredInPart self.old self.new (W.contents output.old) (W.contents output.new)) }
+        ensures ok { OnOk result (Answered M.makes machine.old machine.new self.old self.new (W.contents output.old) (W.contents output.new)) }
+        ensures err { OnErr result (AnsweredInPart M.makes machine.old machine.new self.old (W.contents output.old) (W.contents output.new)) }
         ensures fault { OnErr result W.may_fail }
     {
-        let waiting = self.announced.take();
-        let line = self.line.bytes();
-        let done = answer::<R, Json>(
-            rt,
-            self.alloc,
-            &mut self.region,
-            self.workers,
-            waiting,
-            line,
-        );
-        let (reply, announced) = done;
-        self.announced = announced;
+        let reply = machine.answer(self.alloc, &self.line);
         self.counts.lines += 1;
         count_refused(&mut self.counts, &reply);
         push_reply(&reply, &mut self.outbox, output)
@@ -154,26 +129,18 @@ impl Run {
 
     // The input is at its end behind the part of a line that was read: what is left to reply waits or goes out.
     // All lines and refusals are counted.
-    fn close<R: Threads + Sync, W: Sink>(
+    fn close<M: Serves, W: Sink>(
         &mut self,
-        rt: &R,
+        machine: &mut M,
         output: &mut W,
     ) -> Result<Counts, WriteFault>
+        requires ready { M.ready }
         requires few { self.old.counts.lines ≤ MOST_LINES }
-        ensures ok { IfOk result (λ counts. Closed self.old self.new (W.contents output.old) (W.contents output.new) counts) }
-        ensures err { OnErr result (ClosedInPart self.old self.new (W.contents output.old) (W.contents output.new)) }
+        ensures ok { IfOk result (λ counts. Closed M.ends machine.old machine.new self.old self.new (W.contents output.old) (W.contents output.new) counts) }
+        ensures err { OnErr result (AnsweredInPart M.ends machine.old machine.new self.old (W.contents output.old) (W.contents output.new)) }
         ensures fault { OnErr result W.may_fail }
     {
-        let announced = self.announced.take();
-        let part = self.line.bytes();
-        let reply = end::<R, Json>(
-            rt,
-            self.alloc,
-            &mut self.region,
-            self.workers,
-            announced,
-            part,
-        );
+        let reply = machine.end(self.alloc, &self.line);
         let mut counts = self.counts;
         if !self.line.is_empty() {
             counts.lines += 1;
@@ -184,15 +151,16 @@ impl Run {
     }
 
     /// Sends all replies, and looks whether the input is at its end, where no more lines may be answered.
-    pub(crate) fn finish<R: Threads + Sync, S: Source, W: Sink>(
+    pub(crate) fn finish<M: Serves, S: Source, W: Sink>(
         &mut self,
-        rt: &R,
+        machine: &mut M,
         input: &mut S,
         output: &mut W,
     ) -> Result<Counts, RunFault>
+        requires ready { M.ready }
         requires all { self.old.counts.lines ≡ MOST_LINES }
-        ensures ends { (begun : Begun) → Served begun (S.left input.old) (W.contents output.old) self.old
-            → Ends begun (S.left input.new) (W.contents output.new) result }
+        ensures ends { (start : Start M) → Served M.makes start (S.left input.old) (W.contents output.old) machine.old self.old
+            → EndsBy M.makes M.ends start (S.left input.new) (W.contents output.new) machine.new result }
         ensures read { IsErrOf result RunFault.Read → S.may_fail }
         ensures write { IsErrOf result RunFault.Write → W.may_fail }
     {
@@ -204,7 +172,7 @@ impl Run {
             return Err(RunFault::TooManyTurns);
         }
         self.line.start();
-        let counts = self.close(rt, output)?;
+        let counts = self.close(machine, output)?;
         self.outbox.flush(output)?;
         Ok(counts)
     }

@@ -1,10 +1,10 @@
 -- The replies to the lines so far went out or wait.
 use Rattle.std.proofs.Common.{◌≡◌}
-use Rattle.pn_serve.specs.Runs.Served.{Begun, Served}
+use Rattle.pn_serve.specs.Lines.Served.{Start, Served}
 use Rattle.pn_serve.proofs.script.answer_all.Given as goal
 
-abbrev pub invariant-lines : goal.invariant-lines
-invariant-lines g l = record {
-  turns : l.run.counts.lines ≡ l._turn;
-  served : (begun : Begun) → Served begun (g.S.Source.left l.initial.input) (g.W.Sink.contents l.initial.output) l.initial.run → Served begun (g.S.Source.left l.input) (g.W.Sink.contents l.output) l.run;
+abbrev pub invariant-turns : goal.invariant-turns
+invariant-turns g l = record {
+  turns : l.lines.counts.lines ≡ l._turn;
+  served : (start : Start _) → Served g.M.Serves.makes start (g.S.Source.left l.initial.input) (g.W.Sink.contents l.initial.output) l.initial.machine l.initial.lines → Served g.M.Serves.makes start (g.S.Source.left l.input) (g.W.Sink.contents l.output) l.machine l.lines;
 }

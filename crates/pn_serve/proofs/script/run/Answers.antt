@@ -1,7 +1,9 @@
 -- What is served from a new region on.
-use Rattle.pn_serve.proofs.Serving.{Begins_run, As_begun}
+use Rattle.pn_serve.specs.Machine.Turns.{Answers, Concludes}
+use Rattle.pn_serve.proofs.Serving.{Begins_new}
+use Rattle.pn_serve.proofs.Scripts.{as_script}
 use Rattle.pn_serve.proofs.script.run.Goals as goal
 
 pub returns-clause-ends : goal.returns-clause-ends
 returns-clause-ends g c =
-    As_begun _ c.args.settings _ _ _ _ _ c.in_ok-run.ensures (c.answer_all.ensures.ends _ (Begins_run _ _ _ _ c.in_ok-run.ensures))
+    as_script _ _ _ _ _ _ _ _ c.in_ok-machine.ensures (c.answer_all.ensures.ends _ (Begins_new Answers Concludes _ _ _ _ c.in_ok-lines.ensures))

@@ -1,5 +1,5 @@
 -- What `clap` made of the words decides.
-use Rattle.std.proofs.Common.{List, ℕ, map, string_bytes, sym, subst, ◌∙◌}
+use Rattle.std.proofs.Common.{map, string_bytes, sym, subst, ◌∙◌}
 use Rattle.std.specs.Prelude.{IsSome}
 use Rattle.pn_serve.proofs.PlannedWords.{answered, has_command, has_kind, matched, met, planned}
 use Rattle.pn_serve.proofs.words.plan.Goals as goal

@@ -1,5 +1,5 @@
 -- Each option is added to those before it.
-use Rattle.std.proofs.Common.{◌≡◌, ◌∙◌, ap, ap₂}
+use Rattle.std.proofs.Common.{◌∙◌, ap, ap₂}
 use Rattle.std.proofs.lemmas.Result.{IfOk-weaker}
 use Rattle.clap.specs.Simple.{app_of_fields, with_rule}
 use Rattle.pn_serve.proofs.words.options.replay.Goals as goal

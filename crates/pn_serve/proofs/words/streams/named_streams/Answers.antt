@@ -1,5 +1,5 @@
 -- The words that were found are those of the row.
-use Rattle.std.proofs.Common.{◌≡◌, List, ℕ, [], Option, Some, None, Ok, Vec, Global, String, map, codes, refl, sym, ap, subst, ◌∙◌}
+use Rattle.std.proofs.Common.{◌≡◌, List, ℕ, [], Option, Ok, Vec, Global, String, map, codes, refl, sym, ap, subst, ◌∙◌}
 use Rattle.std.specs.Prelude.{unwrap_or}
 use Rattle.clap.proofs.WalkLemmas.{raw_values-rows}
 use Rattle.clap.specs.Matches.{found_of}

@@ -1,11 +1,11 @@
--- How what a run has is stored in a proof.
+-- How what a server of lines has, and a machine, are stored in a proof.
 use Rattle.std.specs.Prelude.{◌≡◌, ℕ, List, Option, None, Some, refl}
 use Rattle.std.specs.Coded.{Coded, code_by, coded×, coded_ℕ, coded_list, coded_option}
 use Rattle.pn_region.specs.Proofs.Coding.{region_code, entry_code}
 use Rattle.pn_region.specs.Regions.{RegionValue}
 use Rattle.pn_region.specs.declared.entry.Entry.{Entry}
+use Rattle.pn_serve.specs.Lines.Served.{LinesValue}
 use Rattle.pn_serve.specs.Machine.Outcomes.{Mode, idle, announced, Machine}
-use Rattle.pn_serve.specs.Runs.Served.{RunValue}
 
 -- a mode as what was announced
 abbrev pub mode_in : Mode → Option (ℕ × Option (List ℕ))
@@ -31,10 +31,10 @@ machine_code =
     (λ p. record { mode = p.0.0; region = p.0.1; log = p.1 })
     (λ _. refl)
 
--- what a run has as pairs
-abbrev pub run_code : Coded RunValue
-run_code =
-    code_by (((Machine × (List ℕ × ℕ)) × List ℕ) × (ℕ × ℕ)) (coded× (coded× (coded× machine_code (coded× (coded_list coded_ℕ) coded_ℕ)) (coded_list coded_ℕ)) (coded× coded_ℕ coded_ℕ))
-    (λ r. (((r.machine, (r.line.bytes, r.line.count)), r.waits), (r.counts.lines, r.counts.refused)))
-    (λ p. record { machine = p.0.0.0; line = record { bytes = p.0.0.1.0; count = p.0.0.1.1 }; waits = p.0.1; counts = record { lines = p.1.0; refused = p.1.1 } })
+-- the line, the replies that wait, and the counts
+abbrev pub lines_code : Coded LinesValue
+lines_code =
+    code_by (((List ℕ × ℕ) × List ℕ) × (ℕ × ℕ)) (coded× (coded× (coded× (coded_list coded_ℕ) coded_ℕ) (coded_list coded_ℕ)) (coded× coded_ℕ coded_ℕ))
+    (λ r. (((r.line.bytes, r.line.count), r.waits), (r.counts.lines, r.counts.refused)))
+    (λ p. record { line = record { bytes = p.0.0.0; count = p.0.0.1 }; waits = p.0.1; counts = record { lines = p.1.0; refused = p.1.1 } })
     (λ _. refl)

@@ -1,0 +1,113 @@
+-- What lookups of a session are answered.
+use Rattle.std.proofs.Common.{◌≡◌, ◌≢◌, ◌⊎◌, ◌<◌, ℕ, zero, suc, Bool, true, false, cond, List, [], ◌∷◌, length, nat_lt, inl, inr, refl, sym, ap, ◌∙◌, subst, arith}
+use Rattle.std.specs.Prelude.{Option, Vec, Result, Ok, Err, IfOk, IsTrue, MatchResult, ◌↔◌}
+use Rattle.std.specs.Option.{ok_or}
+use Rattle.std.specs.declared.alloc.Global.{Global}
+use Rattle.std.proofs.lemmas.Bool.{cases_lt}
+use Rattle.std.proofs.lemmas.Bool.Decides.{nat_tests}
+use Rattle.serde_json.specs.Data.{Data}
+use Rattle.pn_json.specs.Answers.{◌>>=◌, fault_as}
+use Rattle.pn_json.specs.Lines.{line_of}
+use Rattle.pn_line.specs.Line.{LineBufferValue, so_far, kept}
+use Rattle.pn_line.proofs.LineLaws.{kept-short, length-kept_long}
+use Rattle.pn_record.specs.Reading.{value_at, reading}
+use Rattle.pn_record.specs.Sets.{CellValue}
+use Rattle.pn_record.specs.declared.fault.ImageFault.TheVariants as image
+use Rattle.pn_tablet.specs.Layouts.{Bounds}
+use Rattle.pn_scan.specs.Candidates.{Look}
+use Rattle.pn_scan.specs.Pages.{PageValue, first_page}
+use Rattle.pn_scan.specs.Queries.{QueryValue}
+use Rattle.pn_scan.specs.Reads.{IsGet}
+use Rattle.pn_scan.specs.Visits.{IsScan}
+use Rattle.pn_scan.specs.declared.fault.ScanFault.{ScanFault}
+use Rattle.pn_live.specs.Readers.{LiveReaderValue, LooksLive}
+use Rattle.pn_serve.specs.declared.refusal.Refusal.{Refusal}
+use Rattle.pn_serve.specs.declared.refusal.Refusal.TheVariants.{TooLong, NotJson, BadShape, ReadOnly, OutOfRange, Memory}
+use Rattle.pn_serve.specs.declared.reply.Reply.{Reply}
+use Rattle.pn_serve.specs.declared.reply.Reply.TheVariants.{Text, Refused, Silent}
+use Rattle.pn_serve.specs.Command.Lines.{is_too_long, refusal_of}
+use Rattle.pn_serve.specs.Command.Meaning.{CommandValue}
+use Rattle.pn_serve.specs.Command.Sessions.{lookup_at, lookup_in}
+use Rattle.pn_serve.specs.Session.Lines.{Tells, LooksUp, AnswersLine, EndsLines, RefusesLine}
+use Rattle.pn_serve.specs.Session.Lookups.{Shows}
+
+-- what was found is shown, or there was no memory for its text
+pub shows_found : {A E : Type 0} (show : A → Data) (found : A) (text : Result (Vec ℕ Global) E) (reply : Reply) → IfOk text (λ t. t.items ≡ line_of (show found))
+    → MatchResult text (λ t. reply ≡ Text t) (λ _. reply ≡ Refused Memory) → Shows show (Ok found) reply
+shows_found show found (Ok text) reply says shown = subst (λ (r : Reply). Shows show (Ok found) r) (sym shown) says
+shows_found show found (Err e) reply says shown = subst (λ (r : Reply). Shows show (Ok found) r) (sym shown) refl
+
+-- the same get, by what its answer shows
+module _ {A : Type 0} (bounds : Bounds) (keys : List (List ℕ)) (old new : LiveReaderValue) (show : A → List (Option CellValue)) (seen : List Look) where
+  pub got_cells : (cells : A) → IsGet LooksLive bounds keys old new show (Ok cells) seen → IsGet LooksLive bounds keys old new (λ found. found) (Ok (show cells)) seen
+  got_cells cells is = record { looked = is.looked; found = is.found; order = is.order; only = is.only; answers = is.answers; whole = is.whole }
+
+  pub got_none : (fault : ScanFault) → IsGet LooksLive bounds keys old new show (Err fault) seen → IsGet LooksLive bounds keys old new (λ found. found) (Err fault) seen
+  got_none fault is = record { looked = is.looked; found = is.found; order = is.order; only = is.only; answers = is.answers; whole = is.whole }
+
+-- and the same scan
+module _ {A : Type 0} (bounds : Bounds) (query : QueryValue) (old new : LiveReaderValue) (show : A → PageValue) (seen : List Look) where
+  pub scanned_page : (page : A) → IsScan LooksLive bounds query old new show (Ok page) (first_page query) seen → IsScan LooksLive bounds query old new (λ found. found) (Ok (show page)) (first_page query) seen
+  scanned_page page is = record { looked = is.looked; visit = is.visit; answers = is.answers; whole = is.whole }
+
+  pub scanned_none : (fault : ScanFault) → IsScan LooksLive bounds query old new show (Err fault) (first_page query) seen → IsScan LooksLive bounds query old new (λ found. found) (Err fault) (first_page query) seen
+  scanned_none fault is = record { looked = is.looked; visit = is.visit; answers = is.answers; whole = is.whole }
+
+-- the line says this command
+pub answers_said : (old new : LiveReaderValue) (line : List ℕ) (command : CommandValue) (reply : Reply) → lookup_at line ≡ Ok command → LooksUp old command new reply → AnswersLine old line new reply
+answers_said old new line command reply said answered = inl (subst (λ (r : Result CommandValue Refusal). Tells old r new reply) (sym said) answered)
+
+answers_fault : (old : LiveReaderValue) (line : List ℕ) (refusal : Refusal) → lookup_at line ≡ Err refusal → AnswersLine old line old (Refused refusal)
+answers_fault old line refusal said = inl (subst (λ (r : Result CommandValue Refusal). Tells old r old (Refused refusal)) (sym said) (refl, refl))
+
+-- the line was refused, or memory ran out before it was read
+pub answers_err : (old : LiveReaderValue) (line : List ℕ) (refusal : Refusal) → (refusal ≢ Memory → lookup_at line ≡ Err refusal) → (refusal ≡ Memory → is_too_long line ≡ false) → AnswersLine old line old (Refused refusal)
+answers_err old line Memory is short = inr (short refl, (refl, refl))
+answers_err old line TooLong is short = answers_fault old line TooLong (is (λ same. cc))
+answers_err old line NotJson is short = answers_fault old line NotJson (is (λ same. cc))
+answers_err old line (BadShape part) is short = answers_fault old line (BadShape part) (is (λ same. cc))
+answers_err old line ReadOnly is short = answers_fault old line ReadOnly (is (λ same. cc))
+answers_err old line (OutOfRange part) is short = answers_fault old line (OutOfRange part) (is (λ same. cc))
+
+too_long : (line : List ℕ) → 65536 < length line → lookup_at line ≡ Err TooLong
+unfolding lookup_at value_at
+too_long line long =
+    let test : nat_lt 65536 (length line) ≡ true = grind (arith, nat_tests) in
+    ap (λ b. fault_as refusal_of (cond b (Err image.TooLong) (ok_or (reading line) image.NotJson)) >>= lookup_in) test
+
+-- a line says what its kept bytes say
+said_kept : (line : List ℕ) → (lookup_at (kept line) ≡ lookup_at line) × (is_too_long (kept line) ≡ is_too_long line)
+said_kept line = elim (cases_lt 65536 (length line)) [
+  | inl long ↦
+      (
+      let long_too : 65536 < length (kept line) = omega (arith, length-kept_long line long) in
+      let here : is_too_long (kept line) ≡ true = grind (arith, nat_tests) in
+      let there : is_too_long line ≡ true = grind (arith, nat_tests) in
+      (too_long (kept line) long_too ∙ sym (too_long line long), here ∙ sym there)
+      )
+  | inr short ↦ (ap lookup_at (kept-short line short), ap is_too_long (kept-short line short))
+]
+
+answers_kept : (old new : LiveReaderValue) (line : List ℕ) (reply : Reply) → AnswersLine old (kept line) new reply → AnswersLine old line new reply
+answers_kept old new line reply answered =
+    let same = said_kept line in
+    subst (λ (r : Result CommandValue Refusal). Tells old r new reply ⊎ ((is_too_long line ≡ false) × RefusesLine old Memory new reply)) same.0
+    (subst (λ (b : Bool). Tells old (lookup_at (kept line)) new reply ⊎ ((b ≡ false) × RefusesLine old Memory new reply)) same.1 answered)
+
+pub answers_so_far : (old new : LiveReaderValue) (line : LineBufferValue) (text : List ℕ) (reply : Reply) → line ≡ so_far text → AnswersLine old line.bytes new reply → AnswersLine old text new reply
+answers_so_far old new line text reply is answered =
+    answers_kept old new text reply (subst (λ (bytes : List ℕ). AnswersLine old bytes new reply) (ap (λ (l : LineBufferValue). l.bytes) is) answered)
+
+-- the input is at its end behind a newline
+pub ends_none : (old : LiveReaderValue) (line : LineBufferValue) (part : List ℕ) → line ≡ so_far part → line.count ≡ 0 → EndsLines old part old Silent
+ends_none old line [] is none = (refl, refl)
+ends_none old line (b ∷ part) is none = absurd (omega (arith, none, ap (λ (l : LineBufferValue). l.count) is))
+
+pub not_none : (b : Bool) (n : ℕ) → IsTrue b ↔ (n ≡ 0) → b ≡ false → 0 < n
+not_none b zero both is = let no = both.1 refl in absurd (cc (no, is))
+not_none b (suc n) both is = omega arith
+
+-- or behind a part of a line
+pub ends_some : (old new : LiveReaderValue) (line : LineBufferValue) (part : List ℕ) (reply : Reply) → line ≡ so_far part → 0 < line.count → AnswersLine old line.bytes new reply → EndsLines old part new reply
+ends_some old new line [] reply is some answered = absurd (omega (arith, some, ap (λ (l : LineBufferValue). l.count) is))
+ends_some old new line (b ∷ part) reply is some answered = answers_so_far old new line (b ∷ part) reply is answered

@@ -1,0 +1,3 @@
+-- What a session makes of lines.
+pub mod Lines
+pub mod Lookups

@@ -1,0 +1,42 @@
+-- What a session makes of a line: the reply, and the reader behind it.
+use Rattle.std.specs.Prelude.{◌≡◌, ◌⊎◌, ℕ, false, List, [], ◌∷◌, Option, Result, Ok, Err}
+use Rattle.pn_live.specs.Readers.{LiveReaderValue}
+use Rattle.pn_serve.specs.declared.refusal.Refusal.{Refusal}
+use Rattle.pn_serve.specs.declared.refusal.Refusal.TheVariants.{ReadOnly, Memory}
+use Rattle.pn_serve.specs.declared.reply.Reply.{Reply}
+use Rattle.pn_serve.specs.declared.reply.Reply.TheVariants.{Refused, Silent}
+use Rattle.pn_serve.specs.Command.Lines.{is_too_long}
+use Rattle.pn_serve.specs.Command.Meaning.{CommandValue, copy, get, read, scan}
+use Rattle.pn_serve.specs.Command.Sessions.{lookup_at}
+use Rattle.pn_serve.specs.Lines.Served.{Start}
+use Rattle.pn_serve.specs.Session.Lookups.{LooksUpKey, LooksUpKeys, LooksUpPage, LooksUpCopy}
+
+-- nothing was looked up, and the line was refused
+abbrev pub RefusesLine : LiveReaderValue → Refusal → LiveReaderValue → Reply → Type 0
+RefusesLine old refusal new reply = (new ≡ old) × (reply ≡ Refused refusal)
+
+-- a command was answered: a lookup, or one that a session refuses
+abbrev pub LooksUp : LiveReaderValue → CommandValue → LiveReaderValue → Reply → Type 0
+LooksUp old (copy need tablet) new reply = LooksUpCopy old need tablet new reply
+LooksUp old (get keys) new reply = LooksUpKeys old keys new reply
+LooksUp old (read key wanted) new reply = LooksUpKey old key wanted new reply
+LooksUp old (scan query) new reply = LooksUpPage old query new reply
+LooksUp old command new reply = RefusesLine old ReadOnly new reply
+
+-- a line that says this was answered
+abbrev pub Tells : LiveReaderValue → Result CommandValue Refusal → LiveReaderValue → Reply → Type 0
+Tells old (Ok command) new reply = LooksUp old command new reply
+Tells old (Err refusal) new reply = RefusesLine old refusal new reply
+
+-- a line was answered: as it says, or, unless it is too long, that memory ran out before it was read
+abbrev pub AnswersLine : LiveReaderValue → List ℕ → LiveReaderValue → Reply → Type 0
+AnswersLine old line new reply = Tells old (lookup_at line) new reply ⊎ ((is_too_long line ≡ false) × RefusesLine old Memory new reply)
+
+-- the input ended behind this part of a line, which is a line where there is one
+abbrev pub EndsLines : LiveReaderValue → List ℕ → LiveReaderValue → Reply → Type 0
+EndsLines old [] new reply = (new ≡ old) × (reply ≡ Silent)
+EndsLines old (b ∷ part) new reply = AnswersLine old (b ∷ part) new reply
+
+-- what a session begins with
+abbrev pub starts : LiveReaderValue → Option (List ℕ) → Option (List ℕ) → Start LiveReaderValue
+starts reader left written = record { machine = reader; left = left; written = written }

@@ -1,0 +1,98 @@
+//! The region that a script is told to.
+
+ghost use Rattle.std.specs.Prelude.{◌≡◌, IfOk};
+ghost use Rattle.pn_region.specs.Regions.{new_region};
+ghost use Rattle.pn_serve.specs.Machine.Outcomes.{serving};
+
+use crate::machine::announced::Announced;
+use crate::machine::reading::Json;
+use crate::machine::serving::Serves;
+use crate::machine::{answer, end};
+use crate::{Reply, Settings};
+use pn_join::NoMemory;
+use pn_line::LineBuffer;
+use pn_region::Region;
+use std::alloc::Global;
+use std::marker::Model;
+use std::thread::Threads;
+
+/// A region, the workers of its rounds, and the lines that were announced.
+#[derive(Drop)]
+pub(crate) struct Scripted<'a, R> {
+    rt: &'a R,
+    region: Region,
+    workers: usize,
+    // Lines that were announced and are still to come. None: the next line is a command.
+    announced: Option<Announced>,
+}
+
+impl<'a, R> Model for Scripted<'a, R> {
+    ghost use Rattle.std.specs.Prelude.{◌≤◌};
+    ghost use Rattle.pn_apply.specs.Limits.{most_workers};
+    ghost use Rattle.pn_serve.specs.Machine.Modes.{with_mode};
+    ghost use Rattle.pn_serve.specs.Machine.Outcomes.{Machine};
+
+    ghost Value = { Machine };
+
+    ghost use Rattle.pn_serve.specs.Lines.Coding.{machine_code};
+
+    ghost coded = { machine_code };
+
+    ghost view = { λ scripted. with_mode scripted.announced scripted.region };
+
+    ghost invariant = { λ scripted. (1 ≤ scripted.workers) × (scripted.workers ≤ most_workers) };
+}
+
+impl<'a, R: Threads + Sync> Scripted<'a, R> {
+    /// A new region that waits for a command.
+    pub(crate) fn new(
+        rt: &'a R,
+        alloc: Global,
+        settings: Settings,
+    ) -> Result<Scripted<'a, R>, NoMemory>
+        ensures { IfOk result (λ scripted. scripted ≡ serving (new_region settings.layout)) }
+    {
+        let Settings { layout, workers } = settings;
+        Ok(Scripted {
+            rt,
+            region: Region::new(alloc, layout)?,
+            workers,
+            announced: None,
+        })
+    }
+}
+
+impl<'a, R: Threads + Sync> Serves for Scripted<'a, R> {
+    ghost use Rattle.pn_serve.specs.Machine.Turns.{Answers, Concludes};
+    ghost use Rattle.std.specs.Thread.{IsSync};
+
+    // Threads can share the runtime.
+    ghost ready = { IsSync R.row };
+
+    ghost makes = { Answers };
+
+    ghost ends = { Concludes };
+
+    fn answer(&mut self, alloc: Global, line: &LineBuffer) -> Reply {
+        let waiting = self.announced.take();
+        let bytes = line.bytes();
+        let region = &mut self.region;
+        let (reply, announced) = answer::<R, Json>(
+            self.rt,
+            alloc,
+            region,
+            self.workers,
+            waiting,
+            bytes,
+        );
+        self.announced = announced;
+        reply
+    }
+
+    fn end(&mut self, alloc: Global, part: &LineBuffer) -> Reply {
+        let announced = self.announced.take();
+        let bytes = part.bytes();
+        let region = &mut self.region;
+        end::<R, Json>(self.rt, alloc, region, self.workers, announced, bytes)
+    }
+}

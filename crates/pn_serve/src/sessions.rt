@@ -1,0 +1,57 @@
+//! Sessions: lines are answered through a reader of a live region.
+
+ghost use Rattle.std.specs.Prelude.{IsErrOf};
+ghost use Rattle.pn_serve.specs.Lines.Ends.{EndsBy};
+ghost use Rattle.pn_serve.specs.Session.Lines.{AnswersLine, EndsLines, starts};
+
+mod lookups;
+
+use crate::machine::serving::Serves;
+use crate::script::answer_all;
+use crate::script::turns::Lines;
+use crate::sessions::lookups::answer;
+use crate::{Counts, Reply, RunFault};
+use pn_line::{LineBuffer, Sink, Source};
+use pn_live::LiveReader;
+use std::alloc::Global;
+
+/// Answers the lines of a session until its end, each by one reply, through a reader of a live region, and writes each
+/// reply before it waits for more input. It answers `read`, `get`, `scan` and `copy`; every other command is refused as
+/// read-only. It waits for nobody but its input and its output.
+///
+/// `Memory` comes only before the first line; want of memory later is a reply.
+pub fn session<S: Source, W: Sink>(
+    alloc: Global,
+    reader: &mut LiveReader,
+    input: &mut S,
+    output: &mut W,
+) -> Result<Counts, RunFault>
+    ensures ends { EndsBy AnswersLine EndsLines (starts reader.old (S.left input.old) (W.contents output.old)) (S.left input.new) (W.contents output.new) reader.new result }
+    ensures read { IsErrOf result RunFault.Read → S.may_fail }
+    ensures write { IsErrOf result RunFault.Write → W.may_fail }
+{
+    let mut lines = Lines::new(alloc)?;
+    answer_all(reader, &mut lines, input, output)
+}
+
+impl Serves for LiveReader {
+    ghost use Rattle.pn_serve.specs.Session.Lines.{AnswersLine, EndsLines};
+    ghost use Rattle.std.specs.Prelude.{⊤};
+
+    ghost ready = { ⊤ };
+
+    ghost makes = { AnswersLine };
+
+    ghost ends = { EndsLines };
+
+    fn answer(&mut self, alloc: Global, line: &LineBuffer) -> Reply {
+        answer(alloc, self, line.bytes())
+    }
+
+    fn end(&mut self, alloc: Global, part: &LineBuffer) -> Reply {
+        if part.is_empty() {
+            return Reply::Silent;
+        }
+        answer(alloc, self, part.bytes())
+    }
+}

@@ -1,0 +1,77 @@
+//! What the lookups of a session are answered.
+
+ghost use Rattle.pn_serve.specs.Command.Meaning.{command_value};
+ghost use Rattle.pn_serve.specs.Session.Lines.{AnswersLine, LooksUp};
+ghost use Rattle.pn_serve.specs.Session.Lookups.{LooksUpKey, LooksUpKeys, LooksUpPage, LooksUpCopy};
+
+use crate::command::sessions::lookup_of;
+use crate::machine::lookups::{page_reply, refused, shown};
+use crate::machine::tablets::{copied, no_copy};
+use crate::reply::record::{get_reply, read_reply};
+use crate::{Command, Part, Refusal, Reply};
+use pn_join::Marks;
+use pn_live::LiveReader;
+use pn_record::{Key, Version};
+use pn_scan::{Query, View};
+use std::alloc::Global;
+
+/// Answers a line.
+pub(super) fn answer(alloc: Global, reader: &mut LiveReader, line: &[u8]) -> Reply
+    ensures { AnswersLine reader.old line.now reader.new result }
+{
+    match lookup_of(alloc, line) {
+        Ok(command) => look_up(alloc, reader, command),
+        Err(refusal) => Reply::Refused(refusal),
+    }
+}
+
+fn look_up(alloc: Global, reader: &mut LiveReader, command: Command) -> Reply
+    ensures { LooksUp reader.old (command_value command) reader.new result }
+{
+    match command {
+        Command::Copy { need, tablet } => copy(alloc, reader, &need, tablet),
+        Command::Get(keys) => get(alloc, reader, &keys),
+        Command::Read { key, version } => read(alloc, reader, &key, version),
+        Command::Scan(query) => scan(alloc, reader, &query),
+        _ => Reply::Refused(Refusal::ReadOnly),
+    }
+}
+
+fn read(alloc: Global, reader: &mut LiveReader, key: &Key, version: Option<Version>) -> Reply
+    ensures { LooksUpKey reader.old key.now version reader.new result }
+{
+    match reader.read(key, version) {
+        Ok(cell) => shown(read_reply(alloc, key, cell.as_ref())),
+        Err(fault) => refused(alloc, &fault),
+    }
+}
+
+fn get(alloc: Global, reader: &mut LiveReader, keys: &[Key]) -> Reply
+    ensures { LooksUpKeys reader.old keys.now reader.new result }
+{
+    match reader.get(keys) {
+        Ok(cells) => shown(get_reply(alloc, keys, &cells)),
+        Err(fault) => refused(alloc, &fault),
+    }
+}
+
+fn scan(alloc: Global, reader: &mut LiveReader, query: &Query) -> Reply
+    ensures { LooksUpPage reader.old query.now reader.new result }
+{
+    match reader.scan(query) {
+        Ok(page) => shown(page_reply(alloc, page)),
+        Err(fault) => refused(alloc, &fault),
+    }
+}
+
+fn copy(alloc: Global, reader: &mut LiveReader, need: &Marks, tablet: u64) -> Reply
+    ensures { LooksUpCopy reader.old need.now tablet reader.new result }
+{
+    if tablet >= reader.layout().count() as u64 {
+        return Reply::Refused(Refusal::OutOfRange(Part::Tablet));
+    }
+    match reader.copy(tablet as usize, need) {
+        Ok(copy) => copied(alloc, &copy),
+        Err(fault) => no_copy(alloc, tablet as usize, &fault),
+    }
+}

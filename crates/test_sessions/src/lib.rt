@@ -1,0 +1,5 @@
+//! Tests of sessions: a script of lookups, told to a reader of a live region.
+#![tactic(auto)]
+
+#[cfg(test)]
+mod rows;
