@@ -17,6 +17,9 @@ use std::thread::Threads;
 /// How many bytes of a stream are read at a time.
 const STREAM_ROOM: usize = 262_144;
 
+/// The most sessions that can be planned.
+const MOST_SESSIONS: usize = 16;
+
 type Stream = StreamReader<BufReader<File>>;
 
 /// What the words ask for: the settings of the region, how many sessions, the port, and the streams with their paths.
@@ -65,7 +68,7 @@ where
         rt.alloc(),
         &listener,
         settings,
-        sessions,
+        sessions.clamp(1, MOST_SESSIONS),
         streams,
         &mut out,
     ) {
