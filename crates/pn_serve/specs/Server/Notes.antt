@@ -5,6 +5,7 @@ use Rattle.pn_stream.specs.Batches.{Stream, Batch}
 use Rattle.pn_stream.specs.Faults.{Stands}
 use Rattle.pn_stream.specs.Positions.{DeliveryValue}
 use Rattle.pn_stream.specs.declared.fault.StreamFault.{StreamFault}
+use Rattle.pn_stream.specs.declared.fault.StreamFault.TheVariants.{Failed}
 use Rattle.pn_serve.specs.Server.Messages.{most_messages}
 use Rattle.pn_serve.specs.declared.server.notes.Note.{Note}
 use Rattle.pn_serve.specs.declared.server.notes.Note.TheVariants.{Taken, End, Fault}
@@ -14,12 +15,12 @@ abbrev pub following : {S : Type 0} → Stream S → DeliveryValue → DeliveryV
 following stream delivery = record { stream = stream.name; first = min (stream.position + 1) greatest; images = delivery.images }
 
 -- what a thread leaves of a stream, by what the source has left: the next messages; or that no whole line is there; or the name, where
--- a fault stands next
+-- a fault stands next, and the reader gives no more
 abbrev pub Leaves : {S : Type 0} → (S → Option (List ℕ)) → Stream S → Note → Stream S → Type 0
 Leaves left old (Taken messages) new = (messages.delivery ≡ following old messages.delivery)
     × IfSome (left old.source) (λ text. Batch 1 most_messages old.position (old.part ++ text) messages.delivery.images new.fault new.part (left new.source))
-Leaves left old End new = IfSome (left old.source) (λ text. Batch 1 most_messages old.position (old.part ++ text) [] None new.part (left new.source))
-Leaves left old (Fault name) new = (name ≡ old.name)
+Leaves left old End new = (new.fault ≡ None) × IfSome (left old.source) (λ text. Batch 1 most_messages old.position (old.part ++ text) [] None new.part (left new.source))
+Leaves left old (Fault name) new = (name ≡ old.name) × (new.fault ≡ Some Failed)
     × ((fault : StreamFault) × (old.fault ≡ None → IfSome (left old.source) (λ text. Stands (old.position + 1) (old.part ++ text) fault)))
 
 -- the messages of a note, and the name of a stream with a fault

@@ -1,0 +1,11 @@
+-- The reader goes to the session's thread, and comes back.
+use denote.Param.Send.{sendable}
+use Rattle.std.proofs.Crossing.{crosses}
+use Rattle.pn_serve.proofs.SentReaders.{reader_send}
+use Rattle.pn_serve.proofs.server.sessions.begin_session.Goals as goal
+
+pub spawn_with-requires-send-F : goal.spawn_with-requires-send-F
+spawn_with-requires-send-F g c κs within = search (sendable, crosses, reader_send) depth 40
+
+pub spawn_with-requires-send-T : goal.spawn_with-requires-send-T
+spawn_with-requires-send-T g c κs within = search (sendable, crosses, reader_send) depth 40
