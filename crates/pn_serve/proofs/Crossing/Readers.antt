@@ -1,4 +1,4 @@
--- A reader of a live region may go to another thread.
+-- Readers of live regions may go to another thread.
 use denote.Param.Send.{IsSend, IsSync, sendable}
 use Rattle.std.proofs.Crossing.{crosses}
 use Rattle.left_right.proofs.part.Part.TheSendSync as part
@@ -6,7 +6,7 @@ use Rattle.atomic_table.proofs.shared.Seat.TheSendSync as spot
 use Rattle.atomic_table.proofs.shared.Shared.TheSendSync as shared
 use Rattle.atomic_table.proofs.send_lease.SendLease.TheSendSync as lease
 use Rattle.logbook.proofs.tokens.Seen.TheSendSync as seen
-use Rattle.pn_serve.proofs.SentRecords.{state_send, state_sync, key_send}
+use Rattle.pn_serve.proofs.Crossing.Records.{state_send, state_sync, key_send}
 use Rattle.pn_live.specs.contracts.shown.Shown as shown
 use Rattle.pn_live.specs.contracts.seat.Seat as seat
 use Rattle.pn_live.specs.contracts.reader.LiveReader as reader

@@ -1,4 +1,4 @@
--- Records and states of tablets may go to another thread, and be read by several.
+-- Records and states of tablets may go to another thread.
 use denote.Param.Send.{IsSend, IsSync, sendable}
 use Rattle.std.proofs.Crossing.{crosses}
 use Rattle.pn_join.specs.contracts.name.Name as name
@@ -7,6 +7,7 @@ use Rattle.pn_record.specs.contracts.held_contents.HeldContents as held
 use Rattle.pn_record.specs.contracts.cell.Cell as cell
 use Rattle.pn_record.specs.contracts.key.Key as key
 use Rattle.pn_tablet.specs.contracts.sharing.SharedRecords as records
+use Rattle.pn_tablet.specs.contracts.range.Range as range
 use Rattle.pn_tablet.specs.contracts.state.TabletState as state
 
 pub name_send : IsSend name.the_row

@@ -1,0 +1,3 @@
+-- What may go to another thread.
+mod Records
+pub mod Readers
