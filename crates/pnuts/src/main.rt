@@ -1,6 +1,9 @@
 //! `pnuts`: its words say whether a script is answered or streams are served.
 #![tactic(auto)]
 
+mod served;
+
+use crate::served::{Wanted, serve_streams};
 use pn_serve::{Plan, PlanFault, RunFault, Settings, plan, run_to_exit};
 use std::alloc::Global;
 use std::env::Env;
@@ -21,7 +24,20 @@ fn main(rt: HostRuntime) -> ExitCode {
     };
     match plan(rt.alloc(), &words) {
         Ok(Plan::Replay(settings)) => replay(&rt, settings),
-        Ok(Plan::Serve { .. }) => fail(&rt, "cannot start"),
+        Ok(Plan::Serve {
+            settings,
+            sessions,
+            port,
+            streams,
+        }) => serve_streams(
+            &rt,
+            Wanted {
+                settings,
+                sessions,
+                port,
+                streams,
+            },
+        ),
         Ok(Plan::Help(text)) => show(&rt, text.as_str()),
         Err(PlanFault::Words(text)) => refuse(&rt, text.as_str()),
         Err(PlanFault::Bounds) => refuse(&rt, "pnuts: bounds\n"),
@@ -49,6 +65,11 @@ fn refuse(rt: &impl Eprint, text: &str) -> ExitCode {
 
 fn fail(rt: &impl Eprint, why: &str) -> ExitCode {
     let _ = eprintln!(rt; "pnuts: {why}");
+    ExitCode::FAILURE
+}
+
+fn fail_about(rt: &impl Eprint, before: &str, name: &str, behind: &str) -> ExitCode {
+    let _ = eprintln!(rt; "pnuts: {before}{name}{behind}");
     ExitCode::FAILURE
 }
 

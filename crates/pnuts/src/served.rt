@@ -1,0 +1,111 @@
+//! Streams from files, served to sessions over TCP.
+
+use crate::{fail, fail_about};
+use pn_join::Name;
+use pn_serve::{ServeFault, Settings, serve};
+use pn_stream::StreamReader;
+use std::alloc::Global;
+use std::fs::File;
+use std::io;
+use std::io::BufReader;
+use std::net::{Ipv4Addr, Net, SocketAddr, TcpListener, TcpStream};
+use std::process::ExitCode;
+use std::rt::Files;
+use std::sync::Wait;
+use std::thread::Threads;
+
+/// How many bytes of a stream are read at a time.
+const STREAM_ROOM: usize = 262_144;
+
+type Stream = StreamReader<BufReader<File>>;
+
+/// What the words ask for: the settings of the region, how many sessions, the port, and the streams with their paths.
+#[derive(Drop)]
+pub(crate) struct Wanted {
+    pub(crate) settings: Settings,
+    pub(crate) sessions: usize,
+    pub(crate) port: u16,
+    pub(crate) streams: Vec<(Name, String)>,
+}
+
+/// Opens the streams, listens, and serves.
+pub(crate) fn serve_streams<R>(rt: &R, wanted: Wanted) -> ExitCode
+where
+    R: AllocGlobal
+        + Files<File = File>
+        + Net<Listener = TcpListener, Stream = TcpStream>
+        + Print
+        + Eprint
+        + Threads
+        + Wait
+        + Sync
+        + Copy
+        + Send
+        + 'static,
+{
+    let Wanted {
+        settings,
+        sessions,
+        port,
+        streams,
+    } = wanted;
+    let streams = match opened(rt, rt.alloc(), streams) {
+        Ok(streams) => streams,
+        Err(name) => return fail_about(rt, "cannot open ", name.as_str(), ""),
+    };
+    let Ok(listener) = listen(rt, port) else {
+        return fail(rt, "cannot listen");
+    };
+    if println!(rt; "listening on 127.0.0.1:{port}").is_err() {
+        return fail(rt, "write");
+    }
+    let mut out = io::writer(rt);
+    match serve(
+        rt,
+        rt.alloc(),
+        &listener,
+        settings,
+        sessions,
+        streams,
+        &mut out,
+    ) {
+        Ok(()) => ExitCode::SUCCESS,
+        Err(fault) => tell(rt, fault),
+    }
+}
+
+// Opens the files of the streams, or answers the name of the first one that does not open.
+fn opened<R: Files<File = File>>(
+    rt: &R,
+    alloc: Global,
+    streams: Vec<(Name, String)>,
+) -> Result<Vec<Stream>, Name> {
+    let mut opened = Vec::new(alloc);
+    for (name, path) in streams {
+        let Ok(file) = File::open(rt, path.as_str()) else {
+            return Err(name);
+        };
+        let Ok(source) = BufReader::with_capacity(alloc, STREAM_ROOM, file) else {
+            return Err(name);
+        };
+        let _ = opened.push(StreamReader::new(alloc, name, 0, source));
+    }
+    Ok(opened)
+}
+
+fn listen<R: Net<Listener = TcpListener, Stream = TcpStream>>(
+    rt: &R,
+    port: u16,
+) -> io::Result<TcpListener> {
+    TcpListener::bind(rt, SocketAddr::from((Ipv4Addr::LOCALHOST, port)))
+}
+
+fn tell(rt: &impl Eprint, fault: ServeFault) -> ExitCode {
+    match fault {
+        ServeFault::Start => fail(rt, "cannot start"),
+        ServeFault::Stream(name) => fail_about(rt, "stream ", name.as_str(), " failed"),
+        ServeFault::Round => fail(rt, "round failed"),
+        ServeFault::Close => fail(rt, "close failed"),
+        ServeFault::Write => fail(rt, "write"),
+    }
+}
