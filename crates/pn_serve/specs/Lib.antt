@@ -4,6 +4,7 @@ pub mod Machine
 pub mod Reply
 pub mod Runs
 pub mod Script
+pub mod Server
 pub mod Session
 pub mod Settings
 pub mod Words

@@ -8,7 +8,7 @@ mod machine;
 mod refusal;
 mod reply;
 mod script;
-mod serving;
+mod server;
 mod sessions;
 mod settings;
 mod words;
@@ -27,7 +27,7 @@ pub use reply::short::{
     ShortReply, adopted_reply, changed_reply, lines_reply, lost_reply, refusal_reply,
 };
 pub use script::{Counts, MOST_LINES, RunFault, run, run_to_exit};
-pub use serving::{ServeFault, serve};
+pub use server::{ServeFault, serve};
 pub use sessions::session;
 pub use settings::Settings;
 pub use words::plan;

@@ -114,6 +114,7 @@ pub(crate) fn answer_all<M: Serves, S: Source, W: Sink>(
         → EndsBy M.makes M.ends start (S.left input.new) (W.contents output.new) machine.new result }
     ensures read { IsErrOf result RunFault.Read → S.may_fail }
     ensures write { IsErrOf result RunFault.Write → W.may_fail }
+    ensures same { M.tablets machine.new ≡ M.tablets machine.old }
 {
     'turns: for _turn in 0..MOST_LINES {
         match lines.turn(machine, input, output)? {

@@ -1,6 +1,7 @@
 //! Sessions: lines are answered through a reader of a live region.
 
-ghost use Rattle.std.specs.Prelude.{IsErrOf};
+ghost use Rattle.std.specs.Prelude.{◌≡◌, IsErrOf};
+ghost use Rattle.pn_live.specs.Readers.{tablets_of};
 ghost use Rattle.pn_serve.specs.Lines.Ends.{EndsBy};
 ghost use Rattle.pn_serve.specs.Session.Lines.{AnswersLine, EndsLines, starts};
 
@@ -29,6 +30,7 @@ pub fn session<S: Source, W: Sink>(
     ensures ends { EndsBy AnswersLine EndsLines (starts reader.old (S.left input.old) (W.contents output.old)) (S.left input.new) (W.contents output.new) reader.new result }
     ensures read { IsErrOf result RunFault.Read → S.may_fail }
     ensures write { IsErrOf result RunFault.Write → W.may_fail }
+    ensures same { tablets_of reader.new ≡ tablets_of reader.old }
 {
     let mut lines = Lines::new(alloc)?;
     answer_all(reader, &mut lines, input, output)
@@ -36,6 +38,7 @@ pub fn session<S: Source, W: Sink>(
 
 impl Serves for LiveReader {
     ghost use Rattle.pn_serve.specs.Session.Lines.{AnswersLine, EndsLines};
+    ghost use Rattle.pn_live.specs.Readers.{tablets_of};
     ghost use Rattle.std.specs.Prelude.{⊤};
 
     ghost ready = { ⊤ };
@@ -43,6 +46,8 @@ impl Serves for LiveReader {
     ghost makes = { AnswersLine };
 
     ghost ends = { EndsLines };
+
+    ghost tablets = { tablets_of };
 
     fn answer(&mut self, alloc: Global, line: &LineBuffer) -> Reply {
         answer(alloc, self, line.bytes())

@@ -1,6 +1,6 @@
 -- What a session makes of a line: the reply, and the reader behind it.
 use Rattle.std.specs.Prelude.{◌≡◌, ◌⊎◌, ℕ, false, List, [], ◌∷◌, Option, Result, Ok, Err}
-use Rattle.pn_live.specs.Readers.{LiveReaderValue}
+use Rattle.pn_live.specs.Readers.{LiveReaderValue, Tablets}
 use Rattle.pn_serve.specs.declared.refusal.Refusal.{Refusal}
 use Rattle.pn_serve.specs.declared.refusal.Refusal.TheVariants.{ReadOnly, Memory}
 use Rattle.pn_serve.specs.declared.reply.Reply.{Reply}
@@ -36,6 +36,10 @@ AnswersLine old line new reply = Tells old (lookup_at line) new reply ⊎ ((is_t
 abbrev pub EndsLines : LiveReaderValue → List ℕ → LiveReaderValue → Reply → Type 0
 EndsLines old [] new reply = (new ≡ old) × (reply ≡ Silent)
 EndsLines old (b ∷ part) new reply = AnswersLine old (b ∷ part) new reply
+
+-- what is read where no live region is
+abbrev pub no_tablets : Tablets
+no_tablets = record { layout = []; books = [] }
 
 -- what a session begins with
 abbrev pub starts : LiveReaderValue → Option (List ℕ) → Option (List ℕ) → Start LiveReaderValue

@@ -64,6 +64,7 @@ impl<'a, R: Threads + Sync> Scripted<'a, R> {
 
 impl<'a, R: Threads + Sync> Serves for Scripted<'a, R> {
     ghost use Rattle.pn_serve.specs.Machine.Turns.{Answers, Concludes};
+    ghost use Rattle.pn_serve.specs.Session.Lines.{no_tablets};
     ghost use Rattle.std.specs.Thread.{IsSync};
 
     // Threads can share the runtime.
@@ -72,6 +73,8 @@ impl<'a, R: Threads + Sync> Serves for Scripted<'a, R> {
     ghost makes = { Answers };
 
     ghost ends = { Concludes };
+
+    ghost tablets = { λ _. no_tablets };
 
     fn answer(&mut self, alloc: Global, line: &LineBuffer) -> Reply {
         let waiting = self.announced.take();

@@ -2,6 +2,7 @@
 
 ghost use Rattle.std.specs.Prelude.{◌≡◌, ℕ, List};
 ghost use Rattle.pn_line.specs.Line.{so_far};
+ghost use Rattle.pn_live.specs.Readers.{Tablets};
 
 use crate::Reply;
 use pn_line::LineBuffer;
@@ -20,13 +21,18 @@ pub(crate) trait Serves {
     // What it makes of the end of the input, behind a part of a line.
     ghost ends: { Self → List ℕ → Self → Reply → Type 0 };
 
+    // Which live tablets it reads, where it reads any.
+    ghost tablets: { Self → Tablets };
+
     /// Answers the line that was read.
     fn answer(&mut self, alloc: Global, line: &LineBuffer) -> Reply
         requires { ready }
-        ensures { (text : List ℕ) → line.now ≡ so_far text → makes self.old text self.new result };
+        ensures makes { (text : List ℕ) → line.now ≡ so_far text → makes self.old text self.new result }
+        ensures same { tablets self.new ≡ tablets self.old };
 
     /// The input ended behind the part of a line that was read.
     fn end(&mut self, alloc: Global, part: &LineBuffer) -> Reply
         requires { ready }
-        ensures { (text : List ℕ) → part.now ≡ so_far text → ends self.old text self.new result };
+        ensures ends { (text : List ℕ) → part.now ≡ so_far text → ends self.old text self.new result }
+        ensures same { tablets self.new ≡ tablets self.old };
 }

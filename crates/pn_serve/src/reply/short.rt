@@ -3,6 +3,7 @@
 ghost use Rattle.std.specs.Prelude.{◌≡◌, ◌+◌, ◌≤◌, [], ◌++◌, length};
 ghost use Rattle.pn_json.specs.Lines.{line_of};
 ghost use Rattle.pn_serve.specs.Reply.Short.{refusal_data, adopted_data, changed_data, lines_data, lost_data};
+ghost use Rattle.pn_serve.specs.Server.Written.{served_line};
 
 use crate::Refusal;
 use std::marker::Model;
@@ -124,5 +125,16 @@ pub fn lines_reply(count: u64) -> ShortReply
     reply.push("{\"lines\":");
     reply.push(itoa::Buffer::new().format(count));
     reply.push("}\n");
+    reply
+}
+
+/// The last line of a server, `served N`: how many sessions were served.
+pub(crate) fn served_reply(sessions: usize) -> ShortReply
+    ensures { result ≡ served_line sessions }
+{
+    let mut reply = ShortReply::new();
+    reply.push("served ");
+    reply.push(itoa::Buffer::new().format(sessions as u64));
+    reply.push("\n");
     reply
 }

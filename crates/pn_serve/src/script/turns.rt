@@ -83,6 +83,7 @@ impl Lines {
         ensures counted { result ≡ Ok Next.Line → self.new.counts.lines ≡ self.old.counts.lines + 1 }
         ensures read { IsErrOf result RunFault.Read → S.may_fail }
         ensures write { IsErrOf result RunFault.Write → W.may_fail }
+        ensures same { M.tablets machine.new ≡ M.tablets machine.old }
     {
         self.line.start();
         let Ok(end) = read_line(&mut self.line, input) else {
@@ -120,6 +121,7 @@ impl Lines {
         ensures ok { OnOk result (Answered M.makes machine.old machine.new self.old self.new (W.contents output.old) (W.contents output.new)) }
         ensures err { OnErr result (AnsweredInPart M.makes machine.old machine.new self.old (W.contents output.old) (W.contents output.new)) }
         ensures fault { OnErr result W.may_fail }
+        ensures same { M.tablets machine.new ≡ M.tablets machine.old }
     {
         let reply = machine.answer(self.alloc, &self.line);
         self.counts.lines += 1;
@@ -139,6 +141,7 @@ impl Lines {
         ensures ok { IfOk result (λ counts. Closed M.ends machine.old machine.new self.old self.new (W.contents output.old) (W.contents output.new) counts) }
         ensures err { OnErr result (AnsweredInPart M.ends machine.old machine.new self.old (W.contents output.old) (W.contents output.new)) }
         ensures fault { OnErr result W.may_fail }
+        ensures same { M.tablets machine.new ≡ M.tablets machine.old }
     {
         let reply = machine.end(self.alloc, &self.line);
         let mut counts = self.counts;
@@ -163,6 +166,7 @@ impl Lines {
             → EndsBy M.makes M.ends start (S.left input.new) (W.contents output.new) machine.new result }
         ensures read { IsErrOf result RunFault.Read → S.may_fail }
         ensures write { IsErrOf result RunFault.Write → W.may_fail }
+        ensures same { M.tablets machine.new ≡ M.tablets machine.old }
     {
         self.outbox.flush(output)?;
         let Ok(more) = input.has_more() else {

@@ -1,5 +1,7 @@
 //! What the lookups of a session are answered.
 
+ghost use Rattle.std.specs.Prelude.{◌≡◌};
+ghost use Rattle.pn_live.specs.Readers.{tablets_of};
 ghost use Rattle.pn_serve.specs.Command.Meaning.{command_value};
 ghost use Rattle.pn_serve.specs.Session.Lines.{AnswersLine, LooksUp};
 ghost use Rattle.pn_serve.specs.Session.Lookups.{LooksUpKey, LooksUpKeys, LooksUpPage, LooksUpCopy};
@@ -17,7 +19,8 @@ use std::alloc::Global;
 
 /// Answers a line.
 pub(super) fn answer(alloc: Global, reader: &mut LiveReader, line: &[u8]) -> Reply
-    ensures { AnswersLine reader.old line.now reader.new result }
+    ensures answers { AnswersLine reader.old line.now reader.new result }
+    ensures same { tablets_of reader.new ≡ tablets_of reader.old }
 {
     match lookup_of(alloc, line) {
         Ok(command) => look_up(alloc, reader, command),
@@ -26,7 +29,8 @@ pub(super) fn answer(alloc: Global, reader: &mut LiveReader, line: &[u8]) -> Rep
 }
 
 fn look_up(alloc: Global, reader: &mut LiveReader, command: Command) -> Reply
-    ensures { LooksUp reader.old (command_value command) reader.new result }
+    ensures looks_up { LooksUp reader.old (command_value command) reader.new result }
+    ensures same { tablets_of reader.new ≡ tablets_of reader.old }
 {
     match command {
         Command::Copy { need, tablet } => copy(alloc, reader, &need, tablet),
@@ -38,7 +42,8 @@ fn look_up(alloc: Global, reader: &mut LiveReader, command: Command) -> Reply
 }
 
 fn read(alloc: Global, reader: &mut LiveReader, key: &Key, version: Option<Version>) -> Reply
-    ensures { LooksUpKey reader.old key.now version reader.new result }
+    ensures looks_up { LooksUpKey reader.old key.now version reader.new result }
+    ensures same { tablets_of reader.new ≡ tablets_of reader.old }
 {
     match reader.read(key, version) {
         Ok(cell) => shown(read_reply(alloc, key, cell.as_ref())),
@@ -47,7 +52,8 @@ fn read(alloc: Global, reader: &mut LiveReader, key: &Key, version: Option<Versi
 }
 
 fn get(alloc: Global, reader: &mut LiveReader, keys: &[Key]) -> Reply
-    ensures { LooksUpKeys reader.old keys.now reader.new result }
+    ensures looks_up { LooksUpKeys reader.old keys.now reader.new result }
+    ensures same { tablets_of reader.new ≡ tablets_of reader.old }
 {
     match reader.get(keys) {
         Ok(cells) => shown(get_reply(alloc, keys, &cells)),
@@ -56,7 +62,8 @@ fn get(alloc: Global, reader: &mut LiveReader, keys: &[Key]) -> Reply
 }
 
 fn scan(alloc: Global, reader: &mut LiveReader, query: &Query) -> Reply
-    ensures { LooksUpPage reader.old query.now reader.new result }
+    ensures looks_up { LooksUpPage reader.old query.now reader.new result }
+    ensures same { tablets_of reader.new ≡ tablets_of reader.old }
 {
     match reader.scan(query) {
         Ok(page) => shown(page_reply(alloc, page)),
@@ -65,7 +72,8 @@ fn scan(alloc: Global, reader: &mut LiveReader, query: &Query) -> Reply
 }
 
 fn copy(alloc: Global, reader: &mut LiveReader, need: &Marks, tablet: u64) -> Reply
-    ensures { LooksUpCopy reader.old need.now tablet reader.new result }
+    ensures looks_up { LooksUpCopy reader.old need.now tablet reader.new result }
+    ensures same { tablets_of reader.new ≡ tablets_of reader.old }
 {
     if tablet >= reader.layout().count() as u64 {
         return Reply::Refused(Refusal::OutOfRange(Part::Tablet));

@@ -7,4 +7,5 @@ abbrev pub invariant-turns : goal.invariant-turns
 invariant-turns g l = record {
   turns : l.lines.counts.lines ≡ l._turn;
   served : (start : Start _) → Served g.M.Serves.makes start (g.S.Source.left l.initial.input) (g.W.Sink.contents l.initial.output) l.initial.machine l.initial.lines → Served g.M.Serves.makes start (g.S.Source.left l.input) (g.W.Sink.contents l.output) l.machine l.lines;
+  same : g.M.Serves.tablets l.machine ≡ g.M.Serves.tablets l.initial.machine;
 }

@@ -4,6 +4,6 @@ use Rattle.pn_serve.specs.Session.Lines.{AnswersLine}
 use Rattle.pn_serve.proofs.Lookups.{answers_so_far}
 use Rattle.pn_serve.proofs.sessions.LiveReaderServes.answer.Goals as goal
 
-pub returns : goal.returns
-returns c text is =
-    answers_so_far _ _ c.args.line.now text _ is (subst (λ (bytes : List ℕ). AnswersLine c.args.self.now bytes c.answer.new.reader c.answer.result) c.bytes.ensures c.answer.ensures)
+pub returns-clause-makes : goal.returns-clause-makes
+returns-clause-makes c text is =
+    answers_so_far _ _ c.args.line.now text _ is (subst (λ (bytes : List ℕ). AnswersLine c.args.self.now bytes c.answer.new.reader c.answer.result) c.bytes.ensures c.answer.ensures.answers)

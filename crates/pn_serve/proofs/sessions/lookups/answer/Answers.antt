@@ -3,8 +3,8 @@ use Rattle.std.proofs.Common.{Err, ap}
 use Rattle.pn_serve.proofs.Lookups.{answers_said, answers_err}
 use Rattle.pn_serve.proofs.sessions.lookups.answer.Goals as goal
 
-pub returns-in-Ok : goal.returns-in-Ok
-returns-in-Ok c = answers_said _ _ c.args.line.now _ _ c.in-Ok.ensures.exact c.look_up.ensures
+pub returns-in-Ok-clause-answers : goal.returns-in-Ok-clause-answers
+returns-in-Ok-clause-answers c = answers_said _ _ c.args.line.now _ _ c.in-Ok.ensures.exact c.look_up.ensures.looks_up
 
-pub returns-in-Err : goal.returns-in-Err
-returns-in-Err c = answers_err _ c.args.line.now _ c.in-Err.ensures.exact (λ is. c.in-Err.ensures.memory (ap Err is))
+pub returns-in-Err-clause-answers : goal.returns-in-Err-clause-answers
+returns-in-Err-clause-answers c = answers_err _ c.args.line.now _ c.in-Err.ensures.exact (λ is. c.in-Err.ensures.memory (ap Err is))

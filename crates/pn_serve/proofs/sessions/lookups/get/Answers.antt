@@ -7,8 +7,8 @@ use Rattle.pn_serve.specs.Reply.Record.{get_data}
 use Rattle.pn_serve.proofs.Lookups.{shows_found, got_cells, got_none}
 use Rattle.pn_serve.proofs.sessions.lookups.get.Goals as goal
 
-pub returns-in-Ok : goal.returns-in-Ok
-returns-in-Ok c = record {
+pub returns-in-Ok-clause-looks_up : goal.returns-in-Ok-clause-looks_up
+returns-in-Ok-clause-looks_up c = record {
   seen = c.in-Ok.ensures.get.0;
   answer = Ok c.in-Ok.cells.items;
   got = got_cells _ _ _ _ _ _ _ c.in-Ok.ensures.get.1;
@@ -16,5 +16,5 @@ returns-in-Ok c = record {
       (subst (λ (cells : List (Option CellValue)). IfOk c.get_reply.result (λ t. t.items ≡ line_of (get_data c.args.keys.now cells))) c.deref.ensures.value c.get_reply.ensures) c.shown.ensures;
 }
 
-pub returns-in-Err : goal.returns-in-Err
-returns-in-Err c = record { seen = c.in-Err.ensures.get.0; answer = Err c.in-Err.fault; got = got_none _ _ _ _ _ _ _ c.in-Err.ensures.get.1; shows = c.refused.ensures }
+pub returns-in-Err-clause-looks_up : goal.returns-in-Err-clause-looks_up
+returns-in-Err-clause-looks_up c = record { seen = c.in-Err.ensures.get.0; answer = Err c.in-Err.fault; got = got_none _ _ _ _ _ _ _ c.in-Err.ensures.get.1; shows = c.refused.ensures }

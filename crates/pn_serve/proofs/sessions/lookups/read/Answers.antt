@@ -8,8 +8,8 @@ use Rattle.pn_serve.specs.Reply.Record.{read_data}
 use Rattle.pn_serve.proofs.Lookups.{shows_found}
 use Rattle.pn_serve.proofs.sessions.lookups.read.Goals as goal
 
-pub returns-in-Ok : goal.returns-in-Ok
-returns-in-Ok c =
+pub returns-in-Ok-clause-looks_up : goal.returns-in-Ok-clause-looks_up
+returns-in-Ok-clause-looks_up c =
     let same : option_copied c.as_ref.result ≡ c.in-Ok.cell = search rules in record {
       found = c.in-Ok.ensures.read.0;
       answer = Ok c.in-Ok.cell;
@@ -18,5 +18,5 @@ returns-in-Ok c =
           (subst (λ (cell : Option CellValue). IfOk c.read_reply.result (λ t. t.items ≡ line_of (read_data c.args.key.now cell))) same c.read_reply.ensures) c.shown.ensures;
     }
 
-pub returns-in-Err : goal.returns-in-Err
-returns-in-Err c = record { found = c.in-Err.ensures.read.0; answer = Err c.in-Err.fault; read = c.in-Err.ensures.read.1; shows = c.refused.ensures }
+pub returns-in-Err-clause-looks_up : goal.returns-in-Err-clause-looks_up
+returns-in-Err-clause-looks_up c = record { found = c.in-Err.ensures.read.0; answer = Err c.in-Err.fault; read = c.in-Err.ensures.read.1; shows = c.refused.ensures }

@@ -6,8 +6,8 @@ use Rattle.pn_serve.specs.Machine.Turns.{Answers}
 use Rattle.pn_serve.proofs.LongLines.{answers_kept}
 use Rattle.pn_serve.proofs.machine.scripted.ScriptedServes.answer.Goals as goal
 
-pub returns : goal.returns
-returns g c text is =
+pub returns-clause-makes : goal.returns-clause-makes
+returns-clause-makes g c text is =
     let inside = c.self.inside in
     let was = ap (λ waits. with_mode waits inside.region) c.take-waiting.ensures.value ∙ c.self.view_is in
     answers_kept c.args.self.now _ c.args.line.now text c.answer-reply.result.0 is

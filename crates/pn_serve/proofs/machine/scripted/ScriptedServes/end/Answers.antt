@@ -6,8 +6,8 @@ use Rattle.pn_serve.specs.Machine.Turns.{Concludes}
 use Rattle.pn_serve.proofs.LongLines.{concludes_kept}
 use Rattle.pn_serve.proofs.machine.scripted.ScriptedServes.end.Goals as goal
 
-pub returns : goal.returns
-returns g c text is =
+pub returns-clause-ends : goal.returns-clause-ends
+returns-clause-ends g c text is =
     let inside = c.self.inside in
     let was = ap (λ waits. with_mode waits inside.region) c.take-announced.ensures.value ∙ c.self.view_is in
     let now = sym (ap (λ waits. with_mode waits c.end.new.region) c.take-announced.ensures.after) in

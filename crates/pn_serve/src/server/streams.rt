@@ -1,8 +1,10 @@
 //! Streams in threads of their own, each of which leaves what it reads at its place.
 
-use crate::serving::bell::Bell;
-use crate::serving::notes::{Note, next_note};
-use crate::serving::place::Place;
+ghost use Rattle.std.specs.Prelude.{◌≡◌, ◌+◌, ◌<◌, length, vec_len, IfOk, OnOk};
+
+use crate::server::bell::Bell;
+use crate::server::notes::{Note, next_note};
+use crate::server::place::Place;
 use pn_line::Source;
 use pn_stream::StreamReader;
 use std::alloc::{AllocError, Global};
@@ -13,13 +15,15 @@ use std::thread::Threads;
 /// Streams that are read, each by a thread that leaves its notes at a place and rings the bell.
 #[derive(Drop)]
 pub(crate) struct Feeds {
-    places: Vec<Arc<Place>>,
+    pub(crate) places: Vec<Arc<Place>>,
     bell: Arc<Bell>,
 }
 
 impl Feeds {
     /// How many they are.
-    pub(crate) fn count(&self) -> usize {
+    pub(crate) fn count(&self) -> usize
+        ensures { result ≡ vec_len self.now.places }
+    {
         self.places.len()
     }
 
@@ -29,7 +33,9 @@ impl Feeds {
     }
 
     /// Takes the note that a stream left.
-    pub(crate) fn take<R: Wait>(&self, rt: &R, stream: usize) -> Option<Note> {
+    pub(crate) fn take<R: Wait>(&self, rt: &R, stream: usize) -> Option<Note>
+        requires { stream < vec_len self.now.places }
+    {
         self.places[stream].take(rt)
     }
 
@@ -50,6 +56,7 @@ pub(crate) fn begin_reading<R, S>(
 where
     R: Threads + Wait + Copy + Send + 'static,
     S: Source + Drop + Send + 'static,
+    ensures { IfOk result (λ feeds. vec_len feeds.places ≡ vec_len streams) }
 {
     let mut feeds = Feeds {
         places: Vec::with_capacity(alloc, streams.len())?,
@@ -73,6 +80,7 @@ fn begin_one<R, S>(
 where
     R: Threads + Wait + Copy + Send + 'static,
     S: Source + Drop + Send + 'static,
+    ensures { OnOk result (vec_len feeds.new.places ≡ vec_len feeds.old.places + 1) }
 {
     let place = Arc::new(alloc, Place::new())?;
     let bell = Arc::try_clone(&feeds.bell)?;

@@ -1,6 +1,9 @@
 //! The place of a stream: its thread leaves one note there, and the writer takes it.
 
-use crate::serving::notes::Note;
+ghost use Rattle.std.specs.Prelude.{◌≡◌, ◌≢◌, None, MatchBool, MatchOption};
+ghost use Rattle.pn_serve.specs.declared.server.place.Held.TheVariants.{Nothing, Left, Closed};
+
+use crate::server::notes::Note;
 use std::mem;
 use std::sync::{Condvar, Mutex, Wait};
 
@@ -15,7 +18,8 @@ pub(crate) struct Place {
 #[derive(Drop)]
 enum Held {
     Nothing,
-    Note(Note),
+    /// A note, until it is taken.
+    Left(Note),
     /// Nothing, and no note is taken from there any more.
     Closed,
 }
@@ -32,7 +36,7 @@ impl Place {
     /// Leaves a note, for which it waits until the one before was taken. False where the place is closed.
     pub(crate) fn leave<R: Wait>(&self, rt: &R, note: Note) -> bool {
         let guard = self.held.lock(rt);
-        let mut held = self.emptied.wait_while(rt, guard, |held| held.is_note());
+        let mut held = self.emptied.wait_while(rt, guard, |held| held.is_left());
         held.put(note)
     }
 
@@ -53,22 +57,28 @@ impl Place {
 }
 
 impl Held {
-    fn is_note(&self) -> bool {
-        matches!(self, Held::Note(_))
+    fn is_left(&self) -> bool {
+        matches!(self, Held::Left(_))
     }
 
-    // Puts a note where there is nothing. False where no note is taken any more.
-    fn put(&mut self, note: Note) -> bool {
+    // Puts a note where there is nothing. False where something is, or no note is taken any more.
+    fn put(&mut self, note: Note) -> bool
+        ensures { MatchBool result ((self.old ≡ Nothing) × (self.new ≡ Left note)) ((self.old ≢ Nothing) × (self.new ≡ self.old)) }
+    {
         if !matches!(self, Held::Nothing) {
             return false;
         }
-        *self = Held::Note(note);
+        *self = Held::Left(note);
         true
     }
 
-    fn take(&mut self) -> Option<Note> {
+    // Takes the note that is there. A place that is closed stays so.
+    fn take(&mut self) -> Option<Note>
+        ensures taken { MatchOption result (self.new ≡ self.old) (λ note. (self.old ≡ Left note) × (self.new ≡ Nothing)) }
+        ensures none { result ≡ None → self.old ≢ Nothing → self.old ≡ Closed }
+    {
         match mem::replace(self, Held::Nothing) {
-            Held::Note(note) => Some(note),
+            Held::Left(note) => Some(note),
             Held::Nothing => None,
             Held::Closed => {
                 *self = Held::Closed;
@@ -77,7 +87,9 @@ impl Held {
         }
     }
 
-    fn close(&mut self) {
+    fn close(&mut self)
+        ensures { self.new ≡ Closed }
+    {
         *self = Held::Closed;
     }
 }

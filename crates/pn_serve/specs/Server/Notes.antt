@@ -1,0 +1,48 @@
+-- What the thread of a stream leaves for a round.
+use Rattle.std.specs.Prelude.{◌≡◌, ℕ, ◌+◌, ◌≤◌, List, [], ◌∷◌, ◌++◌, length, min, Option, Some, None, IfSome}
+use Rattle.pn_record.specs.Limits.{greatest}
+use Rattle.pn_stream.specs.Batches.{Stream, Batch}
+use Rattle.pn_stream.specs.Faults.{Stands}
+use Rattle.pn_stream.specs.Positions.{DeliveryValue}
+use Rattle.pn_stream.specs.declared.fault.StreamFault.{StreamFault}
+use Rattle.pn_serve.specs.declared.server.notes.Note.{Note}
+use Rattle.pn_serve.specs.declared.server.notes.Note.TheVariants.{Taken, End, Fault}
+
+-- the most messages of a stream in one round
+abbrev pub most_messages : ℕ
+most_messages = 1000
+
+-- messages of a stream for one round: some, and not too many
+abbrev pub FitRound : DeliveryValue → Type 0
+FitRound delivery = (1 ≤ length delivery.images) × (length delivery.images ≤ most_messages)
+
+-- the messages behind the last position are those of this delivery
+abbrev pub following : {S : Type 0} → Stream S → DeliveryValue → DeliveryValue
+following stream delivery = record { stream = stream.name; first = min (stream.position + 1) greatest; images = delivery.images }
+
+-- what a thread leaves of a stream, by what the source has left: the next messages; or that no whole line is there; or the name, where
+-- a fault stands next
+abbrev pub Leaves : {S : Type 0} → (S → Option (List ℕ)) → Stream S → Note → Stream S → Type 0
+Leaves left old (Taken messages) new = (messages.delivery ≡ following old messages.delivery)
+    × IfSome (left old.source) (λ text. Batch 1 most_messages old.position (old.part ++ text) messages.delivery.images new.fault new.part (left new.source))
+Leaves left old End new = IfSome (left old.source) (λ text. Batch 1 most_messages old.position (old.part ++ text) [] None new.part (left new.source))
+Leaves left old (Fault name) new = (name ≡ old.name)
+    × ((fault : StreamFault) × (old.fault ≡ None → IfSome (left old.source) (λ text. Stands (old.position + 1) (old.part ++ text) fault)))
+
+-- the messages of a note, and the name of a stream with a fault
+abbrev pub messages_of : Note → List DeliveryValue
+messages_of (Taken messages) = messages.delivery ∷ []
+messages_of End = []
+messages_of (Fault name) = []
+
+abbrev pub ends_in : Note → ℕ
+ends_in (Taken messages) = 0
+ends_in End = 1
+ends_in (Fault name) = 0
+
+-- the first fault, where one was found before or stands in the note
+abbrev pub first_fault : Option (List ℕ) → Note → Option (List ℕ)
+first_fault (Some name) note = Some name
+first_fault None (Fault name) = Some name
+first_fault None (Taken messages) = None
+first_fault None End = None

@@ -1,0 +1,200 @@
+//! Streams are read into a live region while sessions over TCP are answered from it.
+
+ghost use Rattle.std.specs.Prelude.{◌≡◌, ◌≢◌, ◌≤◌, ◌++◌, codes, length, vec_len, vec_capacity, IfOk, IfErr, OnOk, OnErr, IsErrOf};
+ghost use Rattle.std.specs.Io.KnownBytes.{Appends, Keeps};
+ghost use Rattle.pn_apply.specs.Limits.{most_workers};
+ghost use Rattle.pn_line.specs.Sent.{AppendsPrefix};
+ghost use Rattle.pn_live.specs.Limits.{most_readers};
+ghost use Rattle.pn_live.specs.LiveRegions.{tablets_in};
+ghost use Rattle.pn_serve.specs.Server.Faults.{of_end};
+ghost use Rattle.pn_serve.specs.Server.Sessions.{AllRead};
+ghost use Rattle.pn_serve.specs.Server.Written.{served_line};
+
+mod bell;
+mod fault;
+mod notes;
+mod place;
+mod rounds;
+mod sessions;
+mod streams;
+
+use crate::Settings;
+use crate::reply::short::served_reply;
+use crate::server::rounds::take_rounds;
+use crate::server::sessions::{Begun, begin_sessions, end_sessions};
+use crate::server::streams::begin_reading;
+pub use fault::ServeFault;
+use pn_join::NoMemory;
+use pn_line::{Sink, Source, WriteFault, write_all_of};
+use pn_live::{LiveReader, LiveRegion, OpenFault};
+use pn_region::Region;
+use pn_stream::StreamReader;
+use pn_tablet::Layout;
+use std::alloc::Global;
+use std::net::TcpListener;
+use std::sync::Wait;
+use std::thread::Threads;
+
+/// Reads the streams into a new live region, each in a thread of its own, in rounds of at most 1,000 messages a stream.
+/// Meanwhile it answers so many sessions, from 1 to 16, each the one connection that its thread accepts. After the last
+/// one it writes `served N`, and how many they were.
+///
+/// A fault of a stream or of a round ends the reading, and the sessions are served to their ends all the same. A session's
+/// own fault ends that session alone. The first fault in the order of `ServeFault` is answered. It waits for its sessions,
+/// and for the streams, but for those that still wait for messages after a fault.
+pub fn serve<R, S, W>(
+    rt: &R,
+    alloc: Global,
+    listener: &TcpListener,
+    settings: Settings,
+    sessions: usize,
+    streams: Vec<StreamReader<S>>,
+    out: &mut W,
+) -> Result<(), ServeFault>
+where
+    R: Threads + Wait + Sync + Copy + Send + 'static,
+    S: Source + Drop + Send + 'static,
+    W: Sink,
+    requires { (1 ≤ sessions) × (sessions ≤ most_readers) }
+    ensures served { OnOk result (Appends (W.contents out.old) (W.contents out.new) (served_line sessions)) }
+    ensures silent { IfErr result (λ fault. fault ≢ ServeFault.Write → Keeps (W.contents out.old) (W.contents out.new)) }
+    ensures part { OnErr result (AppendsPrefix (W.contents out.old) (W.contents out.new) (served_line sessions)) }
+    ensures write { IsErrOf result ServeFault.Write → W.may_fail }
+{
+    serve_region(rt, alloc, listener, settings, sessions, streams)?;
+    write_served(out, sessions)
+}
+
+// The same, but for what is written.
+fn serve_region<R, S>(
+    rt: &R,
+    alloc: Global,
+    listener: &TcpListener,
+    settings: Settings,
+    sessions: usize,
+    streams: Vec<StreamReader<S>>,
+) -> Result<(), ServeFault>
+where
+    R: Threads + Wait + Sync + Copy + Send + 'static,
+    S: Source + Drop + Send + 'static,
+    requires { (1 ≤ sessions) × (sessions ≤ most_readers) }
+    ensures { IfErr result (λ fault. fault ≢ ServeFault.Write) }
+{
+    let Settings { layout, workers } = settings;
+    let Ok((live, readers)) = open(rt, alloc, layout, sessions) else {
+        return Err(ServeFault::Start);
+    };
+    let mut live = live;
+    let mut readers = readers;
+    let served = serve_all(
+        rt,
+        alloc,
+        listener,
+        &mut live,
+        workers,
+        &mut readers,
+        streams,
+    );
+    let closed = close(rt, live, readers, &served, sessions);
+    end(served, closed)
+}
+
+// A new live region with so many readers, which are its own.
+fn open<R: Wait>(
+    rt: &R,
+    alloc: Global,
+    layout: Layout,
+    readers: usize,
+) -> Result<(LiveRegion, Vec<LiveReader>), OpenFault>
+    requires { (1 ≤ readers) × (readers ≤ most_readers) }
+    ensures own { IfOk result (λ opened. AllRead (tablets_in opened.0) opened.1.items) }
+    ensures count { IfOk result (λ opened. vec_len opened.1 ≡ readers) }
+{
+    LiveRegion::open(rt, alloc, layout, readers)
+}
+
+// Closes a live region once the readers of all its sessions came back, unless a session was not begun.
+fn close<R: Wait>(
+    rt: &R,
+    live: LiveRegion,
+    readers: Vec<LiveReader>,
+    served: &Result<(), ServeFault>,
+    sessions: usize,
+) -> Result<Region, NoMemory>
+    requires own { AllRead (tablets_in live) readers.items }
+    requires all { served.now ≢ Err ServeFault.Start → vec_len readers ≡ sessions }
+{
+    let _ = (served, sessions);
+    live.close(rt, readers)
+}
+
+// What went wrong before comes before want of memory at the end.
+fn end(served: Result<(), ServeFault>, closed: Result<Region, NoMemory>) -> Result<(), ServeFault>
+    ensures { result ≡ of_end served closed }
+{
+    served?;
+    match closed {
+        Ok(_) => Ok(()),
+        Err(_) => Err(ServeFault::Close),
+    }
+}
+
+// Reads the streams while the sessions are served, and waits for the sessions, which give their readers back.
+fn serve_all<R, S>(
+    rt: &R,
+    alloc: Global,
+    listener: &TcpListener,
+    live: &mut LiveRegion,
+    workers: usize,
+    readers: &mut Vec<LiveReader>,
+    streams: Vec<StreamReader<S>>,
+) -> Result<(), ServeFault>
+where
+    R: Threads + Wait + Sync + Copy + Send + 'static,
+    S: Source + Drop + Send + 'static,
+    requires workers { (1 ≤ workers) × (workers ≤ most_workers) }
+    requires own { AllRead (tablets_in live.old) readers.old.items }
+    ensures same { tablets_in live.new ≡ tablets_in live.old }
+    ensures own { AllRead (tablets_in live.new) readers.new.items }
+    ensures all { result ≢ Err ServeFault.Start → vec_len readers.new ≡ vec_len readers.old }
+    ensures fault { IfErr result (λ fault. fault ≢ ServeFault.Write) }
+{
+    let Ok(feeds) = begin_reading(rt, alloc, streams) else {
+        return Err(ServeFault::Start);
+    };
+    let Begun {
+        running,
+        is_refused,
+    } = begin_sessions(rt, alloc, listener, readers);
+    let read = if is_refused {
+        Err(ServeFault::Start)
+    } else {
+        take_rounds(rt, alloc, live, workers, &feeds)
+    };
+    feeds.close(rt);
+    end_sessions(rt, running, readers);
+    read
+}
+
+// Writes how many sessions were served.
+fn write_served<W: Sink>(out: &mut W, sessions: usize) -> Result<(), ServeFault>
+    ensures ok { OnOk result (Appends (W.contents out.old) (W.contents out.new) (served_line sessions)) }
+    ensures err { OnErr result (AppendsPrefix (W.contents out.old) (W.contents out.new) (served_line sessions)) }
+    ensures fault { IfErr result (λ fault. (fault ≡ ServeFault.Write) × W.may_fail) }
+{
+    let line = served_reply(sessions);
+    match send_line(out, line.as_bytes()) {
+        Ok(()) => Ok(()),
+        Err(_) => Err(ServeFault::Write),
+    }
+}
+
+// Writes a line, and hands it on.
+fn send_line<W: Sink>(out: &mut W, line: &[u8]) -> Result<(), WriteFault>
+    ensures ok { OnOk result (Appends (W.contents out.old) (W.contents out.new) line.now) }
+    ensures err { OnErr result (AppendsPrefix (W.contents out.old) (W.contents out.new) line.now) }
+    ensures fault { OnErr result W.may_fail }
+{
+    write_all_of(out, line)?;
+    out.hand_on()
+}

@@ -1,0 +1,156 @@
+//! Rounds of what streams left.
+
+ghost use Rattle.std.specs.Prelude.{◌≡◌, ◌+◌, ◌<◌, ◌≤◌, ◌++◌, length, vec_len, vec_capacity, All, IfOk, IfErr};
+ghost use Rattle.pn_apply.specs.Limits.{most_workers};
+ghost use Rattle.pn_live.specs.LiveRegions.{tablets_in};
+ghost use Rattle.pn_serve.specs.Server.Faults.{of_round, IsOfReading};
+ghost use Rattle.pn_serve.specs.Server.Notes.{FitRound, messages_of, ends_in, first_fault};
+
+use crate::ServeFault;
+use crate::server::notes::{Messages, Note};
+use crate::server::streams::Feeds;
+use pn_apply::Open;
+use pn_join::StreamName;
+use pn_live::{Front, LiveRegion};
+use pn_region::{Round, RoundFault};
+use pn_stream::Delivery;
+use std::alloc::{AllocError, Global};
+use std::sync::Wait;
+use std::thread::Threads;
+
+// What streams left for one round.
+#[derive(Drop)]
+struct Gathered {
+    /// Their messages.
+    deliveries: Vec<Delivery>,
+    /// How many are at their ends.
+    ended: usize,
+    /// The first one that has a fault.
+    fault: Option<StreamName>,
+}
+
+/// Takes what the streams leave in rounds, until all are at their ends, or to the first fault.
+pub(crate) fn take_rounds<R: Threads + Wait + Sync>(
+    rt: &R,
+    alloc: Global,
+    live: &mut LiveRegion,
+    workers: usize,
+    feeds: &Feeds,
+) -> Result<(), ServeFault>
+    requires workers { (1 ≤ workers) × (workers ≤ most_workers) }
+    ensures fault { IfErr result IsOfReading }
+    ensures same { tablets_in live.new ≡ tablets_in live.old }
+{
+    let mut reading = feeds.count();
+    for _ in rt.forever() {
+        if reading == 0 {
+            break;
+        }
+        feeds.wait(rt);
+        let ended = take_round(rt, alloc, live, workers, feeds)?;
+        reading = reading.saturating_sub(ended);
+    }
+    Ok(())
+}
+
+// One round of what the streams left. Answers how many streams ended.
+fn take_round<R: Threads + Wait + Sync>(
+    rt: &R,
+    alloc: Global,
+    live: &mut LiveRegion,
+    workers: usize,
+    feeds: &Feeds,
+) -> Result<usize, ServeFault>
+    requires workers { (1 ≤ workers) × (workers ≤ most_workers) }
+    ensures fault { IfErr result IsOfReading }
+    ensures same { tablets_in live.new ≡ tablets_in live.old }
+{
+    let Ok(gathered) = gather(rt, alloc, feeds) else {
+        return Err(ServeFault::Round);
+    };
+    let Gathered {
+        deliveries,
+        ended,
+        fault,
+    } = gathered;
+    let round = take(rt, live, workers, deliveries);
+    outcome(fault, round)?;
+    Ok(ended)
+}
+
+// Takes the note that each stream left, if one did.
+fn gather<R: Wait>(rt: &R, alloc: Global, feeds: &Feeds) -> Result<Gathered, AllocError>
+    ensures fit { IfOk result (λ gathered. All FitRound gathered.deliveries.items) }
+    ensures few { IfOk result (λ gathered. vec_len gathered.deliveries ≤ vec_len feeds.now.places) }
+{
+    let mut gathered = nothing(alloc, feeds.count())?;
+    for stream in 0..feeds.count() {
+        if let Some(note) = feeds.take(rt, stream) {
+            add_note(&mut gathered, note);
+        }
+    }
+    Ok(gathered)
+}
+
+// Nothing, with room for what so many streams leave.
+fn nothing(alloc: Global, streams: usize) -> Result<Gathered, AllocError>
+    ensures none { IfOk result (λ gathered. gathered.deliveries.items ≡ []) }
+    ensures room { IfOk result (λ gathered. vec_capacity gathered.deliveries ≡ streams) }
+    ensures ended { IfOk result (λ gathered. gathered.ended ≡ 0) }
+    ensures fault { IfOk result (λ gathered. gathered.fault ≡ None) }
+{
+    Ok(Gathered {
+        deliveries: Vec::with_capacity(alloc, streams)?,
+        ended: 0,
+        fault: None,
+    })
+}
+
+// Adds what a stream left.
+fn add_note(gathered: &mut Gathered, note: Note)
+    requires room { vec_len gathered.old.deliveries < vec_capacity gathered.old.deliveries }
+    requires few { gathered.old.ended < vec_capacity gathered.old.deliveries }
+    ensures deliveries { gathered.new.deliveries.items ≡ gathered.old.deliveries.items ++ messages_of note }
+    ensures ended { gathered.new.ended ≡ gathered.old.ended + ends_in note }
+    ensures fault { gathered.new.fault ≡ first_fault gathered.old.fault note }
+    ensures fit { All FitRound gathered.old.deliveries.items → All FitRound gathered.new.deliveries.items }
+    ensures capacity { vec_capacity gathered.new.deliveries ≡ vec_capacity gathered.old.deliveries }
+{
+    match note {
+        Note::Taken(Messages { delivery }) => gathered.deliveries.push_reserved(delivery),
+        Note::End => gathered.ended += 1,
+        Note::Fault(name) => {
+            if gathered.fault.is_none() {
+                gathered.fault = Some(name);
+            }
+        }
+    }
+}
+
+// One round of messages, at most 1,000 of each stream.
+fn take<R: Threads + Wait + Sync>(
+    rt: &R,
+    live: &mut LiveRegion,
+    workers: usize,
+    deliveries: Vec<Delivery>,
+) -> Result<(Round, Front), RoundFault>
+    requires workers { (1 ≤ workers) × (workers ≤ most_workers) }
+    requires fit { All FitRound deliveries.items }
+    ensures same { tablets_in live.new ≡ tablets_in live.old }
+{
+    live.round(rt, deliveries, workers, &Open)
+}
+
+// A stream's fault comes before the round's.
+fn outcome(
+    fault: Option<StreamName>,
+    round: Result<(Round, Front), RoundFault>,
+) -> Result<(), ServeFault>
+    ensures { result ≡ of_round fault round }
+{
+    match (fault, round) {
+        (Some(name), _) => Err(ServeFault::Stream(name)),
+        (None, Err(_)) => Err(ServeFault::Round),
+        (None, Ok(_)) => Ok(()),
+    }
+}
