@@ -12,6 +12,7 @@ ghost use Rattle.pn_serve.specs.Server.Written.{served_line};
 
 mod bell;
 mod fault;
+mod messages;
 mod notes;
 mod place;
 mod rounds;
@@ -95,7 +96,7 @@ where
         &mut readers,
         streams,
     );
-    let closed = close(rt, live, readers, &served, sessions);
+    let closed = close(rt, live, readers);
     end(served, closed)
 }
 
@@ -113,18 +114,10 @@ fn open<R: Wait>(
     LiveRegion::open(rt, alloc, layout, readers)
 }
 
-// Closes a live region once the readers of all its sessions came back, unless a session was not begun.
-fn close<R: Wait>(
-    rt: &R,
-    live: LiveRegion,
-    readers: Vec<LiveReader>,
-    served: &Result<(), ServeFault>,
-    sessions: usize,
-) -> Result<Region, NoMemory>
-    requires own { AllRead (tablets_in live) readers.items }
-    requires all { served.now ≢ Err ServeFault.Start → vec_len readers ≡ sessions }
+// Closes a live region, whose readers came back.
+fn close<R: Wait>(rt: &R, live: LiveRegion, readers: Vec<LiveReader>) -> Result<Region, NoMemory>
+    requires { AllRead (tablets_in live) readers.items }
 {
-    let _ = (served, sessions);
     live.close(rt, readers)
 }
 

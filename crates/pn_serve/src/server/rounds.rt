@@ -4,10 +4,12 @@ ghost use Rattle.std.specs.Prelude.{◌≡◌, ◌+◌, ◌<◌, ◌≤◌, ◌+
 ghost use Rattle.pn_apply.specs.Limits.{most_workers};
 ghost use Rattle.pn_live.specs.LiveRegions.{tablets_in};
 ghost use Rattle.pn_serve.specs.Server.Faults.{of_round, IsOfReading};
-ghost use Rattle.pn_serve.specs.Server.Notes.{FitRound, messages_of, ends_in, first_fault};
+ghost use Rattle.pn_serve.specs.Server.Messages.{FitRound};
+ghost use Rattle.pn_serve.specs.Server.Notes.{messages_of, ends_in, first_fault};
 
 use crate::ServeFault;
-use crate::server::notes::{Messages, Note};
+use crate::server::messages::Messages;
+use crate::server::notes::Note;
 use crate::server::streams::Feeds;
 use pn_apply::Open;
 use pn_join::StreamName;
