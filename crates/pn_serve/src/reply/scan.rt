@@ -56,15 +56,22 @@ fn write_rows(writer: &mut Writer, rows: &[Row]) -> Result<(), NoMemory>
     ensures { OnOk result (Appends writer.old writer.new (value_tokens (array (items_of (map row_data rows.now))))) }
 {
     writer.begin_array()?;
-    for some in rows.chunks(ROWS_AT_HAND) {
-        check_escapes(some)?;
-        write_some(writer, some)?;
-    }
+    write_chunks(writer, rows)?;
     writer.end_array()?;
     Ok(())
 }
 
-fn write_some(writer: &mut Writer, rows: &[Row]) -> Result<(), NoMemory>
+fn write_chunks(writer: &mut Writer, rows: &[Row]) -> Result<(), NoMemory>
+    ensures { OnOk result (Appends writer.old writer.new (values_tokens (map row_data rows.now))) }
+{
+    for chunk in rows.chunks(ROWS_AT_HAND) {
+        check_escapes(chunk)?;
+        write_chunk(writer, chunk)?;
+    }
+    Ok(())
+}
+
+fn write_chunk(writer: &mut Writer, rows: &[Row]) -> Result<(), NoMemory>
     ensures { OnOk result (Appends writer.old writer.new (values_tokens (map row_data rows.now))) }
 {
     for row in rows {
