@@ -123,13 +123,24 @@ fn escapes_of(fields: &[(String, Value)]) -> usize {
     room
 }
 
-// The first byte of each cache line has room for its escape, where it may take one.
+// Some bytes of a text have room for their escapes, where they may take them: at least one of each cache line.
 fn escapes_in(text: &str) -> usize {
+    let bytes = text.as_bytes();
+    let ends = escape_at(bytes.first()).wrapping_add(escape_at(bytes.last()));
+    if bytes.len() <= CACHE_LINE {
+        return ends;
+    }
+    ends.wrapping_add(escapes_inside(bytes))
+}
+
+fn escapes_inside(bytes: &[u8]) -> usize {
     let mut room = 0usize;
-    for line in text.as_bytes().chunks(CACHE_LINE) {
-        if line.first().is_some_and(|byte| *byte <= b'"') {
-            room = room.wrapping_add(1);
-        }
+    for line in bytes.chunks(CACHE_LINE) {
+        room = room.wrapping_add(escape_at(line.first()));
     }
     room
+}
+
+fn escape_at(byte: Option<&u8>) -> usize {
+    byte.is_some_and(|byte| *byte <= b'"') as usize
 }
