@@ -1,20 +1,13 @@
 -- What the thread of a stream leaves for a round.
-use Rattle.std.specs.Prelude.{◌≡◌, ℕ, ◌+◌, ◌≤◌, List, [], ◌∷◌, ◌++◌, length, min, Option, Some, None, IfSome}
+use Rattle.std.specs.Prelude.{◌≡◌, ℕ, ◌+◌, List, [], ◌∷◌, ◌++◌, min, Option, Some, None, IfSome}
 use Rattle.pn_record.specs.Limits.{greatest}
 use Rattle.pn_stream.specs.Batches.{Stream, Batch}
 use Rattle.pn_stream.specs.Faults.{Stands}
 use Rattle.pn_stream.specs.Positions.{DeliveryValue}
 use Rattle.pn_stream.specs.declared.fault.StreamFault.{StreamFault}
+use Rattle.pn_serve.specs.Server.Messages.{most_messages}
 use Rattle.pn_serve.specs.declared.server.notes.Note.{Note}
 use Rattle.pn_serve.specs.declared.server.notes.Note.TheVariants.{Taken, End, Fault}
-
--- the most messages of a stream in one round
-abbrev pub most_messages : ℕ
-most_messages = 1000
-
--- messages of a stream for one round: some, and not too many
-abbrev pub FitRound : DeliveryValue → Type 0
-FitRound delivery = (1 ≤ length delivery.images) × (length delivery.images ≤ most_messages)
 
 -- the messages behind the last position are those of this delivery
 abbrev pub following : {S : Type 0} → Stream S → DeliveryValue → DeliveryValue

@@ -1,21 +1,12 @@
 //! What the thread of a stream leaves for a round: messages, that the stream is at its end, or that it has a fault.
 
-ghost use Rattle.std.specs.Prelude.{◌≡◌, ◌≤◌, ◌↔◌, length, IsTrue, IsOk, IfOk};
-ghost use Rattle.pn_serve.specs.Server.Notes.{FitRound, Leaves, ends_in};
+ghost use Rattle.std.specs.Prelude.{◌≡◌};
+ghost use Rattle.pn_serve.specs.Server.Notes.{Leaves};
 
+use crate::server::messages::{MOST_MESSAGES, Messages};
 use pn_join::{Dup, StreamName};
 use pn_line::Source;
-use pn_stream::{Delivery, StreamReader};
-
-/// The most messages of a stream that are taken in one round.
-pub(crate) const MOST_MESSAGES: usize = 1_000;
-
-/// Messages of a stream for one round: from 1 to 1,000.
-#[derive(Drop)]
-pub(crate) struct Messages {
-    pub(crate) delivery: Delivery,
-    pub(crate) ghost fit: { (1 ≤ length delivery.images) × (length delivery.images ≤ 1000) },
-}
+use pn_stream::StreamReader;
 
 /// What the thread of a stream leaves for the next round.
 #[derive(Drop)]

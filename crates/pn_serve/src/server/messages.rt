@@ -1,0 +1,15 @@
+//! Messages of a stream for one round.
+
+ghost use Rattle.pn_serve.specs.Server.Messages.{FitRound};
+
+use pn_stream::Delivery;
+
+/// The most messages of a stream that are taken in one round.
+pub(crate) const MOST_MESSAGES: usize = 1_000;
+
+/// Messages of a stream for one round: from 1 to 1,000.
+#[derive(Drop)]
+pub(crate) struct Messages {
+    pub(crate) delivery: Delivery,
+    pub(crate) ghost fit: { FitRound delivery },
+}
