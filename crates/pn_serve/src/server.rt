@@ -1,6 +1,6 @@
 //! Streams are read into a live region while sessions over TCP are answered from it.
 
-ghost use Rattle.std.specs.Prelude.{◌≡◌, ◌≢◌, ◌≤◌, ◌++◌, codes, length, vec_len, vec_capacity, IfOk, IfErr, OnOk, OnErr, IsErrOf};
+ghost use Rattle.std.specs.Prelude.{◌≡◌, ◌≢◌, ◌≤◌, vec_len, vec_capacity, Err, IfOk, IfErr, OnOk, OnErr, IsErrOf, IsTrue};
 ghost use Rattle.std.specs.Io.KnownBytes.{Appends, Keeps};
 ghost use Rattle.pn_apply.specs.Limits.{most_workers};
 ghost use Rattle.pn_line.specs.Sent.{AppendsPrefix};
@@ -23,7 +23,7 @@ use crate::Settings;
 use crate::reply::short::served_reply;
 use crate::server::rounds::take_rounds;
 use crate::server::sessions::{Begun, begin_sessions, end_sessions};
-use crate::server::streams::begin_reading;
+use crate::server::streams::{Feeds, begin_reading};
 pub use fault::ServeFault;
 use pn_join::NoMemory;
 use pn_line::{Sink, Source, WriteFault, write_all_of};
@@ -59,11 +59,13 @@ where
     requires { (1 ≤ sessions) × (sessions ≤ most_readers) }
     ensures served { OnOk result (Appends (W.contents out.old) (W.contents out.new) (served_line sessions)) }
     ensures silent { IfErr result (λ fault. fault ≢ ServeFault.Write → Keeps (W.contents out.old) (W.contents out.new)) }
-    ensures part { OnErr result (AppendsPrefix (W.contents out.old) (W.contents out.new) (served_line sessions)) }
+    ensures part { IsErrOf result ServeFault.Write → AppendsPrefix (W.contents out.old) (W.contents out.new) (served_line sessions) }
     ensures write { IsErrOf result ServeFault.Write → W.may_fail }
 {
-    serve_region(rt, alloc, listener, settings, sessions, streams)?;
-    write_served(out, sessions)
+    match serve_region(rt, alloc, listener, settings, sessions, streams) {
+        Ok(()) => write_served(out, sessions),
+        Err(fault) => Err(fault),
+    }
 }
 
 // The same, but for what is written.
@@ -123,12 +125,13 @@ fn close<R: Wait>(rt: &R, live: LiveRegion, readers: Vec<LiveReader>) -> Result<
 
 // What went wrong before comes before want of memory at the end.
 fn end(served: Result<(), ServeFault>, closed: Result<Region, NoMemory>) -> Result<(), ServeFault>
-    ensures { result ≡ of_end served closed }
+    ensures first { result ≡ of_end served closed }
+    ensures fault { IfErr served (λ fault. fault ≢ ServeFault.Write) → IfErr result (λ fault. fault ≢ ServeFault.Write) }
 {
-    served?;
-    match closed {
-        Ok(_) => Ok(()),
-        Err(_) => Err(ServeFault::Close),
+    match (served, closed) {
+        (Err(fault), _) => Err(fault),
+        (Ok(()), Err(_)) => Err(ServeFault::Close),
+        (Ok(()), Ok(_)) => Ok(()),
     }
 }
 
@@ -158,15 +161,31 @@ where
     let Begun {
         running,
         is_refused,
-    } = begin_sessions(rt, alloc, listener, readers);
-    let read = if is_refused {
-        Err(ServeFault::Start)
-    } else {
-        take_rounds(rt, alloc, live, workers, &feeds)
-    };
+    } = begin_sessions(rt, alloc, listener, live, readers);
+    let read = take_all(rt, alloc, live, workers, &feeds, is_refused);
     feeds.close(rt);
-    end_sessions(rt, running, readers);
+    end_sessions(rt, live, running, readers);
     read
+}
+
+// Takes what the streams leave, unless a session was refused.
+fn take_all<R: Threads + Wait + Sync>(
+    rt: &R,
+    alloc: Global,
+    live: &mut LiveRegion,
+    workers: usize,
+    feeds: &Feeds,
+    is_refused: bool,
+) -> Result<(), ServeFault>
+    requires workers { (1 ≤ workers) × (workers ≤ most_workers) }
+    ensures refused { IsTrue is_refused → result ≡ Err ServeFault.Start }
+    ensures fault { IfErr result (λ fault. fault ≢ ServeFault.Write) }
+    ensures same { tablets_in live.new ≡ tablets_in live.old }
+{
+    if is_refused {
+        return Err(ServeFault::Start);
+    }
+    take_rounds(rt, alloc, live, workers, feeds)
 }
 
 // Writes how many sessions were served.

@@ -1,6 +1,6 @@
 //! Rounds of what streams left.
 
-ghost use Rattle.std.specs.Prelude.{◌≡◌, ◌+◌, ◌<◌, ◌≤◌, ◌++◌, length, vec_len, vec_capacity, All, IfOk, IfErr};
+ghost use Rattle.std.specs.Prelude.{◌≡◌, ◌+◌, ◌<◌, ◌≤◌, [], ◌++◌, length, vec_len, vec_capacity, All, IfOk, IfErr};
 ghost use Rattle.pn_apply.specs.Limits.{most_workers};
 ghost use Rattle.pn_live.specs.LiveRegions.{tablets_in};
 ghost use Rattle.pn_serve.specs.Server.Faults.{of_round, IsOfReading};
@@ -148,7 +148,8 @@ fn outcome(
     fault: Option<StreamName>,
     round: Result<(Round, Front), RoundFault>,
 ) -> Result<(), ServeFault>
-    ensures { result ≡ of_round fault round }
+    ensures first { result ≡ of_round fault round }
+    ensures reading { IfErr result IsOfReading }
 {
     match (fault, round) {
         (Some(name), _) => Err(ServeFault::Stream(name)),

@@ -1,11 +1,12 @@
 //! Sessions over TCP, each in a thread of its own, with a reader that comes back.
 
-ghost use Rattle.std.specs.Prelude.{◌≡◌, ◌+◌, ◌≤◌, [], length, vec_len, vec_capacity, map, All, IfOk, IsFalse};
-ghost use Rattle.pn_live.specs.Readers.{Tablets, tablets_of};
+ghost use Rattle.std.specs.Prelude.{◌≡◌, ◌+◌, ◌≤◌, [], length, vec_len, vec_capacity, All, IfOk, IsFalse};
+ghost use Rattle.pn_live.specs.LiveRegions.{tablets_in};
+ghost use Rattle.pn_live.specs.Readers.{tablets_of};
 ghost use Rattle.pn_serve.specs.Server.Sessions.{AllRead};
 
 use crate::session;
-use pn_live::LiveReader;
+use pn_live::{LiveReader, LiveRegion};
 use std::alloc::Global;
 use std::io::BufReader;
 use std::net::TcpListener;
@@ -37,17 +38,17 @@ pub(crate) struct Begun {
     pub(crate) is_refused: bool,
 }
 
-/// Begins a session for each of the readers, until one is refused, which drops its reader.
+/// Begins a session for each of these readers of a live region, until one is refused, which drops its reader.
 pub(crate) fn begin_sessions<R: Threads>(
     rt: &R,
     alloc: Global,
     listener: &TcpListener,
+    live: &LiveRegion,
     readers: &mut Vec<LiveReader>,
 ) -> Begun
-    ghost tablets: { Tablets }
-    requires { AllRead tablets readers.old.items }
-    ensures running { AllRead tablets (map (λ session. session.promise.0.value) result.running.items) }
-    ensures readers { AllRead tablets readers.new.items }
+    requires { AllRead (tablets_in live.now) readers.old.items }
+    ensures running { All (λ session. tablets_of session.promise.0.value ≡ tablets_in live.now) result.running.items }
+    ensures readers { AllRead (tablets_in live.now) readers.new.items }
     ensures all { IsFalse result.is_refused → (vec_len result.running ≡ vec_len readers.old) × (readers.new.items ≡ []) }
     ensures room { vec_len result.running + vec_len readers.new ≤ vec_capacity readers.new }
 {
@@ -104,16 +105,21 @@ fn answer_client(alloc: Global, listener: &TcpListener, reader: &mut LiveReader)
     Ok(())
 }
 
-/// Waits for the sessions, and puts their readers back.
-pub(crate) fn end_sessions<R: Threads>(rt: &R, running: Vec<Running>, readers: &mut Vec<LiveReader>)
-    ghost tablets: { Tablets }
-    requires running { AllRead tablets (map (λ session. session.promise.0.value) running.items) }
-    requires readers { AllRead tablets readers.old.items }
+/// Waits for the sessions, and puts their readers back to those of the live region.
+pub(crate) fn end_sessions<R: Threads>(
+    rt: &R,
+    live: &LiveRegion,
+    running: Vec<Running>,
+    readers: &mut Vec<LiveReader>,
+)
+    requires running { All (λ session. tablets_of session.promise.0.value ≡ tablets_in live.now) running.items }
+    requires readers { AllRead (tablets_in live.now) readers.old.items }
     requires room { vec_len running + vec_len readers.old ≤ vec_capacity readers.old }
-    ensures readers { AllRead tablets readers.new.items }
+    ensures readers { AllRead (tablets_in live.now) readers.new.items }
     ensures all { vec_len readers.new ≡ vec_len readers.old + vec_len running }
 {
-    for session in running {
+    let mut running = running;
+    while let Some(session) = running.pop() {
         readers.push_reserved(session.join(rt));
     }
 }

@@ -1,11 +1,11 @@
 -- What was served before a line is served behind it.
-use Rattle.std.proofs.Common.{◌+◌, Ok, ap, ◌∙◌}
+use Rattle.std.proofs.Common.{◌+◌, Ok, ap, refl, ◌∙◌}
 use Rattle.pn_serve.specs.declared.script.turns.Next.{Next}
 use Rattle.pn_serve.proofs.Stopping.{Handed_on}
 use Rattle.pn_serve.proofs.script.answer_all.Goals as goal
 
 pub turns-init : goal.turns-init
-turns-init g c = record { turns = c.requires.none; served = λ start served. served }
+turns-init g c = record { turns = c.requires.none; served = λ start served. served; same = refl }
 
 pub returns-in_err-turn-clause-ends : goal.returns-in_err-turn-clause-ends
 returns-in_err-turn-clause-ends g c = λ start served.
@@ -22,6 +22,7 @@ turns-preserved g c = record {
   served = λ start served.
       let turned = c.in_ok-turn.ensures.turns start (c.turns.invariant.served start served) in
       rw c.in-Line.is at turned;
+  same = c.in_ok-turn.ensures.same ∙ c.turns.invariant.same;
 }
 
 pub returns-clause-ends : goal.returns-clause-ends
