@@ -44,13 +44,15 @@ build: toolchain
 bench: build
 	@cd crates/pn_bench && rt run < stdin > /dev/null
 	@bench/run "$(PROGRAM)" "$(STEPS)"
+	@bench/sessions "$(PROGRAM)"
 
-# Brings the built program to each of its ends, refuses each of its allocations in turn, and compares its replies to random
-# scripts with those of a plain, slow program.
+# Brings the built program to each of its ends, talks to its sessions, refuses each of its allocations in turn, and compares its
+# replies to random scripts with those of a plain, slow program.
 checks: build
 	@cd crates/pn_bench && rt run < stdin > /dev/null
 	@cd crates/test_rows && rt run < stdin > /dev/null
 	@checks/exit-statuses "$(PROGRAM)"
+	@checks/sessions "$(PROGRAM)"
 	@checks/out-of-memory "$(PROGRAM)" "$(STEPS)"
 	@checks/random-scripts "$(SCRIPTS)" --scripts 3000
 

@@ -15,7 +15,7 @@ use std::sync::Wait;
 use std::thread::Threads;
 
 /// How many bytes of a stream are read at a time.
-const STREAM_ROOM: usize = 262_144;
+const STREAM_ROOM: usize = 1_048_576;
 
 /// The most sessions that can be planned.
 const MOST_SESSIONS: usize = 16;

@@ -30,7 +30,8 @@ const LINES: &str = "{\"do\":\"read\",\"key\":\"k\"}
 
 {\"do\":\"read\",\"key\":\"z\"}";
 
-const REPLIES: &str = "{\"row\":{\"contents\":[{\"fields\":{\"v\":\"x\"},\"master\":\"w\"}],\"key\":\"k\",\"state\":\"one\",\"version\":[1,5]}}
+const REPLIES: &str =
+    "{\"row\":{\"contents\":[{\"fields\":{\"v\":\"x\"},\"master\":\"w\"}],\"key\":\"k\",\"state\":\"one\",\"version\":[1,5]}}
 {\"error\":\"behind\",\"has\":[1,5]}
 {\"row\":{\"contents\":[{\"fields\":{\"v\":\"x\"},\"master\":\"w\"}],\"key\":\"k\",\"state\":\"one\",\"version\":[1,5]}}
 {\"rows\":[{\"contents\":[{\"fields\":{\"v\":\"x\"},\"master\":\"w\"}],\"key\":\"k\",\"state\":\"one\",\"version\":[1,5]},null]}

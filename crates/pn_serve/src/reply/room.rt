@@ -1,8 +1,10 @@
 //! How much room rows take in a line, by the sizes of their texts. It is a guess, and no promise rests on it.
 //!
 //! It is made before anything is written, so that the line takes its memory once, and reads a byte of each cache line of the
-//! names and texts, so that they come from memory several at a time and are at hand when they are written.
+//! names and texts, so that they are at hand when they are written. All cells are read first, then all fields, then all texts:
+//! where the pieces of a step lie is known before it begins, so they come from memory several at a time.
 
+use pn_join::NoMemory;
 use pn_record::{Body, Cell, Content, Key, Value};
 use pn_scan::Row;
 
@@ -18,69 +20,127 @@ const OF_FIELD: usize = 6;
 /// How many bytes come from memory at once.
 const CACHE_LINE: usize = 64;
 
+/// What is read of records in one step.
+#[derive(Clone, Copy)]
+enum Step {
+    /// The contents, for how many fields they have.
+    Contents,
+    /// The fields, for the lengths of their names and texts.
+    Fields,
+    /// The names and texts, for the escapes that they take.
+    Texts,
+}
+
 /// The room of the rows of those keys that have a record, in bytes.
 pub(crate) fn room_of_found(keys: &[Key], cells: &[Option<Cell>]) -> usize {
+    let room = room_of_keys(keys).wrapping_add(step_of_found(cells, Step::Contents));
+    let room = room.wrapping_add(step_of_found(cells, Step::Fields));
+    room.wrapping_add(step_of_found(cells, Step::Texts))
+}
+
+fn room_of_keys(keys: &[Key]) -> usize {
     let mut room = OF_ROW;
-    for (key, cell) in keys.iter().zip(cells) {
-        room = room.wrapping_add(room_of_row_or_null(key, cell.as_ref()));
+    for key in keys {
+        room = room.wrapping_add(room_of_key(key));
     }
     room
 }
 
-/// The room of rows, in bytes.
+fn step_of_found(cells: &[Option<Cell>], step: Step) -> usize {
+    let mut room = 0usize;
+    for cell in cells {
+        room = room.wrapping_add(step_of_cell(cell.as_ref(), step));
+    }
+    room
+}
+
+/// The room of rows beside their escapes, in bytes.
 pub(crate) fn room_of_rows(rows: &[Row]) -> usize {
-    let mut room = OF_ROW;
+    let room = step_of_rows(rows, Step::Contents).wrapping_add(OF_ROW);
+    room.wrapping_add(step_of_rows(rows, Step::Fields))
+}
+
+/// Whether the escapes of rows have room in memory. They always have, and what this is for is that their texts are at hand.
+pub(crate) fn check_escapes(rows: &[Row]) -> Result<(), NoMemory> {
+    if step_of_rows(rows, Step::Texts) > isize::MAX as usize {
+        return Err(NoMemory);
+    }
+    Ok(())
+}
+
+fn step_of_rows(rows: &[Row], step: Step) -> usize {
+    let mut room = 0usize;
     for row in rows {
-        room = room.wrapping_add(room_of_row(&row.key, &row.cell));
+        room = room.wrapping_add(room_of_key(&row.key));
+        room = room.wrapping_add(step_of_cell(Some(&row.cell), step));
     }
     room
 }
 
 /// The room of the row of a record, if there is one, in bytes.
 pub(crate) fn room_of_row_or_null(key: &Key, cell: Option<&Cell>) -> usize {
-    match cell {
-        Some(cell) => room_of_row(key, cell),
-        None => OF_ROW,
-    }
+    let room = room_of_key(key).wrapping_add(step_of_cell(cell, Step::Fields));
+    room.wrapping_add(step_of_cell(cell, Step::Texts))
 }
 
-fn room_of_row(key: &Key, cell: &Cell) -> usize {
-    let mut room = key.as_str().len().wrapping_add(OF_ROW);
-    for content in cell.contents() {
-        room = room.wrapping_add(room_of_content(content));
-    }
-    room
+fn room_of_key(key: &Key) -> usize {
+    key.as_str().len().wrapping_add(OF_ROW)
 }
 
-fn room_of_content(content: &Content) -> usize {
-    match &content.body {
-        Body::Deleted => OF_CONTENT,
-        Body::Fields(fields) => room_of_fields(fields),
-    }
-}
-
-fn room_of_fields(fields: &[(String, Value)]) -> usize {
-    let mut room = OF_CONTENT;
-    for field in fields {
-        room = room.wrapping_add(room_of_field(field));
-    }
-    room
-}
-
-fn room_of_field(field: &(String, Value)) -> usize {
-    let name = room_of_text(field.0.as_str()).wrapping_add(OF_FIELD);
-    match &field.1 {
-        Value::Text(text) => room_of_text(text.as_str()).wrapping_add(name),
-    }
-}
-
-// The first byte of each cache line has room for its escape, where it may take one.
-fn room_of_text(text: &str) -> usize {
-    let mut room = text.len();
-    for line in text.as_bytes().chunks(CACHE_LINE) {
-        if line.first().is_some_and(|byte| *byte <= b'"') {
-            room = room.wrapping_add(1);
+fn step_of_cell(cell: Option<&Cell>, step: Step) -> usize {
+    let mut room = 0usize;
+    if let Some(cell) = cell {
+        for content in cell.contents() {
+            room = room.wrapping_add(step_of_content(content, step));
         }
     }
     room
+}
+
+fn step_of_content(content: &Content, step: Step) -> usize {
+    match (&content.body, step) {
+        (Body::Deleted, _) => OF_CONTENT,
+        (Body::Fields(fields), Step::Contents) => fields.len().wrapping_mul(OF_FIELD),
+        (Body::Fields(fields), Step::Fields) => lengths_of(fields),
+        (Body::Fields(fields), Step::Texts) => escapes_of(fields),
+    }
+}
+
+fn lengths_of(fields: &[(String, Value)]) -> usize {
+    let mut room = OF_CONTENT;
+    for (name, Value::Text(text)) in fields {
+        room = room.wrapping_add(name.len()).wrapping_add(text.len());
+    }
+    room
+}
+
+fn escapes_of(fields: &[(String, Value)]) -> usize {
+    let mut room = 0usize;
+    for (name, Value::Text(text)) in fields {
+        room = room.wrapping_add(escapes_in(name.as_str()));
+        room = room.wrapping_add(escapes_in(text.as_str()));
+    }
+    room
+}
+
+// Some bytes of a text have room for their escapes, where they may take them: at least one of each cache line.
+fn escapes_in(text: &str) -> usize {
+    let bytes = text.as_bytes();
+    let ends = escape_at(bytes.first()).wrapping_add(escape_at(bytes.last()));
+    if bytes.len() <= CACHE_LINE {
+        return ends;
+    }
+    ends.wrapping_add(escapes_inside(bytes))
+}
+
+fn escapes_inside(bytes: &[u8]) -> usize {
+    let mut room = 0usize;
+    for line in bytes.chunks(CACHE_LINE) {
+        room = room.wrapping_add(escape_at(line.first()));
+    }
+    room
+}
+
+fn escape_at(byte: Option<&u8>) -> usize {
+    byte.is_some_and(|byte| *byte <= b'"') as usize
 }

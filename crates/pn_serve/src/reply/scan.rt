@@ -5,17 +5,20 @@ ghost use Rattle.std.specs.Option.{option_copied};
 ghost use Rattle.serde_json.specs.Data.{array};
 ghost use Rattle.serde_json.specs.View.{items_of};
 ghost use Rattle.pn_json.specs.Lines.{line_of};
-ghost use Rattle.pn_json.specs.Tokens.{Appends, value_tokens};
+ghost use Rattle.pn_json.specs.Tokens.{Appends, value_tokens, values_tokens};
 ghost use Rattle.pn_serve.specs.Reply.Rows.{row_data};
 ghost use Rattle.pn_serve.specs.Reply.Scan.{next_data, scan_data};
 
-use crate::reply::room::room_of_rows;
+use crate::reply::room::{check_escapes, room_of_rows};
 use crate::reply::rows::{begin_rows, write_row};
 use json::Writer;
 use pn_join::NoMemory;
 use pn_json::finish_line;
 use pn_scan::{Page, Query, Row, write_query};
 use std::alloc::Global;
+
+/// How many rows are brought to hand before they are written.
+const ROWS_AT_HAND: usize = 32;
 
 /// The reply to a scan, one line: `{"next":Q,"rows":[..]}` with the rows of the page, and the query for what
 /// is still to come, or null. It is built whole; on an error nothing of it stands.
@@ -53,10 +56,27 @@ fn write_rows(writer: &mut Writer, rows: &[Row]) -> Result<(), NoMemory>
     ensures { OnOk result (Appends writer.old writer.new (value_tokens (array (items_of (map row_data rows.now))))) }
 {
     writer.begin_array()?;
+    write_chunks(writer, rows)?;
+    writer.end_array()?;
+    Ok(())
+}
+
+fn write_chunks(writer: &mut Writer, rows: &[Row]) -> Result<(), NoMemory>
+    ensures { OnOk result (Appends writer.old writer.new (values_tokens (map row_data rows.now))) }
+{
+    for chunk in rows.chunks(ROWS_AT_HAND) {
+        check_escapes(chunk)?;
+        write_chunk(writer, chunk)?;
+    }
+    Ok(())
+}
+
+fn write_chunk(writer: &mut Writer, rows: &[Row]) -> Result<(), NoMemory>
+    ensures { OnOk result (Appends writer.old writer.new (values_tokens (map row_data rows.now))) }
+{
     for row in rows {
         write_shown(writer, row)?;
     }
-    writer.end_array()?;
     Ok(())
 }
 
