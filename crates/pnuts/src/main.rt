@@ -24,12 +24,14 @@ fn main(rt: HostRuntime) -> ExitCode {
     };
     match plan(rt.alloc(), &words) {
         Ok(Plan::Replay(settings)) => replay(&rt, settings),
-        Ok(Plan::Serve {
-            settings,
-            sessions,
-            port,
-            streams,
-        }) => serve_streams(
+        Ok(
+            Plan::Serve {
+                settings,
+                sessions,
+                port,
+                streams,
+            },
+        ) => serve_streams(
             &rt,
             Wanted {
                 settings,

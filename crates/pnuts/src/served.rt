@@ -1,5 +1,7 @@
 //! Streams from files, served to sessions over TCP.
 
+ghost use Rattle.std.specs.Prelude.{◌≡◌, vec_len, IfOk};
+
 use crate::{fail, fail_about};
 use pn_join::Name;
 use pn_serve::{ServeFault, Settings, serve};
@@ -54,7 +56,8 @@ where
     } = wanted;
     let streams = match opened(rt, rt.alloc(), streams) {
         Ok(streams) => streams,
-        Err(name) => return fail_about(rt, "cannot open ", name.as_str(), ""),
+        Err(Unopened::File(name)) => return fail_about(rt, "cannot open ", name.as_str(), ""),
+        Err(Unopened::Memory) => return fail(rt, "memory"),
     };
     let Ok(listener) = listen(rt, port) else {
         return fail(rt, "cannot listen");
@@ -77,23 +80,45 @@ where
     }
 }
 
-// Opens the files of the streams, or answers the name of the first one that does not open.
+// Why the streams were not opened.
+#[derive(Drop)]
+enum Unopened {
+    /// The file of the stream of this name does not open.
+    File(Name),
+    Memory,
+}
+
+// Opens the files of the streams, each in its turn.
 fn opened<R: Files<File = File>>(
     rt: &R,
     alloc: Global,
     streams: Vec<(Name, String)>,
-) -> Result<Vec<Stream>, Name> {
+) -> Result<Vec<Stream>, Unopened>
+    ensures { IfOk result (λ opened. vec_len opened ≡ vec_len streams) }
+{
     let mut opened = Vec::new(alloc);
     for (name, path) in streams {
-        let Ok(file) = File::open(rt, path.as_str()) else {
-            return Err(name);
-        };
-        let Ok(source) = BufReader::with_capacity(alloc, STREAM_ROOM, file) else {
-            return Err(name);
-        };
-        let _ = opened.push(StreamReader::new(alloc, name, 0, source));
+        let stream = open_one(rt, alloc, name, path.as_str())?;
+        if opened.push(stream).is_err() {
+            return Err(Unopened::Memory);
+        }
     }
     Ok(opened)
+}
+
+fn open_one<R: Files<File = File>>(
+    rt: &R,
+    alloc: Global,
+    name: Name,
+    path: &str,
+) -> Result<Stream, Unopened> {
+    let Ok(file) = File::open(rt, path) else {
+        return Err(Unopened::File(name));
+    };
+    let Ok(source) = BufReader::with_capacity(alloc, STREAM_ROOM, file) else {
+        return Err(Unopened::Memory);
+    };
+    Ok(StreamReader::new(alloc, name, 0, source))
 }
 
 fn listen<R: Net<Listener = TcpListener, Stream = TcpStream>>(
