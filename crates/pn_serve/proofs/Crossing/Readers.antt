@@ -1,24 +1,43 @@
 -- Readers of live regions may go to another thread.
-use denote.Param.Send.{IsSend, IsSync, sendable}
-use Rattle.std.proofs.Crossing.{crosses}
+use denote.Param.Send.{IsSend, IsSync, sendable, view_send}
+use denote.Param.SendFields.{declared_send}
+use denote.Struct.Record.{declared}
+use Rattle.std.proofs.Crossing.{crosses, Vec-send}
+use Rattle.std.specs.contracts.alloc.Global as global
 use Rattle.left_right.proofs.part.Part.TheSendSync as part
 use Rattle.atomic_table.proofs.shared.Seat.TheSendSync as spot
 use Rattle.atomic_table.proofs.shared.Shared.TheSendSync as shared
 use Rattle.atomic_table.proofs.send_lease.SendLease.TheSendSync as lease
 use Rattle.logbook.proofs.tokens.Seen.TheSendSync as seen
-use Rattle.pn_serve.proofs.Crossing.Records.{state_send, state_sync, key_send}
+use Rattle.pn_serve.proofs.Crossing.Records.{state_sync, key_send}
 use Rattle.pn_live.specs.contracts.shown.Shown as shown
 use Rattle.pn_live.specs.contracts.seat.Seat as seat
+use Rattle.pn_tablet.specs.contracts.layout.Layout as layout
+use Rattle.pn_live.specs.contracts.window.Window as window
+use Rattle.pn_live.specs.contracts.window.Window.TheInside as window_inside
 use Rattle.pn_live.specs.contracts.reader.LiveReader as reader
-
-shown_send : IsSend shown.the_row
-shown_send = search (sendable, crosses, state_send, seen.the_send) depth 40 fits 20000
+use Rattle.pn_live.specs.contracts.reader.LiveReader.TheInside as reader_inside
 
 shown_sync : IsSync shown.the_row
 shown_sync = search (sendable, crosses, state_sync, seen.the_sync) depth 40 fits 20000
 
 seat_send : IsSend seat.the_row
-seat_send = search (sendable, crosses, shown_send, shown_sync, seen.the_send, part.the_send, spot.the_send, shared.the_send, shared.the_sync, lease.the_send, lease.the_sync) depth 40 fits 20000
+seat_send = search (sendable, crosses, shown_sync, seen.the_send, part.the_send, spot.the_send, shared.the_send, shared.the_sync, lease.the_send, lease.the_sync) depth 40 fits 20000
+
+layout_send : IsSend layout.the_row
+layout_send = search (sendable, crosses, key_send) depth 40
+
+window_inside_send : IsSend window_inside.the_row
+window_inside_send = declared_send (declared window_inside.struct window_inside.the_propositions) (seat_send, tt)
+
+window_send : IsSend window.the_row
+window_send = view_send _ _ _ _ _ window_inside_send
+
+global_send : IsSend global.the_row
+global_send = search (sendable, crosses) depth 40
+
+reader_inside_send : IsSend reader_inside.the_row
+reader_inside_send = declared_send (declared reader_inside.struct reader_inside.the_propositions) (layout_send, (Vec-send _ window_send, (global_send, tt)))
 
 pub reader_send : IsSend reader.the_row
-reader_send = search (sendable, crosses, seat_send, key_send) depth 40 fits 20000
+reader_send = view_send _ _ _ _ _ reader_inside_send
