@@ -2,5 +2,5 @@
 use Rattle.std.proofs.Common.{◌≡◌, vec_len, length}
 use Rattle.pnuts.proofs.served.opened.Given as goal
 
-abbrev pub invariant-loop : goal.invariant-loop
-invariant-loop l = vec_len l.opened ≡ length l.yielded
+abbrev pub invariant-loop-name : goal.invariant-loop-name
+invariant-loop-name g l = vec_len l.opened ≡ length l.yielded
