@@ -1,15 +1,21 @@
 //! The worked row of live reads in a session, and lines that a session refuses.
 
+ghost use Rattle.std.specs.Prelude.{◌≡◌, All};
+ghost use Rattle.pn_live.specs.LiveRegions.{IsReaderIn, tablets_in};
+
 use pn_apply::Open;
 use pn_join::Name;
 use pn_line::InMemory;
-use pn_live::LiveRegion;
+use pn_live::{LiveReader, LiveRegion};
 use pn_record::read_image;
-use pn_serve::session;
+use pn_serve::{Counts, session};
 use pn_stream::Delivery;
 use std::alloc::Global;
+use std::sync::Wait;
 use std::test::Fail;
+use std::thread::Threads;
 use test_given::layout;
+use test_given_live::{closed, hand_back, opened, take_out};
 
 const IMAGE: &str = "{\"fields\":{\"v\":\"x\"},\"key\":\"k\",\"master\":\"w\",\"version\":[1,5]}";
 
@@ -63,23 +69,67 @@ fn given(alloc: Global) -> Result<Vec<Delivery>, Fail> {
     Ok(given)
 }
 
+// How many records a round changes.
+fn changed<R: Threads + Wait + Sync>(
+    rt: &R,
+    live: &mut LiveRegion,
+    given: Vec<Delivery>,
+) -> Option<u64>
+    ensures { tablets_in live.new ≡ tablets_in live.old }
+{
+    let (round, _front) = live.round(rt, given, 1, &Open).ok()?;
+    Some(round.changed)
+}
+
+// Answers the lines by a reader of a live region.
+fn answered(
+    alloc: Global,
+    live: &LiveRegion,
+    readers: &mut Vec<LiveReader>,
+    written: &mut Vec<u8>,
+) -> Option<Counts>
+    requires { All (IsReaderIn live.now) readers.old.items }
+    ensures { All (IsReaderIn live.now) readers.new.items }
+{
+    let mut reader = take_out(live, readers)?;
+    let mut input = InMemory::new(LINES.as_bytes());
+    let counts = session(alloc, &mut reader, &mut input, written).ok();
+    hand_back(live, readers, reader);
+    counts
+}
+
+// How many records a round changes, and how lines are answered behind it.
+fn answered_behind<R: Threads + Wait + Sync>(
+    rt: &R,
+    alloc: Global,
+    live: &mut LiveRegion,
+    readers: &mut Vec<LiveReader>,
+    given: Vec<Delivery>,
+    written: &mut Vec<u8>,
+) -> (Option<u64>, Option<Counts>)
+    requires { All (IsReaderIn live.old) readers.old.items }
+    ensures { All (IsReaderIn live.new) readers.new.items }
+{
+    let changed = changed(rt, live, given);
+    (changed, answered(alloc, live, readers, written))
+}
+
 #[test]
 fn a_session_answers_lookups_alone(rt: HostRuntime) -> Result<(), Fail> {
     let alloc = rt.alloc();
     let given = given(alloc)?;
     let mut written = Vec::new(alloc);
-    let mut input = InMemory::new(LINES.as_bytes());
-    let (mut live, mut readers) = LiveRegion::open(&rt, alloc, layout(alloc, &[])?, 1)?;
-    let mut changed = 0;
-    if let Ok((round, _front)) = live.round(&rt, given, 1, &Open) {
-        changed = round.changed;
-    }
-    let mut counts = None;
-    if let Some(reader) = readers.first_mut() {
-        counts = session(alloc, reader, &mut input, &mut written).ok();
-    }
-    live.close(&rt, readers)?;
-    assert_eq!(rt; changed, 1);
+    let (mut live, mut readers) = opened(&rt, alloc, layout(alloc, &[])?, 1)?;
+    let (changed, counts) = answered_behind(
+        &rt,
+        alloc,
+        &mut live,
+        &mut readers,
+        given,
+        &mut written,
+    );
+    closed(&rt, live, readers)?;
+    assert_eq!(rt; changed, Some(1));
     assert_eq!(rt; written.as_slice(), REPLIES.as_bytes());
     let Some(counts) = counts else {
         return Ok(assert!(rt; false, "the session was not answered"));
