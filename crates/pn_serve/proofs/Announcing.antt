@@ -16,7 +16,9 @@ use Rattle.pn_serve.specs.Machine.Announced.{unless_call, with_line}
 use Rattle.pn_serve.specs.Machine.Modes.{bytes_of, with_mode, IsBegun}
 use Rattle.pn_serve.specs.Machine.Outcomes.{Outcome, done, line, call, round, announced, Machine, Turn, waiting, refusing, silent}
 use Rattle.pn_serve.specs.Machine.Recovering.{adopting_text}
-use Rattle.pn_serve.specs.Machine.Turns.{obeying, obeying_last, turn_of, outcome_at, turn, last_of, end_turn, IsReadUnless, TurnedBy, AnswersBy, ConcludesBy, Obeys}
+use Rattle.pn_serve.specs.Machine.Turns.{obeying, turn_of, outcome_at, turn}
+use Rattle.pn_serve.specs.Machine.LastTurns.{obeying_last, last_of, end_turn}
+use Rattle.pn_serve.specs.Machine.Answers.{IsReadUnless, TurnedBy, AnswersBy, ConcludesBy, Obeys}
 use Rattle.pn_serve.specs.Machine.Ways.{ComesTo, IsJoined, IsAlone, BeginsTo, LastsBy}
 use Rattle.pn_serve.specs.Reply.Texts.{reply_text, is_refusal}
 use Rattle.pn_serve.proofs.Turns.{read_whole, read_always, turned_read, turned_as, turned_always, turned_said, as_it_goes, as_said, within}

@@ -13,7 +13,7 @@ use Rattle.pn_record.proofs.ImageParts.{is_there}
 use Rattle.pn_stream.specs.Positions.{DeliveryValue, are_positions}
 use Rattle.pn_serve.specs.Command.BatchParts.{batch_in, deliver_at, number_at, items_at}
 use Rattle.pn_serve.specs.Command.Limits.{most_batches, are_few}
-use Rattle.pn_serve.specs.Command.Lines.{deliver_in}
+use Rattle.pn_serve.specs.Command.Deliveries.{deliver_in}
 use Rattle.pn_serve.specs.Command.Meaning.{deliver}
 use Rattle.pn_serve.specs.Command.RangeChecks.{fits, each_fits, image_fits, batch_fits, batches_fit}
 use Rattle.pn_serve.specs.Command.ShapeChecks.{named_alone, image_shape, batch_shape}

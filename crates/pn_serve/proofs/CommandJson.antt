@@ -13,8 +13,12 @@ use Rattle.pn_scan.specs.Queries.{QueryValue}
 use Rattle.pn_record.specs.Sets.{Stamp}
 use Rattle.pn_json.proofs.LookUps.{Rise}
 use Rattle.pn_join.specs.Marks.{Positions}
-use Rattle.pn_serve.specs.Command.Json.{delivery_data, tablet_member, adopt_command, copy_command, deliver_command, get_command, notices_command, read_command, scan_command, IsRequired, Says, IsCommand}
-use Rattle.pn_serve.specs.Command.Lines.{deliver_in, get_in, marks_in, read_in, scan_in, tablets_in, command_as, command_in}
+use Rattle.pn_serve.specs.Command.Json.{delivery_data, tablet_member, adopt_command, copy_command, deliver_command, get_command, notices_command, read_command, scan_command}
+use Rattle.pn_serve.specs.Command.Grammar.{IsRequired, Says, IsCommand}
+use Rattle.pn_serve.specs.Command.Deliveries.{deliver_in}
+use Rattle.pn_serve.specs.Command.Lookups.{get_in, read_in, scan_in}
+use Rattle.pn_serve.specs.Command.Overview.{marks_in, tablets_in}
+use Rattle.pn_serve.specs.Command.Objects.{command_as, command_in}
 use Rattle.pn_serve.specs.Command.Limits.{may_announce, may_be_asked, may_be_required, is_command}
 use Rattle.pn_serve.specs.Command.Meaning.{CommandValue, adopt, copy, deliver, lose, marks, notices, read, scan, tablets}
 use Rattle.pn_serve.specs.Command.Meaning as meaning

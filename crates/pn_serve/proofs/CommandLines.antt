@@ -6,8 +6,9 @@ use Rattle.pn_json.specs.Answers.{fault_as, ShowsUnless}
 use Rattle.pn_record.specs.Reading.{reading, value_at}
 use Rattle.pn_record.specs.declared.fault.ImageFault.TheVariants as image
 use Rattle.pn_json.proofs.Inverses.{bind_ok, no_fault, ok_or_ok, right_same}
-use Rattle.pn_serve.specs.Command.Json.{IsCommandLine}
-use Rattle.pn_serve.specs.Command.Lines.{is_too_long, refusal_of, command_in, command_at}
+use Rattle.pn_serve.specs.Command.Grammar.{IsCommandLine}
+use Rattle.pn_serve.specs.Command.Lines.{is_too_long, refusal_of, command_at}
+use Rattle.pn_serve.specs.Command.Objects.{command_in}
 use Rattle.pn_record.specs.Limits.{longest_line}
 use Rattle.pn_serve.specs.Command.Meaning.{CommandValue}
 use Rattle.pn_serve.specs.declared.refusal.Refusal.{Refusal}

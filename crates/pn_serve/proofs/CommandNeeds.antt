@@ -6,7 +6,7 @@ use Rattle.pn_join.specs.Marks.{Positions}
 use Rattle.pn_json.specs.Answers.{fault_as}
 use Rattle.pn_record.specs.Marks.{is_mark, marks_data, marks_in}
 use Rattle.pn_record.proofs.MarksValues.{marks_again, marks_found}
-use Rattle.pn_serve.specs.Command.Json.{IsNeed}
+use Rattle.pn_serve.specs.Command.Grammar.{IsNeed}
 use Rattle.pn_serve.specs.Command.Needs.{need_refusal, need_in, need_at}
 use Rattle.pn_serve.specs.declared.refusal.Refusal.{Refusal}
 use Rattle.pn_serve.proofs.EachFits.{as_ok}

@@ -19,7 +19,8 @@ use Rattle.pn_json.proofs.LookUps.{Rise}
 use Rattle.pn_record.proofs.ReadImages.{shape_in_order}
 use Rattle.pn_record.proofs.SameImage.{shape_again}
 use Rattle.pn_stream.specs.Positions.{DeliveryValue}
-use Rattle.pn_serve.specs.Command.Json.{delivery_data, IsRequired}
+use Rattle.pn_serve.specs.Command.Json.{delivery_data}
+use Rattle.pn_serve.specs.Command.Grammar.{IsRequired}
 use Rattle.pn_serve.specs.Command.Queries.{query_at}
 use Rattle.pn_serve.specs.Command.ShapeChecks.{named_alone, image_shape, batch_shape, key_shape, required_in, version_shape}
 use Rattle.pn_serve.specs.Command.Words.{word_of, word_in}

@@ -12,11 +12,14 @@ use Rattle.pn_record.specs.Reading.{value_at, reading}
 use Rattle.pn_record.specs.declared.fault.ImageFault.TheVariants as image
 use Rattle.pn_serve.specs.declared.refusal.Refusal.TheVariants.{TooLong}
 use Rattle.pn_serve.specs.declared.reply.Reply.{Reply}
-use Rattle.pn_serve.specs.Command.Lines.{is_too_long, command_at, command_in, refusal_of}
+use Rattle.pn_serve.specs.Command.Lines.{is_too_long, command_at, refusal_of}
+use Rattle.pn_serve.specs.Command.Objects.{command_in}
 use Rattle.pn_serve.specs.Machine.Announced.{unless_call, one_came}
 use Rattle.pn_serve.specs.Machine.Outcomes.{Outcome, done, Mode, idle, announced, Machine, logged, Turn, refusing}
 use Rattle.pn_serve.specs.Machine.Recovering.{adopting_text}
-use Rattle.pn_serve.specs.Machine.Turns.{turn_of, outcome_at, turn_in, turn, last_of, end_in, end_turn, TurnedBy, Answers, Concludes}
+use Rattle.pn_serve.specs.Machine.Turns.{turn_of, outcome_at, turn_in, turn}
+use Rattle.pn_serve.specs.Machine.LastTurns.{last_of, end_in, end_turn}
+use Rattle.pn_serve.specs.Machine.Answers.{TurnedBy, Answers, Concludes}
 
 pub too_long : (line : List ℕ) → 65536 < length line → command_at line ≡ Err TooLong
 unfolding command_at value_at

@@ -3,10 +3,8 @@ use Rattle.std.proofs.Common.{◌≡◌, ◌⊎◌, inl, inr, ℕ, Bool, true, f
 use Rattle.std.specs.Prelude.{IfErr, IsSome}
 use Rattle.std.specs.Option.{ok_or}
 use Rattle.std.specs.declared.alloc.Global.{Global}
-use Rattle.clap.specs.Kinds.{Kinds, or_else}
-use Rattle.clap.specs.Faults.{check_fault, defaults_fault, entered_fault, fault_of, settle_fault, walk_fault}
-use Rattle.clap.specs.Kinds.{IsAmong}
-use Rattle.clap.specs.Faults.{is_simple_and_free}
+use Rattle.clap.specs.Kinds.{Kinds, or_else, IsAmong}
+use Rattle.clap.specs.Faults.{check_fault, defaults_fault, entered_fault, fault_of, settle_fault, walk_fault, is_simple_and_free}
 use Rattle.clap.specs.Simple.{App, HasMatchesOf, argument_words, built, names_of, subcommand_of, subcommand_rows_of}
 use Rattle.clap.specs.declared.error.kind.ErrorKind.{ErrorKind}
 use Rattle.clap.specs.declared.error.kind.ErrorKind.TheVariants as error
@@ -23,7 +21,9 @@ use Rattle.pn_tablet.specs.Layouts.{Bounds, layout_of}
 use Rattle.pn_tablet.specs.declared.layout.LayoutFault.{LayoutFault}
 use Rattle.pn_serve.specs.Words.Bounds.{bounds_in, key_in, or_bounds}
 use Rattle.pn_serve.specs.Words.Options.{program}
-use Rattle.pn_serve.specs.Words.Plans.{Answers, Plans, help, plan_in, plan_value, replay_in, serve_in, settings_in}
+use Rattle.pn_serve.specs.Words.Plans.{Answers, Plans}
+use Rattle.pn_serve.specs.Words.Commands.{plan_in, replay_in, serve_in, settings_in}
+use Rattle.pn_serve.specs.Words.PlanValues.{help, plan_value}
 use Rattle.pn_serve.specs.Words.Streams.{each_stream, names_differ, stream_in, streams_in}
 use Rattle.pn_serve.specs.declared.words.plans.Plan.{Plan}
 use Rattle.pn_serve.specs.declared.words.plans.Plan.TheVariants as plan

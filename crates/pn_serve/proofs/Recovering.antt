@@ -30,8 +30,10 @@ use Rattle.pn_serve.specs.Command.Meaning.{CommandValue, copy, lose}
 use Rattle.pn_serve.specs.Machine.Doing.{doing}
 use Rattle.pn_serve.specs.Machine.Outcomes.{done, idle, Turn, waiting}
 use Rattle.pn_serve.specs.Machine.Recovering.{at_tablet, showing_copy, adopted, adopting_read, adopting_text}
-use Rattle.pn_serve.specs.Machine.Turns.{obeying, Obeys}
-use Rattle.pn_serve.specs.Machine.Ways.{Tells, TellsNoCopy, TellsBadText, TellsNotAdopted, ShowsCopy, ComesTo}
+use Rattle.pn_serve.specs.Machine.Turns.{obeying}
+use Rattle.pn_serve.specs.Machine.Answers.{Obeys}
+use Rattle.pn_serve.specs.Machine.Refusals.{Tells, TellsNoCopy, TellsBadText, TellsNotAdopted}
+use Rattle.pn_serve.specs.Machine.Ways.{ShowsCopy, ComesTo}
 use Rattle.pn_serve.specs.Reply.Recovery.{bad_text_data, not_adopted_data}
 use Rattle.pn_serve.specs.Reply.Short.{lost_data}
 use Rattle.pn_serve.proofs.Turns.{turned_call}

@@ -33,7 +33,8 @@ use Rattle.pn_serve.specs.Command.Lines.{command_at}
 use Rattle.pn_serve.specs.Command.Lookups.{AsksForRecords}
 use Rattle.pn_serve.specs.Machine.Doing.{found_data, looking}
 use Rattle.pn_serve.specs.Machine.Outcomes.{Outcome, done, line, call, round as in_part, Mode, idle, Machine, serving}
-use Rattle.pn_serve.specs.Machine.Turns.{turn_of, outcome_at, turn_in, turn, last_of, end_in, end_turn}
+use Rattle.pn_serve.specs.Machine.Turns.{turn_of, outcome_at, turn_in, turn}
+use Rattle.pn_serve.specs.Machine.LastTurns.{last_of, end_in, end_turn}
 use Rattle.pn_serve.specs.Reply.Record.{read_data, get_data}
 use Rattle.pn_serve.specs.Reply.Scan.{scan_data}
 use Rattle.pn_serve.specs.Reply.Short.{refusal_data}

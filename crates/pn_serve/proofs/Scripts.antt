@@ -11,12 +11,19 @@ use Rattle.pn_serve.specs.declared.script.Counts.{Counts}
 use Rattle.pn_serve.specs.declared.script.RunFault.{RunFault}
 use Rattle.pn_serve.specs.declared.script.RunFault.TheVariants.{Read, Write, TooManyTurns, Memory}
 use Rattle.pn_serve.specs.Lines.Ends as lines
+use Rattle.pn_serve.specs.Lines.Stopped as stopped
 use Rattle.pn_serve.specs.Lines.Ends.{EndsBy}
-use Rattle.pn_serve.specs.Lines.Served.{Start, AllAnswer, texts_of, refusals_of}
+use Rattle.pn_serve.specs.Lines.States.{Start}
+use Rattle.pn_serve.specs.Lines.Served.{AllAnswer}
+use Rattle.pn_serve.specs.Lines.Replies.{texts_of, refusals_of}
 use Rattle.pn_serve.specs.Machine.Outcomes.{Outcome, done, Machine, serving}
-use Rattle.pn_serve.specs.Machine.Turns.{turn, end_turn, Answers, Concludes}
+use Rattle.pn_serve.specs.Machine.Turns.{turn}
+use Rattle.pn_serve.specs.Machine.LastTurns.{end_turn}
+use Rattle.pn_serve.specs.Machine.Answers.{Answers, Concludes}
 use Rattle.pn_serve.specs.Reply.Texts.{reply_text, is_refusal}
-use Rattle.pn_serve.specs.Runs.Ends.{Begun, Ended, Broken, Cut, Exceeded, Ends, lines_within}
+use Rattle.pn_serve.specs.Runs.Starts.{Begun}
+use Rattle.pn_serve.specs.Runs.Ends.{Ended, Broken, Cut, Exceeded, Ends}
+use Rattle.pn_serve.specs.Runs.Bounds.{lines_within}
 use Rattle.pn_serve.specs.Script.Parts.{parts_of}
 use Rattle.pn_serve.specs.Script.Written.{replies_from, machine_after, refusals_from, replies, refusals, end_of, one_if}
 use Rattle.pn_serve.proofs.Parts.{parts-text}
@@ -97,7 +104,7 @@ module _ (region : RegionValue) (left written : Option (List ℕ)) where
         at_end = is.at_end;
       }
 
-  script_broken : (script : List ℕ) (leaves wrote : Option (List ℕ)) (now : Machine) → lines.Broken Answers Concludes start script leaves wrote now → Broken begun script leaves wrote
+  script_broken : (script : List ℕ) (leaves wrote : Option (List ℕ)) (now : Machine) → stopped.Broken Answers Concludes start script leaves wrote now → Broken begun script leaves wrote
   script_broken script leaves wrote now is =
       let all = outcomes_of (serving region) is.lines is.replies now is.made in record {
         lines = is.lines;
@@ -107,7 +114,7 @@ module _ (region : RegionValue) (left written : Option (List ℕ)) where
         wrote = subst (λ (r : List ℕ). Appends written wrote r) (sym all.replied) is.wrote;
       }
 
-  script_exceeded : (script : List ℕ) (leaves wrote : Option (List ℕ)) (now : Machine) → lines.Exceeded Answers Concludes start script leaves wrote now → Exceeded begun script leaves wrote
+  script_exceeded : (script : List ℕ) (leaves wrote : Option (List ℕ)) (now : Machine) → stopped.Exceeded Answers Concludes start script leaves wrote now → Exceeded begun script leaves wrote
   script_exceeded script leaves wrote now is =
       let all = outcomes_of (serving region) (lines_within script) is.replies now is.made in record {
         part = is.part;
@@ -152,7 +159,7 @@ module _ (region : RegionValue) (left written : Option (List ℕ)) where
             (ap (λ (l : List ℕ). texts_of said ++ l) is ∙ sym (all_replies script texts part (parts_read leaves read gone) said behind now all reply turned)) sent;
       }
 
-  script_cut : (script : List ℕ) (leaves wrote : Option (List ℕ)) (now : Machine) → lines.Cut Answers Concludes start script leaves wrote now → Cut begun script leaves wrote
+  script_cut : (script : List ℕ) (leaves wrote : Option (List ℕ)) (now : Machine) → stopped.Cut Answers Concludes start script leaves wrote now → Cut begun script leaves wrote
   script_cut script leaves wrote now is =
       cut_last script leaves wrote is.lines is.part is.replies is.behind now is.last is.read (outcomes_of (serving region) is.lines is.replies is.behind is.made) is.ended is.prefix
 

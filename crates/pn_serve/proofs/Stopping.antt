@@ -13,11 +13,15 @@ use Rattle.pn_line.specs.Text.{lines_of, onto_first}
 use Rattle.pn_line.proofs.LinesReadLaws.{LinesRead-line, LinesRead-part}
 use Rattle.pn_line.proofs.SentLaws.{Sends-flushed, Sends-cut, Sends-cut_flush}
 use Rattle.pn_line.proofs.TextLaws.{lines_of-line, lines_of-byte, lines_of-text, lines_of-begun}
-use Rattle.pn_serve.specs.Lines.Ends.{Broken, Cut, Exceeded, EndsBy}
-use Rattle.pn_serve.specs.Lines.Served.{LinesValue, Start, texts_of, AllAnswer, AnsweredInPart, Closed, AllAnswered, Between}
+use Rattle.pn_serve.specs.Lines.Stopped.{Broken, Cut, Exceeded}
+use Rattle.pn_serve.specs.Lines.Ends.{EndsBy}
+use Rattle.pn_serve.specs.Lines.States.{LinesValue, Start}
+use Rattle.pn_serve.specs.Lines.Replies.{texts_of}
+use Rattle.pn_serve.specs.Lines.Served.{AllAnswer, AllAnswered, Between}
+use Rattle.pn_serve.specs.Lines.Answered.{AnsweredInPart, Closed}
 use Rattle.pn_serve.specs.Lines.Turning.{TurnsTo}
 use Rattle.pn_serve.specs.Reply.Texts.{reply_text}
-use Rattle.pn_serve.specs.Runs.Ends.{IsAtBound, lines_within}
+use Rattle.pn_serve.specs.Runs.Bounds.{IsAtBound, lines_within}
 use Rattle.pn_serve.specs.declared.reply.Reply.{Reply}
 use Rattle.pn_serve.specs.declared.script.Counts.{Counts}
 use Rattle.pn_serve.specs.declared.script.RunFault.{RunFault}

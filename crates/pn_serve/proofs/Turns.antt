@@ -16,8 +16,7 @@ use Rattle.pn_apply.specs.Applying.{AreOldOrStepped}
 use Rattle.pn_region.specs.Marking.{new_marks}
 use Rattle.pn_region.specs.Logged.{LoggedRegion, noting, breaking}
 use Rattle.pn_region.specs.Regions.{RegionValue}
-use Rattle.pn_region.specs.Rounds.{joins, changed, IsHalfTaken}
-use Rattle.pn_region.specs.Rounds.{round as taken_round}
+use Rattle.pn_region.specs.Rounds.{joins, changed, IsHalfTaken, round as taken_round}
 use Rattle.pn_region.specs.declared.fault.RoundFault.{RoundFault}
 use Rattle.pn_serve.specs.declared.reply.Reply.{Reply}
 use Rattle.pn_serve.specs.declared.reply.Reply.TheVariants.{Adopted, Changed, Copied, Lost, Silent, Text, Refused, NotTaken}
@@ -29,7 +28,9 @@ use Rattle.pn_serve.proofs.LongLines.{too_long}
 use Rattle.pn_serve.specs.Machine.Outcomes.{Outcome, Machine, done, line, call, round, idle, Turn, waiting, refusing, showing}
 use Rattle.pn_serve.specs.Machine.PartRounds.{some_stepped, partly_marked}
 use Rattle.pn_serve.specs.Machine.Doing.{delivering, looking}
-use Rattle.pn_serve.specs.Machine.Turns.{obeying, turn_of, outcome_at, turn, IsReadUnless, Turned, TurnedBy, AnswersBy, Obeys, Refuses}
+use Rattle.pn_serve.specs.Machine.Turns.{obeying, turn_of, outcome_at, turn}
+use Rattle.pn_serve.specs.Machine.Answers.{IsReadUnless, Turned, TurnedBy, AnswersBy, Obeys}
+use Rattle.pn_serve.specs.Machine.Refusals.{Refuses}
 use Rattle.pn_serve.specs.Reply.Faults.{fault_data}
 use Rattle.pn_serve.specs.Reply.Short.{changed_data}
 use Rattle.pn_json.specs.Lines.{line_of}

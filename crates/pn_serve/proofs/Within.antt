@@ -6,7 +6,7 @@ use Rattle.std.proofs.lemmas.Bool.Decides.{nat_tests}
 use Rattle.std.proofs.lemmas.List.Elements.{All-head, All-tail}
 use Rattle.std.proofs.lemmas.List.Sums.{take_while-cons}
 use Rattle.pn_line.specs.Text.{lines_of}
-use Rattle.pn_serve.specs.Runs.Ends.{lines_within}
+use Rattle.pn_serve.specs.Runs.Bounds.{lines_within}
 use Rattle.pn_serve.specs.Lines.Served.{IsShort}
 
 abbrev test : List ℕ → Bool

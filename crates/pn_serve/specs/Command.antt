@@ -1,5 +1,7 @@
 -- What a line says.
 pub mod BatchParts
+pub mod Deliveries
+pub mod Grammar
 pub mod Json
 pub mod Limits
 pub mod Lines
@@ -7,6 +9,8 @@ pub mod Lookups
 pub mod Meaning
 pub mod Needs
 pub mod Notices
+pub mod Objects
+pub mod Overview
 pub mod Queries
 pub mod RangeChecks
 pub mod Recovery

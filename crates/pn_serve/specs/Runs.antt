@@ -1,2 +1,4 @@
 -- Where the run of a script ends.
+pub mod Bounds
 pub mod Ends
+pub mod Starts

@@ -5,7 +5,7 @@ ghost use Rattle.pn_apply.specs.Limits.{most_workers};
 ghost use Rattle.pn_serve.specs.Command.Meaning.{command_value, deliver as asking};
 ghost use Rattle.pn_serve.specs.Machine.Modes.{IsBegun, with_mode};
 ghost use Rattle.pn_serve.specs.Machine.Outcomes.{waiting};
-ghost use Rattle.pn_serve.specs.Machine.Turns.{AnswersBy, ConcludesBy, Obeys};
+ghost use Rattle.pn_serve.specs.Machine.Answers.{AnswersBy, ConcludesBy, Obeys};
 ghost use Rattle.pn_serve.specs.Machine.Ways.{BeginsTo, LastsBy};
 
 pub(crate) mod announced;

@@ -3,8 +3,10 @@
 ghost use Rattle.std.specs.Prelude.{◌≡◌, IsErrOf};
 ghost use Rattle.pn_serve.specs.declared.script.RunFault.TheVariants.{Write, Memory};
 ghost use Rattle.pn_serve.specs.Lines.Ends.{EndsBy};
-ghost use Rattle.pn_serve.specs.Lines.Served.{Start, Served};
-ghost use Rattle.pn_serve.specs.Runs.Ends.{Ends, begins};
+ghost use Rattle.pn_serve.specs.Lines.States.{Start};
+ghost use Rattle.pn_serve.specs.Lines.Served.{Served};
+ghost use Rattle.pn_serve.specs.Runs.Ends.{Ends};
+ghost use Rattle.pn_serve.specs.Runs.Starts.{begins};
 
 pub(crate) mod turns;
 

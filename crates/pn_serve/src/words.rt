@@ -3,7 +3,9 @@
 ghost use Rattle.std.specs.Prelude.{◌≡◌, map, string_bytes, IsSome, Some};
 ghost use Rattle.clap.specs.Words.{found_of, kind_of, rows_of, subcommand_rows_of};
 ghost use Rattle.pn_json.specs.Answers.{IsUnless, ShowsUnless};
-ghost use Rattle.pn_serve.specs.Words.Plans.{Answers, Plans, plan_in, plan_value, replay_in, serve_in, settings_in};
+ghost use Rattle.pn_serve.specs.Words.Plans.{Answers, Plans};
+ghost use Rattle.pn_serve.specs.Words.Commands.{plan_in, replay_in, serve_in, settings_in};
+ghost use Rattle.pn_serve.specs.Words.PlanValues.{plan_value};
 
 mod bounds;
 mod options;

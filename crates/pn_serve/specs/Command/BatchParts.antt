@@ -6,7 +6,7 @@ use Rattle.serde_json.specs.Find.{as_array, as_object}
 use Rattle.pn_json.specs.Answers.{◌>>=◌}
 use Rattle.pn_json.specs.Members.{whole_number}
 use Rattle.pn_stream.specs.Positions.{DeliveryValue}
-use Rattle.pn_serve.specs.Command.Lines.{deliver_in}
+use Rattle.pn_serve.specs.Command.Deliveries.{deliver_in}
 use Rattle.pn_serve.specs.Command.Meaning.{CommandValue}
 use Rattle.pn_serve.specs.Command.RangeChecks.{batch_fits}
 use Rattle.pn_serve.specs.Command.ShapeChecks.{batch_shape}

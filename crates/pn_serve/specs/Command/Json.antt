@@ -1,16 +1,9 @@
--- The JSON of commands, and the lines that commands are.
-use Rattle.std.specs.Prelude.{◌≡◌, ◌⊎◌, ℕ, List, [], Option, Some, None, map, codes, IsTrue}
-use Rattle.serde_json.specs.Data.{Data, null, number, string, array, object, unsigned, Members, no_members, member}
+-- The JSON of commands.
+use Rattle.std.specs.Prelude.{ℕ, List, Option, Some, None, map, codes}
+use Rattle.serde_json.specs.Data.{Data, number, string, array, object, unsigned, Members, no_members, member}
 use Rattle.serde_json.specs.View.{items_of}
-use Rattle.pn_join.specs.Marks.{Positions}
-use Rattle.pn_record.specs.Marks.{marks_data}
-use Rattle.pn_record.specs.Reading.{IsLine}
-use Rattle.pn_record.specs.Sets.{Stamp}
-use Rattle.pn_record.specs.Writing.{image_data, version_data}
-use Rattle.pn_scan.specs.QueryGrammar.{HasShape}
+use Rattle.pn_record.specs.Writing.{image_data}
 use Rattle.pn_stream.specs.Positions.{DeliveryValue}
-use Rattle.pn_serve.specs.Command.Limits.{is_command}
-use Rattle.pn_serve.specs.Command.Meaning.{CommandValue, adopt, copy, deliver, get, lose, marks, notices, read, scan, tablets}
 
 -- a delivery: the position of its first image, its images, and its stream
 abbrev pub delivery_data : DeliveryValue → Data
@@ -36,11 +29,6 @@ abbrev pub copy_command : Option Data → ℕ → Data
 copy_command None tablet = command_data (codes "copy") (tablet_member tablet)
 copy_command (Some need) tablet = command_data (codes "copy") (member (codes "need") need (tablet_member tablet))
 
--- what a copy has to reach; where that is nothing, it may also be absent or null
-abbrev pub IsNeed : Option Data → Positions → Type 0
-IsNeed None need = need ≡ []
-IsNeed (Some d) need = ((d ≡ null) × (need ≡ [])) ⊎ (d ≡ marks_data need)
-
 -- a `deliver` command, whose batches stand before `do`
 abbrev pub deliver_command : List DeliveryValue → Data
 deliver_command deliveries =
@@ -63,33 +51,6 @@ notices_command since = command_data (codes "notices") (member (codes "since") (
 abbrev pub read_command : List ℕ → Members → Data
 read_command key others = command_data (codes "read") (member (codes "key") (string key) others)
 
--- behind the key stands the version that is required; where none is, it is absent or null
-abbrev pub IsRequired : Members → Option Stamp → Type 0
-IsRequired others None = (others ≡ no_members) ⊎ (others ≡ member (codes "version") null no_members)
-IsRequired others (Some version) = others ≡ member (codes "version") (version_data version) no_members
-
 -- a `scan` command, with the value of its query
 abbrev pub scan_command : Data → Data
 scan_command query = command_data (codes "scan") (member (codes "query") query no_members)
-
--- the value says the command; no limit is looked at
-abbrev pub Says : Data → CommandValue → Type 0
-Says d (adopt lines) = d ≡ adopt_command lines
-Says d (copy need tablet) = (said : Option Data) × IsNeed said need × (d ≡ copy_command said tablet)
-Says d (deliver deliveries) = d ≡ deliver_command deliveries
-Says d (get keys) = d ≡ get_command keys
-Says d (lose tablet) = d ≡ lose_command tablet
-Says d marks = d ≡ command_data (codes "marks") no_members
-Says d (notices since) = d ≡ notices_command since
-Says d (read key version) = (others : Members) × IsRequired others version × (d ≡ read_command key others)
-Says d (scan query) = (asked : Data) × HasShape asked query × (d ≡ scan_command asked)
-Says d tablets = d ≡ command_data (codes "tablets") no_members
-
--- the value is the JSON of the command, which keeps the limits
-pub record IsCommand (d : Data) (command : CommandValue) : Type 0 where
-  pub value : Says d command
-  pub limits : IsTrue (is_command command)
-
--- the line is not too long, and `serde_json` reads it as the JSON of the command
-abbrev pub IsCommandLine : List ℕ → CommandValue → Type 0
-IsCommandLine line command = IsLine IsCommand line command

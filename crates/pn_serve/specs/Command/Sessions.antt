@@ -6,7 +6,8 @@ use Rattle.serde_json.specs.Find.{get, as_object}
 use Rattle.pn_json.specs.Answers.{◌>>=◌, fault_as}
 use Rattle.pn_json.specs.Members.{member_as}
 use Rattle.pn_record.specs.Reading.{value_at}
-use Rattle.pn_serve.specs.Command.Lines.{command_in, refusal_of}
+use Rattle.pn_serve.specs.Command.Objects.{command_in}
+use Rattle.pn_serve.specs.Command.Lines.{refusal_of}
 use Rattle.pn_serve.specs.Command.Meaning.{CommandValue}
 use Rattle.pn_serve.specs.Command.Words.{word_in}
 use Rattle.pn_serve.specs.declared.command.word.Word.{Word}

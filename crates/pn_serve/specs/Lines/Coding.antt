@@ -4,7 +4,7 @@ use Rattle.std.specs.Coded.{Coded, code_by, coded×, coded_ℕ, coded_list, code
 use Rattle.pn_region.specs.Proofs.Coding.{region_code, entry_code}
 use Rattle.pn_region.specs.Regions.{RegionValue}
 use Rattle.pn_region.specs.declared.entry.Entry.{Entry}
-use Rattle.pn_serve.specs.Lines.Served.{LinesValue}
+use Rattle.pn_serve.specs.Lines.States.{LinesValue}
 use Rattle.pn_serve.specs.Machine.Outcomes.{Mode, idle, announced, Machine}
 
 -- a mode as what was announced

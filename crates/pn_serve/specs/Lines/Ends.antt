@@ -1,18 +1,19 @@
 -- Where a server of lines ends: what it read and wrote, and what is left of its script.
-use Rattle.std.specs.Prelude.{◌≡◌, ◌≢◌, ◌⊎◌, ℕ, ◌+◌, List, [], ◌++◌, length, Option, Some, IfSome, Result, Ok, Err}
+use Rattle.std.specs.Prelude.{◌≡◌, ℕ, ◌+◌, List, [], ◌++◌, length, Option, Some, IfSome, Result, Ok, Err}
 use Rattle.std.specs.Io.KnownBytes.{Appends, Keeps}
-use Rattle.pn_line.specs.LinesRead.{PartRead}
-use Rattle.pn_line.specs.Sent.{AppendsPrefix}
 use Rattle.pn_line.specs.Text.{lines_of}
 use Rattle.pn_serve.specs.declared.reply.Reply.{Reply}
 use Rattle.pn_serve.specs.declared.script.Counts.{Counts}
 use Rattle.pn_serve.specs.declared.script.RunFault.{RunFault}
 use Rattle.pn_serve.specs.declared.script.RunFault.TheVariants.{Read, Write, TooManyTurns, Memory}
-use Rattle.pn_serve.specs.Lines.Served.{Start, AllAnswer, texts_of, refusals_of}
+use Rattle.pn_serve.specs.Lines.States.{Start}
+use Rattle.pn_serve.specs.Lines.Served.{AllAnswer}
+use Rattle.pn_serve.specs.Lines.Replies.{texts_of, refusals_of}
 use Rattle.pn_serve.specs.Reply.Texts.{reply_text, is_refusal}
-use Rattle.pn_serve.specs.Runs.Ends.{lines_within, IsAtBound}
+use Rattle.pn_serve.specs.Runs.Bounds.{lines_within}
 use Rattle.pn_serve.specs.Script.Parts.{parts_of}
 use Rattle.pn_serve.specs.Script.Written.{one_if}
+use Rattle.pn_serve.specs.Lines.Stopped.{Broken, Cut, Exceeded}
 
 -- by what a machine makes of lines, and of the end of the input
 module _ {V : Type 0} (makes ends : V → List ℕ → V → Reply → Type 0) where
@@ -30,43 +31,10 @@ module _ {V : Type 0} (makes ends : V → List ℕ → V → Reply → Type 0) w
     pub within : lines_within script ≡ lines_of script
     pub at_end : left ≡ Some []
 
-  -- these lines were read, and of the next one a part; the replies to the lines were written
-  pub record Broken (start : Start V) (script : List ℕ) (left written : Option (List ℕ)) (machine : V) : Type 0 where
-    pub lines : List (List ℕ)
-    pub part : List ℕ
-    pub read : PartRead script left lines part
-    pub replies : List Reply
-    pub made : AllAnswer makes start.machine lines replies machine
-    pub wrote : Appends start.written written (texts_of replies)
-
-  -- some lines were read, and of the next one a part. A prefix of the replies to the lines was written, or, at the end of the input, of
-  -- these and the one to the part
-  pub record Cut (start : Start V) (script : List ℕ) (left written : Option (List ℕ)) (machine : V) : Type 0 where
-    pub lines : List (List ℕ)
-    pub part : List ℕ
-    pub read : PartRead script left lines part
-    pub replies : List Reply
-    pub behind : V
-    pub made : AllAnswer makes start.machine lines replies behind
-    pub last : List ℕ
-    pub ended : ((machine ≡ behind) × (last ≡ [])) ⊎ ((left ≡ Some []) × ((reply : Reply) × (last ≡ reply_text reply) × ends behind part machine reply))
-    pub prefix : AppendsPrefix start.written written (texts_of replies ++ last)
-
-  -- the lines that may be answered were read, and of the next one a part: nothing after a million lines, and else a
-  -- billion bytes. The replies to the lines were written, and there are more lines
-  pub record Exceeded (start : Start V) (script : List ℕ) (left written : Option (List ℕ)) (machine : V) : Type 0 where
-    pub part : List ℕ
-    pub read : PartRead script left (lines_within script) part
-    pub stopped : IsAtBound (lines_within script) part
-    pub replies : List Reply
-    pub made : AllAnswer makes start.machine (lines_within script) replies machine
-    pub wrote : Appends start.written written (texts_of replies)
-    pub more : lines_within script ≢ lines_of script
-
   -- where it ends by what it answered. Out of memory, nothing was read or written
   abbrev pub EndsBy : Start V → Option (List ℕ) → Option (List ℕ) → V → Result Counts RunFault → Type 0
   EndsBy start left written machine (Ok counts) = IfSome start.left (λ script. Ended start script left written machine counts)
-  EndsBy start left written machine (Err Read) = IfSome start.left (λ script. Broken start script left written machine)
-  EndsBy start left written machine (Err Write) = IfSome start.left (λ script. Cut start script left written machine)
-  EndsBy start left written machine (Err TooManyTurns) = IfSome start.left (λ script. Exceeded start script left written machine)
+  EndsBy start left written machine (Err Read) = IfSome start.left (λ script. Broken makes ends start script left written machine)
+  EndsBy start left written machine (Err Write) = IfSome start.left (λ script. Cut makes ends start script left written machine)
+  EndsBy start left written machine (Err TooManyTurns) = IfSome start.left (λ script. Exceeded makes ends start script left written machine)
   EndsBy start left written machine (Err Memory) = Keeps start.left left × Keeps start.written written × (machine ≡ start.machine)

@@ -5,7 +5,8 @@ use Rattle.pn_serve.specs.declared.script.RunFault.{RunFault}
 use Rattle.pn_serve.specs.declared.script.turns.Next.{Next}
 use Rattle.pn_serve.specs.declared.script.turns.Next.TheVariants.{Line, End}
 use Rattle.pn_serve.specs.Lines.Ends.{EndsBy}
-use Rattle.pn_serve.specs.Lines.Served.{LinesValue, Start, Served}
+use Rattle.pn_serve.specs.Lines.States.{LinesValue, Start}
+use Rattle.pn_serve.specs.Lines.Served.{Served}
 
 module _ {V : Type 0} (makes ends : V → List ℕ → V → Reply → Type 0) where
   -- the server goes on to the next line, or ends

@@ -1,17 +1,9 @@
 -- What parts of a turn come to: as they say, or out of memory.
-use Rattle.std.specs.Prelude.{◌≡◌, ◌≢◌, ◌⊎◌, ◌==◌, Bool, ℕ, List, Option}
-use Rattle.serde_json.specs.Data.{Data}
-use Rattle.pn_json.specs.Lines.{line_of}
+use Rattle.std.specs.Prelude.{◌≡◌, ◌⊎◌, ◌==◌, Bool, ℕ, List, Option}
 use Rattle.pn_tablet.specs.Copies.{TabletCopyValue}
-use Rattle.pn_tablet.specs.declared.copy_fault.CopyTextFault.{CopyTextFault}
-use Rattle.pn_tablet.specs.declared.copy_fault.CopyTextFault.TheVariants as text
-use Rattle.pn_tablet.specs.declared.fault.CopyFault.{CopyFault}
-use Rattle.pn_tablet.specs.declared.fault.CopyFault.TheVariants as copy
 use Rattle.pn_region.specs.Logged.{LoggedRegion}
-use Rattle.pn_region.specs.declared.fault.AdoptFault.{AdoptFault}
-use Rattle.pn_region.specs.declared.fault.AdoptFault.TheVariants as adoption
 use Rattle.pn_serve.specs.declared.reply.Reply.{Reply}
-use Rattle.pn_serve.specs.declared.reply.Reply.TheVariants.{Copied, Refused, NotTaken}
+use Rattle.pn_serve.specs.declared.reply.Reply.TheVariants.{Copied, Refused}
 use Rattle.pn_serve.specs.declared.refusal.Refusal.TheVariants.{Memory}
 use Rattle.pn_serve.specs.Machine.Announced.{unless_call, with_line}
 use Rattle.pn_serve.specs.Machine.Outcomes.{Outcome, Turn, waiting}
@@ -19,24 +11,11 @@ use Rattle.pn_serve.specs.Command.Lines.{command_at}
 use Rattle.pn_serve.specs.Command.Meaning.{CommandValue, adopt}
 use Rattle.pn_serve.specs.declared.machine.Begun.{Begun}
 use Rattle.pn_serve.specs.declared.machine.Begun.TheVariants.{Obeyed, Announces}
-use Rattle.pn_serve.specs.Machine.Turns.{last_of, outcome_at, TurnedBy, Obeys}
-use Rattle.pn_serve.specs.Reply.Recovery.{copy_reply, no_copy_data, bad_text_data, not_adopted_data}
+use Rattle.pn_serve.specs.Machine.LastTurns.{last_of}
+use Rattle.pn_serve.specs.Machine.Turns.{outcome_at}
+use Rattle.pn_serve.specs.Machine.Answers.{TurnedBy, Obeys}
+use Rattle.pn_serve.specs.Reply.Recovery.{copy_reply}
 use Rattle.pn_serve.specs.Reply.Texts.{reply_text, is_refusal}
-
--- the reply of a refusal that is known to be right says this, or that memory ran out
-abbrev pub Tells : Type 0 → Data → Reply → Type 0
-Tells right said (NotTaken text) = right × (text.items ≡ line_of said)
-Tells right said reply = reply ≡ Refused Memory
-
--- the replies where there is no copy, where a text is none, and where a copy is not adopted
-abbrev pub TellsNoCopy : ℕ → CopyFault → Reply → Type 0
-TellsNoCopy tablet fault reply = Tells (fault ≢ copy.Memory) (no_copy_data tablet fault) reply
-
-abbrev pub TellsBadText : CopyTextFault → Reply → Type 0
-TellsBadText fault reply = Tells (fault ≢ text.Memory) (bad_text_data fault) reply
-
-abbrev pub TellsNotAdopted : AdoptFault → Reply → Type 0
-TellsNotAdopted fault reply = Tells (fault ≢ adoption.Memory) (not_adopted_data fault) reply
 
 -- the byte that ends a line
 abbrev pub is_newline : ℕ → Bool

@@ -1,6 +1,5 @@
 -- Where a run ends: what it read and wrote, and what is left of its script.
-use Rattle.std.specs.Prelude.{◌≡◌, ◌≢◌, ℕ, List, [], length, take, Option, Some, IfSome, nat_lt, ◌⊎◌, Result, Ok, Err}
-use Rattle.std.specs.List.{take_while}
+use Rattle.std.specs.Prelude.{◌≡◌, ◌≢◌, ℕ, List, [], length, Option, Some, IfSome, Result, Ok, Err}
 use Rattle.std.specs.Io.KnownBytes.{Appends, Keeps}
 use Rattle.pn_line.specs.LinesRead.{PartRead}
 use Rattle.pn_line.specs.Sent.{AppendsPrefix}
@@ -8,28 +7,10 @@ use Rattle.pn_line.specs.Text.{lines_of}
 use Rattle.pn_serve.specs.declared.script.Counts.{Counts}
 use Rattle.pn_serve.specs.declared.script.RunFault.{RunFault}
 use Rattle.pn_serve.specs.declared.script.RunFault.TheVariants.{Read, Write, TooManyTurns, Memory}
-use Rattle.pn_region.specs.Regions.{RegionValue, new_region}
 use Rattle.pn_serve.specs.Machine.Outcomes.{Outcome, serving}
-use Rattle.pn_serve.specs.Settings.{SettingsValue}
 use Rattle.pn_serve.specs.Script.Written.{replies, replies_from, refusals}
-
--- what a run began with: its region, the bytes that its source had left, and those that its writer had
-pub record Begun : Type 0 where
-  pub region : RegionValue
-  pub left : Option (List ℕ)
-  pub written : Option (List ℕ)
-
--- what a run with these settings begins with
-abbrev pub begins : SettingsValue → Option (List ℕ) → Option (List ℕ) → Begun
-begins settings left written = record { region = new_region settings.layout; left = left; written = written }
-
--- the lines that may be answered: at most a million, and none from the first of a billion bytes on
-abbrev pub lines_within : List ℕ → List (List ℕ)
-lines_within script = take_while (λ line. nat_lt (length line) 1000000000) (take 1000000 (lines_of script))
-
--- reading stops behind this part of a line: where a million lines were read, or the part has a billion bytes
-abbrev pub IsAtBound : List (List ℕ) → List ℕ → Type 0
-IsAtBound lines part = ((length lines ≡ 1000000) × (part ≡ [])) ⊎ (length part ≡ 1000000000)
+use Rattle.pn_serve.specs.Runs.Starts.{Begun}
+use Rattle.pn_serve.specs.Runs.Bounds.{lines_within, IsAtBound}
 
 -- the script was read to its end, by one list of outcomes, and one for the end, the replies to it were written, and its lines and its
 -- refusals were counted

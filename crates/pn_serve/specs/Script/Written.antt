@@ -2,7 +2,8 @@
 use Rattle.std.specs.Prelude.{ℕ, ◌+◌, Bool, true, false, List, [], ◌∷◌, ◌++◌}
 use Rattle.pn_region.specs.Regions.{RegionValue}
 use Rattle.pn_serve.specs.Machine.Outcomes.{Outcome, done, Machine, Turn, serving}
-use Rattle.pn_serve.specs.Machine.Turns.{turn, end_turn}
+use Rattle.pn_serve.specs.Machine.Turns.{turn}
+use Rattle.pn_serve.specs.Machine.LastTurns.{end_turn}
 use Rattle.pn_serve.specs.Script.Parts.{parts_of}
 
 -- a line's outcome: lines beyond the list go as they say

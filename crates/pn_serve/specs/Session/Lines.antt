@@ -8,7 +8,7 @@ use Rattle.pn_serve.specs.declared.reply.Reply.TheVariants.{Refused, Silent}
 use Rattle.pn_serve.specs.Command.Lines.{is_too_long}
 use Rattle.pn_serve.specs.Command.Meaning.{CommandValue, copy, get, read, scan}
 use Rattle.pn_serve.specs.Command.Sessions.{lookup_at}
-use Rattle.pn_serve.specs.Lines.Served.{Start}
+use Rattle.pn_serve.specs.Lines.States.{Start}
 use Rattle.pn_serve.specs.Session.Lookups.{LooksUpKey, LooksUpKeys, LooksUpPage, LooksUpCopy}
 
 -- nothing was looked up, and the line was refused

@@ -20,8 +20,8 @@ use Rattle.pn_serve.specs.declared.refusal.Part.TheVariants.{Tablet}
 use Rattle.pn_serve.specs.declared.refusal.Refusal.TheVariants.{OutOfRange, Memory}
 use Rattle.pn_serve.specs.declared.reply.Reply.{Reply}
 use Rattle.pn_serve.specs.declared.reply.Reply.TheVariants.{Text, Refused}
-use Rattle.pn_serve.specs.Machine.Turns.{Refuses}
-use Rattle.pn_serve.specs.Machine.Ways.{ShowsCopy, TellsNoCopy}
+use Rattle.pn_serve.specs.Machine.Refusals.{Refuses, TellsNoCopy}
+use Rattle.pn_serve.specs.Machine.Ways.{ShowsCopy}
 use Rattle.pn_serve.specs.Reply.Record.{read_data, get_data}
 use Rattle.pn_serve.specs.Reply.Scan.{scan_data}
 

@@ -1,7 +1,7 @@
 //! The laws of lines, as contracts. A call does nothing.
 
 ghost use Rattle.std.specs.Prelude.{◌≡◌, ℕ, List};
-ghost use Rattle.pn_serve.specs.Command.Json.{IsCommandLine};
+ghost use Rattle.pn_serve.specs.Command.Grammar.{IsCommandLine};
 ghost use Rattle.pn_serve.specs.Command.Meaning.{CommandValue};
 
 /// No line is the line of two commands.

@@ -4,7 +4,7 @@ ghost use Rattle.std.specs.Prelude.{◌≡◌, IsOk, IsErrOf};
 ghost use Rattle.serde_json.specs.View.{view, members_view};
 ghost use Rattle.pn_json.specs.Answers.{ShowsUnless, IsUnless};
 ghost use Rattle.pn_json.specs.Members.{seen};
-ghost use Rattle.pn_serve.specs.Command.Lines.{get_in, read_in, scan_in};
+ghost use Rattle.pn_serve.specs.Command.Lookups.{get_in, read_in, scan_in};
 ghost use Rattle.pn_serve.specs.Command.Meaning.{command_value};
 ghost use Rattle.pn_serve.specs.Command.Queries.{query_at, query_refusal, query_shape};
 ghost use Rattle.pn_serve.specs.Command.RangeChecks.{fitting_version};

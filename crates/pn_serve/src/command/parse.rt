@@ -5,9 +5,11 @@ ghost use Rattle.serde_json.specs.View.{view, members_view};
 ghost use Rattle.pn_json.specs.Answers.{Shows, ShowsUnless};
 ghost use Rattle.pn_record.specs.Limits.{longest_line};
 ghost use Rattle.pn_serve.specs.Command.BatchParts.{deliver_at};
-ghost use Rattle.pn_serve.specs.Command.Json.{IsCommandLine};
+ghost use Rattle.pn_serve.specs.Command.Grammar.{IsCommandLine};
 ghost use Rattle.pn_serve.specs.Command.Meaning.{CommandValue, deliver, command_value};
-ghost use Rattle.pn_serve.specs.Command.Lines.{refusal_of, marks_in, tablets_in, command_in as command_seen, command_at, is_too_long, TakesMemory};
+ghost use Rattle.pn_serve.specs.Command.Lines.{refusal_of, command_at, is_too_long};
+ghost use Rattle.pn_serve.specs.Command.Overview.{marks_in, tablets_in};
+ghost use Rattle.pn_serve.specs.Command.Objects.{command_in as command_seen, TakesMemory};
 
 use crate::command::batch::BatchShape;
 use crate::command::build::{built_deliveries, items_at};

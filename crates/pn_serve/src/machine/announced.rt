@@ -8,8 +8,9 @@ ghost use Rattle.pn_tablet.specs.CopyReading.{copy_at};
 ghost use Rattle.pn_serve.specs.Machine.Modes.{bytes_of, mode_of, with_mode};
 ghost use Rattle.pn_serve.specs.Machine.Outcomes.{announced as announced_mode, waiting};
 ghost use Rattle.pn_serve.specs.Machine.Recovering.{adopted, adopting_text};
-ghost use Rattle.pn_serve.specs.Machine.Turns.{AnswersBy, ConcludesBy};
-ghost use Rattle.pn_serve.specs.Machine.Ways.{ComesTo, IsJoined, TellsBadText, TellsNotAdopted};
+ghost use Rattle.pn_serve.specs.Machine.Answers.{AnswersBy, ConcludesBy};
+ghost use Rattle.pn_serve.specs.Machine.Ways.{ComesTo, IsJoined};
+ghost use Rattle.pn_serve.specs.Machine.Refusals.{TellsBadText, TellsNotAdopted};
 
 use crate::machine::Done;
 use crate::machine::lookups::not_taken;

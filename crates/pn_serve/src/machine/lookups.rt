@@ -6,7 +6,8 @@ ghost use Rattle.pn_serve.specs.declared.reply.Reply.TheVariants.{NotTaken, Text
 ghost use Rattle.pn_serve.specs.declared.refusal.Refusal.TheVariants.{Memory as no_memory};
 ghost use Rattle.pn_serve.specs.Command.Meaning.{get as get_asked, notices as notices_asked, read as read_asked, scan as scan_asked};
 ghost use Rattle.pn_serve.specs.Machine.Outcomes.{waiting};
-ghost use Rattle.pn_serve.specs.Machine.Turns.{Obeys, Refuses};
+ghost use Rattle.pn_serve.specs.Machine.Answers.{Obeys};
+ghost use Rattle.pn_serve.specs.Machine.Refusals.{Refuses};
 ghost use Rattle.pn_serve.specs.Reply.Notices.{found_since};
 ghost use Rattle.pn_serve.specs.Reply.Scan.{scan_data};
 

@@ -63,7 +63,7 @@ impl<'a, R: Threads + Sync> Scripted<'a, R> {
 }
 
 impl<'a, R: Threads + Sync> Serves for Scripted<'a, R> {
-    ghost use Rattle.pn_serve.specs.Machine.Turns.{Answers, Concludes};
+    ghost use Rattle.pn_serve.specs.Machine.Answers.{Answers, Concludes};
     ghost use Rattle.pn_serve.specs.Session.Lines.{no_tablets};
     ghost use Rattle.std.specs.Thread.{IsSync};
 

@@ -4,8 +4,9 @@ ghost use Rattle.std.specs.Prelude.{◌≡◌};
 ghost use Rattle.std.specs.List.{count_by};
 ghost use Rattle.pn_serve.specs.Command.Meaning.{copy as copy_asked, lose as lose_asked};
 ghost use Rattle.pn_serve.specs.Machine.Outcomes.{waiting};
-ghost use Rattle.pn_serve.specs.Machine.Turns.{Obeys};
-ghost use Rattle.pn_serve.specs.Machine.Ways.{ShowsCopy, TellsNoCopy, is_newline};
+ghost use Rattle.pn_serve.specs.Machine.Answers.{Obeys};
+ghost use Rattle.pn_serve.specs.Machine.Ways.{ShowsCopy, is_newline};
+ghost use Rattle.pn_serve.specs.Machine.Refusals.{TellsNoCopy};
 
 use crate::machine::lookups::not_taken;
 use crate::{Part, Refusal, Reply, no_copy_reply};

@@ -4,7 +4,9 @@ ghost use Rattle.std.specs.Prelude.{◌≡◌, ◌+◌, ◌<◌, ◌≤◌, ◌+
 ghost use Rattle.pn_line.specs.Sent.{Sends, AppendsPrefix};
 ghost use Rattle.pn_json.specs.Lines.{line_of};
 ghost use Rattle.pn_serve.specs.Lines.Ends.{EndsBy};
-ghost use Rattle.pn_serve.specs.Lines.Served.{Start, Served, Answered, AnsweredInPart, Closed, new_lines};
+ghost use Rattle.pn_serve.specs.Lines.States.{Start, new_lines};
+ghost use Rattle.pn_serve.specs.Lines.Served.{Served};
+ghost use Rattle.pn_serve.specs.Lines.Answered.{Answered, AnsweredInPart, Closed};
 ghost use Rattle.pn_serve.specs.Lines.Turning.{TurnsTo};
 ghost use Rattle.pn_serve.specs.Reply.Short.{lines_data};
 ghost use Rattle.pn_serve.specs.Reply.Texts.{reply_text, is_refusal};
@@ -31,7 +33,7 @@ pub(crate) struct Lines {
 
 impl Model for Lines {
     ghost use Rattle.std.specs.Prelude.{◌≤◌};
-    ghost use Rattle.pn_serve.specs.Lines.Served.{LinesValue};
+    ghost use Rattle.pn_serve.specs.Lines.States.{LinesValue};
 
     ghost Value = { LinesValue };
 

@@ -5,7 +5,7 @@ ghost use Rattle.clap.specs.Words.{app_of, first_of, found_of, rows_of, rule_of}
 ghost use Rattle.clap.specs.declared.builder.command.Command.TheViews.{out-Command};
 ghost use Rattle.clap.specs.declared.builder.value_parser.ValueParser.TheVariants as values;
 ghost use Rattle.pn_serve.specs.Words.Options.{bounds_option, port_option, program, replay as replay_app, serve as serve_app, sessions_option, streams_words, workers_option};
-ghost use Rattle.pn_serve.specs.Words.Plans.{number_at};
+ghost use Rattle.pn_serve.specs.Words.Commands.{number_at};
 
 use clap::builder::ValueParser;
 use clap::{Arg, ArgAction, ArgMatches, Command, value_parser};

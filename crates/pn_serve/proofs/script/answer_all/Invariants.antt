@@ -1,6 +1,7 @@
 -- The replies to the lines so far went out or wait.
 use Rattle.std.proofs.Common.{◌≡◌}
-use Rattle.pn_serve.specs.Lines.Served.{Start, Served}
+use Rattle.pn_serve.specs.Lines.States.{Start}
+use Rattle.pn_serve.specs.Lines.Served.{Served}
 use Rattle.pn_serve.proofs.script.answer_all.Given as goal
 
 abbrev pub invariant-turns : goal.invariant-turns

@@ -1,5 +1,5 @@
 -- What is served from a new region on.
-use Rattle.pn_serve.specs.Machine.Turns.{Answers, Concludes}
+use Rattle.pn_serve.specs.Machine.Answers.{Answers, Concludes}
 use Rattle.pn_serve.proofs.Serving.{Begins_new}
 use Rattle.pn_serve.proofs.Scripts.{as_script}
 use Rattle.pn_serve.proofs.script.run_to_exit.Goals as goal

@@ -7,7 +7,8 @@ use Rattle.clap.specs.Walk.{Row, Text}
 use Rattle.clap.specs.declared.parser.matches.ArgMatches.TheViews.{out-ArgMatches, out-SubCommand}
 use Rattle.clap.specs.declared.parser.matches.SubCommand.{SubCommand}
 use Rattle.pn_json.specs.Answers.{ShowsUnless}
-use Rattle.pn_serve.specs.Words.Plans.{plan_in, plan_value}
+use Rattle.pn_serve.specs.Words.Commands.{plan_in}
+use Rattle.pn_serve.specs.Words.PlanValues.{plan_value}
 use Rattle.pn_serve.specs.declared.words.plans.PlanFault.TheVariants as fault
 use Rattle.pn_serve.proofs.words.plan_of.Goals as goal
 

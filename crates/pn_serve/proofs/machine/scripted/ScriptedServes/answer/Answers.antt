@@ -2,7 +2,7 @@
 use Rattle.std.proofs.Common.{List, ℕ, ap, ◌∙◌, subst}
 use Rattle.pn_serve.specs.Machine.Modes.{with_mode}
 use Rattle.pn_serve.specs.Machine.Outcomes.{Machine}
-use Rattle.pn_serve.specs.Machine.Turns.{Answers}
+use Rattle.pn_serve.specs.Machine.Answers.{Answers}
 use Rattle.pn_serve.proofs.LongLines.{answers_kept}
 use Rattle.pn_serve.proofs.machine.scripted.ScriptedServes.answer.Goals as goal
 

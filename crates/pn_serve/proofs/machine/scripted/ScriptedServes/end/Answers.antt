@@ -2,7 +2,7 @@
 use Rattle.std.proofs.Common.{List, ℕ, sym, ap, ◌∙◌, subst}
 use Rattle.pn_serve.specs.Machine.Modes.{with_mode}
 use Rattle.pn_serve.specs.Machine.Outcomes.{Machine, waiting}
-use Rattle.pn_serve.specs.Machine.Turns.{Concludes}
+use Rattle.pn_serve.specs.Machine.Answers.{Concludes}
 use Rattle.pn_serve.proofs.LongLines.{concludes_kept}
 use Rattle.pn_serve.proofs.machine.scripted.ScriptedServes.end.Goals as goal
 
