@@ -31,7 +31,7 @@ impl From<QueryFault> for Refusal {
     }
 }
 
-#[tactic(auto, unfolding(crate::specs::Command::Lines::get_in))]
+#[tactic(auto, unfolding(crate::specs::Command::Lookups::get_in))]
 pub(crate) fn get_of(
     alloc: Global,
     members: &Map<String, Value>,
@@ -46,7 +46,7 @@ pub(crate) fn get_of(
     Ok(Command::Get(built_keys(alloc, &keys)?))
 }
 
-#[tactic(auto, unfolding(crate::specs::Command::Lines::read_in))]
+#[tactic(auto, unfolding(crate::specs::Command::Lookups::read_in))]
 pub(crate) fn read_of(
     alloc: Global,
     members: &Map<String, Value>,
@@ -77,7 +77,7 @@ fn version_of(numbers: Option<(u64, u64)>) -> Result<Option<Version>, Refusal>
     }
 }
 
-#[tactic(auto, unfolding(crate::specs::Command::Lines::scan_in))]
+#[tactic(auto, unfolding(crate::specs::Command::Lookups::scan_in))]
 pub(crate) fn scan_of(
     alloc: Global,
     members: &Map<String, Value>,

@@ -65,7 +65,7 @@ fn line_command(alloc: Global, line: &[u8]) -> Result<Command, Refusal>
 }
 
 // The command that a value is. Memory runs out only where it is one, or its batches or keys are gathered.
-#[tactic(auto, unfolding(crate::specs::Command::Lines::command_in, crate::specs::Command::BatchParts::deliver_at))]
+#[tactic(auto, unfolding(crate::specs::Command::Objects::command_in, crate::specs::Command::BatchParts::deliver_at))]
 pub(crate) fn command_in(alloc: Global, value: Value) -> Result<Command, Refusal>
     ensures exact { ShowsUnless Refusal.Memory command_value result (command_seen (view value)) }
     ensures memory { IsErrOf result Refusal.Memory → TakesMemory (view value) }
@@ -96,7 +96,7 @@ fn deliver_of(alloc: Global, value: Value) -> Result<Command, Refusal>
 }
 
 // The batches of a `deliver` command, borrowed from its value.
-#[tactic(auto, unfolding(crate::specs::Command::Lines::deliver_in, crate::specs::Command::BatchParts::deliver_at))]
+#[tactic(auto, unfolding(crate::specs::Command::Deliveries::deliver_in, crate::specs::Command::BatchParts::deliver_at))]
 fn checked_batches(alloc: Global, value: &Value) -> Result<Vec<BatchShape<'_>>, Refusal>
     ensures { ShowsUnless Refusal.Memory (λ batches. deliver batches.items) result (deliver_at (view value.now)) }
 {
@@ -108,7 +108,7 @@ fn checked_batches(alloc: Global, value: &Value) -> Result<Vec<BatchShape<'_>>, 
     Ok(shapes)
 }
 
-#[tactic(auto, unfolding(crate::specs::Command::Lines::marks_in))]
+#[tactic(auto, unfolding(crate::specs::Command::Overview::marks_in))]
 fn marks_of(members: &Map<String, Value>) -> Result<Command, Refusal>
     ensures exact { Shows command_value result (marks_in (members_view members.now.entries)) }
     ensures memory { IsErrOf result Refusal.Memory → ⊥ }
@@ -117,7 +117,7 @@ fn marks_of(members: &Map<String, Value>) -> Result<Command, Refusal>
     Ok(Command::Marks)
 }
 
-#[tactic(auto, unfolding(crate::specs::Command::Lines::tablets_in))]
+#[tactic(auto, unfolding(crate::specs::Command::Overview::tablets_in))]
 fn tablets_of(members: &Map<String, Value>) -> Result<Command, Refusal>
     ensures exact { Shows command_value result (tablets_in (members_view members.now.entries)) }
     ensures memory { IsErrOf result Refusal.Memory → ⊥ }
