@@ -3,4 +3,5 @@ pub mod Faults
 pub mod Messages
 pub mod Notes
 pub mod Sessions
+pub mod Whole
 pub mod Written

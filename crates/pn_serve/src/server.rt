@@ -1,6 +1,6 @@
 //! Streams are read into a live region while sessions over TCP are answered from it.
 
-ghost use Rattle.std.specs.Prelude.{◌≡◌, ◌≢◌, ◌≤◌, vec_len, vec_capacity, Err, IfOk, IfErr, OnOk, OnErr, IsErrOf, IsTrue};
+ghost use Rattle.std.specs.Prelude.{◌≡◌, ◌≢◌, ◌≤◌, vec_len, vec_capacity, Ok, Err, IfOk, IfErr, OnOk, OnErr, IsErrOf, IsTrue};
 ghost use Rattle.std.specs.Io.KnownBytes.{Appends, Keeps};
 ghost use Rattle.pn_apply.specs.Limits.{most_workers};
 ghost use Rattle.pn_line.specs.Sent.{AppendsPrefix};
@@ -8,6 +8,7 @@ ghost use Rattle.pn_live.specs.Limits.{most_readers};
 ghost use Rattle.pn_live.specs.LiveRegions.{tablets_in};
 ghost use Rattle.pn_serve.specs.Server.Faults.{of_end};
 ghost use Rattle.pn_serve.specs.Server.Sessions.{AllRead};
+ghost use Rattle.pn_serve.specs.Server.Whole.{AreWhole};
 ghost use Rattle.pn_serve.specs.Server.Written.{served_line};
 
 mod bell;
@@ -23,7 +24,7 @@ use crate::Settings;
 use crate::reply::short::served_reply;
 use crate::server::rounds::take_rounds;
 use crate::server::sessions::{Begun, begin_sessions, end_sessions};
-use crate::server::streams::{Feeds, begin_reading};
+use crate::server::streams::{Feeds, Reading, begin_reading, end_reading};
 pub use fault::ServeFault;
 use pn_join::NoMemory;
 use pn_line::{Sink, Source, WriteFault, write_all_of};
@@ -57,12 +58,29 @@ where
     S: Source + Drop + Send + 'static,
     W: Sink,
     requires { (1 ≤ sessions) × (sessions ≤ most_readers) }
+    ensures whole { OnOk result (AreWhole S.left streams.items) }
     ensures served { OnOk result (Appends (W.contents out.old) (W.contents out.new) (served_line sessions)) }
     ensures silent { IfErr result (λ fault. fault ≢ ServeFault.Write → Keeps (W.contents out.old) (W.contents out.new)) }
     ensures part { IsErrOf result ServeFault.Write → AppendsPrefix (W.contents out.old) (W.contents out.new) (served_line sessions) }
     ensures write { IsErrOf result ServeFault.Write → W.may_fail }
 {
-    match serve_region(rt, alloc, listener, settings, sessions, streams) {
+    let served = serve_region(rt, alloc, listener, settings, sessions, streams);
+    conclude(served, out, sessions)
+}
+
+// Answers the fault of what went before, and writes nothing; else writes how many sessions were served.
+fn conclude<W: Sink>(
+    served: Result<(), ServeFault>,
+    out: &mut W,
+    sessions: usize,
+) -> Result<(), ServeFault>
+    ensures fault { IfErr served (λ fault. (result ≡ Err fault) × (out.new ≡ out.old)) }
+    ensures all { OnOk result (served ≡ Ok tt) }
+    ensures ok { OnOk result (Appends (W.contents out.old) (W.contents out.new) (served_line sessions)) }
+    ensures err { OnOk served (OnErr result (AppendsPrefix (W.contents out.old) (W.contents out.new) (served_line sessions))) }
+    ensures write { OnOk served (IfErr result (λ fault. (fault ≡ ServeFault.Write) × W.may_fail)) }
+{
+    match served {
         Ok(()) => write_served(out, sessions),
         Err(fault) => Err(fault),
     }
@@ -81,7 +99,8 @@ where
     R: Threads + Wait + Sync + Copy + Send + 'static,
     S: Source + Drop + Send + 'static,
     requires { (1 ≤ sessions) × (sessions ≤ most_readers) }
-    ensures { IfErr result (λ fault. fault ≢ ServeFault.Write) }
+    ensures whole { OnOk result (AreWhole S.left streams.items) }
+    ensures fault { IfErr result (λ fault. fault ≢ ServeFault.Write) }
 {
     let Settings { layout, workers } = settings;
     let Ok((live, readers)) = open(rt, alloc, layout, sessions) else {
@@ -126,6 +145,7 @@ fn close<R: Wait>(rt: &R, live: LiveRegion, readers: Vec<LiveReader>) -> Result<
 // What went wrong before comes before want of memory at the end.
 fn end(served: Result<(), ServeFault>, closed: Result<Region, NoMemory>) -> Result<(), ServeFault>
     ensures first { result ≡ of_end served closed }
+    ensures all { OnOk result (served ≡ Ok tt) }
     ensures fault { IfErr served (λ fault. fault ≢ ServeFault.Write) → IfErr result (λ fault. fault ≢ ServeFault.Write) }
 {
     match (served, closed) {
@@ -153,19 +173,22 @@ where
     ensures same { tablets_in live.new ≡ tablets_in live.old }
     ensures own { AllRead (tablets_in live.new) readers.new.items }
     ensures all { result ≢ Err ServeFault.Start → vec_len readers.new ≡ vec_len readers.old }
+    ensures whole { OnOk result (AreWhole S.left streams.items) }
     ensures fault { IfErr result (λ fault. fault ≢ ServeFault.Write) }
 {
-    let Ok(feeds) = begin_reading(rt, alloc, streams) else {
+    let Ok(reading) = begin_reading(rt, alloc, streams) else {
         return Err(ServeFault::Start);
     };
     let Begun {
         running,
         is_refused,
     } = begin_sessions(rt, alloc, listener, live, readers);
+    let Reading { feeds, threads } = reading;
     let read = take_all(rt, alloc, live, workers, &feeds, is_refused);
     feeds.close(rt);
     end_sessions(rt, live, running, readers);
-    read
+    read?;
+    end_reading(rt, threads)
 }
 
 // Takes what the streams leave, unless a session was refused.

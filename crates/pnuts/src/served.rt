@@ -96,7 +96,9 @@ fn opened<R: Files<File = File>>(
 ) -> Result<Vec<Stream>, Unopened>
     ensures { IfOk result (λ opened. vec_len opened ≡ vec_len streams) }
 {
-    let mut opened = Vec::new(alloc);
+    let Ok(mut opened) = Vec::with_capacity(alloc, streams.len()) else {
+        return Err(Unopened::Memory);
+    };
     for (name, path) in streams {
         let stream = open_one(rt, alloc, name, path.as_str())?;
         if opened.push(stream).is_err() {

@@ -1,5 +1,5 @@
 -- What the thread of a stream leaves for a round.
-use Rattle.std.specs.Prelude.{◌≡◌, ℕ, ◌+◌, List, [], ◌∷◌, ◌++◌, min, Option, Some, None, IfSome}
+use Rattle.std.specs.Prelude.{◌≡◌, ℕ, ◌+◌, List, [], ◌∷◌, ◌++◌, length, min, Option, Some, None, IfSome}
 use Rattle.pn_record.specs.Limits.{greatest}
 use Rattle.pn_stream.specs.Batches.{Stream, Batch}
 use Rattle.pn_stream.specs.Faults.{Stands}
@@ -17,18 +17,27 @@ following stream delivery = record { stream = stream.name; first = min (stream.p
 -- what a thread leaves of a stream, by what the source has left: the next messages; or that no whole line is there; or the name, where
 -- a fault stands next, and the reader gives no more
 abbrev pub Leaves : {S : Type 0} → (S → Option (List ℕ)) → Stream S → Note → Stream S → Type 0
-Leaves left old (Taken messages) new = (messages.delivery ≡ following old messages.delivery)
+Leaves left old (Taken messages) new = (old.fault ≡ None) × (messages.delivery ≡ following old messages.delivery)
+    × (new.position ≡ old.position + length messages.delivery.images)
     × IfSome (left old.source) (λ text. Batch 1 most_messages old.position (old.part ++ text) messages.delivery.images new.fault new.part (left new.source))
-Leaves left old End new = (new.fault ≡ None) × IfSome (left old.source) (λ text. Batch 1 most_messages old.position (old.part ++ text) [] None new.part (left new.source))
+Leaves left old End new = (old.fault ≡ None) × (new.fault ≡ None)
+    × IfSome (left old.source) (λ text. Batch 1 most_messages old.position (old.part ++ text) [] None new.part (left new.source))
 Leaves left old (Fault name) new = (name ≡ old.name) × (new.fault ≡ Some Failed)
     × ((fault : StreamFault) × (old.fault ≡ None → IfSome (left old.source) (λ text. Stands (old.position + 1) (old.part ++ text) fault)))
 
--- the messages of a note, and the name of a stream with a fault
+-- the note has messages
+abbrev pub IsTaken : Note → Type 0
+IsTaken (Taken messages) = Unit {0}
+IsTaken End = ⊥
+IsTaken (Fault name) = ⊥
+
+-- the messages of a note
 abbrev pub messages_of : Note → List DeliveryValue
 messages_of (Taken messages) = messages.delivery ∷ []
 messages_of End = []
 messages_of (Fault name) = []
 
+-- how many streams are at their ends by the note
 abbrev pub ends_in : Note → ℕ
 ends_in (Taken messages) = 0
 ends_in End = 1

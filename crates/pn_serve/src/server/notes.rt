@@ -1,7 +1,8 @@
 //! What the thread of a stream leaves for a round: messages, that the stream is at its end, or that it has a fault.
 
-ghost use Rattle.std.specs.Prelude.{◌≡◌};
-ghost use Rattle.pn_serve.specs.Server.Notes.{Leaves};
+ghost use Rattle.std.specs.Prelude.{◌≡◌, IsTrue};
+ghost use Rattle.pn_serve.specs.Server.Notes.{Leaves, IsTaken};
+ghost use Rattle.pn_serve.specs.declared.server.notes.Note.TheVariants.{End};
 
 use crate::server::messages::{MOST_MESSAGES, Messages};
 use pn_join::{Dup, StreamName};
@@ -20,9 +21,18 @@ pub(crate) enum Note {
 }
 
 impl Note {
-    /// Whether no other note comes from the stream.
-    pub(crate) fn is_last(&self) -> bool {
-        !matches!(self, Note::Taken(_))
+    /// Whether the stream is at its end.
+    pub(crate) fn is_end(&self) -> bool
+        ensures { IsTrue result → self.now ≡ End }
+    {
+        matches!(self, Note::End)
+    }
+
+    /// Whether messages were taken, so that another note comes from the stream.
+    pub(crate) fn is_taken(&self) -> bool
+        ensures { IsTrue result → IsTaken self.now }
+    {
+        matches!(self, Note::Taken(_))
     }
 }
 
@@ -38,7 +48,8 @@ pub(crate) fn next_note<S: Source + Drop>(stream: &mut StreamReader<S>) -> Note
     }
 }
 
-fn name_of<S: Source + Drop>(stream: &StreamReader<S>) -> StreamName
+/// The name of a stream.
+pub(crate) fn name_of<S: Source + Drop>(stream: &StreamReader<S>) -> StreamName
     ensures { result ≡ stream.now.name }
 {
     let Ok(name) = stream.name().dup() else {

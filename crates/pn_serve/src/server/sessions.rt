@@ -73,7 +73,6 @@ pub(crate) fn begin_sessions<R: Threads>(
     }
 }
 
-#[tactic(auto, using(crate::proofs::Crossing::Readers::reader_send))]
 fn begin_session<R: Threads>(
     rt: &R,
     alloc: Global,

@@ -1,18 +1,37 @@
 //! Streams in threads of their own, each of which leaves what it reads at its place.
 
-ghost use Rattle.std.specs.Prelude.{◌≡◌, ◌+◌, ◌<◌, length, vec_len, IfOk, OnOk};
+ghost use Rattle.std.specs.Prelude.{◌≡◌, ◌+◌, ◌<◌, ◌∷◌, [], ◌++◌, length, map, vec_len, IfOk, IfErr, OnOk};
+ghost use Rattle.pn_serve.specs.Server.Faults.{IsOfReading};
+ghost use Rattle.pn_serve.specs.Server.Whole.{IsWhole, AreWhole};
 
+use crate::ServeFault;
 use crate::server::bell::Bell;
-use crate::server::notes::{Note, next_note};
+use crate::server::notes::{Note, name_of, next_note};
 use crate::server::place::Place;
+use pn_join::StreamName;
 use pn_line::Source;
 use pn_stream::StreamReader;
 use std::alloc::{AllocError, Global};
+use std::snapshot::Snapshot;
 use std::sync::{Arc, Wait};
 use std::thread;
-use std::thread::Threads;
+use std::thread::{Promise, PromisedHandle, Threads};
 
-/// Streams that are read, each by a thread that leaves its notes at a place and rings the bell.
+/// What the thread of a stream says comes true: that it came to the end of the stream, or else only the stream's name.
+#[derive(Drop)]
+pub(crate) struct SaysWhetherWhole<S: Source + Drop>(Snapshot<StreamReader<S>>);
+
+impl<S: Source + Drop> Promise<Result<(), StreamName>> for SaysWhetherWhole<S> {
+    ghost use Rattle.std.specs.Prelude.{OnOk};
+    ghost use Rattle.pn_serve.specs.Server.Whole.{IsWhole};
+
+    ghost kept_by = { λ promise ended. OnOk ended (IsWhole S.left promise.0.value) };
+}
+
+/// The thread of a stream.
+pub(crate) type Feeding<S> = PromisedHandle<Result<(), StreamName>, SaysWhetherWhole<S>>;
+
+/// Where the threads of streams leave their notes, each at a place of its own, and the bell that they ring.
 #[derive(Drop)]
 pub(crate) struct Feeds {
     pub(crate) places: Vec<Arc<Place>>,
@@ -20,7 +39,7 @@ pub(crate) struct Feeds {
 }
 
 impl Feeds {
-    /// How many they are.
+    /// How many streams they are.
     pub(crate) fn count(&self) -> usize
         ensures { result ≡ vec_len self.now.places }
     {
@@ -47,64 +66,104 @@ impl Feeds {
     }
 }
 
+/// Streams that are read, each by a thread.
+#[derive(Drop)]
+pub(crate) struct Reading<S: Source + Drop> {
+    pub(crate) feeds: Feeds,
+    pub(crate) threads: Vec<Feeding<S>>,
+}
+
 /// Begins to read streams, each in a thread of its own. A thread that is refused ends the reading.
 pub(crate) fn begin_reading<R, S>(
     rt: &R,
     alloc: Global,
     streams: Vec<StreamReader<S>>,
-) -> Result<Feeds, AllocError>
+) -> Result<Reading<S>, AllocError>
 where
     R: Threads + Wait + Copy + Send + 'static,
     S: Source + Drop + Send + 'static,
-    ensures { IfOk result (λ feeds. vec_len feeds.places ≡ vec_len streams) }
+    ensures { IfOk result (λ reading. map (λ thread. thread.promise.0.value) reading.threads.items ≡ streams.items) }
 {
-    let mut feeds = Feeds {
-        places: Vec::with_capacity(alloc, streams.len())?,
-        bell: Arc::new(alloc, Bell::new())?,
+    let mut reading = Reading {
+        feeds: Feeds {
+            places: Vec::with_capacity(alloc, streams.len())?,
+            bell: Arc::new(alloc, Bell::new())?,
+        },
+        threads: Vec::with_capacity(alloc, streams.len())?,
     };
     for stream in streams {
-        if let Err(fault) = begin_one(rt, alloc, &mut feeds, stream) {
-            feeds.close(rt);
+        if let Err(fault) = begin_one(rt, alloc, &mut reading, stream) {
+            reading.feeds.close(rt);
             return Err(fault);
         }
     }
-    Ok(feeds)
+    Ok(reading)
 }
 
 fn begin_one<R, S>(
     rt: &R,
     alloc: Global,
-    feeds: &mut Feeds,
+    reading: &mut Reading<S>,
     stream: StreamReader<S>,
 ) -> Result<(), AllocError>
 where
     R: Threads + Wait + Copy + Send + 'static,
     S: Source + Drop + Send + 'static,
-    ensures { OnOk result (vec_len feeds.new.places ≡ vec_len feeds.old.places + 1) }
+    ensures { OnOk result (map (λ thread. thread.promise.0.value) reading.new.threads.items
+        ≡ map (λ thread. thread.promise.0.value) reading.old.threads.items ++ stream ∷ []) }
 {
     let place = Arc::new(alloc, Place::new())?;
-    let bell = Arc::try_clone(&feeds.bell)?;
-    feeds.places.push(Arc::try_clone(&place)?)?;
+    let bell = Arc::try_clone(&reading.feeds.bell)?;
+    reading.feeds.places.push(Arc::try_clone(&place)?)?;
     let host = *rt;
-    thread::spawn(rt, move || leave_all(&host, stream, &place, &bell))?;
+    let promise = SaysWhetherWhole(Snapshot::of(&stream));
+    let thread = thread::spawn_with(rt, promise, move || {
+        leave_all(&host, stream, &place, &bell)
+    })?;
+    reading.threads.push(thread)?;
     Ok(())
 }
 
-// Leaves note after note of a stream, until its last one, or until no more are taken.
+// Leaves note after note of a stream, until its last one, or until no more are taken. The stream's name, where its end was
+// not left.
 fn leave_all<R: Wait, S: Source + Drop>(
     rt: &R,
     stream: StreamReader<S>,
     place: &Place,
     bell: &Bell,
-) {
+) -> Result<(), StreamName>
+    ensures { OnOk result (IsWhole S.left stream) }
+{
     let mut stream = stream;
     for _ in rt.forever() {
         let note = next_note(&mut stream);
-        let is_last = note.is_last();
+        let is_end = note.is_end();
+        let is_taken = note.is_taken();
         let is_wanted = place.leave(rt, note);
         bell.ring(rt);
-        if is_last || !is_wanted {
+        if is_end {
+            return Ok(());
+        }
+        if !is_taken || !is_wanted {
             break;
         }
     }
+    Err(name_of(&stream))
+}
+
+/// Waits for the threads of streams, which were taken to their ends. The first one that did not come to its stream's end
+/// names that.
+pub(crate) fn end_reading<R: Threads, S: Source + Drop>(
+    rt: &R,
+    threads: Vec<Feeding<S>>,
+) -> Result<(), ServeFault>
+    ensures whole { OnOk result (AreWhole S.left (map (λ thread. thread.promise.0.value) threads.items)) }
+    ensures fault { IfErr result IsOfReading }
+{
+    for thread in threads {
+        if let Err(name) = thread.join(rt) {
+            return Err(ServeFault::Stream(name));
+        }
+    }
+    Ok(())
 }

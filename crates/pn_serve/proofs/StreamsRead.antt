@@ -1,0 +1,63 @@
+-- What was read of a stream, one note after another.
+use Rattle.std.proofs.Common.{◌≡◌, ℕ, ◌+◌, ◌≤◌, List, [], ◌∷◌, ◌++◌, length, Option, None, Some, IfSome, inl, inr, refl, sym, ap, ◌∙◌, subst, arith, length-append, append-nil}
+use Rattle.pn_record.specs.declared.image.Image.{Image}
+use Rattle.pn_stream.specs.Batches.{Stream, Batch, SoFar}
+use Rattle.pn_stream.specs.Streams.{Run, NoLine}
+use Rattle.pn_stream.specs.declared.fault.StreamFault.{StreamFault}
+use Rattle.pn_stream.proofs.Runs.{Run-append, SoFar-none, on_rest}
+use Rattle.pn_serve.specs.declared.server.messages.Messages.{Messages}
+use Rattle.pn_serve.specs.declared.server.notes.Note.TheVariants.{Taken, End}
+use Rattle.pn_serve.specs.Server.Messages.{most_messages}
+use Rattle.pn_serve.specs.Server.Notes.{Leaves}
+use Rattle.pn_serve.specs.Server.Whole.{IsAllMessages, IsReadUpTo, IsWhole, WasRead}
+
+none_yet : (position : ℕ) (part : List ℕ) (left : Option (List ℕ)) → IfSome left (λ text. SoFar position (part ++ text) [] part left) → IfSome left (λ text. IsReadUpTo position (part ++ text) position part left)
+none_yet position part None so = tt
+none_yet position part (Some text) so = record { images = []; read = so; last_is = omega arith }
+
+-- before the first note
+pub read_none : {S : Type 0} (left : S → Option (List ℕ)) (stream : Stream S) → WasRead left stream stream
+read_none left stream none = (none, none_yet stream.position stream.part (left stream.source) (SoFar-none stream.position stream.part [] (left stream.source) refl))
+
+one_more : (position last : ℕ) (front part now : List ℕ) (images : List Image) (first left leaves : Option (List ℕ)) (fault : Option StreamFault) → fault ≡ None
+    → IfSome first (λ text. IsReadUpTo position (front ++ text) last part left) → IfSome left (λ text. Batch 1 most_messages last (part ++ text) images fault now leaves)
+    → IfSome first (λ text. IsReadUpTo position (front ++ text) (last + length images) now leaves)
+one_more position last front part now images None left leaves fault none read batch = tt
+one_more position last front part now images (Some text) left leaves (Some fault) none read batch = absurd none
+one_more position last front part now images (Some text) left leaves None none read batch =
+    let more = on_rest read.read.rest part left (λ (t : List ℕ). Batch 1 most_messages last t images None now leaves) read.read.is_left batch in
+    let run : Run (position + length read.images) read.read.rest images more.rest = subst (λ (n : ℕ). Run n read.read.rest images more.rest) read.last_is more.run in
+    record {
+      images = read.images ++ images;
+      read = record { rest = more.rest; run = Run-append position (front ++ text) read.read.rest more.rest read.images images read.read.run run; is_left = more.ends.1 };
+      last_is = omega (arith, read.last_is, length-append read.images images);
+    }
+
+-- once more messages were taken
+pub read_on : {S : Type 0} (left : S → Option (List ℕ)) (first old new : Stream S) (messages : Messages) → WasRead left first old → Leaves left old (Taken messages) new → WasRead left first new
+read_on left first old new messages read leaves none =
+    let before = read leaves.0 in
+    (before.0, subst (λ (n : ℕ). IfSome (left first.source) (λ text. IsReadUpTo first.position (first.part ++ text) n new.part (left new.source))) (sym leaves.2)
+        (one_more first.position old.position first.part old.part new.part messages.delivery.images (left first.source) (left old.source) (left new.source) new.fault none before.1 leaves.3))
+
+all_messages : (position last : ℕ) (front part now : List ℕ) (first left leaves : Option (List ℕ)) → IfSome first (λ text. IsReadUpTo position (front ++ text) last part left)
+    → IfSome left (λ text. Batch 1 most_messages last (part ++ text) [] None now leaves) → IfSome first (λ text. IsAllMessages position (front ++ text))
+all_messages position last front part now None left leaves read batch = tt
+all_messages position last front part now (Some text) left leaves read batch =
+    let more = on_rest read.read.rest part left (λ (t : List ℕ). Batch 1 most_messages last t [] None now leaves) read.read.is_left batch in
+    let run : Run (position + length read.images) read.read.rest [] more.rest = subst (λ (n : ℕ). Run n read.read.rest [] more.rest) read.last_is more.run in
+    record {
+      images = read.images ++ [];
+      rest = more.rest;
+      run = Run-append position (front ++ text) read.read.rest more.rest read.images [] read.read.run run;
+      no_line = elim more.ends.0 [
+        | inl enough ↦ absurd (omega (arith, enough.0))
+        | inr few ↦ few.1
+      ];
+    }
+
+-- once the end was found
+pub whole_at_end : {S : Type 0} (left : S → Option (List ℕ)) (first old new : Stream S) → WasRead left first old → Leaves left old End new → IsWhole left first
+whole_at_end left first old new read leaves =
+    let before = read leaves.0 in
+    (before.0, all_messages first.position old.position first.part old.part new.part (left first.source) (left old.source) (left new.source) before.1 leaves.2)

@@ -1,0 +1,6 @@
+-- What was read so far is messages in step.
+use Rattle.pn_serve.specs.Server.Whole.{WasRead}
+use Rattle.pn_serve.proofs.server.streams.leave_all.Given as goal
+
+abbrev pub invariant-loop : goal.invariant-loop
+invariant-loop g l = WasRead g.S.Source.left l.fn.stream l.stream
