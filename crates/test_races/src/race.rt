@@ -99,19 +99,17 @@ fn race_once<R: Threads + Wait + Sync>(
     ensures three { IsReaderIn live.new second.new.one.reader }
     ensures four { IsReaderIn live.new second.new.two.reader }
 {
-    let Phase {
-        alloc,
-        first: number,
-        ..
-    } = phase;
+    let (alloc, number) = (phase.alloc, phase.first);
     let one = feed_both(rt, alloc, live, first, number);
     let two = feed_both(rt, alloc, live, second, number.saturating_add(2));
+    let lost = copy_for(&mut first.one.reader, phase);
+    let is_copied = lost.is_some() == phase.lost.is_some();
     let mut work = Work {
         alloc,
         first: number.saturating_add(4),
-        lost: copy_for(&mut first.one.reader, phase),
+        lost,
     };
-    beside_four(rt, live, &mut work, first, second) && one && two
+    beside_four(rt, live, &mut work, first, second) && one && two && is_copied
 }
 
 // All phases. Whether each went well.
