@@ -6,10 +6,11 @@ use Rattle.pn_tablet.specs.Ranges.{Ends}
 use Rattle.pn_tablet.specs.Tablets.{TabletStateValue, empty_tablet}
 use Rattle.pn_apply.specs.Reducing.{ranges}
 use Rattle.pn_region.specs.Regions.{AreTabletsOf, ArePartsOf}
+use Rattle.pn_live.specs.Behind.{IsOfPlace, AreOfPlaces, IsBehind, AreBehind}
 use Rattle.pn_live.specs.LiveRegions.{LiveRegionValue, IsReaderIn}
 use Rattle.pn_live.specs.Places.{PlaceValue, state_at}
 use Rattle.pn_live.specs.Readers.{LiveReaderValue, Tablets, AreWindowsOf, ReadsFrom}
-use Rattle.pn_live.specs.Windows.{WindowValue, IsOfPlace, AreOfPlaces, IsBehind, AreBehind}
+use Rattle.pn_live.specs.Windows.{WindowValue}
 use Rattle.pn_live.proofs.ListLaws.{range_kept}
 
 pub of_within : (places : List PlaceValue) (n : ℕ) (w : WindowValue) (rest : List WindowValue) → AreOfPlaces (drop n places) (w ∷ rest) → n < length places

@@ -19,3 +19,4 @@ pub mod Rounds
 pub mod Taken
 pub mod WindowLaws
 pub mod HonestLists
+pub mod Crossing

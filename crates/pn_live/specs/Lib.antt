@@ -1,4 +1,5 @@
 pub mod Attempts
+pub mod Behind
 pub mod Books
 pub mod Copying
 pub mod Honest

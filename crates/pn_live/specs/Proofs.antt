@@ -1,2 +1,3 @@
 -- The proofs that definitions need.
 pub mod Coding
+pub mod OpCoding

@@ -6,7 +6,7 @@ use Rattle.pn_tablet.specs.Ranges.{Ends}
 use Rattle.pn_tablet.specs.Steps.{state_of}
 use Rattle.pn_tablet.specs.Tablets.{TabletStateValue}
 use Rattle.pn_tablet.specs.declared.op.TabletOp.{TabletOp}
-use Rattle.pn_live.specs.Places.{PlaceValue, NoteValue}
+use Rattle.pn_live.specs.Places.{NoteValue}
 
 -- which tablet it is, its range, the operations that lead to what the reader saw, and those that it was told of
 pub record WindowValue : Type 0 where
@@ -45,25 +45,3 @@ pub record KnowsMore (old new : WindowValue) : Type 0 where
   pub range : new.range ≡ old.range
   pub seen : IsPrefix old.seen new.seen
   pub told : IsPrefix old.told new.told
-
--- the window is of the live tablet
-pub record IsOfPlace (place : PlaceValue) (window : WindowValue) : Type 0 where
-  pub book : window.book ≡ place.book
-  pub range : window.range ≡ place.range
-
--- each window is of the live tablet at its place
-abbrev pub AreOfPlaces : List PlaceValue → List WindowValue → Type 0
-AreOfPlaces [] [] = Unit {0}
-AreOfPlaces (place ∷ places) (window ∷ windows) = IsOfPlace place window × AreOfPlaces places windows
-AreOfPlaces _ _ = ⊥
-
--- what was seen of the tablet and told of it begins what is published
-pub record IsBehind (place : PlaceValue) (window : WindowValue) : Type 0 where
-  pub seen : IsPrefix window.seen place.list
-  pub told : IsPrefix window.told place.list
-
--- the same of each tablet
-abbrev pub AreBehind : List PlaceValue → List WindowValue → Type 0
-AreBehind [] [] = Unit {0}
-AreBehind (place ∷ places) (window ∷ windows) = IsBehind place window × AreBehind places windows
-AreBehind _ _ = ⊥

@@ -3,9 +3,9 @@
 ghost use Rattle.std.specs.Prelude.{◌≡◌, ◌≤◌, ◌<◌, ◌^◌, length, IfOk, OnOk, OnErr, IfSome, IsTrue};
 ghost use Rattle.pn_tablet.specs.Layouts.{tablet_ends};
 ghost use Rattle.pn_tablet.specs.Steps.{stepped};
+ghost use Rattle.pn_live.specs.Behind.{IsOfPlace, IsBehind};
 ghost use Rattle.pn_live.specs.Places.{IsNewPlace, state_at, appended, note_of};
 ghost use Rattle.pn_live.specs.Readers.{opening};
-ghost use Rattle.pn_live.specs.Windows.{IsOfPlace, IsBehind};
 
 mod nexts;
 

@@ -1,45 +1,19 @@
 -- How live tablets, and what readers know of them, are stored in a proof.
-use Rattle.std.specs.Prelude.{◌≡◌, ◌⊎◌, List, refl}
-use mathlib.Core.Logic.{inl, inr}
-use Rattle.std.specs.Coded.{Coded, code_by, coded×, coded⊎, coded_ℕ, coded_list}
-use base.Stored.{coded_unit}
+use Rattle.std.specs.Prelude.{List, refl}
+use Rattle.std.specs.Coded.{Coded, code_by, coded×, coded_ℕ, coded_list}
 use Rattle.logbook.specs.Pages.{Book, book_coded}
 use Rattle.pn_join.specs.Marks.{Positions}
-use Rattle.pn_record.specs.CellMap.{Entries}
-use Rattle.pn_tablet.specs.Copies.{TabletCopyValue}
 use Rattle.pn_tablet.specs.Layouts.{Bounds}
-use Rattle.pn_tablet.specs.Proofs.Coding.{ends_code, entries_code, positions_code, copy_code}
+use Rattle.pn_tablet.specs.Proofs.Coding.{ends_code, positions_code}
 use Rattle.pn_tablet.specs.Ranges.{Ends}
 use Rattle.pn_tablet.specs.declared.op.TabletOp.{TabletOp}
-use Rattle.pn_tablet.specs.declared.op.TabletOp.TheVariants.{Join, Lose, Adopt}
 use Rattle.pn_region.specs.Proofs.Coding.{entry_code}
 use Rattle.pn_region.specs.declared.entry.Entry.{Entry}
 use Rattle.pn_live.specs.LiveRegions.{LiveRegionValue}
 use Rattle.pn_live.specs.Places.{PlaceValue, NoteValue}
+use Rattle.pn_live.specs.Proofs.OpCoding.{list_code}
 use Rattle.pn_live.specs.Readers.{LiveReaderValue}
 use Rattle.pn_live.specs.Windows.{WindowValue}
-
--- an operation as one of three
-abbrev pub Three : Type 0
-Three = (Entries × Positions) ⊎ (Unit {0} ⊎ TabletCopyValue)
-
-abbrev pub three_of : TabletOp → Three
-three_of (Join cells marks) = inl (cells, marks)
-three_of Lose = inr (inl tt)
-three_of (Adopt copy) = inr (inr copy)
-
-abbrev pub op_of : Three → TabletOp
-op_of (inl joined) = Join joined.0 joined.1
-op_of (inr (inl lost)) = Lose
-op_of (inr (inr copy)) = Adopt copy
-
-abbrev pub same_op : (op : TabletOp) → op_of (three_of op) ≡ op
-same_op (Join cells marks) = refl
-same_op Lose = refl
-same_op (Adopt copy) = refl
-
-abbrev pub list_code : Coded (List TabletOp)
-list_code = coded_list (code_by Three (coded⊎ (coded× entries_code positions_code) (coded⊎ coded_unit copy_code)) three_of op_of same_op)
 
 -- live tablets, notes, windows, readers and live regions as pairs
 abbrev pub place_code : Coded PlaceValue

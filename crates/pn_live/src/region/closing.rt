@@ -2,10 +2,10 @@
 
 ghost use Rattle.std.specs.Prelude.{◌≡◌, map, IfOk, IsTrue};
 ghost use Rattle.std.specs.List.{AllByRecursion};
+ghost use Rattle.pn_live.specs.Behind.{AreBehind, AreOfPlaces};
 ghost use Rattle.pn_live.specs.LiveRegions.{core, IsReaderIn};
 ghost use Rattle.pn_live.specs.Places.{state_at};
 ghost use Rattle.pn_live.specs.Readers.{ReadsFrom};
-ghost use Rattle.pn_live.specs.Windows.{AreBehind, AreOfPlaces};
 
 use super::LiveRegion;
 use crate::place::Place;

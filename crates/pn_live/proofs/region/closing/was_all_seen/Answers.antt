@@ -2,8 +2,8 @@
 use Rattle.std.proofs.Common.{◌≡◌, ◌∷◌, length, sym, ap, subst, ◌∙◌, arith}
 use Rattle.std.specs.List.{AllByRecursion}
 use Rattle.std.specs.Vec.Iter.{into_iter_items}
+use Rattle.pn_live.specs.Behind.{AreOfPlaces, AreBehind}
 use Rattle.pn_live.specs.Readers.{LiveReaderValue, ReadsFrom}
-use Rattle.pn_live.specs.Windows.{AreOfPlaces, AreBehind}
 use Rattle.pn_live.proofs.Closing.{windows_of_places}
 use Rattle.pn_live.proofs.Walks.{nothing_left}
 use Rattle.pn_live.proofs.region.closing.was_all_seen.Goals as goal

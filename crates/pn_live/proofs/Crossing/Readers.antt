@@ -9,7 +9,7 @@ use Rattle.atomic_table.proofs.shared.Seat.TheSendSync as spot
 use Rattle.atomic_table.proofs.shared.Shared.TheSendSync as shared
 use Rattle.atomic_table.proofs.send_lease.SendLease.TheSendSync as lease
 use Rattle.logbook.proofs.tokens.Seen.TheSendSync as seen
-use Rattle.pn_serve.proofs.Crossing.Records.{state_sync, key_send}
+use Rattle.pn_live.proofs.Crossing.Records.{state_sync, key_send}
 use Rattle.pn_live.specs.contracts.shown.Shown as shown
 use Rattle.pn_live.specs.contracts.seat.Seat as seat
 use Rattle.pn_tablet.specs.contracts.layout.Layout as layout

@@ -10,9 +10,6 @@ use Rattle.pn_tablet.specs.contracts.sharing.SharedRecords as records
 use Rattle.pn_tablet.specs.contracts.range.Range as range
 use Rattle.pn_tablet.specs.contracts.state.TabletState as state
 
-pub name_send : IsSend name.the_row
-name_send = search (sendable, crosses) depth 40
-
 pub name_sync : IsSync name.the_row
 name_sync = search (sendable, crosses) depth 40
 
@@ -40,14 +37,8 @@ key_send = search (sendable, crosses) depth 40
 pub key_sync : IsSync key.the_row
 key_sync = search (sendable, crosses) depth 40
 
-pub records_send : IsSend records.the_row
-records_send = search (sendable, crosses, key_send, key_sync, cell_send, cell_sync) depth 40
-
 pub records_sync : IsSync records.the_row
 records_sync = search (sendable, crosses, key_send, key_sync, cell_send, cell_sync) depth 40
-
-pub state_send : IsSend state.the_row
-state_send = search (sendable, crosses, records_send, key_send, name_send) depth 40 fits 20000
 
 pub state_sync : IsSync state.the_row
 state_sync = search (sendable, crosses, records_sync, key_sync, name_sync) depth 40 fits 20000
