@@ -78,8 +78,8 @@ pub fn time_plain<R: Clock + Threads + Wait + Sync, S: Source + Drop>(
     Some(Took { reads, rounds })
 }
 
-/// How long a live region takes, which is read by four threads; and while its rounds are measured too, where the plan
-/// says so.
+/// How long a live region takes, which is read by four threads; and by three while its rounds are measured, where the
+/// plan says so: on four processors the writer then has one of its own.
 pub fn time_live<R: Clock + Threads + Wait + Sync, S: Source + Drop>(
     rt: &R,
     alloc: Global,
@@ -118,8 +118,7 @@ fn time_opened<R: Clock + Threads + Wait + Sync, S: Source + Drop>(
     Some(Took { reads, rounds })
 }
 
-// How long the rounds take while the readers read on.
-#[tactic(auto, using(crate::proofs::Runners::four_send, crate::proofs::Runners::delivery_send))]
+// How long the rounds take while three readers read on.
 fn time_busy<R: Clock + Threads + Wait + Sync>(
     rt: &R,
     live: &mut LiveRegion,

@@ -64,7 +64,7 @@ enum Way {
     Plain,
     /// The same, by a live region that four threads read before its last rounds.
     Live,
-    /// The same, and the threads read during its last rounds too.
+    /// The same, and three of the threads read during its last rounds too.
     Busy,
 }
 

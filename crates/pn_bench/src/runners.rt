@@ -42,7 +42,6 @@ impl Runner {
 }
 
 // Lets both read, each in a thread of its own.
-#[tactic(auto, using(crate::proofs::Runners::runner_send))]
 fn read_both<R: Threads + Sync>(rt: &R, first: &mut Runner, second: &mut Runner) {
     join_mut(rt, &mut || first.read(), &mut || second.read());
 }
@@ -72,7 +71,6 @@ impl Four {
     }
 
     /// Lets each read all keys once, in a thread of its own.
-    #[tactic(auto, using(crate::proofs::Runners::runner_send))]
     pub fn read_all<R: Threads + Sync>(&mut self, rt: &R) {
         let Four {
             one,
@@ -87,11 +85,21 @@ impl Four {
         );
     }
 
-    /// The same, so many times.
+    /// Lets three of them read all keys so many times, each in a thread of its own.
     pub fn read_on<R: Threads + Sync>(&mut self, rt: &R, times: usize) {
         for _ in 0..times {
-            self.read_all(rt);
+            self.read_three(rt);
         }
+    }
+
+    fn read_three<R: Threads + Sync>(&mut self, rt: &R) {
+        let Four {
+            one,
+            two,
+            three,
+            ..
+        } = self;
+        join_mut(rt, &mut || read_both(rt, one, two), &mut || three.read());
     }
 
     /// How often one of them did not find a key.
