@@ -11,6 +11,9 @@ SCRIPT ?= crates/pnuts/stdin
 PROGRAM := crates/pnuts/out/pnuts
 STEPS := crates/pn_bench/out/pn_bench
 
+# The tests of live regions, of which one is run with each of its allocations refused.
+LIVE := crates/test_live/out/test_live_tests
+
 # The program that answers many scripts in one input.
 SCRIPTS := crates/test_rows/out/test_rows
 
@@ -51,9 +54,10 @@ bench: build
 checks: build
 	@cd crates/pn_bench && rt run < stdin > /dev/null
 	@cd crates/test_rows && rt run < stdin > /dev/null
+	@cd crates/test_live && rt test > /dev/null
 	@checks/exit-statuses "$(PROGRAM)"
 	@checks/sessions "$(PROGRAM)"
-	@checks/out-of-memory "$(PROGRAM)" "$(STEPS)"
+	@checks/out-of-memory "$(PROGRAM)" "$(STEPS)" "$(LIVE)"
 	@checks/random-scripts "$(SCRIPTS)" --scripts 3000
 
 # Runs the worked rows through the built program, where they are at hand.
