@@ -1,6 +1,7 @@
 -- What is published of a live tablet, and what a reader knows of it.
 use Rattle.std.specs.Prelude.{◌≡◌, List}
 use Rattle.pn_tablet.specs.Ranges.{Ends}
+use Rattle.pn_tablet.specs.Tablets.{TabletStateValue}
 use Rattle.pn_tablet.specs.declared.op.TabletOp.{TabletOp}
 use Rattle.pn_live.specs.Attempts.{settled_of}
 use Rattle.pn_live.specs.Orders.{list_of}
@@ -10,6 +11,10 @@ use Rattle.pn_live.specs.declared.seat.Seat.{Seat}
 -- the operations whose publication ended well
 abbrev pub published : LiveTablet → List TabletOp
 published tablet = settled_of tablet.note.seen.log
+
+-- the state that readers find
+abbrev pub state_in : LiveTablet → TabletStateValue
+state_in tablet = tablet.writer.desk.shown.value.state
 
 -- the operations that lead to what the reader's last answer read
 abbrev pub seen_by : Seat → List TabletOp
@@ -26,4 +31,4 @@ range_of seat = seat.seen.value.state.range
 -- the reader is one of this tablet's
 pub record IsReaderOf (tablet : LiveTablet) (seat : Seat) : Type 0 where
   pub book : seat.told.seen.book ≡ tablet.note.seen.book
-  pub range : range_of seat ≡ tablet.state.range
+  pub range : range_of seat ≡ (state_in tablet).range

@@ -1,6 +1,6 @@
 //! The rule of a live tablet's pair: what is published only grows, and begins with what any reader saw.
 
-use crate::shown::Shown;
+use crate::shown::{Shown, Untold};
 use atomic_table::{Join, Split};
 use crossbeam_utils::rule::{Outcome, Protocol};
 use left_right::reader::Reader;
@@ -46,4 +46,4 @@ impl Join<Option<Shown>> for Tells {
 
 pub type TabletReader = Reader<Shown, Option<Shown>, Order>;
 
-pub type TabletWriter = Writer<Shown, Shown, Option<Shown>, Order>;
+pub type TabletWriter = Writer<Shown, Untold, Option<Shown>, Order>;

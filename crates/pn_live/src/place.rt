@@ -1,8 +1,9 @@
 //! Live tablets as their region has them.
 
-ghost use Rattle.std.specs.Prelude.{◌≡◌, ◌≤◌, ◌<◌, ◌^◌, length, IfOk, OnOk, OnErr, IfSome, IsTrue};
+ghost use Rattle.std.specs.Prelude.{◌≡◌, ◌≤◌, ◌<◌, ◌^◌, length, Ok, IfOk, IfSome, IsTrue};
 ghost use Rattle.pn_tablet.specs.Layouts.{tablet_ends};
-ghost use Rattle.pn_tablet.specs.Steps.{stepped};
+ghost use Rattle.pn_tablet.specs.Operations.{HasPositions};
+ghost use Rattle.pn_tablet.specs.Steps.{step};
 ghost use Rattle.pn_live.specs.Behind.{IsOfPlace, IsBehind};
 ghost use Rattle.pn_live.specs.Places.{IsNewPlace, state_at, appended, note_of};
 ghost use Rattle.pn_live.specs.Readers.{opening};
@@ -10,9 +11,9 @@ ghost use Rattle.pn_live.specs.Readers.{opening};
 mod nexts;
 
 use crate::front::Note;
-use crate::tablet::LiveTablet;
+use crate::tablet::{Draft, LiveTablet};
 use crate::window::Window;
-use pn_join::{Dup, NoMemory};
+use pn_join::NoMemory;
 use pn_tablet::{Layout, Range, TabletOp, TabletState};
 use std::alloc::Global;
 use std::marker::Model;
@@ -27,7 +28,7 @@ impl Model for Place {
     ghost use Rattle.std.specs.Prelude.{◌≡◌};
     ghost use Rattle.pn_tablet.specs.Steps.{state_of};
     ghost use Rattle.pn_live.specs.Places.{PlaceValue};
-    ghost use Rattle.pn_live.specs.Published.{published};
+    ghost use Rattle.pn_live.specs.Published.{published, state_in};
 
     ghost Value = { PlaceValue };
 
@@ -35,17 +36,9 @@ impl Model for Place {
 
     ghost coded = { place_code };
 
-    ghost view = { λ place. record { book = place.tablet.note.seen.book; range = place.tablet.state.range; list = published place.tablet } };
+    ghost view = { λ place. record { book = place.tablet.note.seen.book; range = (state_in place.tablet).range; list = published place.tablet } };
 
-    ghost invariant = { λ place. place.tablet.state ≡ state_of place.tablet.state.range (published place.tablet) };
-}
-
-/// A state that is to be published, and the copy of it that readers get.
-#[derive(Drop)]
-pub struct Next {
-    pub state: TabletState,
-    pub copy: TabletState,
-    ghost same: { copy ≡ state },
+    ghost invariant = { λ place. state_in place.tablet ≡ state_of (state_in place.tablet).range (published place.tablet) };
 }
 
 impl Place {
@@ -67,26 +60,21 @@ impl Place {
         Ok(Place { tablet })
     }
 
-    /// A copy of its state.
-    pub fn draft(&self) -> Result<TabletState, NoMemory>
-        ensures { IfOk result (λ state. state ≡ state_at self.now) }
+    /// A draft of its next state. It waits for readers that still read the state before last.
+    pub fn draft<R: Wait>(&mut self, rt: &R, alloc: Global) -> Result<Draft, NoMemory>
+        ensures draft { IfOk result (λ draft. HasPositions draft.lacks × (step draft.state draft.lacks ≡ Ok (state_at self.old))) }
+        ensures same { self.new ≡ self.old }
     {
-        self.tablet.state.dup()
+        self.tablet.draft(rt, alloc)
     }
 
-    /// Publishes the next state, which the operation makes of this one. An error publishes nothing.
-    pub fn publish<R: Wait>(
-        &mut self,
-        rt: &R,
-        next: Next,
-        operation: &TabletOp,
-    ) -> Result<(), NoMemory>
-        requires { next.state ≡ stepped (state_at self.old) operation.now }
-        ensures ok { OnOk result (self.new ≡ appended self.old operation.now) }
-        ensures err { OnErr result (self.new ≡ self.old) }
+    /// Publishes the next state, which the operation makes of this one. It takes no memory.
+    pub fn publish<R: Wait>(&mut self, rt: &R, next: TabletState, operation: TabletOp)
+        requires positions { HasPositions operation }
+        requires next { step (state_at self.old) operation ≡ Ok next }
+        ensures { self.new ≡ appended self.old operation }
     {
-        let Next { state, copy } = next;
-        self.tablet.publish(rt, state, copy, operation)
+        self.tablet.publish(rt, next, operation)
     }
 
     /// A note of what is published.

@@ -29,24 +29,18 @@ impl Dup for Shown {
     }
 }
 
-/// The last state that was handed over wins.
-impl Absorb<Shown> for Shown {
-    type State = Shown;
+/// What the pair's own log would take: nothing, since the writer changes the copy that nobody reads.
+#[derive(Drop)]
+pub struct Untold;
 
-    ghost state = { λ shown. shown };
+impl Absorb<Untold> for Shown {
+    type State = ();
 
-    ghost applied = { λ shown next. next };
+    ghost state = { λ shown. tt };
 
-    fn absorb_first(&mut self, operation: &Shown, _other: &Shown) -> Result<(), AllocError> {
-        let Ok(copy) = operation.dup() else {
-            return Err(AllocError);
-        };
-        *self = copy;
-        Ok(())
-    }
+    ghost applied = { λ state untold. state };
 
-    fn absorb_second(&mut self, operation: Shown, _other: &Shown) -> Result<(), Shown> {
-        *self = operation;
+    fn absorb_first(&mut self, _operation: &Untold, _other: &Shown) -> Result<(), AllocError> {
         Ok(())
     }
 }

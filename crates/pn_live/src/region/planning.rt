@@ -7,76 +7,76 @@ ghost use Rattle.pn_apply.specs.Limits.{most_workers};
 ghost use Rattle.pn_live.specs.Places.{state_at};
 
 use crate::front::Note;
-use crate::place::{Next, Place};
-use pn_apply::{Gate, apply_all};
+use crate::place::Place;
+use crate::tablet::Draft;
+use pn_apply::{Gate, Open, apply_all};
 use pn_join::{Dup, NoMemory};
 use pn_tablet::{Change, TabletOp, TabletState};
 use std::alloc::Global;
+use std::sync::Wait;
 use std::thread::Threads;
 
 /// The next states with what changed in each, how many records that are, and room for the notes of a front.
 #[derive(Drop)]
 pub(super) struct Plan {
-    pub(super) nexts: Vec<Next>,
+    pub(super) nexts: Vec<TabletState>,
     pub(super) lists: Vec<Vec<Change>>,
     pub(super) changed: u64,
     pub(super) notes: Vec<Note>,
 }
 
 /// What each tablet's operation makes of its state. All memory that publishing takes here is taken.
-pub(super) fn planned<R: Threads + Sync, G: Gate + Sync>(
+pub(super) fn planned<R: Threads + Wait + Sync, G: Gate + Sync>(
     rt: &R,
     alloc: Global,
-    places: &[Place],
+    places: &mut [Place],
     operations: &[TabletOp],
     workers: usize,
     gate: &G,
 ) -> Result<Plan, NoMemory>
-    requires joins { AreJoinsIn (map state_at places.now) operations.now }
+    requires joins { AreJoinsIn (map state_at places.old) operations.now }
     requires positions { HavePositions operations.now }
     requires workers { (1 ≤ workers) × (workers ≤ most_workers) }
-    ensures nexts { IfOk result (λ plan. map (λ next. next.state) plan.nexts.items ≡ all_stepped (map state_at places.now) operations.now) }
-    ensures changes { IfOk result (λ plan. flat_map (λ list. list.items) plan.lists.items ≡ flat_map (λ list. list) (all_changes (map state_at places.now) operations.now)) }
+    ensures nexts { IfOk result (λ plan. plan.nexts.items ≡ all_stepped (map state_at places.old) operations.now) }
+    ensures changes { IfOk result (λ plan. flat_map (λ list. list.items) plan.lists.items ≡ flat_map (λ list. list) (all_changes (map state_at places.old) operations.now)) }
     ensures changed { IfOk result (λ plan. plan.changed ≡ length (flat_map (λ list. list.items) plan.lists.items)) }
-    ensures notes { IfOk result (λ plan. (plan.notes.items ≡ []) × (vec_capacity plan.notes ≡ length places.now)) }
+    ensures same { places.new ≡ places.old }
+    ensures notes { IfOk result (λ plan. (plan.notes.items ≡ []) × (vec_capacity plan.notes ≡ length places.old)) }
 {
-    let mut states = drafts(alloc, places)?;
+    let (mut states, joins) = drafts(rt, alloc, places)?;
+    apply_all(rt, alloc, states.as_mut_slice(), &joins, workers, &Open)?;
     let slots = states.as_mut_slice();
     let lists = apply_all(rt, alloc, slots, operations, workers, gate)?;
     let Some(changed) = count_of(&lists) else {
         return Err(NoMemory);
     };
-    let nexts = with_copies(alloc, states)?;
     let notes = Vec::with_capacity(alloc, places.len())?;
     Ok(Plan {
-        nexts,
+        nexts: states,
         lists,
         changed,
         notes,
     })
 }
 
-// A copy of each tablet's state.
-fn drafts(alloc: Global, places: &[Place]) -> Result<Vec<TabletState>, NoMemory>
-    ensures { IfOk result (λ states. states.items ≡ map state_at places.now) }
+// A draft of each tablet's next state: a state, and the join that it lacks.
+fn drafts<R: Wait>(
+    rt: &R,
+    alloc: Global,
+    places: &mut [Place],
+) -> Result<(Vec<TabletState>, Vec<TabletOp>), NoMemory>
+    ensures joins { IfOk result (λ drafts. AreJoinsIn drafts.0.items drafts.1.items × HavePositions drafts.1.items) }
+    ensures states { IfOk result (λ drafts. all_stepped drafts.0.items drafts.1.items ≡ map state_at places.old) }
+    ensures same { places.new ≡ places.old }
 {
     let mut states = Vec::with_capacity(alloc, places.len())?;
-    for place in places {
-        states.push_reserved(place.draft()?);
+    let mut joins = Vec::with_capacity(alloc, places.len())?;
+    for tablet in 0..places.len() {
+        let Draft { state, lacks } = places[tablet].draft(rt, alloc)?;
+        states.push_reserved(state);
+        joins.push_reserved(lacks);
     }
-    Ok(states)
-}
-
-// The states with a copy of each, which readers get.
-fn with_copies(alloc: Global, states: Vec<TabletState>) -> Result<Vec<Next>, NoMemory>
-    ensures { IfOk result (λ nexts. map (λ next. next.state) nexts.items ≡ states.items) }
-{
-    let mut nexts = Vec::with_capacity(alloc, states.len())?;
-    for state in states {
-        let copy = state.dup()?;
-        nexts.push_reserved(Next { state, copy });
-    }
-    Ok(nexts)
+    Ok((states, joins))
 }
 
 // How many changes the lists have together, where a number of 64 bits counts them. It does where memory holds them.

@@ -17,10 +17,9 @@ ghost use Rattle.pn_live.specs.Recovery.{publishing_at, Adopts};
 use super::LiveRegion;
 use super::publishing::front_of;
 use crate::front::Front;
-use crate::place::Next;
 use pn_join::NoMemory;
 use pn_region::{AdoptFault, Since};
-use pn_tablet::{Range, TabletCopy, TabletOp};
+use pn_tablet::{Range, TabletCopy, TabletOp, TabletState};
 use std::sync::Wait;
 
 impl LiveRegion {
@@ -38,7 +37,7 @@ impl LiveRegion {
         ensures same { tablets_in self.new ≡ tablets_in self.old }
     {
         let next = self.places[tablet].after(&TabletOp::Lose)?;
-        self.publish_one(rt, tablet, next, &TabletOp::Lose)
+        self.publish_one(rt, tablet, next, TabletOp::Lose)
     }
 
     /// The tablet whose range is the copy's takes the copy, as in a region's adoption. The front tells what is published
@@ -65,7 +64,7 @@ impl LiveRegion {
         let Ok(next) = place.after(&adoption) else {
             return Err(AdoptFault::Memory);
         };
-        let Ok(front) = self.publish_one(rt, tablet, next, &adoption) else {
+        let Ok(front) = self.publish_one(rt, tablet, next, adoption) else {
             return Err(AdoptFault::Memory);
         };
         Ok(front)
@@ -90,20 +89,20 @@ impl LiveRegion {
         &mut self,
         rt: &R,
         tablet: usize,
-        next: Next,
-        operation: &TabletOp,
+        next: TabletState,
+        operation: TabletOp,
     ) -> Result<Front, NoMemory>
-        requires next { IsSomeAnd (slice_get self.old.places tablet) (λ place. step (state_at place) operation.now ≡ Ok next.state) }
-        requires region { IsRegion (stepping (core self.old) tablet operation.now) }
-        ensures ok { OnOk result (self.new ≡ publishing_at self.old tablet operation.now) }
-        ensures state { OnOk result (core self.new ≡ stepping (core self.old) tablet operation.now) }
+        requires next { IsSomeAnd (slice_get self.old.places tablet) (λ place. step (state_at place) operation ≡ Ok next) }
+        requires region { IsRegion (stepping (core self.old) tablet operation) }
+        ensures ok { OnOk result (self.new ≡ publishing_at self.old tablet operation) }
+        ensures state { OnOk result (core self.new ≡ stepping (core self.old) tablet operation) }
         ensures front { IfOk result (λ front. front ≡ notes_of self.new.places) }
         ensures err { OnErr result (self.new ≡ self.old) }
         ensures fits { IfOk result (λ front. AreNotesOf (tablets_in self.old) front) }
         ensures same { tablets_in self.new ≡ tablets_in self.old }
     {
         let notes = Vec::with_capacity(self.alloc, self.places.len())?;
-        self.places[tablet].publish(rt, next, operation)?;
+        self.places[tablet].publish(rt, next, operation);
         self.log.cut();
         Ok(front_of(notes, &self.places))
     }

@@ -4,7 +4,7 @@ ghost use Rattle.std.specs.Prelude.{◌≡◌, ◌≤◌, [], length, map, vec_c
 ghost use Rattle.std.specs.List.{flat_map};
 ghost use Rattle.pn_tablet.specs.Changes.{changes};
 ghost use Rattle.pn_tablet.specs.Refusals.{Refuses};
-ghost use Rattle.pn_apply.specs.Applying.{all_stepped, all_changes};
+ghost use Rattle.pn_apply.specs.Applying.{AreJoinsIn, HavePositions, all_stepped, all_changes};
 ghost use Rattle.pn_apply.specs.Limits.{most_workers};
 ghost use Rattle.pn_region.specs.Logged.{noting, refused_log};
 ghost use Rattle.pn_region.specs.Marking.{is_memory, new_marks};
@@ -121,7 +121,7 @@ impl LiveRegion {
             notes,
         } = plan;
         let places = self.places.as_mut_slice();
-        publish_all(rt, places, nexts, &operations)?;
+        publish_all(rt, places, nexts, operations);
         self.marks = marks;
         let front = front_of(notes, &self.places);
         Ok(Taken {
@@ -132,23 +132,25 @@ impl LiveRegion {
     }
 
     // What the deliveries bring to each tablet, and all that is to be published.
-    fn prepared<R: Threads + Sync, G: Gate + Sync>(
-        &self,
+    fn prepared<R: Threads + Wait + Sync, G: Gate + Sync>(
+        &mut self,
         rt: &R,
         deliveries: Vec<Delivery>,
         workers: usize,
         gate: &G,
     ) -> Result<Ready, RoundFault>
         requires workers { (1 ≤ workers) × (workers ≤ most_workers) }
-        ensures marks { IfOk result (λ ready. new_marks self.now.marks deliveries.items ≡ Ok ready.marks) }
+        ensures marks { IfOk result (λ ready. new_marks self.old.marks deliveries.items ≡ Ok ready.marks) }
         ensures are_marks { IfOk result (λ ready. AreRegionMarks ready.marks) }
-        ensures operations { IfOk result (λ ready. ready.operations.items ≡ joins (core self.now) deliveries.items ready.marks) }
-        ensures nexts { IfOk result (λ ready. map (λ next. next.state) ready.plan.nexts.items ≡ all_stepped (map state_at self.now.places) ready.operations.items) }
-        ensures changes { IfOk result (λ ready. flat_map (λ list. list.items) ready.plan.lists.items ≡ flat_map (λ list. list) (all_changes (map state_at self.now.places) ready.operations.items)) }
+        ensures joins { IfOk result (λ ready. AreJoinsIn (map state_at self.old.places) ready.operations.items × HavePositions ready.operations.items) }
+        ensures operations { IfOk result (λ ready. ready.operations.items ≡ joins (core self.old) deliveries.items ready.marks) }
+        ensures nexts { IfOk result (λ ready. ready.plan.nexts.items ≡ all_stepped (map state_at self.old.places) ready.operations.items) }
+        ensures changes { IfOk result (λ ready. flat_map (λ list. list.items) ready.plan.lists.items ≡ flat_map (λ list. list) (all_changes (map state_at self.old.places) ready.operations.items)) }
         ensures changed { IfOk result (λ ready. ready.plan.changed ≡ length (flat_map (λ list. list.items) ready.plan.lists.items)) }
-        ensures notes { IfOk result (λ ready. (ready.plan.notes.items ≡ []) × (vec_capacity ready.plan.notes ≡ length self.now.places)) }
-        ensures is_region { IsRegion (core self.now) }
-        ensures refused { IfErr result (λ fault. Refuses is_memory fault (round (core self.now) deliveries.items)) }
+        ensures notes { IfOk result (λ ready. (ready.plan.notes.items ≡ []) × (vec_capacity ready.plan.notes ≡ length self.old.places)) }
+        ensures is_region { IsRegion (core self.old) }
+        ensures same { self.new ≡ self.old }
+        ensures refused { IfErr result (λ fault. Refuses is_memory fault (round (core self.old) deliveries.items)) }
     {
         let marks = next_marks(&self.marks, &deliveries)?;
         let operations = reduce_owned(
@@ -160,7 +162,7 @@ impl LiveRegion {
             workers,
             gate,
         )?;
-        let plan = planned(rt, self.alloc, &self.places, &operations, workers, gate)?;
+        let plan = planned(rt, self.alloc, self.places.as_mut_slice(), &operations, workers, gate)?;
         Ok(Ready {
             marks,
             operations,

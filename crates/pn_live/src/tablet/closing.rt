@@ -13,17 +13,16 @@ use std::sync::Wait;
 impl LiveTablet {
     /// Takes the tablet out. It waits for the readers that are reading.
     pub fn close<R: Wait>(self, rt: &R) -> TabletState
-        ensures { result ≡ state_of self.state.range (published self) }
+        ensures { result ≡ state_of (state_in self).range (published self) }
     {
         let LiveTablet {
-            state,
             writer,
             head: _head,
             latest: _latest,
             note: _note,
+            lacks: _lacks,
         } = self;
-        writer.take(rt);
-        state
+        writer.take(rt).state
     }
 
     /// The reader after one more entry, and whether that found what is published. Where it did, what the

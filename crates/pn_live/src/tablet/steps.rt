@@ -1,11 +1,12 @@
 //! What the writer does with a live tablet.
 
-ghost use Rattle.std.specs.Prelude.{◌≡◌, ◌++◌, ◌∷◌, [], ◌^◌, ◌<◌, IfOk, OnOk, OnErr, IfSome, Some};
+ghost use Rattle.std.specs.Prelude.{◌≡◌, ◌++◌, ◌∷◌, [], ◌^◌, ◌<◌, Ok, IfOk, IfSome, Some};
 ghost use Rattle.left_right.specs.Sides.{view};
-ghost use Rattle.pn_tablet.specs.Steps.{stepped};
+ghost use Rattle.pn_tablet.specs.Operations.{HasPositions};
+ghost use Rattle.pn_tablet.specs.Steps.{step};
 ghost use Rattle.pn_tablet.specs.Tablets.{empty_tablet};
 ghost use Rattle.pn_live.specs.Orders.{IsLater};
-ghost use Rattle.pn_live.specs.Published.{published, seen_by, told_to, IsReaderOf};
+ghost use Rattle.pn_live.specs.Published.{published, state_in, seen_by, told_to, IsReaderOf};
 
 use super::LiveTablet;
 use super::noting::{settled, tried};
@@ -21,24 +22,22 @@ use std::alloc::Global;
 use std::snapshot::Snapshot;
 use std::sync::Wait;
 
-// Readers find the next state from now on, which goes on from the one before. An error leaves them that one.
-fn show<R: Wait>(
-    rt: &R,
-    mut writer: TabletWriter,
-    next: Shown,
-) -> (TabletWriter, Result<(), NoMemory>)
-    requires { IsLater writer.desk.shown.value next }
-    ensures ok { OnOk result.1 ((result.0.desk.shown.value ≡ next) × (view result.0.desk.place ≡ Some next)) }
-    ensures err { OnErr result.1 ((result.0.desk.shown.value ≡ writer.desk.shown.value) × (view result.0.desk.place ≡ view writer.desk.place)) }
+// Readers find the next state from now on, which goes on from the one before. It waits for readers that
+// still read the state before last.
+fn show<R: Wait>(rt: &R, writer: &mut TabletWriter, next: Shown)
+    requires { IsLater writer.old.desk.shown.value next }
+    ensures shown { (writer.new.desk.shown.value ≡ next) × (view writer.new.desk.place ≡ Some next) }
+    ensures spare { writer.new.desk.spare.value ≡ writer.old.desk.shown.value }
 {
-    if writer.append(next).is_err() {
-        return (writer, Err(NoMemory));
-    }
-    let (writer, published) = writer.publish_as::<Sees, R>(rt);
-    match published {
-        Ok(()) => (writer, Ok(())),
-        Err(_) => (writer, Err(NoMemory)),
-    }
+    replace_with(
+        &mut writer.desk,
+        rt,
+        |desk, rt| {
+            let (open, mut place) = desk.open(rt);
+            *place = next;
+            (open.show_as::<Sees>(place), ())
+        },
+    )
 }
 
 impl LiveTablet {
@@ -51,96 +50,67 @@ impl LiveTablet {
         readers: usize,
     ) -> Result<LiveTablet, NoMemory>
         requires { (0 < readers) × (readers < 2 ^ 32) }
-        ensures { IfOk result (λ tablet. (tablet.state ≡ empty_tablet range) × (published tablet ≡ [])) }
+        ensures { IfOk result (λ tablet. (state_in tablet ≡ empty_tablet range) × (published tablet ≡ [])) }
     {
         let state = TabletState::new(alloc, range);
         let (head, latest) = open_book();
         let empty = shown_as(&state, &latest)?;
         let first = empty.dup()?;
         let second = empty.dup()?;
-        let writer: TabletWriter = Writer::new(alloc, first, second, readers)?;
-        let (writer, done) = show(rt, writer, empty);
-        if done.is_err() {
-            writer.take(rt);
-            return Err(NoMemory);
-        }
+        let mut writer: TabletWriter = Writer::new(alloc, first, second, readers)?;
+        show(rt, &mut writer, empty);
         let note = latest.again();
         Ok(LiveTablet {
-            state,
             writer,
             head,
             latest,
             note,
+            lacks: None,
         })
     }
 
-    /// Publishes the next state, which the operation makes of this one, and of which `copy` is one. It waits
-    /// for readers that still read the state before last. An error leaves readers what they found, and the
-    /// operation is published neither then nor later.
-    pub fn publish<R: Wait>(
-        &mut self,
-        rt: &R,
-        next: TabletState,
-        copy: TabletState,
-        operation: &TabletOp,
-    ) -> Result<(), NoMemory>
-        requires next { next ≡ stepped self.old.state operation.now }
-        requires copy { copy ≡ next }
-        ensures ok { OnOk result ((self.new.state ≡ next) × (published self.new ≡ published self.old ++ operation.now ∷ [])) }
-        ensures err { OnErr result ((self.new.state ≡ self.old.state) × (published self.new ≡ published self.old)) }
+    /// Publishes the next state, which the operation makes of this one. It takes no memory, and waits for
+    /// readers that still read the state before last.
+    pub fn publish<R: Wait>(&mut self, rt: &R, next: TabletState, operation: TabletOp)
+        requires positions { HasPositions operation }
+        requires next { step (state_in self.old) operation ≡ Ok next }
+        ensures state { state_in self.new ≡ next }
+        ensures list { published self.new ≡ published self.old ++ operation ∷ [] }
         ensures book { self.new.note.seen.book ≡ self.old.note.seen.book }
     {
         replace_with(
             self,
             rt,
-            |tablet, rt| tablet.published(rt, next, copy, operation),
+            |tablet, rt| (tablet.published(rt, next, operation), ()),
         )
     }
 
-    fn published<R: Wait>(
-        self,
-        rt: &R,
-        next: TabletState,
-        copy: TabletState,
-        operation: &TabletOp,
-    ) -> (LiveTablet, Result<(), NoMemory>)
-        requires next { next ≡ stepped self.state operation.now }
-        requires copy { copy ≡ next }
-        ensures ok { OnOk result.1 ((result.0.state ≡ next) × (published result.0 ≡ published self ++ operation.now ∷ [])) }
-        ensures err { OnErr result.1 ((result.0.state ≡ self.state) × (published result.0 ≡ published self)) }
-        ensures book { result.0.note.seen.book ≡ self.note.seen.book }
+    fn published<R: Wait>(self, rt: &R, next: TabletState, operation: TabletOp) -> LiveTablet
+        requires positions { HasPositions operation }
+        requires next { step (state_in self) operation ≡ Ok next }
+        ensures state { state_in result ≡ next }
+        ensures list { published result ≡ published self ++ operation ∷ [] }
+        ensures book { result.note.seen.book ≡ self.note.seen.book }
     {
         let LiveTablet {
-            state,
-            writer,
+            mut writer,
             head,
             latest,
-            note,
+            note: _note,
+            lacks: _lacks,
         } = self;
-        let latest = tried(rt, &head, latest, operation);
+        let latest = tried(rt, &head, latest, &operation);
         let stamp = latest.again();
-        let after = Shown { state: copy, stamp };
-        let (writer, done) = show(rt, writer, after);
-        if done.is_err() {
-            let tablet = LiveTablet {
-                state,
-                writer,
-                head,
-                latest,
-                note,
-            };
-            return (tablet, Err(NoMemory));
-        }
+        show(rt, &mut writer, Shown { state: next, stamp });
         let latest = settled(rt, &head, latest);
         let note = latest.again();
-        let tablet = LiveTablet {
-            state: next,
+        LiveTablet {
             writer,
             head,
             latest,
             note,
-        };
-        (tablet, Ok(()))
+            lacks: join_of(operation),
+        }
     }
 
     /// A new reader, which counts as having seen what is published and been told of it. `None` where each
@@ -148,7 +118,7 @@ impl LiveTablet {
     pub fn seat(&mut self) -> Option<Seat>
         ensures reader { IfSome result (λ seat. IsReaderOf self.new seat) }
         ensures seen { IfSome result (λ seat. (seen_by seat ≡ published self.old) × (told_to seat ≡ published self.old)) }
-        ensures kept { (self.new.state ≡ self.old.state) × (self.new.note ≡ self.old.note) }
+        ensures kept { (state_in self.new ≡ state_in self.old) × (self.new.note ≡ self.old.note) }
     {
         let factory = self.writer.factory();
         let mut reader = factory.reader().ok()?;
@@ -164,6 +134,13 @@ impl LiveTablet {
             seen,
             found,
         })
+    }
+
+    /// What is published.
+    pub fn state(&self) -> &TabletState
+        ensures { result.now ≡ state_in self.now }
+    {
+        &self.writer.published().state
     }
 
     /// A note of what is published.
@@ -183,4 +160,14 @@ fn shown_as(state: &TabletState, stamp: &Stamp<TabletOp>) -> Result<Shown, NoMem
     let state = state.dup()?;
     let stamp = stamp.again();
     Ok(Shown { state, stamp })
+}
+
+// The operation, where it is a join.
+fn join_of(operation: TabletOp) -> Option<TabletOp>
+    ensures { IfSome result (λ join. join ≡ operation) }
+{
+    match operation {
+        TabletOp::Join { cells, marks } => Some(TabletOp::Join { cells, marks }),
+        _ => None,
+    }
 }
