@@ -3,10 +3,11 @@
 ghost use Rattle.std.specs.Prelude.{◌≡◌, IsTrue};
 ghost use mathlib.Core.List.{IsPrefix};
 ghost use Rattle.pn_tablet.specs.Steps.{state_of};
-ghost use Rattle.pn_live.specs.Published.{published, seen_by, told_to, IsReaderOf};
+ghost use Rattle.pn_live.specs.Published.{published, state_in, seen_by, told_to, IsReaderOf};
 
 use super::LiveTablet;
 use crate::seat::Seat;
+use crate::shown::Shown;
 use pn_tablet::TabletState;
 use std::sync::Wait;
 
@@ -22,7 +23,11 @@ impl LiveTablet {
             note: _note,
             lacks: _lacks,
         } = self;
-        writer.take(rt).state
+        let Shown {
+            state,
+            stamp: _stamp,
+        } = Box::into_inner(writer.take(rt));
+        state
     }
 
     /// The reader after one more entry, and whether that found what is published. Where it did, what the
