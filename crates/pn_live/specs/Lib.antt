@@ -2,6 +2,7 @@ pub mod Attempts
 pub mod Behind
 pub mod Books
 pub mod Copying
+pub mod Drafts
 pub mod Honest
 pub mod Laws
 pub mod Limits

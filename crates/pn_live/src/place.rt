@@ -5,6 +5,7 @@ ghost use Rattle.pn_tablet.specs.Layouts.{tablet_ends};
 ghost use Rattle.pn_tablet.specs.Operations.{HasPositions};
 ghost use Rattle.pn_tablet.specs.Steps.{step};
 ghost use Rattle.pn_live.specs.Behind.{IsOfPlace, IsBehind};
+ghost use Rattle.pn_live.specs.Drafts.{Lacks};
 ghost use Rattle.pn_live.specs.Places.{IsNewPlace, state_at, appended, note_of};
 ghost use Rattle.pn_live.specs.Readers.{opening};
 
@@ -62,7 +63,7 @@ impl Place {
 
     /// A draft of its next state. It waits for readers that still read the state before last.
     pub fn draft<R: Wait>(&mut self, rt: &R, alloc: Global) -> Result<Draft, NoMemory>
-        ensures draft { IfOk result (λ draft. HasPositions draft.lacks × (step draft.state draft.lacks ≡ Ok (state_at self.old))) }
+        ensures draft { IfOk result (λ draft. Lacks draft.state draft.lacks (state_at self.old)) }
         ensures same { self.new ≡ self.old }
     {
         self.tablet.draft(rt, alloc)

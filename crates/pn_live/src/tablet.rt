@@ -1,11 +1,10 @@
 //! The writer's end of a live tablet.
 
-ghost use Rattle.std.specs.Prelude.{◌≡◌, Ok, Some, IfSome, take, length};
-ghost use Rattle.pn_tablet.specs.Operations.{HasPositions};
-ghost use Rattle.pn_tablet.specs.Steps.{step};
+ghost use Rattle.std.specs.Prelude.{◌≡◌, Some, IfSome, take, length};
 ghost use Rattle.left_right.specs.Sides.{view};
 ghost use Rattle.pn_live.specs.Attempts.{settled_of, tried_of};
 ghost use Rattle.pn_live.specs.Books.{head_of};
+ghost use Rattle.pn_live.specs.Drafts.{Lacks};
 ghost use Rattle.pn_live.specs.Orders.{list_of};
 
 mod closing;
@@ -31,7 +30,7 @@ pub struct LiveTablet {
     ghost head_is: { head ≡ head_of latest.seen.book },
     ghost books: { (note.seen.book ≡ latest.seen.book) × (writer.desk.shown.value.stamp.seen.book ≡ latest.seen.book) },
     ghost viewed: { view writer.desk.place ≡ Some writer.desk.shown.value },
-    ghost lacking: { IfSome lacks (λ join. HasPositions join × (step writer.desk.spare.value.state join ≡ Ok writer.desk.shown.value.state)) },
+    ghost lacking: { IfSome lacks (λ join. Lacks writer.desk.spare.value.state join writer.desk.shown.value.state) },
     ghost settled: { (settled_of note.seen.log ≡ settled_of latest.seen.log) × (list_of writer.desk.shown.value ≡ settled_of latest.seen.log) },
     ghost goes_on: { take (length (settled_of latest.seen.log)) (tried_of latest.seen.log) ≡ settled_of latest.seen.log },
 }

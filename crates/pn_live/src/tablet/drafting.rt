@@ -1,9 +1,8 @@
 //! Drafts of a live tablet's next state.
 
-ghost use Rattle.std.specs.Prelude.{◌≡◌, Ok, IfOk};
-ghost use Rattle.pn_tablet.specs.Operations.{HasPositions};
-ghost use Rattle.pn_tablet.specs.Steps.{step};
-ghost use Rattle.pn_live.specs.Published.{published, state_in};
+ghost use Rattle.std.specs.Prelude.{◌≡◌, IfOk};
+ghost use Rattle.pn_live.specs.Drafts.{Lacks};
+ghost use Rattle.pn_live.specs.Published.{state_in};
 
 use super::LiveTablet;
 use crate::order::TabletWriter;
@@ -25,7 +24,7 @@ pub struct Draft {
 impl LiveTablet {
     /// A draft. It waits for readers that still read the state before last.
     pub fn draft<R: Wait>(&mut self, rt: &R, alloc: Global) -> Result<Draft, NoMemory>
-        ensures lacks { IfOk result (λ draft. HasPositions draft.lacks × (step draft.state draft.lacks ≡ Ok (state_in self.old))) }
+        ensures lacks { IfOk result (λ draft. Lacks draft.state draft.lacks (state_in self.old)) }
         ensures kept { (state_in self.new ≡ state_in self.old) × (self.new.note ≡ self.old.note) }
     {
         let shown = self.writer.published().dup()?;

@@ -4,7 +4,8 @@ ghost use Rattle.std.specs.Prelude.{◌≡◌, ◌++◌, ◌∷◌, [], ◌^◌,
 ghost use Rattle.left_right.specs.Sides.{view};
 ghost use Rattle.pn_tablet.specs.Operations.{HasPositions};
 ghost use Rattle.pn_tablet.specs.Steps.{step};
-ghost use Rattle.pn_tablet.specs.Tablets.{empty_tablet};
+ghost use Rattle.pn_tablet.specs.Tablets.{TabletStateValue, empty_tablet};
+ghost use Rattle.pn_live.specs.Drafts.{Lacks};
 ghost use Rattle.pn_live.specs.Orders.{IsLater};
 ghost use Rattle.pn_live.specs.Published.{published, state_in, seen_by, told_to, IsReaderOf};
 
@@ -162,9 +163,10 @@ fn shown_as(state: &TabletState, stamp: &Stamp<TabletOp>) -> Result<Shown, NoMem
     Ok(Shown { state, stamp })
 }
 
-// The operation, where it is a join.
+// The operation, where it is a join. The state that it was applied to lacks it.
 fn join_of(operation: TabletOp) -> Option<TabletOp>
-    ensures { IfSome result (λ join. join ≡ operation) }
+    requires { HasPositions operation }
+    ensures { (old new : TabletStateValue) → step old operation ≡ Ok new → IfSome result (λ join. Lacks old join new) }
 {
     match operation {
         TabletOp::Join { cells, marks } => Some(TabletOp::Join { cells, marks }),
