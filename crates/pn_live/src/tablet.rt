@@ -12,10 +12,9 @@ mod drafting;
 mod noting;
 mod steps;
 
-pub use drafting::Draft;
-
 use crate::order::TabletWriter;
 use crate::stamp::{Head, Stamp};
+pub use drafting::Draft;
 use pn_tablet::TabletOp;
 
 /// A live tablet: the pair that readers take its state from, and the book of the attempts to publish it.

@@ -162,7 +162,14 @@ impl LiveRegion {
             workers,
             gate,
         )?;
-        let plan = planned(rt, self.alloc, self.places.as_mut_slice(), &operations, workers, gate)?;
+        let plan = planned(
+            rt,
+            self.alloc,
+            self.places.as_mut_slice(),
+            &operations,
+            workers,
+            gate,
+        )?;
         Ok(Ready {
             marks,
             operations,

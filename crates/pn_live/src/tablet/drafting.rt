@@ -30,11 +30,17 @@ impl LiveTablet {
         let shown = self.writer.published().dup()?;
         match self.lacks.take() {
             Some(lacks) => {
-                let Shown { state, stamp: _stamp } = take_spare(rt, &mut self.writer, shown);
+                let Shown {
+                    state,
+                    stamp: _stamp,
+                } = take_spare(rt, &mut self.writer, shown);
                 Ok(Draft { state, lacks })
             }
             None => {
-                let Shown { state, stamp: _stamp } = shown;
+                let Shown {
+                    state,
+                    stamp: _stamp,
+                } = shown;
                 let lacks = TabletOp::Join {
                     cells: Records::new(alloc),
                     marks: Marks::new(alloc),
@@ -50,13 +56,9 @@ fn take_spare<R: Wait>(rt: &R, writer: &mut TabletWriter, other: Shown) -> Shown
     ensures spare { result ≡ writer.old.desk.spare.value }
     ensures shown { writer.new.desk.shown.value ≡ writer.old.desk.shown.value }
 {
-    replace_with(
-        &mut writer.desk,
-        rt,
-        |desk, rt| {
-            let (open, mut place) = desk.open(rt);
-            let spare = replace(&mut *place, other);
-            (open.shelve(place), spare)
-        },
-    )
+    replace_with(&mut writer.desk, rt, |desk, rt| {
+        let (open, mut place) = desk.open(rt);
+        let spare = replace(&mut *place, other);
+        (open.shelve(place), spare)
+    })
 }

@@ -30,15 +30,11 @@ fn show<R: Wait>(rt: &R, writer: &mut TabletWriter, next: Shown)
     ensures shown { (writer.new.desk.shown.value ≡ next) × (view writer.new.desk.place ≡ Some next) }
     ensures spare { writer.new.desk.spare.value ≡ writer.old.desk.shown.value }
 {
-    replace_with(
-        &mut writer.desk,
-        rt,
-        |desk, rt| {
-            let (open, mut place) = desk.open(rt);
-            *place = next;
-            (open.show_as::<Sees>(place), ())
-        },
-    )
+    replace_with(&mut writer.desk, rt, |desk, rt| {
+        let (open, mut place) = desk.open(rt);
+        *place = next;
+        (open.show_as::<Sees>(place), ())
+    })
 }
 
 impl LiveTablet {
