@@ -1,6 +1,7 @@
 //! Drafts of a live tablet's next state.
 
 ghost use Rattle.std.specs.Prelude.{◌≡◌, IfOk};
+ghost use Rattle.left_right.specs.Sides.{view};
 ghost use Rattle.pn_live.specs.Drafts.{Lacks};
 ghost use Rattle.pn_live.specs.Published.{state_in};
 
@@ -54,7 +55,7 @@ impl LiveTablet {
 // Takes the spare state out, and leaves another one in its place.
 fn take_spare<R: Wait>(rt: &R, writer: &mut TabletWriter, other: Shown) -> Shown
     ensures spare { result ≡ writer.old.desk.spare.value }
-    ensures shown { writer.new.desk.shown.value ≡ writer.old.desk.shown.value }
+    ensures shown { (writer.new.desk.shown.value ≡ writer.old.desk.shown.value) × (view writer.new.desk.place ≡ view writer.old.desk.place) }
 {
     replace_with(&mut writer.desk, rt, |desk, rt| {
         let (open, mut place) = desk.open(rt);
