@@ -119,6 +119,7 @@ fn time_opened<R: Clock + Threads + Wait + Sync, S: Source + Drop>(
 }
 
 // How long the rounds take while three readers read on.
+#[tactic(auto, using(crate::proofs::Crossing::reader_send, crate::proofs::Crossing::key_send))]
 fn time_busy<R: Clock + Threads + Wait + Sync>(
     rt: &R,
     live: &mut LiveRegion,
