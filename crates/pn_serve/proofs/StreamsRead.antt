@@ -36,9 +36,11 @@ one_more position last front part now images (Some text) left leaves None none r
 
 more_taken : {S : Type 0} (left : S → Option (List ℕ)) (first old new : Stream S) (messages : Messages) → WasRead left first old → Leaves left old (Taken messages) new → WasRead left first new
 more_taken left first old new messages read leaves none =
-    let before = read leaves.0 in
-    (before.0, subst (λ (n : ℕ). IfSome (left first.source) (λ text. IsReadUpTo first.position (first.part ++ text) n new.part (left new.source))) (sym leaves.2)
-        (one_more first.position old.position first.part old.part new.part messages.delivery.images (left first.source) (left old.source) (left new.source) new.fault none before.1 leaves.3))
+    let before = read leaves.0 in (
+      before.0,
+      subst (λ (n : ℕ). IfSome (left first.source) (λ text. IsReadUpTo first.position (first.part ++ text) n new.part (left new.source))) (sym leaves.2)
+          (one_more first.position old.position first.part old.part new.part messages.delivery.images (left first.source) (left old.source) (left new.source) new.fault none before.1 leaves.3),
+    )
 
 -- once more messages were taken
 pub read_on : {S : Type 0} (left : S → Option (List ℕ)) (first old new : Stream S) (note : Note) → WasRead left first old → Leaves left old note new → IsTaken note → WasRead left first new
