@@ -6,9 +6,10 @@ use Rattle.pn_stream.specs.Streams.{Run, NoLine}
 use Rattle.pn_stream.specs.declared.fault.StreamFault.{StreamFault}
 use Rattle.pn_stream.proofs.Runs.{Run-append, SoFar-none, on_rest}
 use Rattle.pn_serve.specs.declared.server.messages.Messages.{Messages}
-use Rattle.pn_serve.specs.declared.server.notes.Note.TheVariants.{Taken, End}
+use Rattle.pn_serve.specs.declared.server.notes.Note.{Note}
+use Rattle.pn_serve.specs.declared.server.notes.Note.TheVariants.{Taken, End, Fault}
 use Rattle.pn_serve.specs.Server.Messages.{most_messages}
-use Rattle.pn_serve.specs.Server.Notes.{Leaves}
+use Rattle.pn_serve.specs.Server.Notes.{IsTaken, Leaves}
 use Rattle.pn_serve.specs.Server.Whole.{IsAllMessages, IsReadUpTo, IsWhole, WasRead}
 
 none_yet : (position : ℕ) (part : List ℕ) (left : Option (List ℕ)) → IfSome left (λ text. SoFar position (part ++ text) [] part left) → IfSome left (λ text. IsReadUpTo position (part ++ text) position part left)
@@ -23,7 +24,7 @@ one_more : (position last : ℕ) (front part now : List ℕ) (images : List Imag
     → IfSome first (λ text. IsReadUpTo position (front ++ text) last part left) → IfSome left (λ text. Batch 1 most_messages last (part ++ text) images fault now leaves)
     → IfSome first (λ text. IsReadUpTo position (front ++ text) (last + length images) now leaves)
 one_more position last front part now images None left leaves fault none read batch = tt
-one_more position last front part now images (Some text) left leaves (Some fault) none read batch = absurd none
+one_more position last front part now images (Some text) left leaves (Some fault) none read batch = let waits = none in cc
 one_more position last front part now images (Some text) left leaves None none read batch =
     let more = on_rest read.read.rest part left (λ (t : List ℕ). Batch 1 most_messages last t images None now leaves) read.read.is_left batch in
     let run : Run (position + length read.images) read.read.rest images more.rest = subst (λ (n : ℕ). Run n read.read.rest images more.rest) read.last_is more.run in
@@ -33,14 +34,19 @@ one_more position last front part now images (Some text) left leaves None none r
       last_is = omega (arith, read.last_is, length-append read.images images);
     }
 
--- once more messages were taken
-pub read_on : {S : Type 0} (left : S → Option (List ℕ)) (first old new : Stream S) (messages : Messages) → WasRead left first old → Leaves left old (Taken messages) new → WasRead left first new
-read_on left first old new messages read leaves none =
+more_taken : {S : Type 0} (left : S → Option (List ℕ)) (first old new : Stream S) (messages : Messages) → WasRead left first old → Leaves left old (Taken messages) new → WasRead left first new
+more_taken left first old new messages read leaves none =
     let before = read leaves.0 in (
       before.0,
       subst (λ (n : ℕ). IfSome (left first.source) (λ text. IsReadUpTo first.position (first.part ++ text) n new.part (left new.source))) (sym leaves.2)
           (one_more first.position old.position first.part old.part new.part messages.delivery.images (left first.source) (left old.source) (left new.source) new.fault none before.1 leaves.3),
     )
+
+-- once more messages were taken
+pub read_on : {S : Type 0} (left : S → Option (List ℕ)) (first old new : Stream S) (note : Note) → WasRead left first old → Leaves left old note new → IsTaken note → WasRead left first new
+read_on left first old new (Taken messages) read leaves taken = more_taken left first old new messages read leaves
+read_on left first old new End read leaves taken = absurd taken
+read_on left first old new (Fault name) read leaves taken = absurd taken
 
 all_messages : (position last : ℕ) (front part now : List ℕ) (first left leaves : Option (List ℕ)) → IfSome first (λ text. IsReadUpTo position (front ++ text) last part left)
     → IfSome left (λ text. Batch 1 most_messages last (part ++ text) [] None now leaves) → IfSome first (λ text. IsAllMessages position (front ++ text))
@@ -59,7 +65,8 @@ all_messages position last front part now (Some text) left leaves read batch =
     }
 
 -- once the end was found
-pub whole_at_end : {S : Type 0} (left : S → Option (List ℕ)) (first old new : Stream S) → WasRead left first old → Leaves left old End new → IsWhole left first
-whole_at_end left first old new read leaves =
+pub whole_at_end : {S : Type 0} (left : S → Option (List ℕ)) (first old new : Stream S) (note : Note) → WasRead left first old → Leaves left old note new → note ≡ End → IsWhole left first
+whole_at_end left first old new note read told is =
+    let leaves : Leaves left old End new = subst (λ (n : Note). Leaves left old n new) is told in
     let before = read leaves.0 in
     (before.0, all_messages first.position old.position first.part old.part new.part (left first.source) (left old.source) (left new.source) before.1 leaves.2)

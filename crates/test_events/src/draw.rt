@@ -1,5 +1,7 @@
 //! Random numbers, the same for the same seed.
 
+ghost use Rattle.std.specs.Prelude.{◌<◌};
+
 /// What numbers are drawn from.
 #[derive(Clone, Copy)]
 pub(crate) struct Draw {

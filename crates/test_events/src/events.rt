@@ -4,6 +4,7 @@ use crate::draw::Draw;
 use crate::same::are_same;
 use crate::twins::{Plain, layout};
 use pn_live::LiveRegion;
+use pn_region::Region;
 use std::alloc::Global;
 use std::sync::Wait;
 use std::test::Fail;
@@ -16,13 +17,23 @@ const EVENTS: u64 = 300;
 // behind copies of all tablets too.
 fn ends_equal<R: Threads + Wait + Sync>(rt: &R, alloc: Global, seed: u64) -> Option<bool> {
     let mut plain = Plain::new(alloc)?;
-    let (mut live, readers) = LiveRegion::open(rt, alloc, layout(alloc)?, 1).ok()?;
-    drop(readers);
-    let answered = tell_all(rt, &mut live, &mut plain, seed);
-    let mut closed = live.close(rt, Vec::new(alloc)).ok()?;
+    let (mut closed, answered) = live_through(rt, alloc, &mut plain, seed)?;
     let was_same = are_same(&closed, &plain.twin);
     let healed = plain.heal(&mut closed)?;
-    Some(answered? && was_same && healed && are_same(&closed, &plain.twin))
+    Some(answered && was_same && healed && are_same(&closed, &plain.twin))
+}
+
+// What a live region is when it is closed behind these events, and whether it answered as its twin did.
+fn live_through<R: Threads + Wait + Sync>(
+    rt: &R,
+    alloc: Global,
+    plain: &mut Plain,
+    seed: u64,
+) -> Option<(Region, bool)> {
+    let (mut live, _readers) = LiveRegion::open(rt, alloc, layout(alloc)?, 1).ok()?;
+    let answered = tell_all(rt, &mut live, plain, seed);
+    let closed = live.close(rt, Vec::new(alloc)).ok()?;
+    Some((closed, answered?))
 }
 
 fn tell_all<R: Threads + Wait + Sync>(

@@ -84,20 +84,16 @@ impl Plain {
             let _skipped = image(self.alloc, draw)?;
         }
         self.next = self.next.saturating_add(count);
-        self.source.round(rt, source, 1, &Open).ok()?;
-        let told = self.twin.round(rt, twin, 2, &Open).ok()?;
-        let (round, _front) = live.round(rt, to_live, 2, &Open).ok()?;
-        Some(round.changed == told.changed)
+        take_round(rt, &mut self.source, source)?;
+        let told = take_round(rt, &mut self.twin, twin)?;
+        Some(take_live(rt, live, to_live)? == told)
     }
 
     // A tablet is lost.
     fn lose<R: Wait>(&mut self, rt: &R, live: &mut LiveRegion, draw: &mut Draw) -> Option<bool> {
         let tablet = usize::try_from(draw.below(4)).ok()?;
-        if tablet >= live.layout().count() || tablet >= self.twin.layout().count() {
-            return None;
-        }
-        let _front = live.lose(rt, tablet).ok()?;
-        self.twin.lose(tablet);
+        lose_live(rt, live, tablet)?;
+        lose_plain(&mut self.twin, tablet)?;
         Some(true)
     }
 
@@ -109,12 +105,8 @@ impl Plain {
     }
 
     fn copied(&self, tablet: usize) -> Option<Copies> {
-        if tablet >= self.source.layout().count() {
-            return None;
-        }
-        let need = Marks::new(self.alloc);
-        let copy = self.source.copy(tablet, &need).ok()?;
-        let again = self.source.copy(tablet, &need).ok()?;
+        let copy = copy_of(self.alloc, &self.source, tablet)?;
+        let again = copy_of(self.alloc, &self.source, tablet)?;
         Some((copy, again))
     }
 
@@ -123,8 +115,8 @@ impl Plain {
         let Some((copy, again)) = self.copies.take() else {
             return Some(true);
         };
-        let told = self.twin.adopt(copy).is_ok();
-        Some(live.adopt(rt, again).is_ok() == told)
+        let told = adopt_plain(&mut self.twin, copy);
+        Some(adopt_live(rt, live, again) == told)
     }
 
     /// A region that was closed and its twin adopt copies of every tablet. Whether both do so.
@@ -132,10 +124,60 @@ impl Plain {
         let mut went_well = true;
         for tablet in 0..self.source.layout().count() {
             let (copy, again) = self.copied(tablet)?;
-            went_well &= self.twin.adopt(copy).is_ok() && closed.adopt(again).is_ok();
+            let twin = adopt_plain(&mut self.twin, copy);
+            went_well = adopt_plain(closed, again) && twin && went_well;
         }
         Some(went_well)
     }
+}
+
+// Takes a round. How many records it changes.
+fn take_round<R: Threads + Sync>(rt: &R, region: &mut Region, given: Vec<Delivery>) -> Option<u64> {
+    let round = region.round(rt, given, 2, &Open).ok()?;
+    Some(round.changed)
+}
+
+// The same of a live region.
+fn take_live<R: Threads + Wait + Sync>(
+    rt: &R,
+    live: &mut LiveRegion,
+    given: Vec<Delivery>,
+) -> Option<u64> {
+    let (round, _front) = live.round(rt, given, 2, &Open).ok()?;
+    Some(round.changed)
+}
+
+fn lose_plain(region: &mut Region, tablet: usize) -> Option<()> {
+    if tablet >= region.layout().count() {
+        return None;
+    }
+    region.lose(tablet);
+    Some(())
+}
+
+fn lose_live<R: Wait>(rt: &R, live: &mut LiveRegion, tablet: usize) -> Option<()> {
+    if tablet >= live.layout().count() {
+        return None;
+    }
+    let _front = live.lose(rt, tablet).ok()?;
+    Some(())
+}
+
+fn copy_of(alloc: Global, region: &Region, tablet: usize) -> Option<TabletCopy> {
+    if tablet >= region.layout().count() {
+        return None;
+    }
+    region.copy(tablet, &Marks::new(alloc)).ok()
+}
+
+// Whether the copy is adopted.
+fn adopt_plain(region: &mut Region, copy: TabletCopy) -> bool {
+    region.adopt(copy).is_ok()
+}
+
+// The same of a live region.
+fn adopt_live<R: Wait>(rt: &R, live: &mut LiveRegion, copy: TabletCopy) -> bool {
+    live.adopt(rt, copy).is_ok()
 }
 
 // One delivery of so many images from a position on. The same seed gives the same images.
