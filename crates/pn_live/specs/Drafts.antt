@@ -6,8 +6,8 @@ use Rattle.pn_tablet.specs.Tablets.{TabletStateValue}
 use Rattle.pn_tablet.specs.declared.op.TabletOp.{TabletOp}
 use Rattle.pn_apply.specs.Applying.{IsJoinIn}
 
--- the join, which the draft does not refuse, makes of it the state that is shown
-pub record Lacks (draft : TabletStateValue) (join : TabletOp) (shown : TabletStateValue) : Type 0 where
-  pub join : IsJoinIn draft join
-  pub positions : HasPositions join
-  pub makes : stepped draft join ≡ shown
+-- the operation is a join that the draft does not refuse, and makes of it the state that is shown
+pub record Lacks (draft : TabletStateValue) (op : TabletOp) (shown : TabletStateValue) : Type 0 where
+  pub join : IsJoinIn draft op
+  pub positions : HasPositions op
+  pub makes : stepped draft op ≡ shown

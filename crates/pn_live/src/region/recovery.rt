@@ -2,6 +2,7 @@
 
 ghost use Rattle.std.specs.Prelude.{◌≡◌, ◌≤◌, length, slice_get, Ok, IfOk, IfErr, OnOk, OnErr, IsSomeAnd};
 ghost use Rattle.std.specs.List.{position};
+ghost use Rattle.pn_tablet.specs.Operations.{HasPositions};
 ghost use Rattle.pn_tablet.specs.Refusals.{Refuses};
 ghost use Rattle.pn_tablet.specs.Steps.{step};
 ghost use Rattle.pn_tablet.specs.Tablets.{same_range};
@@ -92,6 +93,7 @@ impl LiveRegion {
         next: TabletState,
         operation: TabletOp,
     ) -> Result<Front, NoMemory>
+        requires positions { HasPositions operation }
         requires next { IsSomeAnd (slice_get self.old.places tablet) (λ place. step (state_at place) operation ≡ Ok next) }
         requires region { IsRegion (stepping (core self.old) tablet operation) }
         ensures ok { OnOk result (self.new ≡ publishing_at self.old tablet operation) }
