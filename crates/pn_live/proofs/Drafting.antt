@@ -1,5 +1,5 @@
 -- What a draft lacks of the state that is shown.
-use Rattle.std.proofs.Common.{◌≡◌, Bool, true, false, if◌then◌else◌, List, [], ◌∷◌, ◌++◌, fold, IsTrue, refl, sym, ap, subst, ◌∙◌, Option, Some, None, IfSome, Ok, Err}
+use Rattle.std.proofs.Common.{rules, ◌≡◌, Bool, true, false, if◌then◌else◌, List, [], ◌∷◌, ◌++◌, fold, IsTrue, refl, sym, ap, subst, ◌∙◌, Option, Some, None, IfSome, Ok, Err}
 use Rattle.pn_join.specs.Marks.{Positions}
 use Rattle.pn_record.specs.Cells.{spell}
 use Rattle.pn_record.specs.CellMap.{Entries, table_of, adds}
@@ -20,7 +20,7 @@ use Rattle.pn_live.specs.Attempts.{tried_of}
 use Rattle.pn_live.specs.Drafts.{Lacks}
 
 -- the records of a state are those that spell them
-Spelled : TabletStateValue → Type 0
+abbrev Spelled : TabletStateValue → Type 0
 Spelled t = t.cells ≡ table_of (spell t.cells)
 
 adds_spelled : (old : Entries) (more : Entries) → adds old (spell more) ≡ table_of (spell (adds old (spell more)))
@@ -52,13 +52,13 @@ shown_spelled x = subst Spelled (sym x.replayed) (fold_spelled _ (tried_of x.sta
 -- what is shown lacks nothing of itself
 pub lacks_nothing : (x : Shown) → Lacks x.state (Join [] []) x.state
 lacks_nothing x = record {
-  join = tt;
-  positions = tt;
+  join = search rules;
+  positions = search rules;
   makes = ap (λ (cells : Entries). record x.state { cells = cells }) (sym (none_added x.state.cells [] (shown_spelled x) refl));
 }
 
 lies_in : (t n : TabletStateValue) (cells : Entries) (marks : Positions) (b : Bool) → (if b then Ok (taking t cells marks) else Err WrongRange) ≡ Ok n → IsTrue b
-lies_in t n cells marks true is = tt
+lies_in t n cells marks true is = search rules
 lies_in t n cells marks false is = absurd (cc is)
 
 -- a state that a join was applied to lacks it of what came of that

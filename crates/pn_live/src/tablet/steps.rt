@@ -127,7 +127,7 @@ impl LiveTablet {
     {
         let factory = self.writer.factory();
         let mut reader = factory.reader().ok()?;
-        let note = self.writer.tell::<Tells>();
+        let note = self.writer.desk.tell::<Tells>();
         reader.learn::<Tells>(note);
         let told = self.note.again();
         let shown = self.writer.published();

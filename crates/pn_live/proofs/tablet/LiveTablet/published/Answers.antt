@@ -1,24 +1,49 @@
--- The next state goes on from the one that is shown.
-use Rattle.std.proofs.Common.{◌++◌, ◌∷◌, [], refl, sym, ap, ◌∙◌}
-use Rattle.pn_tablet.specs.Steps.{stepped}
-use Rattle.pn_live.specs.Attempts.{settled_of, tried_of}
-use Rattle.pn_live.proofs.Replays.{replayed_more, kept_state, later_by}
+-- The next state goes on from the one that is shown, which lacks the operation.
+use Rattle.std.proofs.Common.{rules, ◌≡◌, ◌++◌, ◌∷◌, [], sym, ap, subst, ◌∙◌, Some, IfSome, List, length, take}
+use Rattle.pn_tablet.specs.Steps.{after_step}
+use Rattle.pn_tablet.specs.declared.op.TabletOp.{TabletOp}
+use Rattle.pn_live.specs.declared.shown.Shown.{Shown}
+use Rattle.pn_live.specs.Attempts.{tried_of}
+use Rattle.pn_live.specs.Drafts.{Lacks}
+use Rattle.pn_live.specs.Orders.{list_of}
+use Rattle.pn_live.proofs.Prefixes.{begins_itself, take_of_begins}
+use Rattle.pn_live.proofs.Replays.{replayed_more, later_by}
 use Rattle.pn_live.proofs.tablet.LiveTablet.published.Goals as goal
 
-pub invariant_of-after : goal.invariant_of-after
-invariant_of-after g c =
+pub invariant_of-show : goal.invariant_of-show
+invariant_of-show g c =
     let t = c.args.self in
-    let before = settled_of t.latest.seen.log in record {
-      replayed = replayed_more t.state c.args.copy before (tried_of c.again-stamp.result.seen.log) c.args.operation.now
-          (kept_state t.state t.writer.desk.shown.value before before t.kept t.settled.1 refl) (c.requires.copy ∙ c.requires.next)
-          (ap (λ s. tried_of s.seen.log) c.again-stamp.ensures ∙ c.tried-latest.ensures.tried);
+    let shown = t.writer.desk.shown.value in
+    let op = c.args.operation in record {
+      replayed = replayed_more shown.state c.args.next (list_of shown) (tried_of c.again-stamp.result.seen.log) op shown.replayed
+          (sym (ap (after_step shown.state) c.requires.next))
+          (ap (λ s. tried_of s.seen.log) c.again-stamp.ensures ∙ c.tried-latest.ensures.tried ∙ ap (λ ops. ops ++ op ∷ []) (sym t.settled.1));
     }
 
-pub show-writer-requires : goal.show-writer-requires
-show-writer-requires g c =
+pub show-requires : goal.show-requires
+show-requires g c =
     let t = c.args.self in
-    let next = c.args.operation.now in
-    later_by t.writer.desk.shown.value _ next
+    let shown = t.writer.desk.shown.value in
+    let op = c.args.operation in
+    later_by shown _ op
     (ap (λ s. s.seen.book) c.again-stamp.ensures ∙ c.tried-latest.ensures.book ∙ sym t.books.1)
-    (c.requires.copy ∙ c.requires.next ∙ ap (λ s. stepped s next) (sym t.kept))
-    (ap (λ s. tried_of s.seen.log) c.again-stamp.ensures ∙ c.tried-latest.ensures.tried ∙ ap (λ ops. ops ++ next ∷ []) (sym t.settled.1))
+    (sym (ap (after_step shown.state) c.requires.next))
+    (ap (λ s. tried_of s.seen.log) c.again-stamp.ensures ∙ c.tried-latest.ensures.tried ∙ ap (λ ops. ops ++ op ∷ []) (sym t.settled.1))
+
+pub invariant_of-result : goal.invariant_of-result
+invariant_of-result g c =
+    let t = c.args.self in
+    let old = t.writer.desk.shown.value in
+    let new = c.show.new.writer.desk in record {
+      head_is = search rules;
+      books = search rules;
+      viewed = c.show.ensures.shown.1 ∙ ap Some (sym c.show.ensures.shown.0);
+      lacking =
+          subst (λ (s : Shown). IfSome c.join_of.result (λ join. Lacks new.spare.value.state join s.state)) (sym c.show.ensures.shown.0)
+          (subst (λ (s : Shown). IfSome c.join_of.result (λ join. Lacks s.state join c.args.next)) (sym c.show.ensures.spare)
+          (c.join_of.ensures old.state c.args.next c.requires.next));
+      settled = search rules;
+      goes_on =
+          subst (λ (ops : List TabletOp). take (length ops) (tried_of c.settled-latest.result.seen.log) ≡ ops) (c.settled-latest.ensures.tried ∙ sym c.settled-latest.ensures.settled)
+          (take_of_begins _ _ (begins_itself (tried_of c.settled-latest.result.seen.log)));
+    }
