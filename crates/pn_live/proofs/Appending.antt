@@ -1,13 +1,16 @@
 -- Live tablets of which one operation more is published.
-use Rattle.std.proofs.Common.{◌≡◌, ◌⊎◌, ℕ, zero, suc, ◌+◌, ◌<◌, ◌≤◌, List, [], ◌∷◌, length, map, drop, set, get_or, refl, sym, ap, ◌∙◌, inl, inr, arith}
+use Rattle.std.proofs.Common.{◌≡◌, ◌⊎◌, ℕ, zero, suc, ◌+◌, ◌<◌, ◌≤◌, List, [], ◌∷◌, length, map, drop, set, get_or, refl, sym, ap, ◌∙◌, inl, inr, Ok, subst, arith}
 use Rattle.logbook.specs.Pages.{Book}
-use Rattle.pn_tablet.specs.Steps.{stepped}
+use Rattle.pn_tablet.specs.Operations.{HasPositions}
+use Rattle.pn_tablet.specs.Steps.{step, stepped}
 use Rattle.pn_tablet.specs.Tablets.{TabletStateValue, empty_tablet}
 use Rattle.pn_tablet.specs.declared.op.TabletOp.{TabletOp}
-use Rattle.pn_apply.specs.Applying.{all_stepped, AreOldOrStepped}
+use Rattle.pn_apply.specs.Applying.{IsJoinIn, AreJoinsIn, HavePositions, all_stepped, AreOldOrStepped}
+use Rattle.pn_apply.proofs.Prefixes.{mapped_at, join_at, positions_at}
 use Rattle.pn_live.specs.Places.{PlaceValue, state_at, appended, all_appended, AreOldOrAppended}
+use Rattle.pn_live.proofs.Joining.{joins_well}
 use Rattle.pn_live.proofs.Replays.{fold_last}
-use Rattle.pn_live.proofs.Walks.{DoneFirst, done_count, done_at, done_more, done_still, within_of, first_of}
+use Rattle.pn_live.proofs.Walks.{DoneFirst, done_count, done_at, done_more, within_of, first_of}
 
 -- the operation is published of the tablet, and nothing else
 abbrev pub Appends : PlaceValue → TabletOp → PlaceValue → Type 0
@@ -122,9 +125,17 @@ module _ (olds : List PlaceValue) (ops : List TabletOp) (same : length olds ≡ 
   pub publishes : (old : PlaceValue) (op : TabletOp) → old ≡ get_or news n old → op ≡ get_or ops n op → state ≡ stepped (state_at old) op
   publishes old op at there = next_is old op at there (done_at Appends n olds ops news old so_far)
 
+  -- and the operation is not refused
+  pub publishes_well : AreJoinsIn (map state_at olds) ops → (old : PlaceValue) (op : TabletOp) → old ≡ get_or news n old → op ≡ get_or ops n op → step (state_at old) op ≡ Ok state
+  publishes_well fit old op at there =
+      let here : get_or (map state_at olds) n (state_at old) ≡ state_at old = mapped_at state_at olds n old (state_at old) next_within ∙ ap state_at (sym (place_before old at)) in
+      let join : IsJoinIn (state_at old) op =
+      subst (λ (t : TabletStateValue). IsJoinIn t op) here
+      (subst (λ (o : TabletOp). IsJoinIn (get_or (map state_at olds) n (state_at old)) o) (sym there) (join_at (map state_at olds) ops n (state_at old) op fit op_within)) in
+      joins_well (state_at old) op join ∙ ap Ok (sym (publishes old op at there))
+
+  pub brings_positions : HavePositions ops → (op : TabletOp) → op ≡ get_or ops n op → HasPositions op
+  brings_positions have op there = subst HasPositions (sym there) (positions_at ops n op have op_within)
+
   pub one_appended : (old new : PlaceValue) (op : TabletOp) → old ≡ get_or news n old → op ≡ get_or ops n op → new ≡ appended old op → AppendedFirst (n + 1) olds ops (set news n new)
   one_appended old new op at there is = done_more Appends n olds ops news old op new so_far next_within op_within (place_before old at) there is
-
-  -- a refusal leaves each tablet old or with its operation
-  pub one_refused : (old new : PlaceValue) → old ≡ get_or news n old → new ≡ old → AreOldOrAppended olds ops (set news n new)
-  one_refused old new at is = some_first n olds ops (set news n new) (done_still Appends n olds ops news old new so_far at is)

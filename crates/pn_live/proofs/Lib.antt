@@ -19,4 +19,5 @@ pub mod Rounds
 pub mod Taken
 pub mod WindowLaws
 pub mod HonestLists
+pub mod Joining
 pub mod Crossing
