@@ -1,10 +1,11 @@
 -- One more tablet is published.
-use Rattle.std.proofs.Common.{◌≡◌, length, map, inl, inr, sym, ap, ◌∙◌, ◌≤◌, arith}
+use Rattle.std.proofs.Common.{◌≡◌, length, map, inl, inr, Ok, sym, ap, subst, ◌∙◌, ◌≤◌, arith}
 use Rattle.std.specs.Vec.Iter.{into_iter_items}
 use Rattle.std.proofs.lemmas.List.{length-map}
+use Rattle.pn_tablet.specs.Steps.{step}
 use Rattle.pn_apply.specs.Applying.{all_stepped}
 use Rattle.pn_apply.proofs.Prefixes.{same_length}
-use Rattle.pn_live.specs.Places.{state_at, appended}
+use Rattle.pn_live.specs.Places.{PlaceValue, state_at, appended}
 use Rattle.pn_live.proofs.Appending.{place_within, publishes_well, brings_positions, one_appended, all_first, count_stepped}
 use Rattle.pn_live.proofs.Walks.{first_of, nothing_left, past_of, rest_of}
 use Rattle.pn_live.proofs.region.publishing.publish_all.Goals as goal
@@ -36,8 +37,9 @@ publish-requires-clause-next g c =
     let same = sym (length-map olds state_at) ∙ same_length (map state_at olds) ops c.requires.joins in
     let left = sym c.in-Some.ensures.steps.0.0 ∙ at.invariant.rest in
     let there = first_of ops at.tablet c.in-Some.operation (into_iter_items c.next.new.self.b) (sym c.in-Some.ensures.steps.1.0 ∙ at.invariant.ops) in
-    publishes_well olds ops same at.tablet at.places at.invariant.done c.in-Some.next (into_iter_items c.next.new.self.a) left c.requires.joins
-    c.index-places-tablet.result c.in-Some.operation c.index-places-tablet.is there
+    subst (λ (p : PlaceValue). step (state_at p) c.in-Some.operation ≡ Ok c.in-Some.next) c.index-places-tablet.is
+    (publishes_well olds ops same at.tablet at.places at.invariant.done c.in-Some.next (into_iter_items c.next.new.self.a) left c.requires.joins
+    c.index-places-tablet.result c.in-Some.operation c.index-places-tablet.is there)
 
 pub loop-next-preserved : goal.loop-next-preserved
 loop-next-preserved g c =
@@ -51,7 +53,8 @@ loop-next-preserved g c =
     let there = first_of ops at.tablet c.in-Some.operation (into_iter_items c.next.new.self.b) ops_left in
     record {
       done = one_appended olds ops same at.tablet at.places at.invariant.done c.in-Some.next rest left
-          c.index-places-tablet.result c.publish.new.self c.in-Some.operation c.index-places-tablet.is there c.publish.ensures;
+          c.index-places-tablet.result c.publish.new.self c.in-Some.operation c.index-places-tablet.is there
+          (c.publish.ensures ∙ ap (λ (p : PlaceValue). appended p c.in-Some.operation) (sym c.index-places-tablet.is));
       rest = rest_of (all_stepped (map state_at olds) ops) at.tablet c.in-Some.next rest left;
       left = omega (arith, at.invariant.left, c.in-Some.ensures.steps.0.1, ap length c.in-Some.ensures.steps.0.0);
       ops = rest_of ops at.tablet c.in-Some.operation (into_iter_items c.next.new.self.b) ops_left;
