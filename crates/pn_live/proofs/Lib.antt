@@ -20,4 +20,5 @@ pub mod Taken
 pub mod WindowLaws
 pub mod HonestLists
 pub mod Joining
+pub mod Drafting
 pub mod Crossing

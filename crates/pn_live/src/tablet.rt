@@ -6,6 +6,7 @@ ghost use Rattle.pn_live.specs.Attempts.{settled_of, tried_of};
 ghost use Rattle.pn_live.specs.Books.{head_of};
 ghost use Rattle.pn_live.specs.Drafts.{Lacks};
 ghost use Rattle.pn_live.specs.Orders.{list_of};
+ghost use Rattle.pn_live.specs.Proofs.DraftFacts.{draft_props};
 
 mod closing;
 mod drafting;
@@ -29,7 +30,7 @@ pub struct LiveTablet {
     ghost head_is: { head ≡ head_of latest.seen.book },
     ghost books: { (note.seen.book ≡ latest.seen.book) × (writer.desk.shown.value.stamp.seen.book ≡ latest.seen.book) },
     ghost viewed: { view writer.desk.place ≡ Some writer.desk.shown.value },
-    ghost lacking: { IfSome lacks (λ join. Lacks writer.desk.spare.value.state join writer.desk.shown.value.state) },
+    ghost lacking: { IfSome lacks (λ join. Lacks writer.desk.spare.value.state join writer.desk.shown.value.state) } by { Prim.hlevel draft_props },
     ghost settled: { (settled_of note.seen.log ≡ settled_of latest.seen.log) × (list_of writer.desk.shown.value ≡ settled_of latest.seen.log) },
     ghost goes_on: { take (length (settled_of latest.seen.log)) (tried_of latest.seen.log) ≡ settled_of latest.seen.log },
 }

@@ -30,11 +30,19 @@ fn show<R: Wait>(rt: &R, writer: &mut TabletWriter, next: Shown)
     ensures shown { (writer.new.desk.shown.value ≡ next) × (view writer.new.desk.place ≡ Some next) }
     ensures spare { writer.new.desk.spare.value ≡ writer.old.desk.shown.value }
 {
-    replace_with(&mut writer.desk, rt, |desk, rt| {
-        let (open, mut place) = desk.open(rt);
-        *place = next;
-        (open.show_as::<Sees>(place), ())
-    })
+    replace_with(
+        &mut writer.desk,
+        rt,
+        |desk, rt|
+            requires { IsLater desk.shown.value next }
+            ensures values { (result.0.shown.value ≡ next) × (result.0.spare.value ≡ desk.shown.value) }
+            ensures seat { view result.0.place ≡ Some next }
+        {
+            let (open, mut place) = desk.open(rt);
+            *place = next;
+            (open.show_as::<Sees>(place), ())
+        },
+    )
 }
 
 impl LiveTablet {

@@ -25,7 +25,8 @@ pub returns-clause-joins : goal.returns-clause-joins
 returns-clause-joins g c =
     let inside = c.self.inside in
     let old : LiveRegionValue = record { layout = inside.layout; places = inside.places.items; marks = inside.marks; log = inside.log } in
-    let ops = c.in_ok-operations.operations.items in
-    (subst (λ (l : LiveRegionValue). AreJoinsIn (map state_at l.places) ops) c.self.view_is
-    (fit_live old c.args.deliveries.items c.self.invariant.is_region c.in_ok-marks.marks ops c.in_ok-operations.ensures),
-    subst HavePositions (sym c.in_ok-operations.ensures) (joins_have_positions inside.layout c.in_ok-marks.marks (all_images c.args.deliveries.items) c.in_ok-marks.ensures.positions))
+    let ops = c.in_ok-operations.operations.items in (
+      subst (λ (l : LiveRegionValue). AreJoinsIn (map state_at l.places) ops) c.self.view_is
+          (fit_live old c.args.deliveries.items c.self.invariant.is_region c.in_ok-marks.marks ops c.in_ok-operations.ensures),
+      subst HavePositions (sym c.in_ok-operations.ensures) (joins_have_positions inside.layout c.in_ok-marks.marks (all_images c.args.deliveries.items) c.in_ok-marks.ensures.positions),
+    )

@@ -1,0 +1,70 @@
+-- What a draft lacks of the state that is shown.
+use Rattle.std.proofs.Common.{◌≡◌, Bool, true, false, if◌then◌else◌, List, [], ◌∷◌, ◌++◌, fold, IsTrue, refl, sym, ap, subst, ◌∙◌, Option, Some, None, IfSome, Ok, Err}
+use Rattle.pn_join.specs.Marks.{Positions}
+use Rattle.pn_record.specs.Cells.{spell}
+use Rattle.pn_record.specs.CellMap.{Entries, table_of, adds}
+use Rattle.pn_record.proofs.CellMaps.{spelled_table, table_of-nil}
+use Rattle.pn_tablet.proofs.AddedTo.{none_added}
+use Rattle.pn_tablet.specs.Copies.{TabletCopyValue}
+use Rattle.pn_tablet.specs.Needs.{lacking}
+use Rattle.pn_tablet.specs.Operations.{HasPositions}
+use Rattle.pn_tablet.specs.Ranges.{Ends}
+use Rattle.pn_tablet.specs.Steps.{step, stepped, after_step, taking, adopting, state_of}
+use Rattle.pn_tablet.specs.Tablets.{TabletStateValue, lie_in, same_range}
+use Rattle.pn_tablet.specs.declared.needs.Short.{Short}
+use Rattle.pn_tablet.specs.declared.op.TabletOp.{TabletOp}
+use Rattle.pn_tablet.specs.declared.op.TabletOp.TheVariants.{Join, Lose, Adopt}
+use Rattle.pn_tablet.specs.declared.fault.OpFault.TheVariants.{WrongRange}
+use Rattle.pn_live.specs.declared.shown.Shown.{Shown}
+use Rattle.pn_live.specs.Attempts.{tried_of}
+use Rattle.pn_live.specs.Drafts.{Lacks}
+
+-- the records of a state are those that spell them
+Spelled : TabletStateValue → Type 0
+Spelled t = t.cells ≡ table_of (spell t.cells)
+
+adds_spelled : (old : Entries) (more : Entries) → adds old (spell more) ≡ table_of (spell (adds old (spell more)))
+unfolding adds
+adds_spelled old more = spelled_table (spell old ++ spell more)
+
+join_spelled : (t : TabletStateValue) (cells : Entries) (marks : Positions) (b : Bool) → Spelled t → Spelled (after_step t (if b then Ok (taking t cells marks) else Err WrongRange))
+join_spelled t cells marks true is = adds_spelled t.cells cells
+join_spelled t cells marks false is = is
+
+adopt_spelled : (t : TabletStateValue) (copy : TabletCopyValue) (b : Bool) (short : Option Short) → Spelled t → Spelled (after_step t (if b then adopting t copy short else Err WrongRange))
+adopt_spelled t copy true None is = adds_spelled t.cells copy.cells
+adopt_spelled t copy true (Some short) is = is
+adopt_spelled t copy false short is = is
+
+step_spelled : (t : TabletStateValue) (op : TabletOp) → Spelled t → Spelled (stepped t op)
+step_spelled t (Join cells marks) is = join_spelled t cells marks (lie_in t.range cells) is
+step_spelled t Lose is = sym table_of-nil
+step_spelled t (Adopt copy) is = adopt_spelled t copy (same_range t.range copy.range) (lacking t.status copy.marks) is
+
+fold_spelled : (t : TabletStateValue) (ops : List TabletOp) → Spelled t → Spelled (fold stepped t ops)
+fold_spelled t [] is = is
+fold_spelled t (op ∷ ops) is = fold_spelled (stepped t op) ops (step_spelled t op is)
+
+-- the records of what is shown are those that spell them
+shown_spelled : (x : Shown) → Spelled x.state
+shown_spelled x = subst Spelled (sym x.replayed) (fold_spelled _ (tried_of x.stamp.seen.log) (sym table_of-nil))
+
+-- what is shown lacks nothing of itself
+pub lacks_nothing : (x : Shown) → Lacks x.state (Join [] []) x.state
+lacks_nothing x = record {
+  join = tt;
+  positions = tt;
+  makes = ap (λ (cells : Entries). record x.state { cells = cells }) (sym (none_added x.state.cells [] (shown_spelled x) refl));
+}
+
+lies_in : (t n : TabletStateValue) (cells : Entries) (marks : Positions) (b : Bool) → (if b then Ok (taking t cells marks) else Err WrongRange) ≡ Ok n → IsTrue b
+lies_in t n cells marks true is = tt
+lies_in t n cells marks false is = absurd (cc is)
+
+-- a state that a join was applied to lacks it of what came of that
+pub lacks_join : (t n : TabletStateValue) (cells : Entries) (marks : Positions) → HasPositions (Join cells marks) → step t (Join cells marks) ≡ Ok n → Lacks t (Join cells marks) n
+lacks_join t n cells marks positions is = record {
+  join = lies_in t n cells marks (lie_in t.range cells) is;
+  positions = positions;
+  makes = ap (after_step t) is;
+}
