@@ -19,5 +19,6 @@ pub mod Rounds
 pub mod Taken
 pub mod WindowLaws
 pub mod HonestLists
+pub mod Joining
 pub mod Drafting
 pub mod Crossing

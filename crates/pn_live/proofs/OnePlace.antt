@@ -1,9 +1,8 @@
 -- Live regions of which one operation more is published, of one tablet.
-use Rattle.std.proofs.Common.{◌≡◌, ℕ, zero, suc, ◌<◌, List, [], ◌∷◌, length, map, set, get_or, slice_get, refl, sym, ap, ◌∙◌, subst, Ok, arith}
+use Rattle.std.proofs.Common.{◌≡◌, ℕ, zero, suc, ◌<◌, List, [], ◌∷◌, length, map, set, get_or, slice_get, refl, sym, ap, ◌∙◌, subst, arith}
 use Rattle.std.specs.Prelude.{IsSomeAnd}
 use Rattle.std.proofs.lemmas.List.{set-get_or}
 use Rattle.logbook.specs.Pages.{Book}
-use Rattle.pn_tablet.specs.Steps.{step, stepped, after_step}
 use Rattle.pn_tablet.specs.Tablets.{TabletStateValue}
 use Rattle.pn_tablet.specs.declared.op.TabletOp.{TabletOp}
 use Rattle.pn_region.specs.Logged.{breaking}
@@ -27,10 +26,6 @@ pub known_there : (ps : List PlaceValue) (n : ℕ) (P : PlaceValue → Type 0) (
 known_there [] n P p there is = absurd there
 known_there (q ∷ ps) zero P p there is = subst P (sym is) there
 known_there (q ∷ ps) (suc n) P p there is = known_there ps n P p there is
-
--- what an operation makes of a state that it changes
-pub stepped_is : (t after : TabletStateValue) (op : TabletOp) → step t op ≡ Ok after → after ≡ stepped t op
-stepped_is t after op is = sym (ap (after_step t) is)
 
 pub set_appended : (ps : List PlaceValue) (n : ℕ) (p new : PlaceValue) (op : TabletOp) → p ≡ get_or ps n p → new ≡ appended p op → set ps n new ≡ appended_at n op ps
 set_appended [] n p new op at is = refl

@@ -8,18 +8,17 @@ use Rattle.pn_stream.specs.Positions.{DeliveryValue}
 use Rattle.pn_tablet.specs.Changes.{changes}
 use Rattle.pn_tablet.specs.declared.change.Change.{Change}
 use Rattle.pn_tablet.specs.declared.op.TabletOp.{TabletOp}
-use Rattle.pn_apply.specs.Applying.{AreJoinsIn, all_stepped, all_changes, AreOldOrStepped}
+use Rattle.pn_apply.specs.Applying.{AreJoinsIn, all_stepped, all_changes}
 use Rattle.pn_apply.proofs.Prefixes.{same_length}
 use Rattle.pn_region.specs.Marking.{new_marks}
 use Rattle.pn_region.specs.Regions.{IsRegion, all_cells}
-use Rattle.pn_region.specs.Rounds.{joins, round, Leaves}
-use Rattle.pn_region.specs.declared.entry.Entry.{Entry}
+use Rattle.pn_region.specs.Rounds.{joins, round}
 use Rattle.pn_region.specs.declared.fault.RoundFault.{RoundFault}
 use Rattle.pn_region.specs.declared.fault.RoundFault.TheVariants.{Gap, TooManyStreams, Memory}
-use Rattle.pn_region.proofs.RoundEnds.{fit, half_left, half_region, new_region_is, round_ok, told_changes}
+use Rattle.pn_region.proofs.RoundEnds.{fit, new_region_is, round_ok, told_changes}
 use Rattle.pn_live.specs.LiveRegions.{LiveRegionValue, core, publishing, LeavesLive}
 use Rattle.pn_live.specs.Places.{PlaceValue, state_at, all_appended, AreOldOrAppended}
-use Rattle.pn_live.proofs.Appending.{none_appended, states_appended, half_stepped, books_appended, books_half}
+use Rattle.pn_live.proofs.Appending.{none_appended, states_appended, books_appended}
 
 module _ (old : LiveRegionValue) (deliveries : List DeliveryValue) (is : IsRegion (core old)) where
   half_none : (right : Result Positions RoundFault) → MatchResult right (λ marks. AreOldOrAppended old.places (joins (core old) deliveries marks) old.places) (λ fault. old.places ≡ old.places)
@@ -62,24 +61,3 @@ module _ (old : LiveRegionValue) (deliveries : List DeliveryValue) (is : IsRegio
 
       pub books_live : map (λ (p : PlaceValue). p.book) news ≡ map (λ (p : PlaceValue). p.book) old.places
       books_live = ap (map (λ (p : PlaceValue). p.book)) all ∙ books_appended old.places ops
-
-    -- some joins are published
-    module _ (news : List PlaceValue) (half : AreOldOrAppended old.places ops news) where
-      found_half : AreOldOrAppended old.places (joins (core old) deliveries marks) news
-      found_half = subst (λ (os : List TabletOp). AreOldOrAppended old.places os news) found half
-
-      pub half_live : (log : List Entry) → new_marks old.marks deliveries ≡ Ok marks → LeavesLive Memory old deliveries (record { layout = old.layout; places = news; marks = old.marks; log = log })
-      half_live log accepted =
-          (refl, refl, subst (λ (right : Result Positions RoundFault). MatchResult right (λ m. AreOldOrAppended old.places (joins (core old) deliveries m) news) (λ fault. news ≡ old.places)) (sym accepted) found_half)
-
-      stepped_half : AreOldOrStepped (map state_at old.places) (joins (core old) deliveries marks) (map state_at news)
-      stepped_half = half_stepped old.places (joins (core old) deliveries marks) news (sym count_live ∙ ap length found) found_half
-
-      pub core_half : new_marks old.marks deliveries ≡ Ok marks → Leaves Memory (core old) deliveries (record { layout = old.layout; tablets = map state_at news; marks = old.marks })
-      core_half accepted = half_left (core old) deliveries is marks (map state_at news) accepted stepped_half
-
-      pub region_half : IsRegion (record { layout = old.layout; tablets = map state_at news; marks = old.marks })
-      region_half = half_region (core old) deliveries is marks (map state_at news) stepped_half
-
-      pub books_left : map (λ (p : PlaceValue). p.book) news ≡ map (λ (p : PlaceValue). p.book) old.places
-      books_left = books_half old.places ops news half

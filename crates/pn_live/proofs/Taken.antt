@@ -10,12 +10,11 @@ use Rattle.pn_tablet.specs.declared.op.TabletOp.{TabletOp}
 use Rattle.pn_apply.specs.Applying.{all_changes}
 use Rattle.pn_region.specs.Marking.{new_marks}
 use Rattle.pn_region.specs.Regions.{RegionValue, AreRegionMarks, IsRegion, IsLawfulRegion, all_cells}
-use Rattle.pn_region.specs.Rounds.{joins, round, Leaves}
-use Rattle.pn_region.specs.declared.fault.RoundFault.TheVariants.{Memory}
-use Rattle.pn_live.specs.LiveRegions.{LiveRegionValue, core, tablets_in, publishing, LeavesLive}
-use Rattle.pn_live.specs.Places.{PlaceValue, NoteValue, state_at, notes_of, all_appended, AreOldOrAppended}
+use Rattle.pn_region.specs.Rounds.{joins, round}
+use Rattle.pn_live.specs.LiveRegions.{LiveRegionValue, core, tablets_in, publishing}
+use Rattle.pn_live.specs.Places.{PlaceValue, NoteValue, state_at, notes_of, all_appended}
 use Rattle.pn_live.specs.Readers.{AreNotesOf}
-use Rattle.pn_live.proofs.Rounds.{published_live, region_live, ok_live, changes_live, books_live, half_live, core_half, region_half, books_left}
+use Rattle.pn_live.proofs.Rounds.{published_live, region_live, ok_live, changes_live, books_live}
 
 pub notes_books : (places : List PlaceValue) → map (λ (n : NoteValue). n.book) (notes_of places) ≡ map (λ (p : PlaceValue). p.book) places
 notes_books [] = refl
@@ -46,20 +45,3 @@ module _ (old now : LiveRegionValue) (deliveries : List DeliveryValue) (is : IsR
 
     pub taken_fits : AreNotesOf (tablets_in old) (notes_of now.places)
     taken_fits = notes_books now.places ∙ books_live old deliveries is marks ops found now.places all
-
-  -- some joins are published
-  module _ (half : AreOldOrAppended old.places ops now.places) (marked : now.marks ≡ old.marks) where
-    core_left : core now ≡ record { layout = old.layout; tablets = map state_at now.places; marks = old.marks }
-    core_left = λ i. record { layout = layout i; tablets = map state_at now.places; marks = marked i }
-
-    pub left_err : LeavesLive Memory old deliveries now
-    left_err = (layout, marked, (half_live old deliveries is marks ops found now.places half now.log accepted).2)
-
-    pub left_core : Leaves Memory (core old) deliveries (core now)
-    left_core = subst (Leaves Memory (core old) deliveries) (sym core_left) (core_half old deliveries is marks ops found now.places half accepted)
-
-    pub left_lawful : AreRegionMarks old.marks → IsLawfulRegion (core now)
-    left_lawful good = subst IsLawfulRegion (sym core_left) (record { is_region = region_half old deliveries is marks ops found now.places half; are_marks = good })
-
-    pub left_same : tablets_in now ≡ tablets_in old
-    left_same = λ i. record { layout = layout i; books = books_left old deliveries is marks ops found now.places half i }

@@ -1,6 +1,6 @@
 -- Lists of which the first so many places were changed, each by what stands for it in another list.
 use Rattle.std.proofs.Common.{◌≡◌, ℕ, zero, suc, ◌+◌, ◌<◌, ◌≤◌, List, [], ◌∷◌, ◌++◌, length, map, drop, set, get_or, refl, sym, ap, ◌∙◌, subst, arith, add-one, append_assoc, length-append}
-use Rattle.std.proofs.lemmas.List.{set-get_or, append-nil}
+use Rattle.std.proofs.lemmas.List.{append-nil}
 
 -- a list that goes on behind a place has that place
 pub within_of : {A : Type 0} (xs : List A) (n : ℕ) (x : A) (rest : List A) → x ∷ rest ≡ drop n xs → n < length xs
@@ -72,11 +72,6 @@ module _ {A B : Type 0} (Does : A → B → A → Type 0) where
       → a ≡ get_or olds n a → b ≡ get_or bs n b → Does a b new → DoneFirst (n + 1) olds bs (set news n new)
   done_more n olds bs news a b new done within too at there does =
       subst (λ (k : ℕ). DoneFirst k olds bs (set news n new)) (sym (add-one n)) (done_next n olds bs news a b new done within too at there does)
-
-  -- what was put back changes nothing
-  pub done_still : (n : ℕ) (olds : List A) (bs : List B) (news : List A) (a same : A) → DoneFirst n olds bs news → a ≡ get_or news n a → same ≡ a → DoneFirst n olds bs (set news n same)
-  done_still n olds bs news a same done at is =
-      subst (DoneFirst n olds bs) (sym (ap (set news n) (is ∙ at) ∙ set-get_or news n a)) done
 
 -- a list is moved over, one after another
 module _ {A B : Type 0} (f : A → B) (all : List B) (done : List B) (left : List A) (so_far : done ++ map f left ≡ all) where

@@ -43,8 +43,7 @@ pub(super) fn planned<R: Threads + Wait + Sync, G: Gate + Sync>(
     ensures same { places.new ≡ places.old }
     ensures notes { IfOk result (λ plan. (plan.notes.items ≡ []) × (vec_capacity plan.notes ≡ length places.old)) }
 {
-    let (mut states, joins) = drafts(rt, alloc, places)?;
-    apply_all(rt, alloc, states.as_mut_slice(), &joins, workers, &Open)?;
+    let mut states = caught_up(rt, alloc, places, workers)?;
     let slots = states.as_mut_slice();
     let lists = apply_all(rt, alloc, slots, operations, workers, gate)?;
     let Some(changed) = count_of(&lists) else {
@@ -57,6 +56,23 @@ pub(super) fn planned<R: Threads + Wait + Sync, G: Gate + Sync>(
         changed,
         notes,
     })
+}
+
+// A draft of each tablet's next state, which the workers bring up to the state that is shown.
+fn caught_up<R: Threads + Wait + Sync>(
+    rt: &R,
+    alloc: Global,
+    places: &mut [Place],
+    workers: usize,
+) -> Result<Vec<TabletState>, NoMemory>
+    requires { (1 ≤ workers) × (workers ≤ most_workers) }
+    ensures states { IfOk result (λ states. states.items ≡ map state_at places.old) }
+    ensures same { places.new ≡ places.old }
+{
+    let (mut states, joins) = drafts(rt, alloc, places)?;
+    let slots = states.as_mut_slice();
+    apply_all(rt, alloc, slots, &joins, workers, &Open)?;
+    Ok(states)
 }
 
 // A draft of each tablet's next state: a state, and the join that it lacks.

@@ -61,7 +61,7 @@ publish_one-requires-clause-next g c =
     let place = c.index-place.result.now in
     let first = c.in-Some.ensures ∙ ap (λ (x : TabletCopyValue). position (λ (p : PlaceValue). same_range p.range x.range) live.places) c.copy.view_is in
     let at = c.index-place.ensures ∙ ap (λ (l : LiveRegionValue). get_or l.places n place) c.self.view_is in
-    next_for live copy n place first at (λ (p : PlaceValue). step (state_at p) (Adopt copy) ≡ Ok c.in-Ok.next.state) c.in-Ok.ensures
+    next_for live copy n place first at (λ (p : PlaceValue). step (state_at p) (Adopt copy) ≡ Ok c.in-Ok.next) c.in-Ok.ensures
 
 pub publish_one-requires-clause-region : goal.publish_one-requires-clause-region
 publish_one-requires-clause-region g c =

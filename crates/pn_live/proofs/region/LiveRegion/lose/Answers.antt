@@ -26,7 +26,7 @@ publish_one-requires-clause-next g c =
     let place = c.index.result.now in
     let is = subst (λ (l : LiveRegionValue). IsRegion (core l)) c.self.view_is c.self.invariant.is_region in
     let count = tablet_count live.marks live.layout (core live).tablets is.tablets in
-    known_of live.places n place (λ (p : PlaceValue). step (state_at p) Lose ≡ Ok c.in_ok-next.next.state)
+    known_of live.places n place (λ (p : PlaceValue). step (state_at p) Lose ≡ Ok c.in_ok-next.next)
     (omega (arith, count, length-map live.places state_at, c.requires))
     (c.index.ensures ∙ ap (λ (l : LiveRegionValue). get_or l.places n place) c.self.view_is) c.in_ok-next.ensures
 

@@ -1,10 +1,10 @@
 -- What the deliveries bring to the tablets of a live region.
-use Rattle.std.proofs.Common.{map, sym, ◌∙◌, subst}
+use Rattle.std.proofs.Common.{List, map, sym, ◌∙◌, subst}
 use Rattle.pn_apply.specs.Applying.{AreJoinsIn, HavePositions}
 use Rattle.pn_apply.specs.Reducing.{all_images}
 use Rattle.pn_apply.proofs.ReduceLaws.{joins_have_positions}
 use Rattle.pn_live.specs.LiveRegions.{LiveRegionValue}
-use Rattle.pn_live.specs.Places.{state_at}
+use Rattle.pn_live.specs.Places.{PlaceValue, state_at}
 use Rattle.pn_live.proofs.Rounds.{fit_live}
 use Rattle.pn_live.proofs.region.LiveRegion.prepared.Goals as goal
 
@@ -12,10 +12,21 @@ pub planned-requires-clause-joins : goal.planned-requires-clause-joins
 planned-requires-clause-joins g c κs within =
     let inside = c.self.inside in
     let old : LiveRegionValue = record { layout = inside.layout; places = inside.places.items; marks = inside.marks; log = inside.log } in
-    let found = c.deref-3.ensures.value ∙ c.in_ok-operations.ensures in
-    subst (λ ps. AreJoinsIn (map state_at ps) c.deref-3.result.now) (sym c.deref-2.ensures.value) (fit_live old c.args.deliveries.items c.self.invariant.is_region c.in_ok-marks.marks c.deref-3.result.now found)
+    let found = c.deref-2.ensures.value ∙ c.in_ok-operations.ensures in
+    subst (λ (ps : List PlaceValue). AreJoinsIn (map state_at ps) c.deref-2.result.now) (sym c.as_mut_slice.ensures.value)
+    (fit_live old c.args.deliveries.items c.self.invariant.is_region c.in_ok-marks.marks c.deref-2.result.now found)
 
 pub planned-requires-clause-positions : goal.planned-requires-clause-positions
 planned-requires-clause-positions g c κs within =
-    let found = c.deref-3.ensures.value ∙ c.in_ok-operations.ensures in
+    let found = c.deref-2.ensures.value ∙ c.in_ok-operations.ensures in
     subst HavePositions (sym found) (joins_have_positions c.self.inside.layout c.in_ok-marks.marks (all_images c.args.deliveries.items) c.in_ok-marks.ensures.positions)
+
+pub returns-clause-joins : goal.returns-clause-joins
+returns-clause-joins g c =
+    let inside = c.self.inside in
+    let old : LiveRegionValue = record { layout = inside.layout; places = inside.places.items; marks = inside.marks; log = inside.log } in
+    let ops = c.in_ok-operations.operations.items in (
+      subst (λ (l : LiveRegionValue). AreJoinsIn (map state_at l.places) ops) c.self.view_is
+          (fit_live old c.args.deliveries.items c.self.invariant.is_region c.in_ok-marks.marks ops c.in_ok-operations.ensures),
+      subst HavePositions (sym c.in_ok-operations.ensures) (joins_have_positions inside.layout c.in_ok-marks.marks (all_images c.args.deliveries.items) c.in_ok-marks.ensures.positions),
+    )

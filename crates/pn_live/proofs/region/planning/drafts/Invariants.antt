@@ -1,10 +1,14 @@
--- The states of the tablets so far are copied.
-use Rattle.std.proofs.Common.{◌≡◌, map, take, length, vec_capacity}
-use Rattle.pn_live.specs.Places.{state_at}
+-- The drafts of the tablets so far lack their joins.
+use Rattle.std.proofs.Common.{◌≡◌, take, length, vec_capacity}
+use Rattle.pn_live.proofs.Joining.{AllLack}
 use Rattle.pn_live.proofs.region.planning.drafts.Given as goal
 
-abbrev pub invariant-loop-place : goal.invariant-loop-place
-invariant-loop-place l = record {
-  states : l.states.items ≡ map state_at (take l.place-index l.places);
-  room : vec_capacity l.states ≡ length l.places;
+abbrev pub invariant-loop-tablet : goal.invariant-loop-tablet
+invariant-loop-tablet g l = record {
+  lack : AllLack l.states.items l.joins.items (take l.tablet l.fn.places);
+  same : l.places ≡ l.fn.places;
+  count : length l.states.items ≡ l.tablet;
+  joins_count : length l.joins.items ≡ l.tablet;
+  room : vec_capacity l.states ≡ length l.fn.places;
+  joins_room : vec_capacity l.joins ≡ length l.fn.places;
 }
