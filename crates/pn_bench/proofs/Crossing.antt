@@ -1,12 +1,20 @@
--- Readers of a live region, and keys, may go to another thread.
+-- Readers of a live region may go to another thread with their keys.
 use denote.Param.Send.{IsSend, sendable}
 use Rattle.std.proofs.Crossing.{crosses}
+use Rattle.std.specs.contracts.alloc.Global as global
+use Rattle.pn_live.proofs.Crossing.Readers.{reader_send}
 use Rattle.pn_record.specs.contracts.key.Key as key
-use Rattle.pn_live.specs.contracts.reader.LiveReader as reader
-use Rattle.pn_live.proofs.Crossing.Readers as readers
+use Rattle.pn_bench.specs.contracts.runners.Runner as runner
+use Rattle.pn_bench.specs.contracts.runners.Four as four
 
-pub reader_send : IsSend reader.the_row
-reader_send = readers.reader_send
-
-pub key_send : IsSend key.the_row
+key_send : IsSend key.the_row
 key_send = search (sendable, crosses) depth 40
+
+global_send : IsSend global.the_row
+global_send = search (sendable, crosses) depth 40
+
+pub runner_send : IsSend runner.the_row
+runner_send = search (sendable, crosses, reader_send, key_send, global_send) depth 40 fits 20000
+
+pub four_send : IsSend four.the_row
+four_send = search (sendable, crosses, runner_send) depth 40 fits 20000

@@ -40,23 +40,24 @@ pub struct Took {
     pub rounds: Duration,
 }
 
-// What takes rounds.
-trait Takes {
-    fn take<R: Threads + Wait + Sync>(&mut self, rt: &R, deliveries: Vec<Delivery>) -> Option<()>;
+// A plain region takes a round.
+fn take<R: Threads + Wait + Sync>(
+    rt: &R,
+    region: &mut Region,
+    deliveries: Vec<Delivery>,
+) -> Option<()> {
+    region.round(rt, deliveries, 1, &Open).ok()?;
+    Some(())
 }
 
-impl Takes for Region {
-    fn take<R: Threads + Wait + Sync>(&mut self, rt: &R, deliveries: Vec<Delivery>) -> Option<()> {
-        self.round(rt, deliveries, 1, &Open).ok()?;
-        Some(())
-    }
-}
-
-impl Takes for LiveRegion {
-    fn take<R: Threads + Wait + Sync>(&mut self, rt: &R, deliveries: Vec<Delivery>) -> Option<()> {
-        let _front = self.round(rt, deliveries, 1, &Open).ok()?;
-        Some(())
-    }
+// A live region takes a round.
+fn take_live<R: Threads + Wait + Sync>(
+    rt: &R,
+    live: &mut LiveRegion,
+    deliveries: Vec<Delivery>,
+) -> Option<()> {
+    let _front = live.round(rt, deliveries, 1, &Open).ok()?;
+    Some(())
 }
 
 /// How long a plain region takes, which is read by one thread.
@@ -101,7 +102,7 @@ fn time_opened<R: Clock + Threads + Wait + Sync, S: Source + Drop>(
     stream: &mut StreamReader<S>,
     plan: Plan,
 ) -> Option<Took> {
-    let keys = load(rt, alloc, live, stream, plan)?;
+    let keys = load_live(rt, alloc, live, stream, plan)?;
     let mut four = Four::new(alloc, readers, &keys)?;
     let start = Instant::now(rt).ok()?;
     four.read_all(rt);
@@ -110,7 +111,7 @@ fn time_opened<R: Clock + Threads + Wait + Sync, S: Source + Drop>(
     let rounds = if plan.is_busy {
         time_busy(rt, live, &mut four, &mut last)?
     } else {
-        time_rounds(rt, live, &mut last)?
+        time_live_rounds(rt, live, &mut last)?
     };
     if four.missed() > 0 {
         return None;
@@ -119,7 +120,6 @@ fn time_opened<R: Clock + Threads + Wait + Sync, S: Source + Drop>(
 }
 
 // How long the rounds take while three readers read on.
-#[tactic(auto, using(crate::proofs::Crossing::reader_send, crate::proofs::Crossing::key_send))]
 fn time_busy<R: Clock + Threads + Wait + Sync>(
     rt: &R,
     live: &mut LiveRegion,
@@ -129,30 +129,55 @@ fn time_busy<R: Clock + Threads + Wait + Sync>(
     let (_, took) = join_mut(
         rt,
         &mut || four.read_on(rt, PASSES),
-        &mut || time_rounds(rt, live, rounds),
+        &mut || time_live_rounds(rt, live, rounds),
     );
     took
 }
 
-// Takes the records of a plan. Answers their keys, where they are to be read.
-fn load<R: Threads + Wait + Sync, T: Takes, S: Source + Drop>(
+// A plain region takes the records of a plan. Answers their keys, where they are to be read.
+fn load<R: Threads + Wait + Sync, S: Source + Drop>(
     rt: &R,
     alloc: Global,
-    taker: &mut T,
+    region: &mut Region,
     stream: &mut StreamReader<S>,
     plan: Plan,
 ) -> Option<Vec<Key>> {
     let mut keys = Vec::new(alloc);
     for _ in 0..plan.records / IN_BATCH {
-        let delivery = stream.next_batch(IN_BATCH).ok()?;
-        if plan.rounds > 0 {
-            keep_keys(&mut keys, &delivery)?;
-        }
-        let mut deliveries = Vec::with_capacity(alloc, 1).ok()?;
-        deliveries.push(delivery).ok()?;
-        taker.take(rt, deliveries)?;
+        take(rt, region, first_round(alloc, stream, plan, &mut keys)?)?;
     }
     Some(keys)
+}
+
+// The same of a live region.
+fn load_live<R: Threads + Wait + Sync, S: Source + Drop>(
+    rt: &R,
+    alloc: Global,
+    live: &mut LiveRegion,
+    stream: &mut StreamReader<S>,
+    plan: Plan,
+) -> Option<Vec<Key>> {
+    let mut keys = Vec::new(alloc);
+    for _ in 0..plan.records / IN_BATCH {
+        take_live(rt, live, first_round(alloc, stream, plan, &mut keys)?)?;
+    }
+    Some(keys)
+}
+
+// One of the rounds that bring the records of a plan. Its keys are kept, where they are to be read.
+fn first_round<S: Source + Drop>(
+    alloc: Global,
+    stream: &mut StreamReader<S>,
+    plan: Plan,
+    keys: &mut Vec<Key>,
+) -> Option<Vec<Delivery>> {
+    let delivery = stream.next_batch(IN_BATCH).ok()?;
+    if plan.rounds > 0 {
+        keep_keys(keys, &delivery)?;
+    }
+    let mut deliveries = Vec::with_capacity(alloc, 1).ok()?;
+    deliveries.push(delivery).ok()?;
+    Some(deliveries)
 }
 
 fn keep_keys(keys: &mut Vec<Key>, delivery: &Delivery) -> Option<()> {
@@ -178,15 +203,28 @@ fn last_rounds<S: Source + Drop>(
     Some(rounds)
 }
 
-// How long it takes to take the rounds.
-fn time_rounds<R: Clock + Threads + Wait + Sync, T: Takes>(
+// How long it takes a plain region to take the rounds.
+fn time_rounds<R: Clock + Threads + Wait + Sync>(
     rt: &R,
-    taker: &mut T,
+    region: &mut Region,
     rounds: &mut Vec<Vec<Delivery>>,
 ) -> Option<Duration> {
     let start = Instant::now(rt).ok()?;
     for _ in 0..rounds.len() {
-        taker.take(rt, rounds.pop()?)?;
+        take(rt, region, rounds.pop()?)?;
+    }
+    start.elapsed(rt).ok()
+}
+
+// The same of a live region.
+fn time_live_rounds<R: Clock + Threads + Wait + Sync>(
+    rt: &R,
+    live: &mut LiveRegion,
+    rounds: &mut Vec<Vec<Delivery>>,
+) -> Option<Duration> {
+    let start = Instant::now(rt).ok()?;
+    for _ in 0..rounds.len() {
+        take_live(rt, live, rounds.pop()?)?;
     }
     start.elapsed(rt).ok()
 }

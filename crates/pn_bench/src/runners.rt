@@ -42,7 +42,6 @@ impl Runner {
 }
 
 // Lets both read, each in a thread of its own.
-#[tactic(auto, using(crate::proofs::Crossing::reader_send, crate::proofs::Crossing::key_send))]
 fn read_both<R: Threads + Sync>(rt: &R, first: &mut Runner, second: &mut Runner) {
     join_mut(rt, &mut || first.read(), &mut || second.read());
 }
@@ -72,7 +71,6 @@ impl Four {
     }
 
     /// Lets each read all keys once, in a thread of its own.
-    #[tactic(auto, using(crate::proofs::Crossing::reader_send, crate::proofs::Crossing::key_send))]
     pub fn read_all<R: Threads + Sync>(&mut self, rt: &R) {
         let Four {
             one,
@@ -94,7 +92,6 @@ impl Four {
         }
     }
 
-    #[tactic(auto, using(crate::proofs::Crossing::reader_send, crate::proofs::Crossing::key_send))]
     fn read_three<R: Threads + Sync>(&mut self, rt: &R) {
         let Four {
             one,
