@@ -1,5 +1,4 @@
 -- Fewer messages are left after each delivery.
-use Rattle.std.proofs.Common.{ℕ}
 use Rattle.pn_bench.proofs.live.deliveries_of.Given as goal
 
 abbrev pub decreases-loop-left : goal.decreases-loop-left
