@@ -9,8 +9,6 @@ use Rattle.pn_live.specs.contracts.front.Note.TheInside as note_inside
 use Rattle.pn_live.specs.contracts.front.Front as front
 use Rattle.pn_live.specs.contracts.front.Front.TheInside as front_inside
 use Rattle.pn_live.proofs.Crossing.Readers.{reader_send}
-use Rattle.std.specs.contracts.alloc.Global as global
-use Rattle.test_races.specs.contracts.found.Found as found
 use Rattle.test_races.specs.contracts.runner.Runner as runner
 use Rattle.test_races.proofs.beside.Pair.run.Goals as goal
 
@@ -26,14 +24,8 @@ front_inside_send = declared_send (declared front_inside.struct front_inside.the
 front_send : IsSend front.the_row
 front_send = view_send _ _ _ _ _ front_inside_send
 
-found_send : IsSend found.the_row
-found_send = search (sendable, crosses) depth 40
-
-global_send : IsSend global.the_row
-global_send = search (sendable, crosses) depth 40
-
 runner_send : IsSend runner.the_row
-runner_send = search (sendable, crosses, reader_send, found_send, front_send, global_send) depth 40 fits 20000
+runner_send = search (sendable, crosses, reader_send, front_send) depth 40 fits 20000
 
 pub join_mut-requires-send-F : goal.join_mut-requires-send-F
 join_mut-requires-send-F g c κs within = search (sendable, crosses, runner_send) depth 40 fits 20000
