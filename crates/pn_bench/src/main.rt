@@ -2,14 +2,18 @@
 //! a scan or as JSON alone, and scripts and rounds over several tablets.
 //!
 //! Its words are a way and how often rows are written; or `script`, how many workers, and the bounds of the
-//! tablets; or `rounds`, how many workers, how many images in a round, and the bounds; or `copies`. It prints how many
+//! tablets; or `rounds`, how many workers, how many images in a round, and the bounds; or `copies`; or `plain`, `live` or
+//! `busy`, how many records are loaded, how many images a round brings then, and how many rounds. It prints how many
 //! lines were read well, and how many bytes were written or how long the steps took.
 #![tactic(auto)]
 
 mod copies;
+mod live;
 mod rounds;
+mod runners;
 
 use crate::copies::time_copies;
+use crate::live::{Plan, Took, time_live, time_plain};
 use crate::rounds::time_rounds;
 use pn_apply::{MOST_WORKERS, Open};
 use pn_join::{Name, NoMemory};
@@ -24,6 +28,7 @@ use serde_json::Value;
 use std::alloc::Global;
 use std::io::BufReader;
 use std::rt::Clock;
+use std::sync::Wait;
 use std::thread::Threads;
 use std::time::Duration;
 use std::{env, io};
@@ -55,6 +60,12 @@ enum Way {
     Rounds,
     /// The same, by one tablet, of which copies are made.
     Copies,
+    /// Each is a message of a stream, and a plain region of one tablet takes them and is read.
+    Plain,
+    /// The same, by a live region that four threads read before its last rounds.
+    Live,
+    /// The same, and three of the threads read during its last rounds too.
+    Busy,
 }
 
 impl Way {
@@ -69,6 +80,9 @@ impl Way {
             "script" => Some(Way::Script),
             "rounds" => Some(Way::Rounds),
             "copies" => Some(Way::Copies),
+            "plain" => Some(Way::Plain),
+            "live" => Some(Way::Live),
+            "busy" => Some(Way::Busy),
             _ => None,
         }
     }
@@ -82,6 +96,9 @@ fn main(rt: HostRuntime) -> io::Result<()> {
     if let Way::Script = way {
         let lines = answer_script(&rt, &mut input, words).unwrap_or(0);
         return println!(rt; "{lines} lines, 0 bytes");
+    }
+    if let Way::Plain | Way::Live | Way::Busy = way {
+        return print_live(&rt, way, input, words);
     }
     let mut images = Vec::new(rt.alloc());
     let lines = match way {
@@ -158,6 +175,42 @@ fn print_copies(
     println!(rt; "{lines} lines, {building} {copying} {alone} {kept} microseconds")
 }
 
+// Prints how long reads of a plain or a live region take, and its last rounds.
+fn print_live<S: Source + Drop>(
+    rt: &(impl AllocGlobal + Clock + Print + Threads + Wait + Sync),
+    way: Way,
+    input: S,
+    words: env::Args<Global>,
+) -> io::Result<()> {
+    match time_way(rt, way, input, words) {
+        Some(took) => println!(rt;
+            "{} {} microseconds",
+            took.reads.as_micros(),
+            took.rounds.as_micros()
+        ),
+        None => println!(rt; "no time"),
+    }
+}
+
+fn time_way<S: Source + Drop>(
+    rt: &(impl AllocGlobal + Clock + Threads + Wait + Sync),
+    way: Way,
+    input: S,
+    mut words: env::Args<Global>,
+) -> Option<Took> {
+    let plan = Plan {
+        records: number_of(&mut words)?,
+        in_round: number_of(&mut words)?,
+        rounds: number_of(&mut words)?,
+        is_busy: matches!(way, Way::Busy),
+    };
+    let stream = StreamReader::new(rt.alloc(), Name::read(b"east").ok()?, 0, input);
+    match way {
+        Way::Plain => time_plain(rt, rt.alloc(), stream, plan),
+        _ => time_live(rt, rt.alloc(), stream, plan),
+    }
+}
+
 // How many lines were read well.
 fn take_lines<S: Source>(
     alloc: Global,
@@ -196,7 +249,7 @@ fn take_messages<S: Source + Drop>(alloc: Global, input: S) -> u64 {
 
 fn is_taken(alloc: Global, way: Way, images: &mut Vec<Image>, line: &[u8]) -> bool {
     match way {
-        Way::Lines | Way::Messages | Way::Script => true,
+        Way::Lines | Way::Messages | Way::Script | Way::Plain | Way::Live | Way::Busy => true,
         Way::Values => Value::from_slice(alloc, line).is_ok(),
         Way::Images => read_image(alloc, line).is_ok(),
         Way::Scans | Way::Writes | Way::Rounds | Way::Copies => match read_image(alloc, line) {
