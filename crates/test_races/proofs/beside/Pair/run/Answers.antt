@@ -24,7 +24,7 @@ front_inside_send = declared_send (declared front_inside.struct front_inside.the
 front_send : IsSend front.the_row
 front_send = view_send _ _ _ _ _ front_inside_send
 
-runner_send : IsSend runner.the_row
+pub runner_send : IsSend runner.the_row
 runner_send = search (sendable, crosses, reader_send, front_send) depth 40 fits 20000
 
 pub join_mut-requires-send-F : goal.join_mut-requires-send-F
