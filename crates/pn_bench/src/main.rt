@@ -10,18 +10,19 @@
 mod copies;
 mod live;
 mod rounds;
+mod rows;
 mod runners;
 
 use crate::copies::time_copies;
 use crate::live::{Plan, Took, time_live, time_plain};
 use crate::rounds::time_rounds;
+use crate::rows::{write_scans, write_values};
 use pn_apply::{MOST_WORKERS, Open};
 use pn_join::{Name, NoMemory};
 use pn_line::{LineBuffer, LineEnd, Source, read_line};
 use pn_record::{Image, Key, read_image};
 use pn_region::Region;
-use pn_scan::{LARGEST_PAGE, Query};
-use pn_serve::{Settings, run, scan_reply};
+use pn_serve::{Settings, run};
 use pn_stream::{Delivery, StreamReader};
 use pn_tablet::Layout;
 use serde_json::Value;
@@ -277,33 +278,4 @@ fn write_rows(alloc: Global, way: Way, region: &Region, times: usize) -> Result<
         Way::Writes => write_values(alloc, region, times),
         _ => Ok(0),
     }
-}
-
-fn write_scans(alloc: Global, region: &Region, times: usize) -> Result<usize, NoMemory> {
-    let mut bytes = 0usize;
-    for _ in 0..times {
-        bytes = bytes.saturating_add(scanned(alloc, region)?.len());
-    }
-    Ok(bytes)
-}
-
-// The reply to a scan of the first rows, as many as a page may have.
-fn scanned(alloc: Global, region: &Region) -> Result<Vec<u8>, NoMemory> {
-    let query = Query::new(None, None, None, Vec::new(alloc), LARGEST_PAGE).ok_or(NoMemory)?;
-    match region.scan(&query) {
-        Ok(page) => scan_reply(alloc, &page),
-        Err(_) => Err(NoMemory),
-    }
-}
-
-fn write_values(alloc: Global, region: &Region, times: usize) -> Result<usize, NoMemory> {
-    let reply = scanned(alloc, region)?;
-    let Ok(value) = Value::from_slice(alloc, &reply) else {
-        return Ok(0);
-    };
-    let mut bytes = 0usize;
-    for _ in 0..times {
-        bytes = bytes.saturating_add(value.to_string(alloc)?.len());
-    }
-    Ok(bytes)
 }
