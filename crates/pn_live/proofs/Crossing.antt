@@ -1,3 +1,4 @@
 -- What may go to another thread.
 mod Records
 pub mod Readers
+pub mod Fronts

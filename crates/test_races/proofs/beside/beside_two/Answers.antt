@@ -1,8 +1,13 @@
 -- Two runners may go to another thread.
-use denote.Param.Send.{sendable}
+use denote.Param.Send.{IsSend, sendable}
 use Rattle.std.proofs.Crossing.{crosses}
-use Rattle.test_races.proofs.beside.Pair.run.Answers.{runner_send}
+use Rattle.pn_live.proofs.Crossing.Fronts.{front_send}
+use Rattle.pn_live.proofs.Crossing.Readers.{reader_send}
+use Rattle.test_races.specs.contracts.runner.Runner as runner
 use Rattle.test_races.proofs.beside.beside_two.Goals as goal
+
+runner_send : IsSend runner.the_row
+runner_send = search (sendable, crosses, reader_send, front_send) depth 40 fits 20000
 
 pub join_mut-requires-send-F : goal.join_mut-requires-send-F
 join_mut-requires-send-F g c κs within = search (sendable, crosses, runner_send, c.type_bounds.sync-R) depth 40 fits 20000
