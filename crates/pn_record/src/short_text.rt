@@ -10,8 +10,11 @@ use std::str;
 pub const LONGEST_SHORT: usize = 31;
 
 /// A text of at most 31 bytes, without memory of its own.
+///
+/// It begins at a multiple of eight bytes, so that it is copied in whole words: pieces that overlap are waited for.
 #[derive(Debug, Drop)]
 pub struct ShortText {
+    aligned: [u64; 0],
     bytes: [u8; LONGEST_SHORT],
     length: u8,
 }
@@ -36,6 +39,7 @@ impl ShortText {
         let mut bytes = [0; LONGEST_SHORT];
         bytes[..text.len()].copy_from_slice(text.as_bytes());
         ShortText {
+            aligned: [],
             bytes,
             length: text.len() as u8,
         }
@@ -60,6 +64,7 @@ impl ShortText {
         ensures { result ≡ self.now }
     {
         ShortText {
+            aligned: [],
             bytes: self.bytes,
             length: self.length,
         }
