@@ -22,7 +22,7 @@ use Rattle.pn_tablet.specs.declared.fault.OpFault.TheVariants.{WrongRange}
 use Rattle.pn_region.specs.Held.{HoldsStill}
 use Rattle.pn_region.proofs.StillHeld.{more_held}
 use Rattle.pn_live.specs.Laws.{IsNoLoss, AreNoLosses}
-use Rattle.pn_live.proofs.Ranges.{range_stays}
+use Rattle.pn_region.proofs.Events.{range_stays}
 
 -- the tablet's cells are those of the images and some more
 abbrev Has : List Image → TabletStateValue → Type 0

@@ -6,7 +6,7 @@ use Rattle.pn_tablet.specs.declared.op.TabletOp.{TabletOp}
 use Rattle.pn_live.specs.declared.shown.Shown.{Shown}
 use Rattle.pn_live.specs.Orders.{list_of, IsLater, GoesOn}
 use Rattle.pn_live.proofs.Prefixes.{begins_itself, begins_more, begins_on, begins_of_take, take_of_begins}
-use Rattle.pn_live.proofs.Ranges.{range_stays}
+use Rattle.pn_region.proofs.Events.{range_stays}
 use mathlib.Core.List.{IsPrefix}
 
 pub fold_last : {A B : Type 0} (f : A → B → A) (x : A) (ys : List B) (y : B) → fold f x (ys ++ y ∷ []) ≡ f (fold f x ys) y

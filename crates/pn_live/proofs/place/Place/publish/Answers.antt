@@ -4,7 +4,7 @@ use Rattle.pn_tablet.specs.Steps.{after_step}
 use Rattle.pn_tablet.specs.Tablets.{TabletStateValue}
 use Rattle.pn_live.specs.Places.{PlaceValue, state_at, appended}
 use Rattle.pn_live.specs.Published.{state_in}
-use Rattle.pn_live.proofs.Ranges.{range_stays}
+use Rattle.pn_region.proofs.Events.{range_stays}
 use Rattle.pn_live.proofs.place.Place.publish.Goals as goal
 
 pub returns : goal.returns
