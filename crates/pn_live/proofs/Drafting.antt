@@ -1,10 +1,10 @@
 -- What a draft lacks of the state that is shown.
 use Rattle.std.proofs.Common.{rules, ◌≡◌, Bool, true, false, if◌then◌else◌, List, [], ◌∷◌, ◌++◌, fold, IsTrue, refl, sym, ap, subst, ◌∙◌, Option, Some, None, IfSome, Ok, Err}
+use Rattle.std.proofs.lemmas.List.{append-nil}
 use Rattle.pn_join.specs.Marks.{Positions}
 use Rattle.pn_record.specs.Cells.{spell}
 use Rattle.pn_record.specs.CellMap.{Entries, table_of, adds}
 use Rattle.pn_record.proofs.CellMaps.{spelled_table, table_of-nil}
-use Rattle.pn_tablet.proofs.AddedTo.{none_added}
 use Rattle.pn_tablet.specs.Copies.{TabletCopyValue}
 use Rattle.pn_tablet.specs.Needs.{lacking}
 use Rattle.pn_tablet.specs.Operations.{HasPositions}
@@ -49,12 +49,17 @@ fold_spelled t (op ∷ ops) is = fold_spelled (stepped t op) ops (step_spelled t
 shown_spelled : (x : Shown) → Spelled x.state
 shown_spelled x = subst Spelled (sym x.replayed) (fold_spelled _ (tried_of x.stamp.seen.log) (sym table_of-nil))
 
+-- where there are no records to join they stay as they were
+none_added : (cells : Entries) → cells ≡ table_of (spell cells) → cells ≡ adds cells (spell [])
+unfolding adds
+none_added cells spelled = spelled ∙ ap table_of (sym (append-nil (spell cells)))
+
 -- what is shown lacks nothing of itself
 pub lacks_nothing : (x : Shown) → Lacks x.state (Join [] []) x.state
 lacks_nothing x = record {
   join = search rules;
   positions = search rules;
-  makes = ap (λ (cells : Entries). record x.state { cells = cells }) (sym (none_added x.state.cells [] (shown_spelled x) refl));
+  makes = ap (λ (cells : Entries). record x.state { cells = cells }) (sym (none_added x.state.cells (shown_spelled x)));
 }
 
 lies_in : (t n : TabletStateValue) (cells : Entries) (marks : Positions) (b : Bool) → (if b then Ok (taking t cells marks) else Err WrongRange) ≡ Ok n → IsTrue b

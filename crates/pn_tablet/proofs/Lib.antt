@@ -1,4 +1,3 @@
-pub mod AddedTo
 pub mod BoundSteps
 pub mod Changed
 pub mod CopyExchanges

@@ -18,7 +18,6 @@ pub mod layout_laws;
 mod needs;
 mod op;
 mod range;
-mod sharing;
 mod state;
 
 pub use change::Change;

@@ -15,10 +15,9 @@ mod parts;
 use crate::change::{add_told, room_for};
 use crate::inside::lie_in;
 use crate::needs::{Short, first_short};
-use crate::sharing::SharedRecords;
 use crate::{Change, OpFault, Range, TabletCopy, TabletOp};
 use pn_join::{Dup, Marks, NoMemory, raise};
-use pn_record::Records;
+use pn_record::{Records, join_and_tell, join_records};
 use std::alloc::Global;
 use std::marker::Model;
 
@@ -34,7 +33,7 @@ pub enum Status {
 #[derive(Drop)]
 pub struct TabletState {
     range: Range,
-    cells: SharedRecords,
+    cells: Records,
     cover: Marks,
     status: Status,
     spare: Option<Marks>,
@@ -64,7 +63,7 @@ impl TabletState {
     {
         TabletState {
             range,
-            cells: SharedRecords::new(alloc),
+            cells: Records::new(alloc),
             cover: Marks::new(alloc),
             status: Status::Serving,
             spare: Some(Marks::new(alloc)),
@@ -117,7 +116,7 @@ impl TabletState {
         }
         let mut changes = room_for(self.alloc, cells.len())?;
         let (cover, spare) = raised_by(&self.cover, marks)?;
-        let told = self.cells.join_and_tell(self.alloc, cells)?;
+        let told = join_and_tell(&mut self.cells, cells)?;
         add_told(&mut changes, told);
         self.cover = cover;
         self.spare = Some(spare);
@@ -127,7 +126,7 @@ impl TabletState {
     fn lose(&mut self)
         ensures { self.new ≡ lost self.old }
     {
-        self.cells = SharedRecords::new(self.alloc);
+        self.cells = Records::new(self.alloc);
         if let Some(need) = self.spare.take() {
             self.status = Status::Recovering { need };
         }
@@ -149,7 +148,7 @@ impl TabletState {
             });
         }
         let (cover, spare) = raised_by(&self.cover, &copy.marks)?;
-        self.cells.join(self.alloc, &copy.cells)?;
+        join_records(&mut self.cells, &copy.cells)?;
         self.cover = cover;
         self.spare = Some(spare);
         self.status = Status::Serving;
@@ -178,7 +177,7 @@ fn raised_by(cover: &Marks, marks: &Marks) -> Result<(Marks, Marks), NoMemory>
 }
 
 impl Dup for TabletState {
-    /// Shares the records.
+    /// Copies the keys, and shares the contents.
     fn dup(&self) -> Result<TabletState, NoMemory>
         ensures { IfOk result (λ copy. copy ≡ self.now) }
     {

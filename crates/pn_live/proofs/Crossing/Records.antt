@@ -6,7 +6,6 @@ use Rattle.pn_record.specs.contracts.content.Content as content
 use Rattle.pn_record.specs.contracts.held_contents.HeldContents as held
 use Rattle.pn_record.specs.contracts.cell.Cell as cell
 use Rattle.pn_record.specs.contracts.key.Key as key
-use Rattle.pn_tablet.specs.contracts.sharing.SharedRecords as records
 use Rattle.pn_tablet.specs.contracts.range.Range as range
 use Rattle.pn_tablet.specs.contracts.state.TabletState as state
 
@@ -37,8 +36,5 @@ key_send = search (sendable, crosses) depth 40
 pub key_sync : IsSync key.the_row
 key_sync = search (sendable, crosses) depth 40
 
-pub records_sync : IsSync records.the_row
-records_sync = search (sendable, crosses, key_send, key_sync, cell_send, cell_sync) depth 40
-
 pub state_sync : IsSync state.the_row
-state_sync = search (sendable, crosses, records_sync, key_sync, name_sync) depth 40 fits 20000
+state_sync = search (sendable, crosses, key_send, key_sync, cell_send, cell_sync, name_sync) depth 40 fits 20000

@@ -26,7 +26,7 @@ impl TabletState {
         ensures cells { result.now ≡ self.now.cells }
         ensures spelled { self.now.cells ≡ table_of (spell self.now.cells) }
     {
-        self.cells.records()
+        &self.cells
     }
 
     /// How far each stream was taken into it.

@@ -1,5 +1,7 @@
 -- Cells that are joined.
 use Rattle.std.proofs.Common.{sym, ap, ◌∙◌, arith}
+use Rattle.pn_record.specs.Cells.{spell}
+use Rattle.pn_record.proofs.CellMaps.{held_adds}
 use Rattle.pn_tablet.specs.Tablets.{TabletStateValue}
 use Rattle.pn_tablet.specs.Changes.{changes}
 use Rattle.pn_tablet.specs.Steps.{step}
@@ -17,7 +19,7 @@ invariant_of-self-2 c =
     c.requires
     (sym c.lie_in.ensures ∙ c.if-not-lie_in.false)
     (record { rises = joins.rising.1; rising = joins.rising.0; joined = joins.joined })
-    joins.added
+    (held_adds c.self.inside.cells c.join_and_tell.new.records (spell c.args.cells.now) joins.rising.0 joins.spelled)
     c.in_ok-cover.ensures.0
     (c.in_ok-cover.ensures.1 ∙ sym c.in_ok-cover.ensures.0)
     c.self.invariant.needed_positions
@@ -27,9 +29,9 @@ returns-clause-ok c =
     let joins = c.in_ok-told.ensures in
     let tablet : TabletStateValue = record { range = c.self.inside.range; cells = c.self.inside.cells; cover = c.self.inside.cover; status = c.self.inside.status } in
     ap (λ (t : TabletStateValue). step t (Join c.args.cells.now c.args.marks.now)) (sym c.self.view_is)
-    ∙ join_step tablet c.args.cells.now c.join_and_tell.new.self c.args.marks.now c.in_ok-cover.cover
+    ∙ join_step tablet c.args.cells.now c.join_and_tell.new.records c.args.marks.now c.in_ok-cover.cover
     (sym c.lie_in.ensures ∙ c.if-not-lie_in.false)
-    joins.added
+    (held_adds c.self.inside.cells c.join_and_tell.new.records (spell c.args.cells.now) joins.rising.0 joins.spelled)
     c.in_ok-cover.ensures.0
 
 pub returns-clause-changes : goal.returns-clause-changes
@@ -37,8 +39,8 @@ returns-clause-changes c =
     let joins = c.in_ok-told.ensures in
     c.add_told.ensures
     ∙ told_changes c.self.inside.cells c.args.cells.now c.in_ok-told.told.items joins.changes
-    ∙ joined_changes c.self.inside.cells c.args.cells.now c.join_and_tell.new.self (record { rises = joins.rising.1; rising = joins.rising.0; joined = joins.joined })
-    ∙ ap (λ (t : TabletStateValue). changes t.cells c.join_and_tell.new.self) c.self.view_is
+    ∙ joined_changes c.self.inside.cells c.args.cells.now c.join_and_tell.new.records (record { rises = joins.rising.1; rising = joins.rising.0; joined = joins.joined })
+    ∙ ap (λ (t : TabletStateValue). changes t.cells c.join_and_tell.new.records) c.self.view_is
 
 pub add_told-requires-clause-room : goal.add_told-requires-clause-room
 add_told-requires-clause-room c =
