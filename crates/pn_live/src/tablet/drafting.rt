@@ -8,10 +8,11 @@ ghost use Rattle.pn_live.specs.Published.{state_in};
 use super::LiveTablet;
 use crate::order::TabletWriter;
 use crate::shown::Shown;
+use crate::stamp::{Head, Stamp, open_book};
 use core::mem::{replace, replace_with};
 use pn_join::{Dup, Marks, NoMemory};
 use pn_record::Records;
-use pn_tablet::{TabletOp, TabletState};
+use pn_tablet::{Range, TabletOp, TabletState};
 use std::alloc::Global;
 use std::sync::Wait;
 
@@ -28,20 +29,17 @@ impl LiveTablet {
         ensures lacks { IfOk result (λ draft. Lacks draft.state draft.lacks (state_in self.old)) }
         ensures kept { (state_in self.new ≡ state_in self.old) × (self.new.note ≡ self.old.note) }
     {
-        let shown = self.writer.published().dup()?;
+        let range = self.state().range().dup()?;
         match self.lacks.take() {
             Some(lacks) => {
                 let Shown {
                     state,
                     stamp: _stamp,
-                } = take_spare(rt, &mut self.writer, shown);
+                } = take_spare(rt, &mut self.writer, blank(alloc, range));
                 Ok(Draft { state, lacks })
             }
             None => {
-                let Shown {
-                    state,
-                    stamp: _stamp,
-                } = shown;
+                let state = self.state().dup()?;
                 let lacks = TabletOp::Join {
                     cells: Records::new(alloc),
                     marks: Marks::new(alloc),
@@ -50,6 +48,13 @@ impl LiveTablet {
             }
         }
     }
+}
+
+// An empty state with a book of its own, for a place that no reader comes to. It takes no memory.
+fn blank(alloc: Global, range: Range) -> Shown {
+    let (_head, stamp): (Head<TabletOp>, Stamp<TabletOp>) = open_book();
+    let state = TabletState::new(alloc, range);
+    Shown { state, stamp }
 }
 
 // Takes the spare state out, and leaves another one in its place.
