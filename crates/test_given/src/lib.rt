@@ -1,6 +1,9 @@
-//! What tests of several crates are given: keys, layouts and images.
+//! What tests of several crates are given: keys, layouts, images, and a gate at which two workers meet.
 #![tactic(auto)]
 
+mod meeting;
+
+pub use meeting::Meeting;
 use pn_record::Key;
 use pn_tablet::Layout;
 use std::alloc::{AllocError, Global};

@@ -8,10 +8,10 @@ use Rattle.pn_live.specs.Drafts.{Lacks}
 use Rattle.pn_live.proofs.Drafting.{lacks_nothing}
 use Rattle.pn_live.proofs.tablet.LiveTablet.draft.Goals as goal
 
-pub returns-in-None-clause-lacks : goal.returns-in-None-clause-lacks
-returns-in-None-clause-lacks g c =
+pub returns-in_ok-state-in-None-clause-lacks : goal.returns-in_ok-state-in-None-clause-lacks
+returns-in_ok-state-in-None-clause-lacks g c =
     let shown = c.args.self.now.writer.desk.shown.value in
-    let same : c.in_ok-state.state ≡ shown.state = search rules in
+    let same : c.in_ok-state-in-None.state ≡ shown.state = search rules in
     subst (λ (s : TabletStateValue). Lacks s (Join c.new.result c.new-in-None.result) shown.state) (sym same)
     (subst (λ (marks : Positions). Lacks shown.state (Join c.new.result marks) shown.state) (sym c.new-in-None.ensures)
     (subst (λ (cells : Entries). Lacks shown.state (Join cells []) shown.state) (sym c.new.ensures) (lacks_nothing shown)))
