@@ -8,7 +8,7 @@ use Rattle.std.proofs.lemmas.List.{length-append}
 use Rattle.pn_join.specs.Leaves.{all_entries, ends_below, leaf_for}
 use Rattle.pn_join.specs.Places.{later, place_of}
 use Rattle.pn_join.proofs.Places.{not_found_below}
-use Rattle.pn_join.proofs.Rising.{Below, Rising, AllBelow, AllBelow-from_Rising, Below-prefix, Below-back, Rising-prefix, Rising-back, Below-trans, flipped}
+use Rattle.pn_join.proofs.Rising.{Below, Rising, AllBelow, AllBelow-from_Rising, Below-prefix, Below-back, Rising-prefix, Rising-back, Below-trans, Below-tied, flipped}
 
 -- a place so many later
 abbrev pub shifted : ℕ → Result ℕ ℕ → Result ℕ ℕ
@@ -102,6 +102,32 @@ module _ {K X : Type 0} (cmp : K → K → Ordering) (key : K) where
           | Greater ↦ λ q. not_greater e p q
         ] refl
     find_here (e ∷ f ∷ es) fs some h p = ap (cond (is_eq (cmp key e.0)) (Some e.1)) (find_here (f ∷ es) fs (omega arith) h.1 p)
+
+    found_front : (v : X) (es fs : List (K × X)) → find cmp key es ≡ Some v → find cmp key (es ++ fs) ≡ Some v
+    found_front v [] fs is = cc
+    found_front v (e ∷ es) fs is =
+        elim (is_eq (cmp key e.0)) as (λ b. cond b (Some e.1) (find cmp key es) ≡ Some v → cond b (Some e.1) (find cmp key (es ++ fs)) ≡ Some v) [
+          | true ↦ λ p. p
+          | false ↦ λ p. found_front v es fs p
+        ] is
+
+    found_back : (v : X) (es fs : List (K × X)) → Rising cmp (es ++ fs) → find cmp key fs ≡ Some v → find cmp key (es ++ fs) ≡ Some v
+    found_back v [] fs h is = is
+    found_back v (e ∷ es) fs h is =
+        let rest = found_back v es fs h.1 is in
+        elim (cmp key e.0) as (λ r. cmp key e.0 ≡ r → cond (is_eq r) (Some e.1) (find cmp key (es ++ fs)) ≡ Some v) [
+          | Less ↦ λ p. rest
+          | Equal ↦ λ p.
+              let none : None ≡ Some v = sym (not_found_below cmp key (es ++ fs) (Below-tied cmp o key e.0 (es ++ fs) p h.0)) ∙ rest in
+              cc
+          | Greater ↦ λ p. rest
+        ] refl
+
+    -- what a leaf has at a key is what the row has at it
+    pub found_in_any : (v : X) (rows : List (List (K × X))) → Rising cmp (all_entries rows) → (j : ℕ) → find cmp key (get_or rows j []) ≡ Some v → find cmp key (all_entries rows) ≡ Some v
+    found_in_any v [] h j is = cc
+    found_in_any v (l ∷ ls) h zero is = found_front v l (all_entries ls) is
+    found_in_any v (l ∷ ls) h (suc j) is = found_back v l (all_entries ls) h (found_in_any v ls (Rising-back cmp l (all_entries ls) h) j is)
 
     -- what is at a key, by its leaf
     pub find_in_row : (rows : List (List (K × X))) → AllByRecursion (λ leaf. 0 < length leaf) rows → Rising cmp (all_entries rows) → find cmp key (all_entries rows) ≡ find cmp key (get_or rows (leaf_for cmp key rows) [])

@@ -37,6 +37,13 @@ use std::net::TcpListener;
 use std::sync::Wait;
 use std::thread::Threads;
 
+/// A live region, its readers, and how many workers a round has.
+struct Opened {
+    live: LiveRegion,
+    readers: Vec<LiveReader>,
+    workers: usize,
+}
+
 /// Reads the streams into a new live region, each in a thread of its own, in rounds of at most 1,000 messages a stream.
 /// Meanwhile it answers so many sessions, from 1 to 16, each the one connection that its thread accepts. After the last
 /// one it writes `served N`, and how many they were.
@@ -106,18 +113,13 @@ where
     let Ok((live, readers)) = open(rt, alloc, layout, sessions) else {
         return Err(ServeFault::Start);
     };
-    let mut live = live;
-    let mut readers = readers;
-    let served = serve_all(
-        rt,
-        alloc,
-        listener,
-        &mut live,
+    let mut opened = Opened {
+        live,
+        readers,
         workers,
-        &mut readers,
-        streams,
-    );
-    let closed = close(rt, live, readers);
+    };
+    let served = serve_all(rt, alloc, listener, &mut opened, streams);
+    let closed = close(rt, opened.live, opened.readers);
     end(served, closed)
 }
 
@@ -160,19 +162,16 @@ fn serve_all<R, S>(
     rt: &R,
     alloc: Global,
     listener: &TcpListener,
-    live: &mut LiveRegion,
-    workers: usize,
-    readers: &mut Vec<LiveReader>,
+    opened: &mut Opened,
     streams: Vec<StreamReader<S>>,
 ) -> Result<(), ServeFault>
 where
     R: Threads + Wait + Sync + Copy + Send + 'static,
     S: Source + Drop + Send + 'static,
-    requires workers { (1 ≤ workers) × (workers ≤ most_workers) }
-    requires own { AllRead (tablets_in live.old) readers.old.items }
-    ensures same { tablets_in live.new ≡ tablets_in live.old }
-    ensures own { AllRead (tablets_in live.new) readers.new.items }
-    ensures all { result ≢ Err ServeFault.Start → vec_len readers.new ≡ vec_len readers.old }
+    requires workers { (1 ≤ opened.old.workers) × (opened.old.workers ≤ most_workers) }
+    requires own { AllRead (tablets_in opened.old.live) opened.old.readers.items }
+    ensures own { AllRead (tablets_in opened.new.live) opened.new.readers.items }
+    ensures all { result ≢ Err ServeFault.Start → vec_len opened.new.readers ≡ vec_len opened.old.readers }
     ensures whole { OnOk result (AreWhole S.left streams.items) }
     ensures fault { IfErr result (λ fault. fault ≢ ServeFault.Write) }
 {
@@ -182,11 +181,18 @@ where
     let Begun {
         running,
         is_refused,
-    } = begin_sessions(rt, alloc, listener, live, readers);
+    } = begin_sessions(rt, alloc, listener, &opened.live, &mut opened.readers);
     let Reading { feeds, threads } = reading;
-    let read = take_all(rt, alloc, live, workers, &feeds, is_refused);
+    let read = take_all(
+        rt,
+        alloc,
+        &mut opened.live,
+        opened.workers,
+        &feeds,
+        is_refused,
+    );
     feeds.close(rt);
-    end_sessions(rt, live, running, readers);
+    end_sessions(rt, &opened.live, running, &mut opened.readers);
     read?;
     end_reading(rt, threads)
 }

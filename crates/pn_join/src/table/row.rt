@@ -139,7 +139,11 @@ impl<K: Ord + Dup, C: Join> Row<K, C> {
         ensures found { option_copied result ≡ find K.cmp key.now (all_entries self.now) }
         ensures is_valid { IfSome result (λ content. C.valid content.now) }
     {
-        self.get_in(self.leaf_for(key), key)
+        let near = self.near(key);
+        match self.get_here(near, key) {
+            Some(content) => Some(content),
+            None => self.get_in(self.leaf_near(near, key), key),
+        }
     }
 
     /// Walks all entries.

@@ -1,10 +1,13 @@
 //! Searches for the leaf that a key belongs into.
 
-ghost use Rattle.std.specs.Prelude.{◌≡◌, ◌+◌, ◌-◌, ◌<◌, true, false, [], length, get_or, IsTrue};
-ghost use Rattle.pn_join.specs.Leaves.{ends_below, leaf_for, IsRow};
+ghost use Rattle.std.specs.Prelude.{◌≡◌, ◌+◌, ◌-◌, ◌<◌, true, false, [], Some, length, get_or, IsTrue, IfSome};
+ghost use Rattle.std.specs.FinMap.{find};
+ghost use Rattle.std.specs.Option.{option_copied};
+ghost use Rattle.pn_join.specs.Leaves.{all_entries, ends_below, leaf_for, IsRow};
 
 use super::Row;
 use crate::table::leaf::{Leaf, is_last_below};
+use crate::table::single::place_in;
 use crate::{Dup, Join, NoMemory};
 use std::alloc::Global;
 
@@ -14,11 +17,16 @@ impl<K: Ord + Dup, C: Join> Row<K, C> {
         ensures leaf { result ≡ leaf_for K.cmp key.now self.now }
         ensures row { IsRow K.cmp C.valid self.now }
     {
-        let near = self.lasts.partition_point(|last| last.cmp(key).is_lt());
+        let near = self.near(key);
         if self.belongs(near, key) {
             return near;
         }
         self.leaf_searched(key)
+    }
+
+    /// Which leaf a key is likely to belong into.
+    pub(super) fn near(&self, key: &K) -> usize {
+        self.lasts.partition_point(|last| last.cmp(key).is_lt())
     }
 
     /// The same, where it is likely to be this leaf.
@@ -41,6 +49,29 @@ impl<K: Ord + Dup, C: Join> Row<K, C> {
         self.leaves
             .partition_point(|leaf| leaf.ends_below(key))
             .min(last)
+    }
+
+    /// The content at a key, which belongs into this leaf.
+    pub(super) fn get_in(&self, leaf: usize, key: &K) -> Option<&C>
+        requires { leaf ≡ leaf_for K.cmp key.now self.now }
+        ensures found { option_copied result ≡ find K.cmp key.now (all_entries self.now) }
+        ensures is_valid { IfSome result (λ content. C.valid content.now) }
+    {
+        self.get_here(leaf, key)
+    }
+
+    /// The content at a key, if the key is one of this leaf: whichever leaf it is, no other has it.
+    pub(super) fn get_here(&self, leaf: usize, key: &K) -> Option<&C>
+        ensures here { option_copied result ≡ find K.cmp key.now (get_or self.now leaf []) }
+        ensures found { IfSome result (λ content. find K.cmp key.now (all_entries self.now) ≡ Some content.now) }
+        ensures is_valid { IfSome result (λ content. C.valid content.now) }
+        ensures row { IsRow K.cmp C.valid self.now }
+    {
+        let entries = self.entries_of(leaf);
+        match place_in(entries, key) {
+            Ok(place) => Some(&entries[place].1),
+            Err(_) => None,
+        }
     }
 
     /// Whether it is this leaf that the key belongs into, as far as two looks tell.

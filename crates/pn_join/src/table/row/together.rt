@@ -11,7 +11,6 @@ ghost use Rattle.pn_join.specs.Tables.{optional_joined, IsTable};
 use super::Row;
 use crate::table::change::{TableChange, copied};
 use crate::table::edit::{Edit, fits, put_together};
-use crate::table::single::place_in;
 use crate::{Dup, Join, NoMemory};
 
 impl<K: Ord + Dup, C: Join> Row<K, C> {
@@ -44,19 +43,6 @@ impl<K: Ord + Dup, C: Join> Row<K, C> {
             after,
         };
         Ok(Some(Edit { leaf, change }))
-    }
-
-    /// The content at a key, which belongs into this leaf.
-    pub(super) fn get_in(&self, leaf: usize, key: &K) -> Option<&C>
-        requires { leaf ≡ leaf_for K.cmp key.now self.now }
-        ensures found { option_copied result ≡ find K.cmp key.now (all_entries self.now) }
-        ensures is_valid { IfSome result (λ content. C.valid content.now) }
-    {
-        let entries = self.entries_of(leaf);
-        match place_in(entries, key) {
-            Ok(place) => Some(&entries[place].1),
-            Err(_) => None,
-        }
     }
 
     /// Puts all new contents at their keys, where there is room for them in leaves that are cut in two

@@ -1,67 +1,9 @@
-use Rattle.std.proofs.Common.{get_or, ◌∙◌, sym, arith}
-use Rattle.std.proofs.lemmas.List.Elements.{All-from_recursion}
-use Rattle.pn_join.specs.Tables.{IsTable}
-use Rattle.pn_join.proofs.Places.{tie_within, found_at_tie, found_at_gap}
-use Rattle.pn_join.proofs.Rising.{Rising-from_sorted}
-use Rattle.pn_join.proofs.RowFacts.{IsTable-leaf, found_in_leaf, same_at}
+-- The leaf that a key belongs into has what the row has at it.
+use Rattle.std.proofs.Common.{◌∙◌, sym, refl}
+use Rattle.pn_join.proofs.RowFacts.{found_in_leaf}
 use Rattle.pn_join.proofs.table.row.Row.get_in.Goals as goal
 
-pub place_in-requires : goal.place_in-requires
-place_in-requires g c =
-    let cmp = g.K.Ord.cmp in
-    let o = g.met.K.Ord.total in
-    let valid = g.C.Join.valid in
-    let key = c.args.key.now in
-    let rows = c.args.self.now in
-    let es = c.entries_of-entries.result.now in
-    let row = c.entries_of-entries.ensures.row in
-    let table : IsTable cmp valid es = rw c.entries_of-entries.ensures.entries (IsTable-leaf cmp valid key o rows row c.args.leaf) in
-    table.rising
-
-pub offset_bounds-entries-place : goal.offset_bounds-entries-place
-offset_bounds-entries-place g c = omega (arith, tie_within g.K.Ord.cmp c.args.key.now c.entries_of-entries.result.now c.in-Ok.place c.in-Ok.ensures.place)
-
-pub bounds-entries-place : goal.bounds-entries-place
-bounds-entries-place g c = tie_within g.K.Ord.cmp c.args.key.now c.entries_of-entries.result.now c.in-Ok.place c.in-Ok.ensures.place
-
-pub returns-in-Ok-clause-found : goal.returns-in-Ok-clause-found
-returns-in-Ok-clause-found g c =
-    let cmp = g.K.Ord.cmp in
-    let o = g.met.K.Ord.total in
-    let valid = g.C.Join.valid in
-    let key = c.args.key.now in
-    let rows = c.args.self.now in
-    let es = c.entries_of-entries.result.now in
-    let row = c.entries_of-entries.ensures.row in
-    let table : IsTable cmp valid es = rw c.entries_of-entries.ensures.entries (IsTable-leaf cmp valid key o rows row c.args.leaf) in
-    let same = found_in_leaf cmp valid key o rows row c.args.leaf es c.requires c.entries_of-entries.ensures.entries in
-    let x = get_or es c.in-Ok.place c.index-entries-place.result in
-    let within = tie_within cmp key es c.in-Ok.place c.in-Ok.ensures.place in
-    let found = found_at_tie cmp key o es (Rising-from_sorted cmp es table.rising) c.in-Ok.place c.in-Ok.ensures.place x (same_at es c.in-Ok.place c.index-entries-place.result x within) in
-    sym (same ∙ found)
-
-pub returns-in-Ok-clause-is_valid : goal.returns-in-Ok-clause-is_valid
-returns-in-Ok-clause-is_valid g c =
-    let cmp = g.K.Ord.cmp in
-    let o = g.met.K.Ord.total in
-    let valid = g.C.Join.valid in
-    let key = c.args.key.now in
-    let rows = c.args.self.now in
-    let es = c.entries_of-entries.result.now in
-    let row = c.entries_of-entries.ensures.row in
-    let table : IsTable cmp valid es = rw c.entries_of-entries.ensures.entries (IsTable-leaf cmp valid key o rows row c.args.leaf) in
-    let within = tie_within cmp key es c.in-Ok.place c.in-Ok.ensures.place in
-    All-from_recursion (λ e. valid e.1) es table.contents c.in-Ok.place c.index-entries-place.result within
-
-pub returns-in-Err-clause-found : goal.returns-in-Err-clause-found
-returns-in-Err-clause-found g c =
-    let cmp = g.K.Ord.cmp in
-    let o = g.met.K.Ord.total in
-    let valid = g.C.Join.valid in
-    let key = c.args.key.now in
-    let rows = c.args.self.now in
-    let es = c.entries_of-entries.result.now in
-    let row = c.entries_of-entries.ensures.row in
-    let table : IsTable cmp valid es = rw c.entries_of-entries.ensures.entries (IsTable-leaf cmp valid key o rows row c.args.leaf) in
-    let same = found_in_leaf cmp valid key o rows row c.args.leaf es c.requires c.entries_of-entries.ensures.entries in
-    sym (same ∙ found_at_gap cmp key o es (Rising-from_sorted cmp es table.rising) _ c.in-Err.ensures.place)
+pub returns-clause-found : goal.returns-clause-found
+returns-clause-found g c =
+    c.get_here.ensures.here
+    ∙ sym (found_in_leaf g.K.Ord.cmp g.C.Join.valid c.args.key.now g.met.K.Ord.total c.args.self.now c.get_here.ensures.row c.args.leaf _ c.requires refl)
