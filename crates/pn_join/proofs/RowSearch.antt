@@ -5,7 +5,7 @@ use Rattle.std.specs.Cmp.{IsTotalOrder}
 use Rattle.std.specs.FinMap.{find, put}
 use Rattle.std.specs.FinMap.Entries.{by_order}
 use Rattle.std.proofs.lemmas.List.{length-append}
-use Rattle.pn_join.specs.Leaves.{all_entries, ends_below, leaf_for}
+use Rattle.pn_join.specs.Leaves.{all_entries, begins_below, ends_below, leaf_for}
 use Rattle.pn_join.specs.Places.{later, place_of}
 use Rattle.pn_join.proofs.Places.{not_found_below}
 use Rattle.pn_join.proofs.Rising.{Below, Rising, AllBelow, AllBelow-from_Rising, Below-prefix, Below-back, Rising-prefix, Rising-back, Below-trans, Below-tied, flipped}
@@ -201,6 +201,20 @@ module _ {K X : Type 0} (cmp : K → K → Ordering) (key : K) where
         ends_below-above l some.0 (below_keys l ls (AllBelow-from_Rising cmp l (all_entries ls) h) j full (above_all (get_or ls j []) (Rising-leaf ls back j) p))
     parted (l ∷ ls) some h (suc i) zero le lt p = absurd (omega (arith, le))
     parted (l ∷ ls) some h (suc i) (suc j) le lt p = parted ls some.1 (Rising-back cmp l (all_entries ls) h) i j (omega (arith, le)) (omega (arith, lt)) p
+
+    below_first : (e : K × X) (es : List (K × X)) → Below cmp e.0 es → begins_below cmp key es ≡ true → cmp key e.0 ≡ Greater
+    below_first e [] h p = cc
+    below_first e (f ∷ es) h p = flipped o e.0 key (o.trans e.0 f.0 key h.0 (is_less _ p))
+
+    all_below_first : (es : List (K × X)) (rows : List (List (K × X))) → AllBelow cmp es (all_entries rows) → (j : ℕ) → begins_below cmp key (get_or rows j []) ≡ true → IsAbove es
+    all_below_first [] rows h j p = tt
+    all_below_first (e ∷ es) rows h j p = (below_first e (get_or rows j []) (Below-leaf e.0 rows h.0 j) p, all_below_first es rows h.1 j p)
+
+    -- where a leaf begins below the key, the one before it ends below it
+    pub ends_below-before : (rows : List (List (K × X))) → AllByRecursion (λ leaf. 0 < length leaf) rows → Rising cmp (all_entries rows) → (i : ℕ) → begins_below cmp key (get_or rows (suc i) []) ≡ true → ends_below cmp key (get_or rows i []) ≡ true
+    ends_below-before [] some h i p = cc
+    ends_below-before (l ∷ ls) some h zero p = ends_below-above l some.0 (all_below_first l ls (AllBelow-from_Rising cmp l (all_entries ls) h) 0 p)
+    ends_below-before (l ∷ ls) some h (suc i) p = ends_below-before ls some.1 (Rising-back cmp l (all_entries ls) h) i p
 
     pub leaf_for-within : (rows : List (List (K × X))) → 0 < length rows → leaf_for cmp key rows < length rows
     leaf_for-within [] one = absurd (omega (arith, one))

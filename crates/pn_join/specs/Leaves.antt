@@ -36,6 +36,11 @@ pub record AreEnds {A : Type 0} (leaves : List (List A)) (ends : List ℕ) : Typ
   pub each : ends ≡ ends_after 0 leaves
   pub fits : length (all_entries leaves) < 2 ^ 64
 
+-- the first key is less
+abbrev pub begins_below : {K C : Type 0} → (K → K → Ordering) → K → List (K × C) → Bool
+begins_below cmp key [] = false
+begins_below cmp key (entry ∷ leaf) = is_lt (cmp entry.0 key)
+
 -- the last key is less
 abbrev pub ends_below : {K C : Type 0} → (K → K → Ordering) → K → List (K × C) → Bool
 ends_below cmp key [] = false

@@ -37,11 +37,10 @@ use std::net::TcpListener;
 use std::sync::Wait;
 use std::thread::Threads;
 
-/// A live region, its readers, and how many workers a round has.
+/// A live region and its readers.
 struct Opened {
     live: LiveRegion,
     readers: Vec<LiveReader>,
-    workers: usize,
 }
 
 /// Reads the streams into a new live region, each in a thread of its own, in rounds of at most 1,000 messages a stream.
@@ -113,13 +112,10 @@ where
     let Ok((live, readers)) = open(rt, alloc, layout, sessions) else {
         return Err(ServeFault::Start);
     };
-    let mut opened = Opened {
-        live,
-        readers,
-        workers,
-    };
-    let served = serve_all(rt, alloc, listener, &mut opened, streams);
-    let closed = close(rt, opened.live, opened.readers);
+    let mut opened = Opened { live, readers };
+    let served = serve_all(rt, alloc, listener, &mut opened, workers, streams);
+    let Opened { live, readers } = opened;
+    let closed = close(rt, live, readers);
     end(served, closed)
 }
 
@@ -163,12 +159,13 @@ fn serve_all<R, S>(
     alloc: Global,
     listener: &TcpListener,
     opened: &mut Opened,
+    workers: usize,
     streams: Vec<StreamReader<S>>,
 ) -> Result<(), ServeFault>
 where
     R: Threads + Wait + Sync + Copy + Send + 'static,
     S: Source + Drop + Send + 'static,
-    requires workers { (1 ≤ opened.old.workers) × (opened.old.workers ≤ most_workers) }
+    requires workers { (1 ≤ workers) × (workers ≤ most_workers) }
     requires own { AllRead (tablets_in opened.old.live) opened.old.readers.items }
     ensures own { AllRead (tablets_in opened.new.live) opened.new.readers.items }
     ensures all { result ≢ Err ServeFault.Start → vec_len opened.new.readers ≡ vec_len opened.old.readers }
@@ -183,14 +180,7 @@ where
         is_refused,
     } = begin_sessions(rt, alloc, listener, &opened.live, &mut opened.readers);
     let Reading { feeds, threads } = reading;
-    let read = take_all(
-        rt,
-        alloc,
-        &mut opened.live,
-        opened.workers,
-        &feeds,
-        is_refused,
-    );
+    let read = take_all(rt, alloc, &mut opened.live, workers, &feeds, is_refused);
     feeds.close(rt);
     end_sessions(rt, &opened.live, running, &mut opened.readers);
     read?;

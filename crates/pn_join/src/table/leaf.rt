@@ -3,7 +3,7 @@
 ghost use Rattle.std.specs.Prelude.{◌≡◌, ◌≤◌, [], length, IfOk, OnOk, OnErr};
 ghost use Rattle.pn_join.specs.Edits.{IsReady};
 ghost use Rattle.pn_join.specs.LeafEntries.{leaf_entries, leaves_of};
-ghost use Rattle.pn_join.specs.Leaves.{ends_below, most_in_leaf};
+ghost use Rattle.pn_join.specs.Leaves.{begins_below, ends_below, most_in_leaf};
 
 use crate::table::single::MOST;
 use crate::{Dup, NoMemory};
@@ -38,6 +38,16 @@ impl<K: Ord, C> Leaf<K, C> {
         ensures { result ≡ ends_below K.cmp key.now (leaf_entries self.now) }
     {
         is_last_below(self.entries(), key)
+    }
+}
+
+/// Whether the first key is less.
+pub fn is_first_below<K: Ord, C>(entries: &[(K, C)], key: &K) -> bool
+    ensures { result ≡ begins_below K.cmp key.now entries.now }
+{
+    match entries.first() {
+        Some((first, _)) => first.cmp(key).is_lt(),
+        None => false,
     }
 }
 

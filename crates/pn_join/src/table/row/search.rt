@@ -6,7 +6,7 @@ ghost use Rattle.std.specs.Option.{option_copied};
 ghost use Rattle.pn_join.specs.Leaves.{all_entries, ends_below, leaf_for, IsRow};
 
 use super::Row;
-use crate::table::leaf::{Leaf, is_last_below};
+use crate::table::leaf::{Leaf, is_first_below, is_last_below};
 use crate::table::single::place_in;
 use crate::{Dup, Join, NoMemory};
 use std::alloc::Global;
@@ -89,11 +89,11 @@ impl<K: Ord + Dup, C: Join> Row<K, C> {
         false
     }
 
-    /// Whether the leaf before it ends below the key, if there is one.
+    /// Whether the leaf before it ends below the key, if there is one. It does where this one begins below it.
     fn is_behind(&self, place: usize, key: &K) -> bool
         ensures { IsTrue result → 0 < place → ends_below K.cmp key.now (get_or self.now (place - 1) []) ≡ true }
     {
-        if place == 0 {
+        if place == 0 || is_first_below(self.entries_of(place), key) {
             return true;
         }
         is_last_below(self.entries_of(place - 1), key)
