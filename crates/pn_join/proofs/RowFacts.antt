@@ -68,6 +68,10 @@ module _ {K X : Type 0} (cmp : K → K → Ordering) (valid : X → Type 0) wher
     leaf_valid (l ∷ ls) zero h = each_prefix (λ e. valid e.1) l (all_entries ls) h
     leaf_valid (l ∷ ls) (suc i) h = leaf_valid ls i (each_back (λ e. valid e.1) l (all_entries ls) h)
 
+  -- the same of entries that are that leaf's
+  pub IsTable-entries : (key : K) (o : IsTotalOrder cmp) (rows : List (List (K × X))) → IsRow cmp valid rows → (i : ℕ) (es : List (K × X)) → es ≡ get_or rows i [] → IsTable cmp valid es
+  IsTable-entries key o rows row i es is = rw is (IsTable-leaf key o rows row i)
+
   pub IsLeaf-at : (rows : List (List (K × X))) (i : ℕ) → AllByRecursion (λ leaf. IsLeaf leaf) rows → i < length rows → IsLeaf (get_or rows i [])
   IsLeaf-at [] i h lt = absurd (omega (arith, lt))
   IsLeaf-at (l ∷ ls) zero h lt = h.0

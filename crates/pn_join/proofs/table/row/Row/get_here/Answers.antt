@@ -1,23 +1,20 @@
+-- A leaf is a table of its own, and what it has at a key the row has.
 use Rattle.std.proofs.Common.{get_or, ap, ◌∙◌, sym, arith}
 use Rattle.std.specs.FinMap.{find}
 use Rattle.std.proofs.lemmas.List.Elements.{All-from_recursion}
 use Rattle.pn_join.specs.Tables.{IsTable}
 use Rattle.pn_join.proofs.Places.{tie_within, found_at_tie, found_at_gap}
 use Rattle.pn_join.proofs.Rising.{Rising-from_sorted}
-use Rattle.pn_join.proofs.RowFacts.{IsTable-leaf, row_rising, same_at}
+use Rattle.pn_join.proofs.RowFacts.{IsTable-entries, row_rising, same_at}
 use Rattle.pn_join.proofs.RowSearch.{found_in_any}
 use Rattle.pn_join.proofs.table.row.Row.get_here.Goals as goal
 
 pub place_in-requires : goal.place_in-requires
 place_in-requires g c =
     let cmp = g.K.Ord.cmp in
-    let o = g.met.K.Ord.total in
-    let valid = g.C.Join.valid in
-    let key = c.args.key.now in
-    let rows = c.args.self.now in
     let es = c.entries_of-entries.result.now in
-    let row = c.entries_of-entries.ensures.row in
-    let table : IsTable cmp valid es = rw c.entries_of-entries.ensures.entries (IsTable-leaf cmp valid key o rows row c.args.leaf) in
+    let found = c.entries_of-entries.ensures in
+    let table : IsTable cmp g.C.Join.valid es = IsTable-entries cmp g.C.Join.valid c.args.key.now g.met.K.Ord.total c.args.self.now found.row c.args.leaf es found.entries in
     table.rising
 
 pub offset_bounds-entries-place : goal.offset_bounds-entries-place
@@ -29,17 +26,13 @@ bounds-entries-place g c = tie_within g.K.Ord.cmp c.args.key.now c.entries_of-en
 pub returns-in-Ok-clause-here : goal.returns-in-Ok-clause-here
 returns-in-Ok-clause-here g c =
     let cmp = g.K.Ord.cmp in
-    let o = g.met.K.Ord.total in
-    let valid = g.C.Join.valid in
-    let key = c.args.key.now in
-    let rows = c.args.self.now in
     let es = c.entries_of-entries.result.now in
-    let row = c.entries_of-entries.ensures.row in
-    let table : IsTable cmp valid es = rw c.entries_of-entries.ensures.entries (IsTable-leaf cmp valid key o rows row c.args.leaf) in
+    let found = c.entries_of-entries.ensures in
+    let table : IsTable cmp g.C.Join.valid es = IsTable-entries cmp g.C.Join.valid c.args.key.now g.met.K.Ord.total c.args.self.now found.row c.args.leaf es found.entries in
     let x = get_or es c.in-Ok.place c.index-entries-place.result in
-    let within = tie_within cmp key es c.in-Ok.place c.in-Ok.ensures.place in
-    let found = found_at_tie cmp key o es (Rising-from_sorted cmp es table.rising) c.in-Ok.place c.in-Ok.ensures.place x (same_at es c.in-Ok.place c.index-entries-place.result x within) in
-    sym (ap (find cmp key) (sym c.entries_of-entries.ensures.entries) ∙ found)
+    let within = tie_within cmp c.args.key.now es c.in-Ok.place c.in-Ok.ensures.place in
+    let there = found_at_tie cmp c.args.key.now g.met.K.Ord.total es (Rising-from_sorted cmp es table.rising) c.in-Ok.place c.in-Ok.ensures.place x (same_at es c.in-Ok.place c.index-entries-place.result x within) in
+    sym (ap (find cmp c.args.key.now) (sym found.entries) ∙ there)
 
 pub returns-in-Ok-clause-found : goal.returns-in-Ok-clause-found
 returns-in-Ok-clause-found g c =
@@ -53,24 +46,16 @@ returns-in-Ok-clause-found g c =
 pub returns-in-Ok-clause-is_valid : goal.returns-in-Ok-clause-is_valid
 returns-in-Ok-clause-is_valid g c =
     let cmp = g.K.Ord.cmp in
-    let o = g.met.K.Ord.total in
-    let valid = g.C.Join.valid in
-    let key = c.args.key.now in
-    let rows = c.args.self.now in
     let es = c.entries_of-entries.result.now in
-    let row = c.entries_of-entries.ensures.row in
-    let table : IsTable cmp valid es = rw c.entries_of-entries.ensures.entries (IsTable-leaf cmp valid key o rows row c.args.leaf) in
-    let within = tie_within cmp key es c.in-Ok.place c.in-Ok.ensures.place in
-    All-from_recursion (λ e. valid e.1) es table.contents c.in-Ok.place c.index-entries-place.result within
+    let found = c.entries_of-entries.ensures in
+    let table : IsTable cmp g.C.Join.valid es = IsTable-entries cmp g.C.Join.valid c.args.key.now g.met.K.Ord.total c.args.self.now found.row c.args.leaf es found.entries in
+    let within = tie_within cmp c.args.key.now es c.in-Ok.place c.in-Ok.ensures.place in
+    All-from_recursion (λ e. g.C.Join.valid e.1) es table.contents c.in-Ok.place c.index-entries-place.result within
 
 pub returns-in-Err-clause-here : goal.returns-in-Err-clause-here
 returns-in-Err-clause-here g c =
     let cmp = g.K.Ord.cmp in
-    let o = g.met.K.Ord.total in
-    let valid = g.C.Join.valid in
-    let key = c.args.key.now in
-    let rows = c.args.self.now in
     let es = c.entries_of-entries.result.now in
-    let row = c.entries_of-entries.ensures.row in
-    let table : IsTable cmp valid es = rw c.entries_of-entries.ensures.entries (IsTable-leaf cmp valid key o rows row c.args.leaf) in
-    sym (ap (find cmp key) (sym c.entries_of-entries.ensures.entries) ∙ found_at_gap cmp key o es (Rising-from_sorted cmp es table.rising) _ c.in-Err.ensures.place)
+    let found = c.entries_of-entries.ensures in
+    let table : IsTable cmp g.C.Join.valid es = IsTable-entries cmp g.C.Join.valid c.args.key.now g.met.K.Ord.total c.args.self.now found.row c.args.leaf es found.entries in
+    sym (ap (find cmp c.args.key.now) (sym found.entries) ∙ found_at_gap cmp c.args.key.now g.met.K.Ord.total es (Rising-from_sorted cmp es table.rising) _ c.in-Err.ensures.place)
