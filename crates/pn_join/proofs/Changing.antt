@@ -1,6 +1,6 @@
 -- Contents that are put at the keys of another table are a join with it.
-use Rattle.std.proofs.Common.{◌≡◌, Bool, false, cond, List, [], ◌∷◌, ◌++◌, Option, Some, None, option_map, map, Ordering, Less, Greater, is_eq, refl, sym, ap, ◌∙◌, subst, append-nil}
-use Rattle.std.specs.List.{AllByRecursion, AllZip, cons_option}
+use Rattle.std.proofs.Common.{◌≡◌, false, cond, List, [], ◌∷◌, ◌++◌, Option, Some, None, option_map, Ordering, Less, Greater, is_eq, refl, sym, ap, ◌∙◌, subst, append-nil}
+use Rattle.std.specs.List.{AllZip}
 use Rattle.std.specs.Option.{option_to_list}
 use Rattle.std.specs.Cmp.{IsTotalOrder}
 use Rattle.std.specs.FinMap.{find, put}
@@ -8,13 +8,13 @@ use Rattle.std.specs.FinMap.Entries.{find-put}
 use Rattle.pn_join.specs.Edits.{changes_in, AreAimed, IsAimed}
 use Rattle.pn_join.specs.Laws.{JoinLaws}
 use Rattle.pn_join.specs.Leaves.{all_entries, leaf_for}
-use Rattle.pn_join.specs.TableChanges.{IsChange, Changes, AreChanges, AreValid, those_there, puts}
+use Rattle.pn_join.specs.TableChanges.{Changes, AreChanges, AreValid, those_there, puts}
 use Rattle.pn_join.specs.Tables.{IsTable, contents_at, optional_joined, key_by_key}
 use Rattle.pn_join.specs.declared.table.change.TableChange.{TableChange}
 use Rattle.pn_join.specs.declared.table.edit.Edit.{Edit}
 use Rattle.pn_join.proofs.Each.{each_back, each_append}
 use Rattle.pn_join.proofs.JoinAll.{JoinsSoFar, none_joined, one_joined, all_joined}
-use Rattle.pn_join.proofs.Puts.{IsTable-put, contents_at-put, contents_at-same}
+use Rattle.pn_join.proofs.Puts.{contents_at-put, contents_at-same}
 use Rattle.pn_join.proofs.Rising.{Below, Rising, Rising-from_sorted, flipped}
 
 -- the edits so far, and what is left of the other's entries

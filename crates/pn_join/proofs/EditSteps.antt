@@ -1,11 +1,9 @@
 -- A value that is put at its key in its leaf, and the leaves then.
-use Rattle.std.proofs.Common.{◌≡◌, ℕ, zero, suc, ◌+◌, ◌<◌, ◌≤◌, Bool, true, false, List, [], ◌∷◌, ◌++◌, length, get_or, set, take, Ordering, Less, Equal, Greater, is_lt, refl, sym, ap, ◌∙◌, subst, arith}
-use Rattle.std.specs.List.{AllByRecursion, fold}
-use Rattle.std.specs.Cmp.{IsTotalOrder}
+use Rattle.std.proofs.Common.{◌≡◌, ℕ, zero, suc, ◌+◌, ◌<◌, ◌≤◌, List, [], ◌∷◌, ◌++◌, length, get_or, set, take, Ordering, refl, sym, ap, ◌∙◌, subst, arith}
+use Rattle.std.specs.List.{AllByRecursion}
 use Rattle.std.specs.FinMap.{put}
-use Rattle.std.specs.FinMap.Entries.{by_order}
 use Rattle.pn_join.specs.Edits.{put_at, put_all, AreFew, GoUp, IsReady, IsReadyAt}
-use Rattle.pn_join.specs.Leaves.{all_entries, ends_below, leaf_for, most_in_leaf}
+use Rattle.pn_join.specs.Leaves.{most_in_leaf}
 use Rattle.pn_join.specs.declared.table.edit.Edit.{Edit}
 use Rattle.pn_join.specs.declared.table.leaf.Leaf.{Leaf}
 use Rattle.pn_join.specs.LeafEntries.{leaf_entries, leaves_of}
@@ -15,7 +13,6 @@ use Rattle.pn_join.proofs.Partitions.{get_or-leaves}
 use Rattle.pn_join.proofs.RowFacts.{length-leaves}
 use Rattle.pn_join.proofs.RowGrowth.{same_leaves}
 use Rattle.pn_join.proofs.PutFacts.{put_grows, put_by_one}
-use Rattle.pn_join.proofs.Rising.{Rising, flipped}
 
 -- a list in which one element is replaced
 module _ {A : Type 0} (P : A → Type 0) where

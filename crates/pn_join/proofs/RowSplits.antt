@@ -1,5 +1,5 @@
 -- A leaf is cut in two, and no entry changes.
-use Rattle.std.proofs.Common.{◌≡◌, ℕ, zero, suc, ◌+◌, ◌<◌, ◌≤◌, ◌^◌, List, [], ◌∷◌, ◌++◌, length, get_or, set, take, drop, Ordering, refl, sym, ap, ◌∙◌, arith, append_assoc}
+use Rattle.std.proofs.Common.{◌≡◌, ℕ, zero, suc, ◌+◌, ◌<◌, ◌≤◌, List, [], ◌∷◌, ◌++◌, length, get_or, set, take, drop, Ordering, refl, sym, ap, ◌∙◌, arith, append_assoc}
 use Rattle.std.proofs.lemmas.List.{length-append}
 use Rattle.pn_join.specs.Leaves.{all_entries, ends_after, IsLeaf, IsRow, AreEnds, most_in_leaf}
 use Rattle.pn_join.specs.RowChanges.{with_back, ends_with}

@@ -1,4 +1,4 @@
-use Rattle.std.proofs.Common.{◌≡◌, ap, ◌∙◌, sym, subst}
+use Rattle.std.proofs.Common.{ap, ◌∙◌}
 use Rattle.pn_join.specs.Edits.{changes_in}
 use Rattle.pn_join.specs.Leaves.{all_entries}
 use Rattle.pn_join.specs.TableChanges.{AreChanges}

@@ -1,4 +1,4 @@
-use Rattle.std.proofs.Common.{◌≡◌, ◌<◌, length, arith, ◌∙◌}
+use Rattle.std.proofs.Common.{◌<◌, length, arith, ◌∙◌}
 use Rattle.pn_join.specs.LeafEntries.{leaves_of}
 use Rattle.pn_join.proofs.EditSteps.{taken_within, ready_taken, few_taken, same_taken}
 use Rattle.pn_join.proofs.table.edit.open_all.Goals as goal

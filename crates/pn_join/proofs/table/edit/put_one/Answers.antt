@@ -1,4 +1,4 @@
-use Rattle.std.proofs.Common.{◌≡◌, ◌+◌, length, insert, ap, ◌∙◌, sym, arith, rules}
+use Rattle.std.proofs.Common.{◌≡◌, length, insert, ap, ◌∙◌, sym, arith, rules}
 use Rattle.pn_join.specs.Places.{place_of}
 use Rattle.std.proofs.lemmas.List.Edits.{length-insert}
 use Rattle.pn_join.proofs.Places.{tie_within, gap_within, put_at_tie, put_at_gap}

@@ -1,4 +1,3 @@
-use Rattle.std.proofs.Common.{◌≡◌}
 use Rattle.pn_join.proofs.table.edit.put_together.Goals as goal
 
 pub put_all-requires-clause-ends : goal.put_all-requires-clause-ends

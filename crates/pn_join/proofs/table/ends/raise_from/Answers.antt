@@ -1,4 +1,4 @@
-use Rattle.std.proofs.Common.{◌≡◌, ◌≤◌, length, sym, ◌∙◌, arith}
+use Rattle.std.proofs.Common.{◌≤◌, length, sym, ◌∙◌, arith}
 use Rattle.pn_join.proofs.RowEdits.{raise_end}
 use Rattle.pn_join.proofs.table.ends.raise_from.Goals as goal
 

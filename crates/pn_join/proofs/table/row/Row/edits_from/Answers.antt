@@ -1,6 +1,5 @@
-use Rattle.std.proofs.Common.{◌≡◌, [], ◌∷◌, ◌++◌}
 use Rattle.pn_join.specs.Leaves.{all_entries}
-use Rattle.pn_join.proofs.Changing.{no_edits, one_more, left_valid, all_changes}
+use Rattle.pn_join.proofs.Changing.{no_edits, one_more, left_valid}
 use Rattle.pn_join.proofs.table.row.Row.edits_from.Goals as goal
 
 pub loop-key-init : goal.loop-key-init

@@ -1,6 +1,6 @@
 -- Where this leaf begins below the key, the one before it ends below it.
 use Rattle.std.proofs.Common.{◌≡◌, suc, ◌-◌, [], get_or, ap, sym, ◌∙◌, arith}
-use Rattle.pn_join.specs.Leaves.{begins_below, ends_below}
+use Rattle.pn_join.specs.Leaves.{begins_below}
 use Rattle.pn_join.proofs.RowFacts.{row_rising, row_some}
 use Rattle.pn_join.proofs.RowSearch.{ends_below-before}
 use Rattle.pn_join.proofs.table.row.Row.is_behind.Goals.{then-place-eq0-via-then-place-eq0, then-place-eq0-via-else-place-eq0+then-is_first_below}

@@ -1,4 +1,4 @@
-use Rattle.std.proofs.Common.{◌≡◌, ◌+◌, ◌<◌, ◌^◌, length, ap, ◌∙◌, arith, rules}
+use Rattle.std.proofs.Common.{◌+◌, ◌<◌, ◌^◌, length, ap, ◌∙◌, arith, rules}
 use Rattle.pn_join.specs.Edits.{changes_in, AreAimed, HaveRoom}
 use Rattle.pn_join.specs.LeafEntries.{leaves_of}
 use Rattle.pn_join.specs.Leaves.{all_entries}
