@@ -8,6 +8,7 @@ ghost use Rattle.pn_serve.specs.Lines.Served.{Served};
 ghost use Rattle.pn_serve.specs.Runs.Ends.{Ends};
 ghost use Rattle.pn_serve.specs.Runs.Starts.{begins};
 
+mod blocks;
 pub(crate) mod turns;
 
 use crate::Settings;

@@ -3,6 +3,7 @@
 use crate::rows::{FIRST_RUN, one_tablet};
 use pn_line::InMemory;
 use pn_serve::{Counts, RunFault, run};
+use std::test::Fail;
 use std::thread::Threads;
 use test_io::{Stop, Stopping};
 
@@ -42,4 +43,35 @@ fn a_writer_that_takes_a_byte_at_a_time_has_all_replies(rt: HostRuntime) {
     let mut output = Stopping::never(rt.alloc(), 1);
     assert!(rt; ended(&rt, &mut output).is_ok());
     assert_eq!(rt; output.taken.as_slice(), FIRST_RUN.replies.as_bytes());
+}
+
+// How many bytes the replies to so many empty lines have, and in how many writes they go out.
+fn gathered<R: AllocGlobal + Threads + Sync>(
+    rt: &R,
+    lines: usize,
+) -> Result<(usize, usize), Fail> {
+    let script = vec![in rt.alloc(); b'\n'; lines]?;
+    let mut output = Stopping::never(rt.alloc(), 1_000_000);
+    let mut input = InMemory::new(&script);
+    run(
+        rt,
+        rt.alloc(),
+        &mut input,
+        &mut output,
+        one_tablet(rt.alloc()),
+    )?;
+    Ok((output.taken.len(), output.writes))
+}
+
+// An empty line is refused in 21 bytes, of which 65,536 are no multiple.
+#[test]
+fn replies_go_out_in_whole_blocks(rt: HostRuntime) -> Result<(), Fail> {
+    for (lines, want) in [
+        (3_120, (65_520, 1)),
+        (3_121, (65_541, 2)),
+        (12_483, (262_143, 4)),
+    ] {
+        assert_eq!(rt; gathered(&rt, lines)?, want);
+    }
+    Ok(())
 }

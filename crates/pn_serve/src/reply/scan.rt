@@ -17,8 +17,8 @@ use pn_json::finish_line;
 use pn_scan::{Page, Query, Row, write_query};
 use std::alloc::Global;
 
-/// How many rows are brought to hand before they are written.
-const ROWS_AT_HAND: usize = 32;
+/// How many rows are brought to hand before they are written: as many as stay in the nearest cache with their texts.
+const ROWS_AT_HAND: usize = 12;
 
 /// The reply to a scan, one line: `{"next":Q,"rows":[..]}` with the rows of the page, and the query for what
 /// is still to come, or null. It is built whole; on an error nothing of it stands.

@@ -14,11 +14,12 @@ ghost use Rattle.pn_serve.specs.Script.Written.{one_if};
 
 use crate::machine::serving::Serves;
 use crate::script::MOST_LINES;
+use crate::script::blocks::Blocks;
 use crate::{
     Counts, Reply, RunFault, adopted_reply, changed_reply, lines_reply, lost_reply, refusal_reply,
 };
 use pn_join::NoMemory;
-use pn_line::{LineBuffer, LineEnd, Outbox, Sink, Source, WriteFault, read_line};
+use pn_line::{LineBuffer, LineEnd, Sink, Source, WriteFault, read_line};
 use std::alloc::Global;
 use std::marker::Model;
 
@@ -27,7 +28,7 @@ use std::marker::Model;
 pub(crate) struct Lines {
     alloc: Global,
     line: LineBuffer,
-    outbox: Outbox,
+    blocks: Blocks,
     counts: Counts,
 }
 
@@ -41,7 +42,7 @@ impl Model for Lines {
 
     ghost coded = { lines_code };
 
-    ghost view = { λ run. record { line = run.line; waits = run.outbox; counts = run.counts } };
+    ghost view = { λ run. record { line = run.line; waits = run.blocks; counts = run.counts } };
 
     ghost invariant = { λ run. run.counts.refused ≤ run.counts.lines };
 }
@@ -63,7 +64,7 @@ impl Lines {
         Ok(Lines {
             alloc,
             line: LineBuffer::new(alloc)?,
-            outbox: Outbox::new(alloc)?,
+            blocks: Blocks::new(alloc)?,
             counts: Counts {
                 lines: 0,
                 refused: 0,
@@ -89,24 +90,24 @@ impl Lines {
     {
         self.line.start();
         let Ok(end) = read_line(&mut self.line, input) else {
-            self.outbox.flush(output)?;
+            self.blocks.flush(output)?;
             return Err(RunFault::Read);
         };
         match end {
             LineEnd::Newline { more } => {
                 self.answer_line(machine, output)?;
                 if !more {
-                    self.outbox.flush(output)?;
+                    self.blocks.flush(output)?;
                 }
                 Ok(Next::Line)
             }
             LineEnd::EndOfInput => {
                 let counts = self.close(machine, output)?;
-                self.outbox.flush(output)?;
+                self.blocks.flush(output)?;
                 Ok(Next::End(counts))
             }
             LineEnd::Endless => {
-                self.outbox.flush(output)?;
+                self.blocks.flush(output)?;
                 Err(RunFault::TooManyTurns)
             }
         }
@@ -128,7 +129,7 @@ impl Lines {
         let reply = machine.answer(self.alloc, &self.line);
         self.counts.lines += 1;
         count_refused(&mut self.counts, &reply);
-        push_reply(&reply, &mut self.outbox, output)
+        push_reply(&reply, &mut self.blocks, output)
     }
 
     // The input is at its end behind the part of a line that was read: what is left to reply waits or goes out.
@@ -151,7 +152,7 @@ impl Lines {
             counts.lines += 1;
         }
         count_refused(&mut counts, &reply);
-        push_reply(&reply, &mut self.outbox, output)?;
+        push_reply(&reply, &mut self.blocks, output)?;
         Ok(counts)
     }
 
@@ -170,7 +171,7 @@ impl Lines {
         ensures write { IsErrOf result RunFault.Write → W.may_fail }
         ensures same { M.tablets machine.new ≡ M.tablets machine.old }
     {
-        self.outbox.flush(output)?;
+        self.blocks.flush(output)?;
         let Ok(more) = input.has_more() else {
             return Err(RunFault::Read);
         };
@@ -179,7 +180,7 @@ impl Lines {
         }
         self.line.start();
         let counts = self.close(machine, output)?;
-        self.outbox.flush(output)?;
+        self.blocks.flush(output)?;
         Ok(counts)
     }
 }
@@ -196,19 +197,19 @@ fn count_refused(counts: &mut Counts, reply: &Reply)
 }
 
 // The reply waits or goes out.
-fn push_reply<W: Sink>(reply: &Reply, outbox: &mut Outbox, output: &mut W) -> Result<(), WriteFault>
-    ensures ok { OnOk result (Sends (W.contents output.old) (W.contents output.new) outbox.old outbox.new (reply_text reply.now)) }
-    ensures err { OnErr result (AppendsPrefix (W.contents output.old) (W.contents output.new) (outbox.old ++ reply_text reply.now)) }
+fn push_reply<W: Sink>(reply: &Reply, blocks: &mut Blocks, output: &mut W) -> Result<(), WriteFault>
+    ensures ok { OnOk result (Sends (W.contents output.old) (W.contents output.new) blocks.old blocks.new (reply_text reply.now)) }
+    ensures err { OnErr result (AppendsPrefix (W.contents output.old) (W.contents output.new) (blocks.old ++ reply_text reply.now)) }
     ensures fault { OnErr result W.may_fail }
 {
     match reply {
-        Reply::Adopted(tablet) => outbox.push(output, adopted_reply(*tablet).as_bytes()),
-        Reply::Changed(count) => outbox.push(output, changed_reply(*count).as_bytes()),
-        Reply::Copied { lines, text } => push_copy(*lines, text, outbox, output),
-        Reply::Lost(tablet) => outbox.push(output, lost_reply(*tablet).as_bytes()),
+        Reply::Adopted(tablet) => blocks.push(output, adopted_reply(*tablet).as_bytes()),
+        Reply::Changed(count) => blocks.push(output, changed_reply(*count).as_bytes()),
+        Reply::Copied { lines, text } => push_copy(*lines, text, blocks, output),
+        Reply::Lost(tablet) => blocks.push(output, lost_reply(*tablet).as_bytes()),
         Reply::Silent => Ok(()),
-        Reply::Text(text) | Reply::NotTaken(text) => outbox.push(output, text),
-        Reply::Refused(refusal) => outbox.push(output, refusal_reply(refusal).as_bytes()),
+        Reply::Text(text) | Reply::NotTaken(text) => blocks.push(output, text),
+        Reply::Refused(refusal) => blocks.push(output, refusal_reply(refusal).as_bytes()),
     }
 }
 
@@ -216,14 +217,14 @@ fn push_reply<W: Sink>(reply: &Reply, outbox: &mut Outbox, output: &mut W) -> Re
 fn push_copy<W: Sink>(
     lines: u64,
     text: &str,
-    outbox: &mut Outbox,
+    blocks: &mut Blocks,
     output: &mut W,
 ) -> Result<(), WriteFault>
-    ensures ok { OnOk result (Sends (W.contents output.old) (W.contents output.new) outbox.old outbox.new (line_of (lines_data lines) ++ text.now)) }
-    ensures err { OnErr result (AppendsPrefix (W.contents output.old) (W.contents output.new) (outbox.old ++ (line_of (lines_data lines) ++ text.now))) }
+    ensures ok { OnOk result (Sends (W.contents output.old) (W.contents output.new) blocks.old blocks.new (line_of (lines_data lines) ++ text.now)) }
+    ensures err { OnErr result (AppendsPrefix (W.contents output.old) (W.contents output.new) (blocks.old ++ (line_of (lines_data lines) ++ text.now))) }
     ensures fault { OnErr result W.may_fail }
 {
-    outbox.push(output, lines_reply(lines).as_bytes())?;
-    outbox.push(output, text.as_bytes())?;
+    blocks.push(output, lines_reply(lines).as_bytes())?;
+    blocks.push(output, text.as_bytes())?;
     Ok(())
 }

@@ -1,0 +1,88 @@
+//! Replies that wait to go out, in blocks of the output.
+
+ghost use Rattle.std.specs.Prelude.{◌≡◌, ◌++◌, [], IfOk, OnOk, OnErr};
+ghost use Rattle.std.specs.Io.KnownBytes.{Appends};
+ghost use Rattle.pn_line.specs.Sent.{Sends, AppendsPrefix};
+
+use pn_line::{OUTBOX_ROOM, Outbox, Sink, WriteFault};
+use std::alloc::{AllocError, Global};
+use std::marker::Model;
+
+/// How many bytes a block has: as many as may wait.
+const BLOCK: usize = OUTBOX_ROOM;
+
+/// Bytes that wait for a writer. Where they are too many, those go out that make a block of all the output full:
+/// a file takes whole blocks faster than pieces of them.
+#[derive(Drop)]
+pub(crate) struct Blocks {
+    outbox: Outbox,
+    // How many bytes wait, and where in its block the next byte lies. No promise rests on them.
+    waiting: usize,
+    place: usize,
+}
+
+impl Model for Blocks {
+    ghost use Rattle.std.specs.Prelude.{ℕ, List, ◌≤◌, ◌<◌};
+    ghost use Rattle.pn_serve.specs.declared.script.blocks.TheConstants.{BLOCK};
+
+    ghost Value = { List ℕ };
+
+    ghost view = { λ blocks. blocks.outbox };
+
+    ghost invariant = { λ blocks. (blocks.waiting ≤ BLOCK) × (blocks.place < BLOCK) };
+}
+
+impl Blocks {
+    /// One in which nothing waits.
+    pub(crate) fn new(alloc: Global) -> Result<Blocks, AllocError>
+        ensures { IfOk result (λ blocks. blocks ≡ []) }
+    {
+        Ok(Blocks {
+            outbox: Outbox::new(alloc)?,
+            waiting: 0,
+            place: 0,
+        })
+    }
+
+    /// Adds bytes behind those that wait. Where they are too many to wait, what is missing of a block goes out with
+    /// those that wait, and the rest waits or goes out.
+    pub(crate) fn push<W: Sink>(&mut self, writer: &mut W, bytes: &[u8]) -> Result<(), WriteFault>
+        ensures ok { OnOk result (Sends (W.contents writer.old) (W.contents writer.new) self.old self.new bytes.now) }
+        ensures err { OnErr result (AppendsPrefix (W.contents writer.old) (W.contents writer.new) (self.old ++ bytes.now)) }
+        ensures fault { OnErr result W.may_fail }
+    {
+        let missing = (BLOCK - self.place) % BLOCK;
+        self.place = (self.place + bytes.len() % BLOCK) % BLOCK;
+        if bytes.len() <= BLOCK - self.waiting {
+            self.waiting += bytes.len();
+            return self.outbox.push(writer, bytes);
+        }
+        let (first, rest) = bytes.split_at(missing.min(bytes.len()));
+        self.outbox.push(writer, first)?;
+        self.flush(writer)?;
+        self.begin(writer, rest)
+    }
+
+    /// Writes all that waits, and flushes the writer. After a fault nothing waits either.
+    pub(crate) fn flush<W: Sink>(&mut self, writer: &mut W) -> Result<(), WriteFault>
+        ensures ok { OnOk result (Appends (W.contents writer.old) (W.contents writer.new) self.old) }
+        ensures err { OnErr result (AppendsPrefix (W.contents writer.old) (W.contents writer.new) self.old) }
+        ensures fault { OnErr result W.may_fail }
+        ensures empty { self.new ≡ [] }
+    {
+        self.waiting = 0;
+        self.outbox.flush(writer)
+    }
+
+    // Adds bytes where nothing waits. Those that are too many to wait go out at once.
+    fn begin<W: Sink>(&mut self, writer: &mut W, bytes: &[u8]) -> Result<(), WriteFault>
+        ensures ok { OnOk result (Sends (W.contents writer.old) (W.contents writer.new) self.old self.new bytes.now) }
+        ensures err { OnErr result (AppendsPrefix (W.contents writer.old) (W.contents writer.new) (self.old ++ bytes.now)) }
+        ensures fault { OnErr result W.may_fail }
+    {
+        if bytes.len() <= BLOCK {
+            self.waiting = bytes.len();
+        }
+        self.outbox.push(writer, bytes)
+    }
+}
