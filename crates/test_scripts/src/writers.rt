@@ -46,10 +46,7 @@ fn a_writer_that_takes_a_byte_at_a_time_has_all_replies(rt: HostRuntime) {
 }
 
 // How many bytes the replies to so many empty lines have, and in how many writes they go out.
-fn gathered<R: AllocGlobal + Threads + Sync>(
-    rt: &R,
-    lines: usize,
-) -> Result<(usize, usize), Fail> {
+fn gathered<R: AllocGlobal + Threads + Sync>(rt: &R, lines: usize) -> Result<(usize, usize), Fail> {
     let script = vec![in rt.alloc(); b'\n'; lines]?;
     let mut output = Stopping::never(rt.alloc(), 1_000_000);
     let mut input = InMemory::new(&script);
