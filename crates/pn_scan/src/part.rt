@@ -69,7 +69,9 @@ fn first_rows(
         × (part.1 ≡ nat_lt room (length (shown_rows query.now cells.now)))) }
 {
     let mut rows = Vec::with_capacity(alloc, room.min(cells.len()))?;
-    for (key, cell) in cells.iter_from(first_place(cells, query)) {
+    let place = first_place(cells, query);
+    prefetch_cells(cells, place, query, room);
+    for (key, cell) in cells.iter_from(place) {
         if !is_before(query.to(), key) {
             return Ok((rows, false));
         }
@@ -81,6 +83,16 @@ fn first_rows(
         }
     }
     Ok((rows, false))
+}
+
+// Reads what copies of the cells will count up, each without waiting for the one before. No promise rests on it.
+fn prefetch_cells(cells: &Records, place: usize, query: &Query, room: usize) {
+    for (key, cell) in cells.iter_from(place).take(room) {
+        if !is_before(query.to(), key) {
+            return;
+        }
+        cell.prefetch();
+    }
 }
 
 // A place before which no record is shown, and from which on no key is below `from`.

@@ -54,10 +54,9 @@ fn step_of_found(cells: &[Option<Cell>], step: Step) -> usize {
     room
 }
 
-/// The room of rows beside their escapes, in bytes.
+/// The room of rows beside their escapes, in bytes. Their contents are at hand, since the page looked at them.
 pub(crate) fn room_of_rows(rows: &[Row]) -> usize {
-    let room = step_of_rows(rows, Step::Contents).wrapping_add(OF_ROW);
-    room.wrapping_add(step_of_rows(rows, Step::Fields))
+    step_of_rows(rows, Step::Fields).wrapping_add(OF_ROW)
 }
 
 /// Whether the escapes of rows have room in memory. They always have, and what this is for is that their texts are at hand.
@@ -100,14 +99,14 @@ fn step_of_cell(cell: Option<&Cell>, step: Step) -> usize {
 fn step_of_content(content: &Content, step: Step) -> usize {
     match (&content.body, step) {
         (Body::Deleted, _) => OF_CONTENT,
-        (Body::Fields(fields), Step::Contents) => fields.len().wrapping_mul(OF_FIELD),
+        (Body::Fields(fields), Step::Contents) => fields.len(),
         (Body::Fields(fields), Step::Fields) => lengths_of(fields),
         (Body::Fields(fields), Step::Texts) => escapes_of(fields),
     }
 }
 
 fn lengths_of(fields: &[(String, Value)]) -> usize {
-    let mut room = OF_CONTENT;
+    let mut room = fields.len().wrapping_mul(OF_FIELD).wrapping_add(OF_CONTENT);
     for (name, Value::Text(text)) in fields {
         room = room.wrapping_add(name.len()).wrapping_add(text.len());
     }
