@@ -4,15 +4,15 @@
 //! names and texts, so that they are at hand when they are written. All cells are read first, then all fields, then all texts:
 //! where the pieces of a step lie is known before it begins, so they come from memory several at a time.
 
-use pn_join::NoMemory;
+use pn_join::{Name, NoMemory};
 use pn_record::{Body, Cell, Content, Key, Value};
 use pn_scan::Row;
 
 /// What a row takes beside its key and its contents, in bytes.
 const OF_ROW: usize = 96;
 
-/// What a content takes beside its fields, in bytes.
-const OF_CONTENT: usize = 64;
+/// What a content takes beside its fields and its master, in bytes.
+const OF_CONTENT: usize = 32;
 
 /// What a field takes beside its name and its text, in bytes.
 const OF_FIELD: usize = 6;
@@ -25,7 +25,7 @@ const CACHE_LINE: usize = 64;
 enum Step {
     /// The contents, for how many fields they have.
     Contents,
-    /// The fields, for the lengths of their names and texts.
+    /// The fields, for the lengths of their names and texts, and the master.
     Fields,
     /// The names and texts, for the escapes that they take.
     Texts,
@@ -98,15 +98,21 @@ fn step_of_cell(cell: Option<&Cell>, step: Step) -> usize {
 
 fn step_of_content(content: &Content, step: Step) -> usize {
     match (&content.body, step) {
-        (Body::Deleted, _) => OF_CONTENT,
+        (Body::Deleted, _) => room_of_master(&content.master),
         (Body::Fields(fields), Step::Contents) => fields.len(),
-        (Body::Fields(fields), Step::Fields) => lengths_of(fields),
+        (Body::Fields(fields), Step::Fields) => {
+            lengths_of(fields).wrapping_add(room_of_master(&content.master))
+        }
         (Body::Fields(fields), Step::Texts) => escapes_of(fields),
     }
 }
 
+fn room_of_master(master: &Name) -> usize {
+    master.as_str().len().wrapping_add(OF_CONTENT)
+}
+
 fn lengths_of(fields: &[(String, Value)]) -> usize {
-    let mut room = fields.len().wrapping_mul(OF_FIELD).wrapping_add(OF_CONTENT);
+    let mut room = fields.len().wrapping_mul(OF_FIELD);
     for (name, Value::Text(text)) in fields {
         room = room.wrapping_add(name.len()).wrapping_add(text.len());
     }
