@@ -27,7 +27,7 @@ enum Step {
     Contents,
     /// The fields, for the lengths of their names and texts, and the master.
     Fields,
-    /// The names and texts, for the escapes that they take.
+    /// The names and texts, for room for some escapes.
     Texts,
 }
 
@@ -119,33 +119,24 @@ fn lengths_of(fields: &[(String, Value)]) -> usize {
     room
 }
 
+// A byte of each name and of each cache line of each text, all in one byte: room for some escapes.
 fn escapes_of(fields: &[(String, Value)]) -> usize {
-    let mut room = 0usize;
+    let mut seen = 0u8;
     for (name, Value::Text(text)) in fields {
-        room = room.wrapping_add(escapes_in(name.as_str()));
-        room = room.wrapping_add(escapes_in(text.as_str()));
+        seen |= first_of(name.as_bytes());
+        seen |= lines_of(text.as_bytes());
     }
-    room
+    seen as usize
 }
 
-// Some bytes of a text have room for their escapes, where they may take them: at least one of each cache line.
-fn escapes_in(text: &str) -> usize {
-    let bytes = text.as_bytes();
-    let ends = escape_at(bytes.first()).wrapping_add(escape_at(bytes.last()));
-    if bytes.len() <= CACHE_LINE {
-        return ends;
+fn lines_of(text: &[u8]) -> u8 {
+    let mut seen = 0u8;
+    for line in text.chunks(CACHE_LINE) {
+        seen |= first_of(line);
     }
-    ends.wrapping_add(escapes_inside(bytes))
+    seen
 }
 
-fn escapes_inside(bytes: &[u8]) -> usize {
-    let mut room = 0usize;
-    for line in bytes.chunks(CACHE_LINE) {
-        room = room.wrapping_add(escape_at(line.first()));
-    }
-    room
-}
-
-fn escape_at(byte: Option<&u8>) -> usize {
-    byte.is_some_and(|byte| *byte <= b'"') as usize
+fn first_of(text: &[u8]) -> u8 {
+    text.first().copied().unwrap_or(0)
 }
