@@ -5,10 +5,10 @@ docs/formats.md says what it has to reply.
 import json
 
 from slow_copies import content_of, is_in, read_copy
-from slow_lines import LONGEST_LINE, Refused, command_of
+from slow_lines import MAX_LINE_BYTES, Refused, command_of
 
-MOST_STREAMS = 16
-MOST_TOLD = 1_024
+MAX_STREAMS = 16
+MAX_TOLD = 1_024
 
 
 def text_of(value):
@@ -115,7 +115,7 @@ class Region:
                 raise Refused("gap", got=first, stream=stream, wanted=mark + 1)
             marks[stream] = max(mark, last)
             images += batch["images"]
-        if len(marks) > MOST_STREAMS:
+        if len(marks) > MAX_STREAMS:
             raise Refused("too-many-streams")
         changes = [change for tablet in self.tablets for change in tablet.take(images, marks)]
         self.marks = marks
@@ -180,7 +180,7 @@ class Region:
     def notices(self, since):
         last = len(self.log)
         told = self.log[since:]
-        if since > last or len(told) > MOST_TOLD or None in told:
+        if since > last or len(told) > MAX_TOLD or None in told:
             return {"missed": True, "next": last}
         notices = [{"after": after, "before": before, "key": key, "number": number}
                    for number, (key, before, after) in enumerate(told, since + 1)]
@@ -221,7 +221,7 @@ class Region:
         """The reply to a line, with its newline; nothing where a command goes on."""
         if not self.announced:
             return self.answered(self.reply_to, line)
-        self.text += line[:LONGEST_LINE + 1] + newline
+        self.text += line[:MAX_LINE_BYTES + 1] + newline
         self.announced -= 1
         return "" if self.announced else self.answered(self.end_text)
 

@@ -1,5 +1,5 @@
 """Copies of tablets, read line by line from their text."""
-from slow_lines import (LONGEST_LINE, Refused, check_image_range, check_image_shape, is_key, is_name, is_position,
+from slow_lines import (MAX_LINE_BYTES, Refused, check_image_range, check_image_shape, is_key, is_name, is_position,
                         is_whole, json_of)
 
 
@@ -57,7 +57,7 @@ def is_behind(image, last):
 
 
 def value_of(line, number):
-    if len(line) <= LONGEST_LINE:
+    if len(line) <= MAX_LINE_BYTES:
         try:
             return json_of(line)
         except Refused:

@@ -2,7 +2,7 @@
 import json
 import re
 
-LONGEST_LINE = 65_536
+MAX_LINE_BYTES = 65_536
 LAST = 10**15
 LAST_NOTICE = 10**18
 DEEPEST = 127
@@ -208,7 +208,7 @@ def check_range(member, value, tablets):
 
 def command_of(line, tablets):
     """The members of the command that a line is, in a region of so many tablets."""
-    if len(line) > LONGEST_LINE:
+    if len(line) > MAX_LINE_BYTES:
         raise Refused("too-long")
     value = json_of(line)
     shaped(isinstance(value, dict), "whole")

@@ -2,5 +2,5 @@
 use Rattle.std.specs.Prelude.{ℕ}
 
 -- the most workers that can be asked for
-abbrev pub most_workers : ℕ
-most_workers = 16
+abbrev pub max_workers : ℕ
+max_workers = 16

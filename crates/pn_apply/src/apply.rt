@@ -5,7 +5,7 @@ ghost use Rattle.pn_tablet.specs.Operations.{HasPositions};
 ghost use Rattle.pn_tablet.specs.Steps.{stepped};
 ghost use Rattle.pn_tablet.specs.Changes.{answer};
 ghost use Rattle.pn_apply.specs.Applying.{IsJoinIn, AreJoinsIn, HavePositions, all_stepped, all_changes, AreOldOrStepped, IsSomeOld};
-ghost use Rattle.pn_apply.specs.Limits.{most_workers};
+ghost use Rattle.pn_apply.specs.Limits.{max_workers};
 ghost use Rattle.std.specs.Thread.{IsSync, IsSend};
 
 use crate::cut::{Share, gathered};
@@ -32,7 +32,7 @@ pub fn apply_all<R: Threads + Sync, S: Slot + Send, G: Gate + Sync>(
 ) -> Result<Vec<Vec<Change>>, NoMemory>
     requires joins { AreJoinsIn (map S.tablet slots.old) operations.now }
     requires positions { HavePositions operations.now }
-    requires workers { (1 ≤ workers) × (workers ≤ most_workers) }
+    requires workers { (1 ≤ workers) × (workers ≤ max_workers) }
     ensures ok { OnOk result (map S.tablet slots.new ≡ all_stepped (map S.tablet slots.old) operations.now) }
     ensures changes { IfOk result (λ lists. map (λ list. list.items) lists.items
         ≡ all_changes (map S.tablet slots.old) operations.now) }

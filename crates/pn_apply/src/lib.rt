@@ -12,5 +12,5 @@ mod slot;
 
 pub use apply::apply_all;
 pub use gate::{Gate, Open};
-pub use reducing::{MOST_WORKERS, reduce, reduce_owned};
+pub use reducing::{MAX_WORKERS, reduce, reduce_owned};
 pub use slot::Slot;

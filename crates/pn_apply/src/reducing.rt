@@ -5,7 +5,7 @@ ghost use Rattle.std.specs.Thread.{IsSync};
 ghost use Rattle.pn_join.specs.Marks.{are_positions};
 ghost use Rattle.pn_record.specs.CellMap.{table_of};
 ghost use Rattle.pn_tablet.specs.declared.op.TabletOp.TheVariants.{Join};
-ghost use Rattle.pn_apply.specs.Limits.{most_workers};
+ghost use Rattle.pn_apply.specs.Limits.{max_workers};
 ghost use Rattle.pn_apply.specs.Reducing.{all_images, joins_of};
 ghost use Rattle.pn_apply.specs.Shares.{lists};
 
@@ -22,7 +22,7 @@ use std::mem;
 use std::thread::{Threads, join_mut};
 
 /// The most workers of a call.
-pub const MOST_WORKERS: usize = 16;
+pub const MAX_WORKERS: usize = 16;
 
 /// What the deliveries bring to each tablet of the layout, in the order of the tablets: the join of the
 /// cells of all images whose keys lie in the tablet's range, with the marks, whose positions are 1 to 10^15.
@@ -38,7 +38,7 @@ pub fn reduce<R: Threads + Sync, G: Gate + Sync>(
     gate: &G,
 ) -> Result<Vec<TabletOp>, NoMemory>
     requires positions { IsTrue (are_positions marks.now) }
-    requires workers { (1 ≤ workers) × (workers ≤ most_workers) }
+    requires workers { (1 ≤ workers) × (workers ≤ max_workers) }
     ensures { IfOk result (λ operations. operations.items ≡ joins_of layout.now marks.now (all_images deliveries.now)) }
 {
     let shares = copies_by_tablet(alloc, deliveries, layout)?;
@@ -56,7 +56,7 @@ pub fn reduce_owned<R: Threads + Sync, G: Gate + Sync>(
     gate: &G,
 ) -> Result<Vec<TabletOp>, NoMemory>
     requires positions { IsTrue (are_positions marks.now) }
-    requires workers { (1 ≤ workers) × (workers ≤ most_workers) }
+    requires workers { (1 ≤ workers) × (workers ≤ max_workers) }
     ensures { IfOk result (λ operations. operations.items ≡ joins_of layout.now marks.now (all_images deliveries.items)) }
 {
     let shares = images_by_tablet(alloc, deliveries, layout)?;

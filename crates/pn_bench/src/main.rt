@@ -17,7 +17,7 @@ use crate::copies::time_copies;
 use crate::live::{Plan, Took, time_live, time_plain};
 use crate::rounds::time_rounds;
 use crate::rows::{write_scans, write_values};
-use pn_apply::{MOST_WORKERS, Open};
+use pn_apply::{MAX_WORKERS, Open};
 use pn_join::{Name, NoMemory};
 use pn_line::{LineBuffer, LineEnd, Source, read_line};
 use pn_record::{Image, Key, read_image};
@@ -38,7 +38,7 @@ use std::{env, io};
 const INPUT_ROOM: usize = 65_536;
 
 /// How many messages of a stream are read at a time.
-const MOST_MESSAGES: usize = 1_000;
+const MAX_MESSAGES: usize = 1_000;
 
 /// What is done with the lines.
 #[derive(Clone, Copy)]
@@ -154,7 +154,7 @@ fn take_rounds(
     mut words: env::Args<Global>,
 ) -> Option<Duration> {
     let workers = number_of(&mut words)?;
-    if workers < 1 || workers > MOST_WORKERS {
+    if workers < 1 || workers > MAX_WORKERS {
         return None;
     }
     let in_round = number_of(&mut words)?;
@@ -240,7 +240,7 @@ fn take_messages<S: Source + Drop>(alloc: Global, input: S) -> u64 {
     };
     let mut reader = StreamReader::new(alloc, name, 0, input);
     for _ in 0..u64::MAX {
-        match reader.next_batch(MOST_MESSAGES) {
+        match reader.next_batch(MAX_MESSAGES) {
             Ok(batch) if !batch.images().is_empty() => {}
             _ => break,
         }

@@ -1,7 +1,7 @@
 //! Rounds of deliveries that are there already, by the clock.
 
 ghost use Rattle.std.specs.Prelude.{◌≤◌};
-ghost use Rattle.pn_apply.specs.Limits.{most_workers};
+ghost use Rattle.pn_apply.specs.Limits.{max_workers};
 
 use pn_apply::Open;
 use pn_join::Name;
@@ -24,7 +24,7 @@ pub fn time_rounds(
     in_round: usize,
     workers: usize,
 ) -> Option<Duration>
-    requires { (1 ≤ workers) × (workers ≤ most_workers) }
+    requires { (1 ≤ workers) × (workers ≤ max_workers) }
 {
     let deliveries = deliveries_of(alloc, images, in_round)?;
     let mut region = Region::new(alloc, layout).ok()?;

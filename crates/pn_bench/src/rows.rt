@@ -2,7 +2,7 @@
 
 use pn_join::NoMemory;
 use pn_region::Region;
-use pn_scan::{LARGEST_PAGE, Query};
+use pn_scan::{MAX_PAGE_ROWS, Query};
 use pn_serve::scan_reply;
 use serde_json::Value;
 use std::alloc::Global;
@@ -18,7 +18,7 @@ pub fn write_scans(alloc: Global, region: &Region, times: usize) -> Result<usize
 
 // The reply to a scan of the first rows, as many as a page may have.
 fn scanned(alloc: Global, region: &Region) -> Result<Vec<u8>, NoMemory> {
-    let query = Query::new(None, None, None, Vec::new(alloc), LARGEST_PAGE).ok_or(NoMemory)?;
+    let query = Query::new(None, None, None, Vec::new(alloc), MAX_PAGE_ROWS).ok_or(NoMemory)?;
     match region.scan(&query) {
         Ok(page) => scan_reply(alloc, &page),
         Err(_) => Err(NoMemory),

@@ -5,7 +5,7 @@ use Rattle.std.specs.Cmp.{IsTotalOrder}
 use Rattle.std.specs.FinMap.{put, is_sorted}
 use Rattle.std.specs.FinMap.Entries.{by_order}
 use Rattle.pn_join.specs.Edits.{put_at, put_all, changes_in, AreAimed, AreFew, HaveRoom}
-use Rattle.pn_join.specs.Leaves.{all_entries, ends_below, leaf_for, most_in_leaf, IsLeaf, IsRow}
+use Rattle.pn_join.specs.Leaves.{all_entries, ends_below, leaf_for, max_leaf_entries, IsLeaf, IsRow}
 use Rattle.pn_join.specs.TableChanges.{AreValid, puts}
 use Rattle.pn_join.specs.Tables.{IsTable}
 use Rattle.pn_join.specs.declared.table.edit.Edit.{Edit}
@@ -106,7 +106,7 @@ module _ {K C : Type 0} (cmp : K → K → Ordering) (o : IsTotalOrder cmp) wher
         let one : 0 < length rows = omega (arith, room.within.0) in
         let done = put_together (d ∷ ds) rows (stand_row rows one row) aimed are in (
           record {
-            sizes = each_by_both (λ leaf. 0 < length leaf) (λ leaf. length leaf ≤ most_in_leaf) (λ leaf. IsLeaf leaf) (λ leaf some most. (some, most)) (put_all cmp rows (d ∷ ds)) done.0.some room.sizes;
+            sizes = each_by_both (λ leaf. 0 < length leaf) (λ leaf. length leaf ≤ max_leaf_entries) (λ leaf. IsLeaf leaf) (λ leaf some most. (some, most)) (put_all cmp rows (d ∷ ds)) done.0.some room.sizes;
             table = done.0.table;
           },
           done.1,
@@ -114,7 +114,7 @@ module _ {K C : Type 0} (cmp : K → K → Ordering) (o : IsTotalOrder cmp) wher
 
   module _ (valid : C → Type 0) where
     pub row_few : (rows : List (List (K × C))) → IsRow cmp valid rows → AreFew rows
-    row_few rows row = each_weaker (λ leaf. IsLeaf leaf) (λ leaf. length leaf ≤ most_in_leaf) (λ leaf is. is.1) rows row.sizes
+    row_few rows row = each_weaker (λ leaf. IsLeaf leaf) (λ leaf. length leaf ≤ max_leaf_entries) (λ leaf is. is.1) rows row.sizes
 
     pub row_sorted : (rows : List (List (K × C))) → IsRow cmp valid rows → AllByRecursion (λ leaf. IsTrue (is_sorted cmp leaf)) rows
     row_sorted rows row = each_sorted rows (Rising-from_sorted cmp (all_entries rows) row.table.rising) where

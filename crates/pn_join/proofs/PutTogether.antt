@@ -7,7 +7,7 @@ use Rattle.std.specs.FinMap.{put, is_sorted}
 use Rattle.std.specs.FinMap.Entries.{is_sorted-put}
 use Rattle.pn_join.specs.Edits.{put_at, put_all, AreFew, GoUp, IsReady, IsReadyAt}
 use Rattle.pn_join.specs.LeafEntries.{leaf_entries, leaves_of}
-use Rattle.pn_join.specs.Leaves.{all_entries, AreEnds, most_in_leaf}
+use Rattle.pn_join.specs.Leaves.{all_entries, AreEnds, max_leaf_entries}
 use Rattle.pn_join.specs.RowChanges.{raised_from, FitFrom}
 use Rattle.pn_join.specs.declared.table.edit.Edit.{Edit}
 use Rattle.pn_join.specs.declared.table.leaf.Leaf.{Leaf}
@@ -53,7 +53,7 @@ module _ {K C : Type 0} (cmp : K → K → Ordering) (whole : List (List (K × C
   pub is_ready : IsReady leaf
   is_ready = subst IsReady (sym at) (ready_at leaves edit.leaf leaf h.ready.0)
 
-  pub is_few : length (put cmp edit.change.key edit.change.after (leaf_entries leaf)) ≤ most_in_leaf
+  pub is_few : length (put cmp edit.change.key edit.change.after (leaf_entries leaf)) ≤ max_leaf_entries
   is_few = rw was (put_fits cmp edit left rows inside h.sizes)
 
   pub is_rising : IsTrue (is_sorted cmp (leaf_entries leaf))

@@ -2,7 +2,7 @@
 use Rattle.std.proofs.Common.{◌≡◌, ℕ, suc, ◌+◌, ◌^◌, ◌<◌, ◌≤◌, List, [], ◌∷◌, ◌++◌, length, get_or, set, take, drop, Some, option_map, Ordering, refl, sym, ap, ◌∙◌, arith}
 use Rattle.std.specs.Cmp.{IsTotalOrder}
 use Rattle.std.specs.FinMap.{find, put}
-use Rattle.pn_join.specs.Leaves.{all_entries, ends_after, leaf_for, IsLeaf, IsRow, AreEnds, most_in_leaf}
+use Rattle.pn_join.specs.Leaves.{all_entries, ends_after, leaf_for, IsLeaf, IsRow, AreEnds, max_leaf_entries}
 use Rattle.pn_join.specs.PutInLeaves.{IsPutOf}
 use Rattle.pn_join.specs.RowChanges.{with_back, ends_with}
 use Rattle.pn_join.specs.Tables.{optional_joined}
@@ -28,7 +28,7 @@ module _ {K C M : Type 0} (cmp : K → K → Ordering) (o : IsTotalOrder cmp) (m
       is_valid = is.is_valid;
     }
 
-    pub joined_row : IsLeaf front → length back ≤ most_in_leaf → IsRow cmp valid (with_back i back (set rows i front))
+    pub joined_row : IsLeaf front → length back ≤ max_leaf_entries → IsRow cmp valid (with_back i back (set rows i front))
     joined_row size fits = record {
       sizes = each_with_back (λ leaf. IsLeaf leaf) front size rows i back within row.sizes (λ more. (more, fits));
       table = IsTable-new put_in_all o row.table;

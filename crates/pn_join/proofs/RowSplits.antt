@@ -1,7 +1,7 @@
 -- A leaf is cut in two, and no entry changes.
 use Rattle.std.proofs.Common.{◌≡◌, ℕ, zero, suc, ◌+◌, ◌<◌, ◌≤◌, List, [], ◌∷◌, ◌++◌, length, get_or, set, take, drop, Ordering, refl, sym, ap, ◌∙◌, arith, append_assoc}
 use Rattle.std.proofs.lemmas.List.{length-append}
-use Rattle.pn_join.specs.Leaves.{all_entries, ends_after, IsLeaf, IsRow, AreEnds, most_in_leaf}
+use Rattle.pn_join.specs.Leaves.{all_entries, ends_after, IsLeaf, IsRow, AreEnds, max_leaf_entries}
 use Rattle.pn_join.specs.RowChanges.{with_back, ends_with}
 use Rattle.pn_join.proofs.RowEdits.{ends_with_back, all_with_back, each_with_back}
 
@@ -27,7 +27,7 @@ module _ {A : Type 0} (rows : List (List A)) (i : ℕ) (within : i < length rows
         fits = rw all_split are.fits;
       }
 
-pub split_row : {K C : Type 0} (cmp : K → K → Ordering) (valid : C → Type 0) (rows : List (List (K × C))) (i : ℕ) (within : i < length rows) (front back : List (K × C)) → front ++ back ≡ get_or rows i [] → IsRow cmp valid rows → IsLeaf front → length back ≤ most_in_leaf → IsRow cmp valid (with_back i back (set rows i front))
+pub split_row : {K C : Type 0} (cmp : K → K → Ordering) (valid : C → Type 0) (rows : List (List (K × C))) (i : ℕ) (within : i < length rows) (front back : List (K × C)) → front ++ back ≡ get_or rows i [] → IsRow cmp valid rows → IsLeaf front → length back ≤ max_leaf_entries → IsRow cmp valid (with_back i back (set rows i front))
 split_row cmp valid rows i within front back is row size fits = record {
   sizes = each_with_back (λ leaf. IsLeaf leaf) front size rows i back within row.sizes (λ more. (more, fits));
   table = rw (all_split rows i within front back is) row.table;

@@ -7,7 +7,7 @@ use Rattle.pn_join.specs.declared.table.change.TableChange.{TableChange}
 use Rattle.pn_join.specs.declared.table.edit.Edit.{Edit}
 use Rattle.pn_join.specs.declared.table.leaf.Leaf.{Leaf}
 use Rattle.pn_join.specs.declared.table.leaf.Leaf.TheVariants.{Own, Shared}
-use Rattle.pn_join.specs.Leaves.{leaf_for, most_in_leaf}
+use Rattle.pn_join.specs.Leaves.{leaf_for, max_leaf_entries}
 
 -- the leaves once a value is put at its key in its leaf
 abbrev pub put_at : {K C : Type 0} → (K → K → Ordering) → List (List (K × C)) → Edit K C → List (List (K × C))
@@ -19,11 +19,11 @@ put_all cmp leaves edits = fold (put_at cmp) leaves edits
 
 -- no leaf has too many entries
 abbrev pub AreFew : {A : Type 0} → List (List A) → Type 0
-AreFew leaves = AllByRecursion (λ leaf. length leaf ≤ most_in_leaf) leaves
+AreFew leaves = AllByRecursion (λ leaf. length leaf ≤ max_leaf_entries) leaves
 
 -- nobody shares the leaf, and there is room for as many entries as it may have
 abbrev pub IsReady : {K C : Type 0} → Leaf K C → Type 0
-IsReady (Own entries) = most_in_leaf ≤ vec_capacity entries
+IsReady (Own entries) = max_leaf_entries ≤ vec_capacity entries
 IsReady (Shared entries) = ⊥
 
 -- there is such a leaf at the place

@@ -10,12 +10,12 @@ abbrev pub all_entries : {A : Type 0} → List (List A) → List A
 all_entries leaves = flat_map (λ leaf. leaf) leaves
 
 -- how many entries a leaf may have
-abbrev pub most_in_leaf : ℕ
-most_in_leaf = 64
+abbrev pub max_leaf_entries : ℕ
+max_leaf_entries = 64
 
 -- at least one entry, and no more than a leaf may have
 abbrev pub IsLeaf : {A : Type 0} → List A → Type 0
-IsLeaf leaf = (0 < length leaf) × (length leaf ≤ most_in_leaf)
+IsLeaf leaf = (0 < length leaf) × (length leaf ≤ max_leaf_entries)
 
 -- the leaves of a table
 pub record IsRow {K C : Type 0} (cmp : K → K → Ordering) (valid : C → Type 0) (leaves : List (List (K × C))) : Type 0 where

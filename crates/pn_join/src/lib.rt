@@ -11,5 +11,5 @@ mod table;
 pub use join::{Dup, Join};
 pub use marks::{Highest, LAST_POSITION, Marks, raise, raise_at};
 pub use memory::NoMemory;
-pub use name::{BadName, LONGEST_NAME, Name, StreamName};
+pub use name::{BadName, MAX_NAME_BYTES, Name, StreamName};
 pub use table::{Entries, Table, TableChange};

@@ -17,12 +17,12 @@ use std::str;
 use thiserror::Error;
 
 /// How many bytes a name may have.
-pub const LONGEST_NAME: usize = 32;
+pub const MAX_NAME_BYTES: usize = 32;
 
 /// A name: 1 to 32 bytes of `a` to `z`, `0` to `9` and `-`. Names are ordered by their bytes.
 #[derive(Debug, Drop)]
 pub struct Name {
-    bytes: [u8; LONGEST_NAME],
+    bytes: [u8; MAX_NAME_BYTES],
     len: usize,
 }
 
@@ -36,13 +36,13 @@ pub struct BadName;
 
 impl Model for Name {
     ghost use Rattle.std.specs.Prelude.{ℕ, List, take, ◌≡◌, ◌≤◌, IsTrue};
-    ghost use Rattle.pn_join.specs.Naming.{is_name, longest_name};
+    ghost use Rattle.pn_join.specs.Naming.{is_name, max_name_bytes};
 
     ghost Value = { List ℕ };
 
     ghost view = { λ name. take name.len name.bytes };
 
-    ghost invariant = { λ name. (name.len ≤ longest_name) × IsTrue (is_name (take name.len name.bytes)) };
+    ghost invariant = { λ name. (name.len ≤ max_name_bytes) × IsTrue (is_name (take name.len name.bytes)) };
 }
 
 impl Name {
@@ -61,7 +61,7 @@ impl Name {
     pub fn fits(text: &[u8]) -> bool
         ensures { result ≡ name_of text.now }
     {
-        1 <= text.len() && text.len() <= LONGEST_NAME && has_name_bytes_alone(text)
+        1 <= text.len() && text.len() <= MAX_NAME_BYTES && has_name_bytes_alone(text)
     }
 
     /// The name that a text is, where `fits` says that it is one. It takes no memory.
@@ -69,7 +69,7 @@ impl Name {
         requires fits { IsTrue (is_name text.now) }
         ensures named { result ≡ text.now }
     {
-        let mut bytes = [0; LONGEST_NAME];
+        let mut bytes = [0; MAX_NAME_BYTES];
         bytes[..text.len()].copy_from_slice(text);
         Name {
             bytes,

@@ -1,25 +1,25 @@
 -- What stays known of a line as it grows.
 use Rattle.std.proofs.Common.{◌≡◌, ℕ, zero, suc, ◌+◌, ◌-◌, ◌<◌, ◌≤◌, min, List, [], ◌∷◌, ◌++◌, length, take, refl, sym, ap, ◌∙◌, arith, append-nil, append_assoc, length-append}
 use Rattle.std.proofs.lemmas.List.{take_min, take_all, take-take, length-take}
-use Rattle.pn_line.specs.Line.{LineBufferValue, longer, so_far, kept, most_kept}
-use Rattle.pn_line.specs.declared.line_buffer.TheConstants.{LONGEST_LINE, MOST_KEPT}
+use Rattle.pn_line.specs.Line.{LineBufferValue, longer, so_far, kept, max_kept}
+use Rattle.pn_line.specs.declared.line_buffer.TheConstants.{MAX_LINE_BYTES, MAX_KEPT_BYTES}
 
 -- two lines that keep the same bytes and as many bytes
 same_line : (f g : List ℕ) (m n : ℕ) → f ≡ g → m ≡ n → (let r : LineBufferValue = record { bytes = f; count = m } in r) ≡ record { bytes = g; count = n }
 same_line f g m n fronts counts = cc
 
 -- a line that takes what it has room for
-pub longer-filled : (line : LineBufferValue) (bs new : List ℕ) (m : ℕ) → m ≡ min (length bs) (most_kept - length line.bytes) → new ≡ line.bytes ++ take m bs
+pub longer-filled : (line : LineBufferValue) (bs new : List ℕ) (m : ℕ) → m ≡ min (length bs) (max_kept - length line.bytes) → new ≡ line.bytes ++ take m bs
     → record { bytes = new; count = line.count + length bs } ≡ longer line bs
 longer-filled line bs new m least filled =
-    let room = most_kept - length line.bytes in
+    let room = max_kept - length line.bytes in
     let turned : min (length bs) room ≡ min room (length bs) = omega arith in
     let taken : take m bs ≡ take room bs = ap (λ k. take k bs) (least ∙ turned) ∙ take_min room bs in
     same_line _ _ _ _ (filled ∙ ap (λ l. line.bytes ++ l) taken) refl
 
 -- no byte more
 pub longer-nil : (line : LineBufferValue) → longer line [] ≡ line
-longer-nil line = same_line _ _ _ _ (ap (λ l. line.bytes ++ l) (take_all (most_kept - length line.bytes) [] (omega arith)) ∙ append-nil line.bytes) (omega arith)
+longer-nil line = same_line _ _ _ _ (ap (λ l. line.bytes ++ l) (take_all (max_kept - length line.bytes) [] (omega arith)) ∙ append-nil line.bytes) (omega arith)
 
 -- the first bytes of two lists, one behind the other
 take-append_split : (n : ℕ) (a b : List ℕ) → take n (a ++ b) ≡ take n a ++ take (n - length a) b
@@ -32,8 +32,8 @@ take-append_split (suc n) (x ∷ a) b =
 -- some bytes and then others
 pub longer-append : (line : LineBufferValue) (a b : List ℕ) → longer (longer line a) b ≡ longer line (a ++ b)
 longer-append line a b =
-    let room = most_kept - length line.bytes in
-    let left : most_kept - length (line.bytes ++ take room a) ≡ room - length a =
+    let room = max_kept - length line.bytes in
+    let left : max_kept - length (line.bytes ++ take room a) ≡ room - length a =
     omega (arith, length-append line.bytes (take room a), length-take room a) in
     same_line _ _ _ _
     (append_assoc line.bytes (take room a) _ ∙ ap (λ k. line.bytes ++ (take room a ++ take k b)) left ∙ ap (λ l. line.bytes ++ l) (sym (take-append_split room a b)))
@@ -42,25 +42,25 @@ longer-append line a b =
 -- a whole line that goes on
 pub so_far-append : (line bs : List ℕ) → longer (so_far line) bs ≡ so_far (line ++ bs)
 so_far-append line bs =
-    let left : most_kept - length (take most_kept line) ≡ most_kept - length line = omega (arith, length-take most_kept line) in
+    let left : max_kept - length (take max_kept line) ≡ max_kept - length line = omega (arith, length-take max_kept line) in
     same_line _ _ _ _
-    (ap (λ k. take most_kept line ++ take k bs) left ∙ sym (take-append_split most_kept line bs))
+    (ap (λ k. take max_kept line ++ take k bs) left ∙ sym (take-append_split max_kept line bs))
     (omega (arith, length-append line bs))
 
 -- a line that is not too long is kept whole
-pub kept-short : (line : List ℕ) → length line ≤ LONGEST_LINE → kept line ≡ line
-unfolding most_kept
-kept-short line short = take_all MOST_KEPT line (omega arith)
+pub kept-short : (line : List ℕ) → length line ≤ MAX_LINE_BYTES → kept line ≡ line
+unfolding max_kept
+kept-short line short = take_all MAX_KEPT_BYTES line (omega arith)
 
 -- of no byte none is kept
 pub kept-nil : kept [] ≡ []
-kept-nil = take_all most_kept [] (omega arith)
+kept-nil = take_all max_kept [] (omega arith)
 
 -- of a line that is too long more is kept than a line may have
-pub length-kept_long : (line : List ℕ) → LONGEST_LINE < length line → length (kept line) ≡ MOST_KEPT
-unfolding most_kept
-length-kept_long line long = length-take MOST_KEPT line ∙ omega arith
+pub length-kept_long : (line : List ℕ) → MAX_LINE_BYTES < length line → length (kept line) ≡ MAX_KEPT_BYTES
+unfolding max_kept
+length-kept_long line long = length-take MAX_KEPT_BYTES line ∙ omega arith
 
 -- what is kept of what is kept
 pub kept-kept : (line : List ℕ) → kept (kept line) ≡ kept line
-kept-kept line = take-take most_kept most_kept line (omega arith)
+kept-kept line = take-take max_kept max_kept line (omega arith)

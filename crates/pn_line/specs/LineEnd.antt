@@ -1,7 +1,7 @@
 -- The end of a line that was read.
 use Rattle.std.specs.Prelude.{ℕ, ◌<◌, ◌≤◌, List, [], ◌∷◌, Option, OnSome}
 use Rattle.std.specs.Io.KnownBytes.{IsAtEnd}
-use Rattle.pn_line.specs.Line.{LineBufferValue, longest_line}
+use Rattle.pn_line.specs.Line.{LineBufferValue, max_line_bytes}
 use Rattle.pn_line.specs.Reads.{Takes, HasShown}
 use Rattle.pn_line.specs.declared.reading.LineEnd.{LineEnd}
 use Rattle.pn_line.specs.declared.reading.LineEnd.TheVariants.{Newline, EndOfInput, Endless}
@@ -22,6 +22,6 @@ HasNext Endless left = Unit {0}
 
 -- the line was read to its newline, behind which a further one is left where it was shown, or to the end of the input, and is not too long; or it is, with or without its newline
 abbrev pub ReadsTo : BoundedEnd → LineBufferValue → LineBufferValue → Option (List ℕ) → Option (List ℕ) → Type 0
-ReadsTo (bounded.Newline more) old new left leaves = Takes old new left leaves (10 ∷ []) × (new.count ≤ longest_line) × OnSome left (HasShown more leaves)
-ReadsTo bounded.EndOfInput old new left leaves = Takes old new left leaves [] × OnSome left (IsAtEnd leaves) × (new.count ≤ longest_line)
-ReadsTo bounded.TooLong old new left leaves = ((behind : List ℕ) × Takes old new left leaves behind) × (longest_line < new.count)
+ReadsTo (bounded.Newline more) old new left leaves = Takes old new left leaves (10 ∷ []) × (new.count ≤ max_line_bytes) × OnSome left (HasShown more leaves)
+ReadsTo bounded.EndOfInput old new left leaves = Takes old new left leaves [] × OnSome left (IsAtEnd leaves) × (new.count ≤ max_line_bytes)
+ReadsTo bounded.TooLong old new left leaves = ((behind : List ℕ) × Takes old new left leaves behind) × (max_line_bytes < new.count)

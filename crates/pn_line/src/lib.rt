@@ -13,7 +13,7 @@ mod writing;
 
 pub use failing::{FailingSink, FailingSource};
 pub use in_memory::InMemory;
-pub use line_buffer::{ENDLESS, LONGEST_LINE, LineBuffer, MOST_KEPT};
+pub use line_buffer::{ENDLESS, LineBuffer, MAX_KEPT_BYTES, MAX_LINE_BYTES};
 pub use outbox::{OUTBOX_ROOM, Outbox};
 pub use piece::Piece;
 pub use reading::{BoundedEnd, LineEnd, read_bounded_line, read_line};

@@ -1,20 +1,20 @@
 //! A line while it is read: its first bytes, in room that is taken once, and its length.
 ghost use Rattle.std.specs.Prelude.{◌≡◌, ◌+◌, ◌<◌, ◌≤◌, ◌↔◌, [], length, IfOk, IsTrue};
-ghost use Rattle.pn_line.specs.Line.{so_far, longer, longest_line};
+ghost use Rattle.pn_line.specs.Line.{so_far, longer, max_line_bytes};
 
 use std::alloc::{AllocError, Global};
 use std::marker::Model;
 
 /// How many bytes a line may have without its newline.
-pub const LONGEST_LINE: usize = 65_536;
+pub const MAX_LINE_BYTES: usize = 65_536;
 
 /// How many bytes of a line are kept: one more than it may have, so that a longer line shows.
-pub const MOST_KEPT: usize = LONGEST_LINE + 1;
+pub const MAX_KEPT_BYTES: usize = MAX_LINE_BYTES + 1;
 
 /// A line that has not ended after this many bytes has no end.
 pub const ENDLESS: usize = 1_000_000_000;
 
-/// A line so far: its first bytes, at most `MOST_KEPT`, and how many bytes it has. It takes its room
+/// A line so far: its first bytes, at most `MAX_KEPT_BYTES`, and how many bytes it has. It takes its room
 /// when it is made, and no memory after that.
 #[derive(Debug, Drop)]
 pub struct LineBuffer {
@@ -24,15 +24,15 @@ pub struct LineBuffer {
 
 impl Model for LineBuffer {
     ghost use Rattle.std.specs.Prelude.{◌≡◌, vec_len, vec_capacity, min, ◌≤◌};
-    ghost use Rattle.pn_line.specs.declared.line_buffer.TheConstants.{MOST_KEPT, ENDLESS};
+    ghost use Rattle.pn_line.specs.declared.line_buffer.TheConstants.{MAX_KEPT_BYTES, ENDLESS};
     ghost use Rattle.pn_line.specs.Line.{LineBufferValue};
 
     ghost Value = { LineBufferValue };
 
     ghost view = { λ line. record { bytes = line.kept.items; count = line.count } };
 
-    ghost invariant = { λ line. (vec_len line.kept ≡ min line.count MOST_KEPT)
-        × (MOST_KEPT ≤ vec_capacity line.kept) × (line.count ≤ ENDLESS) };
+    ghost invariant = { λ line. (vec_len line.kept ≡ min line.count MAX_KEPT_BYTES)
+        × (MAX_KEPT_BYTES ≤ vec_capacity line.kept) × (line.count ≤ ENDLESS) };
 }
 
 impl LineBuffer {
@@ -41,7 +41,7 @@ impl LineBuffer {
         ensures { IfOk result (λ line. line ≡ so_far []) }
     {
         Ok(LineBuffer {
-            kept: Vec::with_capacity(alloc, MOST_KEPT)?,
+            kept: Vec::with_capacity(alloc, MAX_KEPT_BYTES)?,
             count: 0,
         })
     }
@@ -78,9 +78,9 @@ impl LineBuffer {
 
     /// Whether the line has more bytes than a line may have.
     pub fn is_too_long(&self) -> bool
-        ensures { IsTrue result ↔ (longest_line < self.now.count) }
+        ensures { IsTrue result ↔ (max_line_bytes < self.now.count) }
     {
-        self.count > LONGEST_LINE
+        self.count > MAX_LINE_BYTES
     }
 
     /// Adds bytes behind the line. Those that are not kept are counted.
@@ -88,7 +88,7 @@ impl LineBuffer {
         requires { self.old.count + length bytes.now ≤ ENDLESS }
         ensures { self.new ≡ longer self.old bytes.now }
     {
-        let room = MOST_KEPT - self.kept.len();
+        let room = MAX_KEPT_BYTES - self.kept.len();
         let more = &bytes[..bytes.len().min(room)];
         self.kept.extend_from_slice(more).unwrap();
         self.count += bytes.len();

@@ -61,7 +61,7 @@ pub enum BoundedEnd {
     },
     /// At the end of the input, before a newline. The line may go on if more input comes.
     EndOfInput,
-    /// More than `LONGEST_LINE` bytes came, with no newline among them.
+    /// More than `MAX_LINE_BYTES` bytes came, with no newline among them.
     TooLong,
 }
 

@@ -2,5 +2,5 @@
 use Rattle.std.specs.Prelude.{ℕ}
 
 -- the most readers
-abbrev pub most_readers : ℕ
-most_readers = 16
+abbrev pub max_readers : ℕ
+max_readers = 16

@@ -2,7 +2,7 @@
 
 ghost use Rattle.std.specs.Prelude.{◌≡◌, ◌≤◌, length, IsTrue};
 ghost use Rattle.pn_join.specs.Marks.{are_positions};
-ghost use Rattle.pn_region.specs.Limits.{most_streams};
+ghost use Rattle.pn_region.specs.Limits.{max_streams};
 
 mod closing;
 mod opening;
@@ -47,7 +47,7 @@ impl LiveRegion {
     /// How far streams were taken into every tablet. It takes no memory, and waits for nobody.
     pub fn marks(&self) -> &Marks
         ensures marks { result.now ≡ self.now.marks }
-        ensures few { length self.now.marks ≤ most_streams }
+        ensures few { length self.now.marks ≤ max_streams }
         ensures positions { IsTrue (are_positions self.now.marks) }
     {
         &self.marks

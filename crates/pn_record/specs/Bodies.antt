@@ -5,7 +5,7 @@ use Rattle.std.specs.FinMap.{is_sorted}
 use Rattle.std.specs.Ordering.{nat_cmp}
 use Rattle.std.specs.Cmp.Lexicographic.{slice_cmp}
 use Rattle.pn_join.specs.Naming.{is_name}
-use Rattle.pn_record.specs.Limits.{Field, ContentValue, is_field, most_fields, most_field_bytes}
+use Rattle.pn_record.specs.Limits.{Field, ContentValue, is_field, max_fields, max_field_bytes}
 
 -- how many bytes a field's name and text have together
 abbrev pub field_size : Field → ℕ
@@ -13,7 +13,7 @@ field_size field = length field.0 + length field.1
 
 -- not too many fields, and not too many bytes together
 abbrev pub fields_fit : List Field → Bool
-fields_fit fields = nat_le (length fields) most_fields && list_all is_field fields && nat_le (sum_by field_size fields) most_field_bytes
+fields_fit fields = nat_le (length fields) max_fields && list_all is_field fields && nat_le (sum_by field_size fields) max_field_bytes
 
 -- the names strictly rise by their bytes
 abbrev pub names_rise : List Field → Bool

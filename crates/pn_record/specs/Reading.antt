@@ -4,7 +4,7 @@ use Rattle.std.specs.Option.{ok_or}
 use Rattle.std.specs.Str.{is_utf8}
 use Rattle.serde_json.specs.Data.{Data}
 use Rattle.serde_json.specs.Read.{read}
-use Rattle.pn_record.specs.Limits.{longest_line, is_version}
+use Rattle.pn_record.specs.Limits.{max_line_bytes, is_version}
 use Rattle.pn_json.specs.Answers.{◌>>=◌}
 use Rattle.pn_record.specs.Grammar.{numbers_in, image_in}
 use Rattle.pn_record.specs.declared.image.Image.{Image}
@@ -24,11 +24,11 @@ reading bytes = if is_utf8 bytes then read bytes else None
 
 -- the value of a line that is not too long
 unfoldable pub value_at : List ℕ → Result Data ImageFault
-value_at line = if nat_lt longest_line (length line) then Err TooLong else ok_or (reading line) NotJson
+value_at line = if nat_lt max_line_bytes (length line) then Err TooLong else ok_or (reading line) NotJson
 
 -- the line is not too long, and `serde_json` reads it as a value that spells this
 pub record IsLine {A : Type 0} (IsSpelled : Data → A → Type 0) (line : List ℕ) (meant : A) : Type 0 where
-  pub short : length line ≤ longest_line
+  pub short : length line ≤ max_line_bytes
   pub value : Data
   pub read : reading line ≡ Some value
   pub spelled : IsSpelled value meant

@@ -3,7 +3,7 @@ use Rattle.std.specs.Prelude.{◌≡◌, ◌≤◌, ℕ, List, length, IsUtf8}
 use Rattle.json.specs.Lex.{tokens}
 use Rattle.json.specs.Tree.{json_tokens, depth}
 use Rattle.json.specs.Json as json
-use Rattle.pn_record.specs.Limits.{longest_line}
+use Rattle.pn_record.specs.Limits.{max_line_bytes}
 
 mutual
   -- the same value, but for the order of members somewhere in it
@@ -26,7 +26,7 @@ mutual
 
 -- the line spells the value, with any white space
 pub record Spells (line : List ℕ) (value : json.Json) : Type 0 where
-  pub short : length line ≤ longest_line
+  pub short : length line ≤ max_line_bytes
   pub text : IsUtf8 line
   pub tokens_are : tokens line ≡ json_tokens value
   pub shallow : depth value ≤ 127

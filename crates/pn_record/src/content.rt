@@ -7,7 +7,7 @@ ghost use Rattle.pn_record.specs.Bodies.{is_body, is_body as body_fits, fields_f
 ghost use Rattle.pn_record.specs.Limits.{is_field as one_fits};
 ghost use Rattle.pn_record.specs.Showing.{shown_body, shown_field, shown_value};
 
-use crate::limits::{LONGEST_FIELD_NAME, LONGEST_FIELD_TEXT, MOST_FIELD_BYTES, MOST_FIELDS};
+use crate::limits::{MAX_FIELD_BYTES, MAX_FIELD_NAME_BYTES, MAX_FIELDS, MAX_TEXT_BYTES};
 use pn_join::Name;
 use std::marker::Model;
 
@@ -75,7 +75,7 @@ fn is_body(body: &Body) -> bool
 fn fields_fit(fields: &[(String, Value)]) -> bool
     ensures { result ≡ all_fit (map shown_field fields.now) }
 {
-    if fields.len() > MOST_FIELDS {
+    if fields.len() > MAX_FIELDS {
         return false;
     }
     let mut bytes = 0;
@@ -85,7 +85,7 @@ fn fields_fit(fields: &[(String, Value)]) -> bool
         }
         bytes += field.0.len() + field.1.len();
     }
-    bytes <= MOST_FIELD_BYTES
+    bytes <= MAX_FIELD_BYTES
 }
 
 fn fits(field: &(String, Value)) -> bool
@@ -97,7 +97,7 @@ fn fits(field: &(String, Value)) -> bool
 pub(crate) fn is_field(name: &str, text: &str) -> bool
     ensures { result ≡ one_fits (name.now, text.now) }
 {
-    !name.is_empty() && name.len() <= LONGEST_FIELD_NAME && text.len() <= LONGEST_FIELD_TEXT
+    !name.is_empty() && name.len() <= MAX_FIELD_NAME_BYTES && text.len() <= MAX_TEXT_BYTES
 }
 
 fn names_rise(fields: &[(String, Value)]) -> bool

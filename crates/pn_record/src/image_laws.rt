@@ -4,7 +4,7 @@ ghost use Rattle.std.specs.Prelude.{◌≡◌, ◌≤◌, ℕ, List, length, IsU
 ghost use Rattle.json.specs.Json.{Json};
 ghost use Rattle.json.specs.Lex.{tokens};
 ghost use Rattle.pn_record.specs.Canonical.{IsImageLine};
-ghost use Rattle.pn_record.specs.Limits.{longest_line};
+ghost use Rattle.pn_record.specs.Limits.{max_line_bytes};
 ghost use Rattle.pn_record.specs.Reading.{value_at, image_at};
 ghost use Rattle.pn_record.specs.Reordered.{Spells, IsReordered};
 ghost use Rattle.pn_record.specs.declared.image.Image.{Image};
@@ -21,7 +21,7 @@ pub fn the_value_decides()
 
 /// White space between the tokens changes nothing, so long as the lines are not too long.
 pub fn white_space_changes_nothing()
-    ensures { (one other : List ℕ) → length one ≤ longest_line → length other ≤ longest_line → IsUtf8 one → IsUtf8 other
+    ensures { (one other : List ℕ) → length one ≤ max_line_bytes → length other ≤ max_line_bytes → IsUtf8 one → IsUtf8 other
         → tokens one ≡ tokens other → image_at one ≡ image_at other }
 {}
 

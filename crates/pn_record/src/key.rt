@@ -10,7 +10,7 @@ ghost use Rattle.std.proofs.Common.{rules};
 ghost use Rattle.pn_record.specs.Limits.{is_key as is_key_text};
 
 use crate::key_text::KeyText;
-use crate::limits::LONGEST_KEY;
+use crate::limits::MAX_KEY_BYTES;
 use pn_join::{Dup, NoMemory};
 use std::alloc::Global;
 use std::cmp::Ordering;
@@ -72,7 +72,7 @@ impl Key {
 pub(crate) fn is_key(text: &str) -> bool
     ensures { result ≡ is_key_text text.now }
 {
-    !text.is_empty() && text.len() <= LONGEST_KEY
+    !text.is_empty() && text.len() <= MAX_KEY_BYTES
 }
 
 impl Dup for Key {

@@ -2,9 +2,9 @@
 
 ghost use Rattle.std.specs.Prelude.{◌≡◌, nat_le, length, IsTrue, IfOk, IsOk};
 ghost use Rattle.pn_record.specs.Held.{held_text, is_in_place};
-ghost use Rattle.pn_record.specs.Limits.{longest_short};
+ghost use Rattle.pn_record.specs.Limits.{max_short_bytes};
 
-use crate::short_text::{LONGEST_SHORT, ShortText};
+use crate::short_text::{MAX_SHORT_BYTES, ShortText};
 use pn_join::NoMemory;
 use std::alloc::Global;
 
@@ -21,10 +21,10 @@ impl KeyText {
     /// Copies a text. A short one takes no memory, so that it always succeeds.
     pub fn of(alloc: Global, text: &str) -> Result<KeyText, NoMemory>
         ensures copied { IfOk result (λ held. held_text held ≡ text.now) }
-        ensures in_place { IfOk result (λ held. is_in_place held ≡ nat_le (length text.now) longest_short) }
-        ensures always { IsTrue (nat_le (length text.now) longest_short) → IsOk result }
+        ensures in_place { IfOk result (λ held. is_in_place held ≡ nat_le (length text.now) max_short_bytes) }
+        ensures always { IsTrue (nat_le (length text.now) max_short_bytes) → IsOk result }
     {
-        if text.len() <= LONGEST_SHORT {
+        if text.len() <= MAX_SHORT_BYTES {
             Ok(KeyText::Short(ShortText::of(text)))
         } else {
             Ok(KeyText::Long(String::from_str(alloc, text)?))

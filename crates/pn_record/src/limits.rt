@@ -4,16 +4,16 @@
 pub const GREATEST: u64 = 1_000_000_000_000_000;
 
 /// The longest key, in bytes.
-pub const LONGEST_KEY: usize = 256;
+pub const MAX_KEY_BYTES: usize = 256;
 
 /// The most fields of a record.
-pub const MOST_FIELDS: usize = 64;
+pub const MAX_FIELDS: usize = 64;
 
 /// The longest name of a field, in bytes.
-pub const LONGEST_FIELD_NAME: usize = 64;
+pub const MAX_FIELD_NAME_BYTES: usize = 64;
 
 /// The longest text of a field, in bytes.
-pub const LONGEST_FIELD_TEXT: usize = 4_096;
+pub const MAX_TEXT_BYTES: usize = 4_096;
 
 /// The most bytes that the names and the texts of all fields have together.
-pub const MOST_FIELD_BYTES: usize = 8_192;
+pub const MAX_FIELD_BYTES: usize = 8_192;

@@ -11,7 +11,7 @@ ghost use Rattle.pn_record.specs.Seen.{seen_fields};
 use crate::content::is_field;
 use crate::fault::Member;
 use crate::key::is_key;
-use crate::limits::{MOST_FIELD_BYTES, MOST_FIELDS};
+use crate::limits::{MAX_FIELD_BYTES, MAX_FIELDS};
 use crate::{Shape, Version};
 use pn_join::Name;
 use serde_json::{Map, Value};
@@ -53,7 +53,7 @@ fn body_fits(fields: Option<&Map<String, Value>>) -> bool
 fn fields_fit(members: &Map<String, Value>) -> bool
     ensures { result ≡ all_fit (fields_of (members_view members.now.entries)) }
 {
-    if members.len() > MOST_FIELDS {
+    if members.len() > MAX_FIELDS {
         return false;
     }
     let mut bytes = 0;
@@ -63,7 +63,7 @@ fn fields_fit(members: &Map<String, Value>) -> bool
             return false;
         }
         bytes += name.len() + text.len();
-        if bytes > MOST_FIELD_BYTES {
+        if bytes > MAX_FIELD_BYTES {
             return false;
         }
     }

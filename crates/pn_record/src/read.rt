@@ -4,7 +4,7 @@ ghost use Rattle.std.specs.Prelude.{◌≡◌, ◌⊎◌, ◌<◌, ◌↔◌, le
 ghost use Rattle.serde_json.specs.Errors.{IsMemory};
 ghost use Rattle.serde_json.specs.View.{view, members_view};
 ghost use Rattle.pn_record.specs.Bodies.{names_rise as all_rise};
-ghost use Rattle.pn_record.specs.Limits.{longest_line};
+ghost use Rattle.pn_record.specs.Limits.{max_line_bytes};
 ghost use Rattle.pn_record.specs.Seen.{body_rises, seen_fields};
 ghost use Rattle.pn_record.specs.Showing.{shown_field, shown_body};
 ghost use Rattle.pn_json.specs.Answers.{IsUnless, ShowsUnless};
@@ -20,7 +20,7 @@ use crate::ranges::field_text;
 use crate::shape::{numbers_of, shape_of};
 use crate::{Body, Content, Image, ImageFault, Key, Member, Shape, Version, image_from};
 use pn_join::{Name, NoMemory};
-use pn_line::LONGEST_LINE;
+use pn_line::MAX_LINE_BYTES;
 use serde_json::{Error, Map, Value};
 use std::alloc::Global;
 
@@ -29,9 +29,9 @@ use std::alloc::Global;
 #[tactic(auto, unfolding(crate::specs::Reading::value_at, crate::specs::Reading::reading))]
 pub fn read_value(alloc: Global, line: &[u8]) -> Result<Value, ImageFault>
     ensures exact { ShowsUnless ImageFault.Memory view result (value_at line.now) }
-    ensures too_long { IsErrOf result ImageFault.TooLong ↔ (longest_line < length line.now) }
+    ensures too_long { IsErrOf result ImageFault.TooLong ↔ (max_line_bytes < length line.now) }
 {
-    if line.len() > LONGEST_LINE {
+    if line.len() > MAX_LINE_BYTES {
         return Err(ImageFault::TooLong);
     }
     match Value::from_slice(alloc, line) {
@@ -108,7 +108,7 @@ pub fn read_image(alloc: Global, line: &[u8]) -> Result<Image, ImageFault>
 
     // Which fault it is.
     ensures exact { IsUnless ImageFault.Memory result (image_at line.now) }
-    ensures too_long { IsErrOf result ImageFault.TooLong ↔ (longest_line < length line.now) }
+    ensures too_long { IsErrOf result ImageFault.TooLong ↔ (max_line_bytes < length line.now) }
 {
     image_read(alloc, read_value(alloc, line))
 }

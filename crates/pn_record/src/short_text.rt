@@ -1,13 +1,13 @@
 //! Short texts, held in place.
 
 ghost use Rattle.std.specs.Prelude.{◌≡◌, ◌≤◌, length, IsUtf8};
-ghost use Rattle.pn_record.specs.Limits.{longest_short as most};
+ghost use Rattle.pn_record.specs.Limits.{max_short_bytes as most};
 
 use std::marker::Model;
 use std::str;
 
 /// How many bytes a short text may have.
-pub const LONGEST_SHORT: usize = 31;
+pub const MAX_SHORT_BYTES: usize = 31;
 
 /// A text of at most 31 bytes, without memory of its own.
 ///
@@ -15,19 +15,19 @@ pub const LONGEST_SHORT: usize = 31;
 #[derive(Debug, Drop)]
 pub struct ShortText {
     aligned: [u64; 0],
-    bytes: [u8; LONGEST_SHORT],
+    bytes: [u8; MAX_SHORT_BYTES],
     length: u8,
 }
 
 impl Model for ShortText {
     ghost use Rattle.std.specs.Prelude.{ℕ, List, take, ◌≤◌, IsUtf8};
-    ghost use Rattle.pn_record.specs.Limits.{longest_short};
+    ghost use Rattle.pn_record.specs.Limits.{max_short_bytes};
 
     ghost Value = { List ℕ };
 
     ghost view = { λ text. take text.length text.bytes };
 
-    ghost invariant = { λ text. (text.length ≤ longest_short) × IsUtf8 (take text.length text.bytes) };
+    ghost invariant = { λ text. (text.length ≤ max_short_bytes) × IsUtf8 (take text.length text.bytes) };
 }
 
 impl ShortText {
@@ -36,7 +36,7 @@ impl ShortText {
         requires short { length text.now ≤ most }
         ensures copied { result ≡ text.now }
     {
-        let mut bytes = [0; LONGEST_SHORT];
+        let mut bytes = [0; MAX_SHORT_BYTES];
         bytes[..text.len()].copy_from_slice(text.as_bytes());
         ShortText {
             aligned: [],

@@ -5,7 +5,7 @@ use Rattle.circular_buffer.specs.Buffer.{Buffer, buffer, keep_last}
 use Rattle.pn_tablet.specs.declared.change.Change.{Change}
 use Rattle.pn_region.specs.declared.entry.Entry.{Entry}
 use Rattle.pn_region.specs.declared.entry.Entry.TheVariants.{Changed, Break}
-use Rattle.pn_region.specs.Log.{most_notices, last_number, entries_of}
+use Rattle.pn_region.specs.Log.{max_notices, last_number, entries_of}
 use Rattle.pn_region.specs.Kept.{AreKept, kept_with, IsLog}
 
 -- to keep the last ones of what was kept and one more is to keep the last ones of all
@@ -24,13 +24,13 @@ changed_more changes change before entries parts =
     ap (λ es. es ++ Changed change ∷ []) parts ∙ append_assoc before (entries_of changes) (Changed change ∷ []) ∙ ap (λ es. before ++ es) (sym (map-append Changed changes (change ∷ [])))
 
 -- one more entry
-kept_on : (entries : List Entry) (kept : List Change) (entry : Entry) → AreKept entries kept → AreKept (entries ++ entry ∷ []) (kept_with entry most_notices kept)
+kept_on : (entries : List Entry) (kept : List Change) (entry : Entry) → AreKept entries kept → AreKept (entries ++ entry ∷ []) (kept_with entry max_notices kept)
 kept_on entries kept (Changed change) are = record {
   before = are.before;
   behind = are.behind ++ change ∷ [];
   parts = changed_more are.behind change are.before entries are.parts;
   is_cut = are.is_cut;
-  last = ap (λ l. keep_last most_notices (l ++ change ∷ [])) are.last ∙ kept_more most_notices are.behind change;
+  last = ap (λ l. keep_last max_notices (l ++ change ∷ [])) are.last ∙ kept_more max_notices are.behind change;
 }
 kept_on entries kept Break are = record {
   before = entries ++ Break ∷ [];

@@ -7,7 +7,7 @@ use Rattle.std.proofs.lemmas.List.Elements.{Contains-append_left, Contains-appen
 use Rattle.pn_tablet.specs.declared.change.Change.{Change}
 use Rattle.pn_region.specs.declared.entry.Entry.{Entry}
 use Rattle.pn_region.specs.declared.entry.Entry.TheVariants.{Changed, Break}
-use Rattle.pn_region.specs.Log.{most_notices, last_number, entries_of, changes_in, is_recent, changes_behind, numbered, last_of}
+use Rattle.pn_region.specs.Log.{max_notices, last_number, entries_of, changes_in, is_recent, changes_behind, numbered, last_of}
 use Rattle.pn_region.proofs.Telling.{le_true, unless, broken}
 
 -- entries that are changes
@@ -36,15 +36,15 @@ when false value x is = let never : ⊥ = cc in absurd never
 
 pub record IsRecent (entries : List Entry) (n : ℕ) : Type 0 where
   pub there : n ≤ length entries
-  pub near : length entries ≤ n + most_notices
+  pub near : length entries ≤ n + max_notices
   pub given : length entries ≤ last_number
 
 recent : (entries : List Entry) (n : ℕ) → is_recent entries n ≡ true → IsRecent entries n
 recent entries n yet =
-    let parts = and_parts (nat_le n (length entries) && nat_le (length entries) (n + most_notices)) (nat_le (length entries) last_number) yet in
-    let first = and_parts (nat_le n (length entries)) (nat_le (length entries) (n + most_notices)) parts.0 in record {
+    let parts = and_parts (nat_le n (length entries) && nat_le (length entries) (n + max_notices)) (nat_le (length entries) last_number) yet in
+    let first = and_parts (nat_le n (length entries)) (nat_le (length entries) (n + max_notices)) parts.0 in record {
       there = leb-true n (length entries) first.0;
-      near = leb-true (length entries) (n + most_notices) first.1;
+      near = leb-true (length entries) (n + max_notices) first.1;
       given = leb-true (length entries) last_number parts.1;
     }
 
@@ -63,7 +63,7 @@ module _ (entries : List Entry) (n : ℕ) (changes : List Change) (is : changes_
   pub told_last : last_of entries ≡ n + length changes
   told_last = omega (arith, told_recent.given, told_count)
 
-  pub told_few : length changes ≤ most_notices
+  pub told_few : length changes ≤ max_notices
   told_few = omega (arith, told_recent.near, told_count)
 
 -- two answers, one behind the other
@@ -92,11 +92,11 @@ below_break before after n changes is = elim (cases_lt (length before) n) [
       let never : ⊥ = cc in absurd never
 ]
 
-pub break_behind : (entries : List Entry) (n : ℕ) → changes_behind entries n ≡ None → n ≤ length entries → length entries ≤ n + most_notices → length entries ≤ last_number
+pub break_behind : (entries : List Entry) (n : ℕ) → changes_behind entries n ≡ None → n ≤ length entries → length entries ≤ n + max_notices → length entries ≤ last_number
     → Contains (drop n entries) Break
 break_behind entries n none there near given =
     let yet : is_recent entries n ≡ true =
-    λ i. le_true n (length entries) there i && le_true (length entries) (n + most_notices) near i && le_true (length entries) last_number given i in
+    λ i. le_true n (length entries) there i && le_true (length entries) (n + max_notices) near i && le_true (length entries) last_number given i in
     has_break (drop n entries) (ap (λ (b : Bool). if b then changes_in (drop n entries) else None) (sym yet) ∙ none)
 
 pub over : (entries : List Entry) (n : ℕ) → last_number < length entries → (changes_behind entries n ≡ None) × (last_of entries ≡ last_number)

@@ -12,7 +12,7 @@ use Rattle.pn_region.specs.declared.entry.Entry.{Entry}
 use Rattle.pn_region.specs.declared.entry.Entry.TheVariants.{Changed, Break}
 use Rattle.pn_region.specs.declared.since.Notice.{Notice}
 use Rattle.pn_region.specs.declared.since.Since.TheVariants.{Notices, Missed}
-use Rattle.pn_region.specs.Log.{most_notices, last_number, entries_of, changes_in, is_recent, changes_behind, numbered}
+use Rattle.pn_region.specs.Log.{max_notices, last_number, entries_of, changes_in, is_recent, changes_behind, numbered}
 use Rattle.pn_region.specs.Kept.{AreKept, IsLog}
 use Rattle.pn_region.specs.Since.{IsSince}
 
@@ -30,10 +30,10 @@ module _ (entries : List Entry) (kept : List Change) (are : AreKept entries kept
   count : length entries ≡ length are.before + length are.behind
   count = ap length are.parts ∙ length-append are.before (entries_of are.behind) ∙ ap (λ k. length are.before + k) (length-map are.behind Changed)
 
-  kept_count : length kept ≡ length are.behind - (length are.behind - most_notices)
-  kept_count = ap length are.last ∙ length-drop (length are.behind - most_notices) are.behind
+  kept_count : length kept ≡ length are.behind - (length are.behind - max_notices)
+  kept_count = ap length are.last ∙ length-drop (length are.behind - max_notices) are.behind
 
-  few_kept : length kept ≤ most_notices
+  few_kept : length kept ≤ max_notices
   few_kept = omega (arith, kept_count)
 
   -- what is kept behind a place are the changes behind a number
@@ -41,14 +41,14 @@ module _ (entries : List Entry) (kept : List Change) (are : AreKept entries kept
   told n place within at =
       let m = n - length are.before in
       let reached : n ≡ length are.before + m = omega (arith, count, kept_count) in
-      let passed : (length are.behind - most_notices) + place ≡ m = omega (arith, count, kept_count) in
+      let passed : (length are.behind - max_notices) + place ≡ m = omega (arith, count, kept_count) in
       (λ i. changes_in (drop (reached i) (are.parts i)))
       ∙ ap changes_in (drop-append-add are.before (entries_of are.behind) m ∙ drop-map Changed m are.behind)
       ∙ all_in (drop m are.behind)
-      ∙ ap Some (sym (ap (drop place) are.last ∙ drop-drop place (length are.behind - most_notices) are.behind ∙ ap (λ k. drop k are.behind) passed))
+      ∙ ap Some (sym (ap (drop place) are.last ∙ drop-drop place (length are.behind - max_notices) are.behind ∙ ap (λ k. drop k are.behind) passed))
 
   -- behind a lower number there is a break
-  untold : (n : ℕ) → n + length kept < length entries → length entries ≤ n + most_notices → changes_in (drop n entries) ≡ None
+  untold : (n : ℕ) → n + length kept < length entries → length entries ≤ n + max_notices → changes_in (drop n entries) ≡ None
   untold n below recent =
       let lower : n < length are.before = omega (arith, count, kept_count) in
       elim are.is_cut [
@@ -77,10 +77,10 @@ module _ (entries : List Entry) (last n : ℕ) (kept : Buffer Change) (is : IsLo
       let all : last ≡ length entries = omega (arith, is.number) in
       let few = few_kept entries kept.items are in
       let recent : is_recent entries n ≡ true =
-      λ i. le_true n (length entries) (omega arith) i && le_true (length entries) (n + most_notices) (omega arith) i && le_true (length entries) last_number (omega arith) i in
+      λ i. le_true n (length entries) (omega arith) i && le_true (length entries) (n + max_notices) (omega arith) i && le_true (length entries) last_number (omega arith) i in
       ap (λ b. if b then changes_in (drop n entries) else None) recent ∙ told entries kept.items are n place within (at ∙ ap (λ k. k + place) all)
 
-  gone : n ≤ length entries → length entries ≤ n + most_notices → length entries ≤ last_number → (last_number < last) ⊎ ((last < n) ⊎ (n + length kept.items < last))
+  gone : n ≤ length entries → length entries ≤ n + max_notices → length entries ≤ last_number → (last_number < last) ⊎ ((last < n) ⊎ (n + length kept.items < last))
       → changes_in (drop n entries) ≡ None
   gone there recent given (inl over) = let never : ⊥ = omega (arith, is.number) in absurd never
   gone there recent given (inr (inl past)) = let never : ⊥ = omega (arith, is.number) in absurd never
@@ -88,9 +88,9 @@ module _ (entries : List Entry) (last n : ℕ) (kept : Buffer Change) (is : IsLo
 
   pub unknown : (last_number < last) ⊎ ((last < n) ⊎ (n + length kept.items < last)) → changes_behind entries n ≡ None
   unknown why = unless (is_recent entries n) (changes_in (drop n entries)) (λ (yet : is_recent entries n ≡ true).
-      let parts = and_parts (nat_le n (length entries) && nat_le (length entries) (n + most_notices)) (nat_le (length entries) last_number) yet in
-      let first = and_parts (nat_le n (length entries)) (nat_le (length entries) (n + most_notices)) parts.0 in
-      gone (leb-true n (length entries) first.0) (leb-true (length entries) (n + most_notices) first.1) (leb-true (length entries) last_number parts.1) why)
+      let parts = and_parts (nat_le n (length entries) && nat_le (length entries) (n + max_notices)) (nat_le (length entries) last_number) yet in
+      let first = and_parts (nat_le n (length entries)) (nat_le (length entries) (n + max_notices)) parts.0 in
+      gone (leb-true n (length entries) first.0) (leb-true (length entries) (n + max_notices) first.1) (leb-true (length entries) last_number parts.1) why)
 
   -- so the answers are those of the log
   pub tells : (next place most : ℕ) (list : Vec Notice Global) → next ≡ min last last_number → most ≡ length kept.items

@@ -4,7 +4,7 @@ use Rattle.circular_buffer.specs.Buffer.{Buffer, keep_last}
 use Rattle.pn_tablet.specs.declared.change.Change.{Change}
 use Rattle.pn_region.specs.declared.entry.Entry.{Entry}
 use Rattle.pn_region.specs.declared.entry.Entry.TheVariants.{Changed, Break}
-use Rattle.pn_region.specs.Log.{most_notices, last_number, entries_of}
+use Rattle.pn_region.specs.Log.{max_notices, last_number, entries_of}
 
 -- there is nothing, or a break at the end
 abbrev pub EndsInBreak : List Entry → Type 0
@@ -16,7 +16,7 @@ pub record AreKept (entries : List Entry) (kept : List Change) : Type 0 where
   pub behind : List Change
   pub parts : entries ≡ before ++ entries_of behind
   pub is_cut : EndsInBreak before
-  pub last : kept ≡ keep_last most_notices behind
+  pub last : kept ≡ keep_last max_notices behind
 
 -- the changes that are kept once there is one more entry
 abbrev pub kept_with : Entry → ℕ → List Change → List Change
@@ -26,5 +26,5 @@ kept_with Break most kept = []
 -- what a log has: the number of its last entry, at most one above the greatest, and the changes that it keeps
 pub record IsLog (entries : List Entry) (last : ℕ) (kept : Buffer Change) : Type 0 where
   pub number : last ≡ min (length entries) (suc last_number)
-  pub capacity : kept.capacity ≡ most_notices
+  pub capacity : kept.capacity ≡ max_notices
   pub are_kept : length entries ≤ last_number → AreKept entries kept.items

@@ -2,5 +2,5 @@
 use Rattle.std.specs.Prelude.{ℕ}
 
 -- the most streams that a region takes
-abbrev pub most_streams : ℕ
-most_streams = 16
+abbrev pub max_streams : ℕ
+max_streams = 16

@@ -6,8 +6,8 @@ use Rattle.pn_region.specs.declared.entry.Entry.TheVariants.{Changed, Break}
 use Rattle.pn_region.specs.declared.since.Notice.{Notice}
 
 -- the most notices that are given
-abbrev pub most_notices : ℕ
-most_notices = 1024
+abbrev pub max_notices : ℕ
+max_notices = 1024
 
 -- the last number that an entry has
 abbrev pub last_number : ℕ
@@ -25,7 +25,7 @@ changes_in (Break ∷ entries) = None
 
 -- the number is one of the last that were given, and the numbers are not at their end
 abbrev pub is_recent : List Entry → ℕ → Bool
-is_recent entries n = nat_le n (length entries) && nat_le (length entries) (n + most_notices) && nat_le (length entries) last_number
+is_recent entries n = nat_le n (length entries) && nat_le (length entries) (n + max_notices) && nat_le (length entries) last_number
 
 -- the changes behind a number, where they can be told
 abbrev pub changes_behind : List Entry → ℕ → Option (List Change)

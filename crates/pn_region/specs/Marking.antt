@@ -3,7 +3,7 @@ use Rattle.std.specs.Prelude.{ℕ, ◌+◌, pred, Bool, true, false, not, nat_eq
 use Rattle.std.specs.Ordering.{eq_by_cmp}
 use Rattle.pn_join.specs.Marks.{Positions, name_cmp, position_of, raised}
 use Rattle.pn_stream.specs.Positions.{DeliveryValue}
-use Rattle.pn_region.specs.Limits.{most_streams}
+use Rattle.pn_region.specs.Limits.{max_streams}
 use Rattle.pn_region.specs.declared.fault.RoundFault.{RoundFault}
 use Rattle.pn_region.specs.declared.fault.RoundFault.TheVariants.{Gap, TooManyStreams, Memory}
 
@@ -49,7 +49,7 @@ marks_after marks (delivery ∷ deliveries) =
 
 -- marks of no more streams than a region takes
 abbrev pub of_few_streams : Result Positions RoundFault → Result Positions RoundFault
-of_few_streams (Ok marks) = if nat_lt most_streams (length marks) then Err TooManyStreams else Ok marks
+of_few_streams (Ok marks) = if nat_lt max_streams (length marks) then Err TooManyStreams else Ok marks
 of_few_streams (Err fault) = Err fault
 
 -- the new marks of a round, or why it is refused

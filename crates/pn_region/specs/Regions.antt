@@ -8,7 +8,7 @@ use Rattle.pn_tablet.specs.Laws.{IsSpelled}
 use Rattle.pn_tablet.specs.Ranges.{Ends}
 use Rattle.pn_tablet.specs.Tablets.{TabletStateValue, empty_tablet, lie_in}
 use Rattle.pn_apply.specs.Reducing.{ranges}
-use Rattle.pn_region.specs.Limits.{most_streams}
+use Rattle.pn_region.specs.Limits.{max_streams}
 
 -- a layout, the tablets of its ranges, and how far streams were taken
 pub record RegionValue : Type 0 where
@@ -52,7 +52,7 @@ pub record IsRegion (region : RegionValue) : Type 0 where
 
 -- what holds of a region's own marks: they are of few enough streams, and each position is that of a message
 pub record AreRegionMarks (marks : Positions) : Type 0 where
-  pub few : length marks ≤ most_streams
+  pub few : length marks ≤ max_streams
   pub positions : IsTrue (are_positions marks)
 
 -- what holds of every region's fields

@@ -21,7 +21,7 @@ ghost use Rattle.pn_apply.specs.Reducing.{all_images, images_in};
 ghost use Rattle.pn_region.specs.Faith.{IsFaithful, AreFaithful};
 ghost use Rattle.pn_region.specs.Honest.{IsHonestCopy};
 ghost use Rattle.pn_region.specs.Laws.{AreIn, HasImages, HasBetween, HasNoGap, HasPosition, IsGap, stream_count};
-ghost use Rattle.pn_region.specs.Limits.{most_streams};
+ghost use Rattle.pn_region.specs.Limits.{max_streams};
 ghost use Rattle.pn_region.specs.Marking.{last_position, new_marks};
 ghost use Rattle.pn_region.specs.Regions.{RegionValue, IsRegion, new_region, all_cells};
 ghost use Rattle.pn_region.specs.Rounds.{taking, IsHalfTaken};
@@ -125,7 +125,7 @@ pub fn a_gap_is_a_missing_position()
 pub fn new_marks_name_at_most_16_streams()
     ensures few { (marks next : Positions) (deliveries : List DeliveryValue)
         → IsTrue (is_sorted name_cmp marks) → new_marks marks deliveries ≡ Ok next
-        → (length next ≡ stream_count marks deliveries) × (stream_count marks deliveries ≤ most_streams) }
+        → (length next ≡ stream_count marks deliveries) × (stream_count marks deliveries ≤ max_streams) }
     ensures too_many { (marks : Positions) (deliveries : List DeliveryValue)
         → IsTrue (is_sorted name_cmp marks) → new_marks marks deliveries ≡ Err TooManyStreams
         → 16 < stream_count marks deliveries }

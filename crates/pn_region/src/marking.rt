@@ -5,7 +5,7 @@ ghost use Rattle.std.specs.FinMap.{is_sorted};
 ghost use Rattle.std.specs.Int.{from_bool};
 ghost use Rattle.pn_join.specs.Marks.{name_cmp, position_of, are_positions, is_position};
 ghost use Rattle.pn_tablet.specs.Refusals.{Refuses};
-ghost use Rattle.pn_region.specs.Limits.{most_streams};
+ghost use Rattle.pn_region.specs.Limits.{max_streams};
 ghost use Rattle.pn_region.specs.Marking.{bringing, last_of as the_last_of, last_of_stream as the_last_of_stream, all_marked, marks_after, new_marks, is_memory};
 
 use crate::RoundFault;
@@ -13,7 +13,7 @@ use pn_join::{Dup, Marks, NoMemory, StreamName, raise_at};
 use pn_stream::Delivery;
 
 /// The most streams that a region takes.
-const MOST_STREAMS: usize = 16;
+const MAX_STREAMS: usize = 16;
 
 /// The marks after the deliveries, in their order: each that has images takes its stream up to its last
 /// position, where that is greater. The positions of the marks are 1 to 10^15, and so are the new ones.
@@ -25,7 +25,7 @@ pub fn next_marks(marks: &Marks, deliveries: &[Delivery]) -> Result<Marks, Round
     ensures ok { IfOk result (λ next. new_marks marks.now deliveries.now ≡ Ok next) }
     ensures refused { IfErr result (λ fault. Refuses is_memory fault (new_marks marks.now deliveries.now)) }
     ensures positions { IfOk result (λ next. IsTrue (are_positions next)) }
-    ensures few { IfOk result (λ next. length next ≤ most_streams) }
+    ensures few { IfOk result (λ next. length next ≤ max_streams) }
 {
     check(marks, deliveries)?;
     Ok(followed(marks, deliveries)?)
@@ -35,7 +35,7 @@ pub fn next_marks(marks: &Marks, deliveries: &[Delivery]) -> Result<Marks, Round
 fn check(marks: &Marks, deliveries: &[Delivery]) -> Result<(), RoundFault>
     requires { IsTrue (are_positions marks.now) }
     ensures ok { OnOk result (new_marks marks.now deliveries.now ≡ Ok (all_marked marks.now deliveries.now)) }
-    ensures few { OnOk result (length (all_marked marks.now deliveries.now) ≤ most_streams) }
+    ensures few { OnOk result (length (all_marked marks.now deliveries.now) ≤ max_streams) }
     ensures refused { IfErr result (λ fault. new_marks marks.now deliveries.now ≡ Err fault) }
 {
     let mut streams = marks.len();
@@ -43,7 +43,7 @@ fn check(marks: &Marks, deliveries: &[Delivery]) -> Result<(), RoundFault>
         let is_new = is_new_stream(marks, &deliveries[..place], delivery)?;
         streams = streams.saturating_add(usize::from(is_new));
     }
-    if streams > MOST_STREAMS {
+    if streams > MAX_STREAMS {
         return Err(RoundFault::TooManyStreams);
     }
     Ok(())

@@ -4,7 +4,7 @@ ghost use Rattle.std.specs.Prelude.{◌≡◌, ℕ, ◌+◌, ◌≤◌, ◌<◌,
 ghost use Rattle.pn_tablet.specs.declared.change.Change.{Change};
 ghost use Rattle.pn_region.specs.declared.entry.Entry.{Entry};
 ghost use Rattle.pn_region.specs.declared.entry.Entry.TheVariants.{Break};
-ghost use Rattle.pn_region.specs.Log.{most_notices, last_number, entries_of, changes_behind, numbered, last_of};
+ghost use Rattle.pn_region.specs.Log.{max_notices, last_number, entries_of, changes_behind, numbered, last_of};
 
 /// What a log tells of what is behind a number is exactly what is behind it: the changes that are its further entries,
 /// at most 1,024, as many as there are numbers from there to the last.
@@ -14,7 +14,7 @@ pub fn a_log_tells_what_is_behind_a_number()
     ensures last { (entries : List Entry) (n : ℕ) (changes : List Change)
         → changes_behind entries n ≡ Some changes → last_of entries ≡ n + length changes }
     ensures few { (entries : List Entry) (n : ℕ) (changes : List Change)
-        → changes_behind entries n ≡ Some changes → length changes ≤ most_notices }
+        → changes_behind entries n ≡ Some changes → length changes ≤ max_notices }
 {}
 
 /// Who asks again with the last number that was given misses nothing and is told nothing twice: both answers, one behind
@@ -33,7 +33,7 @@ pub fn a_break_is_missed()
     ensures below { (before after : List Entry) (n : ℕ) (changes : List Change)
         → changes_behind (before ++ Break ∷ after) n ≡ Some changes → length before < n }
     ensures broken { (entries : List Entry) (n : ℕ)
-        → changes_behind entries n ≡ None → n ≤ length entries → length entries ≤ n + most_notices → length entries ≤ last_number
+        → changes_behind entries n ≡ None → n ≤ length entries → length entries ≤ n + max_notices → length entries ≤ last_number
         → Contains (drop n entries) Break }
 {}
 

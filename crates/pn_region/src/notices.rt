@@ -15,7 +15,7 @@ use std::alloc::Global;
 use std::marker::Model;
 
 /// How many changes a log keeps.
-const MOST_KEPT: usize = 1024;
+const MAX_NOTICES: usize = 1024;
 
 /// The last number that an entry has.
 const LAST_NUMBER: u64 = 1_000_000_000_000_000_000;
@@ -51,7 +51,7 @@ impl Log {
         Ok(Log {
             entries: History::new(),
             last: 0,
-            kept: HeapCircularBuffer::with_capacity(alloc, MOST_KEPT)?,
+            kept: HeapCircularBuffer::with_capacity(alloc, MAX_NOTICES)?,
             alloc,
         })
     }

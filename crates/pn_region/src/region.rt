@@ -8,10 +8,10 @@ ghost use Rattle.pn_tablet.specs.Refusals.{Refuses};
 ghost use Rattle.pn_tablet.specs.Tablets.{empty_tablet};
 ghost use Rattle.pn_tablet.specs.Changes.{changes};
 ghost use Rattle.pn_apply.specs.Applying.{AreJoinsIn, HavePositions, all_stepped, all_changes, AreOldOrStepped, IsSomeOld};
-ghost use Rattle.pn_apply.specs.Limits.{most_workers};
+ghost use Rattle.pn_apply.specs.Limits.{max_workers};
 ghost use Rattle.pn_apply.specs.Reducing.{joined_cells, ranges};
 ghost use Rattle.pn_scan.specs.Views.{IsStateOf};
-ghost use Rattle.pn_region.specs.Limits.{most_streams};
+ghost use Rattle.pn_region.specs.Limits.{max_streams};
 ghost use Rattle.pn_region.specs.Logged.{new_logged, noting, refused_log};
 ghost use Rattle.pn_region.specs.Marking.{is_memory};
 ghost use Rattle.pn_region.specs.Regions.{IsRegion, all_cells};
@@ -81,7 +81,7 @@ impl Region {
     /// How far streams were taken into every tablet. It takes no memory, nor do the two below.
     pub fn marks(&self) -> &Marks
         ensures marks { result.now ≡ self.now.state.marks }
-        ensures few { length self.now.state.marks ≤ most_streams }
+        ensures few { length self.now.state.marks ≤ max_streams }
         ensures positions { IsTrue (are_positions self.now.state.marks) }
     {
         &self.marks
@@ -130,7 +130,7 @@ impl Region {
         workers: usize,
         gate: &G,
     ) -> Result<Round, RoundFault>
-        requires workers { (1 ≤ workers) × (workers ≤ most_workers) }
+        requires workers { (1 ≤ workers) × (workers ≤ max_workers) }
         ensures ok { OnOk result (round self.old.state deliveries.items ≡ Ok self.new.state) }
         ensures changed { IfOk result (λ done. done.changed ≡ changed self.old.state self.new.state) }
         ensures noted { OnOk result (self.new.log ≡ noting self.old.log self.old.state self.new.state) }
@@ -161,7 +161,7 @@ impl Region {
         workers: usize,
         gate: &G,
     ) -> Result<Vec<Vec<Change>>, RoundFault>
-        requires workers { (1 ≤ workers) × (workers ≤ most_workers) }
+        requires workers { (1 ≤ workers) × (workers ≤ max_workers) }
         ensures ok { OnOk result (round self.old.state deliveries.items ≡ Ok self.new.state) }
         ensures changes { IfOk result (λ lists. flat_map (λ list. list.items) lists.items ≡ changes (all_cells self.old.state) (all_cells self.new.state)) }
         ensures few { IfOk result (λ lists. length (flat_map (λ list. list.items) lists.items) < 2 ^ 64) }
@@ -225,7 +225,7 @@ fn take_joins<R: Threads + Sync, G: Gate + Sync>(
 ) -> Result<Vec<Vec<Change>>, NoMemory>
     requires joins { AreJoinsIn tablets.old joins.now }
     requires positions { HavePositions joins.now }
-    requires workers { (1 ≤ workers) × (workers ≤ most_workers) }
+    requires workers { (1 ≤ workers) × (workers ≤ max_workers) }
     requires some { 0 < length tablets.old }
     requires few { length (flat_map (λ list. list) (all_changes tablets.old joins.now)) ≤ length (flat_map joined_cells joins.now) }
     ensures ok { OnOk result (tablets.new ≡ all_stepped tablets.old joins.now) }

@@ -8,7 +8,7 @@ use Rattle.serde_json.specs.View.{view, items_view}
 use Rattle.serde_json.specs.declared.value.Value.{Value}
 use Rattle.pn_json.specs.Answers.{◌>>=◌}
 use Rattle.pn_json.specs.Members.{each_in}
-use Rattle.pn_scan.specs.Queries.{ConditionValue, is_condition, most_conditions}
+use Rattle.pn_scan.specs.Queries.{ConditionValue, is_condition, max_conditions}
 use Rattle.pn_scan.specs.ConditionReading.{condition_in, condition_at}
 use Rattle.pn_scan.specs.QueryShapes.{conditions_among, are_conditions, may_fit}
 use Rattle.pn_scan.specs.declared.query_fault.QueryFault.{QueryFault}
@@ -71,16 +71,16 @@ le_false : (m n : ℕ) → n < m → nat_le m n ≡ false
 le_false m n many = grind (arith, nat_tests)
 
 -- at most so many values, which all fit
-pub fit_all : (values : List Value) (among : List ConditionValue) (fit : Bool) → among ≡ conditions_among values → IsTrue (are_conditions values) → length values ≤ most_conditions
-    → fit ≡ list_all (λ value. may_fit (condition_in (view value))) values → fit ≡ (nat_le (length among) most_conditions && list_all is_condition among)
+pub fit_all : (values : List Value) (among : List ConditionValue) (fit : Bool) → among ≡ conditions_among values → IsTrue (are_conditions values) → length values ≤ max_conditions
+    → fit ≡ list_all (λ value. may_fit (condition_in (view value))) values → fit ≡ (nat_le (length among) max_conditions && list_all is_condition among)
 fit_all values among fit is all few fitting =
-    let few_among : nat_le (length among) most_conditions ≡ true = ap (λ cs. nat_le (length cs) most_conditions) is ∙ ap (λ n. nat_le n most_conditions) (all_counted values all) ∙ le_true (length values) most_conditions few in
+    let few_among : nat_le (length among) max_conditions ≡ true = ap (λ cs. nat_le (length cs) max_conditions) is ∙ ap (λ n. nat_le n max_conditions) (all_counted values all) ∙ le_true (length values) max_conditions few in
     fitting ∙ all_fitting values ∙ ap (list_all is_condition) (sym is) ∙ ap (λ b. b && list_all is_condition among) (sym few_among)
 
 -- too many values
-pub too_many : (values : List Value) (among : List ConditionValue) → among ≡ conditions_among values → IsTrue (are_conditions values) → most_conditions < length values
-    → nat_le (length values) most_conditions ≡ (nat_le (length among) most_conditions && list_all is_condition among)
+pub too_many : (values : List Value) (among : List ConditionValue) → among ≡ conditions_among values → IsTrue (are_conditions values) → max_conditions < length values
+    → nat_le (length values) max_conditions ≡ (nat_le (length among) max_conditions && list_all is_condition among)
 too_many values among is all many =
-    let none : nat_le (length values) most_conditions ≡ false = le_false (length values) most_conditions many in
-    let none_among : nat_le (length among) most_conditions ≡ false = ap (λ cs. nat_le (length cs) most_conditions) is ∙ ap (λ n. nat_le n most_conditions) (all_counted values all) ∙ none in
+    let none : nat_le (length values) max_conditions ≡ false = le_false (length values) max_conditions many in
+    let none_among : nat_le (length among) max_conditions ≡ false = ap (λ cs. nat_le (length cs) max_conditions) is ∙ ap (λ n. nat_le n max_conditions) (all_counted values all) ∙ none in
     none ∙ ap (λ b. b && list_all is_condition among) (sym none_among)

@@ -7,11 +7,11 @@ use Rattle.pn_scan.specs.declared.condition.Condition.{Condition}
 use Rattle.pn_scan.specs.declared.condition.Condition.TheVariants.{Has, Eq, Lt, Gt, Prefix}
 
 -- the most rows of a page, and the most conditions of a query
-abbrev pub largest_page : ℕ
-largest_page = 1000
+abbrev pub max_page_rows : ℕ
+max_page_rows = 1000
 
-abbrev pub most_conditions : ℕ
-most_conditions = 16
+abbrev pub max_conditions : ℕ
+max_conditions = 16
 
 -- what is asked of a field, by its name: that it is there; that its value is this one, less, greater, or begins with it
 pub data ConditionValue : Type 0 where
@@ -47,11 +47,11 @@ is_condition (prefix field value) = is_field (field, value)
 
 -- a page of at least one row, and not too many
 abbrev pub is_limit : ℕ → Bool
-is_limit limit = nat_le 1 limit && nat_le limit largest_page
+is_limit limit = nat_le 1 limit && nat_le limit max_page_rows
 
 -- not too many conditions, each within its limits, and a limit of a page
 abbrev pub query_fits : List ConditionValue → ℕ → Bool
-query_fits conditions limit = is_limit limit && nat_le (length conditions) most_conditions && list_all is_condition conditions
+query_fits conditions limit = is_limit limit && nat_le (length conditions) max_conditions && list_all is_condition conditions
 
 -- the same query for what stands after a key
 abbrev pub continued : QueryValue → List ℕ → QueryValue

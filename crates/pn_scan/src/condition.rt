@@ -10,7 +10,7 @@ ghost use Rattle.pn_scan.specs.QueryShapes.{parts_texts, seen_text};
 
 use pn_join::NoMemory;
 use pn_record::Value;
-use pn_record::limits::{LONGEST_FIELD_NAME, LONGEST_FIELD_TEXT};
+use pn_record::limits::{MAX_FIELD_NAME_BYTES, MAX_TEXT_BYTES};
 use std::alloc::Global;
 
 /// What a query asks of one field of a record. A record without the field does not meet it. Values are
@@ -79,7 +79,7 @@ fn text_of(value: &Value) -> &str
 pub(crate) fn is_field(name: &str, text: &str) -> bool
     ensures { result ≡ in_field (name.now, text.now) }
 {
-    !name.is_empty() && name.len() <= LONGEST_FIELD_NAME && text.len() <= LONGEST_FIELD_TEXT
+    !name.is_empty() && name.len() <= MAX_FIELD_NAME_BYTES && text.len() <= MAX_TEXT_BYTES
 }
 
 pub(crate) fn copied_conditions(

@@ -5,13 +5,13 @@ ghost use Rattle.std.specs.List.{list_all};
 ghost use Rattle.serde_json.specs.View.{view, items_view};
 ghost use Rattle.pn_json.specs.Members.{seen, each_in};
 ghost use Rattle.pn_record.specs.Showing.{shown_value};
-ghost use Rattle.pn_scan.specs.Queries.{shown_condition, is_condition, most_conditions};
+ghost use Rattle.pn_scan.specs.Queries.{shown_condition, is_condition, max_conditions};
 ghost use Rattle.pn_scan.specs.ConditionWords.{lone_word as lone_word_of, comparing_word as comparing_word_of};
 ghost use Rattle.pn_scan.specs.ConditionReading.{condition_in, lone_in, comparing_in, conditions_in, conditions_at as conditions_spelled, condition_at};
 ghost use Rattle.pn_scan.specs.QueryShapes.{conditions_among, are_conditions as all_conditions, may_fit};
 
 use crate::condition::is_field;
-use crate::query::MOST_CONDITIONS;
+use crate::query::MAX_CONDITIONS;
 use crate::{Condition, QueryFault};
 use pn_join::NoMemory;
 use pn_json::items_of;
@@ -200,9 +200,9 @@ impl ConditionShapes<'_> {
     /// Whether they are at most 16, each on a field of 1 to 64 bytes and with a value of at most 4,096.
     /// It takes no memory.
     pub(crate) fn fit(&self) -> bool
-        ensures { result ≡ (nat_le (length self.now) most_conditions && list_all is_condition self.now) }
+        ensures { result ≡ (nat_le (length self.now) max_conditions && list_all is_condition self.now) }
     {
-        self.values.len() <= MOST_CONDITIONS && all_fit(self.values)
+        self.values.len() <= MAX_CONDITIONS && all_fit(self.values)
     }
 
     /// The conditions, with each text copied once.

@@ -12,10 +12,10 @@ use std::alloc::Global;
 use std::marker::Model;
 
 /// The most rows of a page.
-pub const LARGEST_PAGE: usize = 1_000;
+pub const MAX_PAGE_ROWS: usize = 1_000;
 
 /// The most conditions of a query.
-pub const MOST_CONDITIONS: usize = 16;
+pub const MAX_CONDITIONS: usize = 16;
 
 /// A query of the records whose keys are not below `from`, below `to` and above `after`, and which meet all
 /// conditions: at most 16, each on a field of 1 to 64 bytes and with a value of at most 4,096. An answer has
@@ -54,7 +54,7 @@ impl Query {
             (λ query. query ≡ record { from = from; to = to; after = after; conditions = map shown_condition conditions.items; limit = limit }) }
         ensures exactly { IsSome result ↔ IsTrue (query_fits (map shown_condition conditions.items) limit) }
     {
-        if !is_limit(limit) || conditions.len() > MOST_CONDITIONS || !are_conditions(&conditions) {
+        if !is_limit(limit) || conditions.len() > MAX_CONDITIONS || !are_conditions(&conditions) {
             return None;
         }
         Some(Query {
@@ -119,7 +119,7 @@ impl Query {
 pub(crate) fn is_limit(limit: usize) -> bool
     ensures { result ≡ in_limit limit }
 {
-    1 <= limit && limit <= LARGEST_PAGE
+    1 <= limit && limit <= MAX_PAGE_ROWS
 }
 
 fn copied_key(key: Option<&Key>) -> Result<Option<Key>, NoMemory>

@@ -11,11 +11,11 @@ ghost use Rattle.pn_scan.specs.QueryReading.{key_of as key_spelled, key_in, limi
 ghost use Rattle.pn_scan.specs.QueryShapes.{seen_text};
 
 use crate::condition_shape::{ConditionShapes, conditions_of};
-use crate::query::LARGEST_PAGE;
+use crate::query::MAX_PAGE_ROWS;
 use crate::{Query, QueryFault};
 use pn_join::NoMemory;
 use pn_json::{check_names, whole_number_of};
-use pn_record::limits::LONGEST_KEY;
+use pn_record::limits::MAX_KEY_BYTES;
 use pn_record::{Key, KeyFault};
 use serde_json::Value;
 use std::alloc::Global;
@@ -133,13 +133,13 @@ fn is_end(text: Option<&str>) -> bool
 fn is_key(text: &str) -> bool
     ensures { result ≡ in_key text.now }
 {
-    !text.is_empty() && text.len() <= LONGEST_KEY
+    !text.is_empty() && text.len() <= MAX_KEY_BYTES
 }
 
 fn is_page(limit: u64) -> bool
     ensures { result ≡ is_limit limit }
 {
-    1 <= limit && limit <= LARGEST_PAGE as u64
+    1 <= limit && limit <= MAX_PAGE_ROWS as u64
 }
 
 fn copied_end(alloc: Global, text: Option<&str>) -> Result<Option<Key>, NoMemory>

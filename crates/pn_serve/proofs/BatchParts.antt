@@ -12,7 +12,7 @@ use Rattle.pn_record.specs.declared.image.Image.{Image}
 use Rattle.pn_record.proofs.ImageParts.{is_there}
 use Rattle.pn_stream.specs.Positions.{DeliveryValue, are_positions}
 use Rattle.pn_serve.specs.Command.BatchParts.{batch_in, deliver_at, number_at, items_at}
-use Rattle.pn_serve.specs.Command.Limits.{most_batches, are_few}
+use Rattle.pn_serve.specs.Command.Limits.{max_batches, are_few}
 use Rattle.pn_serve.specs.Command.Deliveries.{deliver_in}
 use Rattle.pn_serve.specs.Command.Meaning.{deliver}
 use Rattle.pn_serve.specs.Command.RangeChecks.{fits, each_fits, image_fits, batch_fits, batches_fit}
@@ -134,7 +134,7 @@ deliver_found d batches is =
     let named = bind_ok (named_alone (codes "batches" ∷ codes "do" ∷ []) members.0) _ (deliver batches) found.2 in
     let fit = bind_ok (batches_fit found.0) _ (deliver batches) named.2 in
     let same : found.0 ≡ batches = cc fit.2 in
-    let each = both_fit (fits Batches (are_few most_batches found.0)) _ fit.1 in
+    let each = both_fit (fits Batches (are_few max_batches found.0)) _ fit.1 in
     ap (each_in batch_in) (items_found _ (BadShape Batches) items.0 items.1)
     ∙ each_whole batch_shape batch_fits batch_in batch_whole items.0 found.0 found.1 each.1
     ∙ ap Ok same

@@ -9,7 +9,7 @@ use Rattle.pn_json.proofs.Inverses.{bind_ok, no_fault, ok_or_ok, right_same}
 use Rattle.pn_serve.specs.Command.Grammar.{IsCommandLine}
 use Rattle.pn_serve.specs.Command.Lines.{is_too_long, refusal_of, command_at}
 use Rattle.pn_serve.specs.Command.Objects.{command_in}
-use Rattle.pn_record.specs.Limits.{longest_line}
+use Rattle.pn_record.specs.Limits.{max_line_bytes}
 use Rattle.pn_serve.specs.Command.Meaning.{CommandValue}
 use Rattle.pn_serve.specs.declared.refusal.Refusal.{Refusal}
 use Rattle.pn_serve.specs.declared.refusal.Refusal.TheVariants.{TooLong, Memory}
@@ -47,12 +47,12 @@ by_test : (b : Bool) → (b ≡ true → ⊥) → b ≡ false
 by_test true never = absurd (never refl)
 by_test false never = refl
 
-pub answer_long : (line : List ℕ) {A : Type 0} (answer : Result A Refusal) → (longest_line < length line → IsErrOf answer TooLong) → IsTrue (is_too_long line) → IsErrOf answer TooLong
-answer_long line answer long is = long (ltb-true longest_line (length line) is)
+pub answer_long : (line : List ℕ) {A : Type 0} (answer : Result A Refusal) → (max_line_bytes < length line → IsErrOf answer TooLong) → IsTrue (is_too_long line) → IsErrOf answer TooLong
+answer_long line answer long is = long (ltb-true max_line_bytes (length line) is)
 
 -- memory runs out for no line that is too long
-pub answer_short : (line : List ℕ) {A : Type 0} (answer : Result A Refusal) → (longest_line < length line → IsErrOf answer TooLong) → IsErrOf answer Memory → is_too_long line ≡ false
-answer_short line answer long memory = by_test (is_too_long line) (λ is. both_not (sym (long (ltb-true longest_line (length line) is)) ∙ memory))
+pub answer_short : (line : List ℕ) {A : Type 0} (answer : Result A Refusal) → (max_line_bytes < length line → IsErrOf answer TooLong) → IsErrOf answer Memory → is_too_long line ≡ false
+answer_short line answer long memory = by_test (is_too_long line) (λ is. both_not (sym (long (ltb-true max_line_bytes (length line) is)) ∙ memory))
 
 -- no line is the line of two commands
 pub one_command : (line : List ℕ) (one other : CommandValue) → IsCommandLine line one → IsCommandLine line other → one ≡ other

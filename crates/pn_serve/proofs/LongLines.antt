@@ -5,7 +5,7 @@ use Rattle.std.proofs.lemmas.Bool.{cases_lt}
 use Rattle.std.proofs.lemmas.List.{take-take}
 use Rattle.std.specs.Option.{ok_or}
 use Rattle.std.proofs.lemmas.Bool.Decides.{nat_tests}
-use Rattle.pn_line.specs.Line.{LineBufferValue, so_far, kept, most_kept}
+use Rattle.pn_line.specs.Line.{LineBufferValue, so_far, kept, max_kept}
 use Rattle.pn_line.proofs.LineLaws.{kept-short, length-kept_long}
 use Rattle.pn_json.specs.Answers.{◌>>=◌, fault_as}
 use Rattle.pn_record.specs.Reading.{value_at, reading}
@@ -43,7 +43,7 @@ end-long machine outcome (b ∷ text) long =
     ap (λ (o : Outcome). last_of machine o (command_at (b ∷ text))) (said-long outcome (b ∷ text) long) ∙ ap (last_of machine done) (too_long (b ∷ text) long)
 
 kept-kept : (line : List ℕ) → kept (kept line) ≡ kept line
-kept-kept line = take-take most_kept most_kept line (omega arith)
+kept-kept line = take-take max_kept max_kept line (omega arith)
 
 -- a line does what its kept bytes do
 turn-kept : (mode : Mode) (machine : Machine) (outcome : Outcome) (line : List ℕ) → turn_in mode machine outcome (kept line) ≡ turn_in mode machine outcome line

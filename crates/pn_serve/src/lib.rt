@@ -26,7 +26,7 @@ pub use reply::scan::scan_reply;
 pub use reply::short::{
     ShortReply, adopted_reply, changed_reply, lines_reply, lost_reply, refusal_reply,
 };
-pub use script::{Counts, MOST_LINES, RunFault, run, run_to_exit};
+pub use script::{Counts, MAX_LINES, RunFault, run, run_to_exit};
 pub use server::{ServeFault, serve};
 pub use sessions::session;
 pub use settings::Settings;

@@ -1,7 +1,7 @@
 //! What lines do to a region, and their replies.
 
 ghost use Rattle.std.specs.Prelude.{◌≡◌, ◌≤◌};
-ghost use Rattle.pn_apply.specs.Limits.{most_workers};
+ghost use Rattle.pn_apply.specs.Limits.{max_workers};
 ghost use Rattle.pn_serve.specs.Command.Meaning.{command_value, deliver as asking};
 ghost use Rattle.pn_serve.specs.Machine.Modes.{IsBegun, with_mode};
 ghost use Rattle.pn_serve.specs.Machine.Outcomes.{waiting};
@@ -42,7 +42,7 @@ pub(crate) fn answer<R: Threads + Sync, C: Reads>(
     announced: Option<Announced>,
     line: &[u8],
 ) -> Done
-    requires workers { (1 ≤ workers) × (workers ≤ most_workers) }
+    requires workers { (1 ≤ workers) × (workers ≤ max_workers) }
     ensures { AnswersBy C.may_run_out (with_mode announced region.old) line.now (with_mode result.1 region.new) result.0 }
 {
     match announced {
@@ -58,7 +58,7 @@ fn command<R: Threads + Sync, C: Reads>(
     workers: usize,
     line: &[u8],
 ) -> Done
-    requires workers { (1 ≤ workers) × (workers ≤ most_workers) }
+    requires workers { (1 ≤ workers) × (workers ≤ max_workers) }
     ensures { AnswersBy C.may_run_out (waiting region.old) line.now (with_mode result.1 region.new) result.0 }
 {
     match C::command_of(alloc, line) {
@@ -87,7 +87,7 @@ pub(crate) fn end<R: Threads + Sync, C: Reads>(
     announced: Option<Announced>,
     part: &[u8],
 ) -> Reply
-    requires workers { (1 ≤ workers) × (workers ≤ most_workers) }
+    requires workers { (1 ≤ workers) × (workers ≤ max_workers) }
     ensures { ConcludesBy C.may_run_out (with_mode announced region.old) part.now (waiting region.new) result }
 {
     match announced {
@@ -105,7 +105,7 @@ fn last_command<R: Threads + Sync, C: Reads>(
     workers: usize,
     line: &[u8],
 ) -> Reply
-    requires workers { (1 ≤ workers) × (workers ≤ most_workers) }
+    requires workers { (1 ≤ workers) × (workers ≤ max_workers) }
     ensures { LastsBy C.may_run_out region.old line.now region.new result }
 {
     match C::command_of(alloc, line) {
@@ -133,7 +133,7 @@ fn obey<R: Threads + Sync>(
     workers: usize,
     command: Command,
 ) -> Begun
-    requires workers { (1 ≤ workers) × (workers ≤ most_workers) }
+    requires workers { (1 ≤ workers) × (workers ≤ max_workers) }
     ensures { BeginsTo region.old (command_value command) region.new result }
 {
     match command {
@@ -160,7 +160,7 @@ fn deliver<R: Threads + Sync>(
     workers: usize,
     deliveries: Vec<Delivery>,
 ) -> Reply
-    requires workers { (1 ≤ workers) × (workers ≤ most_workers) }
+    requires workers { (1 ≤ workers) × (workers ≤ max_workers) }
     ensures { Obeys (waiting region.old) (asking deliveries.items) (waiting region.new) result }
 {
     match region.round(rt, deliveries, workers, &Open) {

@@ -23,7 +23,7 @@ use std::thread::Threads;
 use thiserror::Error;
 
 /// How many lines of a script are answered.
-pub const MOST_LINES: u64 = 1_000_000;
+pub const MAX_LINES: u64 = 1_000_000;
 
 /// How many lines a script had, and how many of its replies are refusals.
 #[derive(Clone, Copy, Debug, PartialEq, Eq)]
@@ -119,7 +119,7 @@ pub(crate) fn answer_all<M: Serves, S: Source, W: Sink>(
     ensures write { IsErrOf result RunFault.Write → W.may_fail }
     ensures same { M.tablets machine.new ≡ M.tablets machine.old }
 {
-    'turns: for _turn in 0..MOST_LINES {
+    'turns: for _turn in 0..MAX_LINES {
         match lines.turn(machine, input, output)? {
             Next::Line => {}
             Next::End(counts) => return Ok(counts),

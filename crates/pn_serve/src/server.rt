@@ -2,9 +2,9 @@
 
 ghost use Rattle.std.specs.Prelude.{◌≡◌, ◌≢◌, ◌≤◌, vec_len, vec_capacity, Ok, Err, IfOk, IfErr, OnOk, OnErr, IsErrOf, IsTrue};
 ghost use Rattle.std.specs.Io.KnownBytes.{Appends, Keeps};
-ghost use Rattle.pn_apply.specs.Limits.{most_workers};
+ghost use Rattle.pn_apply.specs.Limits.{max_workers};
 ghost use Rattle.pn_line.specs.Sent.{AppendsPrefix};
-ghost use Rattle.pn_live.specs.Limits.{most_readers};
+ghost use Rattle.pn_live.specs.Limits.{max_readers};
 ghost use Rattle.pn_live.specs.LiveRegions.{tablets_in};
 ghost use Rattle.pn_serve.specs.Server.Faults.{of_end};
 ghost use Rattle.pn_serve.specs.Server.Sessions.{AllRead};
@@ -63,7 +63,7 @@ where
     R: Threads + Wait + Sync + Copy + Send + 'static,
     S: Source + Drop + Send + 'static,
     W: Sink,
-    requires { (1 ≤ sessions) × (sessions ≤ most_readers) }
+    requires { (1 ≤ sessions) × (sessions ≤ max_readers) }
     ensures whole { OnOk result (AreWhole S.left streams.items) }
     ensures served { OnOk result (Appends (W.contents out.old) (W.contents out.new) (served_line sessions)) }
     ensures silent { IfErr result (λ fault. fault ≢ ServeFault.Write → Keeps (W.contents out.old) (W.contents out.new)) }
@@ -104,7 +104,7 @@ fn serve_region<R, S>(
 where
     R: Threads + Wait + Sync + Copy + Send + 'static,
     S: Source + Drop + Send + 'static,
-    requires { (1 ≤ sessions) × (sessions ≤ most_readers) }
+    requires { (1 ≤ sessions) × (sessions ≤ max_readers) }
     ensures whole { OnOk result (AreWhole S.left streams.items) }
     ensures fault { IfErr result (λ fault. fault ≢ ServeFault.Write) }
 {
@@ -126,7 +126,7 @@ fn open<R: Wait>(
     layout: Layout,
     readers: usize,
 ) -> Result<(LiveRegion, Vec<LiveReader>), OpenFault>
-    requires { (1 ≤ readers) × (readers ≤ most_readers) }
+    requires { (1 ≤ readers) × (readers ≤ max_readers) }
     ensures own { IfOk result (λ opened. AllRead (tablets_in opened.0) opened.1.items) }
     ensures count { IfOk result (λ opened. vec_len opened.1 ≡ readers) }
 {
@@ -165,7 +165,7 @@ fn serve_all<R, S>(
 where
     R: Threads + Wait + Sync + Copy + Send + 'static,
     S: Source + Drop + Send + 'static,
-    requires workers { (1 ≤ workers) × (workers ≤ most_workers) }
+    requires workers { (1 ≤ workers) × (workers ≤ max_workers) }
     requires own { AllRead (tablets_in opened.old.live) opened.old.readers.items }
     ensures own { AllRead (tablets_in opened.new.live) opened.new.readers.items }
     ensures all { result ≢ Err ServeFault.Start → vec_len opened.new.readers ≡ vec_len opened.old.readers }
@@ -196,7 +196,7 @@ fn take_all<R: Threads + Wait + Sync>(
     feeds: &Feeds,
     is_refused: bool,
 ) -> Result<(), ServeFault>
-    requires workers { (1 ≤ workers) × (workers ≤ most_workers) }
+    requires workers { (1 ≤ workers) × (workers ≤ max_workers) }
     ensures refused { IsTrue is_refused → result ≡ Err ServeFault.Start }
     ensures fault { IfErr result (λ fault. fault ≢ ServeFault.Write) }
     ensures same { tablets_in live.new ≡ tablets_in live.old }

@@ -2,9 +2,9 @@
 
 ghost use Rattle.std.specs.Prelude.{◌≡◌, ◌≤◌, ◌↔◌, IfSome, IsSome};
 ghost use Rattle.pn_tablet.specs.Layouts.{IsLayout};
-ghost use Rattle.pn_apply.specs.Limits.{most_workers};
+ghost use Rattle.pn_apply.specs.Limits.{max_workers};
 
-use pn_apply::MOST_WORKERS;
+use pn_apply::MAX_WORKERS;
 use pn_tablet::Layout;
 use std::marker::Model;
 
@@ -18,23 +18,23 @@ pub struct Settings {
 impl Model for Settings {
     ghost use Rattle.std.specs.Prelude.{◌≤◌};
     ghost use Rattle.pn_tablet.specs.Layouts.{IsLayout};
-    ghost use Rattle.pn_apply.specs.Limits.{most_workers};
+    ghost use Rattle.pn_apply.specs.Limits.{max_workers};
     ghost use Rattle.pn_serve.specs.Settings.{SettingsValue};
 
     ghost Value = { SettingsValue };
 
     ghost view = { λ settings. record { layout = settings.layout; workers = settings.workers } };
 
-    ghost invariant = { λ settings. IsLayout settings.layout × (1 ≤ settings.workers) × (settings.workers ≤ most_workers) };
+    ghost invariant = { λ settings. IsLayout settings.layout × (1 ≤ settings.workers) × (settings.workers ≤ max_workers) };
 }
 
 impl Settings {
     /// None where there are not 1 to 16 workers. It takes no memory.
     pub fn new(layout: Layout, workers: usize) -> Option<Settings>
         ensures made { IfSome result (λ settings. settings ≡ record { layout = layout; workers = workers }) }
-        ensures exactly { IsSome result ↔ ((1 ≤ workers) × (workers ≤ most_workers)) }
+        ensures exactly { IsSome result ↔ ((1 ≤ workers) × (workers ≤ max_workers)) }
     {
-        if workers < 1 || workers > MOST_WORKERS {
+        if workers < 1 || workers > MAX_WORKERS {
             return None;
         }
         // The layout says of itself that it is lawful.
@@ -53,7 +53,7 @@ impl Settings {
     /// How many workers a round has. It takes no memory.
     pub fn workers(&self) -> usize
         ensures workers { result ≡ self.now.workers }
-        ensures within { (1 ≤ result) × (result ≤ most_workers) }
+        ensures within { (1 ≤ result) × (result ≤ max_workers) }
     {
         self.workers
     }

@@ -1,7 +1,7 @@
 -- The faults of a stream, and where each stands.
 use Rattle.std.specs.Prelude.{Option, Some, None, ◌≡◌, ◌≢◌, ℕ, ◌<◌, ◌≤◌, List, ◌++◌, length, Err}
 use Rattle.pn_line.specs.Reads.{IsUnbroken}
-use Rattle.pn_record.specs.Limits.{longest_line}
+use Rattle.pn_record.specs.Limits.{max_line_bytes}
 use Rattle.pn_record.specs.declared.image.Image.{Image}
 use Rattle.pn_stream.specs.Messages.{message_at}
 use Rattle.pn_stream.specs.MessageLines.{IsMessageLine}
@@ -23,7 +23,7 @@ pub record RefusedLine (wanted : ℕ) (text : List ℕ) (fault : StreamFault) : 
   pub line : List ℕ
   pub rest : List ℕ
   pub first : FirstLine text line rest
-  pub short : length line ≤ longest_line
+  pub short : length line ≤ max_line_bytes
   pub refused : Refuses wanted line fault
 
 -- too many bytes come before the first newline
@@ -31,7 +31,7 @@ pub record LongLine (text : List ℕ) : Type 0 where
   pub front : List ℕ
   pub rest : List ℕ
   pub unbroken : IsUnbroken front
-  pub long : longest_line < length front
+  pub long : max_line_bytes < length front
   pub text_is : text ≡ front ++ rest
 
 -- the fault stands next in the text where the message at this position is wanted. Of the text alone nobody

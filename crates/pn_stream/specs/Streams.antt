@@ -2,7 +2,7 @@
 use Rattle.std.specs.Prelude.{◌≡◌, ℕ, ◌+◌, ◌≤◌, List, [], ◌∷◌, ◌++◌, length, Option, Some}
 use Rattle.pn_line.specs.Reads.{IsUnbroken}
 use Rattle.pn_line.specs.Text.{text_of}
-use Rattle.pn_record.specs.Limits.{longest_line}
+use Rattle.pn_record.specs.Limits.{max_line_bytes}
 use Rattle.pn_record.specs.declared.image.Image.{Image}
 use Rattle.pn_stream.specs.MessageLines.{IsMessageLine}
 
@@ -28,7 +28,7 @@ pub record FirstLine (text line rest : List ℕ) : Type 0 where
 -- the text has no whole line, and what it has is not too long to be one
 pub record NoLine (text : List ℕ) : Type 0 where
   pub unbroken : IsUnbroken text
-  pub short : length text ≤ longest_line
+  pub short : length text ≤ max_line_bytes
 
 -- this text is still to be read: a part of a line that was taken, and what the source has left
 abbrev pub IsLeft : List ℕ → List ℕ → Option (List ℕ) → Type 0

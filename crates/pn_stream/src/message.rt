@@ -6,7 +6,7 @@ ghost use Rattle.pn_json.specs.Answers.{IsUnless};
 ghost use Rattle.pn_record.specs.Faults.{IsOfValue};
 ghost use Rattle.pn_record.specs.Seen.{body_rises};
 ghost use Rattle.pn_join.specs.Marks.{is_position as position_of};
-ghost use Rattle.pn_record.specs.Limits.{longest_line};
+ghost use Rattle.pn_record.specs.Limits.{max_line_bytes};
 ghost use Rattle.pn_stream.specs.Messages.{Message, shape_in, ranges_in, message_in, message_at};
 ghost use Rattle.pn_stream.specs.MessageLines.{IsMessage, IsMessageLine, message_data};
 
@@ -26,7 +26,7 @@ pub fn read_message(alloc: Global, line: &[u8]) -> Result<(u64, Image), ImageFau
 
     // Which fault it is.
     ensures exact { IsUnless ImageFault.Memory result (message_at line.now) }
-    ensures too_long { IsErrOf result ImageFault.TooLong ↔ (longest_line < length line.now) }
+    ensures too_long { IsErrOf result ImageFault.TooLong ↔ (max_line_bytes < length line.now) }
 {
     message_read(alloc, read_value(alloc, line))
 }

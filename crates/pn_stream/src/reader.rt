@@ -1,7 +1,7 @@
 //! Readers of streams: the next messages of a stream, in step, however its bytes come.
 
 ghost use Rattle.std.specs.Prelude.{◌≡◌, ◌≢◌, ◌+◌, ◌≤◌, [], ◌++◌, length, min, IfOk, IfErr, IfSome, OnOk, OnErr, IsErrOf, IsTrue};
-ghost use Rattle.pn_record.specs.Limits.{greatest, longest_line};
+ghost use Rattle.pn_record.specs.Limits.{greatest, max_line_bytes};
 ghost use Rattle.pn_stream.specs.Batches.{Batch};
 ghost use Rattle.pn_stream.specs.Faults.{Stands};
 
@@ -104,7 +104,7 @@ impl<S: Source + Drop> StreamReader<S> {
         ensures stays { OnErr result (self.new.position ≡ self.old.position) }
         ensures failed { OnErr result (self.new.fault ≡ Some StreamFault.Failed) }
         ensures name { self.new.name ≡ self.old.name }
-        ensures part { length self.new.part ≤ longest_line }
+        ensures part { length self.new.part ≤ max_line_bytes }
     {
         self.next_asked(Asked {
             least: max,
@@ -141,7 +141,7 @@ impl<S: Source + Drop> StreamReader<S> {
         ensures stays { OnErr result (self.new.position ≡ self.old.position) }
         ensures failed { OnErr result (self.new.fault ≡ Some StreamFault.Failed) }
         ensures name { self.new.name ≡ self.old.name }
-        ensures part { length self.new.part ≤ longest_line }
+        ensures part { length self.new.part ≤ max_line_bytes }
     {
         self.next_asked(Asked {
             least: 1,
@@ -176,7 +176,7 @@ impl<S: Source + Drop> StreamReader<S> {
         ensures stays { OnErr result (self.new.position ≡ self.old.position) }
         ensures failed { OnErr result (self.new.fault ≡ Some StreamFault.Failed) }
         ensures name { self.new.name ≡ self.old.name }
-        ensures part { length self.new.part ≤ longest_line }
+        ensures part { length self.new.part ≤ max_line_bytes }
     {
         if let Some(fault) = self.waiting() {
             return Err(self.fail(fault));
@@ -189,7 +189,7 @@ impl<S: Source + Drop> StreamReader<S> {
     // The fault that the next call answers.
     fn waiting(&self) -> Option<StreamFault>
         ensures fault { result ≡ self.now.fault }
-        ensures part { length self.now.part ≤ longest_line }
+        ensures part { length self.now.part ≤ max_line_bytes }
     {
         self.fault
     }
@@ -216,7 +216,7 @@ impl<S: Source + Drop> StreamReader<S> {
         ensures name { self.new.name ≡ self.old.name }
         ensures position { self.new.position ≡ self.old.position }
         ensures fault { self.new.fault ≡ self.old.fault }
-        ensures part { length self.new.part ≤ longest_line }
+        ensures part { length self.new.part ≤ max_line_bytes }
     {
         let mut images = Vec::new(self.alloc);
         let ended = next_images(

@@ -2,7 +2,7 @@
 use Rattle.std.specs.Prelude.{ℕ, zero, suc, ◌≤◌, nat_lt, not, if◌then◌else◌, List, [], ◌∷◌, length, slice_get, count_by, Option, Some, None, option_map, Result, Ok, Err}
 use Rattle.std.specs.List.Sorted.{IsStrictlySortedBy}
 use Rattle.pn_record.specs.Order.{bytes_cmp}
-use Rattle.pn_tablet.specs.Limits.{most_bounds}
+use Rattle.pn_tablet.specs.Limits.{max_bounds}
 use Rattle.pn_tablet.specs.Ranges.{Ends, is_below}
 use Rattle.pn_tablet.specs.declared.layout.LayoutFault.{LayoutFault}
 use Rattle.pn_tablet.specs.declared.layout.LayoutFault.TheVariants.{TooMany, NotRising}
@@ -13,7 +13,7 @@ Bounds = List (List ℕ)
 
 -- not too many bounds, each less than those after it
 pub record IsLayout (bounds : Bounds) : Type 0 where
-  pub few : length bounds ≤ most_bounds
+  pub few : length bounds ≤ max_bounds
   pub rising : IsStrictlySortedBy bytes_cmp bounds
 
 -- the place of the first bound that is not greater than the one before it
@@ -29,7 +29,7 @@ rising_layout (Some place) bounds = Err (NotRising place)
 
 -- the layout of bounds, or its first fault
 abbrev pub layout_of : Bounds → Result Bounds LayoutFault
-layout_of bounds = if nat_lt most_bounds (length bounds) then Err TooMany else rising_layout (first_fall bounds) bounds
+layout_of bounds = if nat_lt max_bounds (length bounds) then Err TooMany else rising_layout (first_fall bounds) bounds
 
 -- how many bounds are not greater than the key
 abbrev pub tablet_of : Bounds → List ℕ → ℕ

@@ -2,5 +2,5 @@
 use Rattle.std.specs.Prelude.{ℕ}
 
 -- the most bounds of a layout, which has one tablet more
-abbrev pub most_bounds : ℕ
-most_bounds = 63
+abbrev pub max_bounds : ℕ
+max_bounds = 63

@@ -11,7 +11,7 @@ ghost use Rattle.pn_tablet.specs.CopyLineReading.{end_of as end_spelled, or_as, 
 use crate::{CopyTextFault, Range};
 use pn_join::{LAST_POSITION, Name, NoMemory, StreamName};
 use pn_json::{check_names, text_of, whole_number_of};
-use pn_record::limits::LONGEST_KEY;
+use pn_record::limits::MAX_KEY_BYTES;
 use pn_record::{Image, ImageFault, Key, KeyFault, image_of, read_value};
 use serde_json::Value;
 use std::alloc::Global;
@@ -119,7 +119,7 @@ fn is_end(text: Option<&str>) -> bool
 {
     match text {
         None => true,
-        Some(text) => !text.is_empty() && text.len() <= LONGEST_KEY,
+        Some(text) => !text.is_empty() && text.len() <= MAX_KEY_BYTES,
     }
 }
 

@@ -11,7 +11,7 @@ use std::marker::Model;
 use thiserror::Error;
 
 /// The most bounds of a layout.
-const MOST_BOUNDS: usize = 63;
+const MAX_BOUNDS: usize = 63;
 
 /// Bounds that divide all keys into tablets, from 1 to 64 of them. A tablet has the keys from the bound
 /// before it, which is in it, to the one after it, which is not. The least key is U+0000, so a first bound
@@ -47,7 +47,7 @@ impl Layout {
     pub fn new(bounds: Vec<Key>) -> Result<Layout, LayoutFault>
         ensures { result ≡ layout_of bounds.items }
     {
-        if bounds.len() > MOST_BOUNDS {
+        if bounds.len() > MAX_BOUNDS {
             return Err(LayoutFault::TooMany);
         }
         match first_fall(&bounds) {

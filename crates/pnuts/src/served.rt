@@ -20,7 +20,7 @@ use std::thread::Threads;
 const STREAM_ROOM: usize = 1_048_576;
 
 /// The most sessions that can be planned.
-const MOST_SESSIONS: usize = 16;
+const MAX_SESSIONS: usize = 16;
 
 type Stream = StreamReader<BufReader<File>>;
 
@@ -71,7 +71,7 @@ where
         rt.alloc(),
         &listener,
         settings,
-        sessions.clamp(1, MOST_SESSIONS),
+        sessions.clamp(1, MAX_SESSIONS),
         streams,
         &mut out,
     ) {

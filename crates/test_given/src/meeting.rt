@@ -5,7 +5,7 @@ use std::sync::atomic::{AtomicBool, AtomicU64, Ordering};
 use std::thread;
 
 /// How often a worker looks whether the other has come.
-const MOST_TURNS: u64 = 1_000_000;
+const MAX_TURNS: u64 = 1_000_000;
 
 /// A gate that holds a worker up until the other of two tablets was entered as often.
 #[derive(Drop)]
@@ -32,7 +32,7 @@ impl Meeting {
 impl Gate for Meeting {
     fn enter(&self, tablet: usize) {
         let mine = self.entered[tablet % 2].fetch_add(1, Ordering::SeqCst);
-        for _ in 0..MOST_TURNS {
+        for _ in 0..MAX_TURNS {
             if self.entered[1 - tablet % 2].load(Ordering::SeqCst) > mine {
                 return;
             }

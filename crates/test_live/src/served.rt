@@ -17,7 +17,7 @@ use test_given::layout;
 use test_given_live::{closed, deliveries, found, hand_back, opened, take_out};
 
 /// How often the worker looks whether the reader has answered.
-const MOST_TURNS: u64 = 1_000_000;
+const MAX_TURNS: u64 = 1_000_000;
 
 // Holds the worker of tablet 1 up until a reader has answered.
 #[derive(Drop)]
@@ -31,7 +31,7 @@ impl Gate for Held {
         if tablet != 1 {
             return;
         }
-        for _ in 0..MOST_TURNS {
+        for _ in 0..MAX_TURNS {
             if self.answered.load(Ordering::SeqCst) {
                 return;
             }

@@ -25,7 +25,7 @@ const ROW: &str =
 const NO_ROW: &str = "{\"row\":null}\n";
 
 /// How often a client asks at most until its record is there, and how often after that.
-const MOST_TURNS: u64 = 100_000;
+const MAX_TURNS: u64 = 100_000;
 
 const TURNS_AFTER: u64 = 1_000;
 
@@ -124,7 +124,7 @@ where
 
 #[test]
 fn a_record_that_is_served_stays_there(rt: HostRuntime) -> Result<(), Fail> {
-    let (ended, written, told) = serve_one(&rt, rt.alloc(), FIRST, MOST_TURNS)?;
+    let (ended, written, told) = serve_one(&rt, rt.alloc(), FIRST, MAX_TURNS)?;
     assert!(rt; ended.is_none());
     assert_eq!(rt; told, Told::Row);
     assert_eq!(rt; written.as_slice(), b"served 1\n".as_slice());

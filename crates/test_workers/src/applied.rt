@@ -1,7 +1,7 @@
 //! Rounds taken by slots that note their work.
 
 ghost use Rattle.std.specs.Prelude.{◌≡◌, ◌≤◌, map, IfOk};
-ghost use Rattle.pn_apply.specs.Limits.{most_workers};
+ghost use Rattle.pn_apply.specs.Limits.{max_workers};
 ghost use Rattle.pn_apply.specs.Reducing.{ranges};
 
 use crate::given::{KEYS, deliveries_of, tablets_of_keys};
@@ -41,7 +41,7 @@ fn take(
     workers: usize,
     gate: &Notes,
 ) -> Result<Vec<Vec<Change>>, NoMemory>
-    requires workers { (1 ≤ workers) × (workers ≤ most_workers) }
+    requires workers { (1 ≤ workers) × (workers ≤ max_workers) }
     requires ranges { map (λ slot. slot.range) slots.old ≡ ranges layout.now }
     ensures { map (λ slot. slot.range) slots.new ≡ ranges layout.now }
 {
@@ -98,7 +98,7 @@ fn assert_retried(
     workers: usize,
     refused: usize,
 ) -> Result<(), Fail>
-    requires { (1 ≤ workers) × (workers ≤ most_workers) }
+    requires { (1 ≤ workers) × (workers ≤ max_workers) }
 {
     let notes = Notes::new();
     let mut slots = slots_of(rt.alloc(), layout, &notes)?;

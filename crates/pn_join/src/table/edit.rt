@@ -5,7 +5,7 @@ ghost use Rattle.std.specs.List.{AllByRecursion};
 ghost use Rattle.std.specs.FinMap.{put, is_sorted};
 ghost use Rattle.pn_join.specs.Edits.{put_all as all_put, changes_in, AreFew, GoUp, HaveRoom, IsReady, IsReadyAt};
 ghost use Rattle.pn_join.specs.LeafEntries.{leaf_entries, leaves_of};
-ghost use Rattle.pn_join.specs.Leaves.{all_entries, most_in_leaf, AreEnds};
+ghost use Rattle.pn_join.specs.Leaves.{all_entries, max_leaf_entries, AreEnds};
 
 use crate::table::change::TableChange;
 use crate::table::ends::{raise_between, raise_from};
@@ -139,7 +139,7 @@ fn put_all<K: Ord + Dup, C: Dup>(
 /// Puts a value into a leaf that is ready, and answers how many entries that adds.
 fn put_in<K: Ord + Dup, C: Dup>(leaf: &mut Leaf<K, C>, change: TableChange<K, C>) -> usize
     requires ready { IsReady leaf.old }
-    requires size { length (put K.cmp change.key change.after (leaf_entries leaf.old)) ≤ most_in_leaf }
+    requires size { length (put K.cmp change.key change.after (leaf_entries leaf.old)) ≤ max_leaf_entries }
     requires rising { IsTrue (is_sorted K.cmp (leaf_entries leaf.old)) }
     ensures entries { leaf_entries leaf.new ≡ put K.cmp change.key change.after (leaf_entries leaf.old) }
     ensures ready { IsReady leaf.new }
@@ -152,11 +152,11 @@ fn put_in<K: Ord + Dup, C: Dup>(leaf: &mut Leaf<K, C>, change: TableChange<K, C>
 }
 
 fn put_one<K: Ord + Dup, C: Dup>(entries: &mut Vec<(K, C)>, key: K, value: C) -> usize
-    requires room { most_in_leaf ≤ vec_capacity entries.old }
-    requires size { length (put K.cmp key value entries.old.items) ≤ most_in_leaf }
+    requires room { max_leaf_entries ≤ vec_capacity entries.old }
+    requires size { length (put K.cmp key value entries.old.items) ≤ max_leaf_entries }
     requires rising { IsTrue (is_sorted K.cmp entries.old.items) }
     ensures entries { entries.new.items ≡ put K.cmp key value entries.old.items }
-    ensures room { most_in_leaf ≤ vec_capacity entries.new }
+    ensures room { max_leaf_entries ≤ vec_capacity entries.new }
     ensures more { length entries.new.items ≡ length entries.old.items + result }
 {
     match place_in(entries, &key) {

@@ -3,7 +3,7 @@
 ghost use Rattle.std.specs.Prelude.{◌≡◌, ◌≤◌, [], length, IfOk, OnOk, OnErr};
 ghost use Rattle.pn_join.specs.Edits.{IsReady};
 ghost use Rattle.pn_join.specs.LeafEntries.{leaf_entries, leaves_of};
-ghost use Rattle.pn_join.specs.Leaves.{begins_below, ends_below, most_in_leaf};
+ghost use Rattle.pn_join.specs.Leaves.{begins_below, ends_below, max_leaf_entries};
 
 use crate::table::single::MOST;
 use crate::{Dup, NoMemory};
@@ -84,7 +84,7 @@ impl<K: Dup, C: Dup> Leaf<K, C> {
     /// Makes it ready: nobody shares it, and it has room for as many entries as a leaf may have. Its
     /// entries stay, also where that is refused.
     pub fn open(&mut self, alloc: Global) -> Result<(), NoMemory>
-        requires { length (leaf_entries self.old) ≤ most_in_leaf }
+        requires { length (leaf_entries self.old) ≤ max_leaf_entries }
         ensures same { leaf_entries self.new ≡ leaf_entries self.old }
         ensures ready { OnOk result (IsReady self.new) }
     {

@@ -3,7 +3,7 @@
 ghost use Rattle.std.specs.Prelude.{◌≡◌, ◌+◌, ◌-◌, ◌<◌, ◌≤◌, [], ◌++◌, length, reverse, take, drop, vec_len, vec_capacity, IsTrue, IfOk, OnOk, OnErr};
 ghost use Rattle.std.specs.FinMap.{is_sorted};
 ghost use Rattle.pn_join.specs.LeafEntries.{leaf_entries};
-ghost use Rattle.pn_join.specs.Leaves.{IsLeaf, most_in_leaf};
+ghost use Rattle.pn_join.specs.Leaves.{IsLeaf, max_leaf_entries};
 ghost use Rattle.pn_join.specs.Places.{place_of};
 ghost use Rattle.pn_join.specs.PutInLeaves.{IsPutOf};
 ghost use Rattle.pn_join.specs.Tables.{IsTable};
@@ -57,7 +57,7 @@ fn join_in<K: Ord + Dup, C: Join>(
     requires size { IsLeaf entries.old.items }
     ensures ok { IfOk result (λ back. IsPutOf K.cmp C.meaning C.joined C.valid key content
         entries.old.items (entries.new.items ++ back.items)) }
-    ensures sizes { IfOk result (λ back. IsLeaf entries.new.items × (length back.items ≤ most_in_leaf)) }
+    ensures sizes { IfOk result (λ back. IsLeaf entries.new.items × (length back.items ≤ max_leaf_entries)) }
     ensures err { OnErr result (entries.new.items ≡ entries.old.items) }
 {
     let room = if entries.len() < MOST {
@@ -74,10 +74,10 @@ fn join_in<K: Ord + Dup, C: Join>(
 /// Moves the greater half to the other vector, where there are too many items for one leaf.
 fn cut<T>(items: &mut Vec<T>, back: &mut Vec<T>)
     requires empty { back.old.items ≡ [] }
-    requires one_more { length items.old.items ≤ most_in_leaf + 1 }
-    requires room { (most_in_leaf < length items.old.items) → most_in_leaf ≤ vec_capacity back.old + 31 }
+    requires one_more { length items.old.items ≤ max_leaf_entries + 1 }
+    requires room { (max_leaf_entries < length items.old.items) → max_leaf_entries ≤ vec_capacity back.old + 31 }
     ensures whole { items.new.items ++ back.new.items ≡ items.old.items }
-    ensures sizes { (length items.new.items ≤ most_in_leaf) × (length back.new.items ≤ most_in_leaf) }
+    ensures sizes { (length items.new.items ≤ max_leaf_entries) × (length back.new.items ≤ max_leaf_entries) }
     ensures some { (0 < length items.old.items) → 0 < length items.new.items }
 {
     if items.len() > MOST {
@@ -115,7 +115,7 @@ pub fn join_in_leaf<K: Ord + Dup, C: Join>(
     requires size { IsLeaf (leaf_entries leaf.old) }
     ensures ok { IfOk result (λ back. IsPutOf K.cmp C.meaning C.joined C.valid key content
         (leaf_entries leaf.old) (leaf_entries leaf.new ++ back.items)) }
-    ensures sizes { IfOk result (λ back. IsLeaf (leaf_entries leaf.new) × (length back.items ≤ most_in_leaf)) }
+    ensures sizes { IfOk result (λ back. IsLeaf (leaf_entries leaf.new) × (length back.items ≤ max_leaf_entries)) }
     ensures err { OnErr result (leaf_entries leaf.new ≡ leaf_entries leaf.old) }
 {
     let mut entries = leaf.take(alloc)?;
@@ -131,7 +131,7 @@ pub fn cut_leaf<K: Dup, C: Dup>(
 ) -> Result<Vec<(K, C)>, NoMemory>
     requires { IsLeaf (leaf_entries leaf.old) }
     ensures whole { IfOk result (λ back. leaf_entries leaf.new ++ back.items ≡ leaf_entries leaf.old) }
-    ensures sizes { IfOk result (λ back. IsLeaf (leaf_entries leaf.new) × (length back.items ≤ most_in_leaf)) }
+    ensures sizes { IfOk result (λ back. IsLeaf (leaf_entries leaf.new) × (length back.items ≤ max_leaf_entries)) }
     ensures err { OnErr result (leaf_entries leaf.new ≡ leaf_entries leaf.old) }
 {
     let mut back = Vec::with_capacity(alloc, MOST - HALF)?;
@@ -144,10 +144,10 @@ pub fn cut_leaf<K: Dup, C: Dup>(
 /// Moves what there is beyond half of what a leaf may have to the other vector.
 fn halve<T>(items: &mut Vec<T>, back: &mut Vec<T>)
     requires empty { back.old.items ≡ [] }
-    requires few { length items.old.items ≤ most_in_leaf + 1 }
+    requires few { length items.old.items ≤ max_leaf_entries + 1 }
     requires room { length items.old.items ≤ vec_capacity back.old + 32 }
     ensures whole { items.new.items ++ back.new.items ≡ items.old.items }
-    ensures sizes { (length items.new.items ≤ most_in_leaf) × (length back.new.items ≤ most_in_leaf) }
+    ensures sizes { (length items.new.items ≤ max_leaf_entries) × (length back.new.items ≤ max_leaf_entries) }
     ensures some { (0 < length items.old.items) → 0 < length items.new.items }
 {
     if items.len() > HALF {

@@ -2,7 +2,7 @@
 
 ghost use Rattle.std.specs.Prelude.{◌≡◌, ◌≤◌, ◌<◌, ◌^◌, length, IfOk, map};
 ghost use Rattle.std.specs.List.{AllByRecursion};
-ghost use Rattle.pn_live.specs.Limits.{most_readers};
+ghost use Rattle.pn_live.specs.Limits.{max_readers};
 ghost use Rattle.pn_live.specs.LiveRegions.{tablets_in, IsNewLive};
 ghost use Rattle.pn_live.specs.Places.{AreNewPlaces};
 ghost use Rattle.pn_live.specs.Readers.{opening, IsNewReader};
@@ -31,7 +31,7 @@ impl LiveRegion {
         layout: Layout,
         readers: usize,
     ) -> Result<(LiveRegion, Vec<LiveReader>), OpenFault>
-        requires { (1 ≤ readers) × (readers ≤ most_readers) }
+        requires { (1 ≤ readers) × (readers ≤ max_readers) }
         ensures region { IfOk result (λ opened. IsNewLive layout opened.0) }
         ensures count { IfOk result (λ opened. length opened.1.items ≡ readers) }
         ensures readers { IfOk result (λ opened. AllByRecursion (IsNewReader (tablets_in opened.0)) opened.1.items) }

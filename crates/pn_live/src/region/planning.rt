@@ -3,7 +3,7 @@
 ghost use Rattle.std.specs.Prelude.{◌≡◌, ◌≤◌, [], length, map, vec_capacity, IfOk, IfSome};
 ghost use Rattle.std.specs.List.{flat_map};
 ghost use Rattle.pn_apply.specs.Applying.{AreJoinsIn, HavePositions, all_stepped, all_changes};
-ghost use Rattle.pn_apply.specs.Limits.{most_workers};
+ghost use Rattle.pn_apply.specs.Limits.{max_workers};
 ghost use Rattle.pn_live.specs.Places.{state_at};
 
 use crate::front::Note;
@@ -36,7 +36,7 @@ pub(super) fn planned<R: Threads + Wait + Sync, G: Gate + Sync>(
 ) -> Result<Plan, NoMemory>
     requires joins { AreJoinsIn (map state_at places.old) operations.now }
     requires positions { HavePositions operations.now }
-    requires workers { (1 ≤ workers) × (workers ≤ most_workers) }
+    requires workers { (1 ≤ workers) × (workers ≤ max_workers) }
     ensures nexts { IfOk result (λ plan. plan.nexts.items ≡ all_stepped (map state_at places.old) operations.now) }
     ensures changes { IfOk result (λ plan. flat_map (λ list. list.items) plan.lists.items ≡ flat_map (λ list. list) (all_changes (map state_at places.old) operations.now)) }
     ensures changed { IfOk result (λ plan. plan.changed ≡ length (flat_map (λ list. list.items) plan.lists.items)) }
@@ -65,7 +65,7 @@ fn caught_up<R: Threads + Wait + Sync>(
     places: &mut [Place],
     workers: usize,
 ) -> Result<Vec<TabletState>, NoMemory>
-    requires { (1 ≤ workers) × (workers ≤ most_workers) }
+    requires { (1 ≤ workers) × (workers ≤ max_workers) }
     ensures states { IfOk result (λ states. states.items ≡ map state_at places.old) }
     ensures same { places.new ≡ places.old }
 {

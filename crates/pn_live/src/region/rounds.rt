@@ -5,7 +5,7 @@ ghost use Rattle.std.specs.List.{flat_map};
 ghost use Rattle.pn_tablet.specs.Changes.{changes};
 ghost use Rattle.pn_tablet.specs.Refusals.{Refuses};
 ghost use Rattle.pn_apply.specs.Applying.{AreJoinsIn, HavePositions, all_stepped, all_changes};
-ghost use Rattle.pn_apply.specs.Limits.{most_workers};
+ghost use Rattle.pn_apply.specs.Limits.{max_workers};
 ghost use Rattle.pn_region.specs.Logged.{noting, refused_log};
 ghost use Rattle.pn_region.specs.Marking.{is_memory, new_marks};
 ghost use Rattle.pn_region.specs.Regions.{AreRegionMarks, IsRegion, all_cells};
@@ -56,7 +56,7 @@ impl LiveRegion {
         workers: usize,
         gate: &G,
     ) -> Result<(Round, Front), RoundFault>
-        requires workers { (1 ≤ workers) × (workers ≤ most_workers) }
+        requires workers { (1 ≤ workers) × (workers ≤ max_workers) }
         ensures ok { OnOk result (round (core self.old) deliveries.items ≡ Ok (core self.new)) }
         ensures published { OnOk result (self.new.places ≡ publishing self.old deliveries.items self.new.marks) }
         ensures front { IfOk result (λ done. done.1 ≡ notes_of self.new.places) }
@@ -95,7 +95,7 @@ impl LiveRegion {
         workers: usize,
         gate: &G,
     ) -> Result<Taken, RoundFault>
-        requires workers { (1 ≤ workers) × (workers ≤ most_workers) }
+        requires workers { (1 ≤ workers) × (workers ≤ max_workers) }
         ensures ok { OnOk result (round (core self.old) deliveries.items ≡ Ok (core self.new)) }
         ensures published { OnOk result (self.new.places ≡ publishing self.old deliveries.items self.new.marks) }
         ensures front { IfOk result (λ taken. taken.front ≡ notes_of self.new.places) }
@@ -139,7 +139,7 @@ impl LiveRegion {
         workers: usize,
         gate: &G,
     ) -> Result<Ready, RoundFault>
-        requires workers { (1 ≤ workers) × (workers ≤ most_workers) }
+        requires workers { (1 ≤ workers) × (workers ≤ max_workers) }
         ensures marks { IfOk result (λ ready. new_marks self.old.marks deliveries.items ≡ Ok ready.marks) }
         ensures are_marks { IfOk result (λ ready. AreRegionMarks ready.marks) }
         ensures joins { IfOk result (λ ready. AreJoinsIn (map state_at self.old.places) ready.operations.items × HavePositions ready.operations.items) }

@@ -5,7 +5,7 @@ ghost use Rattle.std.specs.List.{AllByRecursion};
 ghost use Rattle.pn_join.specs.Marks.{are_positions};
 ghost use Rattle.pn_tablet.specs.Layouts.{IsLayout};
 ghost use Rattle.pn_apply.specs.Reducing.{ranges};
-ghost use Rattle.pn_region.specs.Limits.{most_streams};
+ghost use Rattle.pn_region.specs.Limits.{max_streams};
 ghost use Rattle.pn_region.specs.Regions.{ArePartsOf, IsSound};
 
 use super::Region;
@@ -26,7 +26,7 @@ impl Region {
         log: Log,
     ) -> Region
         requires tablets { ArePartsOf marks (ranges layout) tablets.items }
-        requires few { length marks ≤ most_streams }
+        requires few { length marks ≤ max_streams }
         requires positions { IsTrue (are_positions marks) }
         ensures layout { result.state.layout ≡ layout }
         ensures tablets { result.state.tablets ≡ tablets.items }

@@ -12,12 +12,12 @@ use Rattle.pn_stream.specs.Positions.{DeliveryValue, are_positions}
 use Rattle.pn_serve.specs.Command.Meaning.{CommandValue, adopt, copy, deliver, get, notices, read, scan}
 
 -- the most batches of a command
-abbrev pub most_batches : ℕ
-most_batches = 64
+abbrev pub max_batches : ℕ
+max_batches = 64
 
 -- the most keys of a command
-abbrev pub most_keys : ℕ
-most_keys = 100
+abbrev pub max_keys : ℕ
+max_keys = 100
 
 -- the stream has a name, the positions are 1 to 10^15, and the images keep their limits
 abbrev pub is_delivery : DeliveryValue → Bool
@@ -25,12 +25,12 @@ is_delivery delivery =
     is_name delivery.stream && are_positions delivery.first (length delivery.images) && list_all is_image delivery.images
 
 -- the most lines that a command announces
-abbrev pub most_announced : ℕ
-most_announced = 1000000
+abbrev pub max_announced : ℕ
+max_announced = 1000000
 
 -- a command announces at least one line, and not more than so many
 abbrev pub may_announce : ℕ → Bool
-may_announce lines = nat_le 1 lines && nat_le lines most_announced
+may_announce lines = nat_le 1 lines && nat_le lines max_announced
 
 -- notices are asked for behind a number that an entry may have
 abbrev pub may_be_asked : ℕ → Bool
@@ -50,8 +50,8 @@ may_be_required (Some version) = is_version version
 abbrev pub is_command : CommandValue → Bool
 is_command (adopt lines) = may_announce lines
 is_command (copy need tablet) = list_all is_mark need
-is_command (deliver deliveries) = are_few most_batches deliveries && list_all is_delivery deliveries
-is_command (get keys) = are_few most_keys keys && list_all is_key keys
+is_command (deliver deliveries) = are_few max_batches deliveries && list_all is_delivery deliveries
+is_command (get keys) = are_few max_keys keys && list_all is_key keys
 is_command (notices since) = may_be_asked since
 is_command (read key version) = is_key key && may_be_required version
 is_command (scan query) = is_query query

@@ -1,7 +1,7 @@
 -- The command that a line is, or its first fault: its length, its reading, all shapes, and then the ranges.
 use Rattle.std.specs.Prelude.{ℕ, Bool, nat_lt, List, length, Result}
 use Rattle.pn_json.specs.Answers.{◌>>=◌, fault_as}
-use Rattle.pn_record.specs.Limits.{longest_line}
+use Rattle.pn_record.specs.Limits.{max_line_bytes}
 use Rattle.pn_record.specs.Reading.{value_at}
 use Rattle.pn_record.specs.declared.fault.ImageFault.{ImageFault}
 use Rattle.pn_record.specs.declared.fault.ImageFault.TheVariants as image
@@ -13,7 +13,7 @@ use Rattle.pn_serve.specs.Command.Objects.{command_in}
 
 -- the line has more bytes than a line may have, 65,536
 abbrev pub is_too_long : List ℕ → Bool
-is_too_long line = nat_lt longest_line (length line)
+is_too_long line = nat_lt max_line_bytes (length line)
 
 -- the refusal of a line for what is at fault in an image
 abbrev pub refusal_of : ImageFault → Refusal

@@ -7,7 +7,7 @@ use Rattle.pn_record.specs.declared.image.Image.{Image}
 use Rattle.pn_record.specs.Limits.{is_key, is_version}
 use Rattle.pn_record.specs.Sets.{Stamp}
 use Rattle.pn_stream.specs.Positions.{DeliveryValue, are_positions}
-use Rattle.pn_serve.specs.Command.Limits.{most_batches, most_keys, are_few}
+use Rattle.pn_serve.specs.Command.Limits.{max_batches, max_keys, are_few}
 use Rattle.pn_serve.specs.declared.refusal.Part.{Part}
 use Rattle.pn_serve.specs.declared.refusal.Part.TheVariants.{Batches, First, Keys, Stream, Version}
 use Rattle.pn_serve.specs.declared.refusal.Part.TheVariants as part
@@ -39,7 +39,7 @@ batch_fits batch = do
 -- 1 to 64 batches in their ranges
 unfoldable pub batches_fit : List DeliveryValue → Result (Unit {0}) Refusal
 batches_fit batches = do
-  count ← fits Batches (are_few most_batches batches)
+  count ← fits Batches (are_few max_batches batches)
   each_fits batch_fits batches
 
 -- one of several keys, of 1 to 256 bytes
@@ -49,7 +49,7 @@ key_fits key = fits Keys (is_key key)
 -- 1 to 100 keys in their ranges
 unfoldable pub keys_fit : List (List ℕ) → Result (Unit {0}) Refusal
 keys_fit keys = do
-  count ← fits Keys (are_few most_keys keys)
+  count ← fits Keys (are_few max_keys keys)
   each_fits key_fits keys
 
 -- the version that is required, if one is, in its ranges

@@ -3,9 +3,9 @@ use Rattle.std.specs.Prelude.{ℕ, ◌≤◌, length}
 use Rattle.pn_stream.specs.Positions.{DeliveryValue}
 
 -- the most messages of a stream in one round
-abbrev pub most_messages : ℕ
-most_messages = 1000
+abbrev pub max_messages : ℕ
+max_messages = 1000
 
 -- messages of a stream for one round: some, and not too many
 abbrev pub FitRound : DeliveryValue → Type 0
-FitRound delivery = (1 ≤ length delivery.images) × (length delivery.images ≤ most_messages)
+FitRound delivery = (1 ≤ length delivery.images) × (length delivery.images ≤ max_messages)

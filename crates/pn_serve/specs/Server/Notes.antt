@@ -6,7 +6,7 @@ use Rattle.pn_stream.specs.Faults.{Stands}
 use Rattle.pn_stream.specs.Positions.{DeliveryValue}
 use Rattle.pn_stream.specs.declared.fault.StreamFault.{StreamFault}
 use Rattle.pn_stream.specs.declared.fault.StreamFault.TheVariants.{Failed}
-use Rattle.pn_serve.specs.Server.Messages.{most_messages}
+use Rattle.pn_serve.specs.Server.Messages.{max_messages}
 use Rattle.pn_serve.specs.declared.server.notes.Note.{Note}
 use Rattle.pn_serve.specs.declared.server.notes.Note.TheVariants.{Taken, End, Fault}
 
@@ -19,9 +19,9 @@ following stream delivery = record { stream = stream.name; first = min (stream.p
 abbrev pub Leaves : {S : Type 0} → (S → Option (List ℕ)) → Stream S → Note → Stream S → Type 0
 Leaves left old (Taken messages) new = (old.fault ≡ None) × (messages.delivery ≡ following old messages.delivery)
     × (new.position ≡ old.position + length messages.delivery.images)
-    × IfSome (left old.source) (λ text. Batch 1 most_messages old.position (old.part ++ text) messages.delivery.images new.fault new.part (left new.source))
+    × IfSome (left old.source) (λ text. Batch 1 max_messages old.position (old.part ++ text) messages.delivery.images new.fault new.part (left new.source))
 Leaves left old End new = (old.fault ≡ None) × (new.fault ≡ None)
-    × IfSome (left old.source) (λ text. Batch 1 most_messages old.position (old.part ++ text) [] None new.part (left new.source))
+    × IfSome (left old.source) (λ text. Batch 1 max_messages old.position (old.part ++ text) [] None new.part (left new.source))
 Leaves left old (Fault name) new = (name ≡ old.name) × (new.fault ≡ Some Failed)
     × ((fault : StreamFault) × (old.fault ≡ None → IfSome (left old.source) (λ text. Stands (old.position + 1) (old.part ++ text) fault)))
 

@@ -45,13 +45,13 @@ names_differ [] = true
 names_differ (stream ∷ streams) = not (has_name streams stream.0) && names_differ streams
 
 -- the most streams that are read
-abbrev pub most_streams : ℕ
-most_streams = 16
+abbrev pub max_streams : ℕ
+max_streams = 16
 
 -- not too many streams, whose names differ
 unfoldable pub streams_in : List (List ℕ) → Result (List StreamValue) PlanFault
 streams_in words =
-    if nat_lt most_streams (length words) then Err fault.Stream
+    if nat_lt max_streams (length words) then Err fault.Stream
     else do
       streams ← each_stream words
       if names_differ streams then Ok streams else Err fault.Stream

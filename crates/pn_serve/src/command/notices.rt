@@ -15,7 +15,7 @@ use pn_json::whole_number_of;
 use serde_json::{Map, Value};
 
 /// The greatest number behind which notices are asked for.
-const GREATEST_ASKED: u64 = 1_000_000_000_000_000_000;
+const MAX_SINCE: u64 = 1_000_000_000_000_000_000;
 
 #[tactic(auto, unfolding(crate::specs::Command::Notices::notices_in))]
 pub(crate) fn notices_of(members: &Map<String, Value>, value: &Value) -> Result<Command, Refusal>
@@ -32,7 +32,7 @@ fn check_since(since: u64) -> Result<(), Refusal>
     ensures exact { result ≡ fits part.Since (may_be_asked since) }
     ensures memory { IsErrOf result Refusal.Memory → ⊥ }
 {
-    if since > GREATEST_ASKED {
+    if since > MAX_SINCE {
         return Err(Refusal::OutOfRange(Part::Since));
     }
     Ok(())

@@ -3,7 +3,7 @@
 ghost use Rattle.std.specs.Prelude.{◌≡◌, ◌<◌, false, Ok, length, IfOk, IsOk, IsErrOf, IsTrue};
 ghost use Rattle.serde_json.specs.View.{view, members_view};
 ghost use Rattle.pn_json.specs.Answers.{Shows, ShowsUnless};
-ghost use Rattle.pn_record.specs.Limits.{longest_line};
+ghost use Rattle.pn_record.specs.Limits.{max_line_bytes};
 ghost use Rattle.pn_serve.specs.Command.BatchParts.{deliver_at};
 ghost use Rattle.pn_serve.specs.Command.Grammar.{IsCommandLine};
 ghost use Rattle.pn_serve.specs.Command.Meaning.{CommandValue, deliver, command_value};
@@ -58,7 +58,7 @@ pub fn command_of(alloc: Global, line: &[u8]) -> Result<Command, Refusal>
 #[tactic(auto, unfolding(crate::specs::Command::Lines::command_at))]
 fn line_command(alloc: Global, line: &[u8]) -> Result<Command, Refusal>
     ensures exact { ShowsUnless Refusal.Memory command_value result (command_at line.now) }
-    ensures too_long { longest_line < length line.now → IsErrOf result Refusal.TooLong }
+    ensures too_long { max_line_bytes < length line.now → IsErrOf result Refusal.TooLong }
 {
     let value = read_value(alloc, line)?;
     command_in(alloc, value)

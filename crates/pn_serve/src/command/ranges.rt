@@ -9,21 +9,21 @@ use crate::command::batch::BatchShape;
 use crate::{Part, Refusal};
 use pn_join::Name;
 use pn_record::Shape;
-use pn_record::limits::LONGEST_KEY;
+use pn_record::limits::MAX_KEY_BYTES;
 use pn_stream::positions_fit;
 
 /// The most batches of a command.
-const MOST_BATCHES: usize = 64;
+const MAX_BATCHES: usize = 64;
 
 /// The most keys of a command.
-const MOST_KEYS: usize = 100;
+const MAX_KEYS: usize = 100;
 
 /// Whether there are 1 to 64 batches, each in its ranges; otherwise the first fault.
 #[tactic(auto, unfolding(crate::specs::Command::RangeChecks::batches_fit))]
 pub(crate) fn check_batches(batches: &[BatchShape<'_>]) -> Result<(), Refusal>
     ensures { result ≡ batches_fit batches.now }
 {
-    if batches.is_empty() || batches.len() > MOST_BATCHES {
+    if batches.is_empty() || batches.len() > MAX_BATCHES {
         return Err(Refusal::OutOfRange(Part::Batches));
     }
     for batch in batches {
@@ -69,7 +69,7 @@ fn check_image(image: &Shape<'_>) -> Result<(), Refusal>
 pub(crate) fn check_keys(keys: &[&str]) -> Result<(), Refusal>
     ensures { result ≡ keys_fit (texts keys.now) }
 {
-    if keys.is_empty() || keys.len() > MOST_KEYS {
+    if keys.is_empty() || keys.len() > MAX_KEYS {
         return Err(Refusal::OutOfRange(Part::Keys));
     }
     for key in keys {
@@ -83,7 +83,7 @@ pub(crate) fn check_key(text: &str, part: Part) -> Result<(), Refusal>
     ensures exact { result ≡ fits part (is_key text.now) }
     ensures memory { IsErrOf result Refusal.Memory → ⊥ }
 {
-    if text.is_empty() || text.len() > LONGEST_KEY {
+    if text.is_empty() || text.len() > MAX_KEY_BYTES {
         return Err(Refusal::OutOfRange(part));
     }
     Ok(())

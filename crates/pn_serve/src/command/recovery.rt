@@ -20,7 +20,7 @@ use serde_json::{Map, Value};
 use std::alloc::Global;
 
 /// The most lines that a command announces.
-const MOST_ANNOUNCED: u64 = 1_000_000;
+const MAX_ANNOUNCED: u64 = 1_000_000;
 
 #[tactic(auto, unfolding(crate::specs::Command::Recovery::adopt_in))]
 pub(crate) fn adopt_of(members: &Map<String, Value>, value: &Value) -> Result<Command, Refusal>
@@ -37,7 +37,7 @@ fn check_lines(lines: u64) -> Result<(), Refusal>
     ensures exact { result ≡ fits part.Lines (may_announce lines) }
     ensures memory { IsErrOf result Refusal.Memory → ⊥ }
 {
-    if lines < 1 || lines > MOST_ANNOUNCED {
+    if lines < 1 || lines > MAX_ANNOUNCED {
         return Err(Refusal::OutOfRange(Part::Lines));
     }
     Ok(())

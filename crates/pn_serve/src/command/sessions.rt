@@ -3,7 +3,7 @@
 ghost use Rattle.std.specs.Prelude.{◌≡◌, ◌<◌, false, length, IsErrOf};
 ghost use Rattle.serde_json.specs.View.{view};
 ghost use Rattle.pn_json.specs.Answers.{ShowsUnless};
-ghost use Rattle.pn_record.specs.Limits.{longest_line};
+ghost use Rattle.pn_record.specs.Limits.{max_line_bytes};
 ghost use Rattle.pn_serve.specs.Command.Lines.{is_too_long};
 ghost use Rattle.pn_serve.specs.Command.Meaning.{command_value};
 ghost use Rattle.pn_serve.specs.Command.Sessions.{is_lookup, lookup_said, lookup_in as lookup_seen, lookup_at};
@@ -27,7 +27,7 @@ pub(crate) fn lookup_of(alloc: Global, line: &[u8]) -> Result<Command, Refusal>
 #[tactic(auto, unfolding(crate::specs::Command::Sessions::lookup_at))]
 fn line_lookup(alloc: Global, line: &[u8]) -> Result<Command, Refusal>
     ensures exact { ShowsUnless Refusal.Memory command_value result (lookup_at line.now) }
-    ensures too_long { longest_line < length line.now → IsErrOf result Refusal.TooLong }
+    ensures too_long { max_line_bytes < length line.now → IsErrOf result Refusal.TooLong }
 {
     let value = read_value(alloc, line)?;
     lookup_in(alloc, value)

@@ -16,7 +16,7 @@ use crate::machine::Done;
 use crate::machine::lookups::not_taken;
 use crate::{Refusal, Reply, bad_text_reply, not_adopted_reply};
 use pn_join::NoMemory;
-use pn_line::MOST_KEPT;
+use pn_line::MAX_KEPT_BYTES;
 use pn_region::{AdoptFault, Region};
 use pn_tablet::{CopyTextFault, TabletCopy, read_copy};
 use std::alloc::Global;
@@ -74,7 +74,7 @@ fn extended(text: Vec<u8>, line: &[u8], newline: &[u8]) -> Result<Vec<u8>, NoMem
     ensures { IfOk result (λ whole. whole.items ≡ text.items ++ (kept line.now ++ newline.now)) }
 {
     let mut text = text;
-    let kept = line.len().min(MOST_KEPT);
+    let kept = line.len().min(MAX_KEPT_BYTES);
     text.extend_from_slice(&line[..kept])?;
     text.extend_from_slice(newline)?;
     Ok(text)

@@ -28,7 +28,7 @@ pub(crate) struct Scripted<'a, R> {
 
 impl<'a, R> Model for Scripted<'a, R> {
     ghost use Rattle.std.specs.Prelude.{◌≤◌};
-    ghost use Rattle.pn_apply.specs.Limits.{most_workers};
+    ghost use Rattle.pn_apply.specs.Limits.{max_workers};
     ghost use Rattle.pn_serve.specs.Machine.Modes.{with_mode};
     ghost use Rattle.pn_serve.specs.Machine.Outcomes.{Machine};
 
@@ -40,7 +40,7 @@ impl<'a, R> Model for Scripted<'a, R> {
 
     ghost view = { λ scripted. with_mode scripted.announced scripted.region };
 
-    ghost invariant = { λ scripted. (1 ≤ scripted.workers) × (scripted.workers ≤ most_workers) };
+    ghost invariant = { λ scripted. (1 ≤ scripted.workers) × (scripted.workers ≤ max_workers) };
 }
 
 impl<'a, R: Threads + Sync> Scripted<'a, R> {

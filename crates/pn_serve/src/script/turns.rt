@@ -13,7 +13,7 @@ ghost use Rattle.pn_serve.specs.Reply.Texts.{reply_text, is_refusal};
 ghost use Rattle.pn_serve.specs.Script.Written.{one_if};
 
 use crate::machine::serving::Serves;
-use crate::script::MOST_LINES;
+use crate::script::MAX_LINES;
 use crate::script::blocks::Blocks;
 use crate::{
     Counts, Reply, RunFault, adopted_reply, changed_reply, lines_reply, lost_reply, refusal_reply,
@@ -80,7 +80,7 @@ impl Lines {
         output: &mut W,
     ) -> Result<Next, RunFault>
         requires ready { M.ready }
-        requires few { self.old.counts.lines < MOST_LINES }
+        requires few { self.old.counts.lines < MAX_LINES }
         ensures turns { (start : Start M) → Served M.makes start (S.left input.old) (W.contents output.old) machine.old self.old
             → TurnsTo M.makes M.ends start (S.left input.new) (W.contents output.new) machine.new self.new result }
         ensures counted { result ≡ Ok Next.Line → self.new.counts.lines ≡ self.old.counts.lines + 1 }
@@ -120,7 +120,7 @@ impl Lines {
         output: &mut W,
     ) -> Result<(), WriteFault>
         requires ready { M.ready }
-        requires few { self.old.counts.lines < MOST_LINES }
+        requires few { self.old.counts.lines < MAX_LINES }
         ensures ok { OnOk result (Answered M.makes machine.old machine.new self.old self.new (W.contents output.old) (W.contents output.new)) }
         ensures err { OnErr result (AnsweredInPart M.makes machine.old machine.new self.old (W.contents output.old) (W.contents output.new)) }
         ensures fault { OnErr result W.may_fail }
@@ -140,7 +140,7 @@ impl Lines {
         output: &mut W,
     ) -> Result<Counts, WriteFault>
         requires ready { M.ready }
-        requires few { self.old.counts.lines ≤ MOST_LINES }
+        requires few { self.old.counts.lines ≤ MAX_LINES }
         ensures ok { IfOk result (λ counts. Closed M.ends machine.old machine.new self.old self.new (W.contents output.old) (W.contents output.new) counts) }
         ensures err { OnErr result (AnsweredInPart M.ends machine.old machine.new self.old (W.contents output.old) (W.contents output.new)) }
         ensures fault { OnErr result W.may_fail }
@@ -164,7 +164,7 @@ impl Lines {
         output: &mut W,
     ) -> Result<Counts, RunFault>
         requires ready { M.ready }
-        requires all { self.old.counts.lines ≡ MOST_LINES }
+        requires all { self.old.counts.lines ≡ MAX_LINES }
         ensures ends { (start : Start M) → Served M.makes start (S.left input.old) (W.contents output.old) machine.old self.old
             → EndsBy M.makes M.ends start (S.left input.new) (W.contents output.new) machine.new result }
         ensures read { IsErrOf result RunFault.Read → S.may_fail }
@@ -186,7 +186,7 @@ impl Lines {
 }
 
 fn count_refused(counts: &mut Counts, reply: &Reply)
-    requires few { counts.old.lines ≤ MOST_LINES + 1 }
+    requires few { counts.old.lines ≤ MAX_LINES + 1 }
     requires bounded { counts.old.refused ≤ counts.old.lines }
     ensures lines { counts.new.lines ≡ counts.old.lines }
     ensures refused { counts.new.refused ≡ one_if (is_refusal reply.now) + counts.old.refused }

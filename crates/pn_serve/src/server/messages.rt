@@ -5,7 +5,7 @@ ghost use Rattle.pn_serve.specs.Server.Messages.{FitRound};
 use pn_stream::Delivery;
 
 /// The most messages of a stream that are taken in one round.
-pub(crate) const MOST_MESSAGES: usize = 1_000;
+pub(crate) const MAX_MESSAGES: usize = 1_000;
 
 /// Messages of a stream for one round: from 1 to 1,000.
 #[derive(Drop)]

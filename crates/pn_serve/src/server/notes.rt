@@ -4,7 +4,7 @@ ghost use Rattle.std.specs.Prelude.{◌≡◌, IsTrue};
 ghost use Rattle.pn_serve.specs.Server.Notes.{Leaves, IsTaken};
 ghost use Rattle.pn_serve.specs.declared.server.notes.Note.TheVariants.{End};
 
-use crate::server::messages::{MOST_MESSAGES, Messages};
+use crate::server::messages::{MAX_MESSAGES, Messages};
 use pn_join::{Dup, StreamName};
 use pn_line::Source;
 use pn_stream::StreamReader;
@@ -41,7 +41,7 @@ pub(crate) fn next_note<S: Source + Drop>(stream: &mut StreamReader<S>) -> Note
     ensures leaves { Leaves S.left stream.old result stream.new }
     ensures name { stream.new.name ≡ stream.old.name }
 {
-    match stream.next_ready(MOST_MESSAGES) {
+    match stream.next_ready(MAX_MESSAGES) {
         Ok(delivery) if delivery.images().is_empty() => Note::End,
         Ok(delivery) => Note::Taken(Messages { delivery }),
         Err(_) => Note::Fault(name_of(stream)),

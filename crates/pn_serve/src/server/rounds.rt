@@ -1,7 +1,7 @@
 //! Rounds of what streams left.
 
 ghost use Rattle.std.specs.Prelude.{◌≡◌, ◌+◌, ◌<◌, ◌≤◌, [], ◌++◌, length, vec_len, vec_capacity, All, IfOk, IfErr};
-ghost use Rattle.pn_apply.specs.Limits.{most_workers};
+ghost use Rattle.pn_apply.specs.Limits.{max_workers};
 ghost use Rattle.pn_live.specs.LiveRegions.{tablets_in};
 ghost use Rattle.pn_serve.specs.Server.Faults.{of_round, IsOfReading};
 ghost use Rattle.pn_serve.specs.Server.Messages.{FitRound};
@@ -39,7 +39,7 @@ pub(crate) fn take_rounds<R: Threads + Wait + Sync>(
     workers: usize,
     feeds: &Feeds,
 ) -> Result<(), ServeFault>
-    requires workers { (1 ≤ workers) × (workers ≤ most_workers) }
+    requires workers { (1 ≤ workers) × (workers ≤ max_workers) }
     ensures fault { IfErr result IsOfReading }
     ensures same { tablets_in live.new ≡ tablets_in live.old }
 {
@@ -63,7 +63,7 @@ fn take_round<R: Threads + Wait + Sync>(
     workers: usize,
     feeds: &Feeds,
 ) -> Result<usize, ServeFault>
-    requires workers { (1 ≤ workers) × (workers ≤ most_workers) }
+    requires workers { (1 ≤ workers) × (workers ≤ max_workers) }
     ensures fault { IfErr result IsOfReading }
     ensures same { tablets_in live.new ≡ tablets_in live.old }
 {
@@ -136,7 +136,7 @@ fn take<R: Threads + Wait + Sync>(
     workers: usize,
     deliveries: Vec<Delivery>,
 ) -> Result<(Round, Front), RoundFault>
-    requires workers { (1 ≤ workers) × (workers ≤ most_workers) }
+    requires workers { (1 ≤ workers) × (workers ≤ max_workers) }
     requires fit { All FitRound deliveries.items }
     ensures same { tablets_in live.new ≡ tablets_in live.old }
 {

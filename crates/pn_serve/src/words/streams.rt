@@ -14,7 +14,7 @@ use pn_join::Name;
 use std::alloc::Global;
 
 /// The most streams that are read.
-const MOST_STREAMS: usize = 16;
+const MAX_STREAMS: usize = 16;
 
 /// The names of streams, each once, with the paths of their files.
 pub(crate) fn named_streams(
@@ -34,7 +34,7 @@ pub(crate) fn named_streams(
 fn streams_of(alloc: Global, words: &[&str]) -> Result<Vec<(Name, String)>, PlanFault>
     ensures { ShowsUnless PlanFault.Memory (λ streams. map stream_value streams.items) result (streams_in (texts words.now)) }
 {
-    if words.len() > MOST_STREAMS {
+    if words.len() > MAX_STREAMS {
         return Err(PlanFault::Stream);
     }
     let streams = each_of(alloc, words)?;

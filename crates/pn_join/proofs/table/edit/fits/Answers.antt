@@ -2,7 +2,7 @@ use Rattle.std.proofs.Common.{◌≡◌, ◌+◌, ◌<◌, ◌≤◌, [], length
 use Rattle.std.proofs.lemmas.List.{take_all}
 use Rattle.std.specs.List.{AllByRecursion}
 use Rattle.pn_join.specs.LeafEntries.{leaves_of}
-use Rattle.pn_join.specs.Leaves.{most_in_leaf}
+use Rattle.pn_join.specs.Leaves.{max_leaf_entries}
 use Rattle.pn_join.proofs.EditSteps.{fits_again, fits_anew, each_taken, up_taken}
 use Rattle.pn_join.proofs.RowFacts.{length-leaves}
 use Rattle.pn_join.proofs.table.edit.fits.Goals as goal
@@ -30,7 +30,7 @@ loop-edit-preserved g c =
     let k = c.loop-edit.edit-index in
     let lt : k < length edits = c.loop-edit-test.true in
     let within : e.leaf < length c.args.leaves.now = omega (arith, c.if-last-leaves.false) in
-    let room : length (get_or rows e.leaf []) + c.if-edit-last-2.more ≤ most_in_leaf = omega (arith, c.saturating_add.ensures, c.if-saturating_add-gt-MOST.false, ap length c.entries_at.ensures) in
+    let room : length (get_or rows e.leaf []) + c.if-edit-last-2.more ≤ max_leaf_entries = omega (arith, c.saturating_add.ensures, c.if-saturating_add-gt-MOST.false, ap length c.entries_at.ensures) in
     record {
       so_far = elim c.if-edit-last-2.branch [
         | then-edit-last-2 w ↦ fits_again cmp rows edits k e c.edit-item.is lt c.loop-edit.last c.loop-edit.more c.if-edit-last-2.more c.loop-edit.invariant.so_far (omega (arith, w.if-edit-last-2)) (omega (arith, w.more-is)) room
