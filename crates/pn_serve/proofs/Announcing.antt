@@ -6,12 +6,12 @@ use Rattle.pn_region.specs.Logged.{LoggedRegion}
 use Rattle.pn_serve.specs.declared.machine.announced.Announced.{Announced}
 use Rattle.pn_serve.specs.declared.machine.Begun.{Begun}
 use Rattle.pn_serve.specs.declared.machine.Begun.TheVariants.{Obeyed, Announces}
-use Rattle.pn_serve.specs.declared.reply.Reply.{Reply}
-use Rattle.pn_serve.specs.declared.reply.Reply.TheVariants.{Silent, Refused}
-use Rattle.pn_serve.specs.declared.refusal.Refusal.{Refusal}
-use Rattle.pn_serve.specs.declared.refusal.Refusal.TheVariants.{TooLong, NotJson, BadShape, ReadOnly, OutOfRange, Memory}
-use Rattle.pn_serve.specs.Command.Lines.{command_at, is_too_long}
-use Rattle.pn_serve.specs.Command.Meaning.{CommandValue, adopt, copy, deliver, get, lose, marks, notices, read, scan, tablets}
+use Rattle.pn_protocol.specs.declared.reply.Reply.{Reply}
+use Rattle.pn_protocol.specs.declared.reply.Reply.TheVariants.{Silent, Refused}
+use Rattle.pn_protocol.specs.declared.refusal.Refusal.{Refusal}
+use Rattle.pn_protocol.specs.declared.refusal.Refusal.TheVariants.{TooLong, NotJson, BadShape, ReadOnly, OutOfRange, Memory}
+use Rattle.pn_protocol.specs.Command.Lines.{command_at, is_too_long}
+use Rattle.pn_protocol.specs.Command.Meaning.{CommandValue, adopt, copy, deliver, get, lose, marks, notices, read, scan, tablets}
 use Rattle.pn_serve.specs.Machine.Announced.{unless_call, with_line}
 use Rattle.pn_serve.specs.Machine.Modes.{bytes_of, with_mode, IsBegun}
 use Rattle.pn_serve.specs.Machine.Outcomes.{Outcome, done, line, call, round, announced, Machine, Turn, waiting, refusing, silent}
@@ -20,7 +20,7 @@ use Rattle.pn_serve.specs.Machine.Turns.{obeying, turn_of, outcome_at, turn}
 use Rattle.pn_serve.specs.Machine.LastTurns.{obeying_last, last_of, end_turn}
 use Rattle.pn_serve.specs.Machine.Answers.{IsReadUnless, TurnedBy, AnswersBy, ConcludesBy, Obeys}
 use Rattle.pn_serve.specs.Machine.Ways.{ComesTo, IsJoined, IsAlone, BeginsTo, LastsBy}
-use Rattle.pn_serve.specs.Reply.Texts.{reply_text, is_refusal}
+use Rattle.pn_protocol.specs.Reply.Texts.{reply_text, is_refusal}
 use Rattle.pn_serve.proofs.Turns.{read_whole, read_always, turned_read, turned_as, turned_always, turned_said, as_it_goes, as_said, within}
 
 -- memory ran out where a call did, or in the next one

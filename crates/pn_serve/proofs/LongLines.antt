@@ -10,10 +10,10 @@ use Rattle.pn_line.proofs.LineLaws.{kept-short, length-kept_long}
 use Rattle.pn_json.specs.Answers.{◌>>=◌, fault_as}
 use Rattle.pn_record.specs.Reading.{value_at, reading}
 use Rattle.pn_record.specs.declared.fault.ImageFault.TheVariants as image
-use Rattle.pn_serve.specs.declared.refusal.Refusal.TheVariants.{TooLong}
-use Rattle.pn_serve.specs.declared.reply.Reply.{Reply}
-use Rattle.pn_serve.specs.Command.Lines.{is_too_long, command_at, refusal_of}
-use Rattle.pn_serve.specs.Command.Objects.{command_in}
+use Rattle.pn_protocol.specs.declared.refusal.Refusal.TheVariants.{TooLong}
+use Rattle.pn_protocol.specs.declared.reply.Reply.{Reply}
+use Rattle.pn_protocol.specs.Command.Lines.{is_too_long, command_at, refusal_of}
+use Rattle.pn_protocol.specs.Command.Objects.{command_in}
 use Rattle.pn_serve.specs.Machine.Announced.{unless_call, one_came}
 use Rattle.pn_serve.specs.Machine.Outcomes.{Outcome, done, Mode, idle, announced, Machine, logged, Turn, refusing}
 use Rattle.pn_serve.specs.Machine.Recovering.{adopting_text}

@@ -1,13 +1,11 @@
 -- What lookups of a session are answered.
 use Rattle.std.proofs.Common.{◌≡◌, ◌≢◌, ◌⊎◌, ◌<◌, ℕ, zero, suc, Bool, true, false, cond, List, [], ◌∷◌, length, nat_lt, inl, inr, refl, sym, ap, ◌∙◌, subst, arith}
-use Rattle.std.specs.Prelude.{Option, Vec, Result, Ok, Err, IfOk, IsTrue, MatchResult, ◌↔◌}
+use Rattle.std.specs.Prelude.{Option, Result, Ok, Err, IsTrue, ◌↔◌}
 use Rattle.std.specs.Option.{ok_or}
-use Rattle.std.specs.declared.alloc.Global.{Global}
 use Rattle.std.proofs.lemmas.Bool.{cases_lt}
 use Rattle.std.proofs.lemmas.Bool.Decides.{nat_tests}
 use Rattle.serde_json.specs.Data.{Data}
 use Rattle.pn_json.specs.Answers.{◌>>=◌, fault_as}
-use Rattle.pn_json.specs.Lines.{line_of}
 use Rattle.pn_line.specs.Line.{LineBufferValue, so_far, kept}
 use Rattle.pn_line.proofs.LineLaws.{kept-short, length-kept_long}
 use Rattle.pn_record.specs.Reading.{value_at, reading}
@@ -21,37 +19,43 @@ use Rattle.pn_scan.specs.Reads.{IsGet}
 use Rattle.pn_scan.specs.Visits.{IsScan}
 use Rattle.pn_scan.specs.declared.fault.ScanFault.{ScanFault}
 use Rattle.pn_live.specs.Readers.{LiveReaderValue, LooksLive}
-use Rattle.pn_serve.specs.declared.refusal.Refusal.{Refusal}
-use Rattle.pn_serve.specs.declared.refusal.Refusal.TheVariants.{TooLong, NotJson, BadShape, ReadOnly, OutOfRange, Memory}
-use Rattle.pn_serve.specs.declared.reply.Reply.{Reply}
-use Rattle.pn_serve.specs.declared.reply.Reply.TheVariants.{Text, Refused, Silent}
-use Rattle.pn_serve.specs.Command.Lines.{is_too_long, refusal_of}
-use Rattle.pn_serve.specs.Command.Meaning.{CommandValue}
-use Rattle.pn_serve.specs.Command.Sessions.{lookup_at, lookup_in}
+use Rattle.pn_protocol.specs.declared.refusal.Refusal.{Refusal}
+use Rattle.pn_protocol.specs.declared.refusal.Refusal.TheVariants.{TooLong, NotJson, BadShape, ReadOnly, OutOfRange, Memory}
+use Rattle.pn_protocol.specs.declared.reply.Reply.{Reply}
+use Rattle.pn_protocol.specs.declared.reply.Reply.TheVariants.{Adopted, Changed, Copied, Lost, Silent, Text, Refused, NotTaken}
+use Rattle.pn_protocol.specs.Command.Lines.{is_too_long, refusal_of}
+use Rattle.pn_protocol.specs.Command.Meaning.{CommandValue}
+use Rattle.pn_protocol.specs.Command.Sessions.{lookup_at, lookup_in}
+use Rattle.pn_protocol.specs.Reply.Answers.{ShowsFound}
 use Rattle.pn_serve.specs.Session.Lines.{Tells, LooksUp, AnswersLine, EndsLines, RefusesLine}
-use Rattle.pn_serve.specs.Session.Lookups.{Shows}
 
--- what was found is shown, or there was no memory for its text
-pub shows_found : {A E : Type 0} (show : A → Data) (found : A) (text : Result (Vec ℕ Global) E) (reply : Reply) → IfOk text (λ t. t.items ≡ line_of (show found))
-    → MatchResult text (λ t. reply ≡ Text t) (λ _. reply ≡ Refused Memory) → Shows show (Ok found) reply
-shows_found show found (Ok text) reply says shown = subst (λ (r : Reply). Shows show (Ok found) r) (sym shown) says
-shows_found show found (Err e) reply says shown = subst (λ (r : Reply). Shows show (Ok found) r) (sym shown) refl
+-- what was found, seen otherwise
+abbrev pub seen_as : {A B : Type 0} → (A → B) → Result A ScanFault → Result B ScanFault
+seen_as see (Ok found) = Ok (see found)
+seen_as see (Err fault) = Err fault
+
+pub shows_as : {A B : Type 0} (see : A → B) (show : B → Data) (found : Result A ScanFault) (reply : Reply) → ShowsFound (λ a. show (see a)) found reply → ShowsFound show (seen_as see found) reply
+shows_as see show (Ok found) (Text text) is = is
+shows_as see show (Ok found) (Adopted tablet) is = is
+shows_as see show (Ok found) (Changed count) is = is
+shows_as see show (Ok found) (Copied lines text) is = is
+shows_as see show (Ok found) (Lost tablet) is = is
+shows_as see show (Ok found) Silent is = is
+shows_as see show (Ok found) (Refused refusal) is = is
+shows_as see show (Ok found) (NotTaken text) is = is
+shows_as see show (Err fault) reply is = is
 
 -- the same get, by what its answer shows
-module _ {A : Type 0} (bounds : Bounds) (keys : List (List ℕ)) (old new : LiveReaderValue) (show : A → List (Option CellValue)) (seen : List Look) where
-  pub got_cells : (cells : A) → IsGet LooksLive bounds keys old new show (Ok cells) seen → IsGet LooksLive bounds keys old new (λ found. found) (Ok (show cells)) seen
-  got_cells cells is = record { looked = is.looked; found = is.found; order = is.order; only = is.only; answers = is.answers; whole = is.whole }
+pub got_as : {A : Type 0} (bounds : Bounds) (keys : List (List ℕ)) (old new : LiveReaderValue) (show : A → List (Option CellValue)) (found : Result A ScanFault) (seen : List Look)
+    → IsGet LooksLive bounds keys old new show found seen → IsGet LooksLive bounds keys old new (λ cells. cells) (seen_as show found) seen
+got_as bounds keys old new show (Ok cells) seen is = record { looked = is.looked; found = is.found; order = is.order; only = is.only; answers = is.answers; whole = is.whole }
+got_as bounds keys old new show (Err fault) seen is = record { looked = is.looked; found = is.found; order = is.order; only = is.only; answers = is.answers; whole = is.whole }
 
-  pub got_none : (fault : ScanFault) → IsGet LooksLive bounds keys old new show (Err fault) seen → IsGet LooksLive bounds keys old new (λ found. found) (Err fault) seen
-  got_none fault is = record { looked = is.looked; found = is.found; order = is.order; only = is.only; answers = is.answers; whole = is.whole }
-
--- and the same scan
-module _ {A : Type 0} (bounds : Bounds) (query : QueryValue) (old new : LiveReaderValue) (show : A → PageValue) (seen : List Look) where
-  pub scanned_page : (page : A) → IsScan LooksLive bounds query old new show (Ok page) (first_page query) seen → IsScan LooksLive bounds query old new (λ found. found) (Ok (show page)) (first_page query) seen
-  scanned_page page is = record { looked = is.looked; visit = is.visit; answers = is.answers; whole = is.whole }
-
-  pub scanned_none : (fault : ScanFault) → IsScan LooksLive bounds query old new show (Err fault) (first_page query) seen → IsScan LooksLive bounds query old new (λ found. found) (Err fault) (first_page query) seen
-  scanned_none fault is = record { looked = is.looked; visit = is.visit; answers = is.answers; whole = is.whole }
+-- the same scan, by what its answer shows
+pub scanned_as : {A : Type 0} (bounds : Bounds) (query : QueryValue) (old new : LiveReaderValue) (show : A → PageValue) (found : Result A ScanFault) (seen : List Look)
+    → IsScan LooksLive bounds query old new show found (first_page query) seen → IsScan LooksLive bounds query old new (λ page. page) (seen_as show found) (first_page query) seen
+scanned_as bounds query old new show (Ok page) seen is = record { looked = is.looked; visit = is.visit; answers = is.answers; whole = is.whole }
+scanned_as bounds query old new show (Err fault) seen is = record { looked = is.looked; visit = is.visit; answers = is.answers; whole = is.whole }
 
 -- the line says this command
 pub answers_said : (old new : LiveReaderValue) (line : List ℕ) (command : CommandValue) (reply : Reply) → lookup_at line ≡ Ok command → LooksUp old command new reply → AnswersLine old line new reply

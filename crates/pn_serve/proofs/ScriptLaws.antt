@@ -26,18 +26,18 @@ use Rattle.pn_scan.specs.Shown.{shown_rows}
 use Rattle.pn_scan.specs.declared.fault.ScanFault.{ScanFault}
 use Rattle.serde_json.specs.Data.{Data}
 use Rattle.pn_json.specs.Lines.{line_of}
-use Rattle.pn_serve.specs.declared.refusal.Refusal.{Refusal}
-use Rattle.pn_serve.specs.declared.refusal.Refusal.TheVariants.{Memory}
-use Rattle.pn_serve.specs.Command.Meaning.{CommandValue, adopt, copy, deliver, get, lose, marks, notices, read, scan, tablets}
-use Rattle.pn_serve.specs.Command.Lines.{command_at}
-use Rattle.pn_serve.specs.Command.Lookups.{AsksForRecords}
+use Rattle.pn_protocol.specs.declared.refusal.Refusal.{Refusal}
+use Rattle.pn_protocol.specs.declared.refusal.Refusal.TheVariants.{Memory}
+use Rattle.pn_protocol.specs.Command.Meaning.{CommandValue, adopt, copy, deliver, get, lose, marks, notices, read, scan, tablets}
+use Rattle.pn_protocol.specs.Command.Lines.{command_at}
+use Rattle.pn_protocol.specs.Command.Lookups.{AsksForRecords}
 use Rattle.pn_serve.specs.Machine.Doing.{found_data, looking}
 use Rattle.pn_serve.specs.Machine.Outcomes.{Outcome, done, line, call, round as in_part, Mode, idle, Machine, serving}
 use Rattle.pn_serve.specs.Machine.Turns.{turn_of, outcome_at, turn_in, turn}
 use Rattle.pn_serve.specs.Machine.LastTurns.{last_of, end_in, end_turn}
-use Rattle.pn_serve.specs.Reply.Record.{read_data, get_data}
-use Rattle.pn_serve.specs.Reply.Scan.{scan_data}
-use Rattle.pn_serve.specs.Reply.Short.{refusal_data}
+use Rattle.pn_protocol.specs.Reply.Record.{read_data, get_data}
+use Rattle.pn_protocol.specs.Reply.Scan.{scan_data}
+use Rattle.pn_protocol.specs.Reply.Short.{refusal_data}
 use Rattle.pn_serve.specs.Script.Events.{happened, happened_in, happened_from}
 use Rattle.pn_serve.specs.Script.Taken.{taken, NothingLost, AllHonest, Settled}
 use Rattle.pn_serve.specs.Script.Told.{Told, machine_of, records_of, images_of, TookTheSame, AwaitsCommand, reply_of, last_reply, AreAlike, IsNoOlder}

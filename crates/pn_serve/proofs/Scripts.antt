@@ -6,7 +6,7 @@ use Rattle.pn_line.specs.LinesRead.{PartRead}
 use Rattle.pn_line.specs.Sent.{AppendsPrefix}
 use Rattle.pn_line.proofs.SentLaws.{AppendsPrefix-more}
 use Rattle.pn_region.specs.Regions.{RegionValue}
-use Rattle.pn_serve.specs.declared.reply.Reply.{Reply}
+use Rattle.pn_protocol.specs.declared.reply.Reply.{Reply}
 use Rattle.pn_serve.specs.declared.script.Counts.{Counts}
 use Rattle.pn_serve.specs.declared.script.RunFault.{RunFault}
 use Rattle.pn_serve.specs.declared.script.RunFault.TheVariants.{Read, Write, TooManyTurns, Memory}
@@ -20,7 +20,7 @@ use Rattle.pn_serve.specs.Machine.Outcomes.{Outcome, done, Machine, serving}
 use Rattle.pn_serve.specs.Machine.Turns.{turn}
 use Rattle.pn_serve.specs.Machine.LastTurns.{end_turn}
 use Rattle.pn_serve.specs.Machine.Answers.{Answers, Concludes}
-use Rattle.pn_serve.specs.Reply.Texts.{reply_text, is_refusal}
+use Rattle.pn_protocol.specs.Reply.Texts.{reply_text, is_refusal}
 use Rattle.pn_serve.specs.Runs.Starts.{Begun}
 use Rattle.pn_serve.specs.Runs.Ends.{Ended, Broken, Cut, Exceeded, Ends}
 use Rattle.pn_serve.specs.Runs.Bounds.{lines_within}

@@ -13,13 +13,13 @@ use Rattle.pn_line.proofs.LinesReadLaws.{LinesRead-none, LinesRead-line, LinesRe
 use Rattle.pn_line.proofs.SentLaws.{Sends-none, Sends-trans, Sends-all, Sends-flushed}
 use Rattle.pn_line.proofs.TextLaws.{lines_of-text, lines_of-nil, lines_of-last}
 use Rattle.pn_serve.specs.declared.script.Counts.{Counts}
-use Rattle.pn_serve.specs.declared.reply.Reply.{Reply}
+use Rattle.pn_protocol.specs.declared.reply.Reply.{Reply}
 use Rattle.pn_serve.specs.Lines.Ends.{Ended}
 use Rattle.pn_serve.specs.Lines.States.{LinesValue, new_lines, Start}
 use Rattle.pn_serve.specs.Lines.Replies.{texts_of, refusals_of}
 use Rattle.pn_serve.specs.Lines.Served.{IsShort, AllAnswer, AllAnswered, Between, Served}
 use Rattle.pn_serve.specs.Lines.Answered.{Answered, Closed}
-use Rattle.pn_serve.specs.Reply.Texts.{reply_text, is_refusal}
+use Rattle.pn_protocol.specs.Reply.Texts.{reply_text, is_refusal}
 use Rattle.pn_serve.specs.Script.Parts.{parts_of}
 use Rattle.pn_serve.specs.Script.Written.{one_if}
 use Rattle.pn_serve.proofs.Parts.{parts-text, parts-whole}

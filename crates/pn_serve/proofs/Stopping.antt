@@ -20,9 +20,9 @@ use Rattle.pn_serve.specs.Lines.Replies.{texts_of}
 use Rattle.pn_serve.specs.Lines.Served.{AllAnswer, AllAnswered, Between}
 use Rattle.pn_serve.specs.Lines.Answered.{AnsweredInPart, Closed}
 use Rattle.pn_serve.specs.Lines.Turning.{TurnsTo}
-use Rattle.pn_serve.specs.Reply.Texts.{reply_text}
+use Rattle.pn_protocol.specs.Reply.Texts.{reply_text}
 use Rattle.pn_serve.specs.Runs.Bounds.{IsAtBound, lines_within}
-use Rattle.pn_serve.specs.declared.reply.Reply.{Reply}
+use Rattle.pn_protocol.specs.declared.reply.Reply.{Reply}
 use Rattle.pn_serve.specs.declared.script.Counts.{Counts}
 use Rattle.pn_serve.specs.declared.script.RunFault.{RunFault}
 use Rattle.pn_serve.specs.declared.script.RunFault.TheVariants.{Write}

@@ -1,7 +1,5 @@
-pub mod Command
 pub mod Lines
 pub mod Machine
-pub mod Reply
 pub mod Runs
 pub mod Script
 pub mod Server

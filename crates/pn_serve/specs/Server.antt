@@ -4,4 +4,3 @@ pub mod Messages
 pub mod Notes
 pub mod Sessions
 pub mod Whole
-pub mod Written

@@ -2,7 +2,7 @@
 
 ghost use Rattle.std.specs.Prelude.{◌≡◌, ◌≤◌};
 ghost use Rattle.pn_apply.specs.Limits.{max_workers};
-ghost use Rattle.pn_serve.specs.Command.Meaning.{command_value, deliver as asking};
+ghost use Rattle.pn_protocol.specs.Command.Meaning.{command_value, deliver as asking};
 ghost use Rattle.pn_serve.specs.Machine.Modes.{IsBegun, with_mode};
 ghost use Rattle.pn_serve.specs.Machine.Outcomes.{waiting};
 ghost use Rattle.pn_serve.specs.Machine.Answers.{AnswersBy, ConcludesBy, Obeys};
@@ -16,13 +16,11 @@ pub(crate) mod serving;
 pub(crate) mod tablets;
 
 use crate::machine::announced::{Announced, adopt, finish, go_on};
-use crate::machine::lookups::{get, notices, read, scan, shown};
+use crate::machine::lookups::{get, notices, read, scan};
 use crate::machine::reading::Reads;
 use crate::machine::tablets::{copy, lose};
-use crate::reply::marks::marks_reply;
-use crate::reply::tablets::tablets_reply;
-use crate::{Command, Refusal, Reply, fault_reply};
 use pn_apply::Open;
+use pn_protocol::{Command, Refusal, Reply, fault_reply, marks_reply, shown, tablets_reply};
 use pn_region::{Region, RoundFault};
 use pn_stream::Delivery;
 use std::alloc::Global;

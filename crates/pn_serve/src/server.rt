@@ -9,7 +9,7 @@ ghost use Rattle.pn_live.specs.LiveRegions.{tablets_in};
 ghost use Rattle.pn_serve.specs.Server.Faults.{of_end};
 ghost use Rattle.pn_serve.specs.Server.Sessions.{AllRead};
 ghost use Rattle.pn_serve.specs.Server.Whole.{AreWhole};
-ghost use Rattle.pn_serve.specs.Server.Written.{served_line};
+ghost use Rattle.pn_protocol.specs.Reply.Short.{served_line};
 
 mod bell;
 mod fault;
@@ -21,7 +21,6 @@ mod sessions;
 mod streams;
 
 use crate::Settings;
-use crate::reply::short::served_reply;
 use crate::server::rounds::take_rounds;
 use crate::server::sessions::{Begun, begin_sessions, end_sessions};
 use crate::server::streams::{Feeds, Reading, begin_reading, end_reading};
@@ -29,6 +28,7 @@ pub use fault::ServeFault;
 use pn_join::NoMemory;
 use pn_line::{Sink, Source, WriteFault, write_all_of};
 use pn_live::{LiveReader, LiveRegion, OpenFault};
+use pn_protocol::served_reply;
 use pn_region::Region;
 use pn_stream::StreamReader;
 use pn_tablet::Layout;

@@ -11,9 +11,10 @@ use crate::machine::serving::Serves;
 use crate::script::answer_all;
 use crate::script::turns::Lines;
 use crate::sessions::lookups::answer;
-use crate::{Counts, Reply, RunFault};
+use crate::{Counts, RunFault};
 use pn_line::{LineBuffer, Sink, Source};
 use pn_live::LiveReader;
+use pn_protocol::Reply;
 use std::alloc::Global;
 
 /// Answers the lines of a session until its end, each by one reply, through a reader of a live region, and writes each

@@ -2,14 +2,14 @@
 use Rattle.std.specs.Prelude.{◌≡◌, ℕ, ◌+◌, List, [], ◌++◌, length, Option, Some, IfSome, Result, Ok, Err}
 use Rattle.std.specs.Io.KnownBytes.{Appends, Keeps}
 use Rattle.pn_line.specs.Text.{lines_of}
-use Rattle.pn_serve.specs.declared.reply.Reply.{Reply}
+use Rattle.pn_protocol.specs.declared.reply.Reply.{Reply}
 use Rattle.pn_serve.specs.declared.script.Counts.{Counts}
 use Rattle.pn_serve.specs.declared.script.RunFault.{RunFault}
 use Rattle.pn_serve.specs.declared.script.RunFault.TheVariants.{Read, Write, TooManyTurns, Memory}
 use Rattle.pn_serve.specs.Lines.States.{Start}
 use Rattle.pn_serve.specs.Lines.Served.{AllAnswer}
 use Rattle.pn_serve.specs.Lines.Replies.{texts_of, refusals_of}
-use Rattle.pn_serve.specs.Reply.Texts.{reply_text, is_refusal}
+use Rattle.pn_protocol.specs.Reply.Texts.{reply_text, is_refusal}
 use Rattle.pn_serve.specs.Runs.Bounds.{lines_within}
 use Rattle.pn_serve.specs.Script.Parts.{parts_of}
 use Rattle.pn_serve.specs.Script.Written.{one_if}

@@ -2,7 +2,7 @@
 use Rattle.std.specs.Prelude.{◌≡◌, ◌<◌, ℕ, List, [], ◌∷◌, length, All, Option, IfSome}
 use Rattle.pn_line.specs.LinesRead.{LinesRead}
 use Rattle.pn_line.specs.Sent.{Sends}
-use Rattle.pn_serve.specs.declared.reply.Reply.{Reply}
+use Rattle.pn_protocol.specs.declared.reply.Reply.{Reply}
 use Rattle.pn_serve.specs.Lines.States.{LinesValue, Start}
 use Rattle.pn_serve.specs.Lines.Replies.{texts_of, refusals_of}
 

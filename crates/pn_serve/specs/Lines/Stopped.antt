@@ -4,11 +4,11 @@ use Rattle.std.specs.Io.KnownBytes.{Appends}
 use Rattle.pn_line.specs.LinesRead.{PartRead}
 use Rattle.pn_line.specs.Sent.{AppendsPrefix}
 use Rattle.pn_line.specs.Text.{lines_of}
-use Rattle.pn_serve.specs.declared.reply.Reply.{Reply}
+use Rattle.pn_protocol.specs.declared.reply.Reply.{Reply}
 use Rattle.pn_serve.specs.Lines.States.{Start}
 use Rattle.pn_serve.specs.Lines.Served.{AllAnswer}
 use Rattle.pn_serve.specs.Lines.Replies.{texts_of}
-use Rattle.pn_serve.specs.Reply.Texts.{reply_text}
+use Rattle.pn_protocol.specs.Reply.Texts.{reply_text}
 use Rattle.pn_serve.specs.Runs.Bounds.{lines_within, IsAtBound}
 
 -- by what a machine makes of lines, and of the end of the input

@@ -1,6 +1,6 @@
 -- What the turn of a line comes to.
 use Rattle.std.specs.Prelude.{ℕ, List, Option, Result, Ok, Err}
-use Rattle.pn_serve.specs.declared.reply.Reply.{Reply}
+use Rattle.pn_protocol.specs.declared.reply.Reply.{Reply}
 use Rattle.pn_serve.specs.declared.script.RunFault.{RunFault}
 use Rattle.pn_serve.specs.declared.script.turns.Next.{Next}
 use Rattle.pn_serve.specs.declared.script.turns.Next.TheVariants.{Line, End}

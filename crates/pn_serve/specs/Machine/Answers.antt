@@ -1,9 +1,9 @@
 -- What the program made of a line, of a command, and of the end of the input: one turn, by one outcome.
 use Rattle.std.specs.Prelude.{◌≡◌, ℕ, List}
-use Rattle.pn_serve.specs.declared.reply.Reply.{Reply}
-use Rattle.pn_serve.specs.Command.Meaning.{CommandValue}
+use Rattle.pn_protocol.specs.declared.reply.Reply.{Reply}
+use Rattle.pn_protocol.specs.Command.Meaning.{CommandValue}
 use Rattle.pn_serve.specs.Machine.Outcomes.{Outcome, line, Machine, Turn}
-use Rattle.pn_serve.specs.Reply.Texts.{reply_text, is_refusal}
+use Rattle.pn_protocol.specs.Reply.Texts.{reply_text, is_refusal}
 use Rattle.pn_serve.specs.Machine.Turns.{obeying, turn}
 use Rattle.pn_serve.specs.Machine.LastTurns.{end_turn}
 

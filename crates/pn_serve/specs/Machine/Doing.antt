@@ -9,17 +9,17 @@ use Rattle.pn_region.specs.Rounds.{changed}
 use Rattle.pn_region.specs.Rounds.{round as taken_round}
 use Rattle.pn_region.specs.declared.fault.RoundFault.{RoundFault}
 use Rattle.pn_scan.specs.declared.fault.ScanFault.{ScanFault}
-use Rattle.pn_serve.specs.Command.Meaning.{CommandValue, adopt, copy, deliver, get, lose, marks, notices, read, scan, tablets}
+use Rattle.pn_protocol.specs.Command.Meaning.{CommandValue, adopt, copy, deliver, get, lose, marks, notices, read, scan, tablets}
 use Rattle.pn_serve.specs.Machine.Outcomes.{announced, Machine, Turn, silent, showing}
 use Rattle.pn_serve.specs.Machine.Recovering.{losing_it, copying}
-use Rattle.pn_serve.specs.Reply.Faults.{fault_data}
-use Rattle.pn_serve.specs.Reply.Lookups.{refused_data}
-use Rattle.pn_serve.specs.Reply.Marks.{shown_marks}
-use Rattle.pn_serve.specs.Reply.Notices.{since_data}
-use Rattle.pn_serve.specs.Reply.Record.{read_data, get_data}
-use Rattle.pn_serve.specs.Reply.Scan.{scan_data}
-use Rattle.pn_serve.specs.Reply.Short.{changed_data}
-use Rattle.pn_serve.specs.Reply.Tablets.{tablets_data}
+use Rattle.pn_protocol.specs.Reply.Faults.{fault_data}
+use Rattle.pn_protocol.specs.Reply.Lookups.{refused_data}
+use Rattle.pn_protocol.specs.Reply.Marks.{shown_marks}
+use Rattle.pn_protocol.specs.Reply.Notices.{since_data}
+use Rattle.pn_protocol.specs.Reply.Record.{read_data, get_data}
+use Rattle.pn_protocol.specs.Reply.Scan.{scan_data}
+use Rattle.pn_protocol.specs.Reply.Short.{changed_data}
+use Rattle.pn_protocol.specs.Reply.Tablets.{tablets_data}
 
 -- what a delivery does where its round goes like this
 abbrev pub delivering : Machine → Result RegionValue RoundFault → Turn

@@ -1,9 +1,9 @@
 -- What the end of the input does, and a last line without newline.
 use Rattle.std.specs.Prelude.{ℕ, List, [], ◌∷◌, Some, Result, Ok, Err}
-use Rattle.pn_serve.specs.declared.refusal.Refusal.{Refusal}
-use Rattle.pn_serve.specs.declared.refusal.Refusal.TheVariants.{Memory}
-use Rattle.pn_serve.specs.Command.Meaning.{CommandValue, adopt}
-use Rattle.pn_serve.specs.Command.Lines.{command_at}
+use Rattle.pn_protocol.specs.declared.refusal.Refusal.{Refusal}
+use Rattle.pn_protocol.specs.declared.refusal.Refusal.TheVariants.{Memory}
+use Rattle.pn_protocol.specs.Command.Meaning.{CommandValue, adopt}
+use Rattle.pn_protocol.specs.Command.Lines.{command_at}
 use Rattle.pn_serve.specs.Machine.Announced.{unless_call, announced_end}
 use Rattle.pn_serve.specs.Machine.Outcomes.{Outcome, line, Mode, idle, announced, Machine, Turn, logged, refusing, silent}
 use Rattle.pn_serve.specs.Machine.Recovering.{adopting_text}

@@ -5,8 +5,8 @@ use Rattle.pn_region.specs.Logged.{LoggedRegion}
 use Rattle.pn_serve.specs.declared.machine.announced.Announced.{Announced}
 use Rattle.pn_serve.specs.declared.machine.Begun.{Begun}
 use Rattle.pn_serve.specs.declared.machine.Begun.TheVariants.{Obeyed, Announces}
-use Rattle.pn_serve.specs.declared.reply.Reply.{Reply}
-use Rattle.pn_serve.specs.declared.reply.Reply.TheVariants.{Silent}
+use Rattle.pn_protocol.specs.declared.reply.Reply.{Reply}
+use Rattle.pn_protocol.specs.declared.reply.Reply.TheVariants.{Silent}
 use Rattle.pn_serve.specs.Machine.Outcomes.{Mode, idle, announced, Machine}
 
 -- the bytes of a text, if there is one

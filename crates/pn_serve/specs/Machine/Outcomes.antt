@@ -3,9 +3,9 @@ use Rattle.std.specs.Prelude.{ℕ, Bool, true, false, List, [], Option}
 use Rattle.pn_region.specs.Logged.{LoggedRegion}
 use Rattle.pn_region.specs.Regions.{RegionValue}
 use Rattle.pn_region.specs.declared.entry.Entry.{Entry}
-use Rattle.pn_serve.specs.declared.refusal.Refusal.{Refusal}
+use Rattle.pn_protocol.specs.declared.refusal.Refusal.{Refusal}
 use Rattle.pn_json.specs.Lines.{line_of}
-use Rattle.pn_serve.specs.Reply.Short.{refusal_data}
+use Rattle.pn_protocol.specs.Reply.Short.{refusal_data}
 
 -- how a line went: as it says; out of memory, so that the lines that it announced, if any, are commands of
 -- their own (`line`), or still belong to it (`call`); or as a round that ran out of memory after the tablets

@@ -12,11 +12,11 @@ use Rattle.pn_region.specs.Recovery.{losing, adopting}
 use Rattle.pn_region.specs.Regions.{RegionValue}
 use Rattle.pn_region.specs.declared.fault.AdoptFault.{AdoptFault}
 use Rattle.pn_json.specs.Lines.{line_of}
-use Rattle.pn_serve.specs.declared.refusal.Part.TheVariants.{Tablet}
-use Rattle.pn_serve.specs.declared.refusal.Refusal.TheVariants.{OutOfRange, Memory}
+use Rattle.pn_protocol.specs.declared.refusal.Part.TheVariants.{Tablet}
+use Rattle.pn_protocol.specs.declared.refusal.Refusal.TheVariants.{OutOfRange, Memory}
 use Rattle.pn_serve.specs.Machine.Outcomes.{Machine, Turn, waiting, refusing, showing}
-use Rattle.pn_serve.specs.Reply.Recovery.{copy_reply, no_copy_data, bad_text_data, not_adopted_data}
-use Rattle.pn_serve.specs.Reply.Short.{lost_data, adopted_data}
+use Rattle.pn_protocol.specs.Reply.Recovery.{copy_reply, no_copy_data, bad_text_data, not_adopted_data}
+use Rattle.pn_protocol.specs.Reply.Short.{lost_data, adopted_data}
 
 -- what is done to a tablet, where there is one of this number
 abbrev pub at_tablet : Machine → Option TabletStateValue → (TabletStateValue → Turn) → Turn

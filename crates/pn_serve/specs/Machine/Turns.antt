@@ -1,10 +1,10 @@
 -- What a line does to what is served, and its reply.
 use Rattle.std.specs.Prelude.{ℕ, if◌then◌else◌, List, None, Result, Ok, Err}
 use Rattle.pn_region.specs.Logged.{breaking}
-use Rattle.pn_serve.specs.declared.refusal.Refusal.{Refusal}
-use Rattle.pn_serve.specs.declared.refusal.Refusal.TheVariants.{Memory}
-use Rattle.pn_serve.specs.Command.Meaning.{CommandValue, adopt, deliver, lose}
-use Rattle.pn_serve.specs.Command.Lines.{command_at, is_too_long}
+use Rattle.pn_protocol.specs.declared.refusal.Refusal.{Refusal}
+use Rattle.pn_protocol.specs.declared.refusal.Refusal.TheVariants.{Memory}
+use Rattle.pn_protocol.specs.Command.Meaning.{CommandValue, adopt, deliver, lose}
+use Rattle.pn_protocol.specs.Command.Lines.{command_at, is_too_long}
 use Rattle.pn_serve.specs.Machine.Announced.{announced_turn}
 use Rattle.pn_serve.specs.Machine.Doing.{doing}
 use Rattle.pn_serve.specs.Machine.Outcomes.{Outcome, done, line, call, round, Mode, idle, announced, Machine, Turn, refusing, silent}

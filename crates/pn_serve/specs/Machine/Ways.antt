@@ -1,30 +1,19 @@
 -- What parts of a turn come to: as they say, or out of memory.
-use Rattle.std.specs.Prelude.{◌≡◌, ◌⊎◌, ◌==◌, Bool, ℕ, List, Option}
-use Rattle.pn_tablet.specs.Copies.{TabletCopyValue}
+use Rattle.std.specs.Prelude.{◌≡◌, ◌⊎◌, ℕ, List, Option}
 use Rattle.pn_region.specs.Logged.{LoggedRegion}
-use Rattle.pn_serve.specs.declared.reply.Reply.{Reply}
-use Rattle.pn_serve.specs.declared.reply.Reply.TheVariants.{Copied, Refused}
-use Rattle.pn_serve.specs.declared.refusal.Refusal.TheVariants.{Memory}
+use Rattle.pn_protocol.specs.declared.reply.Reply.{Reply}
+use Rattle.pn_protocol.specs.declared.reply.Reply.TheVariants.{Refused}
+use Rattle.pn_protocol.specs.declared.refusal.Refusal.TheVariants.{Memory}
 use Rattle.pn_serve.specs.Machine.Announced.{unless_call, with_line}
 use Rattle.pn_serve.specs.Machine.Outcomes.{Outcome, Turn, waiting}
-use Rattle.pn_serve.specs.Command.Lines.{command_at}
-use Rattle.pn_serve.specs.Command.Meaning.{CommandValue, adopt}
+use Rattle.pn_protocol.specs.Command.Lines.{command_at}
+use Rattle.pn_protocol.specs.Command.Meaning.{CommandValue, adopt}
 use Rattle.pn_serve.specs.declared.machine.Begun.{Begun}
 use Rattle.pn_serve.specs.declared.machine.Begun.TheVariants.{Obeyed, Announces}
 use Rattle.pn_serve.specs.Machine.LastTurns.{last_of}
 use Rattle.pn_serve.specs.Machine.Turns.{outcome_at}
 use Rattle.pn_serve.specs.Machine.Answers.{TurnedBy, Obeys}
-use Rattle.pn_serve.specs.Reply.Recovery.{copy_reply}
-use Rattle.pn_serve.specs.Reply.Texts.{reply_text, is_refusal}
-
--- the byte that ends a line
-abbrev pub is_newline : ℕ → Bool
-is_newline b = b == 10
-
--- the reply is the copy, or that memory ran out
-abbrev pub ShowsCopy : TabletCopyValue → Reply → Type 0
-ShowsCopy copy (Copied lines text) = reply_text (Copied lines text) ≡ copy_reply copy
-ShowsCopy copy reply = reply ≡ Refused Memory
+use Rattle.pn_protocol.specs.Reply.Texts.{reply_text, is_refusal}
 
 -- a turn of a region comes to this region and this reply, or memory ran out and nothing changed
 abbrev pub ComesTo : Turn → LoggedRegion → LoggedRegion → Reply → Type 0

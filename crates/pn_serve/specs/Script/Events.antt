@@ -14,9 +14,9 @@ use Rattle.pn_region.specs.Marking.{new_marks}
 use Rattle.pn_region.specs.Recovery.{adopting}
 use Rattle.pn_region.specs.Regions.{RegionValue}
 use Rattle.pn_region.specs.declared.fault.RoundFault.{RoundFault}
-use Rattle.pn_serve.specs.declared.refusal.Refusal.{Refusal}
-use Rattle.pn_serve.specs.Command.Lines.{command_at}
-use Rattle.pn_serve.specs.Command.Meaning.{CommandValue, deliver, lose}
+use Rattle.pn_protocol.specs.declared.refusal.Refusal.{Refusal}
+use Rattle.pn_protocol.specs.Command.Lines.{command_at}
+use Rattle.pn_protocol.specs.Command.Meaning.{CommandValue, deliver, lose}
 use Rattle.pn_serve.specs.Machine.Announced.{unless_call, with_line}
 use Rattle.pn_serve.specs.Machine.Outcomes.{Outcome, line, round, Mode, idle, announced, Machine, Turn, logged, serving}
 use Rattle.pn_serve.specs.Machine.Recovering.{adopted}

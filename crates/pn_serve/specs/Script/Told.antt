@@ -11,11 +11,11 @@ use Rattle.pn_tablet.specs.Layouts.{Bounds, IsLayout}
 use Rattle.pn_region.specs.Held.{HoldsStill}
 use Rattle.pn_region.specs.Regions.{RegionValue, new_region, all_cells}
 use Rattle.pn_region.specs.Serving.{ServesAt}
-use Rattle.pn_serve.specs.declared.refusal.Refusal.TheVariants.{Memory}
+use Rattle.pn_protocol.specs.declared.refusal.Refusal.TheVariants.{Memory}
 use Rattle.pn_serve.specs.Machine.Outcomes.{Outcome, Machine, serving}
 use Rattle.pn_serve.specs.Machine.Turns.{turn}
 use Rattle.pn_serve.specs.Machine.LastTurns.{end_turn}
-use Rattle.pn_serve.specs.Reply.Short.{refusal_data}
+use Rattle.pn_protocol.specs.Reply.Short.{refusal_data}
 use Rattle.pn_serve.specs.Script.Taken.{taken, Settled, Waits}
 use Rattle.pn_serve.specs.Script.Written.{machine_after}
 

@@ -10,14 +10,12 @@ ghost use Rattle.pn_serve.specs.Machine.Outcomes.{announced as announced_mode, w
 ghost use Rattle.pn_serve.specs.Machine.Recovering.{adopted, adopting_text};
 ghost use Rattle.pn_serve.specs.Machine.Answers.{AnswersBy, ConcludesBy};
 ghost use Rattle.pn_serve.specs.Machine.Ways.{ComesTo, IsJoined};
-ghost use Rattle.pn_serve.specs.Machine.Refusals.{TellsBadText, TellsNotAdopted};
 
 use crate::machine::Done;
-use crate::machine::lookups::not_taken;
-use crate::{Refusal, Reply, bad_text_reply, not_adopted_reply};
 use pn_join::NoMemory;
 use pn_line::MAX_KEPT_BYTES;
-use pn_region::{AdoptFault, Region};
+use pn_protocol::{Refusal, Reply, bad_text, not_adopted};
+use pn_region::Region;
 use pn_tablet::{CopyTextFault, TabletCopy, read_copy};
 use std::alloc::Global;
 
@@ -89,7 +87,7 @@ pub(crate) fn adopt(alloc: Global, region: &mut Region, text: Option<Vec<u8>>) -
     };
     match read_text(alloc, text) {
         Ok(copy) => adopt_copy(alloc, region, copy),
-        Err(fault) => bad_text(alloc, fault),
+        Err(fault) => bad_text(alloc, &fault),
     }
 }
 
@@ -107,24 +105,4 @@ fn adopt_copy(alloc: Global, region: &mut Region, copy: TabletCopy) -> Reply
         Ok(tablet) => Reply::Adopted(tablet as u64),
         Err(fault) => not_adopted(alloc, &fault),
     }
-}
-
-// Why a text is no copy, where there was memory to say it.
-fn bad_text(alloc: Global, fault: CopyTextFault) -> Reply
-    ensures { TellsBadText fault result }
-{
-    if let CopyTextFault::Memory = fault {
-        return Reply::Refused(Refusal::Memory);
-    }
-    not_taken(bad_text_reply(alloc, &fault))
-}
-
-// Why a copy was not adopted, where there was memory to say it.
-fn not_adopted(alloc: Global, fault: &AdoptFault) -> Reply
-    ensures { TellsNotAdopted fault.now result }
-{
-    if let AdoptFault::Memory = fault {
-        return Reply::Refused(Refusal::Memory);
-    }
-    not_taken(not_adopted_reply(alloc, fault))
 }

@@ -2,10 +2,10 @@
 
 ghost use Rattle.std.specs.Prelude.{◌≡◌, false, IsErrOf};
 ghost use Rattle.pn_json.specs.Answers.{ShowsUnless};
-ghost use Rattle.pn_serve.specs.Command.Lines.{command_at, is_too_long};
-ghost use Rattle.pn_serve.specs.Command.Meaning.{command_value};
+ghost use Rattle.pn_protocol.specs.Command.Lines.{command_at, is_too_long};
+ghost use Rattle.pn_protocol.specs.Command.Meaning.{command_value};
 
-use crate::{Command, Refusal};
+use pn_protocol::{Command, Refusal};
 use std::alloc::Global;
 
 /// Reads lines as commands.
@@ -27,6 +27,6 @@ impl Reads for Json {
     ghost may_run_out = { Unit {0} };
 
     fn command_of(alloc: Global, line: &[u8]) -> Result<Command, Refusal> {
-        crate::command_of(alloc, line)
+        pn_protocol::command_of(alloc, line)
     }
 }

@@ -4,13 +4,14 @@ ghost use Rattle.std.specs.Prelude.{◌≡◌, IfOk};
 ghost use Rattle.pn_region.specs.Regions.{new_region};
 ghost use Rattle.pn_serve.specs.Machine.Outcomes.{serving};
 
+use crate::Settings;
 use crate::machine::announced::Announced;
 use crate::machine::reading::Json;
 use crate::machine::serving::Serves;
 use crate::machine::{answer, end};
-use crate::{Reply, Settings};
 use pn_join::NoMemory;
 use pn_line::LineBuffer;
+use pn_protocol::Reply;
 use pn_region::Region;
 use std::alloc::Global;
 use std::marker::Model;

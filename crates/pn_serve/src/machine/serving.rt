@@ -4,13 +4,13 @@ ghost use Rattle.std.specs.Prelude.{◌≡◌, ℕ, List};
 ghost use Rattle.pn_line.specs.Line.{so_far};
 ghost use Rattle.pn_live.specs.Readers.{Tablets};
 
-use crate::Reply;
 use pn_line::LineBuffer;
+use pn_protocol::Reply;
 use std::alloc::Global;
 
 /// Answers lines one after another.
 pub(crate) trait Serves {
-    ghost use Rattle.pn_serve.specs.declared.reply.Reply.{Reply};
+    ghost use Rattle.pn_protocol.specs.declared.reply.Reply.{Reply};
 
     // What has to hold of its types for it to answer.
     ghost ready: { Type 0 };

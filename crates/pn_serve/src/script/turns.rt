@@ -8,18 +8,17 @@ ghost use Rattle.pn_serve.specs.Lines.States.{Start, new_lines};
 ghost use Rattle.pn_serve.specs.Lines.Served.{Served};
 ghost use Rattle.pn_serve.specs.Lines.Answered.{Answered, AnsweredInPart, Closed};
 ghost use Rattle.pn_serve.specs.Lines.Turning.{TurnsTo};
-ghost use Rattle.pn_serve.specs.Reply.Short.{lines_data};
-ghost use Rattle.pn_serve.specs.Reply.Texts.{reply_text, is_refusal};
+ghost use Rattle.pn_protocol.specs.Reply.Short.{lines_data};
+ghost use Rattle.pn_protocol.specs.Reply.Texts.{reply_text, is_refusal};
 ghost use Rattle.pn_serve.specs.Script.Written.{one_if};
 
 use crate::machine::serving::Serves;
 use crate::script::MAX_LINES;
 use crate::script::blocks::Blocks;
-use crate::{
-    Counts, Reply, RunFault, adopted_reply, changed_reply, lines_reply, lost_reply, refusal_reply,
-};
+use crate::{Counts, RunFault};
 use pn_join::NoMemory;
 use pn_line::{LineBuffer, LineEnd, Sink, Source, WriteFault, read_line};
+use pn_protocol::{Reply, adopted_reply, changed_reply, lines_reply, lost_reply, refusal_reply};
 use std::alloc::Global;
 use std::marker::Model;
 

@@ -8,7 +8,6 @@ ghost use Rattle.pn_record.specs.Reading.{reading};
 ghost use Rattle.pn_serve.specs.Words.Bounds.{bounds_in, key_in};
 
 use crate::PlanFault;
-use crate::lists::{push, room};
 use pn_json::items_of;
 use pn_record::{Key, KeyFault};
 use pn_tablet::Layout;
@@ -47,9 +46,9 @@ fn value_of(alloc: Global, text: &str) -> Result<Value, PlanFault>
 fn keys_of(alloc: Global, items: &[Value]) -> Result<Vec<Key>, PlanFault>
     ensures { ShowsUnless PlanFault.Memory (λ keys. keys.items) result (each_in key_in (items_view items.now)) }
 {
-    let mut keys = room(alloc, items.len())?;
+    let mut keys = Vec::with_capacity(alloc, items.len())?;
     for item in items {
-        push(&mut keys, key_of(alloc, item)?)?;
+        keys.push(key_of(alloc, item)?)?;
     }
     Ok(keys)
 }

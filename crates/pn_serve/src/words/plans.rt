@@ -5,7 +5,7 @@ ghost use Rattle.pn_serve.specs.declared.words.plans.PlanFault.TheVariants.{Memo
 
 use crate::Settings;
 use pn_join::{Name, NoMemory};
-use std::alloc::AllocError;
+use std::alloc::{AllocError, AllocFailed};
 use thiserror::Error;
 
 /// What the words of the program ask for.
@@ -55,6 +55,14 @@ impl From<AllocError> for PlanFault {
     ghost from_gives = { λ _ fault. fault ≡ no_memory };
 
     fn from(_fault: AllocError) -> PlanFault {
+        PlanFault::Memory
+    }
+}
+
+impl<T: Drop> From<AllocFailed<T>> for PlanFault {
+    ghost from_gives = { λ _ fault. fault ≡ no_memory };
+
+    fn from(_fault: AllocFailed<T>) -> PlanFault {
         PlanFault::Memory
     }
 }

@@ -8,7 +8,6 @@ ghost use Rattle.pn_json.specs.Members.{texts};
 ghost use Rattle.pn_serve.specs.Words.Streams.{each_stream, has_name as name_among, names_differ as all_differ, stream_in, stream_value, streams_in};
 
 use crate::PlanFault;
-use crate::lists::{push, room};
 use clap::ArgMatches;
 use pn_join::Name;
 use std::alloc::Global;
@@ -47,9 +46,9 @@ fn streams_of(alloc: Global, words: &[&str]) -> Result<Vec<(Name, String)>, Plan
 fn each_of(alloc: Global, words: &[&str]) -> Result<Vec<(Name, String)>, PlanFault>
     ensures { ShowsUnless PlanFault.Memory (λ streams. map stream_value streams.items) result (each_stream (texts words.now)) }
 {
-    let mut streams = room(alloc, words.len())?;
+    let mut streams = Vec::with_capacity(alloc, words.len())?;
     for word in words {
-        push(&mut streams, stream_of(alloc, word)?)?;
+        streams.push(stream_of(alloc, word)?)?;
     }
     Ok(streams)
 }

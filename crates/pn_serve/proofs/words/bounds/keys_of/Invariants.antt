@@ -3,7 +3,7 @@ use Rattle.std.proofs.Common.{◌≡◌, drop}
 use Rattle.serde_json.specs.View.{items_view}
 use Rattle.pn_json.specs.Members.{each_in}
 use Rattle.pn_serve.specs.Words.Bounds.{key_in}
-use Rattle.pn_serve.proofs.Walks.{onto}
+use Rattle.pn_protocol.proofs.Walks.{onto}
 use Rattle.pn_serve.proofs.words.bounds.keys_of.Given as goal
 
 abbrev pub invariant-loop-item : goal.invariant-loop-item

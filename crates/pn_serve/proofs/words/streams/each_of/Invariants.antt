@@ -2,7 +2,7 @@
 use Rattle.std.proofs.Common.{◌≡◌, drop, map}
 use Rattle.pn_json.specs.Members.{texts}
 use Rattle.pn_serve.specs.Words.Streams.{each_stream, stream_value}
-use Rattle.pn_serve.proofs.Walks.{onto}
+use Rattle.pn_protocol.proofs.Walks.{onto}
 use Rattle.pn_serve.proofs.words.streams.each_of.Given as goal
 
 abbrev pub invariant-loop-word : goal.invariant-loop-word

@@ -4,7 +4,7 @@ use Rattle.std.specs.Prelude.{Option}
 use Rattle.std.specs.Io.KnownBytes.{Appends}
 use Rattle.pn_serve.specs.Lines.States.{LinesValue, Start}
 use Rattle.pn_serve.specs.Lines.Served.{Between, Served}
-use Rattle.pn_serve.specs.declared.reply.Reply.{Reply}
+use Rattle.pn_protocol.specs.declared.reply.Reply.{Reply}
 use Rattle.pn_serve.proofs.Serving.{OnTold, Flushes, Ends_within}
 use Rattle.pn_serve.proofs.Stopping.{Run_write, Cut_between, Cut_finish, Cut_finished, Broken_after, Exceeded_lines}
 use Rattle.pn_serve.proofs.script.turns.Lines.finish.Goals as goal

@@ -1,0 +1,11 @@
+-- The shapes so far, before those of what is left, are the shapes of all.
+use Rattle.std.proofs.Common.{◌≡◌, drop}
+use Rattle.serde_json.specs.View.{items_view}
+use Rattle.pn_json.specs.Members.{each_in}
+use Rattle.pn_protocol.specs.Command.ShapeChecks.{batch_shape}
+use Rattle.pn_protocol.proofs.Walks.{onto}
+use Rattle.pn_protocol.proofs.command.shapes.batches_of.Given as goal
+
+abbrev pub invariant-loop-item : goal.invariant-loop-item
+invariant-loop-item l =
+    each_in batch_shape (items_view l.items) ≡ onto l.batches.items (each_in batch_shape (items_view (drop l.item-index l.items)))

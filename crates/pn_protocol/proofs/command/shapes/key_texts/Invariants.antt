@@ -1,0 +1,11 @@
+-- The texts so far, before those of what is left, are the texts of all.
+use Rattle.std.proofs.Common.{◌≡◌, drop}
+use Rattle.serde_json.specs.View.{items_view}
+use Rattle.pn_json.specs.Members.{each_in, texts}
+use Rattle.pn_protocol.specs.Command.ShapeChecks.{key_shape}
+use Rattle.pn_protocol.proofs.Walks.{onto}
+use Rattle.pn_protocol.proofs.command.shapes.key_texts.Given as goal
+
+abbrev pub invariant-loop-item : goal.invariant-loop-item
+invariant-loop-item l =
+    each_in key_shape (items_view l.items) ≡ onto (texts l.keys.items) (each_in key_shape (items_view (drop l.item-index l.items)))

@@ -1,0 +1,127 @@
+//! The command that a line is.
+
+ghost use Rattle.std.specs.Prelude.{◌≡◌, ◌<◌, false, Ok, length, IfOk, IsOk, IsErrOf, IsTrue};
+ghost use Rattle.serde_json.specs.View.{view, members_view};
+ghost use Rattle.pn_json.specs.Answers.{Shows, ShowsUnless};
+ghost use Rattle.pn_record.specs.Limits.{max_line_bytes};
+ghost use Rattle.pn_protocol.specs.Command.BatchParts.{deliver_at};
+ghost use Rattle.pn_protocol.specs.Command.Grammar.{IsCommandLine};
+ghost use Rattle.pn_protocol.specs.Command.Meaning.{CommandValue, deliver, command_value};
+ghost use Rattle.pn_protocol.specs.Command.Lines.{refusal_of, command_at, is_too_long};
+ghost use Rattle.pn_protocol.specs.Command.Overview.{marks_in, tablets_in};
+ghost use Rattle.pn_protocol.specs.Command.Objects.{command_in as command_seen, TakesMemory};
+
+use crate::command::batch::BatchShape;
+use crate::command::build::{built_deliveries, items_at};
+use crate::command::lookups::{get_of, read_of, scan_of};
+use crate::command::notices::notices_of;
+use crate::command::ranges::check_batches;
+use crate::command::recovery::{adopt_of, copy_of, lose_of};
+use crate::command::shapes::{batches_of, check_members};
+use crate::command::word::{Word, word_of};
+use crate::{Command, Part, Refusal};
+use pn_json::{items_of, member_from};
+use pn_record::{ImageFault, read_value};
+use serde_json::{Map, Value};
+use std::alloc::Global;
+
+impl From<ImageFault> for Refusal {
+    ghost from_gives = { λ fault refusal. refusal ≡ refusal_of fault };
+
+    fn from(fault: ImageFault) -> Refusal {
+        match fault {
+            ImageFault::TooLong => Refusal::TooLong,
+            ImageFault::NotJson => Refusal::NotJson,
+            ImageFault::Memory => Refusal::Memory,
+            ImageFault::BadShape(member) => Refusal::BadShape(Part::Image(member)),
+            ImageFault::OutOfRange(member) => Refusal::OutOfRange(Part::Image(member)),
+        }
+    }
+}
+
+/// The command that a line is, or its first fault. `TooLong` where it has more than 65,536 bytes;
+/// otherwise `NotJson` where `serde_json` reads no value in it; otherwise `BadShape` with the first
+/// part that is absent or of another kind; otherwise `OutOfRange` with the first that breaks a limit.
+/// `Memory` may stand in place of any of these but the first, where memory ran out.
+pub fn command_of(alloc: Global, line: &[u8]) -> Result<Command, Refusal>
+    ensures found { IfOk result (λ command. IsCommandLine line.now (command_value command)) }
+    ensures only { (command : CommandValue) → IsCommandLine line.now command → ShowsUnless Refusal.Memory command_value result (Ok command) }
+
+    // Which fault it is.
+    ensures exact { ShowsUnless Refusal.Memory command_value result (command_at line.now) }
+    ensures too_long { IsTrue (is_too_long line.now) → IsErrOf result Refusal.TooLong }
+    ensures memory { IsErrOf result Refusal.Memory → is_too_long line.now ≡ false }
+{
+    line_command(alloc, line)
+}
+
+#[tactic(auto, unfolding(crate::specs::Command::Lines::command_at))]
+fn line_command(alloc: Global, line: &[u8]) -> Result<Command, Refusal>
+    ensures exact { ShowsUnless Refusal.Memory command_value result (command_at line.now) }
+    ensures too_long { max_line_bytes < length line.now → IsErrOf result Refusal.TooLong }
+{
+    let value = read_value(alloc, line)?;
+    command_in(alloc, value)
+}
+
+// The command that a value is. Memory runs out only where it is one, or its batches or keys are gathered.
+#[tactic(auto, unfolding(crate::specs::Command::Objects::command_in, crate::specs::Command::BatchParts::deliver_at))]
+pub(crate) fn command_in(alloc: Global, value: Value) -> Result<Command, Refusal>
+    ensures exact { ShowsUnless Refusal.Memory command_value result (command_seen (view value)) }
+    ensures memory { IsErrOf result Refusal.Memory → TakesMemory (view value) }
+{
+    let members = value.as_object().ok_or(Refusal::BadShape(Part::Whole))?;
+    match word_of(value.get("do"))? {
+        Word::Adopt => adopt_of(members, &value),
+        Word::Copy => copy_of(alloc, members, &value),
+        Word::Deliver => deliver_of(alloc, value),
+        Word::Get => get_of(alloc, members, &value),
+        Word::Lose => lose_of(members, &value),
+        Word::Marks => marks_of(members),
+        Word::Notices => notices_of(members, &value),
+        Word::Read => read_of(alloc, members, &value),
+        Word::Scan => scan_of(alloc, members, &value),
+        Word::Tablets => tablets_of(members),
+    }
+}
+
+// All is checked before anything is moved out of the value.
+#[tactic(auto, unfolding(crate::specs::Command::BatchParts::deliver_at))]
+fn deliver_of(alloc: Global, value: Value) -> Result<Command, Refusal>
+    ensures { ShowsUnless Refusal.Memory command_value result (deliver_at (view value)) }
+{
+    drop(checked_batches(alloc, &value)?);
+    let batches = items_at(alloc, member_from(value, "batches"));
+    Ok(Command::Deliver(built_deliveries(alloc, batches)?))
+}
+
+// The batches of a `deliver` command, borrowed from its value.
+#[tactic(auto, unfolding(crate::specs::Command::Deliveries::deliver_in, crate::specs::Command::BatchParts::deliver_at))]
+fn checked_batches(alloc: Global, value: &Value) -> Result<Vec<BatchShape<'_>>, Refusal>
+    ensures { ShowsUnless Refusal.Memory (λ batches. deliver batches.items) result (deliver_at (view value.now)) }
+{
+    let members = value.as_object().ok_or(Refusal::BadShape(Part::Whole))?;
+    let items = items_of(value.get("batches"), Refusal::BadShape(Part::Batches))?;
+    let shapes = batches_of(alloc, items)?;
+    check_members(members, &["batches", "do"])?;
+    check_batches(&shapes)?;
+    Ok(shapes)
+}
+
+#[tactic(auto, unfolding(crate::specs::Command::Overview::marks_in))]
+fn marks_of(members: &Map<String, Value>) -> Result<Command, Refusal>
+    ensures exact { Shows command_value result (marks_in (members_view members.now.entries)) }
+    ensures memory { IsErrOf result Refusal.Memory → ⊥ }
+{
+    check_members(members, &["do"])?;
+    Ok(Command::Marks)
+}
+
+#[tactic(auto, unfolding(crate::specs::Command::Overview::tablets_in))]
+fn tablets_of(members: &Map<String, Value>) -> Result<Command, Refusal>
+    ensures exact { Shows command_value result (tablets_in (members_view members.now.entries)) }
+    ensures memory { IsErrOf result Refusal.Memory → ⊥ }
+{
+    check_members(members, &["do"])?;
+    Ok(Command::Tablets)
+}

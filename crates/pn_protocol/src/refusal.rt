@@ -1,0 +1,100 @@
+//! Why a line was refused.
+
+ghost use Rattle.std.specs.Prelude.{◌≡◌};
+ghost use Rattle.pn_protocol.specs.Reply.Short.{part_word};
+ghost use Rattle.pn_protocol.specs.declared.refusal.Refusal.TheVariants.{Memory};
+
+use pn_join::NoMemory;
+use pn_record::Member;
+use std::alloc::{AllocError, AllocFailed};
+
+/// The part of a line that is at fault.
+#[derive(Clone, Copy, Debug, PartialEq, Eq)]
+pub enum Part {
+    /// The line itself, which is no object.
+    Whole,
+    Do,
+    Batches,
+    First,
+    Images,
+    Key,
+    Keys,
+    Lines,
+    Need,
+    Stream,
+    Query,
+    Since,
+    Tablet,
+    Version,
+    /// A member by a name that has no meaning there.
+    Other,
+    /// A part of an image.
+    Image(Member),
+}
+
+impl Part {
+    /// The part's name in lower case; of a part of an image, the name of its member.
+    pub fn word(&self) -> &'static str
+        ensures { result.now ≡ part_word self.now }
+    {
+        match self {
+            Part::Whole => "whole",
+            Part::Do => "do",
+            Part::Batches => "batches",
+            Part::First => "first",
+            Part::Images => "images",
+            Part::Key => "key",
+            Part::Keys => "keys",
+            Part::Lines => "lines",
+            Part::Need => "need",
+            Part::Stream => "stream",
+            Part::Query => "query",
+            Part::Since => "since",
+            Part::Tablet => "tablet",
+            Part::Version => "version",
+            Part::Other => "other",
+            Part::Image(member) => member.word(),
+        }
+    }
+}
+
+/// Why a line was refused. The first fault in the order of the variants is named.
+#[derive(Clone, Copy, Debug, PartialEq, Eq)]
+pub enum Refusal {
+    /// The line has more than 65,536 bytes without its newline.
+    TooLong,
+    /// `serde_json` reads no value in the line.
+    NotJson,
+    /// A part is absent where it is wanted, or of another kind.
+    BadShape(Part),
+    /// A session does not do what the line asks for. No line of a script is refused so.
+    ReadOnly,
+    /// All parts are of their kinds, and this one breaks a limit.
+    OutOfRange(Part),
+    /// Memory ran out. It may stand in place of any check that follows.
+    Memory,
+}
+
+impl From<NoMemory> for Refusal {
+    ghost from_gives = { λ _ refusal. refusal ≡ Memory };
+
+    fn from(_error: NoMemory) -> Refusal {
+        Refusal::Memory
+    }
+}
+
+impl From<AllocError> for Refusal {
+    ghost from_gives = { λ _ refusal. refusal ≡ Memory };
+
+    fn from(_error: AllocError) -> Refusal {
+        Refusal::Memory
+    }
+}
+
+impl<T: Drop> From<AllocFailed<T>> for Refusal {
+    ghost from_gives = { λ _ refusal. refusal ≡ Memory };
+
+    fn from(_error: AllocFailed<T>) -> Refusal {
+        Refusal::Memory
+    }
+}

@@ -1,0 +1,37 @@
+//! What lines are answered.
+
+pub(crate) mod answers;
+pub(crate) mod faults;
+pub(crate) mod lookups;
+pub(crate) mod marks;
+pub(crate) mod notices;
+pub(crate) mod record;
+pub(crate) mod recovery;
+mod room;
+mod rows;
+pub(crate) mod scan;
+pub(crate) mod short;
+pub(crate) mod tablets;
+
+use crate::Refusal;
+
+/// The reply to one line.
+#[derive(Drop)]
+pub enum Reply {
+    /// The number of the tablet that took a copy.
+    Adopted(u64),
+    /// How many records a round changed.
+    Changed(u64),
+    /// A copy: how many lines its text has, and the text.
+    Copied { lines: u64, text: String },
+    /// The number of the tablet that was lost.
+    Lost(u64),
+    /// No reply: further lines that were announced are to come, or the input is at its end.
+    Silent,
+    /// A reply's text.
+    Text(Vec<u8>),
+    /// The line was refused.
+    Refused(Refusal),
+    /// The text of why what it asks for was not done.
+    NotTaken(Vec<u8>),
+}
