@@ -18,7 +18,7 @@ use Rattle.pn_protocol.specs.Command.Grammar.{IsRequired, Says, IsCommand}
 use Rattle.pn_protocol.specs.Command.Deliveries.{deliver_in}
 use Rattle.pn_protocol.specs.Command.Lookups.{get_in, read_in, scan_in}
 use Rattle.pn_protocol.specs.Command.Overview.{marks_in, tablets_in}
-use Rattle.pn_protocol.specs.Command.Objects.{command_as, command_in}
+use Rattle.pn_protocol.specs.Command.Objects.{command_as, allowed_in, command_in}
 use Rattle.pn_protocol.specs.Command.Limits.{may_announce, may_be_asked, may_be_required, is_command}
 use Rattle.pn_protocol.specs.Command.Meaning.{CommandValue, adopt, copy, deliver, lose, marks, notices, read, scan, tablets}
 use Rattle.pn_protocol.specs.Command.Meaning as meaning
@@ -29,8 +29,8 @@ use Rattle.pn_protocol.specs.Command.Queries.{query_at, query_shape, fitting_que
 use Rattle.pn_protocol.specs.Command.RangeChecks.{fits, batches_fit, keys_fit, fitting_version}
 use Rattle.pn_protocol.specs.Command.ShapeChecks.{named_alone, batch_shape, key_shape, version_shape}
 use Rattle.pn_protocol.specs.Command.Words.{word_in}
-use Rattle.pn_protocol.specs.declared.command.word.Word.{Word}
-use Rattle.pn_protocol.specs.declared.command.word.Word.TheVariants.{Adopt, Copy, Deliver, Get, Lose, Marks, Notices, Read, Scan, Tablets}
+use Rattle.pn_protocol.specs.declared.command.word.CommandWord.{CommandWord}
+use Rattle.pn_protocol.specs.declared.command.word.CommandWord.TheVariants.{Adopt, Copy, Deliver, Get, Lose, Marks, Notices, Read, Scan, Tablets}
 use Rattle.pn_protocol.specs.declared.refusal.Part.TheVariants.{Whole, Do, Batches, Key, Keys, Lines, Since, Tablet}
 use Rattle.pn_protocol.specs.declared.refusal.Refusal.TheVariants.{BadShape}
 use Rattle.pn_protocol.proofs.CommandNeeds.{need_found, need_again}
@@ -42,7 +42,7 @@ use Rattle.pn_protocol.proofs.CommandParts.{text_at, number_at, array_at, object
 
 -- what the members of a word's object say
 module _ (ms : Members) (order : InOrder (object ms)) where
-  abbrev Found : Word → Type 0
+  abbrev Found : CommandWord → Type 0
   Found word =
       (command : CommandValue) → get_member (codes "do") ms ≡ Some (string (text_of word)) → command_as word ms (object ms) ≡ Ok command → IsCommand (object ms) command
 
@@ -119,7 +119,7 @@ module _ (ms : Members) (order : InOrder (object ms)) where
       let whole = named_object (names_of Lose) (member (codes "do") (string (codes "lose")) (tablet_member tablet.0)) named.1 tt refl (says, (number_at Tablet _ tablet.0 tablet.1, tt)) in
       subst (λ c. IsCommand (object ms) c) same (record { value = whole; limits = refl })
 
-  alone_found : (word : Word) (said : CommandValue) → names_of word ≡ codes "do" ∷ [] → Says (object (member (codes "do") (string (text_of word)) no_members)) said → is_command said ≡ true
+  alone_found : (word : CommandWord) (said : CommandValue) → names_of word ≡ codes "do" ∷ [] → Says (object (member (codes "do") (string (text_of word)) no_members)) said → is_command said ≡ true
       → get_member (codes "do") ms ≡ Some (string (text_of word)) → named_alone (codes "do" ∷ []) ms ≡ Ok tt → IsCommand (object ms) said
   alone_found word said names value limits says named =
       let whole = named_object (codes "do" ∷ []) (member (codes "do") (string (text_of word)) no_members) named tt refl (says, tt) in
@@ -182,7 +182,7 @@ module _ (ms : Members) (order : InOrder (object ms)) where
       let same : tablets ≡ command = cc in
       subst (λ c. IsCommand (object ms) c) same (alone_found Tablets tablets refl refl refl says named.1)
 
-  word_found : (word : Word) → Found word
+  word_found : (word : CommandWord) → Found word
   word_found Adopt = adopt_found
   word_found Copy = copy_found
   word_found Deliver = deliver_found
@@ -196,7 +196,7 @@ module _ (ms : Members) (order : InOrder (object ms)) where
 
 -- a value that is read as a command is the command's
 pub command_found : (d : Data) (command : CommandValue) → InOrder d → command_in d ≡ Ok command → IsCommand d command
-unfolding command_in
+unfolding allowed_in
 command_found d command order is =
     let members = bind_ok (ok_or (as_object d) (BadShape Whole)) _ command is in
     let word = bind_ok (member_as word_in (BadShape Do) (get (codes "do") d)) _ command members.2 in
@@ -206,31 +206,31 @@ command_found d command order is =
 
 read_again : (key : List ℕ) (required : Option Stamp) (others : Members) → IsRequired others required → is_key key ≡ true → fitting_version required ≡ Ok required
     → command_in (read_command key others) ≡ Ok (read key required)
-unfolding command_in read_in
+unfolding allowed_in read_in
 read_again key None others (inl absent) fits version = rw (absent, fits) refl
 read_again key None others (inr none) fits version = rw (none, fits) refl
 read_again key (Some required) others there fits version = rw (there, fits, version) refl
 
 scan_again : (asked : Data) (query : QueryValue) → query_at (Some asked) ≡ Ok query → command_in (scan_command asked) ≡ Ok (scan query)
-unfolding command_in scan_in
+unfolding allowed_in scan_in
 scan_again asked query is = rw is refl
 
 adopt_again : (lines : ℕ) → may_announce lines ≡ true → command_in (adopt_command lines) ≡ Ok (adopt lines)
-unfolding command_in adopt_in
+unfolding allowed_in adopt_in
 adopt_again lines keeps = rw keeps refl
 
 notices_again : (since : ℕ) → may_be_asked since ≡ true → command_in (notices_command since) ≡ Ok (notices since)
-unfolding command_in notices_in
+unfolding allowed_in notices_in
 notices_again since keeps = rw keeps refl
 
 copy_again : (said : Option Data) (need : Positions) (tablet : ℕ) → need_at said ≡ Ok need → command_in (copy_command said tablet) ≡ Ok (copy need tablet)
-unfolding command_in copy_in
+unfolding allowed_in copy_in
 copy_again None need tablet is = let none : [] ≡ need = cc in ap (λ (marks : Positions). Ok (copy marks tablet)) none
 copy_again (Some d) need tablet is = rw is refl
 
 -- a command's value is read as the command
 says_again : (d : Data) (command : CommandValue) → Says d command → is_command command ≡ true → command_in d ≡ Ok command
-unfolding command_in deliver_in get_in lose_in marks_in tablets_in
+unfolding allowed_in deliver_in get_in lose_in marks_in tablets_in
 says_again d (adopt lines) says keeps = ap command_in says ∙ adopt_again lines keeps
 says_again d (copy need tablet) (said, is, says) keeps = ap command_in says ∙ copy_again said need tablet (need_again said need is keeps)
 says_again d (deliver deliveries) says keeps = ap command_in says ∙ rw (each_again batch_shape delivery_data batch_again deliveries, deliveries_again deliveries keeps) refl

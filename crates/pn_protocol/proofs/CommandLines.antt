@@ -1,16 +1,18 @@
 -- A line that is read as a command is the command's line, and a command's line is read as the command.
-use Rattle.std.proofs.Common.{◌≡◌, ℕ, ◌<◌, List, length, Bool, true, false, Result, Ok, Err, IfOk, IsErrOf, IsTrue, refl, sym, ◌∙◌, ltb}
+use Rattle.std.proofs.Common.{◌≡◌, ℕ, ◌<◌, List, length, Bool, true, false, Result, Ok, Err, IfOk, IsErrOf, IsTrue, refl, sym, ap, ◌∙◌, ltb, nat_lt, cond, arith}
 use Rattle.std.proofs.lemmas.Bool.{le-ltb, ltb-false, ltb-true}
+use Rattle.std.proofs.lemmas.Bool.Decides.{nat_tests}
 use Rattle.std.specs.Option.{ok_or}
-use Rattle.pn_json.specs.Answers.{fault_as, ShowsUnless}
+use Rattle.pn_json.specs.Answers.{◌>>=◌, fault_as, ShowsUnless}
 use Rattle.pn_record.specs.Reading.{reading, value_at}
 use Rattle.pn_record.specs.declared.fault.ImageFault.TheVariants as image
 use Rattle.pn_json.proofs.Inverses.{bind_ok, no_fault, ok_or_ok, right_same}
 use Rattle.pn_protocol.specs.Command.Grammar.{IsCommandLine}
-use Rattle.pn_protocol.specs.Command.Lines.{is_too_long, refusal_of, command_at}
-use Rattle.pn_protocol.specs.Command.Objects.{command_in}
+use Rattle.pn_protocol.specs.Command.Lines.{is_too_long, refusal_of, allowed_at, command_at}
+use Rattle.pn_protocol.specs.Command.Objects.{allowed_in, command_in}
 use Rattle.pn_record.specs.Limits.{max_line_bytes}
 use Rattle.pn_protocol.specs.Command.Meaning.{CommandValue}
+use Rattle.pn_protocol.specs.declared.command.parse.Allowed.{Allowed}
 use Rattle.pn_protocol.specs.declared.refusal.Refusal.{Refusal}
 use Rattle.pn_protocol.specs.declared.refusal.Refusal.TheVariants.{TooLong, Memory}
 use Rattle.pn_protocol.proofs.CommandJson.{command_found, command_again}
@@ -19,7 +21,7 @@ use Rattle.pn_record.proofs.ReadInOrder.{in_order}
 
 -- the line of what is read
 pub line_found : (line : List ℕ) (command : CommandValue) → command_at line ≡ Ok command → IsCommandLine line command
-unfolding command_at value_at
+unfolding allowed_at value_at
 line_found line command is =
     let value = bind_ok (fault_as refusal_of (value_at line)) command_in command is in
     let parts = no_fault (ltb 65536 (length line)) image.TooLong (ok_or (reading line) image.NotJson) value.0 (as_ok refusal_of (value_at line) value.0 value.1) in
@@ -28,7 +30,7 @@ line_found line command is =
 
 -- a command's line is read as the command
 pub line_again : (line : List ℕ) (command : CommandValue) → IsCommandLine line command → command_at line ≡ Ok command
-unfolding command_at value_at
+unfolding allowed_at value_at
 line_again line command is = rw (le-ltb 65536 (length line) is.short, is.read) (command_again is.value command is.spelled)
 
 -- what was answered is the line of what is read
@@ -53,6 +55,13 @@ answer_long line answer long is = long (ltb-true max_line_bytes (length line) is
 -- memory runs out for no line that is too long
 pub answer_short : (line : List ℕ) {A : Type 0} (answer : Result A Refusal) → (max_line_bytes < length line → IsErrOf answer TooLong) → IsErrOf answer Memory → is_too_long line ≡ false
 answer_short line answer long memory = by_test (is_too_long line) (λ is. both_not (sym (long (ltb-true max_line_bytes (length line) is)) ∙ memory))
+
+-- a line that is too long is refused as such
+pub too_long : (allowed : Allowed) (line : List ℕ) → 65536 < length line → allowed_at allowed line ≡ Err TooLong
+unfolding allowed_at value_at
+too_long allowed line long =
+    let test : nat_lt 65536 (length line) ≡ true = grind (arith, nat_tests) in
+    ap (λ b. fault_as refusal_of (cond b (Err image.TooLong) (ok_or (reading line) image.NotJson)) >>= allowed_in allowed) test
 
 -- no line is the line of two commands
 pub one_command : (line : List ℕ) (one other : CommandValue) → IsCommandLine line one → IsCommandLine line other → one ≡ other

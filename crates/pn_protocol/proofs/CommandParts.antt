@@ -24,8 +24,8 @@ use Rattle.pn_protocol.specs.Command.Grammar.{IsRequired}
 use Rattle.pn_protocol.specs.Command.Queries.{query_at}
 use Rattle.pn_protocol.specs.Command.ShapeChecks.{named_alone, image_shape, batch_shape, key_shape, required_in, version_shape}
 use Rattle.pn_protocol.specs.Command.Words.{word_of, word_in}
-use Rattle.pn_protocol.specs.declared.command.word.Word.{Word}
-use Rattle.pn_protocol.specs.declared.command.word.Word.TheVariants.{Adopt, Copy, Deliver, Get, Lose, Marks, Notices, Read, Scan, Tablets}
+use Rattle.pn_protocol.specs.declared.command.word.CommandWord.{CommandWord}
+use Rattle.pn_protocol.specs.declared.command.word.CommandWord.TheVariants.{Adopt, Copy, Deliver, Get, Lose, Marks, Notices, Read, Scan, Tablets}
 use Rattle.pn_protocol.specs.declared.refusal.Part.{Part}
 use Rattle.pn_protocol.specs.declared.refusal.Part.TheVariants.{Do, Batches, First, Images, Keys, Stream, Version, Other}
 use Rattle.pn_protocol.specs.declared.refusal.Refusal.{Refusal}
@@ -58,7 +58,7 @@ object_of d e ms is = object_from_as_object d ms (ok_or_ok (as_object d) e ms is
 abbrev batch_names : List (List ℕ)
 batch_names = codes "first" ∷ codes "images" ∷ codes "stream" ∷ []
 
-abbrev pub names_of : Word → List (List ℕ)
+abbrev pub names_of : CommandWord → List (List ℕ)
 names_of Adopt = codes "do" ∷ codes "lines" ∷ []
 names_of Copy = codes "do" ∷ codes "need" ∷ codes "tablet" ∷ []
 names_of Deliver = codes "batches" ∷ codes "do" ∷ []
@@ -132,7 +132,7 @@ unfolding batch_shape
 batch_again batch = rw (each_again image_shape image_data image_again batch.images) refl
 
 -- the text of a word
-abbrev pub text_of : Word → List ℕ
+abbrev pub text_of : CommandWord → List ℕ
 text_of Adopt = codes "adopt"
 text_of Copy = codes "copy"
 text_of Deliver = codes "deliver"
@@ -144,18 +144,18 @@ text_of Read = codes "read"
 text_of Scan = codes "scan"
 text_of Tablets = codes "tablets"
 
-this_or_next : (b : Bool) (text : List ℕ) (one word : Word) (next : Option Word) → bytes_eq text (text_of one) ≡ b → cond b (Some one) next ≡ Some word → (next ≡ Some word → text ≡ text_of word) → text ≡ text_of word
+this_or_next : (b : Bool) (text : List ℕ) (one word : CommandWord) (next : Option CommandWord) → bytes_eq text (text_of one) ≡ b → cond b (Some one) next ≡ Some word → (next ≡ Some word → text ≡ text_of word) → text ≡ text_of word
 this_or_next true text one word next is found further = let same : one ≡ word = cc in (bytes_eq-Decides text (text_of one)).0 is ∙ ap text_of same
 this_or_next false text one word next is found further = further found
 
-text_from_word : (text : List ℕ) (word : Word) → word_of text ≡ Some word → text ≡ text_of word
+text_from_word : (text : List ℕ) (word : CommandWord) → word_of text ≡ Some word → text ≡ text_of word
 text_from_word text word found =
     this_or_next _ text Adopt word _ refl found (λ found. this_or_next _ text Copy word _ refl found (λ found. this_or_next _ text Deliver word _ refl found (λ found.
     this_or_next _ text Get word _ refl found (λ found. this_or_next _ text Lose word _ refl found (λ found. this_or_next _ text Marks word _ refl found (λ found.
     this_or_next _ text Notices word _ refl found (λ found. this_or_next _ text Read word _ refl found (λ found. this_or_next _ text Scan word _ refl found (λ found.
     this_or_next _ text Tablets word _ refl found (λ none. absurd (cc)))))))))))
 
-pub word_at : (o : Option Data) (word : Word) → member_as word_in (BadShape Do) o ≡ Ok word → o ≡ Some (string (text_of word))
+pub word_at : (o : Option Data) (word : CommandWord) → member_as word_in (BadShape Do) o ≡ Ok word → o ≡ Some (string (text_of word))
 word_at o word is =
     let found = and_then_some o word_in word (ok_or_ok _ (BadShape Do) word is) in
     let text = and_then_some (as_str found.0) word_of word found.2 in

@@ -14,6 +14,5 @@ pub mod Overview
 pub mod Queries
 pub mod RangeChecks
 pub mod Recovery
-pub mod Sessions
 pub mod ShapeChecks
 pub mod Words

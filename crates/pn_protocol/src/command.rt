@@ -3,12 +3,11 @@
 pub(crate) mod batch;
 mod build;
 pub(crate) mod laws;
-mod lookups;
 mod notices;
 pub(crate) mod parse;
 mod ranges;
+mod records;
 mod recovery;
-pub(crate) mod sessions;
 mod shapes;
 pub(crate) mod word;
 

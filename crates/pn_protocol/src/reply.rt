@@ -2,11 +2,11 @@
 
 pub(crate) mod answers;
 pub(crate) mod faults;
-pub(crate) mod lookups;
 pub(crate) mod marks;
 pub(crate) mod notices;
 pub(crate) mod record;
 pub(crate) mod recovery;
+pub(crate) mod refused_lookups;
 mod room;
 mod rows;
 pub(crate) mod scan;

@@ -3,9 +3,9 @@ use Rattle.std.proofs.Common.{◌≡◌, ◌≢◌, ℕ, ◌-◌, ◌<◌, ◌�
 use Rattle.std.specs.Prelude.{Ok, Err}
 use Rattle.std.proofs.lemmas.Bool.Decides.{nat_tests}
 use Rattle.pn_region.specs.Logged.{LoggedRegion}
-use Rattle.pn_serve.specs.declared.machine.announced.Announced.{Announced}
-use Rattle.pn_serve.specs.declared.machine.Begun.{Begun}
-use Rattle.pn_serve.specs.declared.machine.Begun.TheVariants.{Obeyed, Announces}
+use Rattle.pn_serve.specs.declared.machine.adoption.Announced.{Announced}
+use Rattle.pn_serve.specs.declared.machine.Handled.{Handled}
+use Rattle.pn_serve.specs.declared.machine.Handled.TheVariants.{Obeyed, Announces}
 use Rattle.pn_protocol.specs.declared.reply.Reply.{Reply}
 use Rattle.pn_protocol.specs.declared.reply.Reply.TheVariants.{Silent, Refused}
 use Rattle.pn_protocol.specs.declared.refusal.Refusal.{Refusal}
@@ -13,13 +13,13 @@ use Rattle.pn_protocol.specs.declared.refusal.Refusal.TheVariants.{TooLong, NotJ
 use Rattle.pn_protocol.specs.Command.Lines.{command_at, is_too_long}
 use Rattle.pn_protocol.specs.Command.Meaning.{CommandValue, adopt, copy, deliver, get, lose, marks, notices, read, scan, tablets}
 use Rattle.pn_serve.specs.Machine.Announced.{unless_call, with_line}
-use Rattle.pn_serve.specs.Machine.Modes.{bytes_of, with_mode, IsBegun}
+use Rattle.pn_serve.specs.Machine.Modes.{bytes_of, with_mode, IsDone}
 use Rattle.pn_serve.specs.Machine.Outcomes.{Outcome, done, line, call, round, announced, Machine, Turn, waiting, refusing, silent}
 use Rattle.pn_serve.specs.Machine.Recovering.{adopting_text}
 use Rattle.pn_serve.specs.Machine.Turns.{obeying, turn_of, outcome_at, turn}
 use Rattle.pn_serve.specs.Machine.LastTurns.{obeying_last, last_of, end_turn}
 use Rattle.pn_serve.specs.Machine.Answers.{IsReadUnless, TurnedBy, AnswersBy, ConcludesBy, Obeys}
-use Rattle.pn_serve.specs.Machine.Ways.{ComesTo, IsJoined, IsAlone, BeginsTo, LastsBy}
+use Rattle.pn_serve.specs.Machine.Ways.{ComesTo, IsJoined, IsAlone, HandlesTo, LastsBy}
 use Rattle.pn_protocol.specs.Reply.Texts.{reply_text, is_refusal}
 use Rattle.pn_serve.proofs.Turns.{read_whole, read_always, turned_read, turned_as, turned_always, turned_said, as_it_goes, as_said, within}
 
@@ -206,8 +206,8 @@ concluded_last may old new b bytes reply lasts = lasts
 
 -- ---- a command and the lines that it announces
 
-pub begun_said : (may : Type 0) (old new : LoggedRegion) (bytes : List ℕ) (command : CommandValue) (begun : Begun) (reply : Reply) (lines : Option Announced) → command_at bytes ≡ Ok command
-    → BeginsTo old command new begun → IsBegun begun reply lines → AnswersBy may (waiting old) bytes (with_mode lines new) reply
+pub begun_said : (may : Type 0) (old new : LoggedRegion) (bytes : List ℕ) (command : CommandValue) (begun : Handled) (reply : Reply) (lines : Option Announced) → command_at bytes ≡ Ok command
+    → HandlesTo old command new begun → IsDone begun reply lines → AnswersBy may (waiting old) bytes (with_mode lines new) reply
 begun_said may old new bytes command (Obeyed told) reply lines said (alone, obeys) (same, none) =
     subst (λ (l : Option Announced). AnswersBy may (waiting old) bytes (with_mode l new) reply) (sym none)
     (subst (λ (r : Reply). AnswersBy may (waiting old) bytes (waiting new) r) (sym same) (turned_said may bytes command old (waiting new) told said obeys))

@@ -1,21 +1,17 @@
 -- What lookups of a session are answered.
-use Rattle.std.proofs.Common.{◌≡◌, ◌≢◌, ◌⊎◌, ◌<◌, ℕ, zero, suc, Bool, true, false, cond, List, [], ◌∷◌, length, nat_lt, inl, inr, refl, sym, ap, ◌∙◌, subst, arith}
+use Rattle.std.proofs.Common.{◌≡◌, ◌≢◌, ◌⊎◌, ◌<◌, ℕ, zero, suc, Bool, true, false, List, [], ◌∷◌, length, nat_lt, inl, inr, refl, sym, ap, ◌∙◌, subst, arith}
 use Rattle.std.specs.Prelude.{Option, Result, Ok, Err, IsTrue, ◌↔◌}
-use Rattle.std.specs.Option.{ok_or}
 use Rattle.std.proofs.lemmas.Bool.{cases_lt}
 use Rattle.std.proofs.lemmas.Bool.Decides.{nat_tests}
 use Rattle.serde_json.specs.Data.{Data}
-use Rattle.pn_json.specs.Answers.{◌>>=◌, fault_as}
 use Rattle.pn_line.specs.Line.{LineBufferValue, so_far, kept}
 use Rattle.pn_line.proofs.LineLaws.{kept-short, length-kept_long}
-use Rattle.pn_record.specs.Reading.{value_at, reading}
 use Rattle.pn_record.specs.Sets.{CellValue}
-use Rattle.pn_record.specs.declared.fault.ImageFault.TheVariants as image
 use Rattle.pn_tablet.specs.Layouts.{Bounds}
 use Rattle.pn_scan.specs.Candidates.{Look}
 use Rattle.pn_scan.specs.Pages.{PageValue, first_page}
 use Rattle.pn_scan.specs.Queries.{QueryValue}
-use Rattle.pn_scan.specs.Reads.{IsGet}
+use Rattle.pn_scan.specs.CommandReader.{IsGet}
 use Rattle.pn_scan.specs.Visits.{IsScan}
 use Rattle.pn_scan.specs.declared.fault.ScanFault.{ScanFault}
 use Rattle.pn_live.specs.Readers.{LiveReaderValue, LooksLive}
@@ -23,9 +19,10 @@ use Rattle.pn_protocol.specs.declared.refusal.Refusal.{Refusal}
 use Rattle.pn_protocol.specs.declared.refusal.Refusal.TheVariants.{TooLong, NotJson, BadShape, ReadOnly, OutOfRange, Memory}
 use Rattle.pn_protocol.specs.declared.reply.Reply.{Reply}
 use Rattle.pn_protocol.specs.declared.reply.Reply.TheVariants.{Adopted, Changed, Copied, Lost, Silent, Text, Refused, NotTaken}
-use Rattle.pn_protocol.specs.Command.Lines.{is_too_long, refusal_of}
+use Rattle.pn_protocol.proofs.CommandLines.{too_long}
+use Rattle.pn_protocol.specs.declared.command.parse.Allowed.TheVariants.{Lookups}
+use Rattle.pn_protocol.specs.Command.Lines.{is_too_long, lookup_at}
 use Rattle.pn_protocol.specs.Command.Meaning.{CommandValue}
-use Rattle.pn_protocol.specs.Command.Sessions.{lookup_at, lookup_in}
 use Rattle.pn_protocol.specs.Reply.Answers.{ShowsFound}
 use Rattle.pn_serve.specs.Session.Lines.{Tells, LooksUp, AnswersLine, EndsLines, RefusesLine}
 
@@ -73,12 +70,6 @@ answers_err old line (BadShape part) is short = answers_fault old line (BadShape
 answers_err old line ReadOnly is short = answers_fault old line ReadOnly (is (λ same. cc))
 answers_err old line (OutOfRange part) is short = answers_fault old line (OutOfRange part) (is (λ same. cc))
 
-too_long : (line : List ℕ) → 65536 < length line → lookup_at line ≡ Err TooLong
-unfolding lookup_at value_at
-too_long line long =
-    let test : nat_lt 65536 (length line) ≡ true = grind (arith, nat_tests) in
-    ap (λ b. fault_as refusal_of (cond b (Err image.TooLong) (ok_or (reading line) image.NotJson)) >>= lookup_in) test
-
 -- a line says what its kept bytes say
 said_kept : (line : List ℕ) → (lookup_at (kept line) ≡ lookup_at line) × (is_too_long (kept line) ≡ is_too_long line)
 said_kept line = elim (cases_lt 65536 (length line)) [
@@ -87,7 +78,7 @@ said_kept line = elim (cases_lt 65536 (length line)) [
       let long_too : 65536 < length (kept line) = omega (arith, length-kept_long line long) in
       let here : is_too_long (kept line) ≡ true = grind (arith, nat_tests) in
       let there : is_too_long line ≡ true = grind (arith, nat_tests) in
-      (too_long (kept line) long_too ∙ sym (too_long line long), here ∙ sym there)
+      (too_long Lookups (kept line) long_too ∙ sym (too_long Lookups line long), here ∙ sym there)
       )
   | inr short ↦ (ap lookup_at (kept-short line short), ap is_too_long (kept-short line short))
 ]

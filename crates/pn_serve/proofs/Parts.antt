@@ -1,7 +1,7 @@
 -- The parts of a script whose lines are known.
 use Rattle.std.proofs.Common.{◌≡◌, ◌≢◌, ℕ, List, [], ◌∷◌, ◌++◌, All, if◌then◌else◌, refl, ap, ◌∙◌, append_assoc, append-nil, ne_eqb}
 use Rattle.std.proofs.lemmas.List.Elements.{All-head, All-tail}
-use Rattle.pn_line.specs.Reads.{IsUnbroken}
+use Rattle.pn_line.specs.CommandReader.{IsUnbroken}
 use Rattle.pn_line.specs.Text.{text_of}
 use Rattle.pn_line.proofs.TextLaws.{text_of-nil, text_of-cons}
 use Rattle.pn_serve.specs.Script.Parts.{onto, parts_of}

@@ -21,7 +21,7 @@ use Rattle.pn_region.proofs.ServedRecords.{event_record, events_record}
 use Rattle.pn_region.proofs.ServingTablets.{new_serves, taken_serves, half_serves}
 use Rattle.pn_region.proofs.StillHeld.{itself_held}
 use Rattle.pn_scan.specs.Pages.{first_page}
-use Rattle.pn_scan.specs.Reads.{unless_behind}
+use Rattle.pn_scan.specs.CommandReader.{unless_behind}
 use Rattle.pn_scan.specs.Shown.{shown_rows}
 use Rattle.pn_scan.specs.declared.fault.ScanFault.{ScanFault}
 use Rattle.serde_json.specs.Data.{Data}

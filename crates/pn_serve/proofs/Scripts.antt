@@ -21,7 +21,7 @@ use Rattle.pn_serve.specs.Machine.Turns.{turn}
 use Rattle.pn_serve.specs.Machine.LastTurns.{end_turn}
 use Rattle.pn_serve.specs.Machine.Answers.{Answers, Concludes}
 use Rattle.pn_protocol.specs.Reply.Texts.{reply_text, is_refusal}
-use Rattle.pn_serve.specs.Runs.Starts.{Begun}
+use Rattle.pn_serve.specs.Runs.Starts.{RunStart}
 use Rattle.pn_serve.specs.Runs.Ends.{Ended, Broken, Cut, Exceeded, Ends}
 use Rattle.pn_serve.specs.Runs.Bounds.{lines_within}
 use Rattle.pn_serve.specs.Script.Parts.{parts_of}
@@ -68,7 +68,7 @@ lines_in {read_lines = read_lines} {part = part} read =
     ap (λ (t : List ℕ). (parts_of t).0) read.text_is ∙ ap (λ (p : List (List ℕ) × List ℕ). p.0) (parts-text read_lines (part ++ read.rest) read.unbroken)
 
 module _ (region : RegionValue) (left written : Option (List ℕ)) where
-  abbrev begun : Begun
+  abbrev begun : RunStart
   begun = record { region = region; left = left; written = written }
 
   abbrev start : Start Machine

@@ -6,7 +6,7 @@ use Rattle.std.proofs.lemmas.Bool.Decides.{nat_tests}
 use Rattle.std.proofs.lemmas.List.Elements.{All-nil, All-cons, All-append}
 use Rattle.pn_line.specs.Line.{LineBufferValue, so_far}
 use Rattle.pn_line.specs.LinesRead.{LinesRead, PartRead}
-use Rattle.pn_line.specs.Reads.{Takes, IsUnbroken}
+use Rattle.pn_line.specs.CommandReader.{Takes, IsUnbroken}
 use Rattle.pn_line.specs.Text.{lines_of, text_of, last_line}
 use Rattle.pn_line.specs.Sent.{Sends}
 use Rattle.pn_line.proofs.LinesReadLaws.{LinesRead-none, LinesRead-line, LinesRead-part}
@@ -15,7 +15,7 @@ use Rattle.pn_line.proofs.TextLaws.{lines_of-text, lines_of-nil, lines_of-last}
 use Rattle.pn_serve.specs.declared.script.Counts.{Counts}
 use Rattle.pn_protocol.specs.declared.reply.Reply.{Reply}
 use Rattle.pn_serve.specs.Lines.Ends.{Ended}
-use Rattle.pn_serve.specs.Lines.States.{LinesValue, new_lines, Start}
+use Rattle.pn_serve.specs.Lines.States.{LineLoopValue, new_loop, Start}
 use Rattle.pn_serve.specs.Lines.Replies.{texts_of, refusals_of}
 use Rattle.pn_serve.specs.Lines.Served.{IsShort, AllAnswer, AllAnswered, Between, Served}
 use Rattle.pn_serve.specs.Lines.Answered.{Answered, Closed}
@@ -118,7 +118,7 @@ module _ {V : Type 0} (makes ends : V → List ℕ → V → Reply → Type 0) w
   answer_push was (l ∷ lines) [] between line reply now all made = absurd all
   answer_push was (l ∷ lines) (r ∷ replies) between line reply now all made = (all.0, all.1, answer_push all.0 lines replies between line reply now all.2 made)
 
-  pub Begins : (machine : V) (left written : Option (List ℕ)) → Served makes (record { machine = machine; left = left; written = written }) left written machine new_lines
+  pub Begins : (machine : V) (left written : Option (List ℕ)) → Served makes (record { machine = machine; left = left; written = written }) left written machine new_loop
   Begins machine None written = tt
   Begins machine (Some text) written = record {
     lines = [];
@@ -128,13 +128,13 @@ module _ {V : Type 0} (makes ends : V → List ℕ → V → Reply → Type 0) w
   }
 
   -- a server of lines begins
-  pub Begins_new : (machine : V) (run : LinesValue) (left written : Option (List ℕ)) → run ≡ new_lines → Served makes (record { machine = machine; left = left; written = written }) left written machine run
+  pub Begins_new : (machine : V) (run : LineLoopValue) (left written : Option (List ℕ)) → run ≡ new_loop → Served makes (record { machine = machine; left = left; written = written }) left written machine run
   Begins_new machine run left written is =
-      subst (λ (r : LinesValue). Served makes (record { machine = machine; left = left; written = written }) left written machine r) (sym is) (Begins machine left written)
+      subst (λ (r : LineLoopValue). Served makes (record { machine = machine; left = left; written = written }) left written machine r) (sym is) (Begins machine left written)
 
   module _ (start : Start V) where
     -- one more line was answered
-    pub AllAnswered-line : (lines : List (List ℕ)) (b c : Option (List ℕ)) (was now : V) (run new : LinesValue) (line : LineBufferValue) (text : List ℕ) → AllAnswered makes start lines b was run → line ≡ so_far text
+    pub AllAnswered-line : (lines : List (List ℕ)) (b c : Option (List ℕ)) (was now : V) (run new : LineLoopValue) (line : LineBufferValue) (text : List ℕ) → AllAnswered makes start lines b was run → line ≡ so_far text
         → Answered makes was now (record run { line = line }) new b c → AllAnswered makes start (lines ++ text ∷ []) c now new
     AllAnswered-line lines b c was now run new line text is here answered =
         let counts = refusals_push is.replies answered.reply in record {
@@ -146,7 +146,7 @@ module _ {V : Type 0} (makes ends : V → List ℕ → V → Reply → Type 0) w
         }
 
     -- what waited went out
-    pub Flushes : (script : List ℕ) (left b c : Option (List ℕ)) (machine : V) (run new : LinesValue) → Between makes start script left b machine run → Appends b c run.waits
+    pub Flushes : (script : List ℕ) (left b c : Option (List ℕ)) (machine : V) (run new : LineLoopValue) → Between makes start script left b machine run → Appends b c run.waits
         → new.counts ≡ run.counts → new.waits ≡ [] → Between makes start script left c machine new
     Flushes script left b c machine run new between sent counts none =
         let is = between.answered in
@@ -166,7 +166,7 @@ module _ {V : Type 0} (makes ends : V → List ℕ → V → Reply → Type 0) w
         }
 
     -- a line was read and answered
-    pub Goes_on : (script : List ℕ) (left leaves b c : Option (List ℕ)) (was now : V) (run new : LinesValue) (line : LineBufferValue) → Between makes start script left b was run
+    pub Goes_on : (script : List ℕ) (left leaves b c : Option (List ℕ)) (was now : V) (run new : LineLoopValue) (line : LineBufferValue) → Between makes start script left b was run
         → Takes (so_far []) line left leaves (10 ∷ []) → line.count < 1000000000 → Answered makes was now (record run { line = line }) new b c → Between makes start script leaves c now new
     Goes_on script left leaves b c was now run new line between takes below answered =
         let (taken, is, read) = LinesRead-line between.read takes in record {
@@ -177,7 +177,7 @@ module _ {V : Type 0} (makes ends : V → List ℕ → V → Reply → Type 0) w
         }
 
     -- the input is at its end behind a part of a line, and what was left to reply went out or waits
-    module _ (script : List ℕ) (b c : Option (List ℕ)) (was now : V) (run new : LinesValue) (lines : List (List ℕ)) (line : LineBufferValue) (part : List ℕ) (counts : Counts)
+    module _ (script : List ℕ) (b c : Option (List ℕ)) (was now : V) (run new : LineLoopValue) (lines : List (List ℕ)) (line : LineBufferValue) (part : List ℕ) (counts : Counts)
         (parts : parts_of script ≡ (lines, part)) (is : AllAnswered makes start lines b was run) (here : line ≡ so_far part) where
       pub all_sent : (closed : Closed ends was now (record run { line = line }) new b c counts) → Sends start.written c [] new.waits (texts_of is.replies ++ reply_text closed.reply)
       all_sent closed = Sends-trans is.sends closed.sends
@@ -201,7 +201,7 @@ module _ {V : Type 0} (makes ends : V → List ℕ → V → Reply → Type 0) w
           }
 
     -- the input ended in a last part of a line, or behind a newline
-    pub Ends_closed : (script : List ℕ) (left leaves b c d : Option (List ℕ)) (was now : V) (run new : LinesValue) (line : LineBufferValue) (counts : Counts) → Between makes start script left b was run
+    pub Ends_closed : (script : List ℕ) (left leaves b c d : Option (List ℕ)) (was now : V) (run new : LineLoopValue) (line : LineBufferValue) (counts : Counts) → Between makes start script left b was run
         → Takes (so_far []) line left leaves [] → OnSome left (IsAtEnd leaves) → line.count < 1000000000 → run.counts.lines < 1000000
         → Closed ends was now (record run { line = line }) new b c counts → Appends c d new.waits → Ended makes ends start script leaves d now counts
     Ends_closed script left leaves b c d was now run new line counts between takes end below few closed sent =
@@ -213,7 +213,7 @@ module _ {V : Type 0} (makes ends : V → List ℕ → V → Reply → Type 0) w
         (with_part between.lines line part between.short is below) (few_lines between.lines part (omega (arith, few, between.answered.lines_are))) gone closed sent
 
     -- nothing is left behind the last line that may be answered
-    pub Ends_within : (script : List ℕ) (left leaves b c d : Option (List ℕ)) (was now : V) (run new : LinesValue) (line : LineBufferValue) (counts : Counts) → Between makes start script left b was run
+    pub Ends_within : (script : List ℕ) (left leaves b c d : Option (List ℕ)) (was now : V) (run new : LineLoopValue) (line : LineBufferValue) (counts : Counts) → Between makes start script left b was run
         → IfSome left (λ rest. rest ≡ []) → Keeps left leaves → run.counts.lines ≡ 1000000 → line ≡ so_far []
         → Closed ends was now (record run { line = line }) new b c counts → Appends c d new.waits → Ended makes ends start script leaves d now counts
     Ends_within script left leaves b c d was now run new line counts between none kept many is closed sent =

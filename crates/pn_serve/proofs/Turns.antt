@@ -4,7 +4,7 @@ use Rattle.std.proofs.lemmas.Bool.{cases_lt}
 use Rattle.std.proofs.lemmas.Bool.Decides.{nat_tests}
 use Rattle.std.specs.Prelude.{◌≢◌, Result, Ok, Err, Vec, MatchResult}
 use Rattle.serde_json.specs.Data.{Data}
-use Rattle.pn_scan.specs.Reads.{AnswersAfter}
+use Rattle.pn_scan.specs.CommandReader.{AnswersAfter}
 use Rattle.pn_scan.specs.declared.fault.ScanFault.{ScanFault}
 use Rattle.pn_scan.specs.declared.fault.ScanFault.TheVariants as scan
 use Rattle.std.specs.declared.alloc.Global.{Global}
@@ -24,7 +24,8 @@ use Rattle.pn_protocol.specs.declared.refusal.Refusal.{Refusal}
 use Rattle.pn_protocol.specs.declared.refusal.Refusal.TheVariants.{TooLong, NotJson, BadShape, ReadOnly, OutOfRange, Memory}
 use Rattle.pn_protocol.specs.Command.Meaning.{CommandValue, deliver}
 use Rattle.pn_protocol.specs.Command.Lines.{command_at, is_too_long}
-use Rattle.pn_serve.proofs.LongLines.{too_long}
+use Rattle.pn_protocol.proofs.CommandLines.{too_long}
+use Rattle.pn_protocol.specs.declared.command.parse.Allowed.TheVariants.{All}
 use Rattle.pn_serve.specs.Machine.Outcomes.{Outcome, Machine, done, line, call, round, idle, Turn, waiting, refusing, showing}
 use Rattle.pn_serve.specs.Machine.PartRounds.{some_stepped, partly_marked}
 use Rattle.pn_serve.specs.Machine.Doing.{delivering, looking}
@@ -70,7 +71,7 @@ as_obeyed machine (round flags) command = refl
 -- a line that is a command is not too long
 pub within : (text : List ℕ) (command : CommandValue) → command_at text ≡ Ok command → is_too_long text ≡ false
 within text command said = elim (cases_lt 65536 (length text)) [
-  | inl long ↦ absurd (let refused = too_long text long in cc)
+  | inl long ↦ absurd (let refused = too_long All text long in cc)
   | inr short ↦ grind (arith, nat_tests)
 ]
 

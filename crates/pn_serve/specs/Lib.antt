@@ -5,4 +5,4 @@ pub mod Script
 pub mod Server
 pub mod Session
 pub mod Settings
-pub mod Words
+pub mod Arguments

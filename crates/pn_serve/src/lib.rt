@@ -1,14 +1,16 @@
 //! Scripts and sessions: what the commands of lines do to a region, and the program's own commands.
 #![tactic(auto)]
 
+mod arguments;
 mod laws;
 mod machine;
 mod script;
 mod server;
 mod sessions;
 mod settings;
-mod words;
 
+pub use arguments::plan;
+pub use arguments::plans::{Plan, PlanFault};
 pub use laws::regions_converge;
 pub use pn_protocol::{
     Command, Part, Refusal, Reply, ShortReply, a_line_is_one_command, adopted_reply,
@@ -19,5 +21,3 @@ pub use script::{Counts, MAX_LINES, RunFault, run, run_to_exit};
 pub use server::{ServeFault, serve};
 pub use sessions::session;
 pub use settings::Settings;
-pub use words::plan;
-pub use words::plans::{Plan, PlanFault};

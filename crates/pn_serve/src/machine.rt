@@ -3,21 +3,21 @@
 ghost use Rattle.std.specs.Prelude.{◌≡◌, ◌≤◌};
 ghost use Rattle.pn_apply.specs.Limits.{max_workers};
 ghost use Rattle.pn_protocol.specs.Command.Meaning.{command_value, deliver as asking};
-ghost use Rattle.pn_serve.specs.Machine.Modes.{IsBegun, with_mode};
+ghost use Rattle.pn_serve.specs.Machine.Modes.{IsDone, with_mode};
 ghost use Rattle.pn_serve.specs.Machine.Outcomes.{waiting};
 ghost use Rattle.pn_serve.specs.Machine.Answers.{AnswersBy, ConcludesBy, Obeys};
-ghost use Rattle.pn_serve.specs.Machine.Ways.{BeginsTo, LastsBy};
+ghost use Rattle.pn_serve.specs.Machine.Ways.{HandlesTo, LastsBy};
 
-pub(crate) mod announced;
+pub(crate) mod adoption;
+pub(crate) mod command_reader;
+pub(crate) mod line_handler;
 pub(crate) mod lookups;
-pub(crate) mod reading;
-pub(crate) mod scripted;
-pub(crate) mod serving;
+pub(crate) mod script_handler;
 pub(crate) mod tablets;
 
-use crate::machine::announced::{Announced, adopt, finish, go_on};
+use crate::machine::adoption::{Announced, adopt, finish, go_on};
+use crate::machine::command_reader::CommandReader;
 use crate::machine::lookups::{get, notices, read, scan};
-use crate::machine::reading::Reads;
 use crate::machine::tablets::{copy, lose};
 use pn_apply::Open;
 use pn_protocol::{Command, Refusal, Reply, fault_reply, marks_reply, shown, tablets_reply};
@@ -32,7 +32,7 @@ pub(crate) type Done = (Reply, Option<Announced>);
 /// Takes a line, which stood before a newline, with 1 to 16 workers: a command, or one of the lines that were
 /// announced. A refusal leaves the region as it was; but after a round that ran out of memory, each tablet is as
 /// it was or has taken its part. Where `C` never runs out of memory, a loss never does.
-pub(crate) fn answer<R: Threads + Sync, C: Reads>(
+pub(crate) fn answer<R: Threads + Sync, C: CommandReader>(
     rt: &R,
     alloc: Global,
     region: &mut Region,
@@ -49,7 +49,7 @@ pub(crate) fn answer<R: Threads + Sync, C: Reads>(
     }
 }
 
-fn command<R: Threads + Sync, C: Reads>(
+fn command<R: Threads + Sync, C: CommandReader>(
     rt: &R,
     alloc: Global,
     region: &mut Region,
@@ -66,18 +66,18 @@ fn command<R: Threads + Sync, C: Reads>(
 }
 
 // The reply to a command, or the lines that it announces.
-fn announce(alloc: Global, begun: Begun) -> Done
-    ensures { IsBegun begun result.0 result.1 }
+fn announce(alloc: Global, handled: Handled) -> Done
+    ensures { IsDone handled result.0 result.1 }
 {
-    match begun {
-        Begun::Obeyed(reply) => (reply, None),
-        Begun::Announces(lines) => (Reply::Silent, Some(Announced::new(alloc, lines))),
+    match handled {
+        Handled::Obeyed(reply) => (reply, None),
+        Handled::Announces(lines) => (Reply::Silent, Some(Announced::new(alloc, lines))),
     }
 }
 
 /// The input is at its end, behind a part of a line that no newline ends: a command, a part of what was announced,
 /// or nothing.
-pub(crate) fn end<R: Threads + Sync, C: Reads>(
+pub(crate) fn end<R: Threads + Sync, C: CommandReader>(
     rt: &R,
     alloc: Global,
     region: &mut Region,
@@ -96,7 +96,7 @@ pub(crate) fn end<R: Threads + Sync, C: Reads>(
 }
 
 // A last line without newline. No line that it announces comes.
-fn last_command<R: Threads + Sync, C: Reads>(
+fn last_command<R: Threads + Sync, C: CommandReader>(
     rt: &R,
     alloc: Global,
     region: &mut Region,
@@ -108,8 +108,8 @@ fn last_command<R: Threads + Sync, C: Reads>(
 {
     match C::command_of(alloc, line) {
         Ok(command) => match obey(rt, alloc, region, workers, command) {
-            Begun::Obeyed(reply) => reply,
-            Begun::Announces(_) => adopt(alloc, region, Some(Vec::new(alloc))),
+            Handled::Obeyed(reply) => reply,
+            Handled::Announces(_) => adopt(alloc, region, Some(Vec::new(alloc))),
         },
         Err(refusal) => Reply::Refused(refusal),
     }
@@ -117,7 +117,7 @@ fn last_command<R: Threads + Sync, C: Reads>(
 
 // What a command came to before the next line.
 #[derive(Drop)]
-enum Begun {
+enum Handled {
     /// It was obeyed, with this reply.
     Obeyed(Reply),
     /// It announces so many lines.
@@ -130,23 +130,23 @@ fn obey<R: Threads + Sync>(
     region: &mut Region,
     workers: usize,
     command: Command,
-) -> Begun
+) -> Handled
     requires workers { (1 ≤ workers) × (workers ≤ max_workers) }
-    ensures { BeginsTo region.old (command_value command) region.new result }
+    ensures { HandlesTo region.old (command_value command) region.new result }
 {
     match command {
-        Command::Adopt { lines } => Begun::Announces(lines),
-        Command::Copy { need, tablet } => Begun::Obeyed(copy(alloc, region, &need, tablet)),
-        Command::Deliver(deliveries) => Begun::Obeyed(deliver(
+        Command::Adopt { lines } => Handled::Announces(lines),
+        Command::Copy { need, tablet } => Handled::Obeyed(copy(alloc, region, &need, tablet)),
+        Command::Deliver(deliveries) => Handled::Obeyed(deliver(
             rt, alloc, region, workers, deliveries,
         )),
-        Command::Get(keys) => Begun::Obeyed(get(alloc, region, &keys)),
-        Command::Lose { tablet } => Begun::Obeyed(lose(region, tablet)),
-        Command::Marks => Begun::Obeyed(shown(marks_reply(alloc, region.marks()))),
-        Command::Notices { since } => Begun::Obeyed(notices(alloc, region, since)),
-        Command::Read { key, version } => Begun::Obeyed(read(alloc, region, &key, version)),
-        Command::Scan(query) => Begun::Obeyed(scan(alloc, region, &query)),
-        Command::Tablets => Begun::Obeyed(shown(tablets_reply(alloc, region))),
+        Command::Get(keys) => Handled::Obeyed(get(alloc, region, &keys)),
+        Command::Lose { tablet } => Handled::Obeyed(lose(region, tablet)),
+        Command::Marks => Handled::Obeyed(shown(marks_reply(alloc, region.marks()))),
+        Command::Notices { since } => Handled::Obeyed(notices(alloc, region, since)),
+        Command::Read { key, version } => Handled::Obeyed(read(alloc, region, &key, version)),
+        Command::Scan(query) => Handled::Obeyed(scan(alloc, region, &query)),
+        Command::Tablets => Handled::Obeyed(shown(tablets_reply(alloc, region))),
     }
 }
 

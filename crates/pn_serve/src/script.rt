@@ -9,12 +9,12 @@ ghost use Rattle.pn_serve.specs.Runs.Ends.{Ends};
 ghost use Rattle.pn_serve.specs.Runs.Starts.{begins};
 
 mod blocks;
-pub(crate) mod turns;
+pub(crate) mod line_loop;
 
 use crate::Settings;
-use crate::machine::scripted::Scripted;
-use crate::machine::serving::Serves;
-use crate::script::turns::{Lines, Next};
+use crate::machine::line_handler::LineHandler;
+use crate::machine::script_handler::ScriptHandler;
+use crate::script::line_loop::{LineLoop, Next};
 use pn_join::NoMemory;
 use pn_line::{Sink, Source, WriteFault};
 use std::alloc::Global;
@@ -79,8 +79,8 @@ pub fn run<R: Threads + Sync, S: Source, W: Sink>(
     ensures read { IsErrOf result RunFault.Read → S.may_fail }
     ensures write { IsErrOf result RunFault.Write → W.may_fail }
 {
-    let mut lines = Lines::new(alloc)?;
-    let mut machine = Scripted::new(rt, alloc, settings)?;
+    let mut lines = LineLoop::new(alloc)?;
+    let mut machine = ScriptHandler::new(rt, alloc, settings)?;
     answer_all(&mut machine, &mut lines, input, output)
 }
 
@@ -97,17 +97,17 @@ pub fn run_to_exit<R: Threads + Sync, S: Source, W: Sink>(
     ensures read { IsErrOf result RunFault.Read → S.may_fail }
     ensures write { IsErrOf result RunFault.Write → W.may_fail }
 {
-    let mut lines = Lines::new(alloc)?;
-    let mut kept = Scripted::new(rt, alloc, settings)?;
+    let mut lines = LineLoop::new(alloc)?;
+    let mut kept = ScriptHandler::new(rt, alloc, settings)?;
     let ended = answer_all(&mut kept, &mut lines, input, output);
     mem::forget(kept);
     ended
 }
 
 /// The machine answers all lines, of which none was answered.
-pub(crate) fn answer_all<M: Serves, S: Source, W: Sink>(
+pub(crate) fn answer_all<M: LineHandler, S: Source, W: Sink>(
     machine: &mut M,
-    lines: &mut Lines,
+    lines: &mut LineLoop,
     input: &mut S,
     output: &mut W,
 ) -> Result<Counts, RunFault>

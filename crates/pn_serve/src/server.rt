@@ -12,17 +12,17 @@ ghost use Rattle.pn_serve.specs.Server.Whole.{AreWhole};
 ghost use Rattle.pn_protocol.specs.Reply.Short.{served_line};
 
 mod bell;
+mod connections;
 mod fault;
+mod mailbox;
 mod messages;
-mod notes;
-mod place;
+mod reports;
 mod rounds;
-mod sessions;
 mod streams;
 
 use crate::Settings;
+use crate::server::connections::{StartedSessions, begin_sessions, end_sessions};
 use crate::server::rounds::take_rounds;
-use crate::server::sessions::{Begun, begin_sessions, end_sessions};
 use crate::server::streams::{Feeds, Reading, begin_reading, end_reading};
 pub use fault::ServeFault;
 use pn_join::NoMemory;
@@ -43,7 +43,7 @@ struct Opened {
     readers: Vec<LiveReader>,
 }
 
-/// Reads the streams into a new live region, each in a thread of its own, in rounds of at most 1,000 messages a stream.
+/// CommandReader the streams into a new live region, each in a thread of its own, in rounds of at most 1,000 messages a stream.
 /// Meanwhile it answers so many sessions, from 1 to 16, each the one connection that its thread accepts. After the last
 /// one it writes `served N`, and how many they were.
 ///
@@ -153,7 +153,7 @@ fn end(served: Result<(), ServeFault>, closed: Result<Region, NoMemory>) -> Resu
     }
 }
 
-// Reads the streams while the sessions are served, and waits for the sessions, which give their readers back.
+// CommandReader the streams while the sessions are served, and waits for the sessions, which give their readers back.
 fn serve_all<R, S>(
     rt: &R,
     alloc: Global,
@@ -175,7 +175,7 @@ where
     let Ok(reading) = begin_reading(rt, alloc, streams) else {
         return Err(ServeFault::Start);
     };
-    let Begun {
+    let StartedSessions {
         running,
         is_refused,
     } = begin_sessions(rt, alloc, listener, &opened.live, &mut opened.readers);

@@ -7,9 +7,9 @@ ghost use Rattle.pn_serve.specs.Session.Lines.{AnswersLine, EndsLines, starts};
 
 mod lookups;
 
-use crate::machine::serving::Serves;
+use crate::machine::line_handler::LineHandler;
 use crate::script::answer_all;
-use crate::script::turns::Lines;
+use crate::script::line_loop::LineLoop;
 use crate::sessions::lookups::answer;
 use crate::{Counts, RunFault};
 use pn_line::{LineBuffer, Sink, Source};
@@ -33,11 +33,11 @@ pub fn session<S: Source, W: Sink>(
     ensures write { IsErrOf result RunFault.Write → W.may_fail }
     ensures same { tablets_of reader.new ≡ tablets_of reader.old }
 {
-    let mut lines = Lines::new(alloc)?;
+    let mut lines = LineLoop::new(alloc)?;
     answer_all(reader, &mut lines, input, output)
 }
 
-impl Serves for LiveReader {
+impl LineHandler for LiveReader {
     ghost use Rattle.pn_serve.specs.Session.Lines.{AnswersLine, EndsLines};
     ghost use Rattle.pn_live.specs.Readers.{tablets_of};
     ghost use Rattle.std.specs.Prelude.{⊤};

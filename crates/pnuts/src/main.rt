@@ -3,7 +3,7 @@
 
 mod served;
 
-use crate::served::{Wanted, serve_streams};
+use crate::served::serve_streams;
 use pn_serve::{Plan, PlanFault, RunFault, Settings, plan, run_to_exit};
 use std::alloc::Global;
 use std::env::Env;
@@ -31,15 +31,7 @@ fn main(rt: HostRuntime) -> ExitCode {
                 port,
                 streams,
             },
-        ) => serve_streams(
-            &rt,
-            Wanted {
-                settings,
-                sessions,
-                port,
-                streams,
-            },
-        ),
+        ) => serve_streams(&rt, settings, sessions, port, streams),
         Ok(Plan::Help(text)) => show(&rt, text.as_str()),
         Err(PlanFault::Words(text)) => refuse(&rt, text.as_str()),
         Err(PlanFault::Bounds) => refuse(&rt, "pnuts: bounds\n"),
@@ -70,8 +62,8 @@ fn fail(rt: &impl Eprint, why: &str) -> ExitCode {
     ExitCode::FAILURE
 }
 
-fn fail_about(rt: &impl Eprint, before: &str, name: &str, behind: &str) -> ExitCode {
-    let _ = eprintln!(rt; "pnuts: {before}{name}{behind}");
+fn fail_about(rt: &impl Eprint, before: &str, name: &str, after: &str) -> ExitCode {
+    let _ = eprintln!(rt; "pnuts: {before}{name}{after}");
     ExitCode::FAILURE
 }
 

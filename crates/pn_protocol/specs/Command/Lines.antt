@@ -6,10 +6,12 @@ use Rattle.pn_record.specs.Reading.{value_at}
 use Rattle.pn_record.specs.declared.fault.ImageFault.{ImageFault}
 use Rattle.pn_record.specs.declared.fault.ImageFault.TheVariants as image
 use Rattle.pn_protocol.specs.Command.Meaning.{CommandValue}
+use Rattle.pn_protocol.specs.declared.command.parse.Allowed.{Allowed}
+use Rattle.pn_protocol.specs.declared.command.parse.Allowed.TheVariants.{All, Lookups}
 use Rattle.pn_protocol.specs.declared.refusal.Part.TheVariants as part
 use Rattle.pn_protocol.specs.declared.refusal.Refusal.{Refusal}
 use Rattle.pn_protocol.specs.declared.refusal.Refusal.TheVariants.{TooLong, NotJson, BadShape, OutOfRange, Memory}
-use Rattle.pn_protocol.specs.Command.Objects.{command_in}
+use Rattle.pn_protocol.specs.Command.Objects.{allowed_in}
 
 -- the line has more bytes than a line may have, 65,536
 abbrev pub is_too_long : List ℕ → Bool
@@ -23,6 +25,14 @@ refusal_of image.Memory = Memory
 refusal_of (image.BadShape at) = BadShape (part.Image at)
 refusal_of (image.OutOfRange at) = OutOfRange (part.Image at)
 
--- the command that a line is
-unfoldable pub command_at : List ℕ → Result CommandValue Refusal
-command_at line = fault_as refusal_of (value_at line) >>= command_in
+-- the command that a line is, if it may be said
+unfoldable pub allowed_at : Allowed → List ℕ → Result CommandValue Refusal
+allowed_at allowed line = fault_as refusal_of (value_at line) >>= allowed_in allowed
+
+-- the command that a line of a script is
+abbrev pub command_at : List ℕ → Result CommandValue Refusal
+command_at line = allowed_at All line
+
+-- the lookup that a line of a session is
+abbrev pub lookup_at : List ℕ → Result CommandValue Refusal
+lookup_at line = allowed_at Lookups line

@@ -1,5 +1,5 @@
 -- The command that a JSON object is, by its word.
-use Rattle.std.specs.Prelude.{◌≡◌, ◌⊎◌, codes, Some, Result, IsOk}
+use Rattle.std.specs.Prelude.{◌≡◌, ◌⊎◌, codes, Some, Result, Ok, Err, IsOk}
 use Rattle.std.specs.Option.{ok_or}
 use Rattle.serde_json.specs.Data.{Data, string, Members}
 use Rattle.serde_json.specs.Find.{get, as_object}
@@ -9,17 +9,19 @@ use Rattle.pn_protocol.specs.Command.Meaning.{CommandValue, deliver}
 use Rattle.pn_protocol.specs.Command.Words.{word_in}
 use Rattle.pn_protocol.specs.Command.Notices.{notices_in}
 use Rattle.pn_protocol.specs.Command.Recovery.{adopt_in, copy_in, lose_in}
-use Rattle.pn_protocol.specs.declared.command.word.Word.{Word}
-use Rattle.pn_protocol.specs.declared.command.word.Word.TheVariants.{Adopt, Copy, Deliver, Get, Lose, Marks, Notices, Read, Scan, Tablets}
+use Rattle.pn_protocol.specs.declared.command.parse.Allowed.{Allowed}
+use Rattle.pn_protocol.specs.declared.command.parse.Allowed.TheVariants.{All, Lookups}
+use Rattle.pn_protocol.specs.declared.command.word.CommandWord.{CommandWord}
+use Rattle.pn_protocol.specs.declared.command.word.CommandWord.TheVariants.{Adopt, Copy, Deliver, Get, Lose, Marks, Notices, Read, Scan, Tablets}
 use Rattle.pn_protocol.specs.declared.refusal.Part.TheVariants.{Whole, Do}
 use Rattle.pn_protocol.specs.declared.refusal.Refusal.{Refusal}
-use Rattle.pn_protocol.specs.declared.refusal.Refusal.TheVariants.{BadShape}
+use Rattle.pn_protocol.specs.declared.refusal.Refusal.TheVariants.{BadShape, ReadOnly}
 use Rattle.pn_protocol.specs.Command.Deliveries.{deliver_in}
 use Rattle.pn_protocol.specs.Command.Lookups.{get_in, read_in, scan_in}
 use Rattle.pn_protocol.specs.Command.Overview.{marks_in, tablets_in}
 
 -- the command of a word
-abbrev pub command_as : Word → Members → Data → Result CommandValue Refusal
+abbrev pub command_as : CommandWord → Members → Data → Result CommandValue Refusal
 command_as Adopt members d = adopt_in members d
 command_as Copy members d = copy_in members d
 command_as Deliver members d = deliver_in members d
@@ -31,15 +33,33 @@ command_as Read members d = read_in members d
 command_as Scan members d = scan_in members d
 command_as Tablets members d = tablets_in members
 
--- the command that a value is
-unfoldable pub command_in : Data → Result CommandValue Refusal
-command_in d = do
+-- the word of a lookup
+abbrev pub lookup_word : CommandWord → Result (Unit {0}) Refusal
+lookup_word Copy = Ok tt
+lookup_word Get = Ok tt
+lookup_word Read = Ok tt
+lookup_word Scan = Ok tt
+lookup_word word = Err ReadOnly
+
+-- a word that may be said, before the members of its command are looked at
+abbrev pub allowed_word : Allowed → CommandWord → Result (Unit {0}) Refusal
+allowed_word All word = Ok tt
+allowed_word Lookups word = lookup_word word
+
+-- the command that a value is, if it may be said
+unfoldable pub allowed_in : Allowed → Data → Result CommandValue Refusal
+allowed_in allowed d = do
   members ← ok_or (as_object d) (BadShape Whole)
   word ← member_as word_in (BadShape Do) (get (codes "do") d)
+  may ← allowed_word allowed word
   command_as word members d
+
+-- the command that a value is
+abbrev pub command_in : Data → Result CommandValue Refusal
+command_in d = allowed_in All d
 
 -- memory may run out: the value is a command, or says `deliver` or `get`, so that its batches or its keys are gathered
 -- before their ranges are looked at
-abbrev pub TakesMemory : Data → Type 0
-TakesMemory d =
-    IsOk (command_in d) ⊎ (get (codes "do") d ≡ Some (string (codes "deliver"))) ⊎ (get (codes "do") d ≡ Some (string (codes "get")))
+abbrev pub TakesMemory : Allowed → Data → Type 0
+TakesMemory allowed d =
+    IsOk (allowed_in allowed d) ⊎ (get (codes "do") d ≡ Some (string (codes "deliver"))) ⊎ (get (codes "do") d ≡ Some (string (codes "get")))

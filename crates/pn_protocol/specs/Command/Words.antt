@@ -3,11 +3,11 @@ use Rattle.std.specs.Prelude.{ℕ, List, codes, if◌then◌else◌, Option, Som
 use Rattle.std.specs.Str.{bytes_eq}
 use Rattle.serde_json.specs.Data.{Data}
 use Rattle.serde_json.specs.Find.{as_str}
-use Rattle.pn_protocol.specs.declared.command.word.Word.{Word}
-use Rattle.pn_protocol.specs.declared.command.word.Word.TheVariants.{Adopt, Copy, Deliver, Get, Lose, Marks, Notices, Read, Scan, Tablets}
+use Rattle.pn_protocol.specs.declared.command.word.CommandWord.{CommandWord}
+use Rattle.pn_protocol.specs.declared.command.word.CommandWord.TheVariants.{Adopt, Copy, Deliver, Get, Lose, Marks, Notices, Read, Scan, Tablets}
 
 -- the word that a text is
-abbrev pub word_of : List ℕ → Option Word
+abbrev pub word_of : List ℕ → Option CommandWord
 word_of text =
     if bytes_eq text (codes "adopt") then Some Adopt else
     (if bytes_eq text (codes "copy") then Some Copy else
@@ -21,5 +21,5 @@ word_of text =
     (if bytes_eq text (codes "tablets") then Some Tablets else None)))))))))
 
 -- the word that a value is
-abbrev pub word_in : Data → Option Word
+abbrev pub word_in : Data → Option CommandWord
 word_in d = option_and_then word_of (as_str d)

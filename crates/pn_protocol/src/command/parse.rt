@@ -7,18 +7,18 @@ ghost use Rattle.pn_record.specs.Limits.{max_line_bytes};
 ghost use Rattle.pn_protocol.specs.Command.BatchParts.{deliver_at};
 ghost use Rattle.pn_protocol.specs.Command.Grammar.{IsCommandLine};
 ghost use Rattle.pn_protocol.specs.Command.Meaning.{CommandValue, deliver, command_value};
-ghost use Rattle.pn_protocol.specs.Command.Lines.{refusal_of, command_at, is_too_long};
+ghost use Rattle.pn_protocol.specs.Command.Lines.{refusal_of, allowed_at, command_at, lookup_at, is_too_long};
 ghost use Rattle.pn_protocol.specs.Command.Overview.{marks_in, tablets_in};
-ghost use Rattle.pn_protocol.specs.Command.Objects.{command_in as command_seen, TakesMemory};
+ghost use Rattle.pn_protocol.specs.Command.Objects.{allowed_in, allowed_word, lookup_word, TakesMemory};
 
 use crate::command::batch::BatchShape;
 use crate::command::build::{built_deliveries, items_at};
-use crate::command::lookups::{get_of, read_of, scan_of};
 use crate::command::notices::notices_of;
 use crate::command::ranges::check_batches;
+use crate::command::records::{get_of, read_of, scan_of};
 use crate::command::recovery::{adopt_of, copy_of, lose_of};
 use crate::command::shapes::{batches_of, check_members};
-use crate::command::word::{Word, word_of};
+use crate::command::word::{CommandWord, word_of};
 use crate::{Command, Part, Refusal};
 use pn_json::{items_of, member_from};
 use pn_record::{ImageFault, read_value};
@@ -52,36 +52,75 @@ pub fn command_of(alloc: Global, line: &[u8]) -> Result<Command, Refusal>
     ensures too_long { IsTrue (is_too_long line.now) → IsErrOf result Refusal.TooLong }
     ensures memory { IsErrOf result Refusal.Memory → is_too_long line.now ≡ false }
 {
-    line_command(alloc, line)
+    allowed_command(alloc, line, Allowed::All)
 }
 
-#[tactic(auto, unfolding(crate::specs::Command::Lines::command_at))]
-fn line_command(alloc: Global, line: &[u8]) -> Result<Command, Refusal>
-    ensures exact { ShowsUnless Refusal.Memory command_value result (command_at line.now) }
+/// The lookup that a line of a session is, or its first fault: as of [`command_of`], but `ReadOnly` where its word is that of
+/// another command, whatever its other members are.
+pub fn lookup_of(alloc: Global, line: &[u8]) -> Result<Command, Refusal>
+    ensures exact { ShowsUnless Refusal.Memory command_value result (lookup_at line.now) }
+    ensures memory { IsErrOf result Refusal.Memory → is_too_long line.now ≡ false }
+{
+    allowed_command(alloc, line, Allowed::Lookups)
+}
+
+/// Which commands a line may say.
+#[derive(Clone, Copy)]
+pub(crate) enum Allowed {
+    All,
+    /// `copy`, `get`, `read` and `scan`.
+    Lookups,
+}
+
+#[tactic(auto, unfolding(crate::specs::Command::Lines::allowed_at))]
+fn allowed_command(alloc: Global, line: &[u8], allowed: Allowed) -> Result<Command, Refusal>
+    ensures exact { ShowsUnless Refusal.Memory command_value result (allowed_at allowed line.now) }
     ensures too_long { max_line_bytes < length line.now → IsErrOf result Refusal.TooLong }
 {
     let value = read_value(alloc, line)?;
-    command_in(alloc, value)
+    command_in(alloc, value, allowed)
 }
 
 // The command that a value is. Memory runs out only where it is one, or its batches or keys are gathered.
-#[tactic(auto, unfolding(crate::specs::Command::Objects::command_in, crate::specs::Command::BatchParts::deliver_at))]
-pub(crate) fn command_in(alloc: Global, value: Value) -> Result<Command, Refusal>
-    ensures exact { ShowsUnless Refusal.Memory command_value result (command_seen (view value)) }
-    ensures memory { IsErrOf result Refusal.Memory → TakesMemory (view value) }
+#[tactic(auto, unfolding(crate::specs::Command::Objects::allowed_in, crate::specs::Command::BatchParts::deliver_at))]
+fn command_in(alloc: Global, value: Value, allowed: Allowed) -> Result<Command, Refusal>
+    ensures exact { ShowsUnless Refusal.Memory command_value result (allowed_in allowed (view value)) }
+    ensures memory { IsErrOf result Refusal.Memory → TakesMemory allowed (view value) }
 {
     let members = value.as_object().ok_or(Refusal::BadShape(Part::Whole))?;
-    match word_of(value.get("do"))? {
-        Word::Adopt => adopt_of(members, &value),
-        Word::Copy => copy_of(alloc, members, &value),
-        Word::Deliver => deliver_of(alloc, value),
-        Word::Get => get_of(alloc, members, &value),
-        Word::Lose => lose_of(members, &value),
-        Word::Marks => marks_of(members),
-        Word::Notices => notices_of(members, &value),
-        Word::Read => read_of(alloc, members, &value),
-        Word::Scan => scan_of(alloc, members, &value),
-        Word::Tablets => tablets_of(members),
+    let word = word_of(value.get("do"))?;
+    check_allowed(allowed, word)?;
+    match word {
+        CommandWord::Adopt => adopt_of(members, &value),
+        CommandWord::Copy => copy_of(alloc, members, &value),
+        CommandWord::Deliver => deliver_of(alloc, value),
+        CommandWord::Get => get_of(alloc, members, &value),
+        CommandWord::Lose => lose_of(members, &value),
+        CommandWord::Marks => marks_of(members),
+        CommandWord::Notices => notices_of(members, &value),
+        CommandWord::Read => read_of(alloc, members, &value),
+        CommandWord::Scan => scan_of(alloc, members, &value),
+        CommandWord::Tablets => tablets_of(members),
+    }
+}
+
+fn check_allowed(allowed: Allowed, word: CommandWord) -> Result<(), Refusal>
+    ensures exact { result ≡ allowed_word allowed word }
+    ensures memory { IsErrOf result Refusal.Memory → ⊥ }
+{
+    match allowed {
+        Allowed::All => Ok(()),
+        Allowed::Lookups => check_lookup(word),
+    }
+}
+
+fn check_lookup(word: CommandWord) -> Result<(), Refusal>
+    ensures exact { result ≡ lookup_word word }
+    ensures memory { IsErrOf result Refusal.Memory → ⊥ }
+{
+    match word {
+        CommandWord::Copy | CommandWord::Get | CommandWord::Read | CommandWord::Scan => Ok(()),
+        _ => Err(Refusal::ReadOnly),
     }
 }
 

@@ -10,7 +10,7 @@ use serde_json::Value;
 
 /// What a command's `do` says.
 #[derive(Clone, Copy)]
-pub(crate) enum Word {
+pub(crate) enum CommandWord {
     Adopt,
     Copy,
     Deliver,
@@ -23,32 +23,32 @@ pub(crate) enum Word {
     Tablets,
 }
 
-impl Word {
-    fn read(text: &str) -> Option<Word>
+impl CommandWord {
+    fn read(text: &str) -> Option<CommandWord>
         ensures { result ≡ word_named text.now }
     {
         match text {
-            "adopt" => Some(Word::Adopt),
-            "copy" => Some(Word::Copy),
-            "deliver" => Some(Word::Deliver),
-            "get" => Some(Word::Get),
-            "lose" => Some(Word::Lose),
-            "marks" => Some(Word::Marks),
-            "notices" => Some(Word::Notices),
-            "read" => Some(Word::Read),
-            "scan" => Some(Word::Scan),
-            "tablets" => Some(Word::Tablets),
+            "adopt" => Some(CommandWord::Adopt),
+            "copy" => Some(CommandWord::Copy),
+            "deliver" => Some(CommandWord::Deliver),
+            "get" => Some(CommandWord::Get),
+            "lose" => Some(CommandWord::Lose),
+            "marks" => Some(CommandWord::Marks),
+            "notices" => Some(CommandWord::Notices),
+            "read" => Some(CommandWord::Read),
+            "scan" => Some(CommandWord::Scan),
+            "tablets" => Some(CommandWord::Tablets),
             _ => None,
         }
     }
 }
 
 /// The word that the value of `do` is.
-pub(crate) fn word_of(value: Option<&Value>) -> Result<Word, Refusal>
+pub(crate) fn word_of(value: Option<&Value>) -> Result<CommandWord, Refusal>
     ensures { result ≡ member_as word_in (Refusal.BadShape Do) (seen value.entry) }
 {
     match value.and_then(Value::as_str) {
-        Some(text) => Word::read(text).ok_or(Refusal::BadShape(Part::Do)),
+        Some(text) => CommandWord::read(text).ok_or(Refusal::BadShape(Part::Do)),
         None => Err(Refusal::BadShape(Part::Do)),
     }
 }

@@ -4,9 +4,10 @@
 //! names and texts, so that they are at hand when they are written. All cells are read first, then all fields, then all texts:
 //! where the pieces of a step lie is known before it begins, so they come from memory several at a time.
 
-use pn_join::{Name, NoMemory};
+use pn_join::Name;
 use pn_record::{Body, Cell, Content, Key, Value};
 use pn_scan::Row;
+use std::sync::atomic::{AtomicUsize, Ordering};
 
 /// What a row takes beside its key and its contents, in bytes.
 const OF_ROW: usize = 96;
@@ -59,12 +60,10 @@ pub(crate) fn room_of_rows(rows: &[Row]) -> usize {
     step_of_rows(rows, Step::Fields).wrapping_add(OF_ROW)
 }
 
-/// Whether the escapes of rows have room in memory. They always have, and what this is for is that their texts are at hand.
-pub(crate) fn check_escapes(rows: &[Row]) -> Result<(), NoMemory> {
-    if step_of_rows(rows, Step::Texts) > isize::MAX as usize {
-        return Err(NoMemory);
-    }
-    Ok(())
+/// Reads a byte of each cache line of the rows' names and texts, so that they are at hand when the rows are written.
+pub(crate) fn prefetch_rows(rows: &[Row]) {
+    // (an atomic write is done also where nothing reads it, and so are the reads that it needs)
+    AtomicUsize::new(0).swap(step_of_rows(rows, Step::Texts), Ordering::SeqCst);
 }
 
 fn step_of_rows(rows: &[Row], step: Step) -> usize {

@@ -9,7 +9,7 @@ ghost use Rattle.pn_json.specs.Tokens.{Appends, value_tokens, values_tokens};
 ghost use Rattle.pn_protocol.specs.Reply.Rows.{row_data};
 ghost use Rattle.pn_protocol.specs.Reply.Scan.{next_data, scan_data};
 
-use crate::reply::room::{check_escapes, room_of_rows};
+use crate::reply::room::{prefetch_rows, room_of_rows};
 use crate::reply::rows::{begin_rows, write_row};
 use json::Writer;
 use pn_join::NoMemory;
@@ -65,7 +65,7 @@ fn write_chunks(writer: &mut Writer, rows: &[Row]) -> Result<(), NoMemory>
     ensures { OnOk result (Appends writer.old writer.new (values_tokens (map row_data rows.now))) }
 {
     for chunk in rows.chunks(ROWS_AT_HAND) {
-        check_escapes(chunk)?;
+        prefetch_rows(chunk);
         write_chunk(writer, chunk)?;
     }
     Ok(())

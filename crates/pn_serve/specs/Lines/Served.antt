@@ -3,7 +3,7 @@ use Rattle.std.specs.Prelude.{◌≡◌, ◌<◌, ℕ, List, [], ◌∷◌, leng
 use Rattle.pn_line.specs.LinesRead.{LinesRead}
 use Rattle.pn_line.specs.Sent.{Sends}
 use Rattle.pn_protocol.specs.declared.reply.Reply.{Reply}
-use Rattle.pn_serve.specs.Lines.States.{LinesValue, Start}
+use Rattle.pn_serve.specs.Lines.States.{LineLoopValue, Start}
 use Rattle.pn_serve.specs.Lines.Replies.{texts_of, refusals_of}
 
 -- a line with fewer than a billion bytes
@@ -19,7 +19,7 @@ module _ {V : Type 0} (makes : V → List ℕ → V → Reply → Type 0) where
   AllAnswer was _ _ now = ⊥
 
   -- these lines were answered: their replies went out or wait, and they are counted
-  pub record AllAnswered (start : Start V) (lines : List (List ℕ)) (written : Option (List ℕ)) (machine : V) (run : LinesValue) : Type 0 where
+  pub record AllAnswered (start : Start V) (lines : List (List ℕ)) (written : Option (List ℕ)) (machine : V) (run : LineLoopValue) : Type 0 where
     pub replies : List Reply
     pub made : AllAnswer start.machine lines replies machine
     pub sends : Sends start.written written [] run.waits (texts_of replies)
@@ -27,12 +27,12 @@ module _ {V : Type 0} (makes : V → List ℕ → V → Reply → Type 0) where
     pub refused_are : run.counts.refused ≡ refusals_of replies
 
   -- of this script these lines were read, and were answered
-  pub record Between (start : Start V) (script : List ℕ) (left written : Option (List ℕ)) (machine : V) (run : LinesValue) : Type 0 where
+  pub record Between (start : Start V) (script : List ℕ) (left written : Option (List ℕ)) (machine : V) (run : LineLoopValue) : Type 0 where
     pub lines : List (List ℕ)
     pub read : LinesRead script left lines
     pub short : All IsShort lines
     pub answered : AllAnswered start lines written machine run
 
   -- the same, where the bytes of the script are known
-  abbrev pub Served : Start V → Option (List ℕ) → Option (List ℕ) → V → LinesValue → Type 0
+  abbrev pub Served : Start V → Option (List ℕ) → Option (List ℕ) → V → LineLoopValue → Type 0
   Served start left written machine run = IfSome start.left (λ script. Between start script left written machine run)

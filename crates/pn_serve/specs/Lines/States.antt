@@ -4,14 +4,14 @@ use Rattle.pn_line.specs.Line.{LineBufferValue, so_far}
 use Rattle.pn_serve.specs.declared.script.Counts.{Counts}
 
 -- what a server of lines has: the line that is read, the replies that wait, and its counts
-pub record LinesValue : Type 0 where
+pub record LineLoopValue : Type 0 where
   pub line : LineBufferValue
   pub waits : List ℕ
   pub counts : Counts
 
 -- one that has answered no line
-abbrev pub new_lines : LinesValue
-new_lines = record { line = so_far []; waits = []; counts = record { lines = 0; refused = 0 } }
+abbrev pub new_loop : LineLoopValue
+new_loop = record { line = so_far []; waits = []; counts = record { lines = 0; refused = 0 } }
 
 -- what it began with: its machine, the bytes that its source had left, and those that its writer had
 pub record Start (V : Type 0) : Type 0 where

@@ -3,7 +3,7 @@ use Rattle.std.specs.Prelude.{true, false, Some, [], Result, Ok, Err, is_err}
 use Rattle.serde_json.specs.Data.{Data}
 use Rattle.pn_json.specs.Lines.{line_of}
 use Rattle.pn_region.specs.Logged.{noting}
-use Rattle.pn_region.specs.Reads.{read_in, get_in, page_in}
+use Rattle.pn_region.specs.CommandReader.{read_in, get_in, page_in}
 use Rattle.pn_region.specs.Regions.{RegionValue}
 use Rattle.pn_region.specs.Rounds.{changed}
 use Rattle.pn_region.specs.Rounds.{round as taken_round}

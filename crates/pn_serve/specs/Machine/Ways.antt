@@ -8,8 +8,8 @@ use Rattle.pn_serve.specs.Machine.Announced.{unless_call, with_line}
 use Rattle.pn_serve.specs.Machine.Outcomes.{Outcome, Turn, waiting}
 use Rattle.pn_protocol.specs.Command.Lines.{command_at}
 use Rattle.pn_protocol.specs.Command.Meaning.{CommandValue, adopt}
-use Rattle.pn_serve.specs.declared.machine.Begun.{Begun}
-use Rattle.pn_serve.specs.declared.machine.Begun.TheVariants.{Obeyed, Announces}
+use Rattle.pn_serve.specs.declared.machine.Handled.{Handled}
+use Rattle.pn_serve.specs.declared.machine.Handled.TheVariants.{Obeyed, Announces}
 use Rattle.pn_serve.specs.Machine.LastTurns.{last_of}
 use Rattle.pn_serve.specs.Machine.Turns.{outcome_at}
 use Rattle.pn_serve.specs.Machine.Answers.{TurnedBy, Obeys}
@@ -26,9 +26,9 @@ IsAlone (adopt lines) = ⊥
 IsAlone command = Unit {0}
 
 -- what the program made of a command before the next line: it obeyed it, or waits for the lines that it announces
-abbrev pub BeginsTo : LoggedRegion → CommandValue → LoggedRegion → Begun → Type 0
-BeginsTo old command new (Obeyed reply) = IsAlone command × Obeys (waiting old) command (waiting new) reply
-BeginsTo old command new (Announces lines) = (command ≡ adopt lines) × (new ≡ old)
+abbrev pub HandlesTo : LoggedRegion → CommandValue → LoggedRegion → Handled → Type 0
+HandlesTo old command new (Obeyed reply) = IsAlone command × Obeys (waiting old) command (waiting new) reply
+HandlesTo old command new (Announces lines) = (command ≡ adopt lines) × (new ≡ old)
 
 -- what the program made of the last line, without newline
 abbrev pub LastsBy : Type 0 → LoggedRegion → List ℕ → LoggedRegion → Reply → Type 0

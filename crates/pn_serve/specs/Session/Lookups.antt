@@ -9,7 +9,7 @@ use Rattle.pn_tablet.specs.declared.fault.CopyFault.{CopyFault}
 use Rattle.pn_scan.specs.Candidates.{Look}
 use Rattle.pn_scan.specs.Pages.{PageValue, first_page}
 use Rattle.pn_scan.specs.Queries.{QueryValue}
-use Rattle.pn_scan.specs.Reads.{IsRead, IsGet}
+use Rattle.pn_scan.specs.CommandReader.{IsRead, IsGet}
 use Rattle.pn_scan.specs.Visits.{IsScan}
 use Rattle.pn_scan.specs.declared.fault.ScanFault.{ScanFault}
 use Rattle.pn_live.specs.Copying.{IsCopied}

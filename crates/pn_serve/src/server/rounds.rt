@@ -5,11 +5,11 @@ ghost use Rattle.pn_apply.specs.Limits.{max_workers};
 ghost use Rattle.pn_live.specs.LiveRegions.{tablets_in};
 ghost use Rattle.pn_serve.specs.Server.Faults.{of_round, IsOfReading};
 ghost use Rattle.pn_serve.specs.Server.Messages.{FitRound};
-ghost use Rattle.pn_serve.specs.Server.Notes.{messages_of, ends_in, first_fault};
+ghost use Rattle.pn_serve.specs.Server.Reports.{messages_of, ends_in, first_fault};
 
 use crate::ServeFault;
 use crate::server::messages::Messages;
-use crate::server::notes::Note;
+use crate::server::reports::Report;
 use crate::server::streams::Feeds;
 use pn_apply::Open;
 use pn_join::StreamName;
@@ -80,15 +80,15 @@ fn take_round<R: Threads + Wait + Sync>(
     Ok(ended)
 }
 
-// Takes the note that each stream left, if one did.
+// Takes the report that each stream left, if one did.
 fn gather<R: Wait>(rt: &R, alloc: Global, feeds: &Feeds) -> Result<Gathered, AllocError>
     ensures fit { IfOk result (λ gathered. All FitRound gathered.deliveries.items) }
-    ensures few { IfOk result (λ gathered. vec_len gathered.deliveries ≤ vec_len feeds.now.places) }
+    ensures few { IfOk result (λ gathered. vec_len gathered.deliveries ≤ vec_len feeds.now.mailboxes) }
 {
     let mut gathered = nothing(alloc, feeds.count())?;
     for stream in 0..feeds.count() {
-        if let Some(note) = feeds.take(rt, stream) {
-            add_note(&mut gathered, note);
+        if let Some(report) = feeds.take(rt, stream) {
+            add_report(&mut gathered, report);
         }
     }
     Ok(gathered)
@@ -109,19 +109,19 @@ fn nothing(alloc: Global, streams: usize) -> Result<Gathered, AllocError>
 }
 
 // Adds what a stream left.
-fn add_note(gathered: &mut Gathered, note: Note)
+fn add_report(gathered: &mut Gathered, report: Report)
     requires room { vec_len gathered.old.deliveries < vec_capacity gathered.old.deliveries }
     requires few { gathered.old.ended < vec_capacity gathered.old.deliveries }
-    ensures deliveries { gathered.new.deliveries.items ≡ gathered.old.deliveries.items ++ messages_of note }
-    ensures ended { gathered.new.ended ≡ gathered.old.ended + ends_in note }
-    ensures fault { gathered.new.fault ≡ first_fault gathered.old.fault note }
+    ensures deliveries { gathered.new.deliveries.items ≡ gathered.old.deliveries.items ++ messages_of report }
+    ensures ended { gathered.new.ended ≡ gathered.old.ended + ends_in report }
+    ensures fault { gathered.new.fault ≡ first_fault gathered.old.fault report }
     ensures fit { All FitRound gathered.old.deliveries.items → All FitRound gathered.new.deliveries.items }
     ensures capacity { vec_capacity gathered.new.deliveries ≡ vec_capacity gathered.old.deliveries }
 {
-    match note {
-        Note::Taken(Messages { delivery }) => gathered.deliveries.push_reserved(delivery),
-        Note::End => gathered.ended += 1,
-        Note::Fault(name) => {
+    match report {
+        Report::Taken(Messages { delivery }) => gathered.deliveries.push_reserved(delivery),
+        Report::End => gathered.ended += 1,
+        Report::Fault(name) => {
             if gathered.fault.is_none() {
                 gathered.fault = Some(name);
             }

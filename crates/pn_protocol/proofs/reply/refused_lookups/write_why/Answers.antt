@@ -1,0 +1,5 @@
+-- The tokens of the fault that it is.
+use Rattle.pn_protocol.proofs.reply.refused_lookups.write_why.Goals as goal
+
+pub returns-in-NoEntry : goal.returns-in-NoEntry
+returns-in-NoEntry c = rw c.in-NoEntry.is c.write_error-in-NoEntry.ensures

@@ -1,0 +1,11 @@
+-- The keys so far, before those of what is left, are the keys of all.
+use Rattle.std.proofs.Common.{◌≡◌, drop}
+use Rattle.serde_json.specs.View.{items_view}
+use Rattle.pn_json.specs.Members.{each_in}
+use Rattle.pn_serve.specs.Arguments.Bounds.{key_in}
+use Rattle.pn_protocol.proofs.Walks.{onto}
+use Rattle.pn_serve.proofs.arguments.bounds.keys_of.Given as goal
+
+abbrev pub invariant-loop-item : goal.invariant-loop-item
+invariant-loop-item l =
+    each_in key_in (items_view l.items) ≡ onto l.keys.items (each_in key_in (items_view (drop l.item-index l.items)))

@@ -1,0 +1,10 @@
+-- The streams so far, before those of what is left, are the streams of all.
+use Rattle.std.proofs.Common.{◌≡◌, drop, map}
+use Rattle.pn_json.specs.Members.{texts}
+use Rattle.pn_serve.specs.Arguments.Streams.{each_stream, stream_value}
+use Rattle.pn_protocol.proofs.Walks.{onto}
+use Rattle.pn_serve.proofs.arguments.streams.each_of.Given as goal
+
+abbrev pub invariant-loop-word : goal.invariant-loop-word
+invariant-loop-word l =
+    each_stream (texts l.words) ≡ onto (map stream_value l.streams.items) (each_stream (texts (drop l.word-index l.words)))

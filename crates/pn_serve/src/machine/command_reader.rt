@@ -1,0 +1,32 @@
+//! How lines are read as commands.
+
+ghost use Rattle.std.specs.Prelude.{◌≡◌, false, IsErrOf};
+ghost use Rattle.pn_json.specs.Answers.{ShowsUnless};
+ghost use Rattle.pn_protocol.specs.Command.Lines.{command_at, is_too_long};
+ghost use Rattle.pn_protocol.specs.Command.Meaning.{command_value};
+
+use pn_protocol::{Command, Refusal};
+use std::alloc::Global;
+
+/// CommandReader lines as commands.
+pub(crate) trait CommandReader {
+    // What holds where memory can run out at all while a line is read.
+    ghost may_run_out: { Type 0 };
+
+    /// The command that a line is, or its first fault.
+    fn command_of(alloc: Global, line: &[u8]) -> Result<Command, Refusal>
+        ensures exact { ShowsUnless Refusal.Memory command_value result (command_at line.now) }
+        ensures short { IsErrOf result Refusal.Memory → is_too_long line.now ≡ false }
+        ensures memory { IsErrOf result Refusal.Memory → may_run_out };
+}
+
+/// Lines of JSON, which take memory to read.
+pub(crate) struct Json;
+
+impl CommandReader for Json {
+    ghost may_run_out = { Unit {0} };
+
+    fn command_of(alloc: Global, line: &[u8]) -> Result<Command, Refusal> {
+        pn_protocol::command_of(alloc, line)
+    }
+}
