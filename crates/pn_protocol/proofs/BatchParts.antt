@@ -1,4 +1,4 @@
--- What stands at the members of a batch, and of a `deliver` command.
+-- The members of a batch and of a `deliver` command.
 use Rattle.std.proofs.Common.{◌≡◌, ℕ, List, [], ◌∷◌, length, codes, true, Option, unwrap_or, option_and_then, Result, Ok, IsOk, IsTrue, refl, sym, ap, ◌∙◌}
 use Rattle.std.specs.Option.{ok_or}
 use Rattle.serde_json.specs.Data.{Data, Items, no_items, item}
@@ -38,7 +38,7 @@ image_whole : (d : Data) (image : Image) → image_shape d ≡ Ok image → imag
 unfolding image_in
 image_whole d image shape fit = rw (as_ok _ (shape_in d) image shape, as_ok _ (ranges_in image) tt fit) refl
 
--- what stands at the members of a batch
+-- the members of a batch
 pub record IsOfParts (d : Data) : Type 0 where
   pub images : List Image
   pub read : each_in image_in (items_at (get (codes "images") d)) ≡ Ok images
@@ -105,14 +105,14 @@ parts_found d found = let batch = is_there (batch_in d) found in parts_in d batc
 images_found : (d : Data) (found : IsOk (batch_in d)) (images : List Image) → each_in image_in (items_at (get (codes "images") d)) ≡ Ok images → (parts_found d found).images ≡ images
 images_found d found images is = let read = (parts_found d found).read in cc (read, is)
 
--- so that they have positions
+-- the images that were read have positions
 pub positions_found : (d : Data) → IsOk (batch_in d) → (first : ℕ) (images : List Image) → first ≡ number_at (get (codes "first") d) → each_in image_in (items_at (get (codes "images") d)) ≡ Ok images
     → IsTrue (are_positions first (length images))
 positions_found d found first images at is =
     let parts = parts_found d found in
     ap (λ n. are_positions n (length images)) at ∙ ap (λ (l : List Image). are_positions (number_at (get (codes "first") d)) (length l)) (sym (images_found d found images is)) ∙ parts.positions
 
--- and what is put together of the parts is the batch
+-- a delivery of the parts is the batch
 pub batch_found : (d : Data) → IsOk (batch_in d) → (batch : DeliveryValue) → batch.stream ≡ text_at (get (codes "stream") d) → batch.first ≡ number_at (get (codes "first") d)
     → each_in image_in (items_at (get (codes "images") d)) ≡ Ok batch.images → batch_in d ≡ Ok batch
 batch_found d found batch named at is =

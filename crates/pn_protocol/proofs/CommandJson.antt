@@ -38,7 +38,7 @@ use Rattle.pn_protocol.proofs.CommandLimits.{fits_true, deliver_members, deliver
 use Rattle.pn_protocol.proofs.EachFits.{as_ok}
 use Rattle.pn_json.proofs.MembersByName.{SameAt, same_by_name}
 use Rattle.pn_record.proofs.ReadInOrder.{InOrder}
-use Rattle.pn_protocol.proofs.CommandParts.{text_at, number_at, array_at, object_of, names_of, are_named, rises, in_order, each_found, each_again, array_in_order, batch_found, batch_again, text_of, word_at, key_found, key_again, behind_key, version_required, query_there}
+use Rattle.pn_protocol.proofs.CommandParts.{text_at, number_at, array_at, object_of, names_of, are_named, rises, in_order, each_found, each_again, array_in_order, batch_found, batch_again, text_of, word_at, key_found, key_again, after_key, version_required, query_there}
 
 -- what the members of a word's object say
 module _ (ms : Members) (order : InOrder (object ms)) where
@@ -144,7 +144,7 @@ module _ (ms : Members) (order : InOrder (object ms)) where
       subst (λ c. IsCommand (object ms) c) same (record { value = whole; limits = fits_true Since (may_be_asked since.0) fit.1 })
 
   read_members : (key : List ℕ) (o : Option Data) → get_member (codes "version") ms ≡ o → get_member (codes "do") ms ≡ Some (string (codes "read")) → get_member (codes "key") ms ≡ Some (string key)
-      → named_alone (names_of Read) ms ≡ Ok tt → object ms ≡ read_command key (behind_key o)
+      → named_alone (names_of Read) ms ≡ Ok tt → object ms ≡ read_command key (after_key o)
   read_members key None at says there named =
       named_object (names_of Read) (member (codes "do") (string (codes "read")) (member (codes "key") (string key) no_members)) named tt refl (says, (there, (at, tt)))
   read_members key (Some d) at says there named =
@@ -162,7 +162,7 @@ module _ (ms : Members) (order : InOrder (object ms)) where
       let same : read text.0 version.0 ≡ command = cc in
       let whole = read_members text.0 _ refl says (text_at Key _ text.0 text.1) named.1 in
       subst (λ c. IsCommand (object ms) c) (ap (read text.0) kept.0 ∙ same)
-      (record { value = (behind_key (get_member (codes "version") ms), version_required _ numbers.0 numbers.1, whole); limits = kept.1 })
+      (record { value = (after_key (get_member (codes "version") ms), version_required _ numbers.0 numbers.1, whole); limits = kept.1 })
 
   scan_found : Found Scan
   unfolding scan_in

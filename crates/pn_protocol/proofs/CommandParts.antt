@@ -35,7 +35,7 @@ use Rattle.pn_protocol.proofs.EachFits.{as_ok}
 use Rattle.pn_json.proofs.MembersByName.{same_by_name}
 use Rattle.pn_record.proofs.ReadInOrder.{InOrder, ItemsInOrder, MembersInOrder, in_order-at}
 
--- what stands at a name, from what was found there
+-- the value at a name, from what was found there
 pub text_at : (part : Part) (o : Option Data) (text : List ℕ) → member_as as_str (BadShape part) o ≡ Ok text → o ≡ Some (string text)
 text_at part o text is =
     let found = and_then_some o as_str text (ok_or_ok _ (BadShape part) text is) in
@@ -167,17 +167,17 @@ key_found d key order is = string_from_as_str d key (ok_or_ok (as_str d) (BadSha
 pub key_again : (key : List ℕ) → key_shape (string key) ≡ Ok key
 key_again key = refl
 
--- what stands behind a key: `version`, if it is there
-abbrev pub behind_key : Option Data → Members
-behind_key None = no_members
-behind_key (Some d) = member (codes "version") d no_members
+-- the member after a key: `version`, if it is there
+abbrev pub after_key : Option Data → Members
+after_key None = no_members
+after_key (Some d) = member (codes "version") d no_members
 
-numbers_required : (d : Data) (required : Option Stamp) → option_map Some (numbers_in d) ≡ Some required → IsRequired (behind_key (Some d)) required
+numbers_required : (d : Data) (required : Option Stamp) → option_map Some (numbers_in d) ≡ Some required → IsRequired (after_key (Some d)) required
 numbers_required d required is =
     let found = map_some (numbers_in d) Some required is in
-    subst (λ (r : Option Stamp). IsRequired (behind_key (Some d)) r) found.2 (ap (λ e. member (codes "version") e no_members) (version_from_numbers d found.0 found.1))
+    subst (λ (r : Option Stamp). IsRequired (after_key (Some d)) r) found.2 (ap (λ e. member (codes "version") e no_members) (version_from_numbers d found.0 found.1))
 
-value_required : (d : Data) (required : Option Stamp) → required_in d ≡ Some required → IsRequired (behind_key (Some d)) required
+value_required : (d : Data) (required : Option Stamp) → required_in d ≡ Some required → IsRequired (after_key (Some d)) required
 value_required null None is = inr refl
 value_required null (Some version) is = absurd (cc)
 value_required (boolean b) required is = numbers_required (boolean b) required is
@@ -186,7 +186,7 @@ value_required (string s) required is = numbers_required (string s) required is
 value_required (array ds) required is = numbers_required (array ds) required is
 value_required (object ms) required is = numbers_required (object ms) required is
 
-pub version_required : (o : Option Data) (required : Option Stamp) → version_shape o ≡ Ok required → IsRequired (behind_key o) required
+pub version_required : (o : Option Data) (required : Option Stamp) → version_shape o ≡ Ok required → IsRequired (after_key o) required
 version_required None None is = inl refl
 version_required None (Some version) is = absurd (cc)
 version_required (Some d) required is = value_required d required (ok_or_ok (required_in d) (BadShape Version) required is)

@@ -1,4 +1,4 @@
--- What fits of all fits of each.
+-- A check of all is a check of each.
 use Rattle.std.proofs.Common.{◌≡◌, ℕ, zero, suc, ◌<◌, Bool, true, false, cond, List, [], ◌∷◌, length, get_or, Result, Ok, Err, IsOk, refl, ap, ◌∙◌, arith, rules}
 use Rattle.pn_json.specs.Answers.{◌>>=◌, fault_as}
 use Rattle.serde_json.specs.Data.{Members}
@@ -22,7 +22,7 @@ fits_at check (y ∷ xs) zero x inside here is = ap check here ∙ (both_fit (ch
 fits_at check (y ∷ xs) (suc i) x inside here is =
     fits_at check xs i x (omega arith) here (both_fit (check y) (each_fits check xs) is).1
 
--- what has no fault under another name has none
+-- a result without a fault under another name has none
 pub as_ok : {A E F : Type 0} (name : E → F) (r : Result A E) (a : A) → fault_as name r ≡ Ok a → r ≡ Ok a
 as_ok name (Ok x) a is = cc
 as_ok name (Err e) a is = absurd (cc)

@@ -1,4 +1,4 @@
--- What a line says.
+-- Lines as commands.
 pub mod BatchParts
 pub mod Deliveries
 pub mod Grammar

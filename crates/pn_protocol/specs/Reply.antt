@@ -1,4 +1,4 @@
--- What is answered.
+-- Replies.
 pub mod About
 pub mod Answers
 pub mod Faults

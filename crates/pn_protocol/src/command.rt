@@ -1,4 +1,4 @@
-//! The commands that lines are.
+//! The commands that lines say.
 
 pub(crate) mod batch;
 mod build;
@@ -31,9 +31,9 @@ pub enum Command {
     Lose { tablet: u64 },
     /// Show how far streams were taken.
     Marks,
-    /// Show what changed behind this number.
+    /// Show what changed after this number.
     Notices { since: u64 },
-    /// Show the record of a key: in this version or a later one, where a version is required.
+    /// Show the record of a key. Where a version is required, the record must have it or a later one.
     Read { key: Key, version: Option<Version> },
     /// Show the records that a query asks for, up to its limit.
     Scan(Query),

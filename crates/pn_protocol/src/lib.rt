@@ -1,4 +1,4 @@
-//! Lines to the commands that they say, and what was found or done to the replies. Nothing is done here.
+//! The protocol: reads lines as commands, and writes what was found or done as replies.
 #![tactic(auto)]
 
 mod command;

@@ -11,7 +11,7 @@ use std::alloc::{AllocError, AllocFailed};
 /// The part of a line that is at fault.
 #[derive(Clone, Copy, Debug, PartialEq, Eq)]
 pub enum Part {
-    /// The line itself, which is no object.
+    /// The line itself, which is not an object.
     Whole,
     Do,
     Batches,
@@ -26,14 +26,14 @@ pub enum Part {
     Since,
     Tablet,
     Version,
-    /// A member by a name that has no meaning there.
+    /// A member whose name is unknown there.
     Other,
     /// A part of an image.
     Image(Member),
 }
 
 impl Part {
-    /// The part's name in lower case; of a part of an image, the name of its member.
+    /// The part's name in lower case; for a part of an image, its member's name.
     pub fn word(&self) -> &'static str
         ensures { result.now ≡ part_word self.now }
     {
@@ -58,20 +58,20 @@ impl Part {
     }
 }
 
-/// Why a line was refused. The first fault in the order of the variants is named.
+/// Why a line was refused: its first fault in the order of the variants.
 #[derive(Clone, Copy, Debug, PartialEq, Eq)]
 pub enum Refusal {
     /// The line has more than 65,536 bytes without its newline.
     TooLong,
     /// `serde_json` reads no value in the line.
     NotJson,
-    /// A part is absent where it is wanted, or of another kind.
+    /// A required part is missing, or a part is of another kind.
     BadShape(Part),
-    /// A session does not do what the line asks for. No line of a script is refused so.
+    /// A session does not run this command. A script never answers this.
     ReadOnly,
-    /// All parts are of their kinds, and this one breaks a limit.
+    /// All parts are of the right kinds, and this one breaks a limit.
     OutOfRange(Part),
-    /// Memory ran out. It may stand in place of any check that follows.
+    /// Out of memory. It may replace any later fault.
     Memory,
 }
 

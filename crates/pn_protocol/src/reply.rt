@@ -1,4 +1,4 @@
-//! What lines are answered.
+//! Replies.
 
 pub(crate) mod answers;
 pub(crate) mod faults;
@@ -20,18 +20,18 @@ use crate::Refusal;
 pub enum Reply {
     /// The number of the tablet that took a copy.
     Adopted(u64),
-    /// How many records a round changed.
+    /// The number of records that a round changed.
     Changed(u64),
-    /// A copy: how many lines its text has, and the text.
+    /// A copy: the number of its lines, and its text.
     Copied { lines: u64, text: String },
     /// The number of the tablet that was lost.
     Lost(u64),
-    /// No reply: further lines that were announced are to come, or the input is at its end.
+    /// No reply: announced lines are still to come, or the input is at its end.
     Silent,
     /// A reply's text.
     Text(Vec<u8>),
     /// The line was refused.
     Refused(Refusal),
-    /// The text of why what it asks for was not done.
+    /// Why the command was not run.
     NotTaken(Vec<u8>),
 }

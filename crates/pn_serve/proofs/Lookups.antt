@@ -1,4 +1,4 @@
--- What lookups of a session are answered.
+-- Replies to lookups of a session.
 use Rattle.std.proofs.Common.{◌≡◌, ◌≢◌, ◌⊎◌, ◌<◌, ℕ, zero, suc, Bool, true, false, List, [], ◌∷◌, length, nat_lt, inl, inr, refl, sym, ap, ◌∙◌, subst, arith}
 use Rattle.std.specs.Prelude.{Option, Result, Ok, Err, IsTrue, ◌↔◌}
 use Rattle.std.proofs.lemmas.Bool.{cases_lt}
@@ -11,7 +11,7 @@ use Rattle.pn_tablet.specs.Layouts.{Bounds}
 use Rattle.pn_scan.specs.Candidates.{Look}
 use Rattle.pn_scan.specs.Pages.{PageValue, first_page}
 use Rattle.pn_scan.specs.Queries.{QueryValue}
-use Rattle.pn_scan.specs.CommandReader.{IsGet}
+use Rattle.pn_scan.specs.Reads.{IsGet}
 use Rattle.pn_scan.specs.Visits.{IsScan}
 use Rattle.pn_scan.specs.declared.fault.ScanFault.{ScanFault}
 use Rattle.pn_live.specs.Readers.{LiveReaderValue, LooksLive}
@@ -26,7 +26,7 @@ use Rattle.pn_protocol.specs.Command.Meaning.{CommandValue}
 use Rattle.pn_protocol.specs.Reply.Answers.{ShowsFound}
 use Rattle.pn_serve.specs.Session.Lines.{Tells, LooksUp, AnswersLine, EndsLines, RefusesLine}
 
--- what was found, seen otherwise
+-- what was found, as it is shown
 abbrev pub seen_as : {A B : Type 0} → (A → B) → Result A ScanFault → Result B ScanFault
 seen_as see (Ok found) = Ok (see found)
 seen_as see (Err fault) = Err fault
@@ -42,13 +42,13 @@ shows_as see show (Ok found) (Refused refusal) is = is
 shows_as see show (Ok found) (NotTaken text) is = is
 shows_as see show (Err fault) reply is = is
 
--- the same get, by what its answer shows
+-- a get, by what its answer shows
 pub got_as : {A : Type 0} (bounds : Bounds) (keys : List (List ℕ)) (old new : LiveReaderValue) (show : A → List (Option CellValue)) (found : Result A ScanFault) (seen : List Look)
     → IsGet LooksLive bounds keys old new show found seen → IsGet LooksLive bounds keys old new (λ cells. cells) (seen_as show found) seen
 got_as bounds keys old new show (Ok cells) seen is = record { looked = is.looked; found = is.found; order = is.order; only = is.only; answers = is.answers; whole = is.whole }
 got_as bounds keys old new show (Err fault) seen is = record { looked = is.looked; found = is.found; order = is.order; only = is.only; answers = is.answers; whole = is.whole }
 
--- the same scan, by what its answer shows
+-- a scan, by what its answer shows
 pub scanned_as : {A : Type 0} (bounds : Bounds) (query : QueryValue) (old new : LiveReaderValue) (show : A → PageValue) (found : Result A ScanFault) (seen : List Look)
     → IsScan LooksLive bounds query old new show found (first_page query) seen → IsScan LooksLive bounds query old new (λ page. page) (seen_as show found) (first_page query) seen
 scanned_as bounds query old new show (Ok page) seen is = record { looked = is.looked; visit = is.visit; answers = is.answers; whole = is.whole }
@@ -93,7 +93,7 @@ pub answers_so_far : (old new : LiveReaderValue) (line : LineBufferValue) (text 
 answers_so_far old new line text reply is answered =
     answers_kept old new text reply (subst (λ (bytes : List ℕ). AnswersLine old bytes new reply) (ap (λ (l : LineBufferValue). l.bytes) is) answered)
 
--- the input is at its end behind a newline
+-- the input is at its end after a newline
 pub ends_none : (old : LiveReaderValue) (line : LineBufferValue) (part : List ℕ) → line ≡ so_far part → line.count ≡ 0 → EndsLines old part old Silent
 ends_none old line [] is none = (refl, refl)
 ends_none old line (b ∷ part) is none = absurd (omega (arith, none, ap (λ (l : LineBufferValue). l.count) is))
@@ -102,7 +102,7 @@ pub not_none : (b : Bool) (n : ℕ) → IsTrue b ↔ (n ≡ 0) → b ≡ false �
 not_none b zero both is = let no = both.1 refl in absurd (cc (no, is))
 not_none b (suc n) both is = omega arith
 
--- or behind a part of a line
+-- or after a part of a line
 pub ends_some : (old new : LiveReaderValue) (line : LineBufferValue) (part : List ℕ) (reply : Reply) → line ≡ so_far part → 0 < line.count → AnswersLine old line.bytes new reply → EndsLines old part new reply
 ends_some old new line [] reply is some answered = absurd (omega (arith, some, ap (λ (l : LineBufferValue). l.count) is))
 ends_some old new line (b ∷ part) reply is some answered = answers_so_far old new line (b ∷ part) reply is answered

@@ -1,4 +1,4 @@
--- What losses, copies and adoptions come to, by what the program did.
+-- Losses, copies and adoptions, by what the program did.
 use Rattle.std.proofs.Common.{true, false, ◌≡◌, ◌≢◌, ℕ, ◌+◌, ◌≤◌, List, length, inl, inr, refl, sym, ap, ◌∙◌, subst, arith, slice_get, Option, Some, None}
 use Rattle.std.specs.Prelude.{Result, Ok, Err, IsSomeAnd}
 use Rattle.std.proofs.lemmas.Option.{slice_get_past, slice_get_cases}
@@ -43,7 +43,7 @@ use Rattle.pn_serve.proofs.Turns.{turned_call}
 abbrev telling : LoggedRegion → Data → Turn
 telling region said = record { machine = waiting region; reply = line_of said; refused = true }
 
--- a refusal was told, or there was no memory for it
+-- a refusal was answered, or memory ran out
 told : (turn : Turn) (old new : LoggedRegion) (right : Type 0) (said : Data) (reply : Reply) → new ≡ old → (right → turn ≡ telling old said) → Tells right said reply → ComesTo turn old new reply
 told turn old new right said (NotTaken text) same is (knows, says) =
     inl (ap (λ (t : Turn). t.machine) (is knows) ∙ ap waiting (sym same), ap (λ (t : Turn). t.reply) (is knows) ∙ sym says, ap (λ (t : Turn). t.refused) (is knows))

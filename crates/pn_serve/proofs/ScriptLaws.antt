@@ -21,7 +21,7 @@ use Rattle.pn_region.proofs.ServedRecords.{event_record, events_record}
 use Rattle.pn_region.proofs.ServingTablets.{new_serves, taken_serves, half_serves}
 use Rattle.pn_region.proofs.StillHeld.{itself_held}
 use Rattle.pn_scan.specs.Pages.{first_page}
-use Rattle.pn_scan.specs.CommandReader.{unless_behind}
+use Rattle.pn_scan.specs.Reads.{unless_behind}
 use Rattle.pn_scan.specs.Shown.{shown_rows}
 use Rattle.pn_scan.specs.declared.fault.ScanFault.{ScanFault}
 use Rattle.serde_json.specs.Data.{Data}
@@ -95,7 +95,7 @@ module _ (broker : BrokerRecord) (one other : Told) (took : TookTheSame broker o
       alike (machine_of one).region (machine_of other).region (images_of broker one) (images_of broker other)
       first_records (held_records broker other.layout other.lawful other.lines other.outcomes took.settled_too) took.same
 
-  -- so both have the records of the images that either took
+  -- both have the records of the images that either took
   pub both_records : (records_of one ≡ table_of (images_of broker one)) × (records_of other ≡ table_of (images_of broker one))
   both_records = (first_records, sym same_records ∙ first_records)
 
@@ -125,7 +125,7 @@ look_alike m n (Ok (scan query)) looks is too same =
 look_alike m n (Ok tablets) looks is too same = absurd looks
 look_alike m n (Err refusal) looks is too same = absurd looks
 
--- a line that asks for records goes as it says, or memory ran out
+-- a line that asks for records is answered, or memory ran out
 abbrev out_of_memory : List ℕ
 out_of_memory = line_of (refusal_data Memory)
 
@@ -226,7 +226,7 @@ same_replies broker one other took waits waits_too text went goes asks =
     λ said looks. look_alike m n said looks holds holds_too (same_records broker one other took) in
     (turns_alike m n waits waits_too same went goes text asks, ends_alike m n waits waits_too same went goes text asks)
 
--- a record whose tablet serves before and after one event or none is held still
+-- an event makes no record older whose tablet serves before and after it
 one_held : (events : List RegionEvent) (old new : RegionValue) (key : List ℕ) → IsRegion old → OneLeads events old new → ServesAt old key → ServesAt new key
     → HoldsStill (find bytes_cmp key (all_cells old)) (find bytes_cmp key (all_cells new))
 one_held [] old new key is lead serves serves_too =

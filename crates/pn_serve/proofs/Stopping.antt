@@ -1,4 +1,4 @@
--- What was written where a script is not answered to its end.
+-- What was written if a script is not answered to its end.
 use Rattle.std.proofs.Common.{◌≡◌, ◌≢◌, ℕ, ◌<◌, ◌≤◌, Option, Some, List, [], ◌∷◌, ◌++◌, length, IfSome, OnSome, inl, inr, refl, sym, ap, ◌∙◌, subst, arith, append-nil}
 use Rattle.std.specs.Prelude.{Result, Err, IsErrAnd}
 use Rattle.std.proofs.lemmas.Result.{err_from_is_err_and}
@@ -7,7 +7,7 @@ use Rattle.std.proofs.lemmas.Bool.{cases_eq}
 use Rattle.std.proofs.lemmas.List.Elements.{All-nil}
 use Rattle.pn_line.specs.Line.{LineBufferValue, so_far}
 use Rattle.pn_line.specs.LinesRead.{LinesRead, PartRead}
-use Rattle.pn_line.specs.CommandReader.{Takes, IsUnbroken}
+use Rattle.pn_line.specs.Reads.{Takes, IsUnbroken}
 use Rattle.pn_line.specs.Sent.{AppendsPrefix}
 use Rattle.pn_line.specs.Text.{lines_of, onto_first}
 use Rattle.pn_line.proofs.LinesReadLaws.{LinesRead-line, LinesRead-part}
@@ -67,7 +67,7 @@ still {left = left} leaves read kept = record {
 }
 
 module _ {V : Type 0} (makes ends : V → List ℕ → V → Reply → Type 0) (start : Start V) where
-  -- the writer failed behind whole lines
+  -- the writer failed after whole lines
   cut_lines : (script : List ℕ) (left c : Option (List ℕ)) (machine : V) (lines : List (List ℕ)) (part : List ℕ) (replies : List Reply) → PartRead script left lines part
       → AllAnswer makes start.machine lines replies machine → AppendsPrefix start.written c (texts_of replies) → Cut makes ends start script left c machine
   cut_lines script left c machine lines part replies read made sent = record {
@@ -75,19 +75,19 @@ module _ {V : Type 0} (makes ends : V → List ℕ → V → Reply → Type 0) (
     part = part;
     read = read;
     replies = replies;
-    behind = machine;
+    reached = machine;
     made = made;
     last = [];
     ended = inl (refl, refl);
     prefix = subst (λ (r : List ℕ). AppendsPrefix start.written c r) (sym (append-nil (texts_of replies))) sent;
   }
 
-  -- the writer failed between two lines, where what waited was to go out
+  -- the writer failed between two lines, when what waited was written
   pub Cut_between : (script : List ℕ) (left b c : Option (List ℕ)) (machine : V) (run : LineLoopValue) → Between makes start script left b machine run → AppendsPrefix b c run.waits → Cut makes ends start script left c machine
   Cut_between script left b c machine run between sent =
       cut_lines script left c machine between.lines [] between.answered.replies (no_part between.read) between.answered.made (Sends-cut_flush between.answered.sends sent)
 
-  -- the same behind a part of a line
+  -- the writer failed after a part of a line
   pub Cut_part : (script : List ℕ) (left leaves b c : Option (List ℕ)) (machine : V) (run : LineLoopValue) (line : LineBufferValue) → Between makes start script left b machine run
       → Takes (so_far []) line left leaves [] → AppendsPrefix b c run.waits → Cut makes ends start script leaves c machine
   Cut_part script left leaves b c machine run line between takes sent =
@@ -112,14 +112,14 @@ module _ {V : Type 0} (makes ends : V → List ℕ → V → Reply → Type 0) (
     part = part;
     read = read;
     replies = replies;
-    behind = was;
+    reached = was;
     made = made;
     last = reply_text reply;
     ended = inr (gone, (reply, refl, ended));
     prefix = sent;
   }
 
-  -- the input is at its end behind a part of a line
+  -- the input is at its end after a part of a line
   module _ (script : List ℕ) (left leaves b c : Option (List ℕ)) (was now : V) (run : LineLoopValue) (line : LineBufferValue) (between : Between makes start script left b was run)
       (takes : Takes (so_far []) line left leaves []) (end : OnSome left (IsAtEnd leaves)) where
     -- and the writer failed at the last reply
@@ -130,7 +130,7 @@ module _ {V : Type 0} (makes ends : V → List ℕ → V → Reply → Type 0) (
         cut_end script leaves c was now between.lines part between.answered.replies closed.reply read gone between.answered.made (closed.made part is)
         (Sends-cut (reply_text closed.reply) between.answered.sends closed.prefix)
 
-    -- and the writer failed behind the last reply
+    -- and the writer failed after the last reply
     pub Cut_after : (d : Option (List ℕ)) (new : LineLoopValue) (counts : Counts) → Closed ends was now (record run { line = line }) new b c counts → AppendsPrefix c d new.waits → Cut makes ends start script leaves d now
     Cut_after d new counts closed sent =
         let (part, is, read) = LinesRead-part between.read takes in
@@ -138,7 +138,7 @@ module _ {V : Type 0} (makes ends : V → List ℕ → V → Reply → Type 0) (
         cut_end script leaves d was now between.lines part between.answered.replies closed.reply read gone between.answered.made (closed.made part is)
         (Sends-cut_flush (all_sent makes ends start script b c was now run new between.lines line part counts (parts_read leaves read gone) between.answered is closed) sent)
 
-  -- nothing is left behind the last line that may be answered
+  -- nothing is left after the last line that may be answered
   module _ (script : List ℕ) (left leaves b c : Option (List ℕ)) (was now : V) (run : LineLoopValue) (line : LineBufferValue) (between : Between makes start script left b was run)
       (none : IfSome left (λ rest. rest ≡ [])) (kept : Keeps left leaves) (is : line ≡ so_far []) where
     empty : between.read.rest ≡ []
@@ -153,7 +153,7 @@ module _ {V : Type 0} (makes ends : V → List ℕ → V → Reply → Type 0) (
         cut_end script leaves c was now between.lines [] between.answered.replies closed.reply (no_part (still leaves between.read kept)) gone between.answered.made (closed.made [] is)
         (Sends-cut (reply_text closed.reply) between.answered.sends closed.prefix)
 
-    -- and the writer failed behind the last reply
+    -- and the writer failed after the last reply
     pub Cut_finished : (d : Option (List ℕ)) (new : LineLoopValue) (counts : Counts) → Closed ends was now (record run { line = line }) new b c counts → AppendsPrefix c d new.waits → Cut makes ends start script leaves d now
     Cut_finished d new counts closed sent =
         cut_end script leaves d was now between.lines [] between.answered.replies closed.reply (no_part (still leaves between.read kept)) gone between.answered.made (closed.made [] is)
@@ -166,7 +166,7 @@ module _ {V : Type 0} (makes ends : V → List ℕ → V → Reply → Type 0) (
       let (part, is, read) = LinesRead-part between.read takes in
       record { lines = between.lines; part = part; read = read; replies = between.answered.replies; made = between.answered.made; wrote = Sends-flushed c between.answered.sends sent }
 
-  -- a read failed behind the last line that may be answered
+  -- a read failed after the last line that may be answered
   pub Broken_after : (script : List ℕ) (left leaves b c : Option (List ℕ)) (machine : V) (run : LineLoopValue) → Between makes start script left b machine run
       → Keeps left leaves → Appends b c run.waits → Broken makes ends start script leaves c machine
   Broken_after script left leaves b c machine run between kept sent = record {
@@ -225,7 +225,7 @@ module _ {V : Type 0} (makes ends : V → List ℕ → V → Reply → Type 0) (
       let (fault, is, write) = err_from_is_err_and result answered in
       subst (EndsBy makes ends start left written machine) (sym is) (subst (λ (f : RunFault). EndsBy makes ends start left written machine (Err f)) (sym write) ended)
 
-  -- a fault that is handed on
+  -- a fault that is passed on
   pub Handed_on : (left written : Option (List ℕ)) (machine : V) (fault : RunFault) (result : Result Counts RunFault) → IsErrAnd result (λ other. other ≡ fault) → EndsBy makes ends start left written machine (Err fault) → EndsBy makes ends start left written machine result
   Handed_on left written machine fault result answered ended =
       let (other, is, same) = err_from_is_err_and result answered in

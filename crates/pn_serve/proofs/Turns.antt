@@ -1,10 +1,10 @@
--- What lines that say something do, by what the program did.
+-- Turns of lines, by what the program did.
 use Rattle.std.proofs.Common.{◌≡◌, ℕ, Bool, true, false, if◌then◌else◌, List, [], ◌∷◌, length, refl, sym, ap, ◌∙◌, subst, inl, inr, arith}
 use Rattle.std.proofs.lemmas.Bool.{cases_lt}
 use Rattle.std.proofs.lemmas.Bool.Decides.{nat_tests}
 use Rattle.std.specs.Prelude.{◌≢◌, Result, Ok, Err, Vec, MatchResult}
 use Rattle.serde_json.specs.Data.{Data}
-use Rattle.pn_scan.specs.CommandReader.{AnswersAfter}
+use Rattle.pn_scan.specs.Reads.{AnswersAfter}
 use Rattle.pn_scan.specs.declared.fault.ScanFault.{ScanFault}
 use Rattle.pn_scan.specs.declared.fault.ScanFault.TheVariants as scan
 use Rattle.std.specs.declared.alloc.Global.{Global}
@@ -38,7 +38,7 @@ use Rattle.pn_protocol.specs.Reply.Short.{changed_data}
 use Rattle.pn_json.specs.Answers.{ShowsUnless}
 use Rattle.pn_json.specs.Lines.{line_of}
 
--- what memory that ran out in a call makes of a command
+-- out of memory in a call, a command is refused so
 abbrev pub RunsOut : LoggedRegion → CommandValue → Type 0
 RunsOut region command = obeying (waiting region) call command ≡ refusing (waiting region) Memory
 
@@ -51,7 +51,7 @@ turned_call old new command out same = record {
   refused = ap (λ (t : Turn). t.refused) out;
 }
 
--- an outcome of a command is one of its line, which was read
+-- an outcome of a command is one of its line
 abbrev pub read_whole : Outcome → Outcome
 read_whole line = done
 read_whole outcome = outcome
@@ -84,7 +84,7 @@ pub as_said : (test : Bool) → (if test then done else done) ≡ done
 as_said true = refl
 as_said false = refl
 
--- a turn of a line comes to what the turn that it is comes to
+-- equal turns come to the same machine and reply
 pub turned_read : (may : Type 0) (turns others : Outcome → Turn) (machine : Machine) (reply : Reply) (is : Turned turns machine reply) (outcome : Outcome) → IsReadUnless may outcome → others outcome ≡ turns is.outcome
     → TurnedBy may others machine reply
 turned_read may turns others machine reply is outcome read same = record {
@@ -105,7 +105,7 @@ turned_as may turns others machine reply is outcome read same = record {
   refused = ap (λ (t : Turn). t.refused) same ∙ is.refused;
 }
 
--- where memory cannot run out, a line goes as one may that is read
+-- a line that was read whatever memory does, was read
 weaker : (may : Type 0) (outcome : Outcome) → IsReadUnless ⊥ outcome → IsReadUnless may outcome
 weaker may done read = tt
 weaker may line read = absurd read
@@ -115,7 +115,7 @@ weaker may (round flags) read = tt
 pub turned_always : (may : Type 0) (turns : Outcome → Turn) (machine : Machine) (reply : Reply) → TurnedBy ⊥ turns machine reply → TurnedBy may turns machine reply
 turned_always may turns machine reply is = turned_as may turns turns machine reply is is.outcome (weaker may is.outcome is.read) refl
 
--- the command that a line is was obeyed
+-- the command of a line was run
 pub turned_said : (may : Type 0) (text : List ℕ) (command : CommandValue) (old : LoggedRegion) (new : Machine) (reply : Reply) → command_at text ≡ Ok command → Obeys (waiting old) command new reply → AnswersBy may (waiting old) text new reply
 turned_said may text command old new reply said obeys =
     let outcome = read_whole obeys.outcome in
@@ -191,7 +191,7 @@ module _ {A : Type 0} (region : LoggedRegion) (command : CommandValue) (show : A
   turned_shown seen (Ok found) (NotTaken text) is shows = no_memory (NotTaken text) shows
   turned_shown seen (Err fault) reply is refuses = turned_why fault reply is refuses
 
--- what was read is right, unless memory ran out
+-- what was read is right, or memory ran out
 pub read_shows : {A : Type 0} (before right found : Result A ScanFault) → AnswersAfter before found right → ShowsUnless scan.Memory (λ found. found) found right
 read_shows before right (Ok found) is = is
 read_shows before right (Err scan.Memory) is = λ other. absurd (other refl)

@@ -1,4 +1,4 @@
--- The words that the program is started with.
+-- The program's arguments.
 pub mod Bounds
 pub mod Commands
 pub mod Options

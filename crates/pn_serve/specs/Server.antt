@@ -1,4 +1,4 @@
--- Streams that are served: what their threads leave, which fault is answered, and what is written.
+-- Served streams: the reports of their threads, and which fault is answered.
 pub mod Faults
 pub mod Messages
 pub mod Reports

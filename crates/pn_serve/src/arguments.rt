@@ -1,4 +1,4 @@
-//! The words that the program is started with: what they plan, or why they are refused.
+//! The program's arguments.
 
 ghost use Rattle.std.specs.Prelude.{◌≡◌, map, string_bytes, IfOk, IsSome, Some};
 ghost use Rattle.clap.specs.Words.{found_of, kind_of, rows_of, subcommand_rows_of};
@@ -20,7 +20,7 @@ use clap::error::ErrorKind;
 use clap::{ArgMatches, Error};
 use std::alloc::Global;
 
-/// What the words plan, of which the first is the program's name. Faults come in the order of `PlanFault`.
+/// Parses the command line; `words[0]` is the program. Faults come in the order of `PlanFault`.
 pub fn plan(alloc: Global, words: &[String]) -> Result<Plan, PlanFault>
     ensures plans { Plans (map string_bytes words.now) result }
     ensures sessions { IfOk result HasSessions }
@@ -31,7 +31,7 @@ pub fn plan(alloc: Global, words: &[String]) -> Result<Plan, PlanFault>
     }
 }
 
-// What `clap` says in place of matches: help, or why the words are refused.
+// Answers help, or why `clap` refuses the arguments.
 fn answer_to(alloc: Global, error: &Error) -> Result<Plan, PlanFault>
     ensures { Answers (kind_of error.now) result }
 {

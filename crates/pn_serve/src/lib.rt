@@ -1,4 +1,4 @@
-//! Scripts and sessions: what the commands of lines do to a region, and the program's own commands.
+//! Runs scripts and sessions over regions, and parses the program's arguments.
 #![tactic(auto)]
 
 mod arguments;

@@ -1,4 +1,4 @@
-//! What lines do to a region, and their replies.
+//! Runs the commands of lines over a region.
 
 ghost use Rattle.std.specs.Prelude.{◌≡◌, ◌≤◌};
 ghost use Rattle.pn_apply.specs.Limits.{max_workers};
@@ -26,12 +26,11 @@ use pn_stream::Delivery;
 use std::alloc::Global;
 use std::thread::Threads;
 
-/// What a line came to: its reply, and the lines that are announced behind it.
+/// The reply to a line, and the lines that it announces.
 pub(crate) type Done = (Reply, Option<Announced>);
 
-/// Takes a line, which stood before a newline, with 1 to 16 workers: a command, or one of the lines that were
-/// announced. A refusal leaves the region as it was; but after a round that ran out of memory, each tablet is as
-/// it was or has taken its part. Where `C` never runs out of memory, a loss never does.
+/// Answers a line with its newline: a command, or an announced line. Only a round out of memory leaves some tablets
+/// changed. If `C` never runs out of memory, losses never do.
 pub(crate) fn answer<R: Threads + Sync, C: CommandReader>(
     rt: &R,
     alloc: Global,
@@ -65,7 +64,7 @@ fn command<R: Threads + Sync, C: CommandReader>(
     }
 }
 
-// The reply to a command, or the lines that it announces.
+// Waits for the lines that a command announces.
 fn announce(alloc: Global, handled: Handled) -> Done
     ensures { IsDone handled result.0 result.1 }
 {
@@ -75,8 +74,7 @@ fn announce(alloc: Global, handled: Handled) -> Done
     }
 }
 
-/// The input is at its end, behind a part of a line that no newline ends: a command, a part of what was announced,
-/// or nothing.
+/// Answers the end of the input, after a part of a line without newline: a command, an announced part, or nothing.
 pub(crate) fn end<R: Threads + Sync, C: CommandReader>(
     rt: &R,
     alloc: Global,
@@ -95,7 +93,7 @@ pub(crate) fn end<R: Threads + Sync, C: CommandReader>(
     }
 }
 
-// A last line without newline. No line that it announces comes.
+// Answers a last line without newline. No line that it announces can come.
 fn last_command<R: Threads + Sync, C: CommandReader>(
     rt: &R,
     alloc: Global,
@@ -115,12 +113,12 @@ fn last_command<R: Threads + Sync, C: CommandReader>(
     }
 }
 
-// What a command came to before the next line.
+// The first step of a command.
 #[derive(Drop)]
 enum Handled {
-    /// It was obeyed, with this reply.
+    /// It was run, with this reply.
     Obeyed(Reply),
-    /// It announces so many lines.
+    /// It announces this many lines.
     Announces(u64),
 }
 
@@ -150,7 +148,7 @@ fn obey<R: Threads + Sync>(
     }
 }
 
-// One round of the deliveries.
+// Runs one round of the deliveries.
 fn deliver<R: Threads + Sync>(
     rt: &R,
     alloc: Global,

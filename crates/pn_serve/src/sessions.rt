@@ -1,4 +1,4 @@
-//! Sessions: lines are answered through a reader of a live region.
+//! Sessions: lines are answered by a reader of a live region.
 
 ghost use Rattle.std.specs.Prelude.{◌≡◌, IsErrOf};
 ghost use Rattle.pn_live.specs.Readers.{tablets_of};
@@ -17,11 +17,10 @@ use pn_live::LiveReader;
 use pn_protocol::Reply;
 use std::alloc::Global;
 
-/// Answers the lines of a session until its end, each by one reply, through a reader of a live region, and writes each
-/// reply before it waits for more input. It answers `read`, `get`, `scan` and `copy`; every other command is refused as
-/// read-only. It waits for nobody but its input and its output.
+/// Answers each line of a session with one reply, before it waits for more input. Commands other than `read`, `get`,
+/// `scan` and `copy` are refused as read-only.
 ///
-/// `Memory` comes only before the first line; want of memory later is a reply.
+/// `Memory` comes only before the first line. Out of memory later is a reply.
 pub fn session<S: Source, W: Sink>(
     alloc: Global,
     reader: &mut LiveReader,

@@ -1,4 +1,4 @@
-//! `pnuts`: its words say whether a script is answered or streams are served.
+//! `pnuts`: answers a script, or serves streams.
 #![tactic(auto)]
 
 mod served;
@@ -15,7 +15,7 @@ use std::{env, io};
 /// How many bytes of the script are read at a time.
 const INPUT_ROOM: usize = 65_536;
 
-/// The status of words that are refused.
+/// The exit status of refused arguments.
 const REFUSED: u8 = 2;
 
 fn main(rt: HostRuntime) -> ExitCode {
@@ -51,7 +51,7 @@ fn show(rt: &impl Print, text: &str) -> ExitCode {
     }
 }
 
-// Where standard error takes nothing, the status alone tells of the fault.
+// If standard error takes nothing, the status alone shows the fault.
 fn refuse(rt: &impl Eprint, text: &str) -> ExitCode {
     let _ = eprint!(rt; "{text}");
     ExitCode::from(REFUSED)

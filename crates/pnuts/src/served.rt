@@ -78,7 +78,7 @@ enum Unopened {
     Memory,
 }
 
-// Opens the files of the streams, each in its turn.
+// Opens the files of the streams in their order.
 fn opened<R: Files<File = File>>(
     rt: &R,
     alloc: Global,

@@ -1,4 +1,4 @@
--- The batch that a value is, and what stands at its members.
+-- Batches, and their members.
 use Rattle.std.specs.Prelude.{ℕ, Option, option_and_then, unwrap_or, Result, Ok}
 use Rattle.std.specs.Option.{ok_or}
 use Rattle.serde_json.specs.Data.{Data, Items, no_items}

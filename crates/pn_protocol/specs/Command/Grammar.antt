@@ -11,12 +11,12 @@ use Rattle.pn_protocol.specs.Command.Limits.{is_command}
 use Rattle.pn_protocol.specs.Command.Meaning.{CommandValue, adopt, copy, deliver, get, lose, marks, notices, read, scan, tablets}
 use Rattle.pn_protocol.specs.Command.Json.{command_data, adopt_command, copy_command, deliver_command, get_command, lose_command, notices_command, read_command, scan_command}
 
--- what a copy has to reach; where that is nothing, it may also be absent or null
+-- what a copy has to reach; nothing may also be missing or null
 abbrev pub IsNeed : Option Data → Positions → Type 0
 IsNeed None need = need ≡ []
 IsNeed (Some d) need = ((d ≡ null) × (need ≡ [])) ⊎ (d ≡ marks_data need)
 
--- behind the key stands the version that is required; where none is, it is absent or null
+-- the members after the key: the required version; without one, none or null
 abbrev pub IsRequired : Members → Option Stamp → Type 0
 IsRequired others None = (others ≡ no_members) ⊎ (others ≡ member (codes "version") null no_members)
 IsRequired others (Some version) = others ≡ member (codes "version") (version_data version) no_members

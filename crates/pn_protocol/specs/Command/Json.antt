@@ -12,7 +12,7 @@ delivery_data delivery =
     (member (codes "images") (array (items_of (map image_data delivery.images)))
     (member (codes "stream") (string delivery.stream) no_members)))
 
--- a command's object: its word, and the members behind `do`
+-- a command's object: its word, and the members after `do`
 abbrev pub command_data : List ℕ → Members → Data
 command_data word others = object (member (codes "do") (string word) others)
 
@@ -29,7 +29,7 @@ abbrev pub copy_command : Option Data → ℕ → Data
 copy_command None tablet = command_data (codes "copy") (tablet_member tablet)
 copy_command (Some need) tablet = command_data (codes "copy") (member (codes "need") need (tablet_member tablet))
 
--- a `deliver` command, whose batches stand before `do`
+-- a `deliver` command, whose batches come before `do`
 abbrev pub deliver_command : List DeliveryValue → Data
 deliver_command deliveries =
     object (member (codes "batches") (array (items_of (map delivery_data deliveries)))
@@ -43,11 +43,11 @@ get_command keys = command_data (codes "get") (member (codes "keys") (array (ite
 abbrev pub lose_command : ℕ → Data
 lose_command tablet = command_data (codes "lose") (tablet_member tablet)
 
--- a `notices` command: behind which number
+-- a `notices` command: after which number
 abbrev pub notices_command : ℕ → Data
 notices_command since = command_data (codes "notices") (member (codes "since") (number (unsigned since)) no_members)
 
--- a `read` command, with what stands behind its key
+-- a `read` command, with the members after its key
 abbrev pub read_command : List ℕ → Members → Data
 read_command key others = command_data (codes "read") (member (codes "key") (string key) others)
 

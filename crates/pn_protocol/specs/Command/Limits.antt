@@ -28,15 +28,15 @@ is_delivery delivery =
 abbrev pub max_announced : ℕ
 max_announced = 1000000
 
--- a command announces at least one line, and not more than so many
+-- a command announces 1 to 1,000,000 lines
 abbrev pub may_announce : ℕ → Bool
 may_announce lines = nat_le 1 lines && nat_le lines max_announced
 
--- notices are asked for behind a number that an entry may have
+-- notices are asked for after a number that an entry may have
 abbrev pub may_be_asked : ℕ → Bool
 may_be_asked since = nat_le since last_number
 
--- at least one, and not more than so many
+-- at least one, and at most this many
 abbrev pub are_few : {A : Type 0} → ℕ → List A → Bool
 are_few most list = nat_le 1 (length list) && nat_le (length list) most
 
@@ -45,8 +45,7 @@ abbrev pub may_be_required : Option Stamp → Bool
 may_be_required None = true
 may_be_required (Some version) = is_version version
 
--- 1 to 1,000,000 lines, names and positions of streams, 1 to 64 deliveries that keep their limits, 1 to 100 keys, each of
--- 1 to 256 bytes, a number up to 10^18, a key and a version, or a query; another command has no limits of its own
+-- the parts of a command keep their limits
 abbrev pub is_command : CommandValue → Bool
 is_command (adopt lines) = may_announce lines
 is_command (copy need tablet) = list_all is_mark need

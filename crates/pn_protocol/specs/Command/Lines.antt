@@ -13,7 +13,7 @@ use Rattle.pn_protocol.specs.declared.refusal.Refusal.{Refusal}
 use Rattle.pn_protocol.specs.declared.refusal.Refusal.TheVariants.{TooLong, NotJson, BadShape, OutOfRange, Memory}
 use Rattle.pn_protocol.specs.Command.Objects.{allowed_in}
 
--- the line has more bytes than a line may have, 65,536
+-- the line has more than 65,536 bytes
 abbrev pub is_too_long : List ℕ → Bool
 is_too_long line = nat_lt max_line_bytes (length line)
 
@@ -25,14 +25,14 @@ refusal_of image.Memory = Memory
 refusal_of (image.BadShape at) = BadShape (part.Image at)
 refusal_of (image.OutOfRange at) = OutOfRange (part.Image at)
 
--- the command that a line is, if it may be said
+-- the command that a line says, if it is allowed
 unfoldable pub allowed_at : Allowed → List ℕ → Result CommandValue Refusal
 allowed_at allowed line = fault_as refusal_of (value_at line) >>= allowed_in allowed
 
--- the command that a line of a script is
+-- the command that a line of a script says
 abbrev pub command_at : List ℕ → Result CommandValue Refusal
 command_at line = allowed_at All line
 
--- the lookup that a line of a session is
+-- the lookup that a line of a session says
 abbrev pub lookup_at : List ℕ → Result CommandValue Refusal
 lookup_at line = allowed_at Lookups line

@@ -7,8 +7,8 @@ use Rattle.pn_stream.specs.Positions.{DeliveryValue}
 use Rattle.pn_protocol.specs.declared.command.Command.{Command}
 use Rattle.pn_protocol.specs.declared.command.Command.TheVariants.{Adopt, Copy, Deliver, Get, Lose, Marks, Notices, Read, Scan, Tablets}
 
--- a command; notices are asked for behind a number, a read may say which version it requires, a copy how far it has to reach, and an adoption says how many lines
--- behind it are a copy's text
+-- a command, with its parts: lines to adopt; need and tablet; deliveries; keys; tablet; the number after which
+-- notices are wanted; key and required version; query
 pub data CommandValue : Type 0 where
   adopt : ℕ → CommandValue
   copy : Positions → ℕ → CommandValue

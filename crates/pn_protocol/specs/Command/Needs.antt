@@ -1,5 +1,4 @@
--- How far a copy has to reach, as a `copy` command says it: its shape is looked at with those of the other members, its ranges
--- behind them.
+-- The need of a `copy` command: its shape is checked with the other members, its ranges after them.
 use Rattle.std.specs.Prelude.{[], Option, Some, None, Result, Ok, Err}
 use Rattle.serde_json.specs.Data.{Data, null}
 use Rattle.pn_join.specs.Marks.{Positions}
@@ -29,7 +28,7 @@ abbrev pub need_at : Option Data → Result Positions Refusal
 need_at None = Ok []
 need_at (Some d) = need_in d
 
--- it has the shape of marks, within their ranges or not
+-- it has the shape of marks, whatever their ranges
 abbrev pub need_shape : Result Positions Refusal → Result (Unit {0}) Refusal
 need_shape (Err (BadShape part)) = Err (BadShape part)
 need_shape read = Ok tt

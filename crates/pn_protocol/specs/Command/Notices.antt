@@ -1,4 +1,4 @@
--- The command that asks what changed.
+-- The `notices` command.
 use Rattle.std.specs.Prelude.{[], ◌∷◌, codes, Result, Ok}
 use Rattle.serde_json.specs.Data.{Data, Members}
 use Rattle.serde_json.specs.Find.{get}
@@ -12,7 +12,7 @@ use Rattle.pn_protocol.specs.declared.refusal.Part.TheVariants.{Since}
 use Rattle.pn_protocol.specs.declared.refusal.Refusal.{Refusal}
 use Rattle.pn_protocol.specs.declared.refusal.Refusal.TheVariants.{BadShape}
 
--- the number behind which a `notices` command asks
+-- the number after which a `notices` command asks
 unfoldable pub notices_in : Members → Data → Result CommandValue Refusal
 notices_in members d = do
   since ← member_as whole_number (BadShape Since) (get (codes "since") d)

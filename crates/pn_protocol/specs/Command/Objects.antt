@@ -41,12 +41,12 @@ lookup_word Read = Ok tt
 lookup_word Scan = Ok tt
 lookup_word word = Err ReadOnly
 
--- a word that may be said, before the members of its command are looked at
+-- the word is allowed, whatever the other members are
 abbrev pub allowed_word : Allowed → CommandWord → Result (Unit {0}) Refusal
 allowed_word All word = Ok tt
 allowed_word Lookups word = lookup_word word
 
--- the command that a value is, if it may be said
+-- the command that a value says, if it is allowed
 unfoldable pub allowed_in : Allowed → Data → Result CommandValue Refusal
 allowed_in allowed d = do
   members ← ok_or (as_object d) (BadShape Whole)
@@ -54,12 +54,12 @@ allowed_in allowed d = do
   may ← allowed_word allowed word
   command_as word members d
 
--- the command that a value is
+-- the command that a value says
 abbrev pub command_in : Data → Result CommandValue Refusal
 command_in d = allowed_in All d
 
--- memory may run out: the value is a command, or says `deliver` or `get`, so that its batches or its keys are gathered
--- before their ranges are looked at
+-- memory may run out: the value is a command, or says `deliver` or `get`, whose batches or keys are gathered before
+-- their ranges are checked
 abbrev pub TakesMemory : Allowed → Data → Type 0
 TakesMemory allowed d =
     IsOk (allowed_in allowed d) ⊎ (get (codes "do") d ≡ Some (string (codes "deliver"))) ⊎ (get (codes "do") d ≡ Some (string (codes "get")))

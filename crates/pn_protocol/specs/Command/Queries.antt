@@ -1,4 +1,4 @@
--- The query that a `scan` command says: its shape is looked at with those of the other members, its ranges behind them.
+-- The query of a `scan` command: its shape is checked with the other members, its ranges after them.
 use Rattle.std.specs.Prelude.{Option, Some, None, Result, Ok, Err}
 use Rattle.serde_json.specs.Data.{Data}
 use Rattle.pn_json.specs.Answers.{fault_as}
@@ -10,7 +10,7 @@ use Rattle.pn_protocol.specs.declared.refusal.Part.TheVariants.{Query}
 use Rattle.pn_protocol.specs.declared.refusal.Refusal.{Refusal}
 use Rattle.pn_protocol.specs.declared.refusal.Refusal.TheVariants.{BadShape, OutOfRange, Memory}
 
--- the query of a member, or its fault. An absent one has the wrong shape
+-- the query of a member, or its fault; a missing one has the wrong shape
 abbrev pub query_at : Option Data → Result QueryValue QueryFault
 query_at None = Err query.BadShape
 query_at (Some d) = query_in d
@@ -21,7 +21,7 @@ query_refusal query.BadShape = BadShape Query
 query_refusal query.OutOfRange = OutOfRange Query
 query_refusal query.Memory = Memory
 
--- it has the shape of a query, within its ranges or not
+-- it has the shape of a query, whatever its ranges
 abbrev pub query_shape : Result QueryValue QueryFault → Result (Unit {0}) Refusal
 query_shape (Err query.BadShape) = Err (BadShape Query)
 query_shape read = Ok tt

@@ -13,7 +13,7 @@ use Rattle.pn_protocol.specs.declared.refusal.Part.TheVariants.{Lines, Tablet}
 use Rattle.pn_protocol.specs.declared.refusal.Refusal.{Refusal}
 use Rattle.pn_protocol.specs.declared.refusal.Refusal.TheVariants.{BadShape}
 
--- how many lines an `adopt` command announces
+-- the number of lines that an `adopt` command announces
 unfoldable pub adopt_in : Members → Data → Result CommandValue Refusal
 adopt_in members d = do
   lines ← member_as whole_number (BadShape Lines) (get (codes "lines") d)
@@ -21,7 +21,7 @@ adopt_in members d = do
   fit ← fits Lines (may_announce lines)
   Ok (adopt lines)
 
--- how far the copy of a `copy` command has to reach, and the tablet's number
+-- the marks that a copy has to reach, and the tablet's number
 unfoldable pub copy_in : Members → Data → Result CommandValue Refusal
 copy_in members d = do
   shape ← need_shape (need_at (get (codes "need") d))

@@ -6,11 +6,11 @@ use Rattle.pn_json.specs.Tokens.{member_tokens}
 use Rattle.pn_region.specs.declared.fault.RoundFault.{RoundFault}
 use Rattle.pn_region.specs.declared.fault.RoundFault.TheVariants.{Gap, TooManyStreams, Memory as no_memory}
 
--- an error's name, and what it says of itself
+-- an error: its name and its details
 abbrev pub error_data : List ℕ → Members → Data
 error_data name about = object (member (codes "error") (string name) about)
 
--- what a gap says of itself: the position that came, the stream, and the position that was wanted
+-- the details of a gap: the position that came, the stream, and the position that was wanted
 abbrev pub about_gap : List ℕ → ℕ → ℕ → Members
 about_gap stream wanted got =
     member (codes "got") (number (unsigned got)) (member (codes "stream") (string stream) (member (codes "wanted") (number (unsigned wanted)) no_members))
@@ -25,7 +25,7 @@ fault_data no_memory = error_data (codes "memory") no_members
 abbrev pub error_tokens : List ℕ → List Token
 error_tokens name = member_tokens (codes "error") (string name)
 
--- the tokens of what a gap says of itself, as members of an object
+-- the tokens of a gap's details
 abbrev pub gap_tokens : List ℕ → ℕ → ℕ → List Token
 gap_tokens stream wanted got =
     member_tokens (codes "got") (number (unsigned got)) ++ member_tokens (codes "stream") (string stream) ++ member_tokens (codes "wanted") (number (unsigned wanted))

@@ -9,7 +9,7 @@ use Rattle.pn_scan.specs.declared.fault.ScanFault.{ScanFault}
 use Rattle.pn_scan.specs.declared.fault.ScanFault.TheVariants.{Recovering, Behind, Memory, NoEntry}
 use Rattle.pn_protocol.specs.Reply.Faults.{error_data, error_tokens}
 
--- the version of a record, or null where there is none
+-- the version of a record, or null
 abbrev pub version_or_null : Option Stamp → Data
 version_or_null None = null
 version_or_null (Some version) = version_data version
@@ -21,7 +21,7 @@ refused_data (Behind has) = error_data (codes "behind") (member (codes "has") (v
 refused_data Memory = error_data (codes "memory") no_members
 refused_data NoEntry = error_data (codes "no-entry") no_members
 
--- the tokens of the tablet that is recovering, as members of an object
+-- the tokens of a recovering tablet's error
 abbrev pub recovering_tokens : ℕ → List Token
 recovering_tokens tablet = error_tokens (codes "recovering") ++ member_tokens (codes "tablet") (number (unsigned tablet))
 

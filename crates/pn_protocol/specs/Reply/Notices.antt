@@ -1,4 +1,4 @@
--- The replies to who asks what changed.
+-- Replies to `notices`.
 use Rattle.std.specs.Prelude.{ℕ, true, List, map, codes, Option, Some, None, option_map}
 use Rattle.serde_json.specs.Data.{Data, boolean, number, string, array, object, unsigned, no_members, member}
 use Rattle.serde_json.specs.View.{items_of}
@@ -28,7 +28,7 @@ notices_data next list =
 unfoldable pub missed_data : ℕ → Data
 missed_data next = object (member (codes "missed") (boolean true) (member (codes "next") (number (unsigned next)) no_members))
 
--- what the program found
+-- the reply for what the log answered
 abbrev pub found_since : Since → Data
 found_since (Notices next list) = notices_data next list.items
 found_since (Missed next) = missed_data next
@@ -37,6 +37,6 @@ abbrev pub since_as : ℕ → Option (List Notice) → Data
 since_as next (Some list) = notices_data next list
 since_as next None = missed_data next
 
--- what a log of these entries tells behind a number
+-- the reply that a log of these entries gives after a number
 abbrev pub since_data : List Entry → ℕ → Data
 since_data entries n = since_as (last_of entries) (option_map (numbered n) (changes_behind entries n))

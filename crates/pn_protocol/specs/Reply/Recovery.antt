@@ -30,7 +30,7 @@ with_number name value others = member name (number (unsigned value)) others
 abbrev pub with_stream : List ℕ → Members → Members
 with_stream stream others = member (codes "stream") (string stream) others
 
--- what a tablet that is behind says of itself, and a copy that is too old
+-- the details of `behind` and of `too-old`
 abbrev pub about_behind : List ℕ → ℕ → ℕ → Members
 about_behind stream has wanted = with_number (codes "has") has (with_stream stream (with_number (codes "wanted") wanted no_members))
 

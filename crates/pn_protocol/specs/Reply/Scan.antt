@@ -7,12 +7,12 @@ use Rattle.pn_scan.specs.Queries.{QueryValue}
 use Rattle.pn_scan.specs.QueryJson.{query_data}
 use Rattle.pn_protocol.specs.Reply.Rows.{row_data}
 
--- the query for what is still to come, or null where nothing is
+-- the query for the rest, or null if nothing is left
 abbrev pub next_data : Option QueryValue → Data
 next_data None = null
 next_data (Some query) = query_data query
 
--- the reply to a scan: the query for what is still to come, and the rows of the page
+-- the reply to a scan: the query for the rest, and the rows of the page
 unfoldable pub scan_data : PageValue → Data
 scan_data page =
     object (member (codes "next") (next_data page.1)

@@ -44,8 +44,8 @@ refusal_data Memory = error_data (codes "memory") no_members
 abbrev pub number_data : List ℕ → ℕ → Data
 number_data name count = object (member name (number (unsigned count)) no_members)
 
--- the replies to a delivery: how many records it changed; to an adoption and a loss: which tablet's; to a copy: how many lines
--- follow
+-- the replies to a delivery (changed records), an adoption and a loss (the tablet), and a copy (the lines that
+-- follow)
 unfoldable pub changed_data : ℕ → Data
 changed_data count = number_data (codes "changed") count
 
@@ -58,6 +58,6 @@ lost_data tablet = number_data (codes "lost") tablet
 unfoldable pub lines_data : ℕ → Data
 lines_data count = number_data (codes "lines") count
 
--- the last line of a server: `served`, how many sessions they were, and a newline
+-- the last line of a server: `served` and the number of sessions
 abbrev pub served_line : ℕ → List ℕ
 served_line sessions = (codes "served " ++ decimal sessions) ++ codes "\n"

@@ -3,7 +3,7 @@
 use pn_record::Shape;
 use std::marker::Model;
 
-/// The parts of a batch of the right shape, whose ranges are still to be looked at.
+/// The parts of a batch of the right shape. Their ranges are not checked yet.
 #[derive(Drop)]
 pub(crate) struct BatchShape<'v> {
     pub(crate) first: u64,

@@ -1,4 +1,4 @@
-//! Batches and keys in their ranges, taken out of the parsed value.
+//! Builds deliveries and keys from checked values.
 
 ghost use Rattle.std.specs.Prelude.{◌≡◌, option_map, IfOk, IsOk, IsTrue, Ok};
 ghost use Rattle.serde_json.specs.View.{view, items_view};
@@ -16,7 +16,7 @@ use pn_stream::Delivery;
 use serde_json::Value;
 use std::alloc::Global;
 
-/// The deliveries of the batches. The names and the texts of fields are moved out of them, and not copied.
+/// The deliveries of the batches. Names and texts of fields are moved, not copied.
 pub(crate) fn built_deliveries(
     alloc: Global,
     batches: Vec<Value>,
@@ -53,7 +53,7 @@ fn text_of<'v>(value: Option<&'v Value>) -> &'v str
     value.and_then(Value::as_str).unwrap_or("")
 }
 
-/// The items of an array, and none of any other value.
+/// The items of an array; no items for any other value.
 pub(crate) fn items_at(alloc: Global, value: Option<Value>) -> Vec<Value>
     ensures { items_view result.items ≡ items_there (option_map view value) }
 {
@@ -77,7 +77,7 @@ fn built_images(alloc: Global, values: Vec<Value>) -> Result<Vec<Image>, NoMemor
     Ok(images)
 }
 
-/// The keys of the texts, with each text copied once.
+/// The keys of the texts, each copied once.
 #[tactic(auto, unfolding(crate::specs::Command::RangeChecks::keys_fit))]
 pub(crate) fn built_keys(alloc: Global, from: &[&str]) -> Result<Vec<Key>, NoMemory>
     requires { keys_fit (texts from.now) ≡ Ok tt }

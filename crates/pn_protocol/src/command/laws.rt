@@ -4,7 +4,7 @@ ghost use Rattle.std.specs.Prelude.{◌≡◌, ℕ, List};
 ghost use Rattle.pn_protocol.specs.Command.Grammar.{IsCommandLine};
 ghost use Rattle.pn_protocol.specs.Command.Meaning.{CommandValue};
 
-/// No line is the line of two commands.
+/// No line says two commands.
 pub fn a_line_is_one_command()
     ensures { (line : List ℕ) (one other : CommandValue) → IsCommandLine line one → IsCommandLine line other → one ≡ other }
 {}

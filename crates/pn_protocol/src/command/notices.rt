@@ -1,4 +1,4 @@
-//! The command that asks what changed.
+//! The `notices` command.
 
 ghost use Rattle.std.specs.Prelude.{◌≡◌, IsErrOf};
 ghost use Rattle.serde_json.specs.View.{view, members_view};
@@ -14,7 +14,7 @@ use crate::{Command, Part, Refusal};
 use pn_json::whole_number_of;
 use serde_json::{Map, Value};
 
-/// The greatest number behind which notices are asked for.
+/// The greatest number after which notices can be asked for.
 const MAX_SINCE: u64 = 1_000_000_000_000_000_000;
 
 #[tactic(auto, unfolding(crate::specs::Command::Notices::notices_in))]

@@ -1,4 +1,4 @@
-//! The command that a line is.
+//! Reads a line as a command.
 
 ghost use Rattle.std.specs.Prelude.{◌≡◌, ◌<◌, false, Ok, length, IfOk, IsOk, IsErrOf, IsTrue};
 ghost use Rattle.serde_json.specs.View.{view, members_view};
@@ -39,15 +39,13 @@ impl From<ImageFault> for Refusal {
     }
 }
 
-/// The command that a line is, or its first fault. `TooLong` where it has more than 65,536 bytes;
-/// otherwise `NotJson` where `serde_json` reads no value in it; otherwise `BadShape` with the first
-/// part that is absent or of another kind; otherwise `OutOfRange` with the first that breaks a limit.
-/// `Memory` may stand in place of any of these but the first, where memory ran out.
+/// Reads a line as a command, or answers its first fault in the order of [`Refusal`]. `Memory` may replace any fault
+/// but `TooLong`.
 pub fn command_of(alloc: Global, line: &[u8]) -> Result<Command, Refusal>
     ensures found { IfOk result (λ command. IsCommandLine line.now (command_value command)) }
     ensures only { (command : CommandValue) → IsCommandLine line.now command → ShowsUnless Refusal.Memory command_value result (Ok command) }
 
-    // Which fault it is.
+    // Exactly this fault.
     ensures exact { ShowsUnless Refusal.Memory command_value result (command_at line.now) }
     ensures too_long { IsTrue (is_too_long line.now) → IsErrOf result Refusal.TooLong }
     ensures memory { IsErrOf result Refusal.Memory → is_too_long line.now ≡ false }
@@ -55,8 +53,8 @@ pub fn command_of(alloc: Global, line: &[u8]) -> Result<Command, Refusal>
     allowed_command(alloc, line, Allowed::All)
 }
 
-/// The lookup that a line of a session is, or its first fault: as of [`command_of`], but `ReadOnly` where its word is that of
-/// another command, whatever its other members are.
+/// Reads a line of a session as a lookup, or answers its first fault. `ReadOnly` names another command, whatever its
+/// other members are.
 pub fn lookup_of(alloc: Global, line: &[u8]) -> Result<Command, Refusal>
     ensures exact { ShowsUnless Refusal.Memory command_value result (lookup_at line.now) }
     ensures memory { IsErrOf result Refusal.Memory → is_too_long line.now ≡ false }
@@ -64,7 +62,7 @@ pub fn lookup_of(alloc: Global, line: &[u8]) -> Result<Command, Refusal>
     allowed_command(alloc, line, Allowed::Lookups)
 }
 
-/// Which commands a line may say.
+/// The commands that a line may say.
 #[derive(Clone, Copy)]
 pub(crate) enum Allowed {
     All,
@@ -81,7 +79,7 @@ fn allowed_command(alloc: Global, line: &[u8], allowed: Allowed) -> Result<Comma
     command_in(alloc, value, allowed)
 }
 
-// The command that a value is. Memory runs out only where it is one, or its batches or keys are gathered.
+// Reads a value as a command. Memory runs out only for a command, or while batches or keys are gathered.
 #[tactic(auto, unfolding(crate::specs::Command::Objects::allowed_in, crate::specs::Command::BatchParts::deliver_at))]
 fn command_in(alloc: Global, value: Value, allowed: Allowed) -> Result<Command, Refusal>
     ensures exact { ShowsUnless Refusal.Memory command_value result (allowed_in allowed (view value)) }
@@ -124,7 +122,7 @@ fn check_lookup(word: CommandWord) -> Result<(), Refusal>
     }
 }
 
-// All is checked before anything is moved out of the value.
+// Checks all before it moves anything out of the value.
 #[tactic(auto, unfolding(crate::specs::Command::BatchParts::deliver_at))]
 fn deliver_of(alloc: Global, value: Value) -> Result<Command, Refusal>
     ensures { ShowsUnless Refusal.Memory command_value result (deliver_at (view value)) }

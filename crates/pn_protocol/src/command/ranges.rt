@@ -1,4 +1,4 @@
-//! The ranges of a line's parts, looked at in their shapes. It takes no memory.
+//! Checks the ranges of a line's parts.
 
 ghost use Rattle.std.specs.Prelude.{◌≡◌, IsErrOf};
 ghost use Rattle.pn_json.specs.Members.{texts};
@@ -18,7 +18,7 @@ const MAX_BATCHES: usize = 64;
 /// The most keys of a command.
 const MAX_KEYS: usize = 100;
 
-/// Whether there are 1 to 64 batches, each in its ranges; otherwise the first fault.
+/// Checks that there are 1 to 64 batches, each within its limits.
 #[tactic(auto, unfolding(crate::specs::Command::RangeChecks::batches_fit))]
 pub(crate) fn check_batches(batches: &[BatchShape<'_>]) -> Result<(), Refusal>
     ensures { result ≡ batches_fit batches.now }
@@ -64,7 +64,7 @@ fn check_image(image: &Shape<'_>) -> Result<(), Refusal>
     }
 }
 
-/// Whether there are 1 to 100 keys, each of 1 to 256 bytes.
+/// Checks that there are 1 to 100 keys, each of 1 to 256 bytes.
 #[tactic(auto, unfolding(crate::specs::Command::RangeChecks::keys_fit))]
 pub(crate) fn check_keys(keys: &[&str]) -> Result<(), Refusal>
     ensures { result ≡ keys_fit (texts keys.now) }
@@ -78,7 +78,7 @@ pub(crate) fn check_keys(keys: &[&str]) -> Result<(), Refusal>
     Ok(())
 }
 
-/// Whether the text has 1 to 256 bytes; otherwise the part is at fault.
+/// Checks that the text has 1 to 256 bytes. The part names the fault.
 pub(crate) fn check_key(text: &str, part: Part) -> Result<(), Refusal>
     ensures exact { result ≡ fits part (is_key text.now) }
     ensures memory { IsErrOf result Refusal.Memory → ⊥ }

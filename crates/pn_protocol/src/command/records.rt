@@ -92,7 +92,7 @@ pub(crate) fn scan_of(
     Ok(Command::Scan(query?))
 }
 
-// The query that the value is. An absent one has the wrong shape.
+// Reads a query. A missing one has the wrong shape.
 fn query_of(alloc: Global, value: Option<&Value>) -> Result<Query, QueryFault>
     ensures exact { IsUnless QueryFault.Memory result (query_at (seen value.entry)) }
     ensures memory { IsErrOf result QueryFault.Memory → IsOk (query_at (seen value.entry)) }
@@ -103,7 +103,7 @@ fn query_of(alloc: Global, value: Option<&Value>) -> Result<Query, QueryFault>
     }
 }
 
-// Whether it has the shape of a query.
+// Checks the shape of the query alone.
 fn check_shape(query: &Result<Query, QueryFault>) -> Result<(), Refusal>
     ensures exact { result ≡ query_shape query.now }
     ensures memory { IsErrOf result Refusal.Memory → ⊥ }

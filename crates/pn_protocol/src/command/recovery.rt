@@ -62,7 +62,7 @@ pub(crate) fn copy_of(
     })
 }
 
-// The marks that the copy has to reach. None where the value is absent or null.
+// The marks that the copy has to reach: none if the value is missing or null.
 fn need_of(alloc: Global, value: Option<&Value>) -> Result<Marks, Refusal>
     ensures exact { IsUnless Refusal.Memory result (need_at (seen value.entry)) }
     ensures memory { IsErrOf result Refusal.Memory → IsOk (need_at (seen value.entry)) }
@@ -83,7 +83,7 @@ fn marks_needed(alloc: Global, value: &Value) -> Result<Marks, Refusal>
     marks_of(alloc, value).map_err(need_fault)
 }
 
-// The refusal of a line for what is at fault in its need.
+// The refusal for a fault in `need`.
 fn need_fault(fault: ImageFault) -> Refusal
     ensures { result ≡ need_refusal fault }
 {
@@ -96,7 +96,7 @@ fn need_fault(fault: ImageFault) -> Refusal
     }
 }
 
-// Whether it has the shape of marks.
+// Checks the shape of the marks alone.
 fn check_need(need: &Result<Marks, Refusal>) -> Result<(), Refusal>
     ensures exact { result ≡ need_shape need.now }
     ensures memory { IsErrOf result Refusal.Memory → ⊥ }

@@ -1,4 +1,4 @@
-//! The shapes of a line's parts, looked at in the parsed value.
+//! Checks the shapes of a line's parts, and borrows them from the parsed value.
 
 ghost use Rattle.std.specs.Prelude.{◌≡◌, IsErrOf};
 ghost use Rattle.serde_json.specs.View.{view, items_view, members_view};
@@ -13,7 +13,7 @@ use pn_record::{Shape, numbers_of, shape_of};
 use serde_json::{Map, Value};
 use std::alloc::Global;
 
-/// Whether each member has one of the names.
+/// Checks that each member has one of these names.
 pub(crate) fn check_members(members: &Map<String, Value>, names: &[&str]) -> Result<(), Refusal>
     ensures exact { result ≡ named_alone (texts names.now) (members_view members.now.entries) }
     ensures memory { IsErrOf result Refusal.Memory → ⊥ }
@@ -57,7 +57,7 @@ fn batch_of(alloc: Global, value: &Value) -> Result<BatchShape<'_>, Refusal>
     })
 }
 
-/// The shapes of all batches, or the first fault of the first batch that has one.
+/// The shapes of all batches, or the first fault.
 pub(crate) fn batches_of(alloc: Global, items: &[Value]) -> Result<Vec<BatchShape<'_>>, Refusal>
     ensures { ShowsUnless Refusal.Memory (λ batches. batches.items) result (each_in batch_shape (items_view items.now)) }
 {
@@ -74,7 +74,7 @@ fn key_text(value: &Value) -> Result<&str, Refusal>
     value.as_str().ok_or(Refusal::BadShape(Part::Keys))
 }
 
-/// The texts that the items of `keys` are.
+/// The texts of `keys`.
 pub(crate) fn key_texts<'v>(alloc: Global, items: &'v [Value]) -> Result<Vec<&'v str>, Refusal>
     ensures { ShowsUnless Refusal.Memory (λ keys. texts keys.items) result (each_in key_shape (items_view items.now)) }
 {
@@ -85,7 +85,7 @@ pub(crate) fn key_texts<'v>(alloc: Global, items: &'v [Value]) -> Result<Vec<&'v
     Ok(keys)
 }
 
-/// The numbers of the version that `version` requires. None where it is absent or null.
+/// The version that `version` requires, in numbers. None if it is missing or null.
 pub(crate) fn version_numbers(value: Option<&Value>) -> Result<Option<(u64, u64)>, Refusal>
     ensures exact { result ≡ version_shape (seen value.entry) }
     ensures memory { IsErrOf result Refusal.Memory → ⊥ }

@@ -8,7 +8,7 @@ ghost use Rattle.pn_protocol.specs.declared.refusal.Part.TheVariants.{Do};
 use crate::{Part, Refusal};
 use serde_json::Value;
 
-/// What a command's `do` says.
+/// The value of a command's `do`.
 #[derive(Clone, Copy)]
 pub(crate) enum CommandWord {
     Adopt,
@@ -43,7 +43,7 @@ impl CommandWord {
     }
 }
 
-/// The word that the value of `do` is.
+/// Reads the value of `do`.
 pub(crate) fn word_of(value: Option<&Value>) -> Result<CommandWord, Refusal>
     ensures { result ≡ member_as word_in (Refusal.BadShape Do) (seen value.entry) }
 {

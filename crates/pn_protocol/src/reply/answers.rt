@@ -1,4 +1,4 @@
-//! Replies to lookups, copies and adoptions, by what was found or why nothing was. Where memory runs out, the reply says so.
+//! Replies to lookups, copies and adoptions. Out of memory, the reply is that refusal.
 
 ghost use Rattle.std.specs.Prelude.{◌≡◌, MatchResult, IfOk};
 ghost use Rattle.std.specs.List.{count_by};
@@ -22,7 +22,7 @@ use pn_scan::{Page, ScanFault};
 use pn_tablet::{CopyFault, CopyTextFault, TabletCopy, write_copy};
 use std::alloc::Global;
 
-/// Answers a read of a key by the cell that was found there, if any.
+/// Answers a read of a key with the cell found there, if any.
 pub fn answer_read(alloc: Global, key: &Key, found: Result<Option<Cell>, ScanFault>) -> Reply
     ensures { ShowsFound (read_data key.now) found result }
 {
@@ -32,7 +32,7 @@ pub fn answer_read(alloc: Global, key: &Key, found: Result<Option<Cell>, ScanFau
     }
 }
 
-/// Answers a get of keys by the cells that were found there, in the order of the keys.
+/// Answers a get of keys with the cells found there, in the order of the keys.
 pub fn answer_get(alloc: Global, keys: &[Key], found: Result<Vec<Option<Cell>>, ScanFault>) -> Reply
     ensures { ShowsFound (λ cells. get_data keys.now cells.items) found result }
 {
@@ -42,7 +42,7 @@ pub fn answer_get(alloc: Global, keys: &[Key], found: Result<Vec<Option<Cell>>, 
     }
 }
 
-/// Answers a scan by the page that was found.
+/// Answers a scan with the page that was found.
 pub fn answer_scan(alloc: Global, found: Result<Page, ScanFault>) -> Reply
     ensures { ShowsFound (λ page. scan_data (page.rows.items, page.next)) found result }
 {

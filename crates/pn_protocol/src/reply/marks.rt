@@ -11,7 +11,7 @@ use pn_json::{begin_line, finish_line};
 use pn_record::write_marks;
 use std::alloc::Global;
 
-/// How far streams were taken: `{"marks":{..}}`.
+/// The reply to `marks`, `{"marks":{..}}`: how far streams were taken.
 pub fn marks_reply(alloc: Global, marks: &Marks) -> Result<Vec<u8>, NoMemory>
     ensures { IfOk result (λ text. text.items ≡ line_of (shown_marks marks.now)) }
 {

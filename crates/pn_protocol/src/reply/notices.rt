@@ -1,4 +1,4 @@
-//! The replies to who asks what changed.
+//! Replies to `notices`.
 
 ghost use Rattle.std.specs.Prelude.{◌≡◌, map, IfOk, OnOk};
 ghost use Rattle.serde_json.specs.Data.{array};
@@ -15,7 +15,7 @@ use pn_record::write_version;
 use pn_region::{Notice, Since};
 use std::alloc::Global;
 
-/// What is new behind a number: `{"next":N,"notices":[..]}`, or `{"missed":true,"next":N}`.
+/// The changes after a number: `{"next":N,"notices":[..]}`, or `{"missed":true,"next":N}`.
 pub fn since_reply(alloc: Global, since: &Since) -> Result<Vec<u8>, NoMemory>
     ensures { IfOk result (λ text. text.items ≡ line_of (found_since since.now)) }
 {

@@ -15,7 +15,7 @@ use pn_region::AdoptFault;
 use pn_tablet::{CopyFault, CopyTextFault};
 use std::alloc::Global;
 
-/// What an error says of itself.
+/// The details of an error.
 #[derive(Clone, Copy)]
 pub(crate) enum About<'f> {
     Nothing,
@@ -23,13 +23,13 @@ pub(crate) enum About<'f> {
     Line(u64),
     /// A tablet's number.
     Tablet(u64),
-    /// What a tablet has of a stream, and what is wanted.
+    /// How far a tablet took a stream, and how far was wanted.
     Behind {
         stream: &'f StreamName,
         has: u64,
         wanted: u64,
     },
-    /// What a copy has of a stream, and what is needed.
+    /// How far a copy took a stream, and how far is needed.
     TooOld {
         stream: &'f StreamName,
         has: u64,
@@ -96,7 +96,7 @@ pub fn not_adopted_reply(alloc: Global, fault: &AdoptFault) -> Result<Vec<u8>, N
     }
 }
 
-// An error of this name, with what it says of itself.
+// Writes an error of this name with its details.
 fn error_reply(alloc: Global, name: &str, about: About<'_>) -> Result<Vec<u8>, NoMemory>
     ensures { IfOk result (λ text. text.items ≡ line_of (error_data name.now (about_members about.entry))) }
 {

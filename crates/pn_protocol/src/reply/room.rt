@@ -1,30 +1,28 @@
-//! How much room rows take in a line, by the sizes of their texts. It is a guess, and no promise rests on it.
+//! Estimates how much room rows take in a line, by the sizes of their texts. Nothing rests on the estimate.
 //!
-//! It is made before anything is written, so that the line takes its memory once, and reads a byte of each cache line of the
-//! names and texts, so that they are at hand when they are written. All cells are read first, then all fields, then all texts:
-//! where the pieces of a step lie is known before it begins, so they come from memory several at a time.
+//! All cells are read first, then all fields, then all texts, so that each step loads several pieces at a time.
 
 use pn_join::Name;
 use pn_record::{Body, Cell, Content, Key, Value};
 use pn_scan::Row;
 use std::sync::atomic::{AtomicUsize, Ordering};
 
-/// What a row takes beside its key and its contents, in bytes.
+/// The bytes of a row without its key and its contents.
 const OF_ROW: usize = 96;
 
-/// What a content takes beside its fields and its master, in bytes.
+/// The bytes of a content without its fields and its master.
 const OF_CONTENT: usize = 32;
 
-/// What a field takes beside its name and its text, in bytes.
+/// The bytes of a field without its name and its text.
 const OF_FIELD: usize = 6;
 
-/// How many bytes come from memory at once.
+/// The bytes that one memory access loads.
 const CACHE_LINE: usize = 64;
 
-/// What is read of records in one step.
+/// What one step reads of each record.
 #[derive(Clone, Copy)]
 enum Step {
-    /// The contents, for how many fields they have.
+    /// The contents, for the number of their fields.
     Contents,
     /// The fields, for the lengths of their names and texts, and the master.
     Fields,
@@ -55,14 +53,14 @@ fn step_of_found(cells: &[Option<Cell>], step: Step) -> usize {
     room
 }
 
-/// The room of rows beside their escapes, in bytes. Their contents are at hand, since the page looked at them.
+/// The room of rows without their escapes, in bytes. The page has already read their contents.
 pub(crate) fn room_of_rows(rows: &[Row]) -> usize {
     step_of_rows(rows, Step::Fields).wrapping_add(OF_ROW)
 }
 
-/// Reads a byte of each cache line of the rows' names and texts, so that they are at hand when the rows are written.
+/// Prefetches the rows' names and texts.
 pub(crate) fn prefetch_rows(rows: &[Row]) {
-    // (an atomic write is done also where nothing reads it, and so are the reads that it needs)
+    // (the compiler drops no atomic write, and so none of the reads that it needs)
     AtomicUsize::new(0).swap(step_of_rows(rows, Step::Texts), Ordering::SeqCst);
 }
 
@@ -118,7 +116,7 @@ fn lengths_of(fields: &[(String, Value)]) -> usize {
     room
 }
 
-// A byte of each name and of each cache line of each text, all in one byte: room for some escapes.
+// Reads a byte of each name and of each cache line of each text. Their sum is room for some escapes.
 fn escapes_of(fields: &[(String, Value)]) -> usize {
     let mut seen = 0u8;
     for (name, Value::Text(text)) in fields {

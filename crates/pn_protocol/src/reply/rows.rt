@@ -10,7 +10,7 @@ use pn_json::write_text_member;
 use pn_record::{Cell, CellState, Key, write_contents, write_version};
 use std::alloc::Global;
 
-/// A line in which nothing is written yet, with room for so many bytes.
+/// An empty line with room for this many bytes.
 pub(crate) fn begin_rows(alloc: Global, room: usize) -> Result<Writer, NoMemory>
     ensures { IfOk result IsBegun }
 {

@@ -1,4 +1,4 @@
-//! The reply to a scan: the rows of a page, and the query for what is still to come.
+//! The reply to a scan: the rows of a page, and the query for the rest.
 
 ghost use Rattle.std.specs.Prelude.{◌≡◌, map, IfOk, OnOk};
 ghost use Rattle.std.specs.Option.{option_copied};
@@ -17,11 +17,10 @@ use pn_json::finish_line;
 use pn_scan::{Page, Query, Row, write_query};
 use std::alloc::Global;
 
-/// How many rows are brought to hand before they are written: as many as stay in the nearest cache with their texts.
+/// How many rows are prefetched before they are written: as many as fit the nearest cache with their texts.
 const ROWS_AT_HAND: usize = 12;
 
-/// The reply to a scan, one line: `{"next":Q,"rows":[..]}` with the rows of the page, and the query for what
-/// is still to come, or null. It is built whole; on an error nothing of it stands.
+/// The reply to a scan, `{"next":Q,"rows":[..]}`: the query for the rest, or null, and the rows of the page.
 pub fn scan_reply(alloc: Global, page: &Page) -> Result<Vec<u8>, NoMemory>
     ensures { IfOk result (λ text. text.items ≡ line_of (scan_data (page.now.rows.items, page.now.next))) }
 {

@@ -1,4 +1,4 @@
-//! Replies of fixed texts, names and numbers, which take no memory.
+//! Replies of fixed texts, names and numbers, held in place.
 
 ghost use Rattle.std.specs.Prelude.{◌≡◌, ◌+◌, ◌≤◌, [], ◌++◌, length};
 ghost use Rattle.pn_json.specs.Lines.{line_of};
@@ -10,7 +10,7 @@ use std::marker::Model;
 /// The most bytes of a short reply.
 const ROOM: usize = 128;
 
-/// A reply of one line, held in place.
+/// A reply of one line.
 #[derive(Debug, Drop)]
 pub struct ShortReply {
     bytes: [u8; ROOM],
@@ -79,7 +79,7 @@ pub fn refusal_reply(refusal: &Refusal) -> ShortReply
     reply
 }
 
-/// The reply to a delivery, `{"changed":N}`: how many records it changed.
+/// The reply to a delivery, `{"changed":N}`: the number of records that it changed.
 #[tactic(auto, unfolding(pn_json::specs::Lines::line_of, crate::specs::Reply::Short::changed_data, serde_json::proofs::OnLiterals::serde_json_on_literals))]
 pub fn changed_reply(count: u64) -> ShortReply
     ensures { result ≡ line_of (changed_data count) }
@@ -115,7 +115,7 @@ pub fn lost_reply(tablet: u64) -> ShortReply
     reply
 }
 
-/// The line before a copy, `{"lines":L}`: how many lines the copy has.
+/// The line before a copy, `{"lines":L}`: the number of the copy's lines.
 #[tactic(auto, unfolding(pn_json::specs::Lines::line_of, crate::specs::Reply::Short::lines_data, serde_json::proofs::OnLiterals::serde_json_on_literals))]
 pub fn lines_reply(count: u64) -> ShortReply
     ensures { result ≡ line_of (lines_data count) }
@@ -127,7 +127,7 @@ pub fn lines_reply(count: u64) -> ShortReply
     reply
 }
 
-/// The last line of a server, `served N`: how many sessions were served.
+/// The last line of a server, `served N`: the number of sessions.
 pub fn served_reply(sessions: usize) -> ShortReply
     ensures { result ≡ served_line sessions }
 {

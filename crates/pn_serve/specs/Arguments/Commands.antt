@@ -16,7 +16,7 @@ abbrev pub number_in : Text → Option ℕ
 number_in text =
     if is_unsigned_in 0 65535 text then Some (digits_value 10 (without_leading_plus text)) else None
 
--- the number of an option, from 1 to so many; that it is one of these is what `clap` sees to
+-- the number of an option, from 1 to `most`, as `clap` ensures
 abbrev pub number_at : Text → ℕ → List Row → ℕ
 number_at name most options = max 1 (min (unwrap_or (option_and_then number_in (one_of name options)) 1) most)
 

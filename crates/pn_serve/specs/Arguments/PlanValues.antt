@@ -1,11 +1,11 @@
--- What a plan of the program says.
+-- Plans of the program.
 use Rattle.std.specs.Prelude.{ℕ, List, map}
 use Rattle.pn_serve.specs.Settings.{SettingsValue}
 use Rattle.pn_serve.specs.Arguments.Streams.{StreamValue, stream_value}
 use Rattle.pn_serve.specs.declared.arguments.plans.Plan.{Plan}
 use Rattle.pn_serve.specs.declared.arguments.plans.Plan.TheVariants as plan
 
--- a script, or streams with how many sessions and the port; of help nothing is said
+-- a script; or the settings, sessions, port and streams to serve; or help
 pub data PlanValue : Type 0 where
   replay : SettingsValue → PlanValue
   serve : SettingsValue → ℕ → ℕ → List StreamValue → PlanValue

@@ -1,4 +1,4 @@
--- What words plan, or why they are refused.
+-- What arguments plan, or why they are refused.
 use Rattle.std.specs.Prelude.{◌≡◌, ◌≢◌, ◌≤◌, ⊤, List, [], Some, Result, Ok, Err}
 use Rattle.clap.specs.Words.{IsAmong, Row, Text, fault_of, subcommand_of}
 use Rattle.clap.specs.declared.error.kind.ErrorKind.{ErrorKind}
@@ -12,20 +12,20 @@ use Rattle.pn_serve.specs.declared.arguments.plans.PlanFault.TheVariants as faul
 use Rattle.pn_serve.specs.Arguments.PlanValues.{PlanValue, plan_value}
 use Rattle.pn_serve.specs.Arguments.Commands.{plan_in}
 
--- `clap` takes the words, and their command says this
+-- `clap` accepts the arguments, and their command says this
 pub record Says (words : List Text) (said : Result PlanValue PlanFault) : Type 0 where
   pub taken : fault_of program words ≡ []
   pub command : Text × List Row
   pub found : subcommand_of program words ≡ Some command
   pub means : plan_in command ≡ said
 
--- `clap` refuses the words, and not since they ask for help
+-- `clap` refuses the arguments, and they do not ask for help
 pub record IsRefused (words : List Text) : Type 0 where
   pub kind : ErrorKind
   pub among : IsAmong kind (fault_of program words)
   pub other : kind ≢ DisplayHelp
 
--- what the words plan, or their first fault
+-- what the arguments plan, or their first fault
 abbrev pub Plans : List Text → Result Plan PlanFault → Type 0
 Plans words (Ok (plan.Help text)) = IsAmong DisplayHelp (fault_of program words)
 Plans words (Ok planned) = Says words (Ok (plan_value planned))
@@ -33,7 +33,7 @@ Plans words (Err (fault.Words text)) = IsRefused words
 Plans words (Err fault.Memory) = ⊤
 Plans words (Err found) = Says words (Err found)
 
--- what is answered in place of a plan, by what `clap` says
+-- what is answered if `clap` accepts no arguments
 abbrev pub Answers : ErrorKind → Result Plan PlanFault → Type 0
 Answers kind (Ok (plan.Help text)) = kind ≡ DisplayHelp
 Answers kind (Ok planned) = ⊥
@@ -41,7 +41,7 @@ Answers kind (Err (fault.Words text)) = (kind ≢ DisplayHelp) × (kind ≢ OutO
 Answers kind (Err fault.Memory) = ⊤
 Answers kind (Err found) = ⊥
 
--- a plan to serve is one for 1 to 16 sessions
+-- a plan to serve has 1 to 16 sessions
 abbrev pub HasSessions : Plan → Type 0
 HasSessions (plan.Serve settings sessions port streams) = (1 ≤ sessions) × (sessions ≤ max_readers)
 HasSessions planned = ⊤

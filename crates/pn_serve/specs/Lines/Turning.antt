@@ -9,7 +9,7 @@ use Rattle.pn_serve.specs.Lines.States.{LineLoopValue, Start}
 use Rattle.pn_serve.specs.Lines.Served.{Served}
 
 module _ {V : Type 0} (makes ends : V → List ℕ → V → Reply → Type 0) where
-  -- the server goes on to the next line, or ends
+  -- the loop goes on to the next line, or ends
   abbrev pub TurnsTo : Start V → Option (List ℕ) → Option (List ℕ) → V → LineLoopValue → Result Next RunFault → Type 0
   TurnsTo start left written machine run (Ok Line) = Served makes start left written machine run
   TurnsTo start left written machine run (Ok (End counts)) = EndsBy makes ends start left written machine (Ok counts)

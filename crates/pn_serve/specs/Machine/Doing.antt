@@ -1,9 +1,9 @@
--- What a command does where it goes as it says.
+-- What a command does if memory does not run out.
 use Rattle.std.specs.Prelude.{true, false, Some, [], Result, Ok, Err, is_err}
 use Rattle.serde_json.specs.Data.{Data}
 use Rattle.pn_json.specs.Lines.{line_of}
 use Rattle.pn_region.specs.Logged.{noting}
-use Rattle.pn_region.specs.CommandReader.{read_in, get_in, page_in}
+use Rattle.pn_region.specs.Reads.{read_in, get_in, page_in}
 use Rattle.pn_region.specs.Regions.{RegionValue}
 use Rattle.pn_region.specs.Rounds.{changed}
 use Rattle.pn_region.specs.Rounds.{round as taken_round}
@@ -21,21 +21,21 @@ use Rattle.pn_protocol.specs.Reply.Scan.{scan_data}
 use Rattle.pn_protocol.specs.Reply.Short.{changed_data}
 use Rattle.pn_protocol.specs.Reply.Tablets.{tablets_data}
 
--- what a delivery does where its round goes like this
+-- what a delivery does if its round ends so
 abbrev pub delivering : Machine → Result RegionValue RoundFault → Turn
 delivering machine (Ok after) = record { machine = record machine { region = after; log = noting machine.log machine.region after }; reply = line_of (changed_data (changed machine.region after)); refused = false }
 delivering machine (Err fault) = record { machine = machine; reply = line_of (fault_data fault); refused = true }
 
--- what a lookup found, or why it was refused
+-- the reply for what a lookup found, or for why it was refused
 abbrev pub found_data : {A : Type 0} → (A → Data) → Result A ScanFault → Data
 found_data show (Ok found) = show found
 found_data show (Err fault) = refused_data fault
 
--- what a lookup does that finds this
+-- what a lookup does if it finds this
 abbrev pub looking : {A : Type 0} → Machine → (A → Data) → Result A ScanFault → Turn
 looking machine show right = record { machine = machine; reply = line_of (found_data show right); refused = is_err right }
 
--- what a command does where it goes as it says. An adoption waits for the lines that it announces
+-- what a command does if memory does not run out; an adoption waits for the lines that it announces
 abbrev pub doing : Machine → CommandValue → Turn
 doing machine (adopt lines) = silent (record machine { mode = announced lines (Some []) })
 doing machine (copy need tablet) = copying machine need tablet

@@ -1,4 +1,4 @@
--- What parts of a turn come to: as they say, or out of memory.
+-- What parts of a turn come to.
 use Rattle.std.specs.Prelude.{◌≡◌, ◌⊎◌, ℕ, List, Option}
 use Rattle.pn_region.specs.Logged.{LoggedRegion}
 use Rattle.pn_protocol.specs.declared.reply.Reply.{Reply}
@@ -20,20 +20,20 @@ abbrev pub ComesTo : Turn → LoggedRegion → LoggedRegion → Reply → Type 0
 ComesTo turn old new reply =
     ((turn.machine ≡ waiting new) × (turn.reply ≡ reply_text reply) × (turn.refused ≡ is_refusal reply)) ⊎ ((new ≡ old) × (reply ≡ Refused Memory))
 
--- no line behind the command belongs to it
+-- the command announces no lines
 abbrev pub IsAlone : CommandValue → Type 0
 IsAlone (adopt lines) = ⊥
 IsAlone command = Unit {0}
 
--- what the program made of a command before the next line: it obeyed it, or waits for the lines that it announces
+-- the first step of a command: it was run, or waits for the lines that it announces
 abbrev pub HandlesTo : LoggedRegion → CommandValue → LoggedRegion → Handled → Type 0
 HandlesTo old command new (Obeyed reply) = IsAlone command × Obeys (waiting old) command (waiting new) reply
 HandlesTo old command new (Announces lines) = (command ≡ adopt lines) × (new ≡ old)
 
--- what the program made of the last line, without newline
+-- what the program did with a last line without newline
 abbrev pub LastsBy : Type 0 → LoggedRegion → List ℕ → LoggedRegion → Reply → Type 0
 LastsBy may_run_out old text new reply = TurnedBy may_run_out (λ outcome. last_of (waiting old) (outcome_at outcome text) (command_at text)) (waiting new) reply
 
--- the line stands behind the text that came, or memory ran out
+-- the line was added to the text, or memory ran out
 abbrev pub IsJoined : Option (List ℕ) → List ℕ → List ℕ → Option (List ℕ) → Type 0
 IsJoined text line newline joined = (outcome : Outcome) × (joined ≡ unless_call outcome (with_line text line newline))

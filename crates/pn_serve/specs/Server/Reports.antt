@@ -1,4 +1,4 @@
--- What the thread of a stream leaves for a round.
+-- Reports of the threads of streams.
 use Rattle.std.specs.Prelude.{◌≡◌, ℕ, ◌+◌, List, [], ◌∷◌, ◌++◌, length, min, Option, Some, None, IfSome}
 use Rattle.pn_record.specs.Limits.{greatest}
 use Rattle.pn_stream.specs.Batches.{Stream, Batch}
@@ -10,12 +10,12 @@ use Rattle.pn_serve.specs.Server.Messages.{max_messages}
 use Rattle.pn_serve.specs.declared.server.reports.Report.{Report}
 use Rattle.pn_serve.specs.declared.server.reports.Report.TheVariants.{Taken, End, Fault}
 
--- the messages behind the last position are those of this delivery
+-- the delivery of these images at the next positions of the stream
 abbrev pub following : {S : Type 0} → Stream S → DeliveryValue → DeliveryValue
 following stream delivery = record { stream = stream.name; first = min (stream.position + 1) greatest; images = delivery.images }
 
--- what a thread leaves of a stream, by what the source has left: the next messages; or that no whole line is there; or the name, where
--- a fault stands next, and the reader gives no more
+-- the report is right for what the source has left: the next messages; no whole line; or the name, if a fault comes
+-- next
 abbrev pub Leaves : {S : Type 0} → (S → Option (List ℕ)) → Stream S → Report → Stream S → Type 0
 Leaves left old (Taken messages) new = (old.fault ≡ None) × (messages.delivery ≡ following old messages.delivery)
     × (new.position ≡ old.position + length messages.delivery.images)
@@ -37,13 +37,13 @@ messages_of (Taken messages) = messages.delivery ∷ []
 messages_of End = []
 messages_of (Fault name) = []
 
--- how many streams are at their ends by the report
+-- how many streams the report ends
 abbrev pub ends_in : Report → ℕ
 ends_in (Taken messages) = 0
 ends_in End = 1
 ends_in (Fault name) = 0
 
--- the first fault, where one was found before or stands in the report
+-- the first fault, before or in the report
 abbrev pub first_fault : Option (List ℕ) → Report → Option (List ℕ)
 first_fault (Some name) report = Some name
 first_fault None (Fault name) = Some name

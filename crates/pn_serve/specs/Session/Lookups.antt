@@ -1,4 +1,4 @@
--- What a session answers to lookups, each by what its reader found.
+-- Lookups of a session, answered by what its reader found.
 use Rattle.std.specs.Prelude.{◌≡◌, ◌⊎◌, ◌<◌, ◌≤◌, ℕ, List, length, Option, Result}
 use Rattle.pn_join.specs.Marks.{Positions}
 use Rattle.pn_record.specs.Sets.{Stamp, CellValue}
@@ -9,7 +9,7 @@ use Rattle.pn_tablet.specs.declared.fault.CopyFault.{CopyFault}
 use Rattle.pn_scan.specs.Candidates.{Look}
 use Rattle.pn_scan.specs.Pages.{PageValue, first_page}
 use Rattle.pn_scan.specs.Queries.{QueryValue}
-use Rattle.pn_scan.specs.CommandReader.{IsRead, IsGet}
+use Rattle.pn_scan.specs.Reads.{IsRead, IsGet}
 use Rattle.pn_scan.specs.Visits.{IsScan}
 use Rattle.pn_scan.specs.declared.fault.ScanFault.{ScanFault}
 use Rattle.pn_live.specs.Copying.{IsCopied}

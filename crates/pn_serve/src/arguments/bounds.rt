@@ -1,4 +1,4 @@
-//! The bounds that the words say.
+//! The argument `--bounds`.
 
 ghost use Rattle.std.specs.Option.{ok_or};
 ghost use Rattle.serde_json.specs.View.{view, items_view};

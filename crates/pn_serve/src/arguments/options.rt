@@ -1,4 +1,4 @@
-//! The commands of the program, and the options of each, for `clap`.
+//! The commands of the program and their options, for `clap`.
 
 ghost use Rattle.std.specs.Prelude.{◌≡◌, ◌≤◌, [], false, unwrap_or, IfOk, pos};
 ghost use Rattle.clap.specs.Words.{app_of, first_of, found_of, rows_of, rule_of};
@@ -11,7 +11,7 @@ use clap::builder::ValueParser;
 use clap::{Arg, ArgAction, ArgMatches, Command, value_parser};
 use std::alloc::{AllocError, Global};
 
-/// What `clap` knows of the program's words.
+/// The program's commands and options.
 pub(crate) fn command<'w>(alloc: Global) -> Result<Command<'w>, AllocError>
     ensures { IfOk result (λ command. app_of command ≡ program) }
 {

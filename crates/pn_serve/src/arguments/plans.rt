@@ -1,4 +1,4 @@
-//! What words plan, and why they are refused.
+//! Plans of the program's arguments, and why they are refused.
 
 ghost use Rattle.std.specs.Prelude.{◌≡◌};
 ghost use Rattle.pn_serve.specs.declared.arguments.plans.PlanFault.TheVariants.{Memory as no_memory};
@@ -8,35 +8,35 @@ use pn_join::{Name, NoMemory};
 use std::alloc::{AllocError, AllocFailed};
 use thiserror::Error;
 
-/// What the words of the program ask for.
+/// What the program's arguments ask for.
 #[derive(Debug, Drop)]
 pub enum Plan {
-    /// A script is answered.
+    /// Answer a script.
     Replay(Settings),
-    /// Streams are read while sessions are served over a port.
+    /// Read streams while sessions are served on a port.
     Serve {
         settings: Settings,
-        /// How many sessions: 1 to 16.
+        /// 1 to 16.
         sessions: usize,
-        /// From 1 to 65,535.
+        /// 1 to 65,535.
         port: u16,
         /// The names of 1 to 16 streams, each once, with the paths of their files.
         streams: Vec<(Name, String)>,
     },
-    /// This text of help is shown.
+    /// Show this help.
     Help(String),
 }
 
-/// Why words are refused.
+/// Why arguments are refused.
 #[derive(Debug, Drop, Error)]
 pub enum PlanFault {
-    /// They are not the words of the program; the text says which are.
+    /// `clap` refuses them; the text says why.
     #[error("{0}")]
     Words(String),
-    /// The bounds are no JSON array of keys, or no layout.
+    /// The bounds are not a JSON array of rising keys.
     #[error("bounds")]
     Bounds,
-    /// A stream has no `=`, no name, no path or the name of another, or there are more than 16.
+    /// A stream has no `=`, no name, no path or another's name, or there are more than 16.
     #[error("stream")]
     Stream,
     #[error("memory")]

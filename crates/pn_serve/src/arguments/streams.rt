@@ -1,4 +1,4 @@
-//! The streams that the words say.
+//! The arguments `NAME=PATH`.
 
 ghost use Rattle.std.specs.Prelude.{◌≡◌, [], codes, map, unwrap_or};
 ghost use Rattle.clap.specs.Words.{all_of, found_of, rows_of};
@@ -68,11 +68,11 @@ fn names_differ(streams: &[(Name, String)]) -> bool
     ensures { result ≡ all_differ (map stream_value streams.now) }
 {
     let mut left = streams;
-    while let Some((stream, behind)) = left.split_first() {
-        if has_name(behind, &stream.0) {
+    while let Some((stream, later)) = left.split_first() {
+        if has_name(later, &stream.0) {
             return false;
         }
-        left = behind;
+        left = later;
     }
     true
 }

@@ -1,4 +1,4 @@
-//! Lines that an `adopt` line announced: they are gathered, and then their copy is adopted.
+//! Adoption: the lines that `adopt` announces are gathered, and their copy is adopted.
 
 ghost use Rattle.std.specs.Prelude.{◌≡◌, ◌++◌, [], Some, IfOk};
 ghost use Rattle.pn_line.specs.Line.{kept};
@@ -19,17 +19,17 @@ use pn_region::Region;
 use pn_tablet::{CopyTextFault, TabletCopy, read_copy};
 use std::alloc::Global;
 
-/// The text of a copy of which further lines are to come.
+/// The text of a copy that is not complete yet.
 #[derive(Drop)]
 pub(crate) struct Announced {
     /// How many lines are still to come.
     left: u64,
-    /// The text that came. None once memory ran out.
+    /// The text so far. None once memory ran out.
     text: Option<Vec<u8>>,
 }
 
 impl Announced {
-    /// So many lines were announced, and none of them came.
+    /// This many lines are to come, and none has come.
     pub(crate) fn new(alloc: Global, lines: u64) -> Announced
         ensures { mode_of (Some result) ≡ announced_mode lines (Some []) }
     {
@@ -40,7 +40,7 @@ impl Announced {
     }
 }
 
-/// A line that was announced: further ones are waited for, or the copy is adopted.
+/// Takes an announced line. The last one adopts the copy.
 pub(crate) fn go_on(alloc: Global, region: &mut Region, announced: Announced, line: &[u8]) -> Done
     ensures { AnswersBy ⊥ (with_mode (Some announced) region.old) line.now (with_mode result.1 region.new) result.0 }
 {
@@ -53,21 +53,21 @@ pub(crate) fn go_on(alloc: Global, region: &mut Region, announced: Announced, li
     (adopt(alloc, region, text), None)
 }
 
-/// The input ended behind this part of a line, though further lines were announced.
+/// Adopts the text so far, after a last part of a line.
 pub(crate) fn finish(alloc: Global, region: &mut Region, announced: Announced, part: &[u8]) -> Reply
     ensures { ConcludesBy ⊥ (with_mode (Some announced) region.old) part.now (waiting region.new) result }
 {
     adopt(alloc, region, joined(announced.text, part, b""))
 }
 
-// The text that came, with the line behind it. None where memory ran out.
+// Adds a line to the text. None once memory ran out.
 fn joined(text: Option<Vec<u8>>, line: &[u8], newline: &[u8]) -> Option<Vec<u8>>
     ensures { IsJoined (bytes_of text) line.now newline.now (bytes_of result) }
 {
     extended(text?, line, newline).ok()
 }
 
-// The text, and then the line's first 65,537 bytes and its newline, if it has one.
+// Adds the line's first 65,537 bytes and its newline, if any.
 fn extended(text: Vec<u8>, line: &[u8], newline: &[u8]) -> Result<Vec<u8>, NoMemory>
     ensures { IfOk result (λ whole. whole.items ≡ text.items ++ (kept line.now ++ newline.now)) }
 {
@@ -78,7 +78,7 @@ fn extended(text: Vec<u8>, line: &[u8], newline: &[u8]) -> Result<Vec<u8>, NoMem
     Ok(text)
 }
 
-/// Adopts the copy that the text spells. None: memory ran out before.
+/// Adopts the copy of the text. None: memory ran out before.
 pub(crate) fn adopt(alloc: Global, region: &mut Region, text: Option<Vec<u8>>) -> Reply
     ensures { ComesTo (adopting_text region.old (bytes_of text)) region.old region.new result }
 {
@@ -91,7 +91,7 @@ pub(crate) fn adopt(alloc: Global, region: &mut Region, text: Option<Vec<u8>>) -
     }
 }
 
-// The copy that a text spells that nobody needs behind it.
+// Parses the copy and frees its text.
 fn read_text(alloc: Global, text: Vec<u8>) -> Result<TabletCopy, CopyTextFault>
     ensures { IsUnless CopyTextFault.Memory result (copy_at text.items) }
 {

@@ -1,4 +1,4 @@
-//! How lines are read as commands.
+//! Readers of commands.
 
 ghost use Rattle.std.specs.Prelude.{◌≡◌, false, IsErrOf};
 ghost use Rattle.pn_json.specs.Answers.{ShowsUnless};
@@ -8,19 +8,19 @@ ghost use Rattle.pn_protocol.specs.Command.Meaning.{command_value};
 use pn_protocol::{Command, Refusal};
 use std::alloc::Global;
 
-/// CommandReader lines as commands.
+/// Reads lines as commands. By a reader that never runs out of memory it can be said that a loss does not either.
 pub(crate) trait CommandReader {
-    // What holds where memory can run out at all while a line is read.
+    // What holds if memory can run out while a line is read.
     ghost may_run_out: { Type 0 };
 
-    /// The command that a line is, or its first fault.
+    /// Reads a line, or answers its first fault.
     fn command_of(alloc: Global, line: &[u8]) -> Result<Command, Refusal>
         ensures exact { ShowsUnless Refusal.Memory command_value result (command_at line.now) }
         ensures short { IsErrOf result Refusal.Memory → is_too_long line.now ≡ false }
         ensures memory { IsErrOf result Refusal.Memory → may_run_out };
 }
 
-/// Lines of JSON, which take memory to read.
+/// Reads JSON, which takes memory.
 pub(crate) struct Json;
 
 impl CommandReader for Json {

@@ -1,4 +1,4 @@
-//! What answers lines: the region of a script, or a reader of a live one.
+//! Handlers of lines: the region of a script, or a reader of a live region.
 
 ghost use Rattle.std.specs.Prelude.{◌≡◌, ℕ, List};
 ghost use Rattle.pn_line.specs.Line.{so_far};
@@ -12,25 +12,25 @@ use std::alloc::Global;
 pub(crate) trait LineHandler {
     ghost use Rattle.pn_protocol.specs.declared.reply.Reply.{Reply};
 
-    // What has to hold of its types for it to answer.
+    // What its types need.
     ghost ready: { Type 0 };
 
-    // What it makes of a line: the machine before, the line, the machine behind it, and the reply.
+    // Relates the state before, the line, the state after and the reply.
     ghost makes: { Self → List ℕ → Self → Reply → Type 0 };
 
-    // What it makes of the end of the input, behind a part of a line.
+    // Relates the state before, the last part of a line, the state after and the reply.
     ghost ends: { Self → List ℕ → Self → Reply → Type 0 };
 
-    // Which live tablets it reads, where it reads any.
+    // The live tablets that it reads, if any.
     ghost tablets: { Self → Tablets };
 
-    /// Answers the line that was read.
+    /// Answers a line.
     fn answer(&mut self, alloc: Global, line: &LineBuffer) -> Reply
         requires { ready }
         ensures makes { (text : List ℕ) → line.now ≡ so_far text → makes self.old text self.new result }
         ensures same { tablets self.new ≡ tablets self.old };
 
-    /// The input ended behind the part of a line that was read.
+    /// Answers the end of the input, after a part of a line.
     fn end(&mut self, alloc: Global, part: &LineBuffer) -> Reply
         requires { ready }
         ensures ends { (text : List ℕ) → part.now ≡ so_far text → ends self.old text self.new result }

@@ -1,4 +1,4 @@
-//! The region that a script is told to.
+//! The handler of a script's lines.
 
 ghost use Rattle.std.specs.Prelude.{◌≡◌, IfOk};
 ghost use Rattle.pn_region.specs.Regions.{new_region};
@@ -17,13 +17,13 @@ use std::alloc::Global;
 use std::marker::Model;
 use std::thread::Threads;
 
-/// A region, the workers of its rounds, and the lines that were announced.
+/// A region, the workers of its rounds, and the announced lines.
 #[derive(Drop)]
 pub(crate) struct ScriptHandler<'a, R> {
     rt: &'a R,
     region: Region,
     workers: usize,
-    // Lines that were announced and are still to come. None: the next line is a command.
+    // The lines that are still to come. None: the next line is a command.
     announced: Option<Announced>,
 }
 

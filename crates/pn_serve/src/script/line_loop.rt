@@ -1,4 +1,4 @@
-//! LineLoop, one after another: each is read and answered, and its reply waits or goes out.
+//! The line loop: each line is read and answered, and its reply waits or is written.
 
 ghost use Rattle.std.specs.Prelude.{◌≡◌, ◌+◌, ◌<◌, ◌≤◌, ◌++◌, Ok, IfOk, OnOk, OnErr, IsErrOf};
 ghost use Rattle.pn_line.specs.Sent.{Sends, AppendsPrefix};
@@ -22,7 +22,7 @@ use pn_protocol::{Reply, adopted_reply, changed_reply, lines_reply, lost_reply, 
 use std::alloc::Global;
 use std::marker::Model;
 
-/// What a server of lines has between two of them.
+/// The state of a line loop between two lines.
 #[derive(Drop)]
 pub(crate) struct LineLoop {
     alloc: Global,
@@ -51,12 +51,12 @@ impl Model for LineLoop {
 pub(crate) enum Next {
     /// Another line, or the end of the input.
     Line,
-    /// Nothing: the input is at its end, and all replies went out. So many lines were answered and refused.
+    /// The end of the input: all replies were written. How many lines were answered and refused.
     End(Counts),
 }
 
 impl LineLoop {
-    /// One that has answered no line.
+    /// A loop that has answered no line.
     pub(crate) fn new(alloc: Global) -> Result<LineLoop, NoMemory>
         ensures { IfOk result (λ run. run ≡ new_loop) }
     {
@@ -71,7 +71,7 @@ impl LineLoop {
         })
     }
 
-    /// CommandReader a line, which the machine answers. Where no further line is there to be read, all replies go out.
+    /// Reads a line and answers it. Before it would wait for input, all replies are written.
     pub(crate) fn turn<M: LineHandler, S: Source, W: Sink>(
         &mut self,
         machine: &mut M,
@@ -112,7 +112,7 @@ impl LineLoop {
         }
     }
 
-    // Answers the line that was read: its reply waits or goes out, and it is counted.
+    // Answers the line that was read, and counts it.
     fn answer_line<M: LineHandler, W: Sink>(
         &mut self,
         machine: &mut M,
@@ -131,8 +131,7 @@ impl LineLoop {
         push_reply(&reply, &mut self.blocks, output)
     }
 
-    // The input is at its end behind the part of a line that was read: what is left to reply waits or goes out.
-    // All lines and refusals are counted.
+    // Answers the end of the input after the part of a line that was read. All lines and refusals are counted.
     fn close<M: LineHandler, W: Sink>(
         &mut self,
         machine: &mut M,
@@ -155,7 +154,7 @@ impl LineLoop {
         Ok(counts)
     }
 
-    /// Sends all replies, and looks whether the input is at its end, where no more lines may be answered.
+    /// Writes all replies after the last line that may be answered. More input is a fault.
     pub(crate) fn finish<M: LineHandler, S: Source, W: Sink>(
         &mut self,
         machine: &mut M,
@@ -195,7 +194,7 @@ fn count_refused(counts: &mut Counts, reply: &Reply)
     }
 }
 
-// The reply waits or goes out.
+// Adds a reply to the waiting bytes.
 fn push_reply<W: Sink>(reply: &Reply, blocks: &mut Blocks, output: &mut W) -> Result<(), WriteFault>
     ensures ok { OnOk result (Sends (W.contents output.old) (W.contents output.new) blocks.old blocks.new (reply_text reply.now)) }
     ensures err { OnErr result (AppendsPrefix (W.contents output.old) (W.contents output.new) (blocks.old ++ reply_text reply.now)) }
@@ -212,7 +211,7 @@ fn push_reply<W: Sink>(reply: &Reply, blocks: &mut Blocks, output: &mut W) -> Re
     }
 }
 
-// A copy's first line and its text wait or go out.
+// Adds a copy's first line and its text to the waiting bytes.
 fn push_copy<W: Sink>(
     lines: u64,
     text: &str,

@@ -1,4 +1,4 @@
-//! Sessions over TCP, each in a thread of its own, with a reader that comes back.
+//! Sessions over TCP, each in its own thread, which gives its reader back.
 
 ghost use Rattle.std.specs.Prelude.{◌≡◌, ◌+◌, ◌≤◌, [], length, vec_len, vec_capacity, All, IfOk, IsFalse};
 ghost use Rattle.pn_live.specs.LiveRegions.{tablets_in};
@@ -17,7 +17,7 @@ use std::{io, thread};
 /// How many bytes of a session are read at a time.
 const SESSION_ROOM: usize = 65_536;
 
-/// The reader that a session was given comes back: it reads the same tablets.
+/// Promises that the reader comes back: it reads the same tablets.
 #[derive(Drop)]
 pub(crate) struct ComesBack(Snapshot<LiveReader>);
 
@@ -31,14 +31,14 @@ impl Promise<LiveReader> for ComesBack {
 /// A session that runs.
 pub(crate) type Running = PromisedHandle<LiveReader, ComesBack>;
 
-/// Sessions that run, and whether another one could not begin.
+/// The sessions that run, and whether one was refused.
 #[derive(Drop)]
 pub(crate) struct StartedSessions {
     pub(crate) running: Vec<Running>,
     pub(crate) is_refused: bool,
 }
 
-/// Begins a session for each of these readers of a live region, until one is refused, which drops its reader.
+/// Starts a session for each reader, until one is refused. Its reader is dropped.
 pub(crate) fn begin_sessions<R: Threads>(
     rt: &R,
     alloc: Global,
@@ -86,7 +86,7 @@ fn begin_session<R: Threads>(
     Ok(thread::spawn_with(rt, promise, move || { serve_one(alloc, listener, reader) })?)
 }
 
-// LineHandler the one connection that it accepts, and gives the reader back.
+// Serves one connection, and gives the reader back.
 fn serve_one(alloc: Global, listener: TcpListener, reader: LiveReader) -> LiveReader
     ensures { tablets_of result ≡ tablets_of reader }
 {
@@ -105,7 +105,7 @@ fn answer_client(alloc: Global, listener: &TcpListener, reader: &mut LiveReader)
     Ok(())
 }
 
-/// Waits for the sessions, and puts their readers back to those of the live region.
+/// Waits for the sessions, and takes their readers back.
 pub(crate) fn end_sessions<R: Threads>(
     rt: &R,
     live: &LiveRegion,

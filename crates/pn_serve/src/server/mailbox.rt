@@ -1,4 +1,4 @@
-//! The mailbox of a stream: its thread leaves one report there, and the writer takes it.
+//! A mailbox for one report: a stream's thread leaves it, and the writer takes it.
 
 ghost use Rattle.std.specs.Prelude.{◌≡◌, ◌≢◌, None, MatchBool, MatchOption};
 ghost use Rattle.pn_serve.specs.declared.server.mailbox.Held.TheVariants.{Nothing, Left, Closed};
@@ -7,25 +7,25 @@ use crate::server::reports::Report;
 use std::mem;
 use std::sync::{Condvar, Mutex, Wait};
 
-/// Where the thread of a stream leaves one report after another, each once the one before was taken.
+/// Holds at most one report. A thread that leaves another waits until it is taken.
 #[derive(Drop)]
 pub(crate) struct Mailbox {
     held: Mutex<Held>,
     emptied: Condvar,
 }
 
-// What is at a mailbox.
+// The state of a mailbox.
 #[derive(Drop)]
 enum Held {
     Nothing,
     /// A report, until it is taken.
     Left(Report),
-    /// Nothing, and no report is taken from there any more.
+    /// Closed: no further report is taken.
     Closed,
 }
 
 impl Mailbox {
-    /// A mailbox with nothing there.
+    /// An empty mailbox.
     pub(crate) fn new() -> Mailbox {
         Mailbox {
             held: Mutex::new(Held::Nothing),
@@ -33,14 +33,14 @@ impl Mailbox {
         }
     }
 
-    /// Leaves a report, for which it waits until the one before was taken. False where the mailbox is closed.
+    /// Leaves a report once the mailbox is empty. False if it is closed.
     pub(crate) fn leave<R: Wait>(&self, rt: &R, report: Report) -> bool {
         let guard = self.held.lock(rt);
         let mut held = self.emptied.wait_while(rt, guard, |held| held.is_left());
         held.put(report)
     }
 
-    /// Takes the report that is there.
+    /// Takes the report, if there is one.
     pub(crate) fn take<R: Wait>(&self, rt: &R) -> Option<Report> {
         let report = self.held.lock(rt).take();
         if report.is_some() {
@@ -49,7 +49,7 @@ impl Mailbox {
         report
     }
 
-    /// Closes the mailbox. Nobody waits there any more.
+    /// Closes the mailbox, and wakes the thread that waits there.
     pub(crate) fn close<R: Wait>(&self, rt: &R) {
         self.held.lock(rt).close();
         self.emptied.notify_one();
@@ -61,7 +61,7 @@ impl Held {
         matches!(self, Held::Left(_))
     }
 
-    // Puts a report where there is nothing. False where something is, or no report is taken any more.
+    // Puts a report into an empty mailbox. False if it is not empty.
     fn put(&mut self, report: Report) -> bool
         ensures { MatchBool result ((self.old ≡ Nothing) × (self.new ≡ Left report)) ((self.old ≢ Nothing) × (self.new ≡ self.old)) }
     {
@@ -72,7 +72,7 @@ impl Held {
         true
     }
 
-    // Takes the report that is there. A mailbox that is closed stays so.
+    // Takes the report, if there is one. A closed mailbox stays closed.
     fn take(&mut self) -> Option<Report>
         ensures taken { MatchOption result (self.new ≡ self.old) (λ report. (self.old ≡ Left report) × (self.new ≡ Nothing)) }
         ensures none { result ≡ None → self.old ≢ Nothing → self.old ≡ Closed }

@@ -1,4 +1,4 @@
-//! What the thread of a stream leaves for a round: messages, that the stream is at its end, or that it has a fault.
+//! Reports from the threads of streams: messages, the end, or a fault.
 
 ghost use Rattle.std.specs.Prelude.{◌≡◌, IsTrue};
 ghost use Rattle.pn_serve.specs.Server.Reports.{Leaves, IsTaken};
@@ -9,7 +9,7 @@ use pn_join::{Dup, StreamName};
 use pn_line::Source;
 use pn_stream::StreamReader;
 
-/// What the thread of a stream leaves for the next round.
+/// What the thread of a stream reports for the next round.
 #[derive(Drop)]
 pub(crate) enum Report {
     /// The next messages.
@@ -28,7 +28,7 @@ impl Report {
         matches!(self, Report::End)
     }
 
-    /// Whether messages were taken, so that another report comes from the stream.
+    /// Whether it has messages. Another report follows then.
     pub(crate) fn is_taken(&self) -> bool
         ensures { IsTrue result → IsTaken self.now }
     {
@@ -36,7 +36,7 @@ impl Report {
     }
 }
 
-/// The next messages of a stream, for the first of which it waits; or that there are none, or a fault.
+/// Waits for the next message of a stream, and reports it with those at hand, or the end, or a fault.
 pub(crate) fn next_report<S: Source + Drop>(stream: &mut StreamReader<S>) -> Report
     ensures leaves { Leaves S.left stream.old result stream.new }
     ensures name { stream.new.name ≡ stream.old.name }

@@ -1,4 +1,4 @@
-//! Rounds of what streams left.
+//! Rounds of the messages that streams report.
 
 ghost use Rattle.std.specs.Prelude.{◌≡◌, ◌+◌, ◌<◌, ◌≤◌, [], ◌++◌, length, vec_len, vec_capacity, All, IfOk, IfErr};
 ghost use Rattle.pn_apply.specs.Limits.{max_workers};
@@ -20,18 +20,18 @@ use std::alloc::{AllocError, Global};
 use std::sync::Wait;
 use std::thread::Threads;
 
-// What streams left for one round.
+// The reports for one round.
 #[derive(Drop)]
 struct Gathered {
     /// Their messages.
     deliveries: Vec<Delivery>,
-    /// How many are at their ends.
+    /// How many streams ended.
     ended: usize,
-    /// The first one that has a fault.
+    /// The first stream with a fault.
     fault: Option<StreamName>,
 }
 
-/// Takes what the streams leave in rounds, until all are at their ends, or to the first fault.
+/// Runs rounds until all streams end, or to the first fault.
 pub(crate) fn take_rounds<R: Threads + Wait + Sync>(
     rt: &R,
     alloc: Global,
@@ -55,7 +55,7 @@ pub(crate) fn take_rounds<R: Threads + Wait + Sync>(
     Ok(())
 }
 
-// One round of what the streams left. Answers how many streams ended.
+// Runs one round. Answers how many streams ended.
 fn take_round<R: Threads + Wait + Sync>(
     rt: &R,
     alloc: Global,
@@ -80,7 +80,7 @@ fn take_round<R: Threads + Wait + Sync>(
     Ok(ended)
 }
 
-// Takes the report that each stream left, if one did.
+// Takes one report of each stream that has one.
 fn gather<R: Wait>(rt: &R, alloc: Global, feeds: &Feeds) -> Result<Gathered, AllocError>
     ensures fit { IfOk result (λ gathered. All FitRound gathered.deliveries.items) }
     ensures few { IfOk result (λ gathered. vec_len gathered.deliveries ≤ vec_len feeds.now.mailboxes) }
@@ -94,7 +94,7 @@ fn gather<R: Wait>(rt: &R, alloc: Global, feeds: &Feeds) -> Result<Gathered, All
     Ok(gathered)
 }
 
-// Nothing, with room for what so many streams leave.
+// No reports, with room for those of this many streams.
 fn nothing(alloc: Global, streams: usize) -> Result<Gathered, AllocError>
     ensures none { IfOk result (λ gathered. gathered.deliveries.items ≡ []) }
     ensures room { IfOk result (λ gathered. vec_capacity gathered.deliveries ≡ streams) }
@@ -108,7 +108,7 @@ fn nothing(alloc: Global, streams: usize) -> Result<Gathered, AllocError>
     })
 }
 
-// Adds what a stream left.
+// Adds the report of a stream.
 fn add_report(gathered: &mut Gathered, report: Report)
     requires room { vec_len gathered.old.deliveries < vec_capacity gathered.old.deliveries }
     requires few { gathered.old.ended < vec_capacity gathered.old.deliveries }
@@ -129,7 +129,7 @@ fn add_report(gathered: &mut Gathered, report: Report)
     }
 }
 
-// One round of messages, at most 1,000 of each stream.
+// Runs one round of messages, at most 1,000 of each stream.
 fn take<R: Threads + Wait + Sync>(
     rt: &R,
     live: &mut LiveRegion,
@@ -143,7 +143,7 @@ fn take<R: Threads + Wait + Sync>(
     live.round(rt, deliveries, workers, &Open)
 }
 
-// A stream's fault comes before the round's.
+// A stream's fault outranks the round's.
 fn outcome(
     fault: Option<StreamName>,
     round: Result<(Round, Front), RoundFault>,

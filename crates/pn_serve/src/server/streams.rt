@@ -1,4 +1,4 @@
-//! Streams in threads of their own, each of which leaves what it reads at its mailbox.
+//! Reads streams, each in its own thread, which leaves reports in its mailbox.
 
 ghost use Rattle.std.specs.Prelude.{◌≡◌, ◌+◌, ◌<◌, ◌∷◌, [], ◌++◌, length, map, vec_len, IfOk, IfErr, OnOk};
 ghost use Rattle.pn_serve.specs.Server.Faults.{IsOfReading};
@@ -17,7 +17,7 @@ use std::sync::{Arc, Wait};
 use std::thread;
 use std::thread::{Promise, PromisedHandle, Threads};
 
-/// What the thread of a stream says comes true: that it came to the end of the stream, or else only the stream's name.
+/// Promises that `Ok` means the whole stream was read. An error is the stream's name.
 #[derive(Drop)]
 pub(crate) struct SaysWhetherWhole<S: Source + Drop>(Snapshot<StreamReader<S>>);
 
@@ -31,7 +31,7 @@ impl<S: Source + Drop> Promise<Result<(), StreamName>> for SaysWhetherWhole<S> {
 /// The thread of a stream.
 pub(crate) type Feeding<S> = PromisedHandle<Result<(), StreamName>, SaysWhetherWhole<S>>;
 
-/// Where the threads of streams leave their reports, each at a mailbox of its own, and the bell that they ring.
+/// The mailboxes of the streams, and the bell that their threads ring.
 #[derive(Drop)]
 pub(crate) struct Feeds {
     pub(crate) mailboxes: Vec<Arc<Mailbox>>,
@@ -39,26 +39,26 @@ pub(crate) struct Feeds {
 }
 
 impl Feeds {
-    /// How many streams they are.
+    /// The number of streams.
     pub(crate) fn count(&self) -> usize
         ensures { result ≡ vec_len self.now.mailboxes }
     {
         self.mailboxes.len()
     }
 
-    /// Waits until a report was left since the last call, or more.
+    /// Waits until a report is left, or was left since the last call.
     pub(crate) fn wait<R: Wait>(&self, rt: &R) {
         self.bell.wait(rt);
     }
 
-    /// Takes the report that a stream left.
+    /// Takes the report of a stream, if there is one.
     pub(crate) fn take<R: Wait>(&self, rt: &R, stream: usize) -> Option<Report>
         requires { stream < vec_len self.now.mailboxes }
     {
         self.mailboxes[stream].take(rt)
     }
 
-    /// Ends the reading: each thread ends once it waits for messages no more.
+    /// Ends the reading. Each thread ends after its current wait for messages.
     pub(crate) fn close<R: Wait>(&self, rt: &R) {
         for mailbox in self.mailboxes.iter() {
             mailbox.close(rt);
@@ -66,14 +66,14 @@ impl Feeds {
     }
 }
 
-/// Streams that are read, each by a thread.
+/// Streams that are being read.
 #[derive(Drop)]
 pub(crate) struct Reading<S: Source + Drop> {
     pub(crate) feeds: Feeds,
     pub(crate) threads: Vec<Feeding<S>>,
 }
 
-/// Begins to read streams, each in a thread of its own. A thread that is refused ends the reading.
+/// Starts to read streams, each in its own thread. A refused thread ends the reading.
 pub(crate) fn begin_reading<R, S>(
     rt: &R,
     alloc: Global,
@@ -124,8 +124,7 @@ where
     Ok(())
 }
 
-// Leaves report after report of a stream, until its last one, or until no more are taken. The stream's name, where its end was
-// not left.
+// Reports a stream to its end, or until the mailbox is closed. The error is the stream's name.
 fn leave_all<R: Wait, S: Source + Drop>(
     rt: &R,
     stream: StreamReader<S>,
@@ -151,8 +150,7 @@ fn leave_all<R: Wait, S: Source + Drop>(
     Err(name_of(&stream))
 }
 
-/// Waits for the threads of streams, which were taken to their ends. The first one that did not come to its stream's end
-/// names that.
+/// Waits for the threads of streams. The error is the first stream that was not read to its end.
 pub(crate) fn end_reading<R: Threads, S: Source + Drop>(
     rt: &R,
     threads: Vec<Feeding<S>>,

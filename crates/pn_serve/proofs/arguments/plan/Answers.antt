@@ -1,4 +1,4 @@
--- What `clap` made of the words decides.
+-- The plan is that of what `clap` answers.
 use Rattle.std.proofs.Common.{map, string_bytes, sym, subst, ◌∙◌}
 use Rattle.std.specs.Prelude.{IsSome}
 use Rattle.pn_serve.proofs.PlannedArguments.{answered, has_command, has_kind, has_sessions, matched, met, planned}

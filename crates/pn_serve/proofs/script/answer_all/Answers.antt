@@ -1,4 +1,4 @@
--- What was served before a line is served behind it.
+-- What was answered before a line stays answered after it.
 use Rattle.std.proofs.Common.{◌+◌, Ok, ap, refl, ◌∙◌}
 use Rattle.pn_serve.specs.declared.script.line_loop.Next.{Next}
 use Rattle.pn_serve.proofs.Stopping.{Handed_on}

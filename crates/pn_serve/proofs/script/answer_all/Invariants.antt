@@ -1,4 +1,4 @@
--- The replies to the lines so far went out or wait.
+-- The replies to the lines so far wait or were written.
 use Rattle.std.proofs.Common.{◌≡◌}
 use Rattle.pn_serve.specs.Lines.States.{Start}
 use Rattle.pn_serve.specs.Lines.Served.{Served}

@@ -1,4 +1,4 @@
--- The deliveries so far, before those of what is left, are those of all.
+-- The deliveries so far, then those of the rest, are those of all.
 use Rattle.std.proofs.Common.{◌≡◌}
 use Rattle.std.specs.Vec.Iter.{into_iter_items}
 use Rattle.serde_json.specs.View.{items_view}

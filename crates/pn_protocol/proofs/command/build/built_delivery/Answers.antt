@@ -1,4 +1,4 @@
--- The members that were found are the parts of the batch that the value is.
+-- The members that were found are the parts of the batch.
 use Rattle.std.proofs.Common.{◌≡◌, codes, refl, sym, ap, ◌∙◌, rules}
 use Rattle.serde_json.specs.Find.{get}
 use Rattle.serde_json.specs.View.{view, items_view}

@@ -1,4 +1,4 @@
--- What is moved out of a line that was checked are its batches.
+-- The batches that are moved out are those that were checked.
 use Rattle.std.proofs.Common.{◌≡◌, codes, Ok, refl, ap, ◌∙◌, rules}
 use Rattle.serde_json.specs.Find.{get}
 use Rattle.serde_json.specs.View.{view, items_view}

@@ -1,4 +1,4 @@
--- What is left fits, or has the first fault, exactly as all.
+-- The rest has the same first fault as all.
 use Rattle.std.proofs.Common.{◌≡◌, drop}
 use Rattle.pn_protocol.specs.Command.RangeChecks.{each_fits, image_fits}
 use Rattle.pn_protocol.proofs.command.ranges.check_images.Given as goal

@@ -1,4 +1,4 @@
--- The shapes so far, before those of what is left, are the shapes of all.
+-- The shapes so far, then those of the rest, are the shapes of all.
 use Rattle.std.proofs.Common.{◌≡◌, drop}
 use Rattle.serde_json.specs.View.{items_view}
 use Rattle.pn_json.specs.Members.{each_in}

@@ -1,4 +1,4 @@
--- The text is that of the copy, with as many lines as are said.
+-- The text is that of the copy, and its lines are counted.
 use Rattle.std.proofs.Common.{ℕ, List, ◌∷◌, ◌++◌, length, ap, ◌∙◌}
 use Rattle.pn_json.specs.Lines.{line_of}
 use Rattle.pn_line.specs.Text.{lines_of}

@@ -1,4 +1,4 @@
--- The newlines so far, and those of what is left, are all newlines.
+-- The newlines so far and those of the rest are all newlines.
 use Rattle.std.proofs.Common.{◌≡◌, ◌+◌, ◌≤◌, drop}
 use Rattle.std.specs.List.{count_by}
 use Rattle.pn_protocol.specs.Reply.Recovery.{is_newline}

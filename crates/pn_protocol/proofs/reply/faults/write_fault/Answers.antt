@@ -1,4 +1,4 @@
--- The members stand between braces.
+-- The members are between braces.
 use Rattle.std.proofs.Common.{◌≡◌, [], ◌∷◌, ◌++◌, refl}
 use Rattle.json.specs.Token.{begin_object, end_object}
 use Rattle.pn_region.specs.declared.fault.RoundFault.{RoundFault}

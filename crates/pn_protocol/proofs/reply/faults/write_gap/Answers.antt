@@ -1,4 +1,4 @@
--- The members of a gap stand one after another.
+-- The members of a gap follow one another.
 use Rattle.std.proofs.Common.{ℕ, List, codes, ap}
 use Rattle.serde_json.specs.Data.{string}
 use Rattle.pn_json.specs.Tokens.{member_tokens}

@@ -1,4 +1,4 @@
--- The tokens of the fault that it is.
+-- The tokens of this fault.
 use Rattle.pn_protocol.proofs.reply.faults.write_why.Goals as goal
 
 pub returns-in-TooManyStreams : goal.returns-in-TooManyStreams

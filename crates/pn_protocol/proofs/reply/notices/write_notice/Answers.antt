@@ -1,4 +1,4 @@
--- The members of a notice stand one after another.
+-- The members of a notice follow one another.
 use Rattle.std.proofs.Common.{ℕ, List, Option, codes}
 use Rattle.serde_json.specs.Data.{Data, number, object, string, unsigned, member, no_members}
 use Rattle.pn_record.specs.Writing.{version_data}

@@ -1,4 +1,4 @@
--- The rows so far, and those of the keys that are left, are all rows.
+-- The rows so far and those of the remaining keys are all rows.
 use Rattle.std.proofs.Common.{◌≡◌, ◌++◌}
 use Rattle.pn_json.specs.Tokens.{values_tokens}
 use Rattle.pn_protocol.specs.Reply.Record.{rows_or_nulls}

@@ -1,4 +1,4 @@
--- The rows stand between brackets.
+-- The rows are between brackets.
 use Rattle.pn_json.proofs.TokenLists.{appends_token, whole_array}
 use Rattle.pn_protocol.specs.Reply.Record.{rows_or_nulls}
 use Rattle.pn_protocol.proofs.reply.record.write_found.Goals as goal

@@ -1,4 +1,4 @@
--- The reply of the fault that it is.
+-- The reply to this fault.
 use Rattle.pn_protocol.proofs.reply.recovery.bad_text_reply.Goals as goal
 
 pub returns-in-OutsideRange : goal.returns-in-OutsideRange

@@ -1,4 +1,4 @@
--- The reply of the fault that it is.
+-- The reply to this fault.
 use Rattle.pn_protocol.proofs.reply.recovery.no_copy_reply.Goals as goal
 
 pub returns-in-Recovering : goal.returns-in-Recovering

@@ -1,4 +1,4 @@
--- The reply of the fault that it is.
+-- The reply to this fault.
 use Rattle.pn_protocol.proofs.reply.recovery.not_adopted_reply.Goals as goal
 
 pub returns-in-WrongRange : goal.returns-in-WrongRange

@@ -1,4 +1,4 @@
--- The members stand one after another.
+-- The members follow one another.
 use Rattle.std.proofs.Common.{ℕ, List, codes, ap}
 use Rattle.serde_json.specs.Data.{string}
 use Rattle.pn_json.specs.Tokens.{member_tokens}

@@ -1,4 +1,4 @@
--- The members stand between braces.
+-- The members are between braces.
 use Rattle.std.proofs.Common.{◌≡◌, ℕ, List, [], ◌∷◌, ◌++◌, refl}
 use Rattle.json.specs.Token.{begin_object, end_object}
 use Rattle.pn_json.specs.Tokens.{value_tokens}

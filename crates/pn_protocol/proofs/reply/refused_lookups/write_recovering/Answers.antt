@@ -1,4 +1,4 @@
--- The members stand one after another.
+-- The members follow one another.
 use Rattle.pn_json.proofs.TokenLists.{appends_both}
 use Rattle.pn_protocol.proofs.reply.refused_lookups.write_recovering.Goals as goal
 

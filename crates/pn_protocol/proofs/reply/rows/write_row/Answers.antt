@@ -1,4 +1,4 @@
--- The members of a row stand one after another.
+-- The members of a row follow one another.
 use Rattle.std.proofs.Common.{ℕ, List, codes, map, ap, ◌∙◌}
 use Rattle.serde_json.specs.Data.{Data, array, object, string, member, no_members}
 use Rattle.serde_json.specs.View.{items_of}

@@ -9,7 +9,7 @@ use Rattle.pn_record.specs.Sets.{CellValue}
 use Rattle.pn_protocol.specs.Reply.Rows.{row_data}
 use Rattle.pn_protocol.proofs.reply.scan.write_chunks.Goals as goal
 
--- the rows of a chunk, and those behind it
+-- the rows of a chunk, and those after it
 rows_of : (all chunk rest : List (List ℕ × CellValue)) → all ≡ chunk ++ rest → values_tokens (map row_data chunk) ++ values_tokens (map row_data rest) ≡ values_tokens (map row_data all)
 rows_of all chunk rest parts =
     sym (flat_map-append value_tokens (map row_data chunk) (map row_data rest))

@@ -1,4 +1,4 @@
--- The rows so far, and those of the chunks that are left, are all rows.
+-- The rows so far and those of the remaining chunks are all rows.
 use Rattle.std.proofs.Common.{◌≡◌, ◌<◌, map, ◌++◌}
 use Rattle.std.specs.Slice.Iter.{chunks_rest, chunks_size}
 use Rattle.pn_json.specs.Tokens.{values_tokens}

@@ -1,4 +1,4 @@
--- The members of a tablet stand one after another.
+-- The members of a tablet follow one another.
 use Rattle.std.proofs.Common.{◌≡◌, ℕ, List, Option, codes, ap, ◌∙◌}
 use Rattle.serde_json.specs.Data.{Data, object, member, no_members}
 use Rattle.pn_join.specs.Marks.{Positions}

@@ -1,4 +1,4 @@
--- What `serde_json` reads, the text is.
+-- The value is what `serde_json` reads.
 use Rattle.std.proofs.Common.{◌≡◌, ℕ, List, Some, IsUtf8, ap, ◌∙◌, sym}
 use Rattle.std.proofs.lemmas.Str.{is_utf8-from_IsUtf8}
 use Rattle.std.specs.Option.{ok_or}

@@ -1,4 +1,4 @@
--- The number that is read of an option, its text says.
+-- The number of an option is that of its text.
 use Rattle.std.proofs.Common.{◌≡◌, ℕ, Bool, true, false, cond, List, Option, Some, None, Result, Ok, Err, refl, ap, arith, ◌∙◌}
 use Rattle.std.specs.Prelude.{max, min, option_and_then, unwrap_or}
 use Rattle.std.specs.Str.Parse.{ParsesUnsigned, ExplainsUnsignedError, HasUnsignedDigitsIfOk, digits_value, without_leading_plus}

@@ -1,4 +1,4 @@
--- The streams so far, before those of what is left, are the streams of all.
+-- The streams so far, then those of the rest, are the streams of all.
 use Rattle.std.proofs.Common.{◌≡◌, drop, map}
 use Rattle.pn_json.specs.Members.{texts}
 use Rattle.pn_serve.specs.Arguments.Streams.{each_stream, stream_value}

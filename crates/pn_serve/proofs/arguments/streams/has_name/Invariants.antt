@@ -1,4 +1,4 @@
--- A stream that is left has the name, exactly as one of all.
+-- A stream of the rest has the name exactly if one of all has.
 use Rattle.std.proofs.Common.{◌≡◌, drop, map}
 use Rattle.pn_serve.specs.Arguments.Streams.{has_name as name_among, stream_value}
 use Rattle.pn_serve.proofs.arguments.streams.has_name.Given as goal

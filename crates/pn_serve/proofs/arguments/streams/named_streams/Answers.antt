@@ -1,4 +1,4 @@
--- The words that were found are those of the row.
+-- The arguments that were found are those of the row.
 use Rattle.std.proofs.Common.{◌≡◌, List, ℕ, [], Option, Ok, Vec, Global, String, map, codes, refl, sym, ap, subst, ◌∙◌}
 use Rattle.std.specs.Prelude.{unwrap_or}
 use Rattle.clap.proofs.WalkLemmas.{raw_values-rows}

@@ -1,4 +1,4 @@
--- The names of those that are left differ, exactly as those of all.
+-- The names of the rest differ exactly if those of all do.
 use Rattle.std.proofs.Common.{◌≡◌, length, map}
 use Rattle.pn_serve.specs.Arguments.Streams.{names_differ as all_differ, stream_value}
 use Rattle.pn_serve.proofs.arguments.streams.names_differ.Given as goal

@@ -1,4 +1,4 @@
--- The line's first bytes and its newline stand behind the text.
+-- The line's first bytes and its newline come after the text.
 use Rattle.std.proofs.Common.{◌≡◌, List, ℕ, ◌++◌, length, min, take, refl, ap, ◌∙◌, append_assoc, arith}
 use Rattle.std.proofs.lemmas.List.{take_min}
 use Rattle.pn_line.specs.Line.{kept, max_kept}

@@ -1,4 +1,4 @@
--- The input ended behind a part of what was announced.
+-- The input ended after a part of what was announced.
 use Rattle.pn_serve.proofs.Announcing.{came_part}
 use Rattle.pn_serve.proofs.machine.adoption.finish.Goals as goal
 

@@ -1,4 +1,4 @@
--- What is left where no more lines may be answered.
+-- After the last line that may be answered.
 use Rattle.std.proofs.Common.{◌≡◌, Bool, ℕ, List, [], Ok, ap, refl, sym, subst}
 use Rattle.std.specs.Prelude.{Option}
 use Rattle.std.specs.Io.KnownBytes.{Appends}
@@ -9,7 +9,7 @@ use Rattle.pn_serve.proofs.Serving.{OnTold, Flushes, Ends_within}
 use Rattle.pn_serve.proofs.Stopping.{Run_write, Cut_between, Cut_finish, Cut_finished, Broken_after, Exceeded_lines}
 use Rattle.pn_serve.proofs.script.line_loop.LineLoop.finish.Goals as goal
 
--- what is served where all that waited went out, and nothing else changed
+-- what was answered, once all that waited is written
 all_out : {V : Type 0} (makes ends : V → List ℕ → V → Reply → Type 0) (start : Start V) (script : List ℕ) (left b c : Option (List ℕ)) (machine : V) (run : LineLoopValue) (waits : List ℕ) → Between makes start script left b machine run → Appends b c run.waits → waits ≡ []
     → Between makes start script left c machine (record run { waits = waits })
 all_out makes ends start script left b c machine run waits between sent none = Flushes makes ends start script left b c machine run (record run { waits = waits }) between sent refl none

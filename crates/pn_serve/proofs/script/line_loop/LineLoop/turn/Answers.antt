@@ -1,4 +1,4 @@
--- Each line read and answered goes on from what was served.
+-- Each line goes on from those answered before.
 use Rattle.std.proofs.Common.{refl, sym, subst, ap}
 use Rattle.pn_serve.specs.Lines.Served.{Served}
 use Rattle.pn_serve.proofs.Serving.{OnTold, Goes_on, Flushes, Ends_closed}
