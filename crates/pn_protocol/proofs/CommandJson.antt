@@ -17,7 +17,7 @@ use Rattle.pn_protocol.specs.Command.Json.{delivery_data, tablet_member, adopt_c
 use Rattle.pn_protocol.specs.Command.Grammar.{IsRequired, Says, IsCommand}
 use Rattle.pn_protocol.specs.Command.Deliveries.{deliver_in}
 use Rattle.pn_protocol.specs.Command.Lookups.{get_in, read_in, scan_in}
-use Rattle.pn_protocol.specs.Command.Overview.{marks_in, tablets_in}
+use Rattle.pn_protocol.specs.Command.Overview.{alone_in}
 use Rattle.pn_protocol.specs.Command.Objects.{command_as, allowed_in, command_in}
 use Rattle.pn_protocol.specs.Command.Limits.{may_announce, may_be_asked, may_be_required, is_command}
 use Rattle.pn_protocol.specs.Command.Meaning.{CommandValue, adopt, copy, deliver, lose, marks, notices, read, scan, tablets}
@@ -126,7 +126,7 @@ module _ (ms : Members) (order : InOrder (object ms)) where
       record { value = subst (λ d. Says d said) (sym whole) value; limits = limits }
 
   marks_found : Found Marks
-  unfolding marks_in
+  unfolding alone_in
   marks_found command says is =
       let named = bind_ok (named_alone (names_of Marks) ms) _ command is in
       let same : marks ≡ command = cc in
@@ -176,7 +176,7 @@ module _ (ms : Members) (order : InOrder (object ms)) where
       subst (λ c. IsCommand (object ms) c) same (record { value = (there.0, there.2.shape, whole); limits = there.2.limits })
 
   tablets_found : Found Tablets
-  unfolding tablets_in
+  unfolding alone_in
   tablets_found command says is =
       let named = bind_ok (named_alone (names_of Tablets) ms) _ command is in
       let same : tablets ≡ command = cc in
@@ -230,7 +230,7 @@ copy_again (Some d) need tablet is = rw is refl
 
 -- a command's value is read as the command
 says_again : (d : Data) (command : CommandValue) → Says d command → is_command command ≡ true → command_in d ≡ Ok command
-unfolding allowed_in deliver_in get_in lose_in marks_in tablets_in
+unfolding allowed_in deliver_in get_in lose_in alone_in
 says_again d (adopt lines) says keeps = ap command_in says ∙ adopt_again lines keeps
 says_again d (copy need tablet) (said, is, says) keeps = ap command_in says ∙ copy_again said need tablet (need_again said need is keeps)
 says_again d (deliver deliveries) says keeps = ap command_in says ∙ rw (each_again batch_shape delivery_data batch_again deliveries, deliveries_again deliveries keeps) refl

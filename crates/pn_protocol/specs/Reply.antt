@@ -1,6 +1,6 @@
 -- Replies.
-pub mod About
 pub mod Answers
+pub mod Errors
 pub mod Faults
 pub mod Lookups
 pub mod Marks
@@ -13,3 +13,4 @@ pub mod Scan
 pub mod Short
 pub mod Tablets
 pub mod Texts
+pub mod Versions

@@ -13,11 +13,11 @@ pub use reply::Reply;
 pub use reply::answers::{
     answer_copy, answer_get, answer_read, answer_scan, bad_text, not_adopted, not_taken, shown,
 };
-pub use reply::faults::fault_reply;
+pub use reply::faults::{
+    bad_text_reply, fault_reply, no_copy_reply, not_adopted_reply, refused_reply,
+};
 pub use reply::marks::marks_reply;
 pub use reply::notices::since_reply;
-pub use reply::recovery::{bad_text_reply, no_copy_reply, not_adopted_reply};
-pub use reply::refused_lookups::refused_reply;
 pub use reply::scan::scan_reply;
 pub use reply::short::{
     ShortReply, adopted_reply, changed_reply, lines_reply, lost_reply, refusal_reply, served_reply,

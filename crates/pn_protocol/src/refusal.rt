@@ -6,7 +6,6 @@ ghost use Rattle.pn_protocol.specs.declared.refusal.Refusal.TheVariants.{Memory}
 
 use pn_join::NoMemory;
 use pn_record::Member;
-use std::alloc::{AllocError, AllocFailed};
 
 /// The part of a line that is at fault.
 #[derive(Clone, Copy, Debug, PartialEq, Eq)]
@@ -79,22 +78,6 @@ impl From<NoMemory> for Refusal {
     ghost from_gives = { λ _ refusal. refusal ≡ Memory };
 
     fn from(_error: NoMemory) -> Refusal {
-        Refusal::Memory
-    }
-}
-
-impl From<AllocError> for Refusal {
-    ghost from_gives = { λ _ refusal. refusal ≡ Memory };
-
-    fn from(_error: AllocError) -> Refusal {
-        Refusal::Memory
-    }
-}
-
-impl<T: Drop> From<AllocFailed<T>> for Refusal {
-    ghost from_gives = { λ _ refusal. refusal ≡ Memory };
-
-    fn from(_error: AllocFailed<T>) -> Refusal {
         Refusal::Memory
     }
 }

@@ -1,12 +1,11 @@
 //! Replies.
 
 pub(crate) mod answers;
+mod errors;
 pub(crate) mod faults;
 pub(crate) mod marks;
 pub(crate) mod notices;
 pub(crate) mod record;
-pub(crate) mod recovery;
-pub(crate) mod refused_lookups;
 mod room;
 mod rows;
 pub(crate) mod scan;

@@ -5,7 +5,7 @@ use Rattle.serde_json.specs.Data.{Data, string, Members}
 use Rattle.serde_json.specs.Find.{get, as_object}
 use Rattle.pn_json.specs.Answers.{◌>>=◌}
 use Rattle.pn_json.specs.Members.{member_as}
-use Rattle.pn_protocol.specs.Command.Meaning.{CommandValue, deliver}
+use Rattle.pn_protocol.specs.Command.Meaning.{CommandValue, marks, tablets}
 use Rattle.pn_protocol.specs.Command.Words.{word_in}
 use Rattle.pn_protocol.specs.Command.Notices.{notices_in}
 use Rattle.pn_protocol.specs.Command.Recovery.{adopt_in, copy_in, lose_in}
@@ -18,7 +18,7 @@ use Rattle.pn_protocol.specs.declared.refusal.Refusal.{Refusal}
 use Rattle.pn_protocol.specs.declared.refusal.Refusal.TheVariants.{BadShape, ReadOnly}
 use Rattle.pn_protocol.specs.Command.Deliveries.{deliver_in}
 use Rattle.pn_protocol.specs.Command.Lookups.{get_in, read_in, scan_in}
-use Rattle.pn_protocol.specs.Command.Overview.{marks_in, tablets_in}
+use Rattle.pn_protocol.specs.Command.Overview.{alone_in}
 
 -- the command of a word
 abbrev pub command_as : CommandWord → Members → Data → Result CommandValue Refusal
@@ -27,11 +27,11 @@ command_as Copy members d = copy_in members d
 command_as Deliver members d = deliver_in members d
 command_as Get members d = get_in members d
 command_as Lose members d = lose_in members d
-command_as Marks members d = marks_in members
+command_as Marks members d = alone_in marks members
 command_as Notices members d = notices_in members d
 command_as Read members d = read_in members d
 command_as Scan members d = scan_in members d
-command_as Tablets members d = tablets_in members
+command_as Tablets members d = alone_in tablets members
 
 -- the word of a lookup
 abbrev pub lookup_word : CommandWord → Result (Unit {0}) Refusal

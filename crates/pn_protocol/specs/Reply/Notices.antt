@@ -8,7 +8,7 @@ use Rattle.pn_region.specs.declared.entry.Entry.{Entry}
 use Rattle.pn_region.specs.declared.since.Notice.{Notice}
 use Rattle.pn_region.specs.declared.since.Since.{Since}
 use Rattle.pn_region.specs.declared.since.Since.TheVariants.{Notices, Missed}
-use Rattle.pn_protocol.specs.Reply.Lookups.{version_or_null}
+use Rattle.pn_protocol.specs.Reply.Versions.{version_or_null}
 
 -- a notice: the version after the change, the one before it or null, the key, and the number
 unfoldable pub notice_data : Notice → Data

@@ -1,6 +1,6 @@
 -- The replies to copies and adoptions.
 use Rattle.std.specs.Prelude.{ℕ, Bool, List, ◌++◌, ◌==◌, codes, length}
-use Rattle.serde_json.specs.Data.{Data, number, string, unsigned, Members, no_members, member}
+use Rattle.serde_json.specs.Data.{Data, no_members}
 use Rattle.pn_json.specs.Lines.{line_of}
 use Rattle.pn_line.specs.Text.{lines_of}
 use Rattle.pn_tablet.specs.Copies.{TabletCopyValue}
@@ -11,7 +11,7 @@ use Rattle.pn_tablet.specs.declared.copy_fault.CopyTextFault.{CopyTextFault}
 use Rattle.pn_tablet.specs.declared.copy_fault.CopyTextFault.TheVariants as text
 use Rattle.pn_region.specs.declared.fault.AdoptFault.{AdoptFault}
 use Rattle.pn_region.specs.declared.fault.AdoptFault.TheVariants as adopt
-use Rattle.pn_protocol.specs.Reply.Faults.{error_data}
+use Rattle.pn_protocol.specs.Reply.Errors.{error_data, short_details, too_old_details, with_number}
 use Rattle.pn_protocol.specs.Reply.Short.{lines_data}
 
 -- the byte that ends a line
@@ -22,25 +22,10 @@ is_newline b = b == 10
 abbrev pub copy_reply : TabletCopyValue → List ℕ
 copy_reply copy = line_of (lines_data (length (lines_of (copy_text copy)))) ++ copy_text copy
 
--- a number, before further members
-abbrev pub with_number : List ℕ → ℕ → Members → Members
-with_number name value others = member name (number (unsigned value)) others
-
--- a stream, before further members
-abbrev pub with_stream : List ℕ → Members → Members
-with_stream stream others = member (codes "stream") (string stream) others
-
--- the details of `behind` and of `too-old`
-abbrev pub about_behind : List ℕ → ℕ → ℕ → Members
-about_behind stream has wanted = with_number (codes "has") has (with_stream stream (with_number (codes "wanted") wanted no_members))
-
-abbrev pub about_too_old : List ℕ → ℕ → ℕ → Members
-about_too_old stream has needs = with_number (codes "has") has (with_number (codes "needs") needs (with_stream stream no_members))
-
 -- the reply where there is no copy of the tablet of this number
 abbrev pub no_copy_data : ℕ → CopyFault → Data
 no_copy_data tablet copy.Recovering = error_data (codes "recovering") (with_number (codes "tablet") tablet no_members)
-no_copy_data tablet (copy.Behind stream has wanted) = error_data (codes "behind") (about_behind stream has wanted)
+no_copy_data tablet (copy.Behind stream has wanted) = error_data (codes "behind") (short_details (codes "has") has stream wanted)
 no_copy_data tablet copy.Memory = error_data (codes "memory") no_members
 no_copy_data tablet copy.NoEntry = error_data (codes "no-entry") no_members
 
@@ -60,5 +45,5 @@ bad_text_data text.Memory = error_data (codes "memory") no_members
 -- the reply where a copy is not adopted
 abbrev pub not_adopted_data : AdoptFault → Data
 not_adopted_data adopt.WrongRange = error_data (codes "wrong-range") no_members
-not_adopted_data (adopt.TooOld stream has needs) = error_data (codes "too-old") (about_too_old stream has needs)
+not_adopted_data (adopt.TooOld stream has needs) = error_data (codes "too-old") (too_old_details stream has needs)
 not_adopted_data adopt.Memory = error_data (codes "memory") no_members

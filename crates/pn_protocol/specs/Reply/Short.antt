@@ -5,7 +5,7 @@ use Rattle.pn_record.specs.Words.{word_of}
 use Rattle.pn_protocol.specs.declared.refusal.Part.{Part}
 use Rattle.pn_protocol.specs.declared.refusal.Part.TheVariants.{Whole, Do, Batches, First, Images, Key, Keys, Lines, Need, Stream, Query, Since, Tablet, Version, Other, Image}
 use Rattle.pn_protocol.specs.declared.refusal.Refusal.{Refusal}
-use Rattle.pn_protocol.specs.Reply.Faults.{error_data}
+use Rattle.pn_protocol.specs.Reply.Errors.{error_data}
 use Rattle.pn_protocol.specs.declared.refusal.Refusal.TheVariants.{TooLong, NotJson, BadShape, ReadOnly, OutOfRange, Memory}
 
 -- the part's name in lower case, or the name of the image's member

@@ -8,7 +8,7 @@ ghost use Rattle.pn_protocol.specs.Command.BatchParts.{deliver_at};
 ghost use Rattle.pn_protocol.specs.Command.Grammar.{IsCommandLine};
 ghost use Rattle.pn_protocol.specs.Command.Meaning.{CommandValue, deliver, command_value};
 ghost use Rattle.pn_protocol.specs.Command.Lines.{refusal_of, allowed_at, command_at, lookup_at, is_too_long};
-ghost use Rattle.pn_protocol.specs.Command.Overview.{marks_in, tablets_in};
+ghost use Rattle.pn_protocol.specs.Command.Overview.{alone_in};
 ghost use Rattle.pn_protocol.specs.Command.Objects.{allowed_in, allowed_word, lookup_word, TakesMemory};
 
 use crate::command::batch::BatchShape;
@@ -94,11 +94,11 @@ fn command_in(alloc: Global, value: Value, allowed: Allowed) -> Result<Command, 
         CommandWord::Deliver => deliver_of(alloc, value),
         CommandWord::Get => get_of(alloc, members, &value),
         CommandWord::Lose => lose_of(members, &value),
-        CommandWord::Marks => marks_of(members),
+        CommandWord::Marks => alone(members, Command::Marks),
         CommandWord::Notices => notices_of(members, &value),
         CommandWord::Read => read_of(alloc, members, &value),
         CommandWord::Scan => scan_of(alloc, members, &value),
-        CommandWord::Tablets => tablets_of(members),
+        CommandWord::Tablets => alone(members, Command::Tablets),
     }
 }
 
@@ -145,20 +145,12 @@ fn checked_batches(alloc: Global, value: &Value) -> Result<Vec<BatchShape<'_>>, 
     Ok(shapes)
 }
 
-#[tactic(auto, unfolding(crate::specs::Command::Overview::marks_in))]
-fn marks_of(members: &Map<String, Value>) -> Result<Command, Refusal>
-    ensures exact { Shows command_value result (marks_in (members_view members.now.entries)) }
+// A command whose one member is its word.
+#[tactic(auto, unfolding(crate::specs::Command::Overview::alone_in))]
+fn alone(members: &Map<String, Value>, command: Command) -> Result<Command, Refusal>
+    ensures exact { Shows command_value result (alone_in (command_value command) (members_view members.now.entries)) }
     ensures memory { IsErrOf result Refusal.Memory → ⊥ }
 {
     check_members(members, &["do"])?;
-    Ok(Command::Marks)
-}
-
-#[tactic(auto, unfolding(crate::specs::Command::Overview::tablets_in))]
-fn tablets_of(members: &Map<String, Value>) -> Result<Command, Refusal>
-    ensures exact { Shows command_value result (tablets_in (members_view members.now.entries)) }
-    ensures memory { IsErrOf result Refusal.Memory → ⊥ }
-{
-    check_members(members, &["do"])?;
-    Ok(Command::Tablets)
+    Ok(command)
 }

@@ -1,6 +1,6 @@
 //! Checks the shapes of a line's parts, and borrows them from the parsed value.
 
-ghost use Rattle.std.specs.Prelude.{◌≡◌, IsErrOf};
+ghost use Rattle.std.specs.Prelude.{◌≡◌, [], vec_capacity, IfOk, IsErrOf};
 ghost use Rattle.serde_json.specs.View.{view, items_view, members_view};
 ghost use Rattle.pn_json.specs.Answers.{Shows, ShowsUnless, IsUnless};
 ghost use Rattle.pn_json.specs.Members.{seen, texts, each_in};
@@ -8,6 +8,7 @@ ghost use Rattle.pn_protocol.specs.Command.ShapeChecks.{named_alone, image_shape
 
 use crate::command::batch::BatchShape;
 use crate::{Part, Refusal};
+use pn_join::NoMemory;
 use pn_json::{check_names, items_of, text_of, whole_number_of};
 use pn_record::{Shape, numbers_of, shape_of};
 use serde_json::{Map, Value};
@@ -33,9 +34,9 @@ fn image_of(value: &Value) -> Result<Shape<'_>, Refusal>
 fn images_of(alloc: Global, items: &[Value]) -> Result<Vec<Shape<'_>>, Refusal>
     ensures { ShowsUnless Refusal.Memory (λ images. images.items) result (each_in image_shape (items_view items.now)) }
 {
-    let mut images = Vec::with_capacity(alloc, items.len())?;
+    let mut images = room(alloc, items.len())?;
     for item in items {
-        images.push(image_of(item)?)?;
+        images.push_reserved(image_of(item)?);
     }
     Ok(images)
 }
@@ -61,9 +62,9 @@ fn batch_of(alloc: Global, value: &Value) -> Result<BatchShape<'_>, Refusal>
 pub(crate) fn batches_of(alloc: Global, items: &[Value]) -> Result<Vec<BatchShape<'_>>, Refusal>
     ensures { ShowsUnless Refusal.Memory (λ batches. batches.items) result (each_in batch_shape (items_view items.now)) }
 {
-    let mut batches = Vec::with_capacity(alloc, items.len())?;
+    let mut batches = room(alloc, items.len())?;
     for item in items {
-        batches.push(batch_of(alloc, item)?)?;
+        batches.push_reserved(batch_of(alloc, item)?);
     }
     Ok(batches)
 }
@@ -78,9 +79,9 @@ fn key_text(value: &Value) -> Result<&str, Refusal>
 pub(crate) fn key_texts<'v>(alloc: Global, items: &'v [Value]) -> Result<Vec<&'v str>, Refusal>
     ensures { ShowsUnless Refusal.Memory (λ keys. texts keys.items) result (each_in key_shape (items_view items.now)) }
 {
-    let mut keys = Vec::with_capacity(alloc, items.len())?;
+    let mut keys = room(alloc, items.len())?;
     for item in items {
-        keys.push(key_text(item)?)?;
+        keys.push_reserved(key_text(item)?);
     }
     Ok(keys)
 }
@@ -103,4 +104,11 @@ fn numbers_required(value: &Value) -> Option<Option<(u64, u64)>>
         Value::Null => Some(None),
         _ => Some(Some(numbers_of(value)?)),
     }
+}
+
+fn room<T: Drop>(alloc: Global, count: usize) -> Result<Vec<T>, NoMemory>
+    ensures none { IfOk result (λ items. items.items ≡ []) }
+    ensures room { IfOk result (λ items. vec_capacity items ≡ count) }
+{
+    Ok(Vec::with_capacity(alloc, count)?)
 }

@@ -1,67 +1,114 @@
-//! The replies to deliveries whose round was refused.
+//! Replies to commands that were refused, by their faults.
 
-ghost use Rattle.std.specs.Prelude.{◌≡◌, IfOk, OnOk};
+ghost use Rattle.std.specs.Prelude.{◌≡◌, IfOk};
 ghost use Rattle.pn_json.specs.Lines.{line_of};
-ghost use Rattle.pn_json.specs.Tokens.{Appends, value_tokens};
-ghost use Rattle.pn_protocol.specs.Reply.Faults.{fault_data, error_tokens, fault_tokens, gap_tokens};
+ghost use Rattle.pn_protocol.specs.Reply.Faults.{fault_data};
+ghost use Rattle.pn_protocol.specs.Reply.Lookups.{refused_data};
+ghost use Rattle.pn_protocol.specs.Reply.Recovery.{bad_text_data, no_copy_data, not_adopted_data};
 
-use json::Writer;
-use pn_join::{NoMemory, StreamName};
-use pn_json::{begin_line, finish_line, write_number_member, write_text_member};
-use pn_region::RoundFault;
+use crate::reply::errors::{ErrorDetails, error_reply};
+use pn_join::NoMemory;
+use pn_region::{AdoptFault, RoundFault};
+use pn_scan::ScanFault;
+use pn_tablet::{CopyFault, CopyTextFault};
 use std::alloc::Global;
 
 /// The reply to a delivery whose round was refused, as `{"error":"gap","got":7,"stream":"east","wanted":4}`.
+#[tactic(auto, unfolding(crate::specs::Reply::Faults::fault_data))]
 pub fn fault_reply(alloc: Global, fault: &RoundFault) -> Result<Vec<u8>, NoMemory>
     ensures { IfOk result (λ text. text.items ≡ line_of (fault_data fault.now)) }
-{
-    let mut writer = begin_line(alloc)?;
-    write_fault(&mut writer, fault)?;
-    finish_line(writer)
-}
-
-fn write_fault(writer: &mut Writer, fault: &RoundFault) -> Result<(), NoMemory>
-    ensures { OnOk result (Appends writer.old writer.new (value_tokens (fault_data fault.now))) }
-{
-    writer.begin_object()?;
-    write_why(writer, fault)?;
-    writer.end_object()?;
-    Ok(())
-}
-
-fn write_why(writer: &mut Writer, fault: &RoundFault) -> Result<(), NoMemory>
-    ensures { OnOk result (Appends writer.old writer.new (fault_tokens fault.now)) }
 {
     match fault {
         RoundFault::Gap {
             stream,
             wanted,
             got,
-        } => {
-            write_error(writer, "gap")?;
-            write_gap(writer, stream, *wanted, *got)
+        } => error_reply(
+            alloc,
+            "gap",
+            ErrorDetails::Gap {
+                stream,
+                got: *got,
+                wanted: *wanted,
+            },
+        ),
+        RoundFault::TooManyStreams => {
+            error_reply(alloc, "too-many-streams", ErrorDetails::Nothing)
         }
-        RoundFault::TooManyStreams => write_error(writer, "too-many-streams"),
-        RoundFault::Memory => write_error(writer, "memory"),
+        RoundFault::Memory => error_reply(alloc, "memory", ErrorDetails::Nothing),
     }
 }
 
-pub(crate) fn write_error(writer: &mut Writer, name: &str) -> Result<(), NoMemory>
-    ensures { OnOk result (Appends writer.old writer.new (error_tokens name.now)) }
+/// The reply to a lookup that was refused, as `{"error":"behind","has":[1,4]}`.
+#[tactic(auto, unfolding(crate::specs::Reply::Lookups::refused_data))]
+pub fn refused_reply(alloc: Global, fault: &ScanFault) -> Result<Vec<u8>, NoMemory>
+    ensures { IfOk result (λ text. text.items ≡ line_of (refused_data fault.now)) }
 {
-    write_text_member(writer, "error", name)
+    match fault {
+        ScanFault::Recovering(tablet) => {
+            error_reply(alloc, "recovering", ErrorDetails::Tablet(*tablet as u64))
+        }
+        ScanFault::Behind { has } => error_reply(alloc, "behind", ErrorDetails::Has(*has)),
+        ScanFault::Memory => error_reply(alloc, "memory", ErrorDetails::Nothing),
+        ScanFault::NoEntry => error_reply(alloc, "no-entry", ErrorDetails::Nothing),
+    }
 }
 
-fn write_gap(
-    writer: &mut Writer,
-    stream: &StreamName,
-    wanted: u64,
-    got: u64,
-) -> Result<(), NoMemory>
-    ensures { OnOk result (Appends writer.old writer.new (gap_tokens stream.now wanted got)) }
+/// The reply where there is no copy of the tablet of this number, as `{"error":"behind","has":4,"stream":"east","wanted":5}`.
+pub fn no_copy_reply(alloc: Global, tablet: usize, fault: &CopyFault) -> Result<Vec<u8>, NoMemory>
+    ensures { IfOk result (λ text. text.items ≡ line_of (no_copy_data tablet fault.now)) }
 {
-    write_number_member(writer, "got", got)?;
-    write_text_member(writer, "stream", stream.as_str())?;
-    write_number_member(writer, "wanted", wanted)?;
-    Ok(())
+    match fault {
+        CopyFault::Recovering => error_reply(alloc, "recovering", ErrorDetails::Tablet(tablet as u64)),
+        CopyFault::Behind {
+            stream,
+            has,
+            wanted,
+        } => error_reply(
+            alloc,
+            "behind",
+            ErrorDetails::Behind {
+                stream,
+                has: *has,
+                wanted: *wanted,
+            },
+        ),
+        CopyFault::Memory => error_reply(alloc, "memory", ErrorDetails::Nothing),
+        CopyFault::NoEntry => error_reply(alloc, "no-entry", ErrorDetails::Nothing),
+    }
+}
+
+/// The reply to an adoption whose text is no copy, as `{"error":"bad-line","line":3}`.
+pub fn bad_text_reply(alloc: Global, fault: &CopyTextFault) -> Result<Vec<u8>, NoMemory>
+    ensures { IfOk result (λ text. text.items ≡ line_of (bad_text_data fault.now)) }
+{
+    match fault {
+        CopyTextFault::Truncated => error_reply(alloc, "truncated", ErrorDetails::Nothing),
+        CopyTextFault::BadLine(line) => error_reply(alloc, "bad-line", ErrorDetails::Line(*line)),
+        CopyTextFault::OutsideRange(line) => {
+            error_reply(alloc, "outside-range", ErrorDetails::Line(*line))
+        }
+        CopyTextFault::NotRising(line) => error_reply(alloc, "not-rising", ErrorDetails::Line(*line)),
+        CopyTextFault::BadEnd => error_reply(alloc, "bad-end", ErrorDetails::Nothing),
+        CopyTextFault::Memory => error_reply(alloc, "memory", ErrorDetails::Nothing),
+    }
+}
+
+/// The reply to an adoption that was refused, as `{"error":"too-old","has":4,"needs":5,"stream":"east"}`.
+pub fn not_adopted_reply(alloc: Global, fault: &AdoptFault) -> Result<Vec<u8>, NoMemory>
+    ensures { IfOk result (λ text. text.items ≡ line_of (not_adopted_data fault.now)) }
+{
+    match fault {
+        AdoptFault::WrongRange => error_reply(alloc, "wrong-range", ErrorDetails::Nothing),
+        AdoptFault::TooOld { stream, has, needs } => error_reply(
+            alloc,
+            "too-old",
+            ErrorDetails::TooOld {
+                stream,
+                has: *has,
+                needs: *needs,
+            },
+        ),
+        AdoptFault::Memory => error_reply(alloc, "memory", ErrorDetails::Nothing),
+    }
 }

@@ -7,7 +7,7 @@ ghost use Rattle.pn_json.specs.Lines.{line_of};
 ghost use Rattle.pn_json.specs.Tokens.{Appends, value_tokens};
 ghost use Rattle.pn_protocol.specs.Reply.Notices.{notice_data, notices_data, missed_data, found_since};
 
-use crate::reply::refused_lookups::write_version_or_null;
+use crate::reply::rows::write_version_or_null;
 use json::Writer;
 use pn_join::NoMemory;
 use pn_json::{begin_line, finish_line, write_number_member, write_text_member};

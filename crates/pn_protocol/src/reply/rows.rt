@@ -2,12 +2,13 @@
 
 ghost use Rattle.std.specs.Prelude.{◌≡◌, IfOk, OnOk};
 ghost use Rattle.pn_json.specs.Tokens.{Appends, IsBegun, value_tokens};
+ghost use Rattle.pn_protocol.specs.Reply.Versions.{version_or_null};
 ghost use Rattle.pn_protocol.specs.Reply.Rows.{row_data, state_word as word_of_state};
 
 use json::Writer;
 use pn_join::NoMemory;
 use pn_json::write_text_member;
-use pn_record::{Cell, CellState, Key, write_contents, write_version};
+use pn_record::{Cell, CellState, Key, Version, write_contents, write_version};
 use std::alloc::Global;
 
 /// An empty line with room for this many bytes.
@@ -39,5 +40,18 @@ fn state_word(state: CellState) -> &'static str
         CellState::One => "one",
         CellState::Deleted => "deleted",
         CellState::Conflict => "conflict",
+    }
+}
+
+/// Writes a version, or null.
+pub(crate) fn write_version_or_null(
+    writer: &mut Writer,
+    version: Option<Version>,
+) -> Result<(), NoMemory>
+    ensures { OnOk result (Appends writer.old writer.new (value_tokens (version_or_null version))) }
+{
+    match version {
+        Some(version) => write_version(writer, version),
+        None => Ok(writer.null()?),
     }
 }

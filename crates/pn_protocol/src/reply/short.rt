@@ -1,6 +1,6 @@
 //! Replies of fixed texts, names and numbers, held in place.
 
-ghost use Rattle.std.specs.Prelude.{◌≡◌, ◌+◌, ◌≤◌, [], ◌++◌, length};
+ghost use Rattle.std.specs.Prelude.{◌≡◌, ◌+◌, ◌≤◌, [], ◌++◌, codes, decimal, length};
 ghost use Rattle.pn_json.specs.Lines.{line_of};
 ghost use Rattle.pn_protocol.specs.Reply.Short.{refusal_data, adopted_data, changed_data, lines_data, lost_data, served_line};
 
@@ -79,16 +79,23 @@ pub fn refusal_reply(refusal: &Refusal) -> ShortReply
     reply
 }
 
+fn number_reply(before: &str, number: u64) -> ShortReply
+    requires { length before.now ≤ 32 }
+    ensures { result ≡ before.now ++ (decimal number ++ codes "}\n") }
+{
+    let mut reply = ShortReply::new();
+    reply.push(before);
+    reply.push(itoa::Buffer::new().format(number));
+    reply.push("}\n");
+    reply
+}
+
 /// The reply to a delivery, `{"changed":N}`: the number of records that it changed.
 #[tactic(auto, unfolding(pn_json::specs::Lines::line_of, crate::specs::Reply::Short::changed_data, serde_json::proofs::OnLiterals::serde_json_on_literals))]
 pub fn changed_reply(count: u64) -> ShortReply
     ensures { result ≡ line_of (changed_data count) }
 {
-    let mut reply = ShortReply::new();
-    reply.push("{\"changed\":");
-    reply.push(itoa::Buffer::new().format(count));
-    reply.push("}\n");
-    reply
+    number_reply("{\"changed\":", count)
 }
 
 /// The reply to an adoption, `{"adopted":T}`: the number of the tablet that took the copy.
@@ -96,11 +103,7 @@ pub fn changed_reply(count: u64) -> ShortReply
 pub fn adopted_reply(tablet: u64) -> ShortReply
     ensures { result ≡ line_of (adopted_data tablet) }
 {
-    let mut reply = ShortReply::new();
-    reply.push("{\"adopted\":");
-    reply.push(itoa::Buffer::new().format(tablet));
-    reply.push("}\n");
-    reply
+    number_reply("{\"adopted\":", tablet)
 }
 
 /// The reply to a loss, `{"lost":T}`: the number of the tablet.
@@ -108,11 +111,7 @@ pub fn adopted_reply(tablet: u64) -> ShortReply
 pub fn lost_reply(tablet: u64) -> ShortReply
     ensures { result ≡ line_of (lost_data tablet) }
 {
-    let mut reply = ShortReply::new();
-    reply.push("{\"lost\":");
-    reply.push(itoa::Buffer::new().format(tablet));
-    reply.push("}\n");
-    reply
+    number_reply("{\"lost\":", tablet)
 }
 
 /// The line before a copy, `{"lines":L}`: the number of the copy's lines.
@@ -120,11 +119,7 @@ pub fn lost_reply(tablet: u64) -> ShortReply
 pub fn lines_reply(count: u64) -> ShortReply
     ensures { result ≡ line_of (lines_data count) }
 {
-    let mut reply = ShortReply::new();
-    reply.push("{\"lines\":");
-    reply.push(itoa::Buffer::new().format(count));
-    reply.push("}\n");
-    reply
+    number_reply("{\"lines\":", count)
 }
 
 /// The last line of a server, `served N`: the number of sessions.

@@ -48,7 +48,7 @@ fn keys_of(alloc: Global, items: &[Value]) -> Result<Vec<Key>, PlanFault>
 {
     let mut keys = Vec::with_capacity(alloc, items.len())?;
     for item in items {
-        keys.push(key_of(alloc, item)?)?;
+        keys.push_reserved(key_of(alloc, item)?);
     }
     Ok(keys)
 }

@@ -4,8 +4,8 @@ ghost use Rattle.std.specs.Prelude.{◌≡◌};
 ghost use Rattle.pn_serve.specs.declared.arguments.plans.PlanFault.TheVariants.{Memory as no_memory};
 
 use crate::Settings;
-use pn_join::{Name, NoMemory};
-use std::alloc::{AllocError, AllocFailed};
+use pn_join::Name;
+use std::alloc::AllocError;
 use thiserror::Error;
 
 /// What the program's arguments ask for.
@@ -43,26 +43,10 @@ pub enum PlanFault {
     Memory,
 }
 
-impl From<NoMemory> for PlanFault {
-    ghost from_gives = { λ _ fault. fault ≡ no_memory };
-
-    fn from(_fault: NoMemory) -> PlanFault {
-        PlanFault::Memory
-    }
-}
-
 impl From<AllocError> for PlanFault {
     ghost from_gives = { λ _ fault. fault ≡ no_memory };
 
     fn from(_fault: AllocError) -> PlanFault {
-        PlanFault::Memory
-    }
-}
-
-impl<T: Drop> From<AllocFailed<T>> for PlanFault {
-    ghost from_gives = { λ _ fault. fault ≡ no_memory };
-
-    fn from(_fault: AllocFailed<T>) -> PlanFault {
         PlanFault::Memory
     }
 }

@@ -48,7 +48,7 @@ fn each_of(alloc: Global, words: &[&str]) -> Result<Vec<(Name, String)>, PlanFau
 {
     let mut streams = Vec::with_capacity(alloc, words.len())?;
     for word in words {
-        streams.push(stream_of(alloc, word)?)?;
+        streams.push_reserved(stream_of(alloc, word)?);
     }
     Ok(streams)
 }

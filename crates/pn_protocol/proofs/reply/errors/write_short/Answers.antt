@@ -1,9 +1,9 @@
--- The members of a gap follow one another.
+-- The members follow one another.
 use Rattle.std.proofs.Common.{ℕ, List, codes, ap}
 use Rattle.serde_json.specs.Data.{string}
 use Rattle.pn_json.specs.Tokens.{member_tokens}
 use Rattle.pn_json.proofs.TokenLists.{appends_both, appends_as}
-use Rattle.pn_protocol.proofs.reply.faults.write_gap.Goals as goal
+use Rattle.pn_protocol.proofs.reply.errors.write_short.Goals as goal
 
 pub returns : goal.returns
 returns c =

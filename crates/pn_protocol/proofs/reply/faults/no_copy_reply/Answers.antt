@@ -1,5 +1,5 @@
 -- The reply to this fault.
-use Rattle.pn_protocol.proofs.reply.recovery.no_copy_reply.Goals as goal
+use Rattle.pn_protocol.proofs.reply.faults.no_copy_reply.Goals as goal
 
 pub returns-in-Recovering : goal.returns-in-Recovering
 returns-in-Recovering c = rw c.in-Recovering.is c.error_reply.ensures
