@@ -13,7 +13,7 @@ pub(crate) mod plans;
 mod streams;
 
 use crate::arguments::bounds::layout_of;
-use crate::arguments::options::{command, number_of, text_of};
+use crate::arguments::options::{command, option_number, option_text};
 use crate::arguments::streams::named_streams;
 use crate::{Plan, PlanFault, Settings};
 use clap::error::ErrorKind;
@@ -69,8 +69,8 @@ fn serve_of(alloc: Global, options: &ArgMatches<'_>) -> Result<Plan, PlanFault>
     let streams = named_streams(alloc, options)?;
     Ok(Plan::Serve {
         settings,
-        sessions: usize::from(number_of(options, "sessions", 16)),
-        port: number_of(options, "port", 65_535),
+        sessions: usize::from(option_number(options, "sessions", 16)),
+        port: option_number(options, "port", 65_535),
         streams,
     })
 }
@@ -84,8 +84,8 @@ fn replay_of(alloc: Global, options: &ArgMatches<'_>) -> Result<Plan, PlanFault>
 fn settings_of(alloc: Global, options: &ArgMatches<'_>) -> Result<Settings, PlanFault>
     ensures { IsUnless PlanFault.Memory result (settings_in (rows_of (found_of options.now))) }
 {
-    let layout = layout_of(alloc, text_of(options, "bounds"))?;
-    let workers = usize::from(number_of(options, "workers", 16));
+    let layout = layout_of(alloc, option_text(options, "bounds"))?;
+    let workers = usize::from(option_number(options, "workers", 16));
     match Settings::new(layout, workers) {
         Some(settings) => Ok(settings),
         None => unreachable!(),

@@ -35,19 +35,19 @@ fn built_delivery(alloc: Global, batch: Value) -> Result<Delivery, NoMemory>
     requires { IsOk (batch_in (view batch)) }
     ensures { IfOk result (λ delivery. batch_in (view batch) ≡ Ok delivery) }
 {
-    let first = number_of(batch.get("first"));
-    let stream = Name::of(text_of(batch.get("stream")).as_bytes());
+    let first = number_or_zero(batch.get("first"));
+    let stream = Name::of(text_or_empty(batch.get("stream")).as_bytes());
     let images = items_at(alloc, member_from(batch, "images"));
     Ok(Delivery::of(stream, first, built_images(alloc, images)?))
 }
 
-fn number_of(value: Option<&Value>) -> u64
+fn number_or_zero(value: Option<&Value>) -> u64
     ensures { result ≡ number_at (seen value.entry) }
 {
     value.and_then(Value::as_u64).unwrap_or(0)
 }
 
-fn text_of<'v>(value: Option<&'v Value>) -> &'v str
+fn text_or_empty<'v>(value: Option<&'v Value>) -> &'v str
     ensures { result.now ≡ text_at (seen value.entry) }
 {
     value.and_then(Value::as_str).unwrap_or("")

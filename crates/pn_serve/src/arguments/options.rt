@@ -120,7 +120,7 @@ fn one_to_65_535<'w>() -> ValueParser<'w>
 }
 
 /// The number of an option, from 1 to the most that `clap` lets through.
-pub(crate) fn number_of(options: &ArgMatches<'_>, name: &str, most: u16) -> u16
+pub(crate) fn option_number(options: &ArgMatches<'_>, name: &str, most: u16) -> u16
     requires { 1 ≤ most }
     ensures { result ≡ number_at name.now most (rows_of (found_of options.now)) }
 {
@@ -128,7 +128,7 @@ pub(crate) fn number_of(options: &ArgMatches<'_>, name: &str, most: u16) -> u16
 }
 
 /// The text of an option; it is empty where there is none.
-pub(crate) fn text_of<'w>(options: &ArgMatches<'w>, name: &str) -> &'w str
+pub(crate) fn option_text<'w>(options: &ArgMatches<'w>, name: &str) -> &'w str
     ensures { result.now ≡ unwrap_or (first_of name.now (rows_of (found_of options.now))) [] }
 {
     match options.get_str(name) {

@@ -3,7 +3,7 @@ use Rattle.std.proofs.Common.{List, ℕ, [], Option, ap, ◌∙◌}
 use Rattle.std.specs.Prelude.{unwrap_or}
 use Rattle.clap.proofs.WalkLemmas.{first_value-rows}
 use Rattle.clap.specs.Matches.{found_of}
-use Rattle.pn_serve.proofs.arguments.options.text_of.Goals as goal
+use Rattle.pn_serve.proofs.arguments.options.option_text.Goals as goal
 
 pub returns-in-Some : goal.returns-in-Some
 returns-in-Some c = ap (λ (o : Option (List ℕ)). unwrap_or o []) (c.in-Some.ensures ∙ first_value-rows (found_of c.args.options.now) c.args.name.now)

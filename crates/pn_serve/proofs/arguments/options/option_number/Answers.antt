@@ -8,7 +8,7 @@ use Rattle.clap.specs.Matches.{ReadsOne, found_of}
 use Rattle.clap.specs.ValueTests.{is_unsigned_in}
 use Rattle.clap.specs.declared.builder.value_parser.ValueParser.TheVariants as values
 use Rattle.pn_serve.specs.Arguments.Commands.{number_in}
-use Rattle.pn_serve.proofs.arguments.options.number_of.Goals as goal
+use Rattle.pn_serve.proofs.arguments.options.option_number.Goals as goal
 
 reads_number : (E : Type 0) (G : List ℕ → Result ℕ E → Type 0) → ((u : List ℕ) (x : Result ℕ E) → G u x → ParsesUnsigned 16 10 u x)
     → (text : List ℕ) (r : Option ℕ) → ReadsOne G text r → r ≡ number_in text
