@@ -17,14 +17,14 @@ LIVE := crates/test_live/out/test_live_tests
 # The program that answers many scripts in one input.
 SCRIPTS := crates/test_rows/out/test_rows
 
-# The crate whose edits `make edits` tries; none: all crates.
+# The crate whose edits `make edits` tries, and whose definitions `make definitions` prints; none: all crates.
 CRATE ?=
 
 # Worked rows that are kept outside the repository, and which of them `make rows` runs.
 ROWS ?= ../shared/rows
 STAGE ?= notices
 
-.PHONY: run test edits build bench checks rows toolchain
+.PHONY: run test edits build bench checks definitions rows toolchain
 
 # Shows the program at work: the replies to the script on standard output. It proves nothing.
 run: toolchain
@@ -59,6 +59,10 @@ checks: build
 	@checks/sessions "$(PROGRAM)"
 	@checks/out-of-memory "$(PROGRAM)" "$(STEPS)" "$(LIVE)"
 	@checks/random-scripts "$(SCRIPTS)" --scripts 3000
+
+# Prints the definitions that contracts cite, each with its comment: of all crates, or of one.
+definitions:
+	@checks/definitions $(CRATE)
 
 # Runs the worked rows through the built program, where they are at hand.
 rows:
