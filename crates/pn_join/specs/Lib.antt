@@ -7,6 +7,6 @@ pub mod Naming
 pub mod Places
 pub mod Proofs
 pub mod PutInLeaves
-pub mod RowChanges
+pub mod LeafListChanges
 pub mod TableChanges
 pub mod Tables
