@@ -1,6 +1,7 @@
 pub mod Changing
 pub mod Each
 pub mod EditJoins
+pub mod EditPuts
 pub mod EditSteps
 pub mod JoinAll
 pub mod JoinSteps

@@ -1,3 +1,4 @@
+pub mod EditPuts
 pub mod Edits
 pub mod Laws
 pub mod LeafEntries

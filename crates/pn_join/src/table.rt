@@ -19,7 +19,7 @@ mod leaf_list;
 
 use crate::{Dup, Join, NoMemory};
 pub use change::TableChange;
-use edit::changes_of;
+use edit::take_changes;
 pub use entries::Entries;
 use leaf_list::LeafList;
 use std::alloc::Global;
@@ -147,8 +147,8 @@ impl<K: Ord + Dup, C: Join> Table<K, C> {
     {
         self.is_table();
         other.is_table();
-        let edits = self.leaf_list.edits_from(&other.leaf_list)?;
-        let changes = changes_of(self.leaf_list.alloc(), &edits)?;
+        let mut edits = self.leaf_list.edits_from(&other.leaf_list)?;
+        let changes = take_changes(self.leaf_list.alloc(), &mut edits)?;
         if self.leaf_list.put(edits)? {
             return Ok(changes);
         }

@@ -13,16 +13,6 @@ pub struct TableChange<K, C> {
     pub after: C,
 }
 
-impl<K: Dup, C: Dup> Dup for TableChange<K, C> {
-    fn dup(&self) -> Result<Self, NoMemory> {
-        Ok(TableChange {
-            key: self.key.dup()?,
-            before: dup_optional(self.before.as_ref())?,
-            after: self.after.dup()?,
-        })
-    }
-}
-
 /// A copy of the content, if there is one.
 pub fn dup_optional<C: Dup>(content: Option<&C>) -> Result<Option<C>, NoMemory>
     ensures { IfOk result (λ copy. copy ≡ option_copied content.entry) }

@@ -4,6 +4,7 @@
 ghost use Rattle.std.specs.Prelude.{◌≡◌, ◌+◌, ◌^◌, ◌<◌, ◌≤◌, [], length, get_or, vec_capacity, IsTrue, IfOk, OnOk, OnErr};
 ghost use Rattle.std.specs.List.{AllByRecursion};
 ghost use Rattle.std.specs.FinMap.{put, is_sorted};
+ghost use Rattle.pn_join.specs.EditPuts.{put_of, puts_in};
 ghost use Rattle.pn_join.specs.Edits.{put_all as all_put, changes_in, AreFew, GoUp, HaveRoom, IsReady, IsReadyAt};
 ghost use Rattle.pn_join.specs.LeafEntries.{leaf_entries, leaves_of};
 ghost use Rattle.pn_join.specs.Leaves.{all_entries, max_leaf_entries, AreEntryCounts};
@@ -22,16 +23,30 @@ pub struct Edit<K, C> {
     pub change: TableChange<K, C>,
 }
 
-/// The changes of the edits.
-pub fn changes_of<K: Dup, C: Dup>(
+impl<K: Dup, C: Dup> Edit<K, C> {
+    /// The change. The content before is moved out of the edit, which puts the same without it.
+    fn take_change(&mut self) -> Result<TableChange<K, C>, NoMemory>
+        ensures change { IfOk result (λ change. change ≡ self.old.change) }
+        ensures same { OnOk result (put_of self.new ≡ put_of self.old) }
+    {
+        let key = self.change.key.dup()?;
+        let after = self.change.after.dup()?;
+        let before = self.change.before.take();
+        Ok(TableChange { key, before, after })
+    }
+}
+
+/// The changes of the edits. The contents before are moved out of the edits, which put the same without them.
+pub fn take_changes<K: Dup, C: Dup>(
     alloc: Global,
-    edits: &[Edit<K, C>],
+    edits: &mut Vec<Edit<K, C>>,
 ) -> Result<Vec<TableChange<K, C>>, NoMemory>
-    ensures { IfOk result (λ changes. changes.items ≡ changes_in edits.now) }
+    ensures changes { IfOk result (λ changes. changes.items ≡ changes_in edits.old.items) }
+    ensures same { OnOk result (puts_in edits.new.items ≡ puts_in edits.old.items) }
 {
     let mut changes = Vec::with_capacity(alloc, edits.len())?;
-    for edit in edits {
-        changes.push_reserved(edit.change.dup()?);
+    for place in 0..edits.len() {
+        changes.push_reserved(edits[place].take_change()?);
     }
     Ok(changes)
 }
