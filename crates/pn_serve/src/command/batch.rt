@@ -1,13 +1,13 @@
 //! Batches of the right shape, borrowed from the parsed value.
 
-use pn_record::Shape;
+use pn_record::UncheckedImage;
 use std::marker::Model;
 
 /// The parts of a batch of the right shape, whose ranges are still to be looked at.
 #[derive(Drop)]
 pub(crate) struct BatchShape<'v> {
     pub(crate) first: u64,
-    pub(crate) images: Vec<Shape<'v>>,
+    pub(crate) images: Vec<UncheckedImage<'v>>,
     pub(crate) stream: &'v str,
 }
 
