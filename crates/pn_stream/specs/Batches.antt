@@ -8,8 +8,8 @@ use Rattle.pn_stream.specs.Faults.{Stands}
 use Rattle.pn_stream.specs.declared.fault.StreamFault.{StreamFault}
 use Rattle.pn_stream.specs.declared.next.Found.{Found}
 
--- a reader of a stream: its name, the last position returned, the part of a line that was read, the fault of the
--- next call if one waits, and the source
+-- a reader of a stream: its name, the last position returned, the part of a line that was read, a fault for the next
+-- call, and the source
 pub record Stream (S : Type 0) : Type 0 where
   pub name : List ℕ
   pub position : ℕ

@@ -16,8 +16,9 @@ use pn_record::{Image, ImageFault, Member, Shape, image_from, read_value, shape_
 use serde_json::Value;
 use std::alloc::Global;
 
-/// The position, from 1 to 10^15, and the image of a message, `{"at":P,"image":I}`. Errors, in this order: `TooLong`
-/// above 65,536 bytes, `NotJson`, `BadShape` and `OutOfRange`, each with the first such member.
+/// The position, from 1 to 10^15, and the image of a message, `{"at":P,"image":I}`.
+///
+/// Errors, in this order: `TooLong` above 65,536 bytes, `NotJson`, `BadShape` and `OutOfRange`, each with its member.
 pub fn read_message(alloc: Global, line: &[u8]) -> Result<(u64, Image), ImageFault>
     ensures found { IfOk result (λ message. IsMessageLine line.now message) }
     ensures only { (message : Message) → IsMessageLine line.now message → IsUnless ImageFault.Memory result (Ok message) }

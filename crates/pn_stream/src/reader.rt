@@ -73,7 +73,9 @@ impl<S: Source + Drop> StreamReader<S> {
     }
 
     /// The images of the next messages, at most `max`, from 1 to 1,000. Fewer come only where no further whole
-    /// line is there or a fault follows. Without a whole line there are none, and a part of one is kept.
+    /// line is there or a fault follows.
+    ///
+    /// Without a whole line there are none, and the part of one is kept.
     ///
     /// Messages before a fault are returned first; the next call returns the fault, and each later one
     /// `Failed`. A new reader goes on from `position`.
@@ -88,8 +90,10 @@ impl<S: Source + Drop> StreamReader<S> {
         })
     }
 
-    /// The images of the next messages that already arrived, at most `max`, from 1 to 1,000. It waits for the
-    /// first only, and reads a further line only where its newline was seen. Faults come as from `next_batch`.
+    /// The images of the next messages that already arrived, at most `max`, from 1 to 1,000. It waits only for the
+    /// first.
+    ///
+    /// Faults come as from `next_batch`.
     pub fn next_ready(&mut self, max: usize) -> Result<Delivery, StreamFault>
         requires some { 1 ≤ max }
         requires few { max ≤ 1000 }

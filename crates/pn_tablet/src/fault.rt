@@ -13,8 +13,8 @@ pub enum OpFault {
     /// A key lies outside the tablet's range, or the copy is of another range.
     #[error("wrong range")]
     WrongRange,
-    /// The copy does not reach the tablet's need: the first stream that falls short, the position that the
-    /// copy has of it, 0 for none, and the position that the tablet needs.
+    /// The copy does not reach the tablet's need: the first stream that falls short, the copy's position, 0 for
+    /// none, and the one needed.
     #[error("too old: the copy has {has} of stream {name}, and {needs} are needed", name = .stream.as_str())]
     TooOld {
         stream: StreamName,
@@ -31,8 +31,8 @@ pub enum CopyFault {
     /// The tablet is recovering.
     #[error("recovering")]
     Recovering,
-    /// The tablet's cover does not reach the need: the first stream that falls short, the position that the
-    /// tablet has of it, 0 for none, and the position that is wanted.
+    /// The tablet's cover does not reach the need: the first stream that falls short, the tablet's position, 0 for
+    /// none, and the one wanted.
     #[error("behind: the tablet has {has} of stream {name}, and {wanted} are wanted", name = .stream.as_str())]
     Behind {
         stream: StreamName,

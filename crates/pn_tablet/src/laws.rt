@@ -42,8 +42,7 @@ pub fn joins_repeat_without_effect()
         → stepped (stepped tablet (Join cells marks)) (Join cells marks) ≡ stepped tablet (Join cells marks) }
 {}
 
-/// After a loss, joins, and the adoption of a copy, every record is back, at its version before the loss or a later
-/// one. The cells before the loss are those of the images up to the cover; the copy's, up to its marks.
+/// After a loss, joins, and the adoption of a copy, every record is back, at its version before the loss or a later one.
 pub fn an_adoption_brings_back_what_was_lost()
     ensures { (upto : Positions → List Image) → Grows upto
         → (tablet after : TabletStateValue) (joins : List TabletOp) (copy : TabletCopyValue) → AreJoins joins

@@ -13,8 +13,10 @@ use thiserror::Error;
 /// The most bounds of a layout.
 const MAX_BOUNDS: usize = 63;
 
-/// Bounds that divide all keys into 1 to 64 tablets. A tablet has the keys from the bound before it, inclusive, to the
-/// bound after it, exclusive. A first bound of U+0000, the least key, leaves the first tablet empty.
+/// Bounds that divide all keys into 1 to 64 tablets, each from the bound before it, inclusive, to the one after it,
+/// exclusive.
+///
+/// A first bound of U+0000, the least key, leaves the first tablet empty.
 #[derive(Debug, Drop)]
 pub struct Layout {
     bounds: Vec<Key>,

@@ -74,8 +74,10 @@ impl TabletState {
     /// Takes one operation, with positions from 1 to 10^15, and returns the keys whose cells a join changed. A loss
     /// takes no memory and is never refused.
     ///
-    /// `WrongRange` exactly where a key of a join lies outside the range or a copy has another range; otherwise
-    /// `TooOld` exactly where the tablet recovers and the copy does not reach the need. An error changes nothing.
+    /// `WrongRange` exactly where a key of a join lies outside the range or a copy has another range.
+    ///
+    /// Otherwise `TooOld` exactly where the tablet recovers and the copy does not reach the need. An error changes
+    /// nothing.
     pub fn apply(&mut self, op: &TabletOp) -> Result<Vec<Change>, OpFault>
         requires positions { HasPositions op.now }
         ensures ok { OnOk result (step self.old op.now ≡ Ok self.new) }
