@@ -56,7 +56,7 @@ impl Place {
         ensures { IfOk result (λ place. IsNewPlace (tablet_ends layout.now tablet) place) }
     {
         let (from, to) = layout.range(tablet);
-        let range = Range::copied(from, to)?;
+        let range = Range::from_ends(from, to)?;
         let tablet = LiveTablet::open(rt, alloc, range, readers)?;
         Ok(Place { tablet })
     }

@@ -210,7 +210,7 @@ fn range_of(layout: &Layout, tablet: usize) -> Result<Range, NoMemory>
     ensures { IfOk result (λ range. range ≡ tablet_ends layout.now tablet) }
 {
     let (from, to) = layout.range(tablet);
-    Range::copied(from, to)
+    Range::from_ends(from, to)
 }
 
 // Each tablet takes its join. Answers what changed in each: at most as many records as are joined, and that these

@@ -18,10 +18,9 @@ use pn_record::{
 use serde_json::Value;
 use std::alloc::Global;
 
-/// The position and the image of a message, `{"at":P,"image":I}`. `TooLong` where the line has more than
-/// 65,536 bytes; otherwise `NotJson` where `serde_json` reads no value in it; otherwise `BadShape` with
-/// the first member of a wrong shape; otherwise `OutOfRange` with the first that breaks a limit: `at` is
-/// from 1 to 10^15, and then come the image's own.
+/// The position, from 1 to 10^15, and the image of a message, `{"at":P,"image":I}`.
+///
+/// Errors, in this order: `TooLong` above 65,536 bytes, `NotJson`, `BadShape` and `OutOfRange`, each with its member.
 pub fn read_message(alloc: Global, line: &[u8]) -> Result<(u64, Image), ImageFault>
     ensures found { IfOk result (λ message. IsMessageLine line.now message) }
     ensures only { (message : Message) → IsMessageLine line.now message → IsUnless ImageFault.Memory result (Ok message) }

@@ -1,9 +1,9 @@
--- A name comes behind all others where as many are less as there are.
+-- A name comes after all others where the number of lesser names is that of all.
 use Rattle.std.proofs.Common.{eqb, ◌∙◌}
 use Rattle.std.specs.Ordering.{is_lt}
 use Rattle.pn_join.specs.Marks.{name_cmp}
 use Rattle.pn_tablet.proofs.Counts.{all_counted}
-use Rattle.pn_tablet.proofs.copy_draft.is_behind.Goals as goal
+use Rattle.pn_tablet.proofs.copy_draft.is_after_all.Goals as goal
 
 pub returns : goal.returns
 returns c =
