@@ -1,4 +1,4 @@
--- What a tablet's cover tells of the images that were taken.
+-- The images that a tablet's cover reaches.
 use Rattle.std.proofs.Common.{◌≡◌, ℕ, ◌<◌, ◌≤◌, true, false, nat_lt, List, [], ◌++◌, length, get_or, refl, sym, ap, ◌∙◌, subst, arith, ◌⊎◌, inl, inr, Contains}
 use Rattle.std.specs.Prelude.{Ok}
 use Rattle.std.proofs.lemmas.Bool.Decides.{nat_tests}
@@ -56,7 +56,7 @@ second_so : {A B C : Type 0} → (B → C) → A ⊎ B → A ⊎ C
 second_so f (inl a) = inl a
 second_so f (inr b) = inr (f b)
 
--- one that stays tells the same, where nothing in its range was taken
+-- a cover that stays reaches the same, where nothing in its range was taken
 pub tells_itself : (broker : BrokerRecord) (taken left more maybe : List Image) (t u : TabletStateValue) → u.range ≡ t.range → u.cover ≡ t.cover → CoverTells broker taken left t
     → ((image : Image) → Contains more image → in_range t.range image.key ≡ true → ⊥) → CoverTells broker (taken ++ more) (left ++ maybe) u
 tells_itself broker taken left more maybe t u range cover tells apart =
@@ -64,7 +64,7 @@ tells_itself broker taken left more maybe t u range cover tells apart =
     (λ image there lies. absurd (apart image there lies))
     (λ image there lies. inl (subst (λ (marks : Positions). Contains (up_to broker marks) image) cover there))
 
--- what the raised cover has reached the old one had, or it stands past that, up to the marks
+-- the raised cover reaches what the old one did, and positions past that, up to the marks
 beyond : (broker : BrokerRecord) (cover marks : Positions) (more : List Image)
     → ((image : Image) (stream : List ℕ) (at : ℕ) → position_of cover stream ≤ at → at < position_of marks stream → at < length (broker stream) → get_or (broker stream) at image ≡ image → Contains more image)
     → (image : Image) → Contains (up_to broker (raised cover marks)) image → Contains (up_to broker cover) image ⊎ Contains more image

@@ -176,7 +176,7 @@ module _ (broker : BrokerRecord) (taken left : List Image) where
       (λ t there. (found_at old copy leads.tablet t known.found there, sym (ap (option_and_then (λ (state : TabletStateValue). lacking state.status copy.marks)) there) ∙ known.lacks_none))
       (found_within old copy leads.tablet known.found) tell)
 
--- after events each cover tells what was taken
+-- after events each cover reaches what was taken
 pub events_tell : (broker : BrokerRecord) (events : List RegionEvent) (old new : RegionValue) (taken left : List Image) → IsRegion old → AreHonestEvents broker events → AllLeadTo events old new → CoversTell broker taken left old.tablets
     → CoversTell broker (taken ++ all_taken broker events) (left ++ all_left events) new.tablets
 events_tell broker [] old new taken left is honest lead tell =
@@ -231,7 +231,7 @@ taken_together broker bounds events region lawful lead honest serve are =
     (events_faithful broker events (new_region bounds) region first (new_faithful broker bounds) honest lead) serve
     (events_tell broker events (new_region bounds) region [] [] first honest lead (new_tells broker bounds)))
 
--- where all are rounds nobody needs to be honest
+-- rounds alone need not be honest
 event_between : (broker : BrokerRecord) (event : RegionEvent) (old new : RegionValue) (sure maybe : List Image) → IsRegion old → IsRound event → LeadsTo event old new → HasBetween sure maybe old
     → HasBetween (sure ++ taken_by broker event) (maybe ++ left_by event) new
 event_between broker (round deliveries) old new sure maybe is one leads has =

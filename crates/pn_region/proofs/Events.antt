@@ -138,7 +138,7 @@ spelled_at marks (r ∷ rs) (u ∷ ts) zero t are there =
     subst (λ (now : TabletStateValue). IsSpelled now.cells) same are.0.spelled
 spelled_at marks (r ∷ rs) (u ∷ ts) (suc n) t are there = spelled_at marks rs ts n t are.1 there
 
--- a tablet that serves after an event holds still what it held before
+-- a tablet that serves after an event still holds what it held before
 pub event_held : (event : RegionEvent) (old new : RegionValue) (n : ℕ) (t u : TabletStateValue) → IsRegion old → LeadsTo event old new → slice_get old.tablets n ≡ Some t → slice_get new.tablets n ≡ Some u → u.status ≡ Serving
     → (key : List ℕ) → HoldsStill (find bytes_cmp key t.cells) (find bytes_cmp key u.cells)
 event_held event old new n t u is leads there there_too serves key =

@@ -1,4 +1,4 @@
--- Where a gap stands.
+-- The first gap of deliveries.
 use Rattle.std.proofs.Common.{◌≡◌, inl, inr, ℕ, zero, suc, ◌+◌, ◌<◌, ◌≤◌, pred, Bool, true, false, cond, nat_lt, List, [], ◌∷◌, ◌++◌, length, refl, sym, ap, ◌∙◌, arith}
 use Rattle.std.specs.Prelude.{Result, Ok, Err}
 use Rattle.std.proofs.lemmas.Bool.Decides.{nat_tests}
@@ -93,7 +93,7 @@ too_many_leave_none marks deliveries is =
     (λ n all. no_gap deliveries marks n all)
     is
 
--- a delivery that leaves a gap, behind those that were taken
+-- a delivery that leaves a gap after those that were taken
 record Met (m : Positions) (ds : List DeliveryValue) (fault : RoundFault) : Type 0 where
   before : List DeliveryValue
   delivery : DeliveryValue
@@ -105,11 +105,11 @@ record Met (m : Positions) (ds : List DeliveryValue) (fault : RoundFault) : Type
   leaves : leaves_gap reached delivery ≡ true
   fault_is : gap_of reached delivery ≡ fault
 
--- behind a delivery that is taken or brings nothing
-behind : (m next : Positions) (d : DeliveryValue) (ds : List DeliveryValue) (fault : RoundFault)
+-- the gap after a delivery that is taken or has no images
+gap_after : (m next : Positions) (d : DeliveryValue) (ds : List DeliveryValue) (fault : RoundFault)
     → ((before : List DeliveryValue) (n : Positions) → marks_after next (bringing before) ≡ Ok n → marks_after m (bringing (d ∷ before)) ≡ Ok n)
     → Met next ds fault → Met m (d ∷ ds) fault
-behind m next d ds fault on met = record {
+gap_after m next d ds fault on met = record {
   before = d ∷ met.before;
   delivery = met.delivery;
   after = met.after;
@@ -121,7 +121,7 @@ behind m next d ds fault on met = record {
   fault_is = met.fault_is;
 }
 
--- the first gap is met behind deliveries that are taken
+-- the first gap is met after deliveries that are taken
 first_met : (ds : List DeliveryValue) (m : Positions) (fault : RoundFault) → marks_after m (bringing ds) ≡ Err fault → Met m ds fault
 first_met [] m fault is = absurd cc
 first_met (d ∷ ds) m fault is =
@@ -139,14 +139,14 @@ first_met (d ∷ ds) m fault is =
               leaves = gap;
               fault_is = cc;
             }
-            | false ↦ λ joins rest. behind m (marked m d) d ds fault
+            | false ↦ λ joins rest. gap_after m (marked m d) d ds fault
                 (λ before n is.
                 ap (λ (b : Bool). marks_after m (cond b (d ∷ bringing before) (bringing before))) some
                 ∙ ap (λ (b : Bool). cond b (Err (gap_of m d)) (marks_after (marked m d) (bringing before))) joins
                 ∙ is)
                 (first_met ds (marked m d) fault rest)
           ] refl all
-      | false ↦ λ none rest. behind m m d ds fault
+      | false ↦ λ none rest. gap_after m m d ds fault
           (λ before n is. ap (λ (b : Bool). marks_after m (cond b (d ∷ bringing before) (bringing before))) none ∙ is)
           (first_met ds m fault rest)
     ] refl is

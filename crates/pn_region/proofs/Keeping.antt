@@ -27,14 +27,14 @@ changed_more changes change before entries parts =
 kept_on : (entries : List Entry) (kept : List Change) (entry : Entry) → AreKept entries kept → AreKept (entries ++ entry ∷ []) (kept_with entry max_notices kept)
 kept_on entries kept (Changed change) are = record {
   before = are.before;
-  behind = are.behind ++ change ∷ [];
-  parts = changed_more are.behind change are.before entries are.parts;
+  later = are.later ++ change ∷ [];
+  parts = changed_more are.later change are.before entries are.parts;
   is_cut = are.is_cut;
-  last = ap (λ l. keep_last max_notices (l ++ change ∷ [])) are.last ∙ kept_more max_notices are.behind change;
+  last = ap (λ l. keep_last max_notices (l ++ change ∷ [])) are.last ∙ kept_more max_notices are.later change;
 }
 kept_on entries kept Break are = record {
   before = entries ++ Break ∷ [];
-  behind = [];
+  later = [];
   parts = sym (append-nil (entries ++ Break ∷ []));
   is_cut = inr (entries, refl);
   last = refl;

@@ -60,7 +60,7 @@ one_position m d ds name p joins below within =
       | false ↦ λ apart most. absurd (omega (arith, below, within, most))
     ] refl (position_of-raised m ((d.stream, last_position d) ∷ []) name)
 
--- each position that marks have gone past stands in a delivery
+-- each position that marks have gone past is in a delivery
 pub none_skipped : (ds : List DeliveryValue) (m next : Positions) (name : List ℕ) (p : ℕ) → marks_after m (bringing ds) ≡ Ok next → position_of m name < p → p ≤ position_of next name → HasPosition ds name p
 none_skipped [] m next name p is below within =
     let same : m ≡ next = cc in

@@ -17,7 +17,7 @@ use Rattle.pn_apply.specs.Reducing.{all_images, join_in, ranges}
 use Rattle.pn_region.specs.Regions.{RegionValue, IsTabletOf, AreTabletsOf, IsRegion, all_cells}
 use Rattle.pn_region.specs.Rounds.{taking, IsHalfTaken}
 use Rattle.pn_region.proofs.Apart.{Apart, ranges_apart}
-use Rattle.pn_region.proofs.Pieces.{cells_of, none_outside, found_behind, found_before, none_there}
+use Rattle.pn_region.proofs.Pieces.{cells_of, none_outside, found_after, found_before, none_there}
 use Rattle.pn_region.proofs.HalfRounds.{half_so}
 use Rattle.pn_region.proofs.RoundSteps.{all_taken, half_taken}
 
@@ -47,8 +47,8 @@ none_older key marks later (r ∷ rs) (t ∷ ts) (u ∷ us) apart are too not_ol
           (found_before key u.cells (cells_of us) (none_there later r rs us apart.0 too.1 key lies)) not_older.0
       | false ↦ λ outside.
           renamed (find bytes_cmp key (cells_of ts)) (find bytes_cmp key (t.cells ++ cells_of ts)) (find bytes_cmp key (cells_of us)) (find bytes_cmp key (u.cells ++ cells_of us))
-          (found_behind key t.cells (cells_of ts) (none_outside r t.cells key are.0.inside outside))
-          (found_behind key u.cells (cells_of us) (none_outside r u.cells key too.0.inside outside))
+          (found_after key t.cells (cells_of ts) (none_outside r t.cells key are.0.inside outside))
+          (found_after key u.cells (cells_of us) (none_outside r u.cells key too.0.inside outside))
           (none_older key marks later rs ts us apart.1 are.1 too.1 not_older.1)
     ] refl
 

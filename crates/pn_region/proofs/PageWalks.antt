@@ -1,4 +1,4 @@
--- The pages of a region that stays as it is.
+-- The pages of an unchanged region.
 use Rattle.std.proofs.Common.{◌≡◌, ◌<◌, ◌++◌, List, Option, None, Some, sym, ap, ◌∙◌, subst, append-nil, IsTrue}
 use Rattle.std.specs.FinMap.{is_sorted}
 use Rattle.std.specs.List.{flat_map}

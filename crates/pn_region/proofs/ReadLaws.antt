@@ -1,4 +1,4 @@
--- What is read of a region: never a refused entry, and of tablets that all serve what their one map has.
+-- The laws of reads of regions.
 use Rattle.std.proofs.Common.{◌≡◌, ◌≢◌, ℕ, zero, suc, ◌+◌, true, false, cond, List, [], ◌∷◌, ◌++◌, length, map, slice_get, Option, Some, None, Ok, Err, refl, sym, ap, ◌∙◌, arith, zero-add}
 use Rattle.std.specs.Prelude.{IsSome}
 use Rattle.std.specs.List.{AllByRecursion, flat_map, range_with_len}
@@ -40,7 +40,7 @@ by_status : (key : List ℕ) (wanted : Option Stamp) (n : ℕ) (status : Status)
 by_status key wanted n Serving cells is = not_behind wanted (find bytes_cmp key cells) is
 by_status key wanted n (Recovering need) cells is = cc
 
--- a tablet that is there refuses no entry
+-- a tablet that exists refuses no entry
 pub read_entered : (key : List ℕ) (wanted : Option Stamp) (n : ℕ) (found : Option TabletStateValue) → IsSome found → read_of key wanted (n, found) ≢ Err fault.NoEntry
 read_entered key wanted n None there is = cc
 read_entered key wanted n (Some state) there is = by_status key wanted n state.status state.cells is

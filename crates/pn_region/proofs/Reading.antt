@@ -37,7 +37,7 @@ got_each : (region : RegionValue) (keys : List (List ℕ)) → cells_got keys (m
 got_each region [] = refl
 got_each region (key ∷ keys) = ap (λ (l : List (Option CellValue)). find bytes_cmp key (cells_in (look_for region key).1) ∷ l) (got_each region keys)
 
--- looks into the tablets of keys, found as they stand
+-- looks into the tablets of keys, in their present states
 for_keys : (region : RegionValue) (seen : List Look) (keys : List (List ℕ)) → Stand region.tablets seen → map (λ look. look.0) seen ≡ map (tablet_of region.layout) keys → seen ≡ map (look_for region) keys
 for_keys region [] [] stand order = refl
 for_keys region [] (key ∷ keys) stand order = cc
@@ -47,7 +47,7 @@ for_keys region (look ∷ seen) (key ∷ keys) stand order =
     let others : map (λ (l : Look). l.0) seen ≡ map (tablet_of region.layout) keys = cc in
     λ i. (first i, (sym stand.0 ∙ ap (slice_get region.tablets) first) i) ∷ for_keys region seen keys stand.1 others i
 
--- what a get told, by looks into the tablets of the first keys
+-- what a get answered, by looks into the tablets of the first keys
 module _ (region : RegionValue) (keys : List (List ℕ)) (seen : List Look) (stands : seen ≡ map (look_for region) (take (length seen) keys)) where
   all_got : (cells : List (Option CellValue)) → length seen ≡ length keys → unless (first_refusal seen) (cells_got keys seen) ≡ Ok cells → get_in region keys ≡ Ok cells
   all_got cells whole right =

@@ -27,7 +27,7 @@ below_not_above Less below = refl
 below_not_above Equal below = refl
 below_not_above Greater below = cc
 
--- a record that is held still is not older
+-- a record that is still held is not older
 pub not_older : (was now : Option CellValue) → HoldsStill was now → NotOlder was now
 not_older None now held = tt
 not_older (Some was) None held = absurd held
@@ -65,7 +65,7 @@ found_old : (new : RegionValue) (bounds : Bounds) (key : List ℕ) → new.layou
 found_old new bounds key same serves =
     subst (λ (b : Bounds). Served (slice_get new.tablets (tablet_of b key))) same (served (slice_get new.tablets (tablet_of new.layout key)) serves)
 
--- a record whose tablet serves after an event is held still
+-- a record whose tablet serves after an event is still held
 pub event_record : (event : RegionEvent) (old new : RegionValue) (key : List ℕ) → IsRegion old → LeadsTo event old new → ServesAt old key → ServesAt new key
     → HoldsStill (find bytes_cmp key (all_cells old)) (find bytes_cmp key (all_cells new))
 event_record event old new key is leads serves serves_too =

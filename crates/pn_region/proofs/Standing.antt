@@ -1,4 +1,4 @@
--- The tablets of a region, found as they stand.
+-- The tablets of a region, found in their present states.
 use Rattle.std.proofs.Common.{◌≡◌, ℕ, zero, suc, ◌+◌, ◌≤◌, Bool, true, false, cond, List, [], ◌∷◌, length, map, slice_get, Option, Some, None, refl, sym, subst, arith, IsTrue}
 use Rattle.std.specs.Prelude.{filter, IsSome}
 use Rattle.std.specs.List.{AllByRecursion, range_with_len}
@@ -29,7 +29,7 @@ state_from marks (q ∷ rs) (u ∷ ts) zero r t are at there =
     subst (λ (ends : Ends). IsTabletOf marks ends t) same (subst (IsTabletOf marks q) same_tablet are.0)
 state_from marks (q ∷ rs) (u ∷ ts) (suc n) r t are at there = state_from marks rs ts n r t are.1 at there
 
--- the faults of tablets that are there do not say that an entry was refused
+-- no tablet that exists answers that an entry was refused
 abbrev Entered : Look → Type 0
 Entered look = IsSome look.1
 

@@ -1,4 +1,4 @@
--- A record is held still once another cell is joined to it.
+-- A record is still held after another cell is joined to it.
 use Rattle.std.proofs.Common.{◌≡◌, ℕ, List, ◌++◌, Option, None, Some, refl, sym, ap, ◌∙◌, subst, inl, inr, Contains, IsTrue}
 use Rattle.std.specs.Ordering.{is_lt}
 use Rattle.std.specs.FinMap.{find, get, contains_key}
@@ -47,13 +47,13 @@ found_added own images key = Holds-table_of (spell own ++ images) key ∙ cells-
 pub found_spelled : (own : Entries) (key : List ℕ) → IsSpelled own → find bytes_cmp key own ≡ cells (spell own) key
 found_spelled own key spelled = ap (find bytes_cmp key) spelled ∙ Holds-table_of (spell own) key
 
--- cells that take images hold still what they had
+-- cells that take images still hold what they had
 pub added_held : (own : Entries) (images : List Image) (key : List ℕ) → IsSpelled own → HoldsStill (find bytes_cmp key own) (find bytes_cmp key (adds own images))
 added_held own images key spelled =
     subst (λ (o : Option CellValue). HoldsStill o (find bytes_cmp key (adds own images))) (sym (found_spelled own key spelled))
     (subst (HoldsStill (cells (spell own) key)) (sym (found_added own images key)) (joined_held (cells (spell own) key) (cells images key)))
 
--- what some images make is held still by more of them
+-- what some images make is still held by more of them
 pub more_held : (images more : List Image) (key : List ℕ) → ((image : Image) → Contains images image → Contains more image) → HoldsStill (find bytes_cmp key (table_of images)) (find bytes_cmp key (table_of more))
 more_held images more key there =
     subst (λ (o : Option CellValue). HoldsStill o (find bytes_cmp key (table_of more))) (sym (Holds-table_of images key))

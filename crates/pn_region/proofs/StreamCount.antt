@@ -36,7 +36,7 @@ apart : (name : List ℕ) (es : Positions) → Below name_cmp name es → AllByR
 apart name [] below = tt
 apart name (e ∷ es) below = (ap is_eq below.0, apart name es below.1)
 
--- names that rise stand once each
+-- names that rise are all different
 each_once : (es : Positions) → Rising name_cmp es → IsDistinct (eq_by_cmp name_cmp) (names_of es)
 unfolding IsDistinct
 each_once [] rising = tt
@@ -96,7 +96,7 @@ counted ds m next rising is =
 no_more : (n : ℕ) (b : Bool) → nat_lt 16 n ≡ b → b ≡ false → n ≤ 16
 no_more n b is holds = grind (arith, nat_tests)
 
--- new marks name just the streams, at most sixteen
+-- new marks name exactly the streams, at most 16
 pub few_streams : (marks next : Positions) (deliveries : List DeliveryValue) → IsTrue (is_sorted name_cmp marks) → new_marks marks deliveries ≡ Ok next → (length next ≡ stream_count marks deliveries) × (stream_count marks deliveries ≤ 16)
 few_streams marks next deliveries rising is =
     elim (marks_after marks (bringing deliveries)) as (λ r. marks_after marks (bringing deliveries) ≡ r → of_few_streams r ≡ Ok next → (length next ≡ stream_count marks deliveries) × (stream_count marks deliveries ≤ 16)) [
@@ -120,7 +120,7 @@ not_few (d ∷ ds) m is =
       | false ↦ λ is. not_few ds (marked m d) is
     ] is
 
--- where there are too many streams they are more than sixteen
+-- too many streams are more than 16
 pub many_streams : (marks : Positions) (deliveries : List DeliveryValue) → IsTrue (is_sorted name_cmp marks) → new_marks marks deliveries ≡ Err TooManyStreams → 16 < stream_count marks deliveries
 many_streams marks deliveries rising is =
     elim (marks_after marks (bringing deliveries)) as (λ r. marks_after marks (bringing deliveries) ≡ r → of_few_streams r ≡ Err TooManyStreams → 16 < stream_count marks deliveries) [
@@ -139,7 +139,7 @@ not_memory (d ∷ ds) m is =
       | false ↦ λ is. not_memory ds (marked m d) is
     ] is
 
--- and memory is no matter of marks
+-- marks never answer out of memory
 pub never_memory : (marks : Positions) (deliveries : List DeliveryValue) → new_marks marks deliveries ≡ Err Memory → ⊥
 never_memory marks deliveries is =
     elim (marks_after marks (bringing deliveries)) as (λ r. marks_after marks (bringing deliveries) ≡ r → of_few_streams r ≡ Err Memory → ⊥) [
@@ -148,7 +148,7 @@ never_memory marks deliveries is =
       | Err fault ↦ λ after wants. not_memory (bringing deliveries) marks (after ∙ wants)
     ] refl is
 
--- a fault that is the right one is no lack of memory
+-- the fault that marks answer is not out of memory
 pub refused_right : (marks : Positions) (deliveries : List DeliveryValue) (fault : RoundFault) → new_marks marks deliveries ≡ Err fault → Refuses is_memory fault (new_marks marks deliveries)
 refused_right marks deliveries (Gap stream wanted got) is = is
 refused_right marks deliveries TooManyStreams is = is

@@ -1,4 +1,4 @@
--- The images that the tablets of a region have: none at first, and those of each round.
+-- The images that the tablets of a region have.
 use Rattle.std.proofs.Common.{◌≡◌, List, [], ◌∷◌, ◌++◌, map, refl, sym, ap, ◌∙◌, ◌⊎◌, inl, inr, Contains}
 use Rattle.std.proofs.lemmas.List.Elements.{Contains-append_left, Contains-append_right, Contains-append_cases}
 use Rattle.pn_join.specs.Marks.{Positions}

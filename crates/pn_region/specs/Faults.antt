@@ -1,4 +1,4 @@
--- What a region makes of a tablet's refusal of a copy.
+-- The faults of adoptions.
 use Rattle.pn_tablet.specs.declared.fault.OpFault as op
 use Rattle.pn_region.specs.declared.fault.AdoptFault.{AdoptFault}
 use Rattle.pn_region.specs.declared.fault.AdoptFault.TheVariants.{WrongRange, TooOld, Memory}

@@ -1,4 +1,4 @@
-//! Why a round was refused, or an adoption.
+//! Why a round or an adoption was refused.
 
 ghost use Rattle.std.specs.Prelude.{◌≡◌};
 ghost use Rattle.pn_region.specs.Faults.{refusal_of};
@@ -11,7 +11,7 @@ use thiserror::Error;
 /// Why a round was refused.
 #[derive(Debug, Drop, Error)]
 pub enum RoundFault {
-    /// A delivery begins past the position that its stream wants next. Nothing was changed.
+    /// A delivery begins past its stream's next position. Nothing was changed.
     #[error("a gap in stream {name}: position {wanted} was wanted, and {got} came", name = .stream.as_str())]
     Gap {
         stream: StreamName,
@@ -21,7 +21,7 @@ pub enum RoundFault {
     /// There would be more than 16 streams. Nothing was changed.
     #[error("more than 16 streams")]
     TooManyStreams,
-    /// Each tablet is as it was, or has taken its part of the round, and one at least is as it was. The marks
+    /// Each tablet is as it was or has taken its part of the round, and at least one is as it was. The marks
     /// are as they were, and the round can be retried.
     #[error("out of memory")]
     Memory,
