@@ -18,7 +18,7 @@ use Rattle.pn_region.specs.Marking.{new_marks}
 use Rattle.pn_region.proofs.Events.{up_to_more}
 use Rattle.pn_region.proofs.Faith.{brought, was_brought}
 use Rattle.pn_region.proofs.InRange.{from_images_in, to_images_in}
-use Rattle.pn_region.proofs.TakenImages.{by_part}
+use Rattle.pn_region.proofs.TakenImages.{either_one, by_part}
 
 -- what was taken or left before was so after more
 among_more : (taken left more maybe : List Image) (image : Image) → Contains (taken ++ left) image → Contains ((taken ++ more) ++ (left ++ maybe)) image
@@ -34,10 +34,6 @@ among_new taken left more maybe image =
     (λ there. Contains-append_left (taken ++ more) (left ++ maybe) image (Contains-append_right taken more image there))
     (λ there. Contains-append_right (taken ++ more) (left ++ maybe) image (Contains-append_right left maybe image there))
 
-by_side : {A B P : Type 0} → (A → P) → (B → P) → A ⊎ B → P
-by_side first second (inl one) = first one
-by_side first second (inr other) = second other
-
 -- a cover that is raised by what was taken
 pub tells_more : (broker : BrokerRecord) (taken left more maybe : List Image) (t u : TabletStateValue) → u.range ≡ t.range → Reaches u.cover t.cover → CoverTells broker taken left t
     → ((image : Image) → Contains more image → in_range t.range image.key ≡ true → Contains (up_to broker u.cover) image)
@@ -49,7 +45,7 @@ tells_more broker taken left more maybe t u range reach tells added from = recor
       by_part taken more image (λ old. up_to_more broker u.cover t.cover reach image (tells.all image old inside)) (λ new. added image new inside) there;
   no_others = λ image there lies.
       let inside = ap (λ (ends : Ends). in_range ends image.key) (sym range) ∙ lies in
-      by_side (λ old. among_more taken left more maybe image (tells.no_others image old inside)) (among_new taken left more maybe image) (from image there inside);
+      either_one (λ old. among_more taken left more maybe image (tells.no_others image old inside)) (among_new taken left more maybe image) (from image there inside);
 }
 
 second_so : {A B C : Type 0} → (B → C) → A ⊎ B → A ⊎ C

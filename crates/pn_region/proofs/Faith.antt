@@ -27,6 +27,7 @@ use Rattle.pn_region.specs.Regions.{RegionValue, IsTabletOf, AreTabletsOf, IsReg
 use Rattle.pn_region.specs.Rounds.{joins, IsHalfTaken}
 use Rattle.pn_region.specs.Rounds as rounds
 use Rattle.pn_region.proofs.MarkLaws.{not_skipped, next_has_last, next_reaches}
+use Rattle.pn_region.proofs.RoundEnds.{taken_half}
 use Rattle.pn_region.proofs.RoundSteps.{is_taken}
 use Rattle.pn_region.proofs.TakenImages.{by_part, pieces_of, round_takes}
 
@@ -139,12 +140,6 @@ module _ (broker : BrokerRecord) (marks next : Positions) (deliveries : List Del
     one_half u (inl same) = subst (IsFaithful broker) (sym same) faithful
     one_half u (inr took) = subst (IsFaithful broker) (sym took) stepped_keeps
 
-  all_keep : (rs : List Ends) (ts : List TabletStateValue) → AreTabletsOf marks rs ts → AreFaithful broker ts → AreFaithful broker (all_stepped ts (map (join_in next images) rs))
-  all_keep [] [] are faithful = tt
-  all_keep [] (t ∷ ts) are faithful = absurd are
-  all_keep (r ∷ rs) [] are faithful = absurd are
-  all_keep (r ∷ rs) (t ∷ ts) are faithful = (stepped_keeps r t are.0 faithful.0, all_keep rs ts are.1 faithful.1)
-
   all_half : (rs : List Ends) (ts us : List TabletStateValue) → AreTabletsOf marks rs ts → AreFaithful broker ts → AreOldOrStepped ts (map (join_in next images) rs) us → AreFaithful broker us
   all_half [] [] [] are faithful half = tt
   all_half [] [] (u ∷ us) are faithful half = absurd half
@@ -157,7 +152,7 @@ module _ (broker : BrokerRecord) (marks next : Positions) (deliveries : List Del
 pub round_keeps : (broker : BrokerRecord) (region : RegionValue) (deliveries : List DeliveryValue) (marks : Positions) → IsRegion region → AreFaithful broker region.tablets → AreHonest broker deliveries
     → new_marks region.marks deliveries ≡ Ok marks → AreFaithful broker (rounds.taking region deliveries marks).tablets
 round_keeps broker region deliveries marks is faithful honest accepted =
-    all_keep broker region.marks marks deliveries honest accepted (ranges region.layout) region.tablets is.tablets faithful
+    all_half broker region.marks marks deliveries honest accepted (ranges region.layout) region.tablets (rounds.taking region deliveries marks).tablets is.tablets faithful (taken_half region deliveries is marks)
 
 -- and so does one that ran out of memory
 pub half_keeps : (broker : BrokerRecord) (old new : RegionValue) (deliveries : List DeliveryValue) → IsRegion old → AreFaithful broker old.tablets → AreHonest broker deliveries

@@ -5,7 +5,7 @@ use Rattle.std.proofs.lemmas.Bool.Decides.{nat_tests}
 use Rattle.std.proofs.lemmas.List.Elements.{filter-append}
 use Rattle.pn_join.specs.Marks.{Positions, position_of}
 use Rattle.pn_stream.specs.Positions.{DeliveryValue}
-use Rattle.pn_region.proofs.MarkLaws.{gap_of, accepted, few, none_skipped, never_fall, some_brings, last_taken}
+use Rattle.pn_region.proofs.MarkLaws.{gap_of, only_gaps, accepted, few, none_skipped, never_fall, some_brings, last_taken}
 use Rattle.pn_region.specs.Laws.{WasTaken, HasNoGap, IsGap}
 use Rattle.pn_region.specs.Marking.{brings, bringing, last_position, marked, leaves_gap, marks_after, of_few_streams, new_marks}
 use Rattle.pn_region.specs.declared.fault.RoundFault.{RoundFault}
@@ -73,15 +73,6 @@ no_gap ds m n is before d after p place some below =
 pub none_is_told : (marks next : Positions) (deliveries : List DeliveryValue) → new_marks marks deliveries ≡ Ok next → HasNoGap marks deliveries
 none_is_told marks next deliveries is = no_gap deliveries marks next (few (marks_after marks (bringing deliveries)) next is)
 
-gap_or_on : (b : Bool) (gap : RoundFault) (rest : Result Positions RoundFault) (P : Type 0) → (rest ≡ Err TooManyStreams → P) → (gap ≡ TooManyStreams → P) → cond b (Err gap) rest ≡ Err TooManyStreams → P
-gap_or_on true gap rest P on now is = now cc
-gap_or_on false gap rest P on now is = on is
-
--- too many streams are no gap
-never_too_many : (ds : List DeliveryValue) (m : Positions) → marks_after m ds ≡ Err TooManyStreams → ⊥
-never_too_many [] m is = cc
-never_too_many (d ∷ ds) m is = gap_or_on (leaves_gap m d) (gap_of m d) (marks_after (marked m d) ds) ⊥ (never_too_many ds (marked m d)) (λ same. cc) is
-
 too_many_after_all : (right : Result Positions RoundFault) (P : Type 0) → (right ≡ Err TooManyStreams → P) → ((n : Positions) → right ≡ Ok n → P) → of_few_streams right ≡ Err TooManyStreams → P
 too_many_after_all (Ok n) P never all is = all n refl
 too_many_after_all (Err fault) P never all is = never is
@@ -89,7 +80,7 @@ too_many_after_all (Err fault) P never all is = never is
 pub too_many_leave_none : (marks : Positions) (deliveries : List DeliveryValue) → new_marks marks deliveries ≡ Err TooManyStreams → HasNoGap marks deliveries
 too_many_leave_none marks deliveries is =
     too_many_after_all (marks_after marks (bringing deliveries)) (HasNoGap marks deliveries)
-    (λ never. absurd (never_too_many (bringing deliveries) marks never))
+    (λ never. absurd (only_gaps TooManyStreams (λ d m same. cc) (bringing deliveries) marks never))
     (λ n all. no_gap deliveries marks n all)
     is
 

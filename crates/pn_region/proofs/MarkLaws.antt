@@ -22,6 +22,15 @@ pub accepted : (b : Bool) (fault : RoundFault) (rest : Result Positions RoundFau
 accepted true fault rest next is = cc
 accepted false fault rest next is = (refl, is)
 
+-- deliveries one after another are refused for a gap alone
+pub only_gaps : (fault : RoundFault) → ((d : DeliveryValue) (m : Positions) → gap_of m d ≡ fault → ⊥) → (ds : List DeliveryValue) (m : Positions) → marks_after m ds ≡ Err fault → ⊥
+only_gaps fault other [] m is = cc
+only_gaps fault other (d ∷ ds) m is =
+    elim (leaves_gap m d) as (λ b. cond b (Err (gap_of m d)) (marks_after (marked m d) ds) ≡ Err fault → ⊥) [
+      | true ↦ λ gap. other d m cc
+      | false ↦ λ rest. only_gaps fault other ds (marked m d) rest
+    ] is
+
 -- marks that are of few streams are those after all deliveries
 pub few : (right : Result Positions RoundFault) (next : Positions) → of_few_streams right ≡ Ok next → right ≡ Ok next
 few (Ok marks) next is = (accepted (nat_lt 16 (length marks)) TooManyStreams (Ok marks) next is).1

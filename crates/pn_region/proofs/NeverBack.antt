@@ -19,6 +19,7 @@ use Rattle.pn_region.specs.Rounds.{taking, IsHalfTaken}
 use Rattle.pn_region.proofs.Apart.{Apart, ranges_apart}
 use Rattle.pn_region.proofs.Pieces.{cells_of, none_outside, found_after, found_before, none_there}
 use Rattle.pn_region.proofs.HalfRounds.{half_so}
+use Rattle.pn_region.proofs.RoundEnds.{taken_half}
 use Rattle.pn_region.proofs.RoundSteps.{all_taken, half_taken}
 
 -- the record of the key is not older in any tablet
@@ -60,12 +61,6 @@ module _ (key : List ℕ) (marks old : Positions) (images : List Image) where
   one_taken : (r : Ends) (t : TabletStateValue) → IsTabletOf old r t → NotOlder (find bytes_cmp key t.cells) (find bytes_cmp key (stepped t (join_in marks images r)).cells)
   one_taken r t is = never_older t (join_in marks images r) is.spelled (λ lost. cc) key
 
-  each_taken : (rs : List Ends) (ts : List TabletStateValue) → AreTabletsOf old rs ts → AreNotOlder key ts (all_stepped ts (map (join_in marks images) rs))
-  each_taken [] [] are = tt
-  each_taken [] (t ∷ ts) are = absurd are
-  each_taken (r ∷ rs) [] are = absurd are
-  each_taken (r ∷ rs) (t ∷ ts) are = (one_taken r t are.0, each_taken rs ts are.1)
-
   one_half : (r : Ends) (t u : TabletStateValue) → IsTabletOf old r t → (u ≡ t) ⊎ (u ≡ stepped t (join_in marks images r)) → NotOlder (find bytes_cmp key t.cells) (find bytes_cmp key u.cells)
   one_half r t u is (inl same) = subst (λ (now : TabletStateValue). NotOlder (find bytes_cmp key t.cells) (find bytes_cmp key now.cells)) (sym same) (itself_not_older (find bytes_cmp key t.cells))
   one_half r t u is (inr took) = subst (λ (now : TabletStateValue). NotOlder (find bytes_cmp key t.cells) (find bytes_cmp key now.cells)) (sym took) (one_taken r t is)
@@ -85,7 +80,7 @@ round_not_older region deliveries marks is key =
     let images = all_images deliveries in
     let rs = ranges region.layout in
     none_older key region.marks marks rs region.tablets (all_stepped region.tablets (map (join_in marks images) rs)) (ranges_apart region.layout is.lawful) is.tablets
-    (all_taken marks images region.marks rs region.tablets is.tablets) (each_taken key marks region.marks images rs region.tablets is.tablets)
+    (all_taken marks images region.marks rs region.tablets is.tablets) (each_half key marks region.marks images rs region.tablets (taking region deliveries marks).tablets is.tablets (taken_half region deliveries is marks))
 
 -- nor does one that ran out of memory
 pub half_not_older : (old new : RegionValue) (deliveries : List DeliveryValue) → IsRegion old → IsHalfTaken old deliveries new → (key : List ℕ)

@@ -12,7 +12,7 @@ use Rattle.pn_tablet.specs.Copies.{TabletCopyValue}
 use Rattle.pn_tablet.specs.Needs.{lacking}
 use Rattle.pn_tablet.specs.Ranges.{Ends, in_range}
 use Rattle.pn_tablet.specs.Refusals.{Refuses}
-use Rattle.pn_tablet.specs.Steps.{taking, lost, step, after_step, stepped}
+use Rattle.pn_tablet.specs.Steps.{taking, lost, step, after_step, stepped, is_memory}
 use Rattle.pn_tablet.specs.Steps as steps
 use Rattle.pn_tablet.specs.Tablets.{TabletStateValue, empty_tablet, lie_in, same_range}
 use Rattle.pn_tablet.specs.declared.fault.OpFault.{OpFault}
@@ -24,8 +24,7 @@ use Rattle.pn_tablet.proofs.Keeping.{spelled_adds, spelled_nil}
 use Rattle.pn_tablet.proofs.Stepping.{one_range}
 use Rattle.pn_tablet.proofs.TabletLaws.{adopted}
 use Rattle.pn_apply.proofs.ReduceLaws.{cells_inside}
-use Rattle.pn_region.specs.Faults.{refusal_of}
-use Rattle.pn_region.specs.Recovery.{stepped_at, stepping, tablet_for, lacks, adopting_unless, adopting_by, adopting, is_memory}
+use Rattle.pn_region.specs.Recovery.{stepped_at, stepping, tablet_for, lacks, adopting_unless, adopting_by, adopting}
 use Rattle.pn_region.specs.Regions.{RegionValue, IsTabletOf, AreTabletsOf, IsRegion, IsLawfulRegion}
 use Rattle.pn_region.proofs.NewRegion.{tablet_at}
 use Rattle.pn_region.proofs.RoundSteps.{old_reached}
@@ -124,7 +123,7 @@ module _ (region : RegionValue) (copy : TabletCopyValue) (n : ℕ) (t : TabletSt
       adopting_is ∙ ap (adopting_unless region copy n) (adopted t copy after is).reaches
       ∙ ap (λ (now : RegionValue). Ok (n, now)) (sym (now_is region n (Adopt copy) t after there is))
 
-  refused_by : (short : Option Short) (refusal : OpFault) → Refuses steps.is_memory refusal (steps.adopting t copy short) → Refuses is_memory (refusal_of refusal) (adopting_unless region copy n short)
+  refused_by : (short : Option Short) (refusal : OpFault) → Refuses is_memory refusal (steps.adopting t copy short) → Refuses is_memory refusal (adopting_unless region copy n short)
   refused_by None op.WrongRange right = cc
   refused_by None (op.TooOld stream has needs) right = cc
   refused_by None op.Memory right = refl
@@ -133,11 +132,11 @@ module _ (region : RegionValue) (copy : TabletCopyValue) (n : ℕ) (t : TabletSt
   refused_by (Some short) op.Memory right = cc
 
   -- and refused where that is
-  pub refused_at : (refusal : OpFault) → Refuses steps.is_memory refusal (step t (Adopt copy)) → Refuses is_memory (refusal_of refusal) (adopting region copy)
+  pub refused_at : (refusal : OpFault) → Refuses is_memory refusal (step t (Adopt copy)) → Refuses is_memory refusal (adopting region copy)
   refused_at refusal right =
-      subst (Refuses is_memory (refusal_of refusal)) (sym adopting_is)
+      subst (Refuses is_memory refusal) (sym adopting_is)
       (refused_by (lacking t.status copy.marks) refusal
-      (subst (Refuses steps.is_memory refusal) (ap (λ (b : Bool). if b then steps.adopting t copy (lacking t.status copy.marks) else Err op.WrongRange) (found_at region copy n t found there)) right))
+      (subst (Refuses is_memory refusal) (ap (λ (b : Bool). if b then steps.adopting t copy (lacking t.status copy.marks) else Err op.WrongRange) (found_at region copy n t found there)) right))
 
 -- the tablet that is found is one of them
 pub found_within : (region : RegionValue) (copy : TabletCopyValue) (n : ℕ) → tablet_for region copy ≡ Some n → n < length region.tablets

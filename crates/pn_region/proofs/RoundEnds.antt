@@ -28,11 +28,6 @@ pub whatever : {T E : Type 0} (answer : Result T E) (P : E → Type 0) → ((fau
 whatever (Ok value) P holds = tt
 whatever (Err fault) P holds = holds fault
 
--- what holds of the fault that a call hands on
-pub handed_on : {T E : Type 0} (answer : Result T E) (fault : E) (P : E → Type 0) → IsErrAnd answer (λ other. other ≡ fault) → P fault → IfErr answer P
-handed_on (Ok value) fault P is holds = tt
-handed_on (Err other) fault P is holds = subst P (sym is) holds
-
 -- none or all have taken their joins
 pub none_taken : (ts : List TabletStateValue) (ops : List TabletOp) → AreJoinsIn ts ops → AreOldOrStepped ts ops ts
 none_taken ts ops fit = old_or_stepped ts ops 0 fit
@@ -44,6 +39,10 @@ each_taken ts us ops fit is =
 module _ (old : RegionValue) (deliveries : List DeliveryValue) (is : IsRegion old) where
   pub fit : (marks : Positions) → AreJoinsIn old.tablets (joins old deliveries marks)
   fit marks = joins_fit old.layout marks (all_images deliveries) old.tablets (own_ranges old.marks (ranges old.layout) old.tablets is.tablets)
+
+  -- a round that is taken leaves each tablet with its join
+  pub taken_half : (marks : Positions) → AreOldOrStepped old.tablets (joins old deliveries marks) (taking old deliveries marks).tablets
+  taken_half marks = each_taken old.tablets (taking old deliveries marks).tablets (joins old deliveries marks) (fit marks) refl
 
   half_none : (right : Result Positions RoundFault) → MatchResult right (λ marks. AreOldOrStepped old.tablets (joins old deliveries marks) old.tablets) (λ fault. old.tablets ≡ old.tablets)
   half_none (Ok marks) = none_taken old.tablets (joins old deliveries marks) (fit marks)

@@ -17,7 +17,7 @@ use Rattle.pn_join.proofs.MarksFacts.{find-raised, is_sorted-raised}
 use Rattle.pn_join.proofs.Rising.{Below, Rising, Rising-from_sorted}
 use Rattle.pn_stream.specs.Positions.{DeliveryValue}
 use Rattle.pn_tablet.specs.Refusals.{Refuses}
-use Rattle.pn_region.proofs.MarkLaws.{gap_of, accepted}
+use Rattle.pn_region.proofs.MarkLaws.{gap_of, only_gaps, accepted}
 use Rattle.pn_region.specs.Laws.{named, stream_count}
 use Rattle.pn_region.specs.Marking.{bringing, last_position, marked, leaves_gap, marks_after, of_few_streams, new_marks, is_memory}
 use Rattle.pn_region.specs.declared.fault.RoundFault.{RoundFault}
@@ -112,14 +112,6 @@ more : (b : Bool) (marks : Positions) → cond b (Err TooManyStreams) (Ok marks)
 more true marks is = refl
 more false marks is = cc
 
-not_few : (ds : List DeliveryValue) (m : Positions) → marks_after m ds ≡ Err TooManyStreams → ⊥
-not_few [] m is = cc
-not_few (d ∷ ds) m is =
-    elim (leaves_gap m d) as (λ b. cond b (Err (gap_of m d)) (marks_after (marked m d) ds) ≡ Err TooManyStreams → ⊥) [
-      | true ↦ λ is. cc
-      | false ↦ λ is. not_few ds (marked m d) is
-    ] is
-
 -- too many streams are more than 16
 pub many_streams : (marks : Positions) (deliveries : List DeliveryValue) → IsTrue (is_sorted name_cmp marks) → new_marks marks deliveries ≡ Err TooManyStreams → 16 < stream_count marks deliveries
 many_streams marks deliveries rising is =
@@ -128,16 +120,8 @@ many_streams marks deliveries rising is =
           let so = more (nat_lt 16 (length all)) all many in
           let as_many = counted deliveries marks all rising after in
           grind (arith, nat_tests)
-      | Err fault ↦ λ after many. absurd (not_few (bringing deliveries) marks (after ∙ many))
+      | Err fault ↦ λ after many. absurd (only_gaps TooManyStreams (λ d m same. cc) (bringing deliveries) marks (after ∙ many))
     ] refl is
-
-not_memory : (ds : List DeliveryValue) (m : Positions) → marks_after m ds ≡ Err Memory → ⊥
-not_memory [] m is = cc
-not_memory (d ∷ ds) m is =
-    elim (leaves_gap m d) as (λ b. cond b (Err (gap_of m d)) (marks_after (marked m d) ds) ≡ Err Memory → ⊥) [
-      | true ↦ λ is. cc
-      | false ↦ λ is. not_memory ds (marked m d) is
-    ] is
 
 -- marks never answer out of memory
 pub never_memory : (marks : Positions) (deliveries : List DeliveryValue) → new_marks marks deliveries ≡ Err Memory → ⊥
@@ -145,7 +129,7 @@ never_memory marks deliveries is =
     elim (marks_after marks (bringing deliveries)) as (λ r. marks_after marks (bringing deliveries) ≡ r → of_few_streams r ≡ Err Memory → ⊥) [
       | Ok all ↦ λ after wants.
           elim (nat_lt 16 (length all)) as (λ b. cond b (Err TooManyStreams) (Ok all) ≡ Err Memory → ⊥) [ true ↦ λ no. cc | false ↦ λ no. cc ] wants
-      | Err fault ↦ λ after wants. not_memory (bringing deliveries) marks (after ∙ wants)
+      | Err fault ↦ λ after wants. only_gaps Memory (λ d m same. cc) (bringing deliveries) marks (after ∙ wants)
     ] refl is
 
 -- the fault that marks answer is not out of memory

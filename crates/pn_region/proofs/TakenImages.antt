@@ -49,7 +49,7 @@ heads x y xs ys is = cc
 pub tails : {A : Type 0} (x y : A) (xs ys : List A) → x ∷ xs ≡ y ∷ ys → xs ≡ ys
 tails x y xs ys is = cc
 
-either_one : {A B P : Type 0} → (A → P) → (B → P) → A ⊎ B → P
+pub either_one : {A B P : Type 0} → (A → P) → (B → P) → A ⊎ B → P
 either_one first second (inl one) = first one
 either_one first second (inr other) = second other
 

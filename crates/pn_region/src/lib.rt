@@ -19,9 +19,11 @@ mod region;
 mod since;
 
 pub use entry::Entry;
-pub use fault::{AdoptFault, RoundFault};
+pub use fault::RoundFault;
 pub use history::History;
 pub use marking::next_marks;
 pub use notices::Log;
+/// Why a copy was not adopted. `WrongRange`: no tablet has its range.
+pub use pn_tablet::OpFault as AdoptFault;
 pub use region::{Region, Round};
 pub use since::{Notice, Since};

@@ -7,7 +7,7 @@ use Rattle.pn_stream.specs.Positions.{DeliveryValue}
 use Rattle.pn_region.specs.Marking.{bringing, all_marked, marks_after}
 use Rattle.pn_region.proofs.MarkSteps.{marks_more, gap_met}
 use Rattle.pn_region.proofs.Following.{marked_more, marked_rising, streams_more}
-use Rattle.pn_region.proofs.RoundEnds.{handed_on}
+use Rattle.pn_stream.proofs.Runs.{handed_on}
 use Rattle.pn_region.proofs.marking.check.Goals as goal
 
 pub returns-in_err-is_new-clause-refused : goal.returns-in_err-is_new-clause-refused

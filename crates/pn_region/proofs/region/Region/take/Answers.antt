@@ -3,6 +3,7 @@ use Rattle.std.proofs.Common.{List, [], length, refl, sym, ap, ◌∙◌, subst,
 use Rattle.std.specs.List.{flat_map}
 use Rattle.std.specs.Vec.{with_items}
 use Rattle.std.proofs.lemmas.List.{with_items_is}
+use Rattle.pn_stream.proofs.Runs.{handed_on}
 use Rattle.pn_tablet.specs.Tablets.{TabletStateValue}
 use Rattle.pn_tablet.specs.Changes.{changes}
 use Rattle.pn_tablet.specs.declared.change.Change.{Change}
@@ -16,7 +17,7 @@ use Rattle.pn_region.specs.Regions.{RegionValue, IsRegion, IsLawfulRegion, all_c
 use Rattle.pn_region.specs.Rounds.{round, Leaves}
 use Rattle.pn_region.specs.declared.fault.RoundFault.TheVariants.{Memory}
 use Rattle.pn_region.proofs.NewRegion.{tablet_count}
-use Rattle.pn_region.proofs.RoundEnds.{few_found, one_left, same_left, half_left, half_region, new_region_is, round_ok, told_changes, fit_found, half_found, all_found, told_found, err_as, whatever, handed_on}
+use Rattle.pn_region.proofs.RoundEnds.{few_found, one_left, same_left, half_left, half_region, new_region_is, round_ok, told_changes, fit_found, half_found, all_found, told_found, err_as, whatever}
 use Rattle.pn_region.proofs.region.Region.take.Goals as goal
 
 pub returns-in_err-marks-clause-err : goal.returns-in_err-marks-clause-err
