@@ -4,11 +4,10 @@ ghost use Rattle.std.specs.Prelude.{◌≡◌, ◌+◌, ◌++◌, ◌≤◌, ◌
 
 use crate::Gate;
 use pn_join::NoMemory;
-use std::alloc::Global;
 use std::marker::Send;
 use std::thread::{Threads, join_mut};
 
-/// The fewest images of a worker: two with as many take as long as one with all (measured over 16 tablets).
+/// The fewest images worth a worker: with 500 each, two workers take as long as one with all (measured).
 const MIN_IMAGES_PER_THREAD: usize = 500;
 
 /// The number of the first of consecutive tablets, and how many workers they have.
@@ -19,7 +18,7 @@ pub(crate) struct Span {
 }
 
 impl Span {
-    /// All tablets, with at most one worker a tablet. At an open gate each further worker has images worth its thread.
+    /// All tablets, with at most one worker for each tablet and, at an open gate, for each 500 images.
     pub(crate) fn new<G: Gate>(gate: &G, workers: usize, tablets: usize, images: usize) -> Span
         ensures first { result.first ≡ 0 }
         ensures workers { result.workers ≤ tablets }
@@ -44,17 +43,16 @@ impl Span {
         ensures firsts { (result.0.first ≡ self.first) × (result.1.first ≡ self.first + result.2) }
         ensures enough { (result.0.workers ≤ result.2) × (result.1.workers + result.2 ≤ tablets) }
     {
-        let (front, back) = (1, self.workers - 1);
-        let most = tablets.div_ceil(self.workers);
-        let place = most.saturating_mul(front).clamp(front, tablets - back);
+        let others = self.workers - 1;
+        let place = tablets.div_ceil(self.workers).clamp(1, tablets - others);
         (
             Span {
                 first: self.first,
-                workers: front,
+                workers: 1,
             },
             Span {
                 first: self.first + place,
-                workers: back,
+                workers: others,
             },
             place,
         )
