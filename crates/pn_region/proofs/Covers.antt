@@ -1,20 +1,11 @@
 -- The images that a tablet's cover reaches.
 use Rattle.std.proofs.Common.{◌≡◌, ℕ, ◌<◌, ◌≤◌, true, false, nat_lt, List, [], ◌++◌, length, get_or, refl, sym, ap, ◌∙◌, subst, arith, ◌⊎◌, inl, inr, Contains}
-use Rattle.std.specs.Prelude.{Ok}
 use Rattle.std.proofs.lemmas.Bool.Decides.{nat_tests}
 use Rattle.std.proofs.lemmas.List.Elements.{Contains-append_left, Contains-append_right}
-use Rattle.pn_join.specs.Marks.{Positions, Reaches, position_of, raised}
 use Rattle.pn_join.proofs.MarksFacts.{position_of-raised}
-use Rattle.pn_record.specs.declared.image.Image.{Image}
-use Rattle.pn_stream.specs.Brokers.{BrokerRecord, up_to, AreHonest}
-use Rattle.pn_stream.specs.Positions.{DeliveryValue}
 use Rattle.pn_stream.proofs.Published.{Stands, is_up_to, published}
-use Rattle.pn_tablet.specs.Copies.{TabletCopyValue}
-use Rattle.pn_tablet.specs.Ranges.{Ends, in_range}
-use Rattle.pn_tablet.specs.Tablets.{TabletStateValue}
-use Rattle.pn_apply.specs.Reducing.{all_images, images_in}
 use Rattle.pn_region.specs.Taken.{CoverTells}
-use Rattle.pn_region.specs.Marking.{new_marks}
+use Rattle.pn_region.proofs.Common.{Ok, Positions, Reaches, position_of, raised, Image, BrokerRecord, up_to, AreHonest, DeliveryValue, TabletCopyValue, Ends, in_range, TabletStateValue, all_images, images_in, new_marks}
 use Rattle.pn_region.proofs.Events.{up_to_more}
 use Rattle.pn_region.proofs.Faith.{brought, was_brought}
 use Rattle.pn_region.proofs.InRange.{from_images_in, to_images_in}

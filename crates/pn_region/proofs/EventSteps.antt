@@ -1,24 +1,10 @@
 -- What an event does to each tablet.
 use Rattle.std.proofs.Common.{◌≡◌, ℕ, zero, suc, List, [], ◌∷◌, map, slice_get, Option, None, Some, Result, Ok, Err, refl, sym, ap, ◌∙◌, subst, arith, ◌⊎◌, inl, inr}
 use Rattle.std.specs.Result.{result_map_both}
-use Rattle.pn_join.specs.Marks.{Positions, Reaches}
-use Rattle.pn_record.specs.declared.image.Image.{Image}
-use Rattle.pn_stream.specs.Positions.{DeliveryValue}
-use Rattle.pn_tablet.specs.Copies.{TabletCopyValue}
-use Rattle.pn_tablet.specs.Ranges.{Ends}
-use Rattle.pn_tablet.specs.Steps.{stepped}
-use Rattle.pn_tablet.specs.Tablets.{TabletStateValue}
-use Rattle.pn_tablet.specs.declared.needs.Short.{Short}
-use Rattle.pn_tablet.specs.declared.op.TabletOp.{TabletOp}
-use Rattle.pn_tablet.specs.declared.op.TabletOp.TheVariants.{Lose, Adopt}
-use Rattle.pn_apply.specs.Applying.{all_stepped, AreOldOrStepped}
-use Rattle.pn_apply.specs.Reducing.{all_images, join_in, ranges}
 use Rattle.pn_region.specs.Events.{RegionEvent, round, half_round, loss, adoption, LeadsTo, AllLeadTo}
-use Rattle.pn_region.specs.Marking.{new_marks}
-use Rattle.pn_region.specs.Recovery.{stepped_at, stepping, tablet_for, lacks, adopting_unless, adopting_by, adopting}
-use Rattle.pn_region.specs.Regions.{RegionValue, AreTabletsOf, IsRegion}
+use Rattle.pn_region.specs.Recovery.{stepping, lacks, adopting_unless, adopting}
 use Rattle.pn_region.specs.Rounds as rounds
-use Rattle.pn_region.specs.declared.fault.RoundFault.{RoundFault}
+use Rattle.pn_region.proofs.Common.{Positions, Reaches, Image, DeliveryValue, TabletCopyValue, Ends, stepped, TabletStateValue, Short, TabletOp, Lose, Adopt, all_stepped, AreOldOrStepped, all_images, join_in, ranges, new_marks, stepped_at, tablet_for, adopting_by, RegionValue, AreTabletsOf, IsRegion, RoundFault}
 use Rattle.pn_region.proofs.HalfRounds.{half_so, half_taken_is}
 use Rattle.pn_region.proofs.OneTablet.{stepping_is}
 use Rattle.pn_region.proofs.RoundEnds.{taken_half}

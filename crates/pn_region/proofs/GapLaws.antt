@@ -1,15 +1,11 @@
 -- The first gap of deliveries.
 use Rattle.std.proofs.Common.{◌≡◌, inl, inr, ℕ, zero, suc, ◌+◌, ◌<◌, ◌≤◌, pred, Bool, true, false, cond, nat_lt, List, [], ◌∷◌, ◌++◌, length, refl, sym, ap, ◌∙◌, arith}
-use Rattle.std.specs.Prelude.{Result, Ok, Err}
 use Rattle.std.proofs.lemmas.Bool.Decides.{nat_tests}
 use Rattle.std.proofs.lemmas.List.Elements.{filter-append}
-use Rattle.pn_join.specs.Marks.{Positions, position_of}
-use Rattle.pn_stream.specs.Positions.{DeliveryValue}
+use Rattle.pn_region.proofs.Common.{Result, Ok, Err, Positions, position_of, DeliveryValue, bringing, last_position, marked, leaves_gap, marks_after, of_few_streams, new_marks, RoundFault, Gap, TooManyStreams}
 use Rattle.pn_region.proofs.MarkLaws.{gap_of, only_gaps, accepted, few, none_skipped, never_fall, some_brings, last_taken}
 use Rattle.pn_region.specs.Laws.{WasTaken, HasNoGap, IsGap}
-use Rattle.pn_region.specs.Marking.{brings, bringing, last_position, marked, leaves_gap, marks_after, of_few_streams, new_marks}
-use Rattle.pn_region.specs.declared.fault.RoundFault.{RoundFault}
-use Rattle.pn_region.specs.declared.fault.RoundFault.TheVariants.{Gap, TooManyStreams}
+use Rattle.pn_region.specs.Marking.{brings}
 
 -- the position is one that the marks have reached by these deliveries
 taken_up_to : (ds : List DeliveryValue) (m n : Positions) (name : List ℕ) (p : ℕ) → marks_after m (bringing ds) ≡ Ok n → p ≤ position_of n name → WasTaken m ds name p

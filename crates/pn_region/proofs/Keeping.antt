@@ -2,11 +2,10 @@
 use Rattle.std.proofs.Common.{◌≡◌, inr, ℕ, ◌+◌, ◌-◌, min, List, [], ◌∷◌, ◌++◌, length, drop, refl, sym, ap, ◌∙◌, subst, arith, append_assoc, append-nil, length-append, length-drop, drop-drop}
 use Rattle.std.proofs.lemmas.List.{drop-append-le, map-append}
 use Rattle.circular_buffer.specs.Buffer.{Buffer, buffer, keep_last}
-use Rattle.pn_tablet.specs.declared.change.Change.{Change}
 use Rattle.pn_region.specs.declared.entry.Entry.{Entry}
 use Rattle.pn_region.specs.declared.entry.Entry.TheVariants.{Changed, Break}
-use Rattle.pn_region.specs.Log.{max_notices, last_number, entries_of}
 use Rattle.pn_region.specs.Kept.{AreKept, kept_with, IsLog}
+use Rattle.pn_region.proofs.Common.{Change, max_notices, last_number, entries_of}
 
 -- to keep the last ones of what was kept and one more is to keep the last ones of all
 pub kept_more : {X : Type 0} (n : ℕ) (xs : List X) (x : X) → keep_last n (keep_last n xs ++ x ∷ []) ≡ keep_last n (xs ++ x ∷ [])

@@ -1,17 +1,9 @@
 -- The tablet of a key has its cell.
 use Rattle.std.proofs.Common.{◌≡◌, ℕ, zero, suc, ◌+◌, ◌<◌, ◌≤◌, true, false, List, [], ◌∷◌, length, Some, refl, sym, ap, ◌∙◌, arith}
-use Rattle.std.specs.Prelude.{slice_get, IsSome}
-use Rattle.std.specs.FinMap.{find}
 use Rattle.std.proofs.lemmas.List.FromFn.{length-map-range_with_len, get_or-map-range_with_len}
 use Rattle.std.proofs.lemmas.Option.{slice_get_read}
-use Rattle.pn_join.specs.Marks.{Positions}
-use Rattle.pn_record.specs.Order.{bytes_cmp}
-use Rattle.pn_tablet.specs.Layouts.{Bounds, tablet_of, tablet_ends}
-use Rattle.pn_tablet.specs.Ranges.{Ends, in_range}
-use Rattle.pn_tablet.specs.Tablets.{TabletStateValue}
 use Rattle.pn_tablet.proofs.LayoutFacts.{key_in_tablet, tablet_of_within}
-use Rattle.pn_apply.specs.Reducing.{ranges}
-use Rattle.pn_region.specs.Regions.{RegionValue, AreTabletsOf, IsRegion, all_cells}
+use Rattle.pn_region.proofs.Common.{slice_get, IsSome, find, Positions, bytes_cmp, Bounds, tablet_of, tablet_ends, Ends, in_range, TabletStateValue, ranges, RegionValue, AreTabletsOf, IsRegion, all_cells}
 use Rattle.pn_region.proofs.Apart.{Outside, Apart, ranges_apart}
 use Rattle.pn_region.proofs.NewRegion.{tablet_count}
 use Rattle.pn_region.proofs.Pieces.{cells_of, none_outside, found_after, found_before, none_there}

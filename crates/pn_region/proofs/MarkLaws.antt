@@ -1,17 +1,13 @@
 -- What new marks have taken.
 use Rattle.std.proofs.Common.{◌≡◌, ℕ, zero, suc, ◌+◌, ◌<◌, ◌≤◌, max, pred, Bool, true, false, cond, nat_lt, is_eq, List, [], ◌∷◌, length, get_or, Some, None, unwrap_or, refl, sym, ap, ◌∙◌, subst, arith}
-use Rattle.std.specs.Prelude.{Result, Ok, Err, Contains}
-use Rattle.std.specs.Ordering.{eq_by_cmp}
+use Rattle.std.specs.Prelude.{Contains}
 use Rattle.std.proofs.lemmas.Bool.Decides.{nat_tests}
 use Rattle.std.proofs.lemmas.Cmp.{nat_list_cmp_total, tied_itself}
-use Rattle.pn_join.specs.Marks.{Positions, Reaches, name_cmp, position_of}
 use Rattle.pn_join.proofs.MarksFacts.{position_of-raised}
 use Rattle.pn_record.proofs.HeldRecords.{tied_keys}
-use Rattle.pn_stream.specs.Positions.{DeliveryValue}
 use Rattle.pn_region.specs.Laws.{HasPosition}
-use Rattle.pn_region.specs.Marking.{brings, bringing, last_position, marked, leaves_gap, marks_after, of_few_streams, new_marks}
-use Rattle.pn_region.specs.declared.fault.RoundFault.{RoundFault}
-use Rattle.pn_region.specs.declared.fault.RoundFault.TheVariants.{Gap, TooManyStreams}
+use Rattle.pn_region.specs.Marking.{brings}
+use Rattle.pn_region.proofs.Common.{Result, Ok, Err, eq_by_cmp, Positions, Reaches, name_cmp, position_of, DeliveryValue, bringing, last_position, marked, leaves_gap, marks_after, of_few_streams, new_marks, RoundFault, Gap, TooManyStreams}
 
 -- the gap that it leaves
 abbrev pub gap_of : Positions → DeliveryValue → RoundFault

@@ -1,21 +1,10 @@
 -- No round takes a record away or leaves it at an older version.
 use Rattle.std.proofs.Common.{◌≡◌, ℕ, true, false, List, [], ◌∷◌, ◌++◌, map, Option, None, Some, refl, sym, subst, ◌⊎◌, inl, inr}
-use Rattle.std.specs.FinMap.{find}
-use Rattle.pn_join.specs.Marks.{Positions}
-use Rattle.pn_stream.specs.Positions.{DeliveryValue}
-use Rattle.pn_record.specs.declared.image.Image.{Image}
-use Rattle.pn_record.specs.Order.{bytes_cmp}
-use Rattle.pn_record.specs.Sets.{CellValue}
 use Rattle.pn_record.specs.Older.{NotOlder}
 use Rattle.pn_record.proofs.NeverOlder.{joined_not_older}
-use Rattle.pn_tablet.specs.Ranges.{Ends, in_range}
-use Rattle.pn_tablet.specs.Steps.{stepped}
-use Rattle.pn_tablet.specs.Tablets.{TabletStateValue}
 use Rattle.pn_tablet.proofs.TabletLaws.{never_older}
-use Rattle.pn_apply.specs.Applying.{all_stepped, AreOldOrStepped}
-use Rattle.pn_apply.specs.Reducing.{all_images, join_in, ranges}
-use Rattle.pn_region.specs.Regions.{RegionValue, IsTabletOf, AreTabletsOf, IsRegion, all_cells}
-use Rattle.pn_region.specs.Rounds.{taking, IsHalfTaken}
+use Rattle.pn_region.specs.Rounds.{taking}
+use Rattle.pn_region.proofs.Common.{find, Positions, DeliveryValue, Image, bytes_cmp, CellValue, Ends, in_range, stepped, TabletStateValue, all_stepped, AreOldOrStepped, all_images, join_in, ranges, RegionValue, IsTabletOf, AreTabletsOf, IsRegion, all_cells, IsHalfTaken}
 use Rattle.pn_region.proofs.Apart.{Apart, ranges_apart}
 use Rattle.pn_region.proofs.Pieces.{cells_of, none_outside, found_after, found_before, none_there}
 use Rattle.pn_region.proofs.HalfRounds.{half_so}

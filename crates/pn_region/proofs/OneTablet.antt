@@ -4,28 +4,19 @@ use Rattle.std.specs.Prelude.{IsOk, OnOk}
 use Rattle.std.specs.Option.{option_and_then}
 use Rattle.std.proofs.lemmas.List.Elements.{filter-append}
 use Rattle.std.proofs.lemmas.List.Quantifiers.{position-Some}
-use Rattle.pn_join.specs.Marks.{Positions}
-use Rattle.pn_record.specs.declared.image.Image.{Image}
-use Rattle.pn_record.specs.Cells.{spell}
-use Rattle.pn_record.specs.CellMap.{Entries, table_of, adds}
-use Rattle.pn_tablet.specs.Copies.{TabletCopyValue}
-use Rattle.pn_tablet.specs.Needs.{lacking}
-use Rattle.pn_tablet.specs.Ranges.{Ends, in_range}
+use Rattle.pn_record.specs.CellMap.{adds}
 use Rattle.pn_tablet.specs.Refusals.{Refuses}
-use Rattle.pn_tablet.specs.Steps.{taking, lost, step, after_step, stepped, is_memory}
+use Rattle.pn_tablet.specs.Steps.{taking, is_memory}
 use Rattle.pn_tablet.specs.Steps as steps
-use Rattle.pn_tablet.specs.Tablets.{TabletStateValue, empty_tablet, lie_in, same_range}
 use Rattle.pn_tablet.specs.declared.fault.OpFault.{OpFault}
 use Rattle.pn_tablet.specs.declared.fault.OpFault.TheVariants as op
-use Rattle.pn_tablet.specs.declared.needs.Short.{Short}
-use Rattle.pn_tablet.specs.declared.op.TabletOp.{TabletOp}
-use Rattle.pn_tablet.specs.declared.op.TabletOp.TheVariants.{Join, Lose, Adopt}
 use Rattle.pn_tablet.proofs.Keeping.{spelled_adds, spelled_nil}
 use Rattle.pn_tablet.proofs.Stepping.{one_range}
 use Rattle.pn_tablet.proofs.TabletLaws.{adopted}
 use Rattle.pn_apply.proofs.ReduceLaws.{cells_inside}
-use Rattle.pn_region.specs.Recovery.{stepped_at, stepping, tablet_for, lacks, adopting_unless, adopting_by, adopting}
-use Rattle.pn_region.specs.Regions.{RegionValue, IsTabletOf, AreTabletsOf, IsRegion, IsLawfulRegion}
+use Rattle.pn_region.specs.Recovery.{stepping, lacks, adopting_unless, adopting}
+use Rattle.pn_region.specs.Regions.{IsLawfulRegion}
+use Rattle.pn_region.proofs.Common.{Positions, Image, spell, Entries, table_of, TabletCopyValue, lacking, Ends, in_range, lost, step, after_step, stepped, TabletStateValue, empty_tablet, lie_in, same_range, Short, TabletOp, Join, Lose, Adopt, stepped_at, tablet_for, adopting_by, RegionValue, IsTabletOf, AreTabletsOf, IsRegion}
 use Rattle.pn_region.proofs.NewRegion.{tablet_at}
 use Rattle.pn_region.proofs.RoundSteps.{old_reached}
 use Rattle.pn_region.proofs.Spelled.{spelled_inside}

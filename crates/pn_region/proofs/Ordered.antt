@@ -1,23 +1,14 @@
 -- The cells of all tablets are those of the images that spell them.
 use Rattle.std.proofs.Common.{◌≡◌, ℕ, Bool, true, false, cond, List, [], ◌∷◌, ◌++◌, map, refl, sym, ap, ◌∙◌, append-nil, IsTrue}
-use Rattle.std.specs.FinMap.{keys, is_sorted}
+use Rattle.std.specs.FinMap.{keys}
 use Rattle.std.proofs.lemmas.Grind.{flat_map-append}
 use Rattle.std.proofs.lemmas.List.Elements.{filter-append}
-use Rattle.pn_join.specs.Marks.{Positions}
-use Rattle.pn_record.specs.declared.image.Image.{Image}
 use Rattle.pn_record.specs.Limits.{ContentValue}
-use Rattle.pn_record.specs.Order.{bytes_cmp}
-use Rattle.pn_record.specs.Sets.{Stamp}
-use Rattle.pn_record.specs.Cells.{spell, spell_cell}
-use Rattle.pn_record.specs.CellMap.{Entries, table_of}
+use Rattle.pn_record.specs.Cells.{spell_cell}
 use Rattle.pn_record.proofs.CellMaps.{rising-table_of}
 use Rattle.pn_record.proofs.Sorted.{first_true, second_true}
 use Rattle.pn_tablet.specs.Laws.{IsSpelled}
-use Rattle.pn_tablet.specs.Ranges.{Ends, in_range}
-use Rattle.pn_tablet.specs.Tablets.{TabletStateValue, lie_in}
-use Rattle.pn_apply.specs.Reducing.{images_in, ranges}
-use Rattle.pn_region.specs.Laws.{HasImages}
-use Rattle.pn_region.specs.Regions.{RegionValue, AreTabletsOf, IsRegion, all_cells}
+use Rattle.pn_region.proofs.Common.{is_sorted, Positions, Image, bytes_cmp, Stamp, spell, Entries, table_of, Ends, in_range, TabletStateValue, lie_in, images_in, ranges, HasImages, RegionValue, AreTabletsOf, IsRegion, all_cells}
 use Rattle.pn_region.proofs.Apart.{Outside, Apart, ranges_apart}
 use Rattle.pn_region.proofs.Pieces.{cells_of, not_in}
 use Rattle.pn_region.proofs.Spelled.{spelled_inside}

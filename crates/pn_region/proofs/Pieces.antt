@@ -1,21 +1,12 @@
 -- Maps whose keys lie in ranges that are apart, one after another.
 use Rattle.std.proofs.Common.{◌≡◌, ℕ, Bool, true, false, cond, List, [], ◌∷◌, ◌++◌, Option, Some, None, refl, sym, ap, ◌∙◌}
 use Rattle.std.specs.Prelude.{zip}
-use Rattle.std.specs.Ordering.{eq_by_cmp}
-use Rattle.std.specs.List.{flat_map, filter_map}
-use Rattle.std.specs.FinMap.{find}
+use Rattle.std.specs.List.{filter_map}
 use Rattle.std.proofs.lemmas.List.Elements.{filter_map-append}
-use Rattle.pn_join.specs.Marks.{Positions}
-use Rattle.pn_record.specs.Order.{bytes_cmp}
-use Rattle.pn_record.specs.Sets.{CellValue}
-use Rattle.pn_record.specs.CellMap.{Entries}
 use Rattle.pn_record.proofs.Sorted.{first_true, second_true}
 use Rattle.pn_record.proofs.HeldRecords.{tied_keys}
-use Rattle.pn_tablet.specs.Ranges.{Ends, in_range}
-use Rattle.pn_tablet.specs.Tablets.{TabletStateValue, lie_in}
-use Rattle.pn_tablet.specs.Changes.{changes, change_of}
-use Rattle.pn_tablet.specs.declared.change.Change.{Change}
-use Rattle.pn_region.specs.Regions.{AreTabletsOf}
+use Rattle.pn_tablet.specs.Changes.{change_of}
+use Rattle.pn_region.proofs.Common.{eq_by_cmp, flat_map, find, Positions, bytes_cmp, CellValue, Entries, Ends, in_range, TabletStateValue, lie_in, changes, Change, AreTabletsOf}
 use Rattle.pn_region.proofs.Apart.{Outside, Apart}
 
 -- the cells of tablets together

@@ -1,29 +1,18 @@
 -- The laws of reads of regions.
 use Rattle.std.proofs.Common.{◌≡◌, ◌≢◌, ℕ, zero, suc, ◌+◌, true, false, cond, List, [], ◌∷◌, ◌++◌, length, map, slice_get, Option, Some, None, Ok, Err, refl, sym, ap, ◌∙◌, arith, zero-add}
-use Rattle.std.specs.Prelude.{IsSome}
-use Rattle.std.specs.List.{AllByRecursion, flat_map, range_with_len}
-use Rattle.std.specs.FinMap.{find}
-use Rattle.std.specs.Option.{option_or}
 use Rattle.pn_json.specs.Answers.{◌>>=◌}
-use Rattle.pn_record.specs.CellMap.{Entries}
-use Rattle.pn_record.specs.Order.{bytes_cmp}
-use Rattle.pn_record.specs.Sets.{Stamp, CellValue}
 use Rattle.pn_tablet.specs.Changes.{version_at}
-use Rattle.pn_tablet.specs.Layouts.{tablet_of}
-use Rattle.pn_tablet.specs.Tablets.{TabletStateValue}
 use Rattle.pn_tablet.specs.declared.state.Status.{Status}
-use Rattle.pn_tablet.specs.declared.state.Status.TheVariants.{Serving, Recovering}
 use Rattle.pn_scan.specs.Queries.{QueryValue}
 use Rattle.pn_scan.specs.Shown.{shown_rows}
 use Rattle.pn_scan.specs.Candidates.{Look, cells_in}
-use Rattle.pn_scan.specs.Pages.{refusal_by, refusal, first_refusal, unless, first_page}
+use Rattle.pn_scan.specs.Pages.{refusal_by, unless}
 use Rattle.pn_scan.specs.Reads.{reaches, unless_behind, read_of}
 use Rattle.pn_scan.specs.declared.fault.ScanFault.{ScanFault}
 use Rattle.pn_scan.specs.declared.fault.ScanFault.TheVariants as fault
 use Rattle.pn_scan.proofs.WalkLaws.{page_of_cells}
-use Rattle.pn_region.specs.Regions.{RegionValue, IsRegion, all_cells}
-use Rattle.pn_region.specs.Reads.{look_for, all_looks, read_in, get_in, page_in}
-use Rattle.pn_region.specs.Serving.{AllServe}
+use Rattle.pn_region.specs.Reads.{read_in}
+use Rattle.pn_region.proofs.Common.{IsSome, AllByRecursion, flat_map, range_with_len, find, option_or, Entries, bytes_cmp, Stamp, CellValue, tablet_of, TabletStateValue, Serving, Recovering, refusal, first_refusal, first_page, RegionValue, IsRegion, all_cells, look_for, all_looks, get_in, page_in, AllServe}
 use Rattle.pn_region.proofs.KeyTablets.{has_tablet, has_its_cell}
 use Rattle.pn_region.proofs.NewRegion.{tablet_count}
 use Rattle.pn_region.proofs.Pieces.{cells_of}

@@ -1,23 +1,12 @@
 -- What a round leaves, by how it ended.
 use Rattle.std.proofs.Common.{◌≡◌, ◌≤◌, List, length, refl, sym, ap, ◌∙◌, subst, arith}
-use Rattle.std.specs.Prelude.{Result, Ok, Err, MatchResult, IfErr, IsErrAnd}
-use Rattle.pn_join.specs.Marks.{Positions}
-use Rattle.pn_stream.specs.Positions.{DeliveryValue}
-use Rattle.pn_tablet.specs.Tablets.{TabletStateValue}
-use Rattle.pn_tablet.specs.Changes.{changes}
-use Rattle.pn_tablet.specs.declared.change.Change.{Change}
-use Rattle.pn_tablet.specs.declared.op.TabletOp.{TabletOp}
-use Rattle.std.specs.List.{flat_map}
+use Rattle.std.specs.Prelude.{IfErr, IsErrAnd}
 use Rattle.std.specs.Result.{result_map_both}
-use Rattle.pn_apply.specs.Applying.{AreJoinsIn, all_stepped, all_changes, AreOldOrStepped, IsSomeOld}
-use Rattle.pn_apply.specs.Reducing.{all_images, joined_cells, ranges}
+use Rattle.pn_apply.specs.Applying.{AreJoinsIn, IsSomeOld}
 use Rattle.pn_apply.proofs.Prefixes.{all_old, old_or_stepped, stepped_whole}
 use Rattle.pn_apply.proofs.ReduceLaws.{joins_fit}
-use Rattle.pn_region.specs.Marking.{new_marks}
-use Rattle.pn_region.specs.Regions.{RegionValue, AreTabletsOf, IsRegion, all_cells}
-use Rattle.pn_region.specs.Rounds.{joins, taking, round, Leaves}
-use Rattle.pn_region.specs.declared.fault.RoundFault.{RoundFault}
-use Rattle.pn_region.specs.declared.fault.RoundFault.TheVariants.{Gap, TooManyStreams, Memory}
+use Rattle.pn_region.specs.Rounds.{taking, round, Leaves}
+use Rattle.pn_region.proofs.Common.{Result, Ok, Err, MatchResult, Positions, DeliveryValue, TabletStateValue, changes, Change, TabletOp, flat_map, all_stepped, all_changes, AreOldOrStepped, all_images, joined_cells, ranges, new_marks, RegionValue, AreTabletsOf, IsRegion, all_cells, joins, RoundFault, Gap, TooManyStreams, Memory}
 use Rattle.pn_region.proofs.Apart.{ranges_apart}
 use Rattle.pn_region.proofs.Counting.{few_together}
 use Rattle.pn_region.proofs.NewRegion.{tablet_count}

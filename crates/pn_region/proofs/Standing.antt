@@ -1,21 +1,13 @@
 -- The tablets of a region, found in their present states.
 use Rattle.std.proofs.Common.{◌≡◌, ℕ, zero, suc, ◌+◌, ◌≤◌, Bool, true, false, cond, List, [], ◌∷◌, length, map, slice_get, Option, Some, None, refl, sym, subst, arith, IsTrue}
-use Rattle.std.specs.Prelude.{filter, IsSome}
-use Rattle.std.specs.List.{AllByRecursion, range_with_len}
-use Rattle.std.specs.Option.{option_or}
-use Rattle.pn_join.specs.Marks.{Positions}
-use Rattle.pn_tablet.specs.Ranges.{Ends}
-use Rattle.pn_tablet.specs.Tablets.{TabletStateValue, lie_in}
+use Rattle.std.specs.Prelude.{filter}
 use Rattle.pn_tablet.specs.declared.state.Status.{Status}
-use Rattle.pn_tablet.specs.declared.state.Status.TheVariants.{Serving, Recovering}
-use Rattle.pn_apply.specs.Reducing.{ranges}
 use Rattle.pn_scan.specs.Queries.{QueryValue}
 use Rattle.pn_scan.specs.Candidates.{Look, visited}
-use Rattle.pn_scan.specs.Pages.{refusal_by, refusal, first_refusal}
+use Rattle.pn_scan.specs.Pages.{refusal_by}
 use Rattle.pn_scan.specs.Views.{IsStateOf, IsFoundIn}
 use Rattle.pn_scan.specs.declared.fault.ScanFault.TheVariants as fault
-use Rattle.pn_region.specs.Regions.{RegionValue, IsTabletOf, AreTabletsOf, IsRegion}
-use Rattle.pn_region.specs.Reads.{look_for, all_looks}
+use Rattle.pn_region.proofs.Common.{IsSome, AllByRecursion, range_with_len, option_or, Positions, Ends, TabletStateValue, lie_in, Serving, Recovering, ranges, refusal, first_refusal, RegionValue, IsTabletOf, AreTabletsOf, IsRegion, look_for, all_looks}
 use Rattle.pn_region.proofs.KeyTablets.{range_at, some_within, has_tablet}
 use Rattle.pn_region.proofs.NewRegion.{tablet_count}
 

@@ -1,20 +1,19 @@
 -- A record is still held after another cell is joined to it.
 use Rattle.std.proofs.Common.{◌≡◌, ℕ, List, ◌++◌, Option, None, Some, refl, sym, ap, ◌∙◌, subst, inl, inr, Contains, IsTrue}
 use Rattle.std.specs.Ordering.{is_lt}
-use Rattle.std.specs.FinMap.{find, get, contains_key}
+use Rattle.std.specs.FinMap.{get, contains_key}
 use Rattle.std.specs.Prelude.{is_some}
-use Rattle.pn_record.specs.declared.image.Image.{Image}
 use Rattle.pn_record.specs.Limits.{ContentValue}
-use Rattle.pn_record.specs.Order.{bytes_cmp}
-use Rattle.pn_record.specs.Sets.{CellValue, Contents, union, cell_joined}
+use Rattle.pn_record.specs.Sets.{Contents, union, cell_joined}
 use Rattle.pn_record.specs.Laws.Unions.{either, get-union}
 use Rattle.pn_record.specs.Laws.JoinedCells.{by_versions, joined-less, joined-equal, joined-greater}
-use Rattle.pn_record.specs.Cells.{cells, spell}
-use Rattle.pn_record.specs.CellMap.{Entries, table_of, adds}
+use Rattle.pn_record.specs.Cells.{cells}
+use Rattle.pn_record.specs.CellMap.{adds}
 use Rattle.pn_record.proofs.CellLists.{both, cells-append, all_absorbed}
 use Rattle.pn_record.proofs.CellMaps.{Holds-table_of}
 use Rattle.pn_tablet.specs.Laws.{IsSpelled}
 use Rattle.pn_region.specs.Held.{HoldsStill}
+use Rattle.pn_region.proofs.Common.{find, Image, bytes_cmp, CellValue, spell, Entries, table_of}
 
 of_first : (a b : Option (Unit {0})) → IsTrue (is_some a) → IsTrue (is_some (either a b))
 of_first None b there = cc

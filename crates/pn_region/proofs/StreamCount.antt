@@ -1,9 +1,6 @@
 -- How many streams new marks have.
 use Rattle.std.proofs.Common.{◌≡◌, ℕ, ◌<◌, ◌≤◌, max, Bool, true, false, cond, ◌||◌, nat_lt, List, [], ◌∷◌, map, length, Option, Some, None, is_some, IsTrue, is_eq, refl, sym, ap, ◌∙◌, subst, arith}
-use Rattle.std.specs.Prelude.{Ok, Err}
-use Rattle.std.specs.List.{AllByRecursion, IsDistinct, list_any}
-use Rattle.std.specs.Ordering.{eq_by_cmp}
-use Rattle.std.specs.FinMap.{find, is_sorted}
+use Rattle.std.specs.List.{IsDistinct, list_any}
 use Rattle.std.specs.FinMap.Entries.{is_some-find}
 use Rattle.std.proofs.lemmas.Bool.Decides.{nat_tests}
 use Rattle.std.proofs.lemmas.Cmp.{nat_list_cmp_total, eq_by_cmp_equiv}
@@ -11,17 +8,14 @@ use Rattle.std.proofs.lemmas.List.{length-map}
 use Rattle.std.proofs.lemmas.List.Folds.{list_any-append}
 use Rattle.std.proofs.lemmas.Map.Keys.{IsDistinct-cons}
 use Rattle.std.proofs.lemmas.Map.Made.{length-from_keys}
-use Rattle.pn_join.specs.Marks.{Positions, name_cmp}
 use Rattle.pn_join.specs.Tables.{optional_joined}
 use Rattle.pn_join.proofs.MarksFacts.{find-raised, is_sorted-raised}
 use Rattle.pn_join.proofs.Rising.{Below, Rising, Rising-from_sorted}
-use Rattle.pn_stream.specs.Positions.{DeliveryValue}
 use Rattle.pn_tablet.specs.Refusals.{Refuses}
+use Rattle.pn_region.proofs.Common.{Ok, Err, AllByRecursion, eq_by_cmp, find, is_sorted, Positions, name_cmp, DeliveryValue, bringing, last_position, marked, leaves_gap, marks_after, of_few_streams, new_marks, RoundFault, Gap, TooManyStreams, Memory}
 use Rattle.pn_region.proofs.MarkLaws.{gap_of, only_gaps, accepted}
 use Rattle.pn_region.specs.Laws.{named, stream_count}
-use Rattle.pn_region.specs.Marking.{bringing, last_position, marked, leaves_gap, marks_after, of_few_streams, new_marks, is_memory}
-use Rattle.pn_region.specs.declared.fault.RoundFault.{RoundFault}
-use Rattle.pn_region.specs.declared.fault.RoundFault.TheVariants.{Gap, TooManyStreams, Memory}
+use Rattle.pn_region.specs.Marking.{is_memory}
 
 abbrev names_of : Positions → List (List ℕ)
 names_of marks = map (λ mark. mark.0) marks

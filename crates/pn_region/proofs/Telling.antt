@@ -103,7 +103,7 @@ module _ (entries : List Entry) (last n : ℕ) (kept : Buffer Change) (is : IsLo
   pub misses : (next most : ℕ) → next ≡ min last last_number → most ≡ length kept.items → (last_number < last) ⊎ ((last < n) ⊎ (n + most < last)) → IsSince entries n (Missed next)
   misses next most at all why = (omega (arith, is.number), unknown (subst (λ k. (last_number < last) ⊎ ((last < n) ⊎ (n + k < last))) all why))
 
--- one more change is told
+-- one more change is numbered
 drop_got : {X : Type 0} (xs : List X) (i : ℕ) (x : X) → slice_get xs i ≡ Some x → drop i xs ≡ x ∷ drop (i + 1) xs
 drop_got xs i x got = drop_more xs i x (slice_get_within xs i x got) ∙ ap (λ y. y ∷ drop (i + 1) xs) (get_or_from_slice_get xs i x x got)
 

@@ -56,8 +56,8 @@ pub fn a_round_takes_its_images()
         → HasBetween sure (maybe ++ all_images deliveries) new }
 {}
 
-/// The cells of all tablets, one after another, are in key order, each key once, and are those of the images
-/// that spell them, also after a round that ran out of memory.
+/// The cells of all tablets, one after another, are in key order, each key once, also after a round that ran out
+/// of memory. They are those of the images that spell them.
 pub fn all_cells_are_in_key_order()
     ensures rising { (region : RegionValue) → IsRegion region → IsTrue (is_sorted bytes_cmp (all_cells region)) }
     ensures spelled { (region : RegionValue) → IsRegion region → IsSpelled (all_cells region) }

@@ -72,8 +72,8 @@ pub fn what_is_served_never_goes_back()
         → (key : List ℕ) → HoldsStill (find bytes_cmp key before.cells) (find bytes_cmp key after.cells) }
 {}
 
-/// A region still holds the record of a key whose tablet serves before and after. A record that is still held
-/// exists, and not at an older version.
+/// After an event, or honest events, a region still holds the record of a key whose tablet serves before and after.
+/// A record that is still held exists, and not at an older version.
 pub fn records_served_never_go_back()
     ensures event { (event : RegionEvent) (old new : RegionValue) (key : List ℕ) → IsRegion old → LeadsTo event old new
         → ServesAt old key → ServesAt new key
@@ -85,8 +85,8 @@ pub fn records_served_never_go_back()
     ensures versions { (was now : Option CellValue) → HoldsStill was now → NotOlder was now }
 {}
 
-/// A tablet that is lost while it serves, takes joins and adopts an honest copy ends in the same state as one that
-/// is not lost and takes the same joins and copy.
+/// A recovery leaves no trace: the tablet ends in the same state as one that is not lost, and takes the same joins
+/// and the same honest copy.
 pub fn a_recovery_leaves_no_trace()
     ensures { (broker : BrokerRecord) (tablet after : TabletStateValue) (joins : List TabletOp) (copy : TabletCopyValue) → AreJoins joins
         → IsFaithful broker tablet → tablet.status ≡ Serving → IsHonestCopy broker copy
@@ -115,8 +115,8 @@ pub fn covers_tell_what_events_took()
         → CoversTell broker (taken ++ all_taken broker events) (left ++ all_left events) new.tablets }
 {}
 
-/// After honest events of a new region that all serves, with each round retried that ran out of memory, the cells
-/// of all tablets are exactly those of the images taken. Rounds alone need not be honest.
+/// After honest events of a new region, its cells are exactly those of the images taken, if all tablets serve and
+/// rounds that ran out of memory were retried. Rounds alone need not be honest.
 pub fn events_leave_what_they_took()
     ensures honest { (broker : BrokerRecord) (bounds : Bounds) (events : List RegionEvent) (region : RegionValue)
         → IsLayout bounds → AllLeadTo events (new_region bounds) region → AreHonestEvents broker events → AllServe region
@@ -126,8 +126,8 @@ pub fn events_leave_what_they_took()
         → AreIn (all_left events) (all_taken broker events) → all_cells region ≡ table_of (all_taken broker events) }
 {}
 
-/// Two regions whose events took the same images have the same records, whatever their layouts and their events.
-/// By `regions_of_the_same_cells_answer_alike` they then answer alike.
+/// Two such regions whose events took the same images have the same records, whatever their layouts and events. By
+/// `regions_of_the_same_cells_answer_alike` they then answer alike.
 pub fn the_same_images_leave_the_same_records()
     ensures { (broker : BrokerRecord) (bounds others : Bounds) (events more : List RegionEvent) (one other : RegionValue)
         → IsLayout bounds → AllLeadTo events (new_region bounds) one → AreHonestEvents broker events → AllServe one

@@ -1,4 +1,4 @@
--- A break is not told.
+-- No answer reaches over a break.
 use Rattle.pn_region.proofs.LogLaws.{below_break, break_after}
 use Rattle.pn_region.proofs.notice_laws.a_break_is_missed.Goals as goal
 

@@ -1,4 +1,4 @@
--- What is told is what stands there.
+-- The answer is the entries there.
 use Rattle.pn_region.proofs.LogLaws.{told_entries, told_last, told_few}
 use Rattle.pn_region.proofs.notice_laws.since_returns_the_changes_after_a_number.Goals as goal
 

@@ -1,14 +1,9 @@
 -- The copy's tablet takes it.
 use Rattle.std.proofs.Common.{◌≡◌, true, sym, ap, ◌∙◌, subst}
-use Rattle.std.specs.Prelude.{Some}
-use Rattle.pn_tablet.specs.Copies.{TabletCopyValue}
 use Rattle.pn_tablet.specs.Refusals.{Refuses}
 use Rattle.pn_tablet.specs.Steps.{is_memory}
-use Rattle.pn_tablet.specs.Tablets.{lie_in}
-use Rattle.pn_tablet.specs.declared.op.TabletOp.TheVariants.{Adopt}
-use Rattle.pn_region.specs.Recovery.{tablet_for, adopting_by, adopting}
-use Rattle.pn_region.specs.Logged.{LoggedRegion}
-use Rattle.pn_region.specs.Regions.{RegionValue}
+use Rattle.pn_region.specs.Recovery.{adopting}
+use Rattle.pn_region.proofs.Common.{Some, TabletCopyValue, lie_in, Adopt, tablet_for, adopting_by, LoggedRegion, RegionValue}
 use Rattle.pn_region.proofs.OneTablet.{stands_at, now_lawful, adopted_at, refused_at}
 use Rattle.pn_stream.proofs.Runs.{handed_on}
 use Rattle.pn_region.proofs.region.Region.adopt.Goals as goal
