@@ -8,16 +8,16 @@ use Rattle.pn_tablet.specs.Copies.{TabletCopyValue}
 use Rattle.pn_tablet.specs.Needs.{lacking}
 use Rattle.pn_tablet.specs.Ranges.{Ends}
 use Rattle.pn_tablet.specs.Refusals.{Refuses}
-use Rattle.pn_tablet.specs.Steps.{step, adopting}
+use Rattle.pn_tablet.specs.Steps.{step, adopting, is_memory}
 use Rattle.pn_tablet.specs.Tablets.{TabletStateValue, empty_tablet, same_range}
 use Rattle.pn_tablet.specs.declared.fault.OpFault.TheVariants.{WrongRange}
 use Rattle.pn_tablet.specs.declared.needs.Short.{Short}
 use Rattle.pn_tablet.specs.declared.op.TabletOp.TheVariants.{Adopt}
-use Rattle.pn_region.specs.Recovery.{tablet_for, adopting_unless, adopting_by, stepping, is_memory}
+use Rattle.pn_region.specs.Recovery.{tablet_for, adopting_unless, adopting_by, stepping}
 use Rattle.pn_region.specs.Recovery as region
 use Rattle.pn_region.specs.Regions.{RegionValue}
-use Rattle.pn_region.specs.declared.fault.AdoptFault.{AdoptFault}
-use Rattle.pn_region.specs.declared.fault.AdoptFault.TheVariants as region_fault
+use Rattle.pn_tablet.specs.declared.fault.OpFault.{OpFault as AdoptFault}
+use Rattle.pn_tablet.specs.declared.fault.OpFault.TheVariants as region_fault
 use Rattle.pn_region.proofs.OneTablet.{found_at, found_within}
 use Rattle.pn_live.specs.LiveRegions.{LiveRegionValue, core}
 use Rattle.pn_live.specs.Places.{PlaceValue, state_at}

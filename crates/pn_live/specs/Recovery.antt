@@ -6,8 +6,8 @@ use Rattle.pn_tablet.specs.declared.op.TabletOp.{TabletOp}
 use Rattle.pn_tablet.specs.declared.op.TabletOp.TheVariants.{Adopt}
 use Rattle.pn_region.specs.Logged.{breaking}
 use Rattle.pn_region.specs.Recovery.{adopting}
-use Rattle.pn_region.specs.declared.fault.AdoptFault.{AdoptFault}
-use Rattle.pn_region.specs.declared.fault.AdoptFault.TheVariants.{TooOld}
+use Rattle.pn_tablet.specs.declared.fault.OpFault.{OpFault as AdoptFault}
+use Rattle.pn_tablet.specs.declared.fault.OpFault.TheVariants.{TooOld}
 use Rattle.pn_live.specs.LiveRegions.{LiveRegionValue, core}
 use Rattle.pn_live.specs.Places.{PlaceValue, appended}
 

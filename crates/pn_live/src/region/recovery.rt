@@ -4,10 +4,10 @@ ghost use Rattle.std.specs.Prelude.{◌≡◌, ◌≤◌, length, slice_get, Ok,
 ghost use Rattle.std.specs.List.{position};
 ghost use Rattle.pn_tablet.specs.Operations.{HasPositions};
 ghost use Rattle.pn_tablet.specs.Refusals.{Refuses};
-ghost use Rattle.pn_tablet.specs.Steps.{step};
+ghost use Rattle.pn_tablet.specs.Steps.{step, is_memory};
 ghost use Rattle.pn_tablet.specs.Tablets.{same_range};
 ghost use Rattle.pn_tablet.specs.declared.op.TabletOp.TheVariants.{Lose};
-ghost use Rattle.pn_region.specs.Recovery.{losing, stepping, adopting, is_memory};
+ghost use Rattle.pn_region.specs.Recovery.{losing, stepping, adopting};
 ghost use Rattle.pn_region.specs.Regions.{IsRegion};
 ghost use Rattle.pn_region.specs.Since.{IsSince};
 ghost use Rattle.pn_live.specs.LiveRegions.{core, tablets_in};

@@ -16,7 +16,7 @@ loop-place-preserved c =
     record {
       told =
           ap (λ (l : List Notice). l ++ numbered (was.number + 1) (drop (was.place + 1) kept)) c.push_reserved.ensures.items
-          ∙ told_more kept was.place was.number copied was.list.items (numbered c.args.behind (drop c.args.first kept)) got was.invariant.told;
+          ∙ told_more kept was.place was.number copied was.list.items (numbered c.args.before (drop c.args.first kept)) got was.invariant.told;
       number = omega (arith, was.invariant.number);
       room = omega (arith, c.push_reserved.ensures.capacity, was.invariant.room);
       count = omega (arith, count, was.invariant.count);

@@ -1,7 +1,7 @@
--- One more share is joined.
+-- The images of one more tablet are joined.
 use Rattle.std.proofs.Common.{◌∙◌}
-use Rattle.pn_apply.proofs.Sharing.{joined_more, left_behind}
-use Rattle.pn_apply.proofs.reducing.work_share.Goals as goal
+use Rattle.pn_apply.proofs.Sharing.{joined_more, left_after}
+use Rattle.pn_apply.proofs.reducing.work_alone.Goals as goal
 
 pub loop-place-preserved : goal.loop-place-preserved
 loop-place-preserved g c =
@@ -11,6 +11,6 @@ loop-place-preserved g c =
       joined = joined_more c.in_ok-cells_of.field-0 images was.images was.place c.replace-own.result c.index-images-place.result
           was.cells.items c.push_reserved.new.self.items c.loop-place-test.true was.invariant.rest c.replace-own.ensures.value
           was.invariant.joined c.in_ok-cells_of.ensures c.push_reserved.ensures.items;
-      rest = left_behind was.images images was.place c.replace-own.new.dest was.invariant.rest;
+      rest = left_after was.images images was.place c.replace-own.new.dest was.invariant.rest;
       room = c.push_reserved.ensures.capacity ∙ was.invariant.room;
     }

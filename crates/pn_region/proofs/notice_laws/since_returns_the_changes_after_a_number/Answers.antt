@@ -1,6 +1,6 @@
--- What is told is what stands there.
+-- The answer is the entries there.
 use Rattle.pn_region.proofs.LogLaws.{told_entries, told_last, told_few}
-use Rattle.pn_region.proofs.notice_laws.a_log_tells_what_is_behind_a_number.Goals as goal
+use Rattle.pn_region.proofs.notice_laws.since_returns_the_changes_after_a_number.Goals as goal
 
 pub returns-clause-entries : goal.returns-clause-entries
 returns-clause-entries c = told_entries

@@ -1,8 +1,8 @@
--- The operations so far are applied, and the slots behind are as they were.
+-- The operations so far are applied, and the later slots are as they were.
 use Rattle.std.proofs.Common.{◌≡◌, map, take, length, vec_capacity}
 use Rattle.pn_apply.specs.Applying.{all_changes}
 use Rattle.pn_apply.proofs.Prefixes.{prefix_stepped}
-use Rattle.pn_apply.proofs.apply.work_share.Given as goal
+use Rattle.pn_apply.proofs.apply.work_alone.Given as goal
 
 abbrev pub invariant-loop-place : goal.invariant-loop-place
 invariant-loop-place g l = record {

@@ -1,21 +1,18 @@
 -- Each operation is applied to the slot at its place.
-use Rattle.std.proofs.Common.{◌≡◌, ◌+◌, ◌++◌, [], ◌∷◌, map, length, get_or, sym, subst, ap, ◌∙◌, arith}
+use Rattle.std.proofs.Common.{◌≡◌, ◌+◌, ◌++◌, [], ◌∷◌, map, length, get_or, sym, subst, ap, ◌∙◌, arith, rules}
 use Rattle.std.specs.Prelude.{Vec}
 use Rattle.std.specs.declared.alloc.Global.{Global}
 use Rattle.std.proofs.lemmas.List.{map-append, length_push}
 use Rattle.pn_tablet.specs.declared.change.Change.{Change}
 use Rattle.pn_tablet.specs.Operations.{HasPositions}
 use Rattle.pn_apply.proofs.Prefixes.{on_err, all_old, not_none, same_length, positions_at, slot_old, old_or_stepped, stepped_whole, changes_whole, slot_count, slot_within, slot_joins, slot_stepped, slot_changes, slot_failed}
-use Rattle.pn_apply.proofs.apply.work_share.Goals as goal
+use Rattle.pn_apply.proofs.apply.work_alone.Goals as goal
 
-pub returns-in_err-results-clause-err : goal.returns-in_err-results-clause-err
-returns-in_err-results-clause-err g c = on_err c.from_residual.result (old_or_stepped (map g.S.Slot.tablet c.args.slots.now) c.args.operations.now 0 c.requires.joins)
-
-pub overflow_add-first : goal.overflow_add-first
-overflow_add-first g c =
+pub overflow_add-span : goal.overflow_add-span
+overflow_add-span g c =
     let was = c.loop-place in
     let count = slot_count g.S.Slot.tablet (map g.S.Slot.tablet c.args.slots.now) c.args.operations.now c.requires.joins was.slots was.place was.invariant.slots in
-    omega (arith, count, c.loop-place.auto.slots, c.requires.numbers)
+    omega (arith, count, c.loop-place.auto.slots, c.requires.spanned.numbers)
 
 pub offset_bounds-slots-place : goal.offset_bounds-slots-place
 offset_bounds-slots-place g c =
@@ -40,28 +37,6 @@ apply_join-requires-clause-positions g c =
     subst HasPositions (sym c.index-operations-place.is)
     (positions_at c.args.operations.now c.loop-place.place c.index-operations-place.result c.requires.positions c.loop-place-test.true)
 
-pub returns-in_err-results-clause-left : goal.returns-in_err-results-clause-left
-returns-in_err-results-clause-left g c =
-    let tablets = map g.S.Slot.tablet c.args.slots.now in
-    let count = same_length tablets c.args.operations.now c.requires.joins in
-    let some = not_none (length c.args.operations.now) (λ none. let fits = c.in_err-results.ensures.succeeds none in cc) in
-    on_err c.from_residual.result (all_old tablets (omega (arith, count, some)))
-
-pub returns-in_err-apply_join-clause-left : goal.returns-in_err-apply_join-clause-left
-returns-in_err-apply_join-clause-left g c =
-    let was = c.loop-place in
-    on_err c.from_residual-in_err-apply_join.result
-    (slot_old g.S.Slot.tablet (map g.S.Slot.tablet c.args.slots.now) c.args.operations.now c.requires.joins was.slots was.place was.invariant.slots
-    (get_or was.slots was.place c.index-slots-place.result) c.apply_join.new.slot c.loop-place-test.true
-    (ap (get_or was.slots was.place) c.index-slots-place.is) c.in_err-apply_join.ensures.err)
-
-pub returns-in_err-apply_join-clause-err : goal.returns-in_err-apply_join-clause-err
-returns-in_err-apply_join-clause-err g c =
-    let was = c.loop-place in
-    on_err c.from_residual-in_err-apply_join.result
-    (slot_failed g.S.Slot.tablet (map g.S.Slot.tablet c.args.slots.now) c.args.operations.now c.requires.joins was.slots was.place was.invariant.slots
-    (get_or was.slots was.place c.index-slots-place.result) c.apply_join.new.slot (ap (get_or was.slots was.place) c.index-slots-place.is) c.in_err-apply_join.ensures.err)
-
 pub loop-place-preserved : goal.loop-place-preserved
 loop-place-preserved g c =
     let was = c.loop-place in
@@ -81,8 +56,41 @@ loop-place-preserved g c =
       room = c.push_reserved.ensures.capacity ∙ was.invariant.room;
     }
 
-pub returns-clause-ok : goal.returns-clause-ok
-returns-clause-ok g c = c.loop-place.invariant.slots ∙ stepped_whole (map g.S.Slot.tablet c.args.slots.now) c.args.operations.now c.loop-place.place c.requires.joins c.loop-place-test.false
+pub returns-in_err-results : goal.returns-in_err-results
+returns-in_err-results g c =
+    let tablets = map g.S.Slot.tablet c.args.slots.now in
+    let count = same_length tablets c.args.operations.now c.requires.joins in
+    let some = not_none (length c.args.operations.now) (λ none. let fits = c.in_err-results.ensures.succeeds none in cc) in
+    record {
+      ok = search rules;
+      changes = search rules;
+      err = on_err c.from_residual.result (old_or_stepped tablets c.args.operations.now 0 c.requires.joins);
+      left = on_err c.from_residual.result (all_old tablets (omega (arith, count, some)));
+    }
 
-pub returns-clause-changes : goal.returns-clause-changes
-returns-clause-changes g c = c.loop-place.invariant.results ∙ changes_whole (map g.S.Slot.tablet c.args.slots.now) c.args.operations.now c.loop-place.place c.requires.joins c.loop-place-test.false
+pub returns-in_err-apply_join : goal.returns-in_err-apply_join
+returns-in_err-apply_join g c =
+    let was = c.loop-place in
+    let tablets = map g.S.Slot.tablet c.args.slots.now in
+    let old = get_or was.slots was.place c.index-slots-place.result in
+    let read = ap (get_or was.slots was.place) c.index-slots-place.is in
+    record {
+      ok = search rules;
+      changes = search rules;
+      err = on_err c.from_residual-in_err-apply_join.result
+          (slot_failed g.S.Slot.tablet tablets c.args.operations.now c.requires.joins was.slots was.place was.invariant.slots
+          old c.apply_join.new.slot read c.in_err-apply_join.ensures.err);
+      left = on_err c.from_residual-in_err-apply_join.result
+          (slot_old g.S.Slot.tablet tablets c.args.operations.now c.requires.joins was.slots was.place was.invariant.slots
+          old c.apply_join.new.slot c.loop-place-test.true read c.in_err-apply_join.ensures.err);
+    }
+
+pub returns : goal.returns
+returns g c =
+    let tablets = map g.S.Slot.tablet c.args.slots.now in
+    record {
+      ok = c.loop-place.invariant.slots ∙ stepped_whole tablets c.args.operations.now c.loop-place.place c.requires.joins c.loop-place-test.false;
+      changes = c.loop-place.invariant.results ∙ changes_whole tablets c.args.operations.now c.loop-place.place c.requires.joins c.loop-place-test.false;
+      err = tt;
+      left = tt;
+    }

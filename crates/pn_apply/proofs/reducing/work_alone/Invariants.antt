@@ -1,7 +1,7 @@
--- The shares so far are joined, and those behind are in their places.
+-- The images so far are joined, and the later ones are in their places.
 use Rattle.std.proofs.Common.{◌≡◌, map, take, drop, length, vec_capacity}
 use Rattle.pn_record.specs.CellMap.{table_of}
-use Rattle.pn_apply.proofs.reducing.work_share.Given as goal
+use Rattle.pn_apply.proofs.reducing.work_alone.Given as goal
 
 abbrev pub invariant-loop-place : goal.invariant-loop-place
 invariant-loop-place g l = record {

@@ -1,4 +1,4 @@
--- Tablets cut in two, each half with its own operations.
+-- Tablets cut in two parts, each with its own operations.
 use Rattle.std.proofs.Common.{◌≡◌, ℕ, suc, ◌+◌, ◌≤◌, true, false, List, [], ◌∷◌, ◌++◌, length, map, refl, sym, ap, ◌∙◌, subst, inl, inr, arith}
 use Rattle.std.proofs.lemmas.List.{map-append, length-map, length-append}
 use Rattle.std.specs.Prelude.{Result, Ok, Err, OnOk, OnErr, IfOk, IsOk, IsErr, ◌⊎◌, Vec}
@@ -8,42 +8,45 @@ use Rattle.pn_tablet.specs.Steps.{stepped}
 use Rattle.pn_tablet.specs.Changes.{answer}
 use Rattle.pn_tablet.specs.declared.change.Change.{Change}
 use Rattle.pn_tablet.specs.declared.op.TabletOp.{TabletOp}
+use Rattle.pn_join.specs.declared.memory.NoMemory.{NoMemory}
 use Rattle.pn_apply.specs.Applying.{AreJoinsIn, HavePositions, all_stepped, all_changes, AreOldOrStepped, IsSomeOld}
-use Rattle.pn_apply.proofs.Prefixes.{on_err}
+use Rattle.pn_apply.specs.Working.{IsTask, Applied}
+use Rattle.pn_apply.specs.declared.cut.Span.{Span}
+use Rattle.pn_apply.proofs.Prefixes.{on_err, length-changes}
 
--- each half has the joins of its own tablets
-pub joins_low : (ts us : List TabletStateValue) (os ps : List TabletOp) → length ts ≡ length os → AreJoinsIn (ts ++ us) (os ++ ps) → AreJoinsIn ts os
+-- each part has the joins of its own tablets
+joins_low : (ts us : List TabletStateValue) (os ps : List TabletOp) → length ts ≡ length os → AreJoinsIn (ts ++ us) (os ++ ps) → AreJoinsIn ts os
 joins_low [] us [] ps same fit = tt
 joins_low [] us (o ∷ os) ps same fit = absurd (omega (arith, same))
 joins_low (t ∷ ts) us [] ps same fit = absurd (omega (arith, same))
 joins_low (t ∷ ts) us (o ∷ os) ps same fit = (fit.0, joins_low ts us os ps (omega (arith, same)) fit.1)
 
-pub joins_high : (ts us : List TabletStateValue) (os ps : List TabletOp) → length ts ≡ length os → AreJoinsIn (ts ++ us) (os ++ ps) → AreJoinsIn us ps
+joins_high : (ts us : List TabletStateValue) (os ps : List TabletOp) → length ts ≡ length os → AreJoinsIn (ts ++ us) (os ++ ps) → AreJoinsIn us ps
 joins_high [] us [] ps same fit = fit
 joins_high [] us (o ∷ os) ps same fit = absurd (omega (arith, same))
 joins_high (t ∷ ts) us [] ps same fit = absurd (omega (arith, same))
 joins_high (t ∷ ts) us (o ∷ os) ps same fit = joins_high ts us os ps (omega (arith, same)) fit.1
 
-pub positions_low : (os ps : List TabletOp) → HavePositions (os ++ ps) → HavePositions os
+positions_low : (os ps : List TabletOp) → HavePositions (os ++ ps) → HavePositions os
 positions_low [] ps fit = tt
 positions_low (o ∷ os) ps fit = (fit.0, positions_low os ps fit.1)
 
-pub positions_high : (os ps : List TabletOp) → HavePositions (os ++ ps) → HavePositions ps
+positions_high : (os ps : List TabletOp) → HavePositions (os ++ ps) → HavePositions ps
 positions_high [] ps fit = fit
 positions_high (o ∷ os) ps fit = positions_high os ps fit.1
 
--- both halves stepped are the whole stepped
-pub stepped_halves : (ts us : List TabletStateValue) (os ps : List TabletOp) → length ts ≡ length os → all_stepped (ts ++ us) (os ++ ps) ≡ all_stepped ts os ++ all_stepped us ps
-stepped_halves [] us [] ps same = refl
-stepped_halves [] us (o ∷ os) ps same = absurd (omega (arith, same))
-stepped_halves (t ∷ ts) us [] ps same = absurd (omega (arith, same))
-stepped_halves (t ∷ ts) us (o ∷ os) ps same = ap (λ rest. stepped t o ∷ rest) (stepped_halves ts us os ps (omega (arith, same)))
+-- both parts stepped are the whole stepped
+stepped_parts : (ts us : List TabletStateValue) (os ps : List TabletOp) → length ts ≡ length os → all_stepped (ts ++ us) (os ++ ps) ≡ all_stepped ts os ++ all_stepped us ps
+stepped_parts [] us [] ps same = refl
+stepped_parts [] us (o ∷ os) ps same = absurd (omega (arith, same))
+stepped_parts (t ∷ ts) us [] ps same = absurd (omega (arith, same))
+stepped_parts (t ∷ ts) us (o ∷ os) ps same = ap (λ rest. stepped t o ∷ rest) (stepped_parts ts us os ps (omega (arith, same)))
 
-pub changes_halves : (ts us : List TabletStateValue) (os ps : List TabletOp) → length ts ≡ length os → all_changes (ts ++ us) (os ++ ps) ≡ all_changes ts os ++ all_changes us ps
-changes_halves [] us [] ps same = refl
-changes_halves [] us (o ∷ os) ps same = absurd (omega (arith, same))
-changes_halves (t ∷ ts) us [] ps same = absurd (omega (arith, same))
-changes_halves (t ∷ ts) us (o ∷ os) ps same = ap (λ rest. answer o t (stepped t o) ∷ rest) (changes_halves ts us os ps (omega (arith, same)))
+changes_parts : (ts us : List TabletStateValue) (os ps : List TabletOp) → length ts ≡ length os → all_changes (ts ++ us) (os ++ ps) ≡ all_changes ts os ++ all_changes us ps
+changes_parts [] us [] ps same = refl
+changes_parts [] us (o ∷ os) ps same = absurd (omega (arith, same))
+changes_parts (t ∷ ts) us [] ps same = absurd (omega (arith, same))
+changes_parts (t ∷ ts) us (o ∷ os) ps same = ap (λ rest. answer o t (stepped t o) ∷ rest) (changes_parts ts us os ps (omega (arith, same)))
 
 -- tablets that are all stepped are old or stepped
 all_old_or_stepped : (ts : List TabletStateValue) (os : List TabletOp) → AreJoinsIn ts os → AreOldOrStepped ts os (all_stepped ts os)
@@ -90,21 +93,21 @@ high_old (t ∷ ts) us (n ∷ now) more same old = inr (high_old ts us now more 
 never : {A : Type 0} → false ≡ true → A
 never is = cc
 
--- where the whole ends well, so do both halves
+-- where the whole ends well, so do both parts
 on_both : {A B C E : Type 0} {P Q R : Type 0} (r : Result A E) (low : Result B E) (high : Result C E) → (IsOk r → IsOk low × IsOk high) → (P → Q → R) → OnOk low P → OnOk high Q → OnOk r R
 on_both (Err e) low high both f p q = tt
 on_both (Ok x) (Err e) high both f p q = never ((both refl).0)
 on_both (Ok x) (Ok y) (Err e) both f p q = never ((both refl).1)
 on_both (Ok x) (Ok y) (Ok z) both f p q = f p q
 
--- one half ended with an error
+-- one part ended with an error
 of_either : {B C E : Type 0} {P Q R : Type 0} (low : Result B E) (high : Result C E) → IsErr low ⊎ IsErr high → (P → R) → (Q → R) → OnErr low P → OnErr high Q → R
 of_either (Ok y) high (inl is) f g p q = never is
 of_either (Err e) high (inl is) f g p q = f p
 of_either low (Ok z) (inr is) f g p q = never is
 of_either low (Err e) (inr is) f g p q = g q
 
--- where the whole ends with an error, so does a half
+-- where the whole ends with an error, so does a part
 on_either : {A B C E : Type 0} {P Q R : Type 0} (r : Result A E) (low : Result B E) (high : Result C E) → (IsErr r → IsErr low ⊎ IsErr high) → (P → R) → (Q → R) → OnErr low P → OnErr high Q → OnErr r R
 on_either (Ok x) low high either f g p q = tt
 on_either (Err e) low high either f g p q = of_either low high (either refl) f g p q
@@ -115,14 +118,8 @@ Lists = Vec (Vec Change Global) Global
 abbrev lists_of : List (Vec Change Global) → List (List Change)
 lists_of lists = map (λ list. list.items) lists
 
-changes_count : (ts : List TabletStateValue) (os : List TabletOp) → AreJoinsIn ts os → length (all_changes ts os) ≡ length os
-changes_count [] [] fit = refl
-changes_count [] (o ∷ os) fit = absurd fit
-changes_count (t ∷ ts) [] fit = absurd fit
-changes_count (t ∷ ts) (o ∷ os) fit = ap suc (changes_count ts os fit.1)
-
 list_count : (lists : List (Vec Change Global)) (ts : List TabletStateValue) (os : List TabletOp) → AreJoinsIn ts os → lists_of lists ≡ all_changes ts os → length lists ≡ length os
-list_count lists ts os fit is = sym (length-map lists (λ (list : Vec Change Global). list.items)) ∙ ap length is ∙ changes_count ts os fit
+list_count lists ts os fit is = sym (length-map lists (λ (list : Vec Change Global). list.items)) ∙ ap length is ∙ length-changes ts os fit
 
 fits_room : {E : Type 0} (low high : Result Lists E) (ts us : List TabletStateValue) (os ps : List TabletOp) (room : ℕ) → AreJoinsIn ts os → AreJoinsIn us ps → length os + length ps ≤ room
     → IfOk low (λ lists. lists_of lists.items ≡ all_changes ts os) → IfOk high (λ lists. lists_of lists.items ≡ all_changes us ps)
@@ -141,66 +138,76 @@ both_changes (Ok x) (Ok y) (Ok z) want left right both all is p q =
     ap lists_of all ∙ map-append (λ (list : Vec Change Global). list.items) y.items z.items ∙ (λ i. p i ++ q i) ∙ sym is
 
 -- slots cut in two, with their operations
-module _ {S : Type 0} (tablet : S → TabletStateValue) (slots low high : List S) (operations first second : List TabletOp) (cut : slots ≡ low ++ high) (given : operations ≡ first ++ second)
-    (same : length low ≡ length first) (fit : AreJoinsIn (map tablet slots) operations) where
+module _ {S : Type 0} (tablet : S → TabletStateValue) (slots low high : List S) (operations first second : List TabletOp) (span : Span) (cut : slots ≡ low ++ high) (given : operations ≡ first ++ second)
+    (same : length low ≡ length first) (task : IsTask (map tablet slots) operations span) where
   whole : map tablet slots ≡ map tablet low ++ map tablet high
   whole = ap (map tablet) cut ∙ map-append tablet low high
 
   count : length (map tablet low) ≡ length first
   count = length-map low tablet ∙ same
 
-  fit_halves : AreJoinsIn (map tablet low ++ map tablet high) (first ++ second)
-  fit_halves = subst (λ ts. AreJoinsIn ts (first ++ second)) whole (subst (AreJoinsIn (map tablet slots)) given fit)
+  counts : length operations ≡ length first + length second
+  counts = ap length given ∙ length-append first second
 
-  pub low_joins : AreJoinsIn (map tablet low) first
-  low_joins = joins_low (map tablet low) (map tablet high) first second count fit_halves
+  fit_parts : AreJoinsIn (map tablet low ++ map tablet high) (first ++ second)
+  fit_parts = subst (λ ts. AreJoinsIn ts (first ++ second)) whole (subst (AreJoinsIn (map tablet slots)) given task.joins)
 
-  pub high_joins : AreJoinsIn (map tablet high) second
-  high_joins = joins_high (map tablet low) (map tablet high) first second count fit_halves
+  low_joins : AreJoinsIn (map tablet low) first
+  low_joins = joins_low (map tablet low) (map tablet high) first second count fit_parts
 
-  pub whole_room : {E : Type 0} (ra rb : Result Lists E) (room : ℕ) → length operations ≤ room → IfOk ra (λ lists. map (λ list. list.items) lists.items ≡ all_changes (map tablet low) first)
+  high_joins : AreJoinsIn (map tablet high) second
+  high_joins = joins_high (map tablet low) (map tablet high) first second count fit_parts
+
+  -- what each part's workers are given
+  pub low_task : (front : Span) → front.first ≡ span.first → front.workers ≤ length first → IsTask (map tablet low) first front
+  low_task front begins enough = record {
+    joins = low_joins;
+    positions = positions_low first second (subst HavePositions given task.positions);
+    spanned = record { enough = enough; numbers = omega (arith, begins, counts, task.spanned.numbers) };
+  }
+
+  pub high_task : (back : Span) → back.first ≡ span.first + length first → back.workers ≤ length second → IsTask (map tablet high) second back
+  high_task back begins enough = record {
+    joins = high_joins;
+    positions = positions_high first second (subst HavePositions given task.positions);
+    spanned = record { enough = enough; numbers = omega (arith, begins, counts, task.spanned.numbers) };
+  }
+
+  pub whole_room : (ra rb : Result Lists NoMemory) (room : ℕ) → length operations ≤ room → IfOk ra (λ lists. map (λ list. list.items) lists.items ≡ all_changes (map tablet low) first)
       → IfOk rb (λ lists. map (λ list. list.items) lists.items ≡ all_changes (map tablet high) second) → IfOk ra (λ a. IfOk rb (λ b. length a.items + length b.items ≤ room))
-  whole_room ra rb room within p q =
-      fits_room ra rb (map tablet low) (map tablet high) first second room low_joins high_joins (omega (arith, within, ap length given, length-append first second)) p q
+  whole_room ra rb room within p q = fits_room ra rb (map tablet low) (map tablet high) first second room low_joins high_joins (omega (arith, within, counts)) p q
 
-  module _ {E : Type 0} (now low_now high_now : List S) (r ra rb : Result Lists E) (rejoined : now ≡ low_now ++ high_now) where
+  module _ (now low_now high_now : List S) (r ra rb : Result Lists NoMemory) (rejoined : now ≡ low_now ++ high_now)
+      (below : Applied (map tablet low) first ra (map tablet low_now)) (above : Applied (map tablet high) second rb (map tablet high_now)) where
     whole_now : map tablet now ≡ map tablet low_now ++ map tablet high_now
     whole_now = ap (map tablet) rejoined ∙ map-append tablet low_now high_now
 
-    pub whole_ok : (IsOk r → IsOk ra × IsOk rb) → OnOk ra (map tablet low_now ≡ all_stepped (map tablet low) first) → OnOk rb (map tablet high_now ≡ all_stepped (map tablet high) second)
-        → OnOk r (map tablet now ≡ all_stepped (map tablet slots) operations)
-    whole_ok both p q =
-        on_both r ra rb both
-        (λ a b. whole_now ∙ (λ i. a i ++ b i) ∙ sym (stepped_halves (map tablet low) (map tablet high) first second count) ∙ (λ i. all_stepped (sym whole i) (sym given i))) p q
+    low_are : AreOldOrStepped (map tablet low) first (map tablet low_now)
+    low_are = either_way ra (map tablet low) first (map tablet low_now) low_joins below.ok below.err
 
-    pub whole_changes : (IsOk r → IsOk ra × IsOk rb) → IfOk r (λ all. IfOk ra (λ a. IfOk rb (λ b. all.items ≡ a.items ++ b.items)))
-        → IfOk ra (λ lists. map (λ list. list.items) lists.items ≡ all_changes (map tablet low) first) → IfOk rb (λ lists. map (λ list. list.items) lists.items ≡ all_changes (map tablet high) second)
-        → IfOk r (λ lists. map (λ list. list.items) lists.items ≡ all_changes (map tablet slots) operations)
-    whole_changes both all p q =
-        both_changes r ra rb (all_changes (map tablet slots) operations) (all_changes (map tablet low) first) (all_changes (map tablet high) second) both all
-        ((λ i. all_changes (whole i) (given i)) ∙ changes_halves (map tablet low) (map tablet high) first second count) p q
+    high_are : AreOldOrStepped (map tablet high) second (map tablet high_now)
+    high_are = either_way rb (map tablet high) second (map tablet high_now) high_joins above.ok above.err
 
-    module _ (low_ok : OnOk ra (map tablet low_now ≡ all_stepped (map tablet low) first)) (low_err : OnErr ra (AreOldOrStepped (map tablet low) first (map tablet low_now)))
-        (high_ok : OnOk rb (map tablet high_now ≡ all_stepped (map tablet high) second)) (high_err : OnErr rb (AreOldOrStepped (map tablet high) second (map tablet high_now))) where
-      low_are : AreOldOrStepped (map tablet low) first (map tablet low_now)
-      low_are = either_way ra (map tablet low) first (map tablet low_now) low_joins low_ok low_err
+    whole_are : AreOldOrStepped (map tablet slots) operations (map tablet now)
+    whole_are =
+        subst (λ ts. AreOldOrStepped ts operations (map tablet now)) (sym whole)
+        (subst (λ os. AreOldOrStepped (map tablet low ++ map tablet high) os (map tablet now)) (sym given)
+        (subst (AreOldOrStepped (map tablet low ++ map tablet high) (first ++ second)) (sym whole_now)
+        (joined_old_or_stepped (map tablet low) (map tablet high) first second (map tablet low_now) (map tablet high_now) low_are high_are)))
 
-      high_are : AreOldOrStepped (map tablet high) second (map tablet high_now)
-      high_are = either_way rb (map tablet high) second (map tablet high_now) high_joins high_ok high_err
+    some_old : IsSomeOld (map tablet low ++ map tablet high) (map tablet low_now ++ map tablet high_now) → IsSomeOld (map tablet slots) (map tablet now)
+    some_old old = subst (λ ts. IsSomeOld ts (map tablet now)) (sym whole) (subst (IsSomeOld (map tablet low ++ map tablet high)) (sym whole_now) old)
 
-      pub whole_err : OnErr r (AreOldOrStepped (map tablet slots) operations (map tablet now))
-      whole_err =
-          on_err r
-          (subst (λ ts. AreOldOrStepped ts operations (map tablet now)) (sym whole)
-          (subst (λ os. AreOldOrStepped (map tablet low ++ map tablet high) os (map tablet now)) (sym given)
-          (subst (AreOldOrStepped (map tablet low ++ map tablet high) (first ++ second)) (sym whole_now)
-          (joined_old_or_stepped (map tablet low) (map tablet high) first second (map tablet low_now) (map tablet high_now) low_are high_are))))
-
-      pub whole_left : (IsErr r → IsErr ra ⊎ IsErr rb) → OnErr ra (IsSomeOld (map tablet low) (map tablet low_now)) → OnErr rb (IsSomeOld (map tablet high) (map tablet high_now))
-          → OnErr r (IsSomeOld (map tablet slots) (map tablet now))
-      whole_left which p q =
-          let back : IsSomeOld (map tablet low ++ map tablet high) (map tablet low_now ++ map tablet high_now) → IsSomeOld (map tablet slots) (map tablet now) =
-          λ old. subst (λ ts. IsSomeOld ts (map tablet now)) (sym whole) (subst (IsSomeOld (map tablet low ++ map tablet high)) (sym whole_now) old) in
-          on_either r ra rb which
-          (λ old. back (low_old (map tablet low) (map tablet high) (map tablet low_now) (map tablet high_now) old))
-          (λ old. back (high_old (map tablet low) (map tablet high) (map tablet low_now) (map tablet high_now) (same_count (map tablet low) first (map tablet low_now) low_are) old)) p q
+    -- the whole is applied where both parts are
+    pub whole_applied : (IsOk r → IsOk ra × IsOk rb) → (IsErr r → IsErr ra ⊎ IsErr rb) → IfOk r (λ all. IfOk ra (λ a. IfOk rb (λ b. all.items ≡ a.items ++ b.items)))
+        → Applied (map tablet slots) operations r (map tablet now)
+    whole_applied both either all = record {
+      ok = on_both r ra rb both
+          (λ a b. whole_now ∙ (λ i. a i ++ b i) ∙ sym (stepped_parts (map tablet low) (map tablet high) first second count) ∙ (λ i. all_stepped (sym whole i) (sym given i))) below.ok above.ok;
+      changes = both_changes r ra rb (all_changes (map tablet slots) operations) (all_changes (map tablet low) first) (all_changes (map tablet high) second) both all
+          ((λ i. all_changes (whole i) (given i)) ∙ changes_parts (map tablet low) (map tablet high) first second count) below.changes above.changes;
+      err = on_err r whole_are;
+      left = on_either r ra rb either
+          (λ old. some_old (low_old (map tablet low) (map tablet high) (map tablet low_now) (map tablet high_now) old))
+          (λ old. some_old (high_old (map tablet low) (map tablet high) (map tablet low_now) (map tablet high_now) (same_count (map tablet low) first (map tablet low_now) low_are) old)) below.left above.left;
+    }
