@@ -44,10 +44,11 @@ pub known_of : (ps : List PublishedTabletValue) (n : ℕ) (p : PublishedTabletVa
 known_of ps n p P within at known = subst (λ (found : Option PublishedTabletValue). IsSomeAnd found P) (sym (slice_get_read ps (length ps) n p refl within at)) known
 
 -- no tablet has the copy's range
-pub none_for : {seen copy : TabletCopyValue} (live : LiveRegionValue) → seen ≡ copy → None ≡ position (λ (p : PublishedTabletValue). same_range p.range seen.range) live.tablets
+pub none_for : {seen : TabletCopyValue} (live : LiveRegionValue) (copy : TabletCopyValue) → seen ≡ copy → None ≡ position (λ (p : PublishedTabletValue). same_range p.range seen.range) live.tablets
     → region.adopting (core live) copy ≡ Err region_fault.WrongRange
-none_for live copied none =
-    ap (adopting_by (core live) _) (found_tablet live.tablets _ ∙ sym (none ∙ ap (λ (x : TabletCopyValue). position (λ (p : PublishedTabletValue). same_range p.range x.range) live.tablets) copied))
+none_for live copy copied none =
+    ap (adopting_by (core live) copy)
+    (found_tablet live.tablets copy.range ∙ sym (none ∙ ap (λ (x : TabletCopyValue). position (λ (p : PublishedTabletValue). same_range p.range x.range) live.tablets) copied))
 
 refused_by : (r : RegionValue) (copy : TabletCopyValue) (n : ℕ) (short : Option Short) (fault : AdoptFault) → Some fault ≡ option_map too_old short → Refuses is_memory fault (adopting_unless r copy n short)
 refused_by r copy n None fault is = absurd (cc is)

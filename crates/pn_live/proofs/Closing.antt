@@ -21,12 +21,12 @@ pub known_none : (tablets : List PublishedTabletValue) (ws : List TabletReaderVa
 known_none tablets ws none of = subst (AllKnowPublished tablets) (sym none) (none_known tablets (subst (AreOfTablets tablets) none of))
 
 -- readers of the same tablets and ranges are of these tablets
-pub of_tablets : (tablets : List PublishedTabletValue) (tablet_readers : List TabletReaderValue) → map (λ (w : TabletReaderValue). w.book) tablet_readers ≡ map (λ (p : PublishedTabletValue). p.book) tablets
-    → map (λ (w : TabletReaderValue). w.range) tablet_readers ≡ map (λ (p : PublishedTabletValue). p.range) tablets → AreOfTablets tablets tablet_readers
+pub of_tablets : (tablets : List PublishedTabletValue) (readers : List TabletReaderValue) → map (λ (w : TabletReaderValue). w.book) readers ≡ map (λ (p : PublishedTabletValue). p.book) tablets
+    → map (λ (w : TabletReaderValue). w.range) readers ≡ map (λ (p : PublishedTabletValue). p.range) tablets → AreOfTablets tablets readers
 of_tablets [] [] books ranges = tt
-of_tablets [] (w ∷ tablet_readers) books ranges = absurd (cc books)
+of_tablets [] (w ∷ readers) books ranges = absurd (cc books)
 of_tablets (p ∷ tablets) [] books ranges = absurd (cc books)
-of_tablets (p ∷ tablets) (w ∷ tablet_readers) books ranges = (record { book = cc books; range = cc ranges }, of_tablets tablets tablet_readers (cc books) (cc ranges))
+of_tablets (p ∷ tablets) (w ∷ readers) books ranges = (record { book = cc books; range = cc ranges }, of_tablets tablets readers (cc books) (cc ranges))
 
 pub parts_of_tablets : (marks : Positions) (rs : List Ends) (ts : List TabletStateValue) → AreTabletsOf marks rs ts → ArePartsOf marks rs ts
 parts_of_tablets marks [] [] are = tt

@@ -218,12 +218,12 @@ module _ (broker : BrokerRecord) where
       joined_cover t (table_of (images_in range images)) marks (lie_in t.range (table_of (images_in range images)))
       (subst (λ (r : Ends). lie_in r (table_of (images_in range images)) ≡ true) (sym ranged) (cells_inside range images))
 
-  pub not_missed_across : (tablet : PublishedTabletValue) (old marks : Positions) (deliveries : List DeliveryValue) (tablet_reader learnt later last : TabletReaderValue) (now : TabletStateValue)
+  pub not_missed_across : (tablet : PublishedTabletValue) (old marks : Positions) (deliveries : List DeliveryValue) (reader learnt later last : TabletReaderValue) (now : TabletStateValue)
       → AreHonest broker deliveries → new_marks old deliveries ≡ Ok marks
-      → tablet_reader.range ≡ tablet.range → Learns tablet_reader (note_of (appended tablet (join_in marks (all_images deliveries) tablet.range))) learnt
+      → reader.range ≡ tablet.range → Learns reader (note_of (appended tablet (join_in marks (all_images deliveries) tablet.range))) learnt
       → KnowsMore learnt later → Finds later now last → IsHonestList broker last.range last.seen → now.status ≡ Serving
       → (image : Image) → Contains (all_images deliveries) image → IsTrue (in_range tablet.range image.key) → HasImage image (find bytes_cmp image.key now.cells)
-  not_missed_across tablet old marks deliveries tablet_reader learnt later last now brings accepted ranged learns more found honest serves image there lies =
+  not_missed_across tablet old marks deliveries reader learnt later last now brings accepted ranged learns more found honest serves image there lies =
       let op = join_in marks (all_images deliveries) tablet.range in
       let told = tablet.list ++ op ∷ [] in
       let begins : IsPrefix told last.seen = begins_on told later.told last.seen (begins_on told learnt.told later.told learns.note more.told) found.told in

@@ -66,9 +66,9 @@ opened_new (r ∷ rs) (p ∷ ps) new = ((new.0.1, new.0.1), opened_new rs ps new
 -- a reader of new tablets is new
 pub new_reader : (live : LiveRegionValue) (reader : LiveReaderValue) → AreNewTablets (ranges live.layout) live.tablets → reader.layout ≡ live.layout → reader.tablet_readers ≡ map opening live.tablets
     → IsNewReader (tablets_in live) reader
-new_reader live reader new layout tablet_readers = (
-  (λ i. record { layout = layout i; books = (ap (map (λ (w : TabletReaderValue). w.book)) tablet_readers ∙ opened_books live.tablets) i }),
-  subst (λ (ws : List TabletReaderValue). AllByRecursion (λ (w : TabletReaderValue). (w.seen ≡ []) × (w.told ≡ [])) ws) (sym tablet_readers) (opened_new (ranges live.layout) live.tablets new),
+new_reader live reader new layout is = (
+  (λ i. record { layout = layout i; books = (ap (map (λ (w : TabletReaderValue). w.book)) is ∙ opened_books live.tablets) i }),
+  subst (λ (ws : List TabletReaderValue). AllByRecursion (λ (w : TabletReaderValue). (w.seen ≡ []) × (w.told ≡ [])) ws) (sym is) (opened_new (ranges live.layout) live.tablets new),
 )
 
 pub new_readers : (live : LiveRegionValue) (bounds : Bounds) (tablets : List PublishedTabletValue) (readers : List LiveReaderValue) → AreNewTablets (ranges live.layout) live.tablets → live.layout ≡ bounds → live.tablets ≡ tablets

@@ -98,11 +98,11 @@ joined_there range before more images marks kept image there lies =
     only_one image one (zero, within, is) = is
     only_one image one (suc n, within, is) = absurd (omega (arith, within))
 
-pub not_missed : (tablet : PublishedTabletValue) (marks : Positions) (images : List Image) (tablet_reader learnt later last : TabletReaderValue) (now : TabletStateValue)
-    → tablet_reader.range ≡ tablet.range → Learns tablet_reader (note_of (appended tablet (join_in marks images tablet.range))) learnt
+pub not_missed : (tablet : PublishedTabletValue) (marks : Positions) (images : List Image) (reader learnt later last : TabletReaderValue) (now : TabletStateValue)
+    → reader.range ≡ tablet.range → Learns reader (note_of (appended tablet (join_in marks images tablet.range))) learnt
     → KnowsMore learnt later → Finds later now last → HasNoLossAfter (length tablet.list + 1) last
     → (image : Image) → Contains images image → IsTrue (in_range tablet.range image.key) → HasImage image (find bytes_cmp image.key now.cells)
-not_missed tablet marks images tablet_reader learnt later last now ranged learns more found kept image there lies =
+not_missed tablet marks images reader learnt later last now ranged learns more found kept image there lies =
     let op = join_in marks images tablet.range in
     let told = tablet.list ++ op ∷ [] in
     let begins : IsPrefix told last.seen = begins_on told later.told last.seen (begins_on told learnt.told later.told learns.note more.told) found.told in

@@ -25,7 +25,7 @@ notes_books (p ∷ tablets) = ap (λ (rest : List Book). p.book ∷ rest) (notes
 pub record Takes (old now : LiveRegionValue) (deliveries : List DeliveryValue) (told : List Change) : Type 0 where
   pub ok : round (core old) deliveries ≡ Ok (core now)
   pub published : now.tablets ≡ publishing old deliveries now.marks
-  pub changes : told ≡ changes (all_cells (core old)) (all_cells (core now))
+  pub tells : told ≡ changes (all_cells (core old)) (all_cells (core now))
   pub fits : AreNotesOf (tablets_in old) (notes_of now.tablets)
   pub same : tablets_in now ≡ tablets_in old
 
@@ -51,7 +51,7 @@ module _ (old now : LiveRegionValue) (deliveries : List DeliveryValue) (is : IsR
   takes accepted told are = record {
     ok = round_ok (core old) deliveries is now.marks (map state_at now.tablets) accepted stepped ∙ ap Ok (sym core_now);
     published = all ∙ ap (all_appended old.tablets) found;
-    changes =
+    tells =
         told_changes (core old) deliveries is now.marks (map state_at now.tablets) told stepped
         (are ∙ ap (λ (os : List TabletOp). flat_map (λ (list : List Change). list) (all_changes (map state_at old.tablets) os)) found)
         ∙ ap (λ (r : RegionValue). changes (all_cells (core old)) (all_cells r)) (sym core_now);

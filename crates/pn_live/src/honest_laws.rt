@@ -38,8 +38,8 @@ pub fn honest_calls_keep_lists_honest()
         → IsCopy copy.range copy.marks copy.cells → IsHonestCopy broker copy → Adopts copy old new → AreHonestTablets broker new.tablets }
 {}
 
-/// Of an honest tablet that serves at both, a reader's second answer shows no record older than its first did, nor with
-/// fewer contents of the same version, whatever losses lie between.
+/// Of an honest tablet that serves at both, a reader's second answer shows no older record than its first, nor fewer
+/// contents of a version, whatever losses lie between.
 pub fn answers_never_go_back_across_losses()
     ensures { (broker : BrokerRecord) (first seen later last : TabletReaderValue) (was now : TabletStateValue) → Finds first was seen → KnowsMore seen later → Finds later now last
         → IsHonestList broker last.range last.seen → was.status ≡ Serving → now.status ≡ Serving

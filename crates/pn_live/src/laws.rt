@@ -44,8 +44,8 @@ pub fn nothing_is_forgotten()
     ensures on { (first then last : List TabletReaderValue) → AllKnowMore first then → AllKnowMore then last → AllKnowMore first last }
 {}
 
-/// Without a loss between them, a reader's second answer shows no record older than its first did, nor with fewer
-/// contents of the same version.
+/// Without a loss between them, a reader's second answer shows no older record than its first, nor fewer contents of a
+/// version.
 pub fn answers_never_go_back()
     ensures { (first seen later last : TabletReaderValue) (was now : TabletStateValue) → Finds first was seen → KnowsMore seen later → Finds later now last
         → HasNoLossAfter (length seen.seen) last

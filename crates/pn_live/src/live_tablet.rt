@@ -29,14 +29,15 @@ use std::alloc::Global;
 use std::snapshot::Snapshot;
 use std::sync::Wait;
 
-/// A live tablet: the pair of states that readers read from, and the book of the attempts to publish. `settled`
-/// was taken when the last publication had ended, `latest` is the last attempt's. The pair's spare state lacks
-/// the join `lacks`; without one it is of no use.
+/// A live tablet: the pair of states that readers read from, and the book of the attempts to publish.
 pub struct LiveTablet {
     pub writer: PairWriter,
     counter: AttemptCounter<TabletOp>,
+    // The position of the last attempt.
     latest: PublishPosition<TabletOp>,
+    // The position when the last publication had ended.
     pub settled: PublishPosition<TabletOp>,
+    // The join that the pair's spare state lacks. Without one that state is of no use.
     lacks: Option<TabletOp>,
     ghost counter_is: { counter ≡ counter_of latest.seen.book },
     ghost books: { (settled.seen.book ≡ latest.seen.book) × (writer.desk.shown.value.position.seen.book ≡ latest.seen.book) },
@@ -70,7 +71,7 @@ fn show<R: Wait>(rt: &R, writer: &mut PairWriter, next: PublishedState)
 impl LiveTablet {
     ghost use Rattle.pn_live.specs.Published.{published, state_in, seen_by, told_to, IsReaderOf};
 
-    /// Opens an empty tablet of the range, with room for `readers` readers. It waits for nobody: no reader is
+    /// Opens an empty tablet of the range, with room for `readers` readers. It does not wait, since no reader is
     /// there yet.
     pub fn open<R: Wait>(
         rt: &R,

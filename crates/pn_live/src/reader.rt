@@ -75,8 +75,8 @@ impl LiveReader {
         learn_all(self.tablet_readers.as_mut_slice(), front.into_notes());
     }
 
-    /// The cell of a key, or none where there is no record, in the state of its tablet that one entry finds. A version
-    /// asks for the record in that version or a later one.
+    /// The cell of a key, or none, in the state of its tablet that one entry finds. A version asks for that version or a
+    /// later one.
     ///
     /// `NoEntry`: the entry is refused. Else `Recovering`: the tablet is recovering. Else `Behind`: the record is
     /// absent or older than the version. `Memory` comes after the first two.

@@ -18,8 +18,8 @@ use pn_tablet::Layout;
 use std::alloc::Global;
 use std::marker::Model;
 
-/// The live tablets of a layout, how far streams were taken into all of them, and a log of what changed. One
-/// thread changes it while its readers read. It is not `Drop`: end it by `close`.
+/// The live tablets of a layout, how far streams were taken into all of them, and a log of what changed. It is not
+/// `Drop`: end it by `close`.
 pub struct LiveRegion {
     layout: Layout,
     tablets: Vec<PublishedTablet>,

@@ -12,8 +12,8 @@ use pn_record::{Cell, Key};
 use pn_scan::{Page, Query, ScanFault, get, page};
 
 impl LiveReader {
-    /// The cells of keys, in the order of the keys, repeats included; none where there is no record. Each key is read by
-    /// an entry of its own, in that order.
+    /// The cells of keys in order, repeats included; none where there is no record. Each key is read by an entry of its
+    /// own, in that order.
     ///
     /// `NoEntry`: an entry is refused. `Recovering`: a key's tablet is recovering. The first key with either ends the
     /// call. `Memory` may come before.
@@ -25,8 +25,8 @@ impl LiveReader {
         get(alloc, self, keys)
     }
 
-    /// The first rows that a query shows, at most as many as its limit, and the query for the rows after them, exactly
-    /// where there are more. Tablets that may have rows are entered once each, in rising number, until the page is full.
+    /// The first rows that a query shows, up to its limit, and the query for the rest, if any. Tablets that may have rows
+    /// are entered in order, once each.
     ///
     /// `NoEntry`: an entry is refused. `Recovering`: a tablet is recovering. The first tablet with either ends the
     /// call. `Memory` may come before.

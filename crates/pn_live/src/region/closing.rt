@@ -18,8 +18,8 @@ use std::alloc::Global;
 use std::sync::Wait;
 
 impl LiveRegion {
-    /// Ends the live region, given its readers back: answers the region of all that was published, with its marks
-    /// and its log. All that a reader saw or learnt was published. It waits for readers that are reading.
+    /// Ends the live region, given its readers back: answers the region of all that was published. No reader saw or
+    /// learnt more. It waits for readers that are reading.
     ///
     /// After an error the region is gone.
     pub fn close<R: Wait>(self, rt: &R, readers: Vec<LiveReader>) -> Result<Region, NoMemory>

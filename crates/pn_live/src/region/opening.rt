@@ -21,8 +21,8 @@ use std::alloc::Global;
 use std::sync::Wait;
 
 impl LiveRegion {
-    /// Opens a live region of empty tablets that serve, with 1 to 16 readers. It waits for nobody: no reader is
-    /// there yet.
+    /// Opens a live region of empty tablets that serve, with 1 to 16 readers. It does not wait, since no
+    /// reader is there yet.
     ///
     /// `NoReader`: a tablet has no place for one of the readers.
     pub fn open<R: Wait>(

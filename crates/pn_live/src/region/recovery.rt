@@ -24,8 +24,8 @@ use pn_tablet::{Range, TabletCopy, TabletOp, TabletState};
 use std::sync::Wait;
 
 impl LiveRegion {
-    /// The records of a tablet, whose number is below the layout's count, are lost, as in a region's loss. Answers
-    /// the front afterwards. It waits for readers that still read the spare state.
+    /// A tablet, whose number is below the layout's count, loses its records, as in a region's loss. Answers the
+    /// front. It waits for readers of the state before last.
     ///
     /// An error changes nothing: nothing is published, and the log has no break.
     pub fn lose<R: Wait>(&mut self, rt: &R, tablet: usize) -> Result<Front, NoMemory>
@@ -41,8 +41,8 @@ impl LiveRegion {
         self.publish_one(rt, tablet, next, TabletOp::Lose)
     }
 
-    /// The tablet whose range is the copy's takes the copy, as in a region's adoption. Answers the front
-    /// afterwards. It waits for readers that still read the spare state.
+    /// The tablet whose range is the copy's takes the copy, as in a region's adoption. Answers the front.
+    /// It waits for readers of the state before last.
     ///
     /// `WrongRange` and `TooOld` come exactly where a region's adoption is refused so, and `Memory` only elsewhere.
     /// An error changes nothing: nothing is published, and the log has no break.

@@ -27,12 +27,11 @@ use std::sync::Wait;
 use std::thread::Threads;
 
 impl LiveRegion {
-    /// Takes deliveries, as a region's round does: workers make the next states, and then this thread publishes
-    /// them, in the order of the tablets. Answers the front afterwards. It waits for readers that still read the
-    /// spare states.
+    /// Takes deliveries as a region's round does: workers make the next states, this thread publishes them, tablet
+    /// by tablet. Answers the front. It waits for readers of states before last.
     ///
-    /// The faults, the marks and the log are those of a region's round. `Gap` and `TooManyStreams` change nothing.
-    /// After `Memory` the join of each tablet is published, or nothing of it.
+    /// Faults, marks and log are those of a region's round. `Gap` and `TooManyStreams` change nothing. After
+    /// `Memory` each tablet's join is published or not.
     pub fn round<R: Threads + Wait + Sync, G: Gate + Sync>(
         &mut self,
         rt: &R,
@@ -54,7 +53,8 @@ impl LiveRegion {
         ensures same { tablets_in self.new ≡ tablets_in self.old }
     {
         match self.take(rt, deliveries, workers, gate) {
-            Ok((lists, done, front)) => {
+            Ok(taken) => {
+                let (lists, done, front) = taken;
                 self.log.add(lists);
                 Ok((done, front))
             }

@@ -12,7 +12,7 @@ use Rattle.pn_live.proofs.Adopting.{none_for, too_old_for, next_for, adopts_it, 
 use Rattle.pn_live.proofs.region.LiveRegion.adopt.Goals as goal
 
 pub returns-in_default-clause-refused : goal.returns-in_default-clause-refused
-returns-in_default-clause-refused g c = none_for c.args.self.now c.copy.view_is c.in_default.ensures
+returns-in_default-clause-refused g c = none_for c.args.self.now c.args.copy c.copy.view_is c.in_default.ensures
 
 pub returns-in-Some-refusal-clause-refused : goal.returns-in-Some-refusal-clause-refused
 returns-in-Some-refusal-clause-refused g c =
