@@ -1,26 +1,26 @@
--- What announced lines come to, and the end of the input, by what the program did.
+-- Announced lines and the end of the input, by what the program did.
 use Rattle.std.proofs.Common.{◌≡◌, ◌≢◌, ℕ, ◌-◌, ◌<◌, ◌≤◌, Bool, true, false, if◌then◌else◌, List, [], ◌∷◌, Option, Some, nat_le, inl, inr, refl, sym, ap, ◌∙◌, subst, arith}
 use Rattle.std.specs.Prelude.{Ok, Err}
 use Rattle.std.proofs.lemmas.Bool.Decides.{nat_tests}
 use Rattle.pn_region.specs.Logged.{LoggedRegion}
-use Rattle.pn_serve.specs.declared.machine.announced.Announced.{Announced}
-use Rattle.pn_serve.specs.declared.machine.Begun.{Begun}
-use Rattle.pn_serve.specs.declared.machine.Begun.TheVariants.{Obeyed, Announces}
-use Rattle.pn_serve.specs.declared.reply.Reply.{Reply}
-use Rattle.pn_serve.specs.declared.reply.Reply.TheVariants.{Silent, Refused}
-use Rattle.pn_serve.specs.declared.refusal.Refusal.{Refusal}
-use Rattle.pn_serve.specs.declared.refusal.Refusal.TheVariants.{TooLong, NotJson, BadShape, ReadOnly, OutOfRange, Memory}
-use Rattle.pn_serve.specs.Command.Lines.{command_at, is_too_long}
-use Rattle.pn_serve.specs.Command.Meaning.{CommandValue, adopt, copy, deliver, get, lose, marks, notices, read, scan, tablets}
+use Rattle.pn_serve.specs.declared.machine.adoption.Announced.{Announced}
+use Rattle.pn_serve.specs.declared.machine.Handled.{Handled}
+use Rattle.pn_serve.specs.declared.machine.Handled.TheVariants.{Obeyed, Announces}
+use Rattle.pn_protocol.specs.declared.reply.Reply.{Reply}
+use Rattle.pn_protocol.specs.declared.reply.Reply.TheVariants.{Silent, Refused}
+use Rattle.pn_protocol.specs.declared.refusal.Refusal.{Refusal}
+use Rattle.pn_protocol.specs.declared.refusal.Refusal.TheVariants.{TooLong, NotJson, BadShape, ReadOnly, OutOfRange, Memory}
+use Rattle.pn_protocol.specs.Command.Lines.{command_at, is_too_long}
+use Rattle.pn_protocol.specs.Command.Meaning.{CommandValue, adopt, copy, deliver, get, lose, marks, notices, read, scan, tablets}
 use Rattle.pn_serve.specs.Machine.Announced.{unless_call, with_line}
-use Rattle.pn_serve.specs.Machine.Modes.{bytes_of, with_mode, IsBegun}
+use Rattle.pn_serve.specs.Machine.Modes.{bytes_of, with_mode, IsDone}
 use Rattle.pn_serve.specs.Machine.Outcomes.{Outcome, done, line, call, round, announced, Machine, Turn, waiting, refusing, silent}
 use Rattle.pn_serve.specs.Machine.Recovering.{adopting_text}
 use Rattle.pn_serve.specs.Machine.Turns.{obeying, turn_of, outcome_at, turn}
 use Rattle.pn_serve.specs.Machine.LastTurns.{obeying_last, last_of, end_turn}
 use Rattle.pn_serve.specs.Machine.Answers.{IsReadUnless, TurnedBy, AnswersBy, ConcludesBy, Obeys}
-use Rattle.pn_serve.specs.Machine.Ways.{ComesTo, IsJoined, IsAlone, BeginsTo, LastsBy}
-use Rattle.pn_serve.specs.Reply.Texts.{reply_text, is_refusal}
+use Rattle.pn_serve.specs.Machine.Ways.{ComesTo, IsJoined, IsAlone, HandlesTo, LastsBy}
+use Rattle.pn_protocol.specs.Reply.Texts.{reply_text, is_refusal}
 use Rattle.pn_serve.proofs.Turns.{read_whole, read_always, turned_read, turned_as, turned_always, turned_said, as_it_goes, as_said, within}
 
 -- memory ran out where a call did, or in the next one
@@ -61,10 +61,10 @@ adopted_by old new text reply (inr (same, is)) = record {
   refused = ap is_refusal (sym is);
 }
 
--- the same behind a line that may have run out of memory
-adopted_behind : (old new : LoggedRegion) (before text : Option (List ℕ)) (reply : Reply) (joined : (outcome : Outcome) × (text ≡ unless_call outcome before)) → ComesTo (adopting_text old text) old new reply
+-- a text is adopted after a line that may have run out of memory
+adopted_after : (old new : LoggedRegion) (before text : Option (List ℕ)) (reply : Reply) (joined : (outcome : Outcome) × (text ≡ unless_call outcome before)) → ComesTo (adopting_text old text) old new reply
     → TurnedBy ⊥ (λ outcome. adopting_text old (unless_call outcome before)) (waiting new) reply
-adopted_behind old new before text reply (outcome, is) comes =
+adopted_after old new before text reply (outcome, is) comes =
     let by = adopted_by old new text reply comes in
     turned_as ⊥ (λ next. adopting_text old (unless_call next text)) (λ next. adopting_text old (unless_call next before)) (waiting new) reply by (either_call outcome by.outcome) (either_read outcome by.outcome by.read)
     (ap (adopting_text old) (twice outcome by.outcome before ∙ ap (unless_call by.outcome) (sym is)))
@@ -85,7 +85,7 @@ module _ (old : LoggedRegion) (lines : Announced) (bytes : List ℕ) where
   pub came_last : (new : LoggedRegion) (text : Option (List ℕ)) (reply : Reply) → lines.left ≤ 1
       → IsJoined (bytes_of lines.text) bytes (10 ∷ []) text → ComesTo (adopting_text old text) old new reply → AnswersBy ⊥ (with_mode (Some lines) old) bytes (waiting new) reply
   came_last new text reply last joined comes =
-      let by = adopted_behind old new longer text reply joined comes in
+      let by = adopted_after old new longer text reply joined comes in
       turned_as ⊥ (λ outcome. adopting_text old (unless_call outcome longer)) (λ outcome. turn (with_mode (Some lines) old) outcome bytes) (waiting new) reply by by.outcome by.read
       (tested by.outcome true (grind (arith, nat_tests, last)))
 
@@ -102,10 +102,10 @@ module _ (old : LoggedRegion) (lines : Announced) (bytes : List ℕ) where
         refused = ap (λ (t : Turn). t.refused) same;
       }
 
--- the input ended behind a part of what was announced
+-- the input ended after a part of what was announced
 pub came_part : (old new : LoggedRegion) (lines : Announced) (bytes : List ℕ) (text : Option (List ℕ)) (reply : Reply) → IsJoined (bytes_of lines.text) bytes [] text
     → ComesTo (adopting_text old text) old new reply → ConcludesBy ⊥ (with_mode (Some lines) old) bytes (waiting new) reply
-came_part old new lines bytes text reply joined comes = adopted_behind old new (with_line (bytes_of lines.text) bytes []) text reply joined comes
+came_part old new lines bytes text reply joined comes = adopted_after old new (with_line (bytes_of lines.text) bytes []) text reply joined comes
 
 -- a line was announced, and so is not read as a command
 pub answered_on : (may : Type 0) (waits : Option Announced) (lines : Announced) (old : LoggedRegion) (bytes : List ℕ) (new : Machine) (reply : Reply) → waits ≡ Some lines
@@ -122,7 +122,7 @@ concluded_on may waits lines old part new reply is concludes =
 
 -- ---- the last command
 
--- of a command behind which no line is its own
+-- a command that announces no lines
 alone : (machine : Machine) (outcome : Outcome) (command : CommandValue) → IsAlone command → obeying_last machine outcome command ≡ obeying machine outcome command
 alone machine outcome (adopt lines) is = absurd is
 alone machine outcome (copy need tablet) is = refl
@@ -196,7 +196,7 @@ last_err may old bytes (BadShape part) is short out = last_fault may old bytes (
 last_err may old bytes ReadOnly is short out = last_fault may old bytes ReadOnly (is (λ same. cc))
 last_err may old bytes (OutOfRange part) is short out = last_fault may old bytes (OutOfRange part) (is (λ same. cc))
 
--- where the input ends behind a newline, nothing is left to do
+-- if the input ends after a newline, nothing is left to do
 pub concluded_nothing : (may : Type 0) (old : LoggedRegion) → ConcludesBy may (waiting old) [] (waiting old) Silent
 concluded_nothing may old = record { outcome = done; read = tt; machine_is = refl; replied = refl; refused = refl }
 
@@ -206,8 +206,8 @@ concluded_last may old new b bytes reply lasts = lasts
 
 -- ---- a command and the lines that it announces
 
-pub begun_said : (may : Type 0) (old new : LoggedRegion) (bytes : List ℕ) (command : CommandValue) (begun : Begun) (reply : Reply) (lines : Option Announced) → command_at bytes ≡ Ok command
-    → BeginsTo old command new begun → IsBegun begun reply lines → AnswersBy may (waiting old) bytes (with_mode lines new) reply
+pub begun_said : (may : Type 0) (old new : LoggedRegion) (bytes : List ℕ) (command : CommandValue) (begun : Handled) (reply : Reply) (lines : Option Announced) → command_at bytes ≡ Ok command
+    → HandlesTo old command new begun → IsDone begun reply lines → AnswersBy may (waiting old) bytes (with_mode lines new) reply
 begun_said may old new bytes command (Obeyed told) reply lines said (alone, obeys) (same, none) =
     subst (λ (l : Option Announced). AnswersBy may (waiting old) bytes (with_mode l new) reply) (sym none)
     (subst (λ (r : Reply). AnswersBy may (waiting old) bytes (waiting new) r) (sym same) (turned_said may bytes command old (waiting new) told said obeys))

@@ -20,16 +20,16 @@ use Rattle.pn_tablet.specs.declared.fault.OpFault.{OpFault as AdoptFault}
 use Rattle.pn_region.specs.declared.fault.RoundFault.{RoundFault}
 use Rattle.pn_region.proofs.EventSteps.{events_are}
 use Rattle.pn_json.specs.Lines.{line_of}
-use Rattle.pn_serve.specs.declared.refusal.Refusal.{Refusal}
-use Rattle.pn_serve.specs.Command.Meaning.{CommandValue, adopt, copy, deliver, get, lose, marks, notices, read, scan, tablets}
-use Rattle.pn_serve.specs.Command.Lines.{command_at}
+use Rattle.pn_protocol.specs.declared.refusal.Refusal.{Refusal}
+use Rattle.pn_protocol.specs.Command.Meaning.{CommandValue, adopt, copy, deliver, get, lose, marks, notices, read, scan, tablets}
+use Rattle.pn_protocol.specs.Command.Lines.{command_at}
 use Rattle.pn_serve.specs.Machine.Announced.{unless_call, with_line}
 use Rattle.pn_serve.specs.Machine.Doing.{delivering}
 use Rattle.pn_serve.specs.Machine.Outcomes.{Outcome, done, line, call, round, Mode, idle, announced, Machine, Turn, logged, silent}
 use Rattle.pn_serve.specs.Machine.PartRounds.{partly_marked}
 use Rattle.pn_serve.specs.Machine.Recovering.{at_tablet, showing_copy, copying, losing_it, adopted, adopting_read, adopting_text}
 use Rattle.pn_serve.specs.Machine.Turns.{turn_of, outcome_at, turn_in, turn}
-use Rattle.pn_serve.specs.Reply.Short.{lost_data}
+use Rattle.pn_protocol.specs.Reply.Short.{lost_data}
 use Rattle.pn_serve.specs.Script.Events.{unless_refused, some_tablet, half_happened, happened_by, happened_by_copy, happened_by_text, happened_in, happened_from}
 use Rattle.pn_serve.specs.Script.Written.{first_outcome, later_outcomes, machine_after}
 use Rattle.pn_serve.proofs.PartRounds.{partly_is, partly_none}

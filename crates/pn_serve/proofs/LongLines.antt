@@ -1,31 +1,21 @@
 -- Lines that are too long.
-use Rattle.std.proofs.Common.{◌≡◌, ℕ, ◌<◌, Bool, true, cond, if◌then◌else◌, List, [], ◌∷◌, ◌++◌, option_map, length, nat_lt, inl, inr, ap, sym, subst, ◌∙◌, arith}
-use Rattle.std.specs.Prelude.{Err}
+use Rattle.std.proofs.Common.{◌≡◌, ℕ, ◌<◌, Bool, true, if◌then◌else◌, List, [], ◌∷◌, ◌++◌, option_map, length, nat_lt, inl, inr, ap, sym, subst, ◌∙◌, arith}
 use Rattle.std.proofs.lemmas.Bool.{cases_lt}
 use Rattle.std.proofs.lemmas.List.{take-take}
-use Rattle.std.specs.Option.{ok_or}
 use Rattle.std.proofs.lemmas.Bool.Decides.{nat_tests}
 use Rattle.pn_line.specs.Line.{LineBufferValue, so_far, kept, max_kept}
 use Rattle.pn_line.proofs.LineLaws.{kept-short, length-kept_long}
-use Rattle.pn_json.specs.Answers.{◌>>=◌, fault_as}
-use Rattle.pn_record.specs.Reading.{value_at, reading}
-use Rattle.pn_record.specs.declared.fault.ImageFault.TheVariants as image
-use Rattle.pn_serve.specs.declared.refusal.Refusal.TheVariants.{TooLong}
-use Rattle.pn_serve.specs.declared.reply.Reply.{Reply}
-use Rattle.pn_serve.specs.Command.Lines.{is_too_long, command_at, refusal_of}
-use Rattle.pn_serve.specs.Command.Objects.{command_in}
+use Rattle.pn_protocol.specs.declared.refusal.Refusal.TheVariants.{TooLong}
+use Rattle.pn_protocol.specs.declared.reply.Reply.{Reply}
+use Rattle.pn_protocol.specs.Command.Lines.{is_too_long, command_at}
+use Rattle.pn_protocol.proofs.CommandLines.{too_long}
+use Rattle.pn_protocol.specs.declared.command.parse.Allowed.TheVariants.{All}
 use Rattle.pn_serve.specs.Machine.Announced.{unless_call, one_came}
 use Rattle.pn_serve.specs.Machine.Outcomes.{Outcome, done, Mode, idle, announced, Machine, logged, Turn, refusing}
 use Rattle.pn_serve.specs.Machine.Recovering.{adopting_text}
 use Rattle.pn_serve.specs.Machine.Turns.{turn_of, outcome_at, turn_in, turn}
 use Rattle.pn_serve.specs.Machine.LastTurns.{last_of, end_in, end_turn}
 use Rattle.pn_serve.specs.Machine.Answers.{TurnedBy, Answers, Concludes}
-
-pub too_long : (line : List ℕ) → 65536 < length line → command_at line ≡ Err TooLong
-unfolding command_at value_at
-too_long line long =
-    let test : nat_lt 65536 (length line) ≡ true = grind (arith, nat_tests) in
-    ap (λ b. fault_as refusal_of (cond b (Err image.TooLong) (ok_or (reading line) image.NotJson)) >>= command_in) test
 
 said-long : (outcome : Outcome) (text : List ℕ) → 65536 < length text → outcome_at outcome text ≡ done
 said-long outcome text long =
@@ -35,12 +25,12 @@ said-long outcome text long =
 -- a line that is too long is refused as such
 pub turn-long : (machine : Machine) (outcome : Outcome) (text : List ℕ) → 65536 < length text → turn_in idle machine outcome text ≡ refusing machine TooLong
 turn-long machine outcome text long =
-    ap (λ (o : Outcome). turn_of machine o (command_at text)) (said-long outcome text long) ∙ ap (turn_of machine done) (too_long text long)
+    ap (λ (o : Outcome). turn_of machine o (command_at text)) (said-long outcome text long) ∙ ap (turn_of machine done) (too_long All text long)
 
 end-long : (machine : Machine) (outcome : Outcome) (text : List ℕ) → 65536 < length text → end_in idle machine outcome text ≡ refusing machine TooLong
 end-long machine outcome [] long = absurd (omega (arith, long))
 end-long machine outcome (b ∷ text) long =
-    ap (λ (o : Outcome). last_of machine o (command_at (b ∷ text))) (said-long outcome (b ∷ text) long) ∙ ap (last_of machine done) (too_long (b ∷ text) long)
+    ap (λ (o : Outcome). last_of machine o (command_at (b ∷ text))) (said-long outcome (b ∷ text) long) ∙ ap (last_of machine done) (too_long All (b ∷ text) long)
 
 kept-kept : (line : List ℕ) → kept (kept line) ≡ kept line
 kept-kept line = take-take max_kept max_kept line (omega arith)

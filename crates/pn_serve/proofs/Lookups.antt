@@ -1,18 +1,12 @@
--- What lookups of a session are answered.
-use Rattle.std.proofs.Common.{◌≡◌, ◌≢◌, ◌⊎◌, ◌<◌, ℕ, zero, suc, Bool, true, false, cond, List, [], ◌∷◌, length, nat_lt, inl, inr, refl, sym, ap, ◌∙◌, subst, arith}
-use Rattle.std.specs.Prelude.{Option, Vec, Result, Ok, Err, IfOk, IsTrue, MatchResult, ◌↔◌}
-use Rattle.std.specs.Option.{ok_or}
-use Rattle.std.specs.declared.alloc.Global.{Global}
+-- Replies to lookups of a session.
+use Rattle.std.proofs.Common.{◌≡◌, ◌≢◌, ◌⊎◌, ◌<◌, ℕ, zero, suc, Bool, true, false, List, [], ◌∷◌, length, nat_lt, inl, inr, refl, sym, ap, ◌∙◌, subst, arith}
+use Rattle.std.specs.Prelude.{Option, Result, Ok, Err, IsTrue, ◌↔◌}
 use Rattle.std.proofs.lemmas.Bool.{cases_lt}
 use Rattle.std.proofs.lemmas.Bool.Decides.{nat_tests}
 use Rattle.serde_json.specs.Data.{Data}
-use Rattle.pn_json.specs.Answers.{◌>>=◌, fault_as}
-use Rattle.pn_json.specs.Lines.{line_of}
 use Rattle.pn_line.specs.Line.{LineBufferValue, so_far, kept}
 use Rattle.pn_line.proofs.LineLaws.{kept-short, length-kept_long}
-use Rattle.pn_record.specs.Reading.{value_at, reading}
 use Rattle.pn_record.specs.Sets.{CellValue}
-use Rattle.pn_record.specs.declared.fault.ImageFault.TheVariants as image
 use Rattle.pn_tablet.specs.Layouts.{Bounds}
 use Rattle.pn_scan.specs.Candidates.{Look}
 use Rattle.pn_scan.specs.Pages.{PageValue, first_page}
@@ -21,37 +15,44 @@ use Rattle.pn_scan.specs.Reads.{IsGet}
 use Rattle.pn_scan.specs.Visits.{IsScan}
 use Rattle.pn_scan.specs.declared.fault.ScanFault.{ScanFault}
 use Rattle.pn_live.specs.Readers.{LiveReaderValue, LooksLive}
-use Rattle.pn_serve.specs.declared.refusal.Refusal.{Refusal}
-use Rattle.pn_serve.specs.declared.refusal.Refusal.TheVariants.{TooLong, NotJson, BadShape, ReadOnly, OutOfRange, Memory}
-use Rattle.pn_serve.specs.declared.reply.Reply.{Reply}
-use Rattle.pn_serve.specs.declared.reply.Reply.TheVariants.{Text, Refused, Silent}
-use Rattle.pn_serve.specs.Command.Lines.{is_too_long, refusal_of}
-use Rattle.pn_serve.specs.Command.Meaning.{CommandValue}
-use Rattle.pn_serve.specs.Command.Sessions.{lookup_at, lookup_in}
+use Rattle.pn_protocol.specs.declared.refusal.Refusal.{Refusal}
+use Rattle.pn_protocol.specs.declared.refusal.Refusal.TheVariants.{TooLong, NotJson, BadShape, ReadOnly, OutOfRange, Memory}
+use Rattle.pn_protocol.specs.declared.reply.Reply.{Reply}
+use Rattle.pn_protocol.specs.declared.reply.Reply.TheVariants.{Adopted, Changed, Copied, Lost, Silent, Text, Refused, NotTaken}
+use Rattle.pn_protocol.proofs.CommandLines.{too_long}
+use Rattle.pn_protocol.specs.declared.command.parse.Allowed.TheVariants.{Lookups}
+use Rattle.pn_protocol.specs.Command.Lines.{is_too_long, lookup_at}
+use Rattle.pn_protocol.specs.Command.Meaning.{CommandValue}
+use Rattle.pn_protocol.specs.Reply.Answers.{ShowsFound}
 use Rattle.pn_serve.specs.Session.Lines.{Tells, LooksUp, AnswersLine, EndsLines, RefusesLine}
-use Rattle.pn_serve.specs.Session.Lookups.{Shows}
 
--- what was found is shown, or there was no memory for its text
-pub shows_found : {A E : Type 0} (show : A → Data) (found : A) (text : Result (Vec ℕ Global) E) (reply : Reply) → IfOk text (λ t. t.items ≡ line_of (show found))
-    → MatchResult text (λ t. reply ≡ Text t) (λ _. reply ≡ Refused Memory) → Shows show (Ok found) reply
-shows_found show found (Ok text) reply says shown = subst (λ (r : Reply). Shows show (Ok found) r) (sym shown) says
-shows_found show found (Err e) reply says shown = subst (λ (r : Reply). Shows show (Ok found) r) (sym shown) refl
+-- what was found, as it is shown
+abbrev pub seen_as : {A B : Type 0} → (A → B) → Result A ScanFault → Result B ScanFault
+seen_as see (Ok found) = Ok (see found)
+seen_as see (Err fault) = Err fault
 
--- the same get, by what its answer shows
-module _ {A : Type 0} (bounds : Bounds) (keys : List (List ℕ)) (old new : LiveReaderValue) (show : A → List (Option CellValue)) (seen : List Look) where
-  pub got_cells : (cells : A) → IsGet LooksLive bounds keys old new show (Ok cells) seen → IsGet LooksLive bounds keys old new (λ found. found) (Ok (show cells)) seen
-  got_cells cells is = record { looked = is.looked; found = is.found; order = is.order; only = is.only; answers = is.answers; whole = is.whole }
+pub shows_as : {A B : Type 0} (see : A → B) (show : B → Data) (found : Result A ScanFault) (reply : Reply) → ShowsFound (λ a. show (see a)) found reply → ShowsFound show (seen_as see found) reply
+shows_as see show (Ok found) (Text text) is = is
+shows_as see show (Ok found) (Adopted tablet) is = is
+shows_as see show (Ok found) (Changed count) is = is
+shows_as see show (Ok found) (Copied lines text) is = is
+shows_as see show (Ok found) (Lost tablet) is = is
+shows_as see show (Ok found) Silent is = is
+shows_as see show (Ok found) (Refused refusal) is = is
+shows_as see show (Ok found) (NotTaken text) is = is
+shows_as see show (Err fault) reply is = is
 
-  pub got_none : (fault : ScanFault) → IsGet LooksLive bounds keys old new show (Err fault) seen → IsGet LooksLive bounds keys old new (λ found. found) (Err fault) seen
-  got_none fault is = record { looked = is.looked; found = is.found; order = is.order; only = is.only; answers = is.answers; whole = is.whole }
+-- a get, by what its answer shows
+pub got_as : {A : Type 0} (bounds : Bounds) (keys : List (List ℕ)) (old new : LiveReaderValue) (show : A → List (Option CellValue)) (found : Result A ScanFault) (seen : List Look)
+    → IsGet LooksLive bounds keys old new show found seen → IsGet LooksLive bounds keys old new (λ cells. cells) (seen_as show found) seen
+got_as bounds keys old new show (Ok cells) seen is = record { looked = is.looked; found = is.found; order = is.order; only = is.only; answers = is.answers; whole = is.whole }
+got_as bounds keys old new show (Err fault) seen is = record { looked = is.looked; found = is.found; order = is.order; only = is.only; answers = is.answers; whole = is.whole }
 
--- and the same scan
-module _ {A : Type 0} (bounds : Bounds) (query : QueryValue) (old new : LiveReaderValue) (show : A → PageValue) (seen : List Look) where
-  pub scanned_page : (page : A) → IsScan LooksLive bounds query old new show (Ok page) (first_page query) seen → IsScan LooksLive bounds query old new (λ found. found) (Ok (show page)) (first_page query) seen
-  scanned_page page is = record { looked = is.looked; visit = is.visit; answers = is.answers; whole = is.whole }
-
-  pub scanned_none : (fault : ScanFault) → IsScan LooksLive bounds query old new show (Err fault) (first_page query) seen → IsScan LooksLive bounds query old new (λ found. found) (Err fault) (first_page query) seen
-  scanned_none fault is = record { looked = is.looked; visit = is.visit; answers = is.answers; whole = is.whole }
+-- a scan, by what its answer shows
+pub scanned_as : {A : Type 0} (bounds : Bounds) (query : QueryValue) (old new : LiveReaderValue) (show : A → PageValue) (found : Result A ScanFault) (seen : List Look)
+    → IsScan LooksLive bounds query old new show found (first_page query) seen → IsScan LooksLive bounds query old new (λ page. page) (seen_as show found) (first_page query) seen
+scanned_as bounds query old new show (Ok page) seen is = record { looked = is.looked; visit = is.visit; answers = is.answers; whole = is.whole }
+scanned_as bounds query old new show (Err fault) seen is = record { looked = is.looked; visit = is.visit; answers = is.answers; whole = is.whole }
 
 -- the line says this command
 pub answers_said : (old new : LiveReaderValue) (line : List ℕ) (command : CommandValue) (reply : Reply) → lookup_at line ≡ Ok command → LooksUp old command new reply → AnswersLine old line new reply
@@ -69,12 +70,6 @@ answers_err old line (BadShape part) is short = answers_fault old line (BadShape
 answers_err old line ReadOnly is short = answers_fault old line ReadOnly (is (λ same. cc))
 answers_err old line (OutOfRange part) is short = answers_fault old line (OutOfRange part) (is (λ same. cc))
 
-too_long : (line : List ℕ) → 65536 < length line → lookup_at line ≡ Err TooLong
-unfolding lookup_at value_at
-too_long line long =
-    let test : nat_lt 65536 (length line) ≡ true = grind (arith, nat_tests) in
-    ap (λ b. fault_as refusal_of (cond b (Err image.TooLong) (ok_or (reading line) image.NotJson)) >>= lookup_in) test
-
 -- a line says what its kept bytes say
 said_kept : (line : List ℕ) → (lookup_at (kept line) ≡ lookup_at line) × (is_too_long (kept line) ≡ is_too_long line)
 said_kept line = elim (cases_lt 65536 (length line)) [
@@ -83,7 +78,7 @@ said_kept line = elim (cases_lt 65536 (length line)) [
       let long_too : 65536 < length (kept line) = omega (arith, length-kept_long line long) in
       let here : is_too_long (kept line) ≡ true = grind (arith, nat_tests) in
       let there : is_too_long line ≡ true = grind (arith, nat_tests) in
-      (too_long (kept line) long_too ∙ sym (too_long line long), here ∙ sym there)
+      (too_long Lookups (kept line) long_too ∙ sym (too_long Lookups line long), here ∙ sym there)
       )
   | inr short ↦ (ap lookup_at (kept-short line short), ap is_too_long (kept-short line short))
 ]
@@ -98,7 +93,7 @@ pub answers_so_far : (old new : LiveReaderValue) (line : LineBufferValue) (text 
 answers_so_far old new line text reply is answered =
     answers_kept old new text reply (subst (λ (bytes : List ℕ). AnswersLine old bytes new reply) (ap (λ (l : LineBufferValue). l.bytes) is) answered)
 
--- the input is at its end behind a newline
+-- the input is at its end after a newline
 pub ends_none : (old : LiveReaderValue) (line : LineBufferValue) (part : List ℕ) → line ≡ so_far part → line.count ≡ 0 → EndsLines old part old Silent
 ends_none old line [] is none = (refl, refl)
 ends_none old line (b ∷ part) is none = absurd (omega (arith, none, ap (λ (l : LineBufferValue). l.count) is))
@@ -107,7 +102,7 @@ pub not_none : (b : Bool) (n : ℕ) → IsTrue b ↔ (n ≡ 0) → b ≡ false �
 not_none b zero both is = let no = both.1 refl in absurd (cc (no, is))
 not_none b (suc n) both is = omega arith
 
--- or behind a part of a line
+-- or after a part of a line
 pub ends_some : (old new : LiveReaderValue) (line : LineBufferValue) (part : List ℕ) (reply : Reply) → line ≡ so_far part → 0 < line.count → AnswersLine old line.bytes new reply → EndsLines old part new reply
 ends_some old new line [] reply is some answered = absurd (omega (arith, some, ap (λ (l : LineBufferValue). l.count) is))
 ends_some old new line (b ∷ part) reply is some answered = answers_so_far old new line (b ∷ part) reply is answered

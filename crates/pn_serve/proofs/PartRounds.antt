@@ -1,4 +1,4 @@
--- Rounds of which some tablets took their part.
+-- Rounds that some tablets took.
 use Rattle.std.proofs.Common.{◌≡◌, Bool, true, false, List, [], ◌∷◌, refl, ap, inl, inr}
 use Rattle.std.specs.Prelude.{Result, Ok, Err, MatchResult}
 use Rattle.pn_join.specs.Marks.{Positions}

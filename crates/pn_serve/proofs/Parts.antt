@@ -28,7 +28,7 @@ parts-part [] unbroken = refl
 parts-part (b ∷ part) unbroken =
     parts-byte b part (All-head (λ x. x ≢ 10) b part unbroken) ∙ ap (λ parts. onto b parts.0 parts.1) (parts-part part (All-tail (λ x. x ≢ 10) b part unbroken))
 
--- some lines stand before the lines of the rest
+-- some lines, then the lines of the rest
 pub parts-text : (lines : List (List ℕ)) (rest : List ℕ) → All IsUnbroken lines → parts_of (text_of lines ++ rest) ≡ (lines ++ (parts_of rest).0, (parts_of rest).1)
 parts-text [] rest unbroken = ap (λ text. parts_of (text ++ rest)) text_of-nil
 parts-text (line ∷ lines) rest unbroken =
@@ -37,7 +37,7 @@ parts-text (line ∷ lines) rest unbroken =
     ∙ parts-line line (text_of lines ++ rest) (All-head IsUnbroken line lines unbroken)
     ∙ ap (λ parts. (line ∷ parts.0, parts.1)) (parts-text lines rest (All-tail IsUnbroken line lines unbroken))
 
--- lines, and a part behind them
+-- lines, and a part after them
 pub parts-whole : (lines : List (List ℕ)) (part : List ℕ) → All IsUnbroken lines → IsUnbroken part → parts_of (text_of lines ++ part) ≡ (lines, part)
 parts-whole lines part unbroken last =
     parts-text lines part unbroken ∙ ap (λ parts. (lines ++ parts.0, parts.1)) (parts-part part last) ∙ ap (λ all. (all, part)) (append-nil lines)

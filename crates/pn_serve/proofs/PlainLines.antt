@@ -17,9 +17,9 @@ use Rattle.pn_region.specs.Regions.{RegionValue, new_region}
 use Rattle.pn_region.specs.Rounds.{round as taken_round}
 use Rattle.pn_region.specs.Taken.{taken_by, all_taken, IsRound, AreRounds}
 use Rattle.pn_region.specs.declared.fault.RoundFault.{RoundFault}
-use Rattle.pn_serve.specs.declared.refusal.Refusal.{Refusal}
-use Rattle.pn_serve.specs.Command.Meaning.{CommandValue, adopt, copy, deliver, get, lose, marks, notices, read, scan, tablets}
-use Rattle.pn_serve.specs.Command.Lines.{command_at}
+use Rattle.pn_protocol.specs.declared.refusal.Refusal.{Refusal}
+use Rattle.pn_protocol.specs.Command.Meaning.{CommandValue, adopt, copy, deliver, get, lose, marks, notices, read, scan, tablets}
+use Rattle.pn_protocol.specs.Command.Lines.{command_at}
 use Rattle.pn_serve.specs.Machine.Doing.{delivering}
 use Rattle.pn_serve.specs.Machine.Outcomes.{Outcome, done, line, call, round, Mode, idle, Machine, Turn, serving}
 use Rattle.pn_serve.specs.Machine.Recovering.{at_tablet, showing_copy, copying}

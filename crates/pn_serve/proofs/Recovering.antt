@@ -1,4 +1,4 @@
--- What losses, copies and adoptions come to, by what the program did.
+-- Losses, copies and adoptions, by what the program did.
 use Rattle.std.proofs.Common.{true, false, ◌≡◌, ◌≢◌, ℕ, ◌+◌, ◌≤◌, List, length, inl, inr, refl, sym, ap, ◌∙◌, subst, arith, slice_get, Option, Some, None}
 use Rattle.std.specs.Prelude.{Result, Ok, Err, IsSomeAnd}
 use Rattle.std.proofs.lemmas.Option.{slice_get_past, slice_get_cases}
@@ -9,7 +9,7 @@ use Rattle.pn_join.specs.Marks.{Positions}
 use Rattle.pn_tablet.specs.Copies.{TabletCopyValue}
 use Rattle.pn_tablet.specs.Copying.{copy_of, is_memory}
 use Rattle.pn_tablet.specs.CopyReading.{copy_at}
-use Rattle.pn_tablet.specs.Refusals.{Refuses}
+use Rattle.pn_tablet.specs.Refusals.{Refuses, Answers}
 use Rattle.pn_tablet.specs.Steps as steps
 use Rattle.pn_tablet.specs.Tablets.{TabletStateValue}
 use Rattle.pn_tablet.specs.declared.copy_fault.CopyTextFault.{CopyTextFault}
@@ -23,27 +23,28 @@ use Rattle.pn_region.specs.Regions.{RegionValue, IsRegion}
 use Rattle.pn_tablet.specs.declared.fault.OpFault.{OpFault as AdoptFault}
 use Rattle.pn_tablet.specs.declared.fault.OpFault.TheVariants as adoption
 use Rattle.pn_region.proofs.NewRegion.{tablet_count}
-use Rattle.pn_serve.specs.declared.reply.Reply.{Reply}
-use Rattle.pn_serve.specs.declared.reply.Reply.TheVariants.{Adopted, Changed, Copied, Lost, Silent, Text, Refused, NotTaken}
-use Rattle.pn_serve.specs.declared.refusal.Part.TheVariants.{Tablet}
-use Rattle.pn_serve.specs.declared.refusal.Refusal.TheVariants.{OutOfRange, Memory}
-use Rattle.pn_serve.specs.Command.Meaning.{CommandValue, copy, lose}
+use Rattle.pn_protocol.specs.declared.reply.Reply.{Reply}
+use Rattle.pn_protocol.specs.declared.reply.Reply.TheVariants.{Adopted, Changed, Copied, Lost, Silent, Text, Refused, NotTaken}
+use Rattle.pn_protocol.specs.declared.refusal.Part.TheVariants.{Tablet}
+use Rattle.pn_protocol.specs.declared.refusal.Refusal.TheVariants.{OutOfRange, Memory}
+use Rattle.pn_protocol.specs.Command.Meaning.{CommandValue, copy, lose}
 use Rattle.pn_serve.specs.Machine.Doing.{doing}
 use Rattle.pn_serve.specs.Machine.Outcomes.{done, idle, Turn, waiting}
 use Rattle.pn_serve.specs.Machine.Recovering.{at_tablet, showing_copy, adopted, adopting_read, adopting_text}
 use Rattle.pn_serve.specs.Machine.Turns.{obeying}
 use Rattle.pn_serve.specs.Machine.Answers.{Obeys}
-use Rattle.pn_serve.specs.Machine.Refusals.{Tells, TellsNoCopy, TellsBadText, TellsNotAdopted}
-use Rattle.pn_serve.specs.Machine.Ways.{ShowsCopy, ComesTo}
-use Rattle.pn_serve.specs.Reply.Recovery.{bad_text_data, not_adopted_data}
-use Rattle.pn_serve.specs.Reply.Short.{lost_data}
+use Rattle.pn_protocol.specs.Reply.Answers.{ShowsCopy, ShowsCopyOf}
+use Rattle.pn_protocol.specs.Reply.Refusals.{Tells, TellsNoCopy, TellsBadText, TellsNotAdopted}
+use Rattle.pn_serve.specs.Machine.Ways.{ComesTo}
+use Rattle.pn_protocol.specs.Reply.Recovery.{bad_text_data, not_adopted_data}
+use Rattle.pn_protocol.specs.Reply.Short.{lost_data}
 use Rattle.pn_serve.proofs.Turns.{turned_call}
 
 -- a refusal that changes nothing
 abbrev telling : LoggedRegion → Data → Turn
 telling region said = record { machine = waiting region; reply = line_of said; refused = true }
 
--- a refusal was told, or there was no memory for it
+-- a refusal was answered, or memory ran out
 told : (turn : Turn) (old new : LoggedRegion) (right : Type 0) (said : Data) (reply : Reply) → new ≡ old → (right → turn ≡ telling old said) → Tells right said reply → ComesTo turn old new reply
 told turn old new right said (NotTaken text) same is (knows, says) =
     inl (ap (λ (t : Turn). t.machine) (is knows) ∙ ap waiting (sym same), ap (λ (t : Turn). t.reply) (is knows) ∙ sym says, ap (λ (t : Turn). t.refused) (is knows))
@@ -128,7 +129,7 @@ module _ (region : LoggedRegion) (need : Positions) (tablet : ℕ) (state : Tabl
   out : (reply : Reply) → reply ≡ Refused Memory → Obeys (waiting region) (copy need tablet) (waiting region) reply
   out reply is = subst (λ (r : Reply). Obeys (waiting region) (copy need tablet) (waiting region) r) (sym is) (turned_call region region (copy need tablet) refl refl)
 
-  pub copied_there : (copied : TabletCopyValue) (reply : Reply) → copy_of state need ≡ Ok copied → ShowsCopy copied reply → Obeys (waiting region) (copy need tablet) (waiting region) reply
+  copied_there : (copied : TabletCopyValue) (reply : Reply) → copy_of state need ≡ Ok copied → ShowsCopy copied reply → Obeys (waiting region) (copy need tablet) (waiting region) reply
   copied_there copied (Copied lines text) is shows =
       let all = looked (Ok copied) is in
       record { outcome = done; machine_is = ap (λ (t : Turn). t.machine) all; replied = ap (λ (t : Turn). t.reply) all ∙ sym shows; refused = ap (λ (t : Turn). t.refused) all }
@@ -146,7 +147,7 @@ module _ (region : LoggedRegion) (need : Positions) (tablet : ℕ) (state : Tabl
   right_fault copying.NoEntry right is other = is
   right_fault copying.Memory right is other = absurd (other refl)
 
-  pub not_copied_there : (fault : CopyFault) (reply : Reply) → Refuses is_memory fault (copy_of state need) → TellsNoCopy tablet fault reply → Obeys (waiting region) (copy need tablet) (waiting region) reply
+  not_copied_there : (fault : CopyFault) (reply : Reply) → Refuses is_memory fault (copy_of state need) → TellsNoCopy tablet fault reply → Obeys (waiting region) (copy need tablet) (waiting region) reply
   not_copied_there fault (NotTaken text) right (other, says) =
       let all = looked (Err fault) (right_fault fault (copy_of state need) right other) in
       record { outcome = done; machine_is = ap (λ (t : Turn). t.machine) all; replied = ap (λ (t : Turn). t.reply) all ∙ sym says; refused = ap (λ (t : Turn). t.refused) all }
@@ -157,6 +158,11 @@ module _ (region : LoggedRegion) (need : Positions) (tablet : ℕ) (state : Tabl
   not_copied_there fault Silent right tells = out _ tells
   not_copied_there fault (Text text) right tells = out _ tells
   not_copied_there fault (Refused refusal) right tells = out _ tells
+
+  -- what was found of the tablet was shown
+  pub answered_there : (copied : Result TabletCopyValue CopyFault) (reply : Reply) → Answers is_memory copied (copy_of state need) → ShowsCopyOf tablet copied reply → Obeys (waiting region) (copy need tablet) (waiting region) reply
+  answered_there (Ok copied) reply is shows = copied_there copied reply is shows
+  answered_there (Err fault) reply is tells = not_copied_there fault reply is tells
 
 -- what was looked for in a tablet that is there
 pub at_some : (found : Option TabletStateValue) (state : TabletStateValue) (P : TabletStateValue → Type 0) → found ≡ Some state → IsSomeAnd found P → P state

@@ -26,18 +26,18 @@ use Rattle.pn_scan.specs.Shown.{shown_rows}
 use Rattle.pn_scan.specs.declared.fault.ScanFault.{ScanFault}
 use Rattle.serde_json.specs.Data.{Data}
 use Rattle.pn_json.specs.Lines.{line_of}
-use Rattle.pn_serve.specs.declared.refusal.Refusal.{Refusal}
-use Rattle.pn_serve.specs.declared.refusal.Refusal.TheVariants.{Memory}
-use Rattle.pn_serve.specs.Command.Meaning.{CommandValue, adopt, copy, deliver, get, lose, marks, notices, read, scan, tablets}
-use Rattle.pn_serve.specs.Command.Lines.{command_at}
-use Rattle.pn_serve.specs.Command.Lookups.{AsksForRecords}
+use Rattle.pn_protocol.specs.declared.refusal.Refusal.{Refusal}
+use Rattle.pn_protocol.specs.declared.refusal.Refusal.TheVariants.{Memory}
+use Rattle.pn_protocol.specs.Command.Meaning.{CommandValue, adopt, copy, deliver, get, lose, marks, notices, read, scan, tablets}
+use Rattle.pn_protocol.specs.Command.Lines.{command_at}
+use Rattle.pn_protocol.specs.Command.Lookups.{AsksForRecords}
 use Rattle.pn_serve.specs.Machine.Doing.{found_data, looking}
 use Rattle.pn_serve.specs.Machine.Outcomes.{Outcome, done, line, call, round as in_part, Mode, idle, Machine, serving}
 use Rattle.pn_serve.specs.Machine.Turns.{turn_of, outcome_at, turn_in, turn}
 use Rattle.pn_serve.specs.Machine.LastTurns.{last_of, end_in, end_turn}
-use Rattle.pn_serve.specs.Reply.Record.{read_data, get_data}
-use Rattle.pn_serve.specs.Reply.Scan.{scan_data}
-use Rattle.pn_serve.specs.Reply.Short.{refusal_data}
+use Rattle.pn_protocol.specs.Reply.Record.{read_data, get_data}
+use Rattle.pn_protocol.specs.Reply.Scan.{scan_data}
+use Rattle.pn_protocol.specs.Reply.Short.{refusal_data}
 use Rattle.pn_serve.specs.Script.Events.{happened, happened_in, happened_from}
 use Rattle.pn_serve.specs.Script.Taken.{taken, NothingLost, AllHonest, Settled}
 use Rattle.pn_serve.specs.Script.Told.{Told, machine_of, records_of, images_of, TookTheSame, AwaitsCommand, reply_of, last_reply, AreAlike, IsNoOlder}
@@ -95,7 +95,7 @@ module _ (broker : BrokerRecord) (one other : Told) (took : TookTheSame broker o
       alike (machine_of one).region (machine_of other).region (images_of broker one) (images_of broker other)
       first_records (held_records broker other.layout other.lawful other.lines other.outcomes took.settled_too) took.same
 
-  -- so both have the records of the images that either took
+  -- both have the records of the images that either took
   pub both_records : (records_of one ≡ table_of (images_of broker one)) × (records_of other ≡ table_of (images_of broker one))
   both_records = (first_records, sym same_records ∙ first_records)
 
@@ -125,7 +125,7 @@ look_alike m n (Ok (scan query)) looks is too same =
 look_alike m n (Ok tablets) looks is too same = absurd looks
 look_alike m n (Err refusal) looks is too same = absurd looks
 
--- a line that asks for records goes as it says, or memory ran out
+-- a line that asks for records is answered, or memory ran out
 abbrev out_of_memory : List ℕ
 out_of_memory = line_of (refusal_data Memory)
 
@@ -226,7 +226,7 @@ same_replies broker one other took waits waits_too text went goes asks =
     λ said looks. look_alike m n said looks holds holds_too (same_records broker one other took) in
     (turns_alike m n waits waits_too same went goes text asks, ends_alike m n waits waits_too same went goes text asks)
 
--- a record whose tablet serves before and after one event or none is held still
+-- an event makes no record older whose tablet serves before and after it
 one_held : (events : List RegionEvent) (old new : RegionValue) (key : List ℕ) → IsRegion old → OneLeads events old new → ServesAt old key → ServesAt new key
     → HoldsStill (find bytes_cmp key (all_cells old)) (find bytes_cmp key (all_cells new))
 one_held [] old new key is lead serves serves_too =

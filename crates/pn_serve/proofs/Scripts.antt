@@ -1,4 +1,4 @@
--- What is served of a script, by one list of outcomes.
+-- A run of a script, by one list of outcomes.
 use Rattle.std.proofs.Common.{◌≡◌, ℕ, ◌+◌, Option, None, Some, List, [], ◌∷◌, ◌++◌, length, IfSome, inl, inr, refl, sym, ap, ◌∙◌, subst, arith, append-nil, append_assoc}
 use Rattle.std.specs.Prelude.{Result, Ok, Err, ◌⊎◌}
 use Rattle.std.specs.Io.KnownBytes.{Appends}
@@ -6,7 +6,7 @@ use Rattle.pn_line.specs.LinesRead.{PartRead}
 use Rattle.pn_line.specs.Sent.{AppendsPrefix}
 use Rattle.pn_line.proofs.SentLaws.{AppendsPrefix-more}
 use Rattle.pn_region.specs.Regions.{RegionValue}
-use Rattle.pn_serve.specs.declared.reply.Reply.{Reply}
+use Rattle.pn_protocol.specs.declared.reply.Reply.{Reply}
 use Rattle.pn_serve.specs.declared.script.Counts.{Counts}
 use Rattle.pn_serve.specs.declared.script.RunFault.{RunFault}
 use Rattle.pn_serve.specs.declared.script.RunFault.TheVariants.{Read, Write, TooManyTurns, Memory}
@@ -20,8 +20,8 @@ use Rattle.pn_serve.specs.Machine.Outcomes.{Outcome, done, Machine, serving}
 use Rattle.pn_serve.specs.Machine.Turns.{turn}
 use Rattle.pn_serve.specs.Machine.LastTurns.{end_turn}
 use Rattle.pn_serve.specs.Machine.Answers.{Answers, Concludes}
-use Rattle.pn_serve.specs.Reply.Texts.{reply_text, is_refusal}
-use Rattle.pn_serve.specs.Runs.Starts.{Begun}
+use Rattle.pn_protocol.specs.Reply.Texts.{reply_text, is_refusal}
+use Rattle.pn_serve.specs.Runs.Starts.{RunStart}
 use Rattle.pn_serve.specs.Runs.Ends.{Ended, Broken, Cut, Exceeded, Ends}
 use Rattle.pn_serve.specs.Runs.Bounds.{lines_within}
 use Rattle.pn_serve.specs.Script.Parts.{parts_of}
@@ -68,15 +68,15 @@ lines_in {read_lines = read_lines} {part = part} read =
     ap (λ (t : List ℕ). (parts_of t).0) read.text_is ∙ ap (λ (p : List (List ℕ) × List ℕ). p.0) (parts-text read_lines (part ++ read.rest) read.unbroken)
 
 module _ (region : RegionValue) (left written : Option (List ℕ)) where
-  abbrev begun : Begun
+  abbrev begun : RunStart
   begun = record { region = region; left = left; written = written }
 
   abbrev start : Start Machine
   start = record { machine = serving region; left = left; written = written }
 
   -- all replies to a script whose lines and end were answered
-  module _ (script : List ℕ) (texts : List (List ℕ)) (part : List ℕ) (parts : parts_of script ≡ (texts, part)) (said : List Reply) (behind now : Machine) (all : Outcomes (serving region) texts said behind)
-      (last : Reply) (ended : Concludes behind part now last) where
+  module _ (script : List ℕ) (texts : List (List ℕ)) (part : List ℕ) (parts : parts_of script ≡ (texts, part)) (said : List Reply) (reached now : Machine) (all : Outcomes (serving region) texts said reached)
+      (last : Reply) (ended : Concludes reached part now last) where
     all_replies : replies region script all.outcomes ended.outcome ≡ texts_of said ++ reply_text last
     all_replies =
         ap (λ (p : List (List ℕ) × List ℕ). replies_from (serving region) p.0 all.outcomes ++ (end_turn (machine_after (serving region) p.0 all.outcomes) ended.outcome p.1).reply) parts
@@ -93,13 +93,13 @@ module _ (region : RegionValue) (left written : Option (List ℕ)) where
   script_ended script leaves wrote now counts is =
       let texts = (parts_of script).0 in
       let part = (parts_of script).1 in
-      let all = outcomes_of (serving region) texts is.replies is.behind is.made in
-      let ended : Concludes is.behind part now is.last = is.ended in record {
+      let all = outcomes_of (serving region) texts is.replies is.reached is.made in
+      let ended : Concludes is.reached part now is.last = is.ended in record {
         outcomes = all.outcomes;
         last = ended.outcome;
-        wrote = subst (λ (r : List ℕ). Appends written wrote r) (sym (all_replies script texts part refl is.replies is.behind now all is.last ended)) is.wrote;
+        wrote = subst (λ (r : List ℕ). Appends written wrote r) (sym (all_replies script texts part refl is.replies is.reached now all is.last ended)) is.wrote;
         lines_are = is.lines_are;
-        refused_are = is.refused_are ∙ sym (all_refusals script texts part refl is.replies is.behind now all is.last ended);
+        refused_are = is.refused_are ∙ sym (all_refusals script texts part refl is.replies is.reached now all is.last ended);
         within = is.within;
         at_end = is.at_end;
       }
@@ -126,9 +126,9 @@ module _ (region : RegionValue) (left written : Option (List ℕ)) where
       }
 
   -- a prefix of the replies to the first lines is one of the replies to all
-  cut_first : (script : List ℕ) (leaves wrote : Option (List ℕ)) (texts : List (List ℕ)) (part : List ℕ) (said : List Reply) (behind : Machine) → PartRead script leaves texts part
-      → Outcomes (serving region) texts said behind → AppendsPrefix written wrote (texts_of said) → Cut begun script leaves wrote
-  cut_first script leaves wrote texts part said behind read all sent =
+  cut_first : (script : List ℕ) (leaves wrote : Option (List ℕ)) (texts : List (List ℕ)) (part : List ℕ) (said : List Reply) (reached : Machine) → PartRead script leaves texts part
+      → Outcomes (serving region) texts said reached → AppendsPrefix written wrote (texts_of said) → Cut begun script leaves wrote
+  cut_first script leaves wrote texts part said reached read all sent =
       let more = (parts_of (part ++ read.rest)).0 in record {
         lines = texts;
         part = part;
@@ -142,26 +142,26 @@ module _ (region : RegionValue) (left written : Option (List ℕ)) where
       }
 
   -- or the input was at its end
-  cut_last : (script : List ℕ) (leaves wrote : Option (List ℕ)) (texts : List (List ℕ)) (part : List ℕ) (said : List Reply) (behind now : Machine) (last : List ℕ) → PartRead script leaves texts part
-      → Outcomes (serving region) texts said behind → ((now ≡ behind) × (last ≡ [])) ⊎ ((leaves ≡ Some []) × ((reply : Reply) × (last ≡ reply_text reply) × Concludes behind part now reply))
+  cut_last : (script : List ℕ) (leaves wrote : Option (List ℕ)) (texts : List (List ℕ)) (part : List ℕ) (said : List Reply) (reached now : Machine) (last : List ℕ) → PartRead script leaves texts part
+      → Outcomes (serving region) texts said reached → ((now ≡ reached) × (last ≡ [])) ⊎ ((leaves ≡ Some []) × ((reply : Reply) × (last ≡ reply_text reply) × Concludes reached part now reply))
       → AppendsPrefix written wrote (texts_of said ++ last) → Cut begun script leaves wrote
-  cut_last script leaves wrote texts part said behind now last read all (inl none) sent =
-      cut_first script leaves wrote texts part said behind read all
+  cut_last script leaves wrote texts part said reached now last read all (inl none) sent =
+      cut_first script leaves wrote texts part said reached read all
       (subst (λ (r : List ℕ). AppendsPrefix written wrote r) (ap (λ (l : List ℕ). texts_of said ++ l) none.1 ∙ append-nil (texts_of said)) sent)
-  cut_last script leaves wrote texts part said behind now last read all (inr (gone, (reply, is, ended))) sent =
-      let turned : Concludes behind part now reply = ended in record {
+  cut_last script leaves wrote texts part said reached now last read all (inr (gone, (reply, is, ended))) sent =
+      let turned : Concludes reached part now reply = ended in record {
         lines = texts;
         part = part;
         read = read;
         outcomes = all.outcomes;
         last = turned.outcome;
         prefix = subst (λ (r : List ℕ). AppendsPrefix written wrote r)
-            (ap (λ (l : List ℕ). texts_of said ++ l) is ∙ sym (all_replies script texts part (parts_read leaves read gone) said behind now all reply turned)) sent;
+            (ap (λ (l : List ℕ). texts_of said ++ l) is ∙ sym (all_replies script texts part (parts_read leaves read gone) said reached now all reply turned)) sent;
       }
 
   script_cut : (script : List ℕ) (leaves wrote : Option (List ℕ)) (now : Machine) → stopped.Cut Answers Concludes start script leaves wrote now → Cut begun script leaves wrote
   script_cut script leaves wrote now is =
-      cut_last script leaves wrote is.lines is.part is.replies is.behind now is.last is.read (outcomes_of (serving region) is.lines is.replies is.behind is.made) is.ended is.prefix
+      cut_last script leaves wrote is.lines is.part is.replies is.reached now is.last is.read (outcomes_of (serving region) is.lines is.replies is.reached is.made) is.ended is.prefix
 
 on_told : (left : Option (List ℕ)) (P Q : List ℕ → Type 0) → ((text : List ℕ) → P text → Q text) → IfSome left P → IfSome left Q
 on_told None P Q f h = tt

@@ -1,18 +1,18 @@
--- Bytes that are handed on in two parts.
+-- Bytes that are written in two parts.
 use Rattle.std.proofs.Common.{◌≡◌, ℕ, List, [], ◌++◌, take, drop, subst, ap, ◌∙◌, append_assoc, take-append-drop}
 use Rattle.std.specs.Prelude.{Result, Ok, Err, OnOk, OnErr, Option}
 use Rattle.std.specs.Io.KnownBytes.{Appends}
 use Rattle.pn_line.specs.Sent.{AppendsPrefix, Sends}
 use Rattle.pn_line.proofs.SentLaws.{AppendsPrefix-more, AppendsPrefix-after, Sends-all, Sends-cut, Sends-trans}
 
--- what holds anyway holds of an error
+-- what always holds, holds after an error
 pub on_err : {T E P : Type 0} (r : Result T E) → P → OnErr r P
 on_err (Ok x) holds = tt
 on_err (Err e) holds = holds
 
 -- a prefix of what comes first is one of all
-pub more_behind : (before after : Option (List ℕ)) (waited first second : List ℕ) → AppendsPrefix before after (waited ++ first) → AppendsPrefix before after (waited ++ (first ++ second))
-more_behind before after waited first second prefix =
+pub more_after : (before after : Option (List ℕ)) (waited first second : List ℕ) → AppendsPrefix before after (waited ++ first) → AppendsPrefix before after (waited ++ (first ++ second))
+more_after before after waited first second prefix =
     subst (λ (all : List ℕ). AppendsPrefix before after all) (append_assoc waited first second) (AppendsPrefix-more second prefix)
 
 -- bytes that were split in two
@@ -31,7 +31,7 @@ is_whole {all = all} {rest = rest} split = ap (λ (l : List ℕ). l ++ rest) spl
 -- a prefix of the first part is one of the whole
 pub part_cut : (a b : Option (List ℕ)) (waited all first rest : List ℕ) → IsSplit all first rest → AppendsPrefix a b (waited ++ first) → AppendsPrefix a b (waited ++ all)
 part_cut a b waited all first rest split prefix =
-    subst (λ (l : List ℕ). AppendsPrefix a b (waited ++ l)) (is_whole split) (more_behind a b waited first rest prefix)
+    subst (λ (l : List ℕ). AppendsPrefix a b (waited ++ l)) (is_whole split) (more_after a b waited first rest prefix)
 
 -- the first part, then all that waits, and then the rest
 pub parts_sent : {T E : Type 0} (r : Result T E) (a b c d : Option (List ℕ)) (waited between none waits all first rest : List ℕ) → IsSplit all first rest
@@ -41,7 +41,7 @@ parts_sent (Ok x) a b c d waited between none waits all first rest split push fl
     let begins : Sends c d [] waits rest = subst (λ (l : List ℕ). Sends c d l waits rest) is_none begin in
     subst (λ (l : List ℕ). Sends a d waited waits l) (is_whole split) (Sends-trans push (Sends-trans (Sends-all b c between flush) begins))
 
--- the same where the writer fails at the rest
+-- the first part, and then the writer fails at the rest
 pub parts_cut : {T E : Type 0} (r : Result T E) (a b c d : Option (List ℕ)) (waited between none all first rest : List ℕ) → IsSplit all first rest
     → Sends a b waited between first → Appends b c between → none ≡ [] → OnErr r (AppendsPrefix c d (none ++ rest)) → OnErr r (AppendsPrefix a d (waited ++ all))
 parts_cut (Ok x) a b c d waited between none all first rest split push flush is_none prefix = tt

@@ -1,4 +1,4 @@
--- The replies to the lines read so far went out or wait.
+-- The replies to the lines so far wait or were written.
 use Rattle.std.proofs.Common.{◌≡◌, ℕ, ◌+◌, ◌<◌, ◌≤◌, ◌≢◌, true, Option, None, Some, List, [], ◌∷◌, ◌++◌, length, All, IfSome, OnSome, refl, sym, ap, ◌∙◌, subst, arith, append-nil, append_assoc, length-append, nat_lt}
 use Rattle.std.specs.Io.KnownBytes.{Appends, Consumes, Keeps, IsAtEnd}
 use Rattle.std.proofs.lemmas.List.{length_push}
@@ -13,13 +13,13 @@ use Rattle.pn_line.proofs.LinesReadLaws.{LinesRead-none, LinesRead-line, LinesRe
 use Rattle.pn_line.proofs.SentLaws.{Sends-none, Sends-trans, Sends-all, Sends-flushed}
 use Rattle.pn_line.proofs.TextLaws.{lines_of-text, lines_of-nil, lines_of-last}
 use Rattle.pn_serve.specs.declared.script.Counts.{Counts}
-use Rattle.pn_serve.specs.declared.reply.Reply.{Reply}
+use Rattle.pn_protocol.specs.declared.reply.Reply.{Reply}
 use Rattle.pn_serve.specs.Lines.Ends.{Ended}
-use Rattle.pn_serve.specs.Lines.States.{LinesValue, new_lines, Start}
+use Rattle.pn_serve.specs.Lines.States.{LineLoopValue, new_loop, Start}
 use Rattle.pn_serve.specs.Lines.Replies.{texts_of, refusals_of}
 use Rattle.pn_serve.specs.Lines.Served.{IsShort, AllAnswer, AllAnswered, Between, Served}
 use Rattle.pn_serve.specs.Lines.Answered.{Answered, Closed}
-use Rattle.pn_serve.specs.Reply.Texts.{reply_text, is_refusal}
+use Rattle.pn_protocol.specs.Reply.Texts.{reply_text, is_refusal}
 use Rattle.pn_serve.specs.Script.Parts.{parts_of}
 use Rattle.pn_serve.specs.Script.Written.{one_if}
 use Rattle.pn_serve.proofs.Parts.{parts-text, parts-whole}
@@ -41,7 +41,7 @@ are_short lines line taken short is ends =
     let below : length taken < 1000000000 = omega (arith, ap (λ (l : LineBufferValue). l.count) is, ends) in
     All-append IsShort lines (taken ∷ []) short (All-cons IsShort taken [] below (All-nil IsShort))
 
--- and perhaps a part behind them
+-- and perhaps a part after them
 with_part : (lines : List (List ℕ)) (line : LineBufferValue) (part : List ℕ) → All IsShort lines → line ≡ so_far part → line.count < 1000000000 → All IsShort (lines ++ last_line part)
 with_part lines line [] short is ends = subst (λ (l : List (List ℕ)). All IsShort l) (sym (append-nil lines)) short
 with_part lines line (b ∷ part) short is ends = are_short lines line (b ∷ part) short is ends
@@ -118,7 +118,7 @@ module _ {V : Type 0} (makes ends : V → List ℕ → V → Reply → Type 0) w
   answer_push was (l ∷ lines) [] between line reply now all made = absurd all
   answer_push was (l ∷ lines) (r ∷ replies) between line reply now all made = (all.0, all.1, answer_push all.0 lines replies between line reply now all.2 made)
 
-  pub Begins : (machine : V) (left written : Option (List ℕ)) → Served makes (record { machine = machine; left = left; written = written }) left written machine new_lines
+  pub Begins : (machine : V) (left written : Option (List ℕ)) → Served makes (record { machine = machine; left = left; written = written }) left written machine new_loop
   Begins machine None written = tt
   Begins machine (Some text) written = record {
     lines = [];
@@ -127,14 +127,14 @@ module _ {V : Type 0} (makes ends : V → List ℕ → V → Reply → Type 0) w
     answered = record { replies = []; made = refl; sends = Sends-none written; lines_are = refl; refused_are = refl };
   }
 
-  -- a server of lines begins
-  pub Begins_new : (machine : V) (run : LinesValue) (left written : Option (List ℕ)) → run ≡ new_lines → Served makes (record { machine = machine; left = left; written = written }) left written machine run
+  -- a line loop begins
+  pub Begins_new : (machine : V) (run : LineLoopValue) (left written : Option (List ℕ)) → run ≡ new_loop → Served makes (record { machine = machine; left = left; written = written }) left written machine run
   Begins_new machine run left written is =
-      subst (λ (r : LinesValue). Served makes (record { machine = machine; left = left; written = written }) left written machine r) (sym is) (Begins machine left written)
+      subst (λ (r : LineLoopValue). Served makes (record { machine = machine; left = left; written = written }) left written machine r) (sym is) (Begins machine left written)
 
   module _ (start : Start V) where
     -- one more line was answered
-    pub AllAnswered-line : (lines : List (List ℕ)) (b c : Option (List ℕ)) (was now : V) (run new : LinesValue) (line : LineBufferValue) (text : List ℕ) → AllAnswered makes start lines b was run → line ≡ so_far text
+    pub AllAnswered-line : (lines : List (List ℕ)) (b c : Option (List ℕ)) (was now : V) (run new : LineLoopValue) (line : LineBufferValue) (text : List ℕ) → AllAnswered makes start lines b was run → line ≡ so_far text
         → Answered makes was now (record run { line = line }) new b c → AllAnswered makes start (lines ++ text ∷ []) c now new
     AllAnswered-line lines b c was now run new line text is here answered =
         let counts = refusals_push is.replies answered.reply in record {
@@ -145,8 +145,8 @@ module _ {V : Type 0} (makes ends : V → List ℕ → V → Reply → Type 0) w
           refused_are = omega (arith, counts, is.refused_are, answered.refused);
         }
 
-    -- what waited went out
-    pub Flushes : (script : List ℕ) (left b c : Option (List ℕ)) (machine : V) (run new : LinesValue) → Between makes start script left b machine run → Appends b c run.waits
+    -- what waited was written
+    pub Flushes : (script : List ℕ) (left b c : Option (List ℕ)) (machine : V) (run new : LineLoopValue) → Between makes start script left b machine run → Appends b c run.waits
         → new.counts ≡ run.counts → new.waits ≡ [] → Between makes start script left c machine new
     Flushes script left b c machine run new between sent counts none =
         let is = between.answered in
@@ -166,7 +166,7 @@ module _ {V : Type 0} (makes ends : V → List ℕ → V → Reply → Type 0) w
         }
 
     -- a line was read and answered
-    pub Goes_on : (script : List ℕ) (left leaves b c : Option (List ℕ)) (was now : V) (run new : LinesValue) (line : LineBufferValue) → Between makes start script left b was run
+    pub Goes_on : (script : List ℕ) (left leaves b c : Option (List ℕ)) (was now : V) (run new : LineLoopValue) (line : LineBufferValue) → Between makes start script left b was run
         → Takes (so_far []) line left leaves (10 ∷ []) → line.count < 1000000000 → Answered makes was now (record run { line = line }) new b c → Between makes start script leaves c now new
     Goes_on script left leaves b c was now run new line between takes below answered =
         let (taken, is, read) = LinesRead-line between.read takes in record {
@@ -176,20 +176,20 @@ module _ {V : Type 0} (makes ends : V → List ℕ → V → Reply → Type 0) w
           answered = AllAnswered-line between.lines b c was now run new line taken between.answered is answered;
         }
 
-    -- the input is at its end behind a part of a line, and what was left to reply went out or waits
-    module _ (script : List ℕ) (b c : Option (List ℕ)) (was now : V) (run new : LinesValue) (lines : List (List ℕ)) (line : LineBufferValue) (part : List ℕ) (counts : Counts)
+    -- the input is at its end after a part of a line, whose reply waits or was written
+    module _ (script : List ℕ) (b c : Option (List ℕ)) (was now : V) (run new : LineLoopValue) (lines : List (List ℕ)) (line : LineBufferValue) (part : List ℕ) (counts : Counts)
         (parts : parts_of script ≡ (lines, part)) (is : AllAnswered makes start lines b was run) (here : line ≡ so_far part) where
       pub all_sent : (closed : Closed ends was now (record run { line = line }) new b c counts) → Sends start.written c [] new.waits (texts_of is.replies ++ reply_text closed.reply)
       all_sent closed = Sends-trans is.sends closed.sends
 
-      -- all went out
+      -- all was written
       pub all_ended : (leaves d : Option (List ℕ)) → lines_of script ≡ lines ++ last_line part → All IsShort (lines ++ last_line part) → length (lines ++ last_line part) ≤ 1000000
           → leaves ≡ Some [] → Closed ends was now (record run { line = line }) new b c counts → Appends c d new.waits → Ended makes ends start script leaves d now counts
       all_ended leaves d all short few end closed sent =
           let one : length (last_line part) ≡ one_if (nat_lt 0 line.count) = part_count part ∙ ap (λ (l : LineBufferValue). one_if (nat_lt 0 l.count)) (sym here) in
           let count : counts.lines ≡ length (lines ++ last_line part) = omega (arith, closed.lines, is.lines_are, one, length-append lines (last_line part)) in record {
             replies = is.replies;
-            behind = was;
+            reached = was;
             made = subst (λ (p : List (List ℕ) × List ℕ). AllAnswer makes start.machine p.0 is.replies was) (sym parts) is.made;
             last = closed.reply;
             ended = subst (λ (p : List (List ℕ) × List ℕ). ends was p.1 now closed.reply) (sym parts) (closed.made part here);
@@ -200,8 +200,8 @@ module _ {V : Type 0} (makes ends : V → List ℕ → V → Reply → Type 0) w
             at_end = end;
           }
 
-    -- the input ended in a last part of a line, or behind a newline
-    pub Ends_closed : (script : List ℕ) (left leaves b c d : Option (List ℕ)) (was now : V) (run new : LinesValue) (line : LineBufferValue) (counts : Counts) → Between makes start script left b was run
+    -- the input ended in a part of a line, or after a newline
+    pub Ends_closed : (script : List ℕ) (left leaves b c d : Option (List ℕ)) (was now : V) (run new : LineLoopValue) (line : LineBufferValue) (counts : Counts) → Between makes start script left b was run
         → Takes (so_far []) line left leaves [] → OnSome left (IsAtEnd leaves) → line.count < 1000000000 → run.counts.lines < 1000000
         → Closed ends was now (record run { line = line }) new b c counts → Appends c d new.waits → Ended makes ends start script leaves d now counts
     Ends_closed script left leaves b c d was now run new line counts between takes end below few closed sent =
@@ -212,8 +212,8 @@ module _ {V : Type 0} (makes ends : V → List ℕ → V → Reply → Type 0) w
         all_ended script b c was now run new between.lines line part counts parts between.answered is leaves d all
         (with_part between.lines line part between.short is below) (few_lines between.lines part (omega (arith, few, between.answered.lines_are))) gone closed sent
 
-    -- nothing is left behind the last line that may be answered
-    pub Ends_within : (script : List ℕ) (left leaves b c d : Option (List ℕ)) (was now : V) (run new : LinesValue) (line : LineBufferValue) (counts : Counts) → Between makes start script left b was run
+    -- nothing is left after the last line that may be answered
+    pub Ends_within : (script : List ℕ) (left leaves b c d : Option (List ℕ)) (was now : V) (run new : LineLoopValue) (line : LineBufferValue) (counts : Counts) → Between makes start script left b was run
         → IfSome left (λ rest. rest ≡ []) → Keeps left leaves → run.counts.lines ≡ 1000000 → line ≡ so_far []
         → Closed ends was now (record run { line = line }) new b c counts → Appends c d new.waits → Ended makes ends start script leaves d now counts
     Ends_within script left leaves b c d was now run new line counts between none kept many is closed sent =

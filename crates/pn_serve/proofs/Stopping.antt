@@ -1,4 +1,4 @@
--- What was written where a script is not answered to its end.
+-- What was written if a script is not answered to its end.
 use Rattle.std.proofs.Common.{◌≡◌, ◌≢◌, ℕ, ◌<◌, ◌≤◌, Option, Some, List, [], ◌∷◌, ◌++◌, length, IfSome, OnSome, inl, inr, refl, sym, ap, ◌∙◌, subst, arith, append-nil}
 use Rattle.std.specs.Prelude.{Result, Err, IsErrAnd}
 use Rattle.std.proofs.lemmas.Result.{err_from_is_err_and}
@@ -15,18 +15,18 @@ use Rattle.pn_line.proofs.SentLaws.{Sends-flushed, Sends-cut, Sends-cut_flush}
 use Rattle.pn_line.proofs.TextLaws.{lines_of-line, lines_of-byte, lines_of-text, lines_of-begun}
 use Rattle.pn_serve.specs.Lines.Stopped.{Broken, Cut, Exceeded}
 use Rattle.pn_serve.specs.Lines.Ends.{EndsBy}
-use Rattle.pn_serve.specs.Lines.States.{LinesValue, Start}
+use Rattle.pn_serve.specs.Lines.States.{LineLoopValue, Start}
 use Rattle.pn_serve.specs.Lines.Replies.{texts_of}
 use Rattle.pn_serve.specs.Lines.Served.{AllAnswer, AllAnswered, Between}
 use Rattle.pn_serve.specs.Lines.Answered.{AnsweredInPart, Closed}
 use Rattle.pn_serve.specs.Lines.Turning.{TurnsTo}
-use Rattle.pn_serve.specs.Reply.Texts.{reply_text}
+use Rattle.pn_protocol.specs.Reply.Texts.{reply_text}
 use Rattle.pn_serve.specs.Runs.Bounds.{IsAtBound, lines_within}
-use Rattle.pn_serve.specs.declared.reply.Reply.{Reply}
+use Rattle.pn_protocol.specs.declared.reply.Reply.{Reply}
 use Rattle.pn_serve.specs.declared.script.Counts.{Counts}
 use Rattle.pn_serve.specs.declared.script.RunFault.{RunFault}
 use Rattle.pn_serve.specs.declared.script.RunFault.TheVariants.{Write}
-use Rattle.pn_serve.specs.declared.script.turns.Next.{Next}
+use Rattle.pn_serve.specs.declared.script.line_loop.Next.{Next}
 use Rattle.pn_serve.proofs.Serving.{answer_push, texts_push, lines_left, all_sent, parts_read, parts_end, nothing_left, stays, of_known}
 use Rattle.pn_serve.proofs.Within.{within-million, within-endless, not_all}
 
@@ -67,7 +67,7 @@ still {left = left} leaves read kept = record {
 }
 
 module _ {V : Type 0} (makes ends : V → List ℕ → V → Reply → Type 0) (start : Start V) where
-  -- the writer failed behind whole lines
+  -- the writer failed after whole lines
   cut_lines : (script : List ℕ) (left c : Option (List ℕ)) (machine : V) (lines : List (List ℕ)) (part : List ℕ) (replies : List Reply) → PartRead script left lines part
       → AllAnswer makes start.machine lines replies machine → AppendsPrefix start.written c (texts_of replies) → Cut makes ends start script left c machine
   cut_lines script left c machine lines part replies read made sent = record {
@@ -75,27 +75,27 @@ module _ {V : Type 0} (makes ends : V → List ℕ → V → Reply → Type 0) (
     part = part;
     read = read;
     replies = replies;
-    behind = machine;
+    reached = machine;
     made = made;
     last = [];
     ended = inl (refl, refl);
     prefix = subst (λ (r : List ℕ). AppendsPrefix start.written c r) (sym (append-nil (texts_of replies))) sent;
   }
 
-  -- the writer failed between two lines, where what waited was to go out
-  pub Cut_between : (script : List ℕ) (left b c : Option (List ℕ)) (machine : V) (run : LinesValue) → Between makes start script left b machine run → AppendsPrefix b c run.waits → Cut makes ends start script left c machine
+  -- the writer failed between two lines, when what waited was written
+  pub Cut_between : (script : List ℕ) (left b c : Option (List ℕ)) (machine : V) (run : LineLoopValue) → Between makes start script left b machine run → AppendsPrefix b c run.waits → Cut makes ends start script left c machine
   Cut_between script left b c machine run between sent =
       cut_lines script left c machine between.lines [] between.answered.replies (no_part between.read) between.answered.made (Sends-cut_flush between.answered.sends sent)
 
-  -- the same behind a part of a line
-  pub Cut_part : (script : List ℕ) (left leaves b c : Option (List ℕ)) (machine : V) (run : LinesValue) (line : LineBufferValue) → Between makes start script left b machine run
+  -- the writer failed after a part of a line
+  pub Cut_part : (script : List ℕ) (left leaves b c : Option (List ℕ)) (machine : V) (run : LineLoopValue) (line : LineBufferValue) → Between makes start script left b machine run
       → Takes (so_far []) line left leaves [] → AppendsPrefix b c run.waits → Cut makes ends start script leaves c machine
   Cut_part script left leaves b c machine run line between takes sent =
       let (part, is, read) = LinesRead-part between.read takes in
       cut_lines script leaves c machine between.lines part between.answered.replies read between.answered.made (Sends-cut_flush between.answered.sends sent)
 
   -- the writer failed at the reply to a line with its newline
-  pub Cut_line : (script : List ℕ) (left leaves b c : Option (List ℕ)) (was now : V) (run : LinesValue) (line : LineBufferValue) → Between makes start script left b was run
+  pub Cut_line : (script : List ℕ) (left leaves b c : Option (List ℕ)) (was now : V) (run : LineLoopValue) (line : LineBufferValue) → Between makes start script left b was run
       → Takes (so_far []) line left leaves (10 ∷ []) → AnsweredInPart makes was now (record run { line = line }) b c → Cut makes ends start script leaves c now
   Cut_line script left leaves b c was now run line between takes answered =
       let (taken, is, read) = LinesRead-line between.read takes in
@@ -112,15 +112,15 @@ module _ {V : Type 0} (makes ends : V → List ℕ → V → Reply → Type 0) (
     part = part;
     read = read;
     replies = replies;
-    behind = was;
+    reached = was;
     made = made;
     last = reply_text reply;
     ended = inr (gone, (reply, refl, ended));
     prefix = sent;
   }
 
-  -- the input is at its end behind a part of a line
-  module _ (script : List ℕ) (left leaves b c : Option (List ℕ)) (was now : V) (run : LinesValue) (line : LineBufferValue) (between : Between makes start script left b was run)
+  -- the input is at its end after a part of a line
+  module _ (script : List ℕ) (left leaves b c : Option (List ℕ)) (was now : V) (run : LineLoopValue) (line : LineBufferValue) (between : Between makes start script left b was run)
       (takes : Takes (so_far []) line left leaves []) (end : OnSome left (IsAtEnd leaves)) where
     -- and the writer failed at the last reply
     pub Cut_last : AnsweredInPart ends was now (record run { line = line }) b c → Cut makes ends start script leaves c now
@@ -130,16 +130,16 @@ module _ {V : Type 0} (makes ends : V → List ℕ → V → Reply → Type 0) (
         cut_end script leaves c was now between.lines part between.answered.replies closed.reply read gone between.answered.made (closed.made part is)
         (Sends-cut (reply_text closed.reply) between.answered.sends closed.prefix)
 
-    -- and the writer failed behind the last reply
-    pub Cut_after : (d : Option (List ℕ)) (new : LinesValue) (counts : Counts) → Closed ends was now (record run { line = line }) new b c counts → AppendsPrefix c d new.waits → Cut makes ends start script leaves d now
+    -- and the writer failed after the last reply
+    pub Cut_after : (d : Option (List ℕ)) (new : LineLoopValue) (counts : Counts) → Closed ends was now (record run { line = line }) new b c counts → AppendsPrefix c d new.waits → Cut makes ends start script leaves d now
     Cut_after d new counts closed sent =
         let (part, is, read) = LinesRead-part between.read takes in
         let gone = nothing_left left leaves _ _ between.read.left_is takes.source end in
         cut_end script leaves d was now between.lines part between.answered.replies closed.reply read gone between.answered.made (closed.made part is)
         (Sends-cut_flush (all_sent makes ends start script b c was now run new between.lines line part counts (parts_read leaves read gone) between.answered is closed) sent)
 
-  -- nothing is left behind the last line that may be answered
-  module _ (script : List ℕ) (left leaves b c : Option (List ℕ)) (was now : V) (run : LinesValue) (line : LineBufferValue) (between : Between makes start script left b was run)
+  -- nothing is left after the last line that may be answered
+  module _ (script : List ℕ) (left leaves b c : Option (List ℕ)) (was now : V) (run : LineLoopValue) (line : LineBufferValue) (between : Between makes start script left b was run)
       (none : IfSome left (λ rest. rest ≡ [])) (kept : Keeps left leaves) (is : line ≡ so_far []) where
     empty : between.read.rest ≡ []
     empty = of_known left between.read.rest (λ (r : List ℕ). r ≡ []) between.read.left_is none
@@ -153,21 +153,21 @@ module _ {V : Type 0} (makes ends : V → List ℕ → V → Reply → Type 0) (
         cut_end script leaves c was now between.lines [] between.answered.replies closed.reply (no_part (still leaves between.read kept)) gone between.answered.made (closed.made [] is)
         (Sends-cut (reply_text closed.reply) between.answered.sends closed.prefix)
 
-    -- and the writer failed behind the last reply
-    pub Cut_finished : (d : Option (List ℕ)) (new : LinesValue) (counts : Counts) → Closed ends was now (record run { line = line }) new b c counts → AppendsPrefix c d new.waits → Cut makes ends start script leaves d now
+    -- and the writer failed after the last reply
+    pub Cut_finished : (d : Option (List ℕ)) (new : LineLoopValue) (counts : Counts) → Closed ends was now (record run { line = line }) new b c counts → AppendsPrefix c d new.waits → Cut makes ends start script leaves d now
     Cut_finished d new counts closed sent =
         cut_end script leaves d was now between.lines [] between.answered.replies closed.reply (no_part (still leaves between.read kept)) gone between.answered.made (closed.made [] is)
         (Sends-cut_flush (all_sent makes ends start script b c was now run new between.lines line [] counts (parts_end between.read empty) between.answered is closed) sent)
 
   -- a read failed in a line
-  pub Broken_in : (script : List ℕ) (left leaves b c : Option (List ℕ)) (machine : V) (run : LinesValue) (line : LineBufferValue) → Between makes start script left b machine run
+  pub Broken_in : (script : List ℕ) (left leaves b c : Option (List ℕ)) (machine : V) (run : LineLoopValue) (line : LineBufferValue) → Between makes start script left b machine run
       → Takes (so_far []) line left leaves [] → Appends b c run.waits → Broken makes ends start script leaves c machine
   Broken_in script left leaves b c machine run line between takes sent =
       let (part, is, read) = LinesRead-part between.read takes in
       record { lines = between.lines; part = part; read = read; replies = between.answered.replies; made = between.answered.made; wrote = Sends-flushed c between.answered.sends sent }
 
-  -- a read failed behind the last line that may be answered
-  pub Broken_after : (script : List ℕ) (left leaves b c : Option (List ℕ)) (machine : V) (run : LinesValue) → Between makes start script left b machine run
+  -- a read failed after the last line that may be answered
+  pub Broken_after : (script : List ℕ) (left leaves b c : Option (List ℕ)) (machine : V) (run : LineLoopValue) → Between makes start script left b machine run
       → Keeps left leaves → Appends b c run.waits → Broken makes ends start script leaves c machine
   Broken_after script left leaves b c machine run between kept sent = record {
     lines = between.lines;
@@ -178,7 +178,7 @@ module _ {V : Type 0} (makes ends : V → List ℕ → V → Reply → Type 0) (
     wrote = Sends-flushed c between.answered.sends sent;
   }
 
-  exceeded : (script : List ℕ) (leaves b c : Option (List ℕ)) (machine : V) (run : LinesValue) (lines : List (List ℕ)) (part : List ℕ) → AllAnswered makes start lines b machine run → PartRead script leaves lines part
+  exceeded : (script : List ℕ) (leaves b c : Option (List ℕ)) (machine : V) (run : LineLoopValue) (lines : List (List ℕ)) (part : List ℕ) → AllAnswered makes start lines b machine run → PartRead script leaves lines part
       → IsAtBound lines part → lines_within script ≡ lines → lines_within script ≢ lines_of script → Appends b c run.waits → Exceeded makes ends start script leaves c machine
   exceeded script leaves b c machine run lines part is read bound within more sent = record {
     part = part;
@@ -191,7 +191,7 @@ module _ {V : Type 0} (makes ends : V → List ℕ → V → Reply → Type 0) (
   }
 
   -- there are more than a million lines
-  pub Exceeded_lines : (script : List ℕ) (left leaves b c : Option (List ℕ)) (machine : V) (run : LinesValue) → Between makes start script left b machine run
+  pub Exceeded_lines : (script : List ℕ) (left leaves b c : Option (List ℕ)) (machine : V) (run : LineLoopValue) → Between makes start script left b machine run
       → IfSome left (λ rest. rest ≢ []) → Keeps left leaves → run.counts.lines ≡ 1000000 → Appends b c run.waits → Exceeded makes ends start script leaves c machine
   Exceeded_lines script left leaves b c machine run between some kept many sent =
       let rest = between.read.rest in
@@ -202,7 +202,7 @@ module _ {V : Type 0} (makes ends : V → List ℕ → V → Reply → Type 0) (
       exceeded script leaves b c machine run between.lines [] between.answered (no_part (still leaves between.read kept)) (inl (count, refl)) within (not_all script between.lines line more all within) sent
 
   -- a line has no end
-  pub Exceeded_bytes : (script : List ℕ) (left leaves b c : Option (List ℕ)) (machine : V) (run : LinesValue) (line : LineBufferValue) → Between makes start script left b machine run
+  pub Exceeded_bytes : (script : List ℕ) (left leaves b c : Option (List ℕ)) (machine : V) (run : LineLoopValue) (line : LineBufferValue) → Between makes start script left b machine run
       → Takes (so_far []) line left leaves [] → line.count ≡ 1000000000 → run.counts.lines < 1000000 → Appends b c run.waits → Exceeded makes ends start script leaves c machine
   Exceeded_bytes script left leaves b c machine run line between takes endless few sent =
       let (part, is, read) = LinesRead-part between.read takes in
@@ -213,7 +213,7 @@ module _ {V : Type 0} (makes ends : V → List ℕ → V → Reply → Type 0) (
       exceeded script leaves b c machine run between.lines part between.answered read (inr long) within (not_all script between.lines first more lines_are within) sent
 
   -- a write fault, as an answer
-  pub Turn_write : (left written : Option (List ℕ)) (machine : V) (run : LinesValue) (result : Result Next RunFault) → IsErrAnd result (λ fault. fault ≡ Write)
+  pub Turn_write : (left written : Option (List ℕ)) (machine : V) (run : LineLoopValue) (result : Result Next RunFault) → IsErrAnd result (λ fault. fault ≡ Write)
       → IfSome start.left (λ script. Cut makes ends start script left written machine) → TurnsTo makes ends start left written machine run result
   Turn_write left written machine run result answered ended =
       let (fault, is, write) = err_from_is_err_and result answered in
@@ -225,7 +225,7 @@ module _ {V : Type 0} (makes ends : V → List ℕ → V → Reply → Type 0) (
       let (fault, is, write) = err_from_is_err_and result answered in
       subst (EndsBy makes ends start left written machine) (sym is) (subst (λ (f : RunFault). EndsBy makes ends start left written machine (Err f)) (sym write) ended)
 
-  -- a fault that is handed on
+  -- a fault that is passed on
   pub Handed_on : (left written : Option (List ℕ)) (machine : V) (fault : RunFault) (result : Result Counts RunFault) → IsErrAnd result (λ other. other ≡ fault) → EndsBy makes ends start left written machine (Err fault) → EndsBy makes ends start left written machine result
   Handed_on left written machine fault result answered ended =
       let (other, is, same) = err_from_is_err_and result answered in

@@ -1,4 +1,4 @@
--- What was read of a stream, one note after another.
+-- What was read of a stream, one report after another.
 use Rattle.std.proofs.Common.{◌≡◌, ℕ, ◌+◌, ◌≤◌, List, [], ◌∷◌, ◌++◌, length, Option, None, Some, IfSome, inl, inr, refl, sym, ap, ◌∙◌, subst, arith, length-append, append-nil}
 use Rattle.pn_record.specs.declared.image.Image.{Image}
 use Rattle.pn_stream.specs.Batches.{Stream, Batch, SoFar}
@@ -6,17 +6,17 @@ use Rattle.pn_stream.specs.Streams.{Run, NoLine}
 use Rattle.pn_stream.specs.declared.fault.StreamFault.{StreamFault}
 use Rattle.pn_stream.proofs.Runs.{Run-append, SoFar-none, on_rest}
 use Rattle.pn_serve.specs.declared.server.messages.Messages.{Messages}
-use Rattle.pn_serve.specs.declared.server.notes.Note.{Note}
-use Rattle.pn_serve.specs.declared.server.notes.Note.TheVariants.{Taken, End, Fault}
+use Rattle.pn_serve.specs.declared.server.reports.Report.{Report}
+use Rattle.pn_serve.specs.declared.server.reports.Report.TheVariants.{Taken, End, Fault}
 use Rattle.pn_serve.specs.Server.Messages.{max_messages}
-use Rattle.pn_serve.specs.Server.Notes.{IsTaken, Leaves}
+use Rattle.pn_serve.specs.Server.Reports.{IsTaken, Leaves}
 use Rattle.pn_serve.specs.Server.Whole.{IsAllMessages, IsReadUpTo, IsWhole, WasRead}
 
 none_yet : (position : ℕ) (part : List ℕ) (left : Option (List ℕ)) → IfSome left (λ text. SoFar position (part ++ text) [] part left) → IfSome left (λ text. IsReadUpTo position (part ++ text) position part left)
 none_yet position part None so = tt
 none_yet position part (Some text) so = record { images = []; read = so; last_is = omega arith }
 
--- before the first note
+-- before the first report
 pub read_none : {S : Type 0} (left : S → Option (List ℕ)) (stream : Stream S) → WasRead left stream stream
 read_none left stream none = (none, none_yet stream.position stream.part (left stream.source) (SoFar-none stream.position stream.part [] (left stream.source) refl))
 
@@ -43,7 +43,7 @@ more_taken left first old new messages read leaves none =
     )
 
 -- once more messages were taken
-pub read_on : {S : Type 0} (left : S → Option (List ℕ)) (first old new : Stream S) (note : Note) → WasRead left first old → Leaves left old note new → IsTaken note → WasRead left first new
+pub read_on : {S : Type 0} (left : S → Option (List ℕ)) (first old new : Stream S) (report : Report) → WasRead left first old → Leaves left old report new → IsTaken report → WasRead left first new
 read_on left first old new (Taken messages) read leaves taken = more_taken left first old new messages read leaves
 read_on left first old new End read leaves taken = absurd taken
 read_on left first old new (Fault name) read leaves taken = absurd taken
@@ -65,8 +65,8 @@ all_messages position last front part now (Some text) left leaves read batch =
     }
 
 -- once the end was found
-pub whole_at_end : {S : Type 0} (left : S → Option (List ℕ)) (first old new : Stream S) (note : Note) → WasRead left first old → Leaves left old note new → note ≡ End → IsWhole left first
-whole_at_end left first old new note read told is =
-    let leaves : Leaves left old End new = subst (λ (n : Note). Leaves left old n new) is told in
+pub whole_at_end : {S : Type 0} (left : S → Option (List ℕ)) (first old new : Stream S) (report : Report) → WasRead left first old → Leaves left old report new → report ≡ End → IsWhole left first
+whole_at_end left first old new report read told is =
+    let leaves : Leaves left old End new = subst (λ (n : Report). Leaves left old n new) is told in
     let before = read leaves.0 in
     (before.0, all_messages first.position old.position first.part old.part new.part (left first.source) (left old.source) (left new.source) before.1 leaves.2)

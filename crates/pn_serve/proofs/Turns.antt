@@ -1,8 +1,8 @@
--- What lines that say something do, by what the program did.
+-- Turns of lines, by what the program did.
 use Rattle.std.proofs.Common.{◌≡◌, ℕ, Bool, true, false, if◌then◌else◌, List, [], ◌∷◌, length, refl, sym, ap, ◌∙◌, subst, inl, inr, arith}
 use Rattle.std.proofs.lemmas.Bool.{cases_lt}
 use Rattle.std.proofs.lemmas.Bool.Decides.{nat_tests}
-use Rattle.std.specs.Prelude.{◌≢◌, Result, Ok, Err, Vec, IfOk, MatchResult}
+use Rattle.std.specs.Prelude.{◌≢◌, Result, Ok, Err, Vec, MatchResult}
 use Rattle.serde_json.specs.Data.{Data}
 use Rattle.pn_scan.specs.Reads.{AnswersAfter}
 use Rattle.pn_scan.specs.declared.fault.ScanFault.{ScanFault}
@@ -18,24 +18,27 @@ use Rattle.pn_region.specs.Logged.{LoggedRegion, noting, breaking}
 use Rattle.pn_region.specs.Regions.{RegionValue}
 use Rattle.pn_region.specs.Rounds.{joins, changed, IsHalfTaken, round as taken_round}
 use Rattle.pn_region.specs.declared.fault.RoundFault.{RoundFault}
-use Rattle.pn_serve.specs.declared.reply.Reply.{Reply}
-use Rattle.pn_serve.specs.declared.reply.Reply.TheVariants.{Adopted, Changed, Copied, Lost, Silent, Text, Refused, NotTaken}
-use Rattle.pn_serve.specs.declared.refusal.Refusal.{Refusal}
-use Rattle.pn_serve.specs.declared.refusal.Refusal.TheVariants.{TooLong, NotJson, BadShape, ReadOnly, OutOfRange, Memory}
-use Rattle.pn_serve.specs.Command.Meaning.{CommandValue, deliver}
-use Rattle.pn_serve.specs.Command.Lines.{command_at, is_too_long}
-use Rattle.pn_serve.proofs.LongLines.{too_long}
+use Rattle.pn_protocol.specs.declared.reply.Reply.{Reply}
+use Rattle.pn_protocol.specs.declared.reply.Reply.TheVariants.{Adopted, Changed, Copied, Lost, Silent, Text, Refused, NotTaken}
+use Rattle.pn_protocol.specs.declared.refusal.Refusal.{Refusal}
+use Rattle.pn_protocol.specs.declared.refusal.Refusal.TheVariants.{TooLong, NotJson, BadShape, ReadOnly, OutOfRange, Memory}
+use Rattle.pn_protocol.specs.Command.Meaning.{CommandValue, deliver}
+use Rattle.pn_protocol.specs.Command.Lines.{command_at, is_too_long}
+use Rattle.pn_protocol.proofs.CommandLines.{too_long}
+use Rattle.pn_protocol.specs.declared.command.parse.Allowed.TheVariants.{All}
 use Rattle.pn_serve.specs.Machine.Outcomes.{Outcome, Machine, done, line, call, round, idle, Turn, waiting, refusing, showing}
 use Rattle.pn_serve.specs.Machine.PartRounds.{some_stepped, partly_marked}
 use Rattle.pn_serve.specs.Machine.Doing.{delivering, looking}
 use Rattle.pn_serve.specs.Machine.Turns.{obeying, turn_of, outcome_at, turn}
 use Rattle.pn_serve.specs.Machine.Answers.{IsReadUnless, Turned, TurnedBy, AnswersBy, Obeys}
-use Rattle.pn_serve.specs.Machine.Refusals.{Refuses}
-use Rattle.pn_serve.specs.Reply.Faults.{fault_data}
-use Rattle.pn_serve.specs.Reply.Short.{changed_data}
+use Rattle.pn_protocol.specs.Reply.Answers.{ShowsFound}
+use Rattle.pn_protocol.specs.Reply.Refusals.{Refuses}
+use Rattle.pn_protocol.specs.Reply.Faults.{fault_data}
+use Rattle.pn_protocol.specs.Reply.Short.{changed_data}
+use Rattle.pn_json.specs.Answers.{ShowsUnless}
 use Rattle.pn_json.specs.Lines.{line_of}
 
--- what memory that ran out in a call makes of a command
+-- out of memory in a call, a command is refused so
 abbrev pub RunsOut : LoggedRegion → CommandValue → Type 0
 RunsOut region command = obeying (waiting region) call command ≡ refusing (waiting region) Memory
 
@@ -48,7 +51,7 @@ turned_call old new command out same = record {
   refused = ap (λ (t : Turn). t.refused) out;
 }
 
--- an outcome of a command is one of its line, which was read
+-- an outcome of a command is one of its line
 abbrev pub read_whole : Outcome → Outcome
 read_whole line = done
 read_whole outcome = outcome
@@ -68,7 +71,7 @@ as_obeyed machine (round flags) command = refl
 -- a line that is a command is not too long
 pub within : (text : List ℕ) (command : CommandValue) → command_at text ≡ Ok command → is_too_long text ≡ false
 within text command said = elim (cases_lt 65536 (length text)) [
-  | inl long ↦ absurd (let refused = too_long text long in cc)
+  | inl long ↦ absurd (let refused = too_long All text long in cc)
   | inr short ↦ grind (arith, nat_tests)
 ]
 
@@ -81,7 +84,7 @@ pub as_said : (test : Bool) → (if test then done else done) ≡ done
 as_said true = refl
 as_said false = refl
 
--- a turn of a line comes to what the turn that it is comes to
+-- equal turns come to the same machine and reply
 pub turned_read : (may : Type 0) (turns others : Outcome → Turn) (machine : Machine) (reply : Reply) (is : Turned turns machine reply) (outcome : Outcome) → IsReadUnless may outcome → others outcome ≡ turns is.outcome
     → TurnedBy may others machine reply
 turned_read may turns others machine reply is outcome read same = record {
@@ -102,7 +105,7 @@ turned_as may turns others machine reply is outcome read same = record {
   refused = ap (λ (t : Turn). t.refused) same ∙ is.refused;
 }
 
--- where memory cannot run out, a line goes as one may that is read
+-- a line that was read whatever memory does, was read
 weaker : (may : Type 0) (outcome : Outcome) → IsReadUnless ⊥ outcome → IsReadUnless may outcome
 weaker may done read = tt
 weaker may line read = absurd read
@@ -112,7 +115,7 @@ weaker may (round flags) read = tt
 pub turned_always : (may : Type 0) (turns : Outcome → Turn) (machine : Machine) (reply : Reply) → TurnedBy ⊥ turns machine reply → TurnedBy may turns machine reply
 turned_always may turns machine reply is = turned_as may turns turns machine reply is is.outcome (weaker may is.outcome is.read) refl
 
--- the command that a line is was obeyed
+-- the command of a line was run
 pub turned_said : (may : Type 0) (text : List ℕ) (command : CommandValue) (old : LoggedRegion) (new : Machine) (reply : Reply) → command_at text ≡ Ok command → Obeys (waiting old) command new reply → AnswersBy may (waiting old) text new reply
 turned_said may text command old new reply said obeys =
     let outcome = read_whole obeys.outcome in
@@ -155,14 +158,6 @@ turned_text old new command reply text shows same is = record {
 
 -- a lookup of the region, and what is right for it
 module _ {A : Type 0} (region : LoggedRegion) (command : CommandValue) (show : A → Data) (right : Result A ScanFault) (does : obeying (waiting region) done command ≡ looking (waiting region) show right) (out : RunsOut region command) where
-  -- what it found was shown, or there was no memory for the text
-  pub turned_found : {E : Type 0} (found : A) (text : Result (Vec ℕ Global) E) (reply : Reply) → right ≡ Ok found → IfOk text (λ t. t.items ≡ line_of (show found))
-      → MatchResult text (λ t. reply ≡ Text t) (λ _. reply ≡ Refused Memory) → Obeys (waiting region) command (waiting region) reply
-  turned_found found (Ok text) reply is says shown =
-      subst (λ (r : Reply). Obeys (waiting region) command (waiting region) r) (sym shown) (turned_text region region command (line_of (show found)) text (does ∙ ap (looking (waiting region) show) is) refl says)
-  turned_found found (Err e) reply is says shown =
-      subst (λ (r : Reply). Obeys (waiting region) command (waiting region) r) (sym shown) (turned_call region region command out refl)
-
   no_memory : (reply : Reply) → reply ≡ Refused Memory → Obeys (waiting region) command (waiting region) reply
   no_memory reply is = subst (λ (r : Reply). Obeys (waiting region) command (waiting region) r) (sym is) (turned_call region region command out refl)
 
@@ -183,12 +178,26 @@ module _ {A : Type 0} (region : LoggedRegion) (command : CommandValue) (show : A
   turned_why fault (Text text) is says = no_memory (Text text) says
   turned_why fault (Refused refusal) is says = no_memory (Refused refusal) says
 
--- what is right where the region answered a fault
-pub read_fault : {A : Type 0} (before right : Result A ScanFault) (fault : ScanFault) → AnswersAfter before (Err fault) right → fault ≢ scan.Memory → right ≡ Err fault
-read_fault before right scan.Memory is other = absurd (other refl)
-read_fault before right (scan.Recovering tablet) is other = is
-read_fault before right (scan.Behind has) is other = is
-read_fault before right scan.NoEntry is other = is
+  -- what it found was shown, or there was no memory for the text
+  pub turned_shown : {B : Type 0} (seen : B → A) (found : Result B ScanFault) (reply : Reply) → ShowsUnless scan.Memory seen found right → ShowsFound (λ b. show (seen b)) found reply
+      → Obeys (waiting region) command (waiting region) reply
+  turned_shown seen (Ok found) (Text text) is shows = turned_text region region command (line_of (show (seen found))) text (does ∙ ap (looking (waiting region) show) is) refl shows
+  turned_shown seen (Ok found) (Adopted tablet) is shows = no_memory (Adopted tablet) shows
+  turned_shown seen (Ok found) (Changed count) is shows = no_memory (Changed count) shows
+  turned_shown seen (Ok found) (Copied lines text) is shows = no_memory (Copied lines text) shows
+  turned_shown seen (Ok found) (Lost tablet) is shows = no_memory (Lost tablet) shows
+  turned_shown seen (Ok found) Silent is shows = no_memory Silent shows
+  turned_shown seen (Ok found) (Refused refusal) is shows = no_memory (Refused refusal) shows
+  turned_shown seen (Ok found) (NotTaken text) is shows = no_memory (NotTaken text) shows
+  turned_shown seen (Err fault) reply is refuses = turned_why fault reply is refuses
+
+-- what was read is right, or memory ran out
+pub read_shows : {A : Type 0} (before right found : Result A ScanFault) → AnswersAfter before found right → ShowsUnless scan.Memory (λ found. found) found right
+read_shows before right (Ok found) is = is
+read_shows before right (Err scan.Memory) is = λ other. absurd (other refl)
+read_shows before right (Err (scan.Recovering tablet)) is = λ other. is
+read_shows before right (Err (scan.Behind has)) is = λ other. is
+read_shows before right (Err scan.NoEntry) is = λ other. is
 
 module _ (old new : LoggedRegion) (deliveries : List DeliveryValue) where
   -- the round ended

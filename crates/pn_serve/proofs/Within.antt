@@ -15,7 +15,7 @@ test line = nat_lt (length line) 1000000000
 passes : (line : List ℕ) → IsShort line → test line ≡ true
 passes line short = grind (arith, nat_tests, short)
 
--- short lines, as many as there may be, come through
+-- short lines, at most as many as allowed, are kept
 front : (n : ℕ) (lines more : List (List ℕ)) → All IsShort lines → length lines ≤ n
     → take_while test (take n (lines ++ more)) ≡ lines ++ take_while test (take (n - length lines) more)
 front n [] more are few = let all : n - 0 ≡ n = omega arith in ap (λ k. take_while test (take k more)) (sym all)
@@ -63,7 +63,7 @@ within-endless text lines line more is are few long =
     stops zero = refl
     stops (suc n) = take_while-cons test line (take n more) ∙ ap (λ b. cond b (line ∷ take_while test (take n more)) []) fails
 
--- some lines are not all of them
+-- some lines are not all lines
 pub not_all : (text : List ℕ) (lines : List (List ℕ)) (line : List ℕ) (more : List (List ℕ)) → lines_of text ≡ lines ++ line ∷ more → lines_within text ≡ lines → lines_within text ≢ lines_of text
 not_all text lines line more is within same = longer lines (sym within ∙ same ∙ is)
   where

@@ -1,10 +1,8 @@
-pub mod Command
 pub mod Lines
 pub mod Machine
-pub mod Reply
 pub mod Runs
 pub mod Script
 pub mod Server
 pub mod Session
 pub mod Settings
-pub mod Words
+pub mod Arguments

@@ -1,4 +1,4 @@
--- What a server of lines has done between two lines, and where it ends: it reads lines, and sends the replies of a machine.
+-- The states of a line loop: it reads lines, and writes the replies of a handler.
 pub mod Answered
 pub mod Coding
 pub mod Ends

@@ -7,6 +7,5 @@ pub mod Modes
 pub mod Outcomes
 pub mod PartRounds
 pub mod Recovering
-pub mod Refusals
 pub mod Turns
 pub mod Ways

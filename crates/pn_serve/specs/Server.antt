@@ -1,7 +1,6 @@
--- Streams that are served: what their threads leave, which fault is answered, and what is written.
+-- Served streams: the reports of their threads, and which fault is answered.
 pub mod Faults
 pub mod Messages
-pub mod Notes
+pub mod Reports
 pub mod Sessions
 pub mod Whole
-pub mod Written

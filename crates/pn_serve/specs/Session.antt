@@ -1,3 +1,3 @@
--- What a session makes of lines.
+-- Sessions.
 pub mod Lines
 pub mod Lookups

@@ -1,8 +1,8 @@
--- How a script is answered.
+-- Settings of a region.
 use Rattle.std.specs.Prelude.{ℕ}
 use Rattle.pn_tablet.specs.Layouts.{Bounds}
 
--- how the keys are divided into tablets, and how many workers a round has
+-- the layout, and the workers of a round
 pub record SettingsValue : Type 0 where
   pub layout : Bounds
   pub workers : ℕ

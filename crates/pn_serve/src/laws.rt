@@ -1,7 +1,7 @@
-//! The law of lines that are answered one after another, as a contract. A call does nothing.
+//! The law of scripts, as a contract. A call does nothing.
 //!
-//! It speaks of any lines with their newlines: `parts_of script` has those of a whole script, and a run that stopped says
-//! which it answered.
+//! It speaks of lines with their newlines: `parts_of script` has those of a whole script, and a run that stopped
+//! names those that it answered.
 
 ghost use Rattle.std.specs.Prelude.{◌≡◌, ℕ, max, List};
 ghost use Rattle.pn_join.specs.Laws.{JoinLaws};
@@ -10,8 +10,8 @@ ghost use Rattle.pn_record.specs.CellMap.{table_of};
 ghost use Rattle.pn_record.specs.Sets.{cell_joined};
 ghost use Rattle.pn_region.specs.Events.{AreHonestEvents};
 ghost use Rattle.pn_region.specs.Regions.{new_region};
-ghost use Rattle.pn_serve.specs.Command.Lines.{command_at};
-ghost use Rattle.pn_serve.specs.Command.Lookups.{AsksForRecords};
+ghost use Rattle.pn_protocol.specs.Command.Lines.{command_at};
+ghost use Rattle.pn_protocol.specs.Command.Lookups.{AsksForRecords};
 ghost use Rattle.pn_serve.specs.Machine.Outcomes.{Outcome};
 ghost use Rattle.pn_serve.specs.Machine.Turns.{turn};
 ghost use Rattle.pn_serve.specs.Script.Events.{happened, happened_from};
@@ -21,12 +21,10 @@ ghost use Rattle.pn_serve.specs.Script.Told.{Told, machine_of, records_of, image
 ghost use Rattle.pn_serve.specs.Script.Written.{machine_after};
 ghost use Rattle.pn_stream.specs.Brokers.{BrokerRecord};
 
-/// Two regions that took the same images, in whatever order, however cut into batches and tablets, repeated, lost and
-/// recovered, hold exactly the records of these images, and each further line that asks for records has the same reply of
-/// both, unless memory runs out. Joining is commutative, associative and idempotent. A line leaves no record
-/// older whose tablet serves before and after it, nor do many lines where all that came was honest.
+/// Two regions that took the same images hold exactly their records, and answer further lookups alike, unless memory
+/// runs out. Honest lines make no record of a serving tablet older.
 ///
-/// A record of brokers stands for what was published. A region that lost and adopted nothing needs none: any will do.
+/// The record of brokers is what was published. Without losses and adoptions, any record will do.
 pub fn regions_converge()
     ensures records { (broker : BrokerRecord) (one other : Told) → TookTheSame broker one other
         → (records_of one ≡ table_of (images_of broker one)) × (records_of other ≡ table_of (images_of broker one)) }

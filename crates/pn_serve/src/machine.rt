@@ -1,40 +1,37 @@
-//! What lines do to a region, and their replies.
+//! Runs the commands of lines over a region.
 
 ghost use Rattle.std.specs.Prelude.{◌≡◌, ◌≤◌};
 ghost use Rattle.pn_apply.specs.Limits.{max_workers};
-ghost use Rattle.pn_serve.specs.Command.Meaning.{command_value, deliver as asking};
-ghost use Rattle.pn_serve.specs.Machine.Modes.{IsBegun, with_mode};
+ghost use Rattle.pn_protocol.specs.Command.Meaning.{command_value, deliver as asking};
+ghost use Rattle.pn_serve.specs.Machine.Modes.{IsDone, with_mode};
 ghost use Rattle.pn_serve.specs.Machine.Outcomes.{waiting};
 ghost use Rattle.pn_serve.specs.Machine.Answers.{AnswersBy, ConcludesBy, Obeys};
-ghost use Rattle.pn_serve.specs.Machine.Ways.{BeginsTo, LastsBy};
+ghost use Rattle.pn_serve.specs.Machine.Ways.{HandlesTo, LastsBy};
 
-pub(crate) mod announced;
+pub(crate) mod adoption;
+pub(crate) mod command_reader;
+pub(crate) mod line_handler;
 pub(crate) mod lookups;
-pub(crate) mod reading;
-pub(crate) mod scripted;
-pub(crate) mod serving;
+pub(crate) mod script_handler;
 pub(crate) mod tablets;
 
-use crate::machine::announced::{Announced, adopt, finish, go_on};
-use crate::machine::lookups::{get, notices, read, scan, shown};
-use crate::machine::reading::Reads;
+use crate::machine::adoption::{Announced, adopt, finish, go_on};
+use crate::machine::command_reader::CommandReader;
+use crate::machine::lookups::{get, notices, read, scan};
 use crate::machine::tablets::{copy, lose};
-use crate::reply::marks::marks_reply;
-use crate::reply::tablets::tablets_reply;
-use crate::{Command, Refusal, Reply, fault_reply};
 use pn_apply::Open;
+use pn_protocol::{Command, Refusal, Reply, fault_reply, marks_reply, shown, tablets_reply};
 use pn_region::{Region, RoundFault};
 use pn_stream::Delivery;
 use std::alloc::Global;
 use std::thread::Threads;
 
-/// What a line came to: its reply, and the lines that are announced behind it.
+/// The reply to a line, and the lines that it announces.
 pub(crate) type Done = (Reply, Option<Announced>);
 
-/// Takes a line, which stood before a newline, with 1 to 16 workers: a command, or one of the lines that were
-/// announced. A refusal leaves the region as it was; but after a round that ran out of memory, each tablet is as
-/// it was or has taken its part. Where `C` never runs out of memory, a loss never does.
-pub(crate) fn answer<R: Threads + Sync, C: Reads>(
+/// Answers a line with its newline: a command, or an announced line. Only a round out of memory leaves some tablets
+/// changed. If `C` never runs out of memory, losses never do.
+pub(crate) fn answer<R: Threads + Sync, C: CommandReader>(
     rt: &R,
     alloc: Global,
     region: &mut Region,
@@ -51,7 +48,7 @@ pub(crate) fn answer<R: Threads + Sync, C: Reads>(
     }
 }
 
-fn command<R: Threads + Sync, C: Reads>(
+fn command<R: Threads + Sync, C: CommandReader>(
     rt: &R,
     alloc: Global,
     region: &mut Region,
@@ -67,19 +64,18 @@ fn command<R: Threads + Sync, C: Reads>(
     }
 }
 
-// The reply to a command, or the lines that it announces.
-fn announce(alloc: Global, begun: Begun) -> Done
-    ensures { IsBegun begun result.0 result.1 }
+// Waits for the lines that a command announces.
+fn announce(alloc: Global, handled: Handled) -> Done
+    ensures { IsDone handled result.0 result.1 }
 {
-    match begun {
-        Begun::Obeyed(reply) => (reply, None),
-        Begun::Announces(lines) => (Reply::Silent, Some(Announced::new(alloc, lines))),
+    match handled {
+        Handled::Obeyed(reply) => (reply, None),
+        Handled::Announces(lines) => (Reply::Silent, Some(Announced::new(alloc, lines))),
     }
 }
 
-/// The input is at its end, behind a part of a line that no newline ends: a command, a part of what was announced,
-/// or nothing.
-pub(crate) fn end<R: Threads + Sync, C: Reads>(
+/// Answers the end of the input, after a part of a line without newline: a command, an announced part, or nothing.
+pub(crate) fn end<R: Threads + Sync, C: CommandReader>(
     rt: &R,
     alloc: Global,
     region: &mut Region,
@@ -97,8 +93,8 @@ pub(crate) fn end<R: Threads + Sync, C: Reads>(
     }
 }
 
-// A last line without newline. No line that it announces comes.
-fn last_command<R: Threads + Sync, C: Reads>(
+// Answers a last line without newline. No line that it announces can come.
+fn last_command<R: Threads + Sync, C: CommandReader>(
     rt: &R,
     alloc: Global,
     region: &mut Region,
@@ -110,19 +106,19 @@ fn last_command<R: Threads + Sync, C: Reads>(
 {
     match C::command_of(alloc, line) {
         Ok(command) => match obey(rt, alloc, region, workers, command) {
-            Begun::Obeyed(reply) => reply,
-            Begun::Announces(_) => adopt(alloc, region, Some(Vec::new(alloc))),
+            Handled::Obeyed(reply) => reply,
+            Handled::Announces(_) => adopt(alloc, region, Some(Vec::new(alloc))),
         },
         Err(refusal) => Reply::Refused(refusal),
     }
 }
 
-// What a command came to before the next line.
+// The first step of a command.
 #[derive(Drop)]
-enum Begun {
-    /// It was obeyed, with this reply.
+enum Handled {
+    /// It was run, with this reply.
     Obeyed(Reply),
-    /// It announces so many lines.
+    /// It announces this many lines.
     Announces(u64),
 }
 
@@ -132,27 +128,27 @@ fn obey<R: Threads + Sync>(
     region: &mut Region,
     workers: usize,
     command: Command,
-) -> Begun
+) -> Handled
     requires workers { (1 ≤ workers) × (workers ≤ max_workers) }
-    ensures { BeginsTo region.old (command_value command) region.new result }
+    ensures { HandlesTo region.old (command_value command) region.new result }
 {
     match command {
-        Command::Adopt { lines } => Begun::Announces(lines),
-        Command::Copy { need, tablet } => Begun::Obeyed(copy(alloc, region, &need, tablet)),
-        Command::Deliver(deliveries) => Begun::Obeyed(deliver(
+        Command::Adopt { lines } => Handled::Announces(lines),
+        Command::Copy { need, tablet } => Handled::Obeyed(copy(alloc, region, &need, tablet)),
+        Command::Deliver(deliveries) => Handled::Obeyed(deliver(
             rt, alloc, region, workers, deliveries,
         )),
-        Command::Get(keys) => Begun::Obeyed(get(alloc, region, &keys)),
-        Command::Lose { tablet } => Begun::Obeyed(lose(region, tablet)),
-        Command::Marks => Begun::Obeyed(shown(marks_reply(alloc, region.marks()))),
-        Command::Notices { since } => Begun::Obeyed(notices(alloc, region, since)),
-        Command::Read { key, version } => Begun::Obeyed(read(alloc, region, &key, version)),
-        Command::Scan(query) => Begun::Obeyed(scan(alloc, region, &query)),
-        Command::Tablets => Begun::Obeyed(shown(tablets_reply(alloc, region))),
+        Command::Get(keys) => Handled::Obeyed(get(alloc, region, &keys)),
+        Command::Lose { tablet } => Handled::Obeyed(lose(region, tablet)),
+        Command::Marks => Handled::Obeyed(shown(marks_reply(alloc, region.marks()))),
+        Command::Notices { since } => Handled::Obeyed(notices(alloc, region, since)),
+        Command::Read { key, version } => Handled::Obeyed(read(alloc, region, &key, version)),
+        Command::Scan(query) => Handled::Obeyed(scan(alloc, region, &query)),
+        Command::Tablets => Handled::Obeyed(shown(tablets_reply(alloc, region))),
     }
 }
 
-// One round of the deliveries.
+// Runs one round of the deliveries.
 fn deliver<R: Threads + Sync>(
     rt: &R,
     alloc: Global,

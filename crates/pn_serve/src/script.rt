@@ -1,4 +1,4 @@
-//! Scripts: line after line is read, answered, and its reply written out.
+//! Scripts: each line is read and answered, and its reply is written.
 
 ghost use Rattle.std.specs.Prelude.{◌≡◌, IsErrOf};
 ghost use Rattle.pn_serve.specs.declared.script.RunFault.TheVariants.{Write, Memory};
@@ -9,12 +9,12 @@ ghost use Rattle.pn_serve.specs.Runs.Ends.{Ends};
 ghost use Rattle.pn_serve.specs.Runs.Starts.{begins};
 
 mod blocks;
-pub(crate) mod turns;
+pub(crate) mod line_loop;
 
 use crate::Settings;
-use crate::machine::scripted::Scripted;
-use crate::machine::serving::Serves;
-use crate::script::turns::{Lines, Next};
+use crate::machine::line_handler::LineHandler;
+use crate::machine::script_handler::ScriptHandler;
+use crate::script::line_loop::{LineLoop, Next};
 use pn_join::NoMemory;
 use pn_line::{Sink, Source, WriteFault};
 use std::alloc::Global;
@@ -22,10 +22,10 @@ use std::mem;
 use std::thread::Threads;
 use thiserror::Error;
 
-/// How many lines of a script are answered.
+/// The greatest number of lines that a script may have.
 pub const MAX_LINES: u64 = 1_000_000;
 
-/// How many lines a script had, and how many of its replies are refusals.
+/// How many lines were answered, and how many of the replies are refusals.
 #[derive(Clone, Copy, Debug, PartialEq, Eq)]
 pub struct Counts {
     pub lines: u64,
@@ -35,17 +35,17 @@ pub struct Counts {
 /// Why a script was not answered to its end.
 #[derive(Clone, Copy, Debug, PartialEq, Eq, Error)]
 pub enum RunFault {
-    /// The reader failed. The replies to all lines read whole were written.
+    /// The reader failed. The replies to all whole lines were written.
     #[error("the input could not be read")]
     Read,
     /// The writer failed or took no byte. A prefix of the replies was written.
     #[error("the replies could not be written")]
     Write,
-    /// A line came after the first 1,000,000, or did not end after 1,000,000,000 bytes. The replies to
-    /// all lines before it were written. Of the line itself nothing was read, or that many bytes.
+    /// A line after the first 1,000,000, or a line of 1,000,000,000 bytes without end. The replies to all lines
+    /// before it were written.
     #[error("the input has too many lines, or a line without end")]
     TooManyTurns,
-    /// There was no memory to begin with. Nothing was read or written.
+    /// Out of memory before the first line. Nothing was read or written.
     #[error("out of memory")]
     Memory,
 }
@@ -66,8 +66,8 @@ impl From<NoMemory> for RunFault {
     }
 }
 
-/// Answers the lines of a script until its end, each by one reply, over a new region, and writes each reply
-/// before it waits for more input.
+/// Answers each line of a script with one reply, over a new region. Replies are written before it waits for more
+/// input.
 pub fn run<R: Threads + Sync, S: Source, W: Sink>(
     rt: &R,
     alloc: Global,
@@ -79,13 +79,12 @@ pub fn run<R: Threads + Sync, S: Source, W: Sink>(
     ensures read { IsErrOf result RunFault.Read → S.may_fail }
     ensures write { IsErrOf result RunFault.Write → W.may_fail }
 {
-    let mut lines = Lines::new(alloc)?;
-    let mut machine = Scripted::new(rt, alloc, settings)?;
+    let mut lines = LineLoop::new(alloc)?;
+    let mut machine = ScriptHandler::new(rt, alloc, settings)?;
     answer_all(&mut machine, &mut lines, input, output)
 }
 
-/// As [`run`], for a process that ends then: its region's memory is not given back piece by piece, but goes
-/// with the process.
+/// [`run`] for a process that ends afterwards: the region's memory goes with the process and is not freed.
 pub fn run_to_exit<R: Threads + Sync, S: Source, W: Sink>(
     rt: &R,
     alloc: Global,
@@ -97,17 +96,17 @@ pub fn run_to_exit<R: Threads + Sync, S: Source, W: Sink>(
     ensures read { IsErrOf result RunFault.Read → S.may_fail }
     ensures write { IsErrOf result RunFault.Write → W.may_fail }
 {
-    let mut lines = Lines::new(alloc)?;
-    let mut kept = Scripted::new(rt, alloc, settings)?;
+    let mut lines = LineLoop::new(alloc)?;
+    let mut kept = ScriptHandler::new(rt, alloc, settings)?;
     let ended = answer_all(&mut kept, &mut lines, input, output);
     mem::forget(kept);
     ended
 }
 
-/// The machine answers all lines, of which none was answered.
-pub(crate) fn answer_all<M: Serves, S: Source, W: Sink>(
+/// Answers all lines.
+pub(crate) fn answer_all<M: LineHandler, S: Source, W: Sink>(
     machine: &mut M,
-    lines: &mut Lines,
+    lines: &mut LineLoop,
     input: &mut S,
     output: &mut W,
 ) -> Result<Counts, RunFault>

@@ -1,4 +1,4 @@
-//! Streams are read into a live region while sessions over TCP are answered from it.
+//! Reads streams into a live region while sessions over TCP are answered from it.
 
 ghost use Rattle.std.specs.Prelude.{◌≡◌, ◌≢◌, ◌≤◌, vec_len, vec_capacity, Ok, Err, IfOk, IfErr, OnOk, OnErr, IsErrOf, IsTrue};
 ghost use Rattle.std.specs.Io.KnownBytes.{Appends, Keeps};
@@ -9,26 +9,26 @@ ghost use Rattle.pn_live.specs.LiveRegions.{tablets_in};
 ghost use Rattle.pn_serve.specs.Server.Faults.{of_end};
 ghost use Rattle.pn_serve.specs.Server.Sessions.{AllRead};
 ghost use Rattle.pn_serve.specs.Server.Whole.{AreWhole};
-ghost use Rattle.pn_serve.specs.Server.Written.{served_line};
+ghost use Rattle.pn_protocol.specs.Reply.Short.{served_line};
 
 mod bell;
+mod connections;
 mod fault;
+mod mailbox;
 mod messages;
-mod notes;
-mod place;
+mod reports;
 mod rounds;
-mod sessions;
 mod streams;
 
 use crate::Settings;
-use crate::reply::short::served_reply;
+use crate::server::connections::{StartedSessions, begin_sessions, end_sessions};
 use crate::server::rounds::take_rounds;
-use crate::server::sessions::{Begun, begin_sessions, end_sessions};
 use crate::server::streams::{Feeds, Reading, begin_reading, end_reading};
 pub use fault::ServeFault;
 use pn_join::NoMemory;
 use pn_line::{Sink, Source, WriteFault, write_all_of};
 use pn_live::{LiveReader, LiveRegion, OpenFault};
+use pn_protocol::served_reply;
 use pn_region::Region;
 use pn_stream::StreamReader;
 use pn_tablet::Layout;
@@ -43,13 +43,11 @@ struct Opened {
     readers: Vec<LiveReader>,
 }
 
-/// Reads the streams into a new live region, each in a thread of its own, in rounds of at most 1,000 messages a stream.
-/// Meanwhile it answers so many sessions, from 1 to 16, each the one connection that its thread accepts. After the last
-/// one it writes `served N`, and how many they were.
+/// Reads streams into a new live region, at most 1,000 messages of each a round, while it answers 1 to 16 sessions.
+/// Then it writes `served N`.
 ///
-/// A fault of a stream or of a round ends the reading, and the sessions are served to their ends all the same. A session's
-/// own fault ends that session alone. The first fault in the order of `ServeFault` is answered. It waits for its sessions,
-/// and for the streams, but for those that still wait for messages after a fault.
+/// After a fault of a stream or a round, the sessions are still served. A session's fault ends that session alone.
+/// Faults come in the order of `ServeFault`.
 pub fn serve<R, S, W>(
     rt: &R,
     alloc: Global,
@@ -74,7 +72,7 @@ where
     conclude(served, out, sessions)
 }
 
-// Answers the fault of what went before, and writes nothing; else writes how many sessions were served.
+// Writes `served N`, unless an earlier fault is answered.
 fn conclude<W: Sink>(
     served: Result<(), ServeFault>,
     out: &mut W,
@@ -92,7 +90,7 @@ fn conclude<W: Sink>(
     }
 }
 
-// The same, but for what is written.
+// Serves over a new live region, and closes it.
 fn serve_region<R, S>(
     rt: &R,
     alloc: Global,
@@ -119,7 +117,7 @@ where
     end(served, closed)
 }
 
-// A new live region with so many readers, which are its own.
+// Opens a live region with this many readers.
 fn open<R: Wait>(
     rt: &R,
     alloc: Global,
@@ -140,7 +138,7 @@ fn close<R: Wait>(rt: &R, live: LiveRegion, readers: Vec<LiveReader>) -> Result<
     live.close(rt, readers)
 }
 
-// What went wrong before comes before want of memory at the end.
+// An earlier fault outranks out of memory while closing.
 fn end(served: Result<(), ServeFault>, closed: Result<Region, NoMemory>) -> Result<(), ServeFault>
     ensures first { result ≡ of_end served closed }
     ensures all { OnOk result (served ≡ Ok tt) }
@@ -153,7 +151,7 @@ fn end(served: Result<(), ServeFault>, closed: Result<Region, NoMemory>) -> Resu
     }
 }
 
-// Reads the streams while the sessions are served, and waits for the sessions, which give their readers back.
+// Reads the streams while the sessions are served, and takes the readers back from the sessions.
 fn serve_all<R, S>(
     rt: &R,
     alloc: Global,
@@ -175,7 +173,7 @@ where
     let Ok(reading) = begin_reading(rt, alloc, streams) else {
         return Err(ServeFault::Start);
     };
-    let Begun {
+    let StartedSessions {
         running,
         is_refused,
     } = begin_sessions(rt, alloc, listener, &opened.live, &mut opened.readers);
@@ -187,7 +185,7 @@ where
     end_reading(rt, threads)
 }
 
-// Takes what the streams leave, unless a session was refused.
+// Runs the rounds, unless a session was refused.
 fn take_all<R: Threads + Wait + Sync>(
     rt: &R,
     alloc: Global,
@@ -207,7 +205,7 @@ fn take_all<R: Threads + Wait + Sync>(
     take_rounds(rt, alloc, live, workers, feeds)
 }
 
-// Writes how many sessions were served.
+// Writes `served N`.
 fn write_served<W: Sink>(out: &mut W, sessions: usize) -> Result<(), ServeFault>
     ensures ok { OnOk result (Appends (W.contents out.old) (W.contents out.new) (served_line sessions)) }
     ensures err { OnErr result (AppendsPrefix (W.contents out.old) (W.contents out.new) (served_line sessions)) }
@@ -220,7 +218,7 @@ fn write_served<W: Sink>(out: &mut W, sessions: usize) -> Result<(), ServeFault>
     }
 }
 
-// Writes a line, and hands it on.
+// Writes a line and flushes it.
 fn send_line<W: Sink>(out: &mut W, line: &[u8]) -> Result<(), WriteFault>
     ensures ok { OnOk result (Appends (W.contents out.old) (W.contents out.new) line.now) }
     ensures err { OnErr result (AppendsPrefix (W.contents out.old) (W.contents out.new) line.now) }

@@ -1,4 +1,4 @@
-//! Sessions: lines are answered through a reader of a live region.
+//! Sessions: lines are answered by a reader of a live region.
 
 ghost use Rattle.std.specs.Prelude.{◌≡◌, IsErrOf};
 ghost use Rattle.pn_live.specs.Readers.{tablets_of};
@@ -7,20 +7,20 @@ ghost use Rattle.pn_serve.specs.Session.Lines.{AnswersLine, EndsLines, starts};
 
 mod lookups;
 
-use crate::machine::serving::Serves;
+use crate::machine::line_handler::LineHandler;
 use crate::script::answer_all;
-use crate::script::turns::Lines;
+use crate::script::line_loop::LineLoop;
 use crate::sessions::lookups::answer;
-use crate::{Counts, Reply, RunFault};
+use crate::{Counts, RunFault};
 use pn_line::{LineBuffer, Sink, Source};
 use pn_live::LiveReader;
+use pn_protocol::Reply;
 use std::alloc::Global;
 
-/// Answers the lines of a session until its end, each by one reply, through a reader of a live region, and writes each
-/// reply before it waits for more input. It answers `read`, `get`, `scan` and `copy`; every other command is refused as
-/// read-only. It waits for nobody but its input and its output.
+/// Answers each line of a session with one reply, before it waits for more input. Commands other than `read`, `get`,
+/// `scan` and `copy` are refused as read-only.
 ///
-/// `Memory` comes only before the first line; want of memory later is a reply.
+/// `Memory` comes only before the first line. Out of memory later is a reply.
 pub fn session<S: Source, W: Sink>(
     alloc: Global,
     reader: &mut LiveReader,
@@ -32,11 +32,11 @@ pub fn session<S: Source, W: Sink>(
     ensures write { IsErrOf result RunFault.Write → W.may_fail }
     ensures same { tablets_of reader.new ≡ tablets_of reader.old }
 {
-    let mut lines = Lines::new(alloc)?;
+    let mut lines = LineLoop::new(alloc)?;
     answer_all(reader, &mut lines, input, output)
 }
 
-impl Serves for LiveReader {
+impl LineHandler for LiveReader {
     ghost use Rattle.pn_serve.specs.Session.Lines.{AnswersLine, EndsLines};
     ghost use Rattle.pn_live.specs.Readers.{tablets_of};
     ghost use Rattle.std.specs.Prelude.{⊤};

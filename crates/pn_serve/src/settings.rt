@@ -1,4 +1,4 @@
-//! How a script is answered.
+//! Settings of a region.
 
 ghost use Rattle.std.specs.Prelude.{◌≡◌, ◌≤◌, ◌↔◌, IfSome, IsSome};
 ghost use Rattle.pn_tablet.specs.Layouts.{IsLayout};
@@ -8,7 +8,7 @@ use pn_apply::MAX_WORKERS;
 use pn_tablet::Layout;
 use std::marker::Model;
 
-/// How the keys are divided into tablets, and how many workers a round has.
+/// The settings of a region: its layout, and the workers of its rounds.
 #[derive(Debug, Drop)]
 pub struct Settings {
     pub(crate) layout: Layout,
@@ -29,7 +29,7 @@ impl Model for Settings {
 }
 
 impl Settings {
-    /// None where there are not 1 to 16 workers. It takes no memory.
+    /// None unless there are 1 to 16 workers.
     pub fn new(layout: Layout, workers: usize) -> Option<Settings>
         ensures made { IfSome result (λ settings. settings ≡ record { layout = layout; workers = workers }) }
         ensures exactly { IsSome result ↔ ((1 ≤ workers) × (workers ≤ max_workers)) }
@@ -37,12 +37,12 @@ impl Settings {
         if workers < 1 || workers > MAX_WORKERS {
             return None;
         }
-        // The layout says of itself that it is lawful.
+        // (shows that the layout is lawful)
         let _ = layout.count();
         Some(Settings { layout, workers })
     }
 
-    /// How the keys are divided into tablets. It takes no memory.
+    /// How the keys are divided into tablets.
     pub fn layout(&self) -> &Layout
         ensures layout { result.now ≡ self.now.layout }
         ensures lawful { IsLayout self.now.layout }
@@ -50,7 +50,7 @@ impl Settings {
         &self.layout
     }
 
-    /// How many workers a round has. It takes no memory.
+    /// How many workers a round has.
     pub fn workers(&self) -> usize
         ensures workers { result ≡ self.now.workers }
         ensures within { (1 ≤ result) × (result ≤ max_workers) }

@@ -1,9 +1,9 @@
-//! `pnuts`: its words say whether a script is answered or streams are served.
+//! `pnuts`: answers a script, or serves streams.
 #![tactic(auto)]
 
 mod served;
 
-use crate::served::{Wanted, serve_streams};
+use crate::served::serve_streams;
 use pn_serve::{Plan, PlanFault, RunFault, Settings, plan, run_to_exit};
 use std::alloc::Global;
 use std::env::Env;
@@ -15,7 +15,7 @@ use std::{env, io};
 /// How many bytes of the script are read at a time.
 const INPUT_ROOM: usize = 65_536;
 
-/// The status of words that are refused.
+/// The exit status of refused arguments.
 const REFUSED: u8 = 2;
 
 fn main(rt: HostRuntime) -> ExitCode {
@@ -31,15 +31,7 @@ fn main(rt: HostRuntime) -> ExitCode {
                 port,
                 streams,
             },
-        ) => serve_streams(
-            &rt,
-            Wanted {
-                settings,
-                sessions,
-                port,
-                streams,
-            },
-        ),
+        ) => serve_streams(&rt, settings, sessions, port, streams),
         Ok(Plan::Help(text)) => show(&rt, text.as_str()),
         Err(PlanFault::Words(text)) => refuse(&rt, text.as_str()),
         Err(PlanFault::Bounds) => refuse(&rt, "pnuts: bounds\n"),
@@ -59,7 +51,7 @@ fn show(rt: &impl Print, text: &str) -> ExitCode {
     }
 }
 
-// Where standard error takes nothing, the status alone tells of the fault.
+// If standard error takes nothing, the status alone shows the fault.
 fn refuse(rt: &impl Eprint, text: &str) -> ExitCode {
     let _ = eprint!(rt; "{text}");
     ExitCode::from(REFUSED)
@@ -70,8 +62,8 @@ fn fail(rt: &impl Eprint, why: &str) -> ExitCode {
     ExitCode::FAILURE
 }
 
-fn fail_about(rt: &impl Eprint, before: &str, name: &str, behind: &str) -> ExitCode {
-    let _ = eprintln!(rt; "pnuts: {before}{name}{behind}");
+fn fail_about(rt: &impl Eprint, before: &str, name: &str, after: &str) -> ExitCode {
+    let _ = eprintln!(rt; "pnuts: {before}{name}{after}");
     ExitCode::FAILURE
 }
 

@@ -1,6 +1,7 @@
 //! Streams from files, served to sessions over TCP.
 
-ghost use Rattle.std.specs.Prelude.{◌≡◌, vec_len, IfOk};
+ghost use Rattle.std.specs.Prelude.{◌≡◌, ◌≤◌, vec_len, IfOk};
+ghost use Rattle.pn_live.specs.Limits.{max_readers};
 
 use crate::{fail, fail_about};
 use pn_join::Name;
@@ -19,22 +20,16 @@ use std::thread::Threads;
 /// How many bytes of a stream are read at a time.
 const STREAM_ROOM: usize = 1_048_576;
 
-/// The most sessions that can be planned.
-const MAX_SESSIONS: usize = 16;
-
 type Stream = StreamReader<BufReader<File>>;
 
-/// What the words ask for: the settings of the region, how many sessions, the port, and the streams with their paths.
-#[derive(Drop)]
-pub(crate) struct Wanted {
-    pub(crate) settings: Settings,
-    pub(crate) sessions: usize,
-    pub(crate) port: u16,
-    pub(crate) streams: Vec<(Name, String)>,
-}
-
 /// Opens the streams, listens, and serves.
-pub(crate) fn serve_streams<R>(rt: &R, wanted: Wanted) -> ExitCode
+pub(crate) fn serve_streams<R>(
+    rt: &R,
+    settings: Settings,
+    sessions: usize,
+    port: u16,
+    streams: Vec<(Name, String)>,
+) -> ExitCode
 where
     R: AllocGlobal
         + Files<File = File>
@@ -47,13 +42,8 @@ where
         + Copy
         + Send
         + 'static,
+    requires { (1 ≤ sessions) × (sessions ≤ max_readers) }
 {
-    let Wanted {
-        settings,
-        sessions,
-        port,
-        streams,
-    } = wanted;
     let streams = match opened(rt, rt.alloc(), streams) {
         Ok(streams) => streams,
         Err(Unopened::File(name)) => return fail_about(rt, "cannot open ", name.as_str(), ""),
@@ -71,7 +61,7 @@ where
         rt.alloc(),
         &listener,
         settings,
-        sessions.clamp(1, MAX_SESSIONS),
+        sessions,
         streams,
         &mut out,
     ) {
@@ -88,7 +78,7 @@ enum Unopened {
     Memory,
 }
 
-// Opens the files of the streams, each in its turn.
+// Opens the files of the streams in their order.
 fn opened<R: Files<File = File>>(
     rt: &R,
     alloc: Global,

@@ -1,10 +1,10 @@
--- How what a server of lines has, and a machine, are stored in a proof.
+-- How the states of a line loop and of a machine are stored in a proof.
 use Rattle.std.specs.Prelude.{◌≡◌, ℕ, List, Option, None, Some, refl}
 use Rattle.std.specs.Coded.{Coded, code_by, coded×, coded_ℕ, coded_list, coded_option}
 use Rattle.pn_region.specs.Proofs.Coding.{region_code, entry_code}
 use Rattle.pn_region.specs.Regions.{RegionValue}
 use Rattle.pn_region.specs.declared.entry.Entry.{Entry}
-use Rattle.pn_serve.specs.Lines.States.{LinesValue}
+use Rattle.pn_serve.specs.Lines.States.{LineLoopValue}
 use Rattle.pn_serve.specs.Machine.Outcomes.{Mode, idle, announced, Machine}
 
 -- a mode as what was announced
@@ -32,8 +32,8 @@ machine_code =
     (λ _. refl)
 
 -- the line, the replies that wait, and the counts
-abbrev pub lines_code : Coded LinesValue
-lines_code =
+abbrev pub line_loop_code : Coded LineLoopValue
+line_loop_code =
     code_by (((List ℕ × ℕ) × List ℕ) × (ℕ × ℕ)) (coded× (coded× (coded× (coded_list coded_ℕ) coded_ℕ) (coded_list coded_ℕ)) (coded× coded_ℕ coded_ℕ))
     (λ r. (((r.line.bytes, r.line.count), r.waits), (r.counts.lines, r.counts.refused)))
     (λ p. record { line = record { bytes = p.0.0.0; count = p.0.0.1 }; waits = p.0.1; counts = record { lines = p.1.0; refused = p.1.1 } })

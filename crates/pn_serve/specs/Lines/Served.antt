@@ -1,16 +1,16 @@
--- What a server of lines has done between two lines.
+-- What a line loop has done between two lines.
 use Rattle.std.specs.Prelude.{◌≡◌, ◌<◌, ℕ, List, [], ◌∷◌, length, All, Option, IfSome}
 use Rattle.pn_line.specs.LinesRead.{LinesRead}
 use Rattle.pn_line.specs.Sent.{Sends}
-use Rattle.pn_serve.specs.declared.reply.Reply.{Reply}
-use Rattle.pn_serve.specs.Lines.States.{LinesValue, Start}
+use Rattle.pn_protocol.specs.declared.reply.Reply.{Reply}
+use Rattle.pn_serve.specs.Lines.States.{LineLoopValue, Start}
 use Rattle.pn_serve.specs.Lines.Replies.{texts_of, refusals_of}
 
 -- a line with fewer than a billion bytes
 abbrev pub IsShort : List ℕ → Type 0
 IsShort line = length line < 1000000000
 
--- by what a machine makes of lines, or of the end of the input
+-- by the relation of a handler to lines, or to the end of the input
 module _ {V : Type 0} (makes : V → List ℕ → V → Reply → Type 0) where
   -- lines were answered one after another, with these replies
   abbrev pub AllAnswer : V → List (List ℕ) → List Reply → V → Type 0
@@ -18,21 +18,21 @@ module _ {V : Type 0} (makes : V → List ℕ → V → Reply → Type 0) where
   AllAnswer was (line ∷ lines) (reply ∷ replies) now = (between : V) × makes was line between reply × AllAnswer between lines replies now
   AllAnswer was _ _ now = ⊥
 
-  -- these lines were answered: their replies went out or wait, and they are counted
-  pub record AllAnswered (start : Start V) (lines : List (List ℕ)) (written : Option (List ℕ)) (machine : V) (run : LinesValue) : Type 0 where
+  -- these lines were answered and counted, and their replies wait or were written
+  pub record AllAnswered (start : Start V) (lines : List (List ℕ)) (written : Option (List ℕ)) (machine : V) (run : LineLoopValue) : Type 0 where
     pub replies : List Reply
     pub made : AllAnswer start.machine lines replies machine
     pub sends : Sends start.written written [] run.waits (texts_of replies)
     pub lines_are : run.counts.lines ≡ length lines
     pub refused_are : run.counts.refused ≡ refusals_of replies
 
-  -- of this script these lines were read, and were answered
-  pub record Between (start : Start V) (script : List ℕ) (left written : Option (List ℕ)) (machine : V) (run : LinesValue) : Type 0 where
+  -- these lines of the script were read and answered
+  pub record Between (start : Start V) (script : List ℕ) (left written : Option (List ℕ)) (machine : V) (run : LineLoopValue) : Type 0 where
     pub lines : List (List ℕ)
     pub read : LinesRead script left lines
     pub short : All IsShort lines
     pub answered : AllAnswered start lines written machine run
 
-  -- the same, where the bytes of the script are known
-  abbrev pub Served : Start V → Option (List ℕ) → Option (List ℕ) → V → LinesValue → Type 0
+  -- if the bytes of the script are known, some of its lines were read and answered
+  abbrev pub Served : Start V → Option (List ℕ) → Option (List ℕ) → V → LineLoopValue → Type 0
   Served start left written machine run = IfSome start.left (λ script. Between start script left written machine run)

@@ -1,19 +1,19 @@
--- What a server of lines has, and what it began with.
+-- The state of a line loop, and its start.
 use Rattle.std.specs.Prelude.{ℕ, List, [], Option}
 use Rattle.pn_line.specs.Line.{LineBufferValue, so_far}
 use Rattle.pn_serve.specs.declared.script.Counts.{Counts}
 
--- what a server of lines has: the line that is read, the replies that wait, and its counts
-pub record LinesValue : Type 0 where
+-- the state of a line loop: the line that is read, the waiting replies, and its counts
+pub record LineLoopValue : Type 0 where
   pub line : LineBufferValue
   pub waits : List ℕ
   pub counts : Counts
 
--- one that has answered no line
-abbrev pub new_lines : LinesValue
-new_lines = record { line = so_far []; waits = []; counts = record { lines = 0; refused = 0 } }
+-- a loop that has answered no line
+abbrev pub new_loop : LineLoopValue
+new_loop = record { line = so_far []; waits = []; counts = record { lines = 0; refused = 0 } }
 
--- what it began with: its machine, the bytes that its source had left, and those that its writer had
+-- the start of a loop: its handler, the bytes left in its source, and those in its writer
 pub record Start (V : Type 0) : Type 0 where
   pub machine : V
   pub left : Option (List ℕ)

@@ -9,11 +9,11 @@ abbrev pub unless_call : Outcome → Option (List ℕ) → Option (List ℕ)
 unless_call call text = None
 unless_call outcome text = text
 
--- the text that came, and then a line: its first 65,537 bytes, and its newline if it has one
+-- the text so far with a line's first 65,537 bytes, and its newline if it has one
 abbrev pub with_line : Option (List ℕ) → List ℕ → List ℕ → Option (List ℕ)
 with_line text line newline = option_map (λ came. came ++ (kept line ++ newline)) text
 
--- one announced line has come: further ones are waited for, or it was the last
+-- an announced line came: the last one adopts the text, another one is waited for
 abbrev pub one_came : Machine → ℕ → Option (List ℕ) → Turn
 one_came machine left text = if nat_le left 1 then adopting_text (logged machine) text else silent (record machine { mode = announced (left - 1) text })
 
@@ -21,6 +21,6 @@ one_came machine left text = if nat_le left 1 then adopting_text (logged machine
 abbrev pub announced_turn : Machine → ℕ → Option (List ℕ) → Outcome → List ℕ → Turn
 announced_turn machine left text outcome line = one_came machine left (unless_call outcome (with_line text line (10 ∷ [])))
 
--- what the end of the input does where announced lines are still to come: it has this part of a line
+-- the end of the input, after this part of a line, while announced lines are still to come
 abbrev pub announced_end : Machine → Option (List ℕ) → Outcome → List ℕ → Turn
 announced_end machine text outcome part = adopting_text (logged machine) (unless_call outcome (with_line text part []))

@@ -1,25 +1,26 @@
--- What the program made of a line, of a command, and of the end of the input: one turn, by one outcome.
+-- What the program did with a line, a command and the end of the input: one turn, by one outcome.
 use Rattle.std.specs.Prelude.{◌≡◌, ℕ, List}
-use Rattle.pn_serve.specs.declared.reply.Reply.{Reply}
-use Rattle.pn_serve.specs.Command.Meaning.{CommandValue}
+use Rattle.pn_protocol.specs.declared.reply.Reply.{Reply}
+use Rattle.pn_protocol.specs.Command.Meaning.{CommandValue}
 use Rattle.pn_serve.specs.Machine.Outcomes.{Outcome, line, Machine, Turn}
-use Rattle.pn_serve.specs.Reply.Texts.{reply_text, is_refusal}
+use Rattle.pn_protocol.specs.Reply.Texts.{reply_text, is_refusal}
 use Rattle.pn_serve.specs.Machine.Turns.{obeying, turn}
 use Rattle.pn_serve.specs.Machine.LastTurns.{end_turn}
 
--- by one outcome such a turn comes to this machine and this reply
+-- by one outcome, the turn comes to this machine and this reply
 pub record Turned (turns : Outcome → Turn) (machine : Machine) (reply : Reply) : Type 0 where
   pub outcome : Outcome
   pub machine_is : (turns outcome).machine ≡ machine
   pub replied : (turns outcome).reply ≡ reply_text reply
   pub refused : (turns outcome).refused ≡ is_refusal reply
 
--- the line was read, or this holds
+-- the line was read, or memory could run out while it was
 abbrev pub IsReadUnless : Type 0 → Outcome → Type 0
 IsReadUnless may_run_out line = may_run_out
 IsReadUnless may_run_out outcome = Unit {0}
 
--- the same of the turn of a line, which goes as one that was not read only if memory can run out while a line is read
+-- by one outcome, the turn of a line comes to this machine and this reply; it counts as unread only if memory can run
+-- out while a line is read
 pub record TurnedBy (may_run_out : Type 0) (turns : Outcome → Turn) (machine : Machine) (reply : Reply) : Type 0 where
   pub outcome : Outcome
   pub read : IsReadUnless may_run_out outcome
@@ -27,20 +28,20 @@ pub record TurnedBy (may_run_out : Type 0) (turns : Outcome → Turn) (machine :
   pub replied : (turns outcome).reply ≡ reply_text reply
   pub refused : (turns outcome).refused ≡ is_refusal reply
 
--- what the program made of a line, and of the end of the input, by what holds where memory can run out while a line is read
+-- what the program did with a line, and with the end of the input, if memory may run out while a line is read
 abbrev pub AnswersBy : Type 0 → Machine → List ℕ → Machine → Reply → Type 0
 AnswersBy may_run_out old text new reply = TurnedBy may_run_out (λ outcome. turn old outcome text) new reply
 
 abbrev pub ConcludesBy : Type 0 → Machine → List ℕ → Machine → Reply → Type 0
 ConcludesBy may_run_out old part new reply = TurnedBy may_run_out (λ outcome. end_turn old outcome part) new reply
 
--- the same where memory can run out
+-- what the program did with a line, and with the end of the input, if memory can run out
 abbrev pub Answers : Machine → List ℕ → Machine → Reply → Type 0
 Answers old text new reply = AnswersBy (Unit {0}) old text new reply
 
 abbrev pub Concludes : Machine → List ℕ → Machine → Reply → Type 0
 Concludes old part new reply = ConcludesBy (Unit {0}) old part new reply
 
--- what the program made of a command
+-- what the program did with a command
 abbrev pub Obeys : Machine → CommandValue → Machine → Reply → Type 0
 Obeys old command new reply = Turned (λ outcome. obeying old outcome command) new reply

@@ -1,4 +1,4 @@
--- What a command does where it goes as it says.
+-- What a command does if memory does not run out.
 use Rattle.std.specs.Prelude.{true, false, Some, [], Result, Ok, Err, is_err}
 use Rattle.serde_json.specs.Data.{Data}
 use Rattle.pn_json.specs.Lines.{line_of}
@@ -9,33 +9,33 @@ use Rattle.pn_region.specs.Rounds.{changed}
 use Rattle.pn_region.specs.Rounds.{round as taken_round}
 use Rattle.pn_region.specs.declared.fault.RoundFault.{RoundFault}
 use Rattle.pn_scan.specs.declared.fault.ScanFault.{ScanFault}
-use Rattle.pn_serve.specs.Command.Meaning.{CommandValue, adopt, copy, deliver, get, lose, marks, notices, read, scan, tablets}
+use Rattle.pn_protocol.specs.Command.Meaning.{CommandValue, adopt, copy, deliver, get, lose, marks, notices, read, scan, tablets}
 use Rattle.pn_serve.specs.Machine.Outcomes.{announced, Machine, Turn, silent, showing}
 use Rattle.pn_serve.specs.Machine.Recovering.{losing_it, copying}
-use Rattle.pn_serve.specs.Reply.Faults.{fault_data}
-use Rattle.pn_serve.specs.Reply.Lookups.{refused_data}
-use Rattle.pn_serve.specs.Reply.Marks.{shown_marks}
-use Rattle.pn_serve.specs.Reply.Notices.{since_data}
-use Rattle.pn_serve.specs.Reply.Record.{read_data, get_data}
-use Rattle.pn_serve.specs.Reply.Scan.{scan_data}
-use Rattle.pn_serve.specs.Reply.Short.{changed_data}
-use Rattle.pn_serve.specs.Reply.Tablets.{tablets_data}
+use Rattle.pn_protocol.specs.Reply.Faults.{fault_data}
+use Rattle.pn_protocol.specs.Reply.Lookups.{refused_data}
+use Rattle.pn_protocol.specs.Reply.Marks.{shown_marks}
+use Rattle.pn_protocol.specs.Reply.Notices.{since_data}
+use Rattle.pn_protocol.specs.Reply.Record.{read_data, get_data}
+use Rattle.pn_protocol.specs.Reply.Scan.{scan_data}
+use Rattle.pn_protocol.specs.Reply.Short.{changed_data}
+use Rattle.pn_protocol.specs.Reply.Tablets.{tablets_data}
 
--- what a delivery does where its round goes like this
+-- what a delivery does if its round ends so
 abbrev pub delivering : Machine → Result RegionValue RoundFault → Turn
 delivering machine (Ok after) = record { machine = record machine { region = after; log = noting machine.log machine.region after }; reply = line_of (changed_data (changed machine.region after)); refused = false }
 delivering machine (Err fault) = record { machine = machine; reply = line_of (fault_data fault); refused = true }
 
--- what a lookup found, or why it was refused
+-- the reply for what a lookup found, or for why it was refused
 abbrev pub found_data : {A : Type 0} → (A → Data) → Result A ScanFault → Data
 found_data show (Ok found) = show found
 found_data show (Err fault) = refused_data fault
 
--- what a lookup does that finds this
+-- what a lookup does if it finds this
 abbrev pub looking : {A : Type 0} → Machine → (A → Data) → Result A ScanFault → Turn
 looking machine show right = record { machine = machine; reply = line_of (found_data show right); refused = is_err right }
 
--- what a command does where it goes as it says. An adoption waits for the lines that it announces
+-- what a command does if memory does not run out; an adoption waits for the lines that it announces
 abbrev pub doing : Machine → CommandValue → Turn
 doing machine (adopt lines) = silent (record machine { mode = announced lines (Some []) })
 doing machine (copy need tablet) = copying machine need tablet

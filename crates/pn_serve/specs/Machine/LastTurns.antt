@@ -1,26 +1,26 @@
--- What the end of the input does, and a last line without newline.
+-- The end of the input, and a last line without newline.
 use Rattle.std.specs.Prelude.{ℕ, List, [], ◌∷◌, Some, Result, Ok, Err}
-use Rattle.pn_serve.specs.declared.refusal.Refusal.{Refusal}
-use Rattle.pn_serve.specs.declared.refusal.Refusal.TheVariants.{Memory}
-use Rattle.pn_serve.specs.Command.Meaning.{CommandValue, adopt}
-use Rattle.pn_serve.specs.Command.Lines.{command_at}
+use Rattle.pn_protocol.specs.declared.refusal.Refusal.{Refusal}
+use Rattle.pn_protocol.specs.declared.refusal.Refusal.TheVariants.{Memory}
+use Rattle.pn_protocol.specs.Command.Meaning.{CommandValue, adopt}
+use Rattle.pn_protocol.specs.Command.Lines.{command_at}
 use Rattle.pn_serve.specs.Machine.Announced.{unless_call, announced_end}
 use Rattle.pn_serve.specs.Machine.Outcomes.{Outcome, line, Mode, idle, announced, Machine, Turn, logged, refusing, silent}
 use Rattle.pn_serve.specs.Machine.Recovering.{adopting_text}
 use Rattle.pn_serve.specs.Machine.Turns.{obeying, outcome_at}
 
--- what the last command does: behind an adoption there is no line
+-- what the last command does: after an adoption no line comes
 abbrev pub obeying_last : Machine → Outcome → CommandValue → Turn
 obeying_last machine outcome (adopt lines) = adopting_text (logged machine) (unless_call outcome (Some []))
 obeying_last machine outcome command = obeying machine outcome command
 
--- what the last line does that says this, without newline
+-- what a last line without newline does, by how it reads
 abbrev pub last_of : Machine → Outcome → Result CommandValue Refusal → Turn
 last_of machine line said = refusing machine Memory
 last_of machine outcome (Ok command) = obeying_last machine outcome command
 last_of machine outcome (Err refusal) = refusing machine refusal
 
--- what the end of the input does, behind this part of a line
+-- what the end of the input does, after this part of a line
 abbrev pub end_in : Mode → Machine → Outcome → List ℕ → Turn
 end_in idle machine outcome [] = silent machine
 end_in idle machine outcome (b ∷ part) = last_of machine (outcome_at outcome (b ∷ part)) (command_at (b ∷ part))

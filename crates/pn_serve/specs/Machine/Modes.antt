@@ -2,27 +2,27 @@
 use Rattle.std.specs.Prelude.{◌≡◌, ℕ, List, [], Option, Some, None, Vec, option_map}
 use Rattle.std.specs.declared.alloc.Global.{Global}
 use Rattle.pn_region.specs.Logged.{LoggedRegion}
-use Rattle.pn_serve.specs.declared.machine.announced.Announced.{Announced}
-use Rattle.pn_serve.specs.declared.machine.Begun.{Begun}
-use Rattle.pn_serve.specs.declared.machine.Begun.TheVariants.{Obeyed, Announces}
-use Rattle.pn_serve.specs.declared.reply.Reply.{Reply}
-use Rattle.pn_serve.specs.declared.reply.Reply.TheVariants.{Silent}
+use Rattle.pn_serve.specs.declared.machine.adoption.Announced.{Announced}
+use Rattle.pn_serve.specs.declared.machine.Handled.{Handled}
+use Rattle.pn_serve.specs.declared.machine.Handled.TheVariants.{Obeyed, Announces}
+use Rattle.pn_protocol.specs.declared.reply.Reply.{Reply}
+use Rattle.pn_protocol.specs.declared.reply.Reply.TheVariants.{Silent}
 use Rattle.pn_serve.specs.Machine.Outcomes.{Mode, idle, announced, Machine}
 
 -- the bytes of a text, if there is one
 abbrev pub bytes_of : Option (Vec ℕ Global) → Option (List ℕ)
 bytes_of text = option_map (λ bytes. bytes.items) text
 
--- a command is waited for, or what was announced
+-- the mode: a command is next, or announced lines
 abbrev pub mode_of : Option Announced → Mode
 mode_of None = idle
 mode_of (Some lines) = announced lines.left (bytes_of lines.text)
 
--- a machine that waits for this
+-- a machine that waits for these lines
 abbrev pub with_mode : Option Announced → LoggedRegion → Machine
 with_mode lines logged = record { mode = mode_of lines; region = logged.state; log = logged.log }
 
--- the reply to a command, or the lines that it announces
-abbrev pub IsBegun : Begun → Reply → Option Announced → Type 0
-IsBegun (Obeyed said) reply lines = (reply ≡ said) × (lines ≡ None)
-IsBegun (Announces count) reply lines = (reply ≡ Silent) × (mode_of lines ≡ announced count (Some []))
+-- the reply of a first step, or the lines that it announces
+abbrev pub IsDone : Handled → Reply → Option Announced → Type 0
+IsDone (Obeyed said) reply lines = (reply ≡ said) × (lines ≡ None)
+IsDone (Announces count) reply lines = (reply ≡ Silent) × (mode_of lines ≡ announced count (Some []))

@@ -1,28 +1,27 @@
--- How lines go, and what they leave.
+-- Outcomes of lines, and machines.
 use Rattle.std.specs.Prelude.{ℕ, Bool, true, false, List, [], Option}
 use Rattle.pn_region.specs.Logged.{LoggedRegion}
 use Rattle.pn_region.specs.Regions.{RegionValue}
 use Rattle.pn_region.specs.declared.entry.Entry.{Entry}
-use Rattle.pn_serve.specs.declared.refusal.Refusal.{Refusal}
+use Rattle.pn_protocol.specs.declared.refusal.Refusal.{Refusal}
 use Rattle.pn_json.specs.Lines.{line_of}
-use Rattle.pn_serve.specs.Reply.Short.{refusal_data}
+use Rattle.pn_protocol.specs.Reply.Short.{refusal_data}
 
--- how a line went: as it says; out of memory, so that the lines that it announced, if any, are commands of
--- their own (`line`), or still belong to it (`call`); or as a round that ran out of memory after the tablets
--- that have a flag, in their order, took their part
+-- how a line went: done; out of memory while it was read (`line`) or run (`call`); or a round out of memory after the
+-- flagged tablets took their part
 pub data Outcome : Type 0 where
   done : Outcome
   line : Outcome
   call : Outcome
   round : List Bool → Outcome
 
--- what the next line is for: a command of its own, or the text of a copy that an `adopt` line announced. So many lines of that
--- are still to come; with the text that came, or none since memory ran out
+-- what the next line is: a command, or announced text of a copy, with the lines still to come and the text so far
+-- (none once memory ran out)
 pub data Mode : Type 0 where
   idle : Mode
   announced : ℕ → Option (List ℕ) → Mode
 
--- what is served, the log of what changed, and what the next line is for
+-- what the next line is, the region, and the log of its changes
 pub record Machine : Type 0 where
   pub mode : Mode
   pub region : RegionValue
@@ -34,15 +33,15 @@ pub record Turn : Type 0 where
   pub reply : List ℕ
   pub refused : Bool
 
--- a machine that waits for a command, over a region with its log
+-- a machine over a region with its log, which waits for a command
 abbrev pub waiting : LoggedRegion → Machine
 waiting logged = record { mode = idle; region = logged.state; log = logged.log }
 
--- the same where the log is empty
+-- a machine over a region with an empty log, which waits for a command
 abbrev pub serving : RegionValue → Machine
 serving region = record { mode = idle; region = region; log = [] }
 
--- what is served, with the log
+-- the region with its log
 abbrev pub logged : Machine → LoggedRegion
 logged machine = record { state = machine.region; log = machine.log }
 
@@ -50,7 +49,7 @@ logged machine = record { state = machine.region; log = machine.log }
 abbrev pub refusing : Machine → Refusal → Turn
 refusing machine refusal = record { machine = machine; reply = line_of (refusal_data refusal); refused = true }
 
--- there is no reply, yet or at all
+-- there is no reply
 abbrev pub silent : Machine → Turn
 silent machine = record { machine = machine; reply = []; refused = false }
 

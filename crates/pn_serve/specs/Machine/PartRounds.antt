@@ -10,16 +10,16 @@ use Rattle.pn_region.specs.Regions.{RegionValue}
 use Rattle.pn_region.specs.Rounds.{joins}
 use Rattle.pn_region.specs.declared.fault.RoundFault.{RoundFault}
 
--- the tablets that have a flag take their operations, and the others stay
+-- flagged tablets take their operations, and the others stay
 abbrev pub some_stepped : List Bool → List TabletStateValue → List TabletOp → List TabletStateValue
 some_stepped (flag ∷ flags) (t ∷ ts) (operation ∷ operations) = (if flag then stepped t operation else t) ∷ some_stepped flags ts operations
 some_stepped flags ts operations = ts
 
--- the region after a round of these new marks that some tablets took; a round that is refused reaches no tablet
+-- the region after some tablets took a round with these new marks; a refused round reaches no tablet
 abbrev pub partly_marked : RegionValue → List DeliveryValue → List Bool → Result Positions RoundFault → RegionValue
 partly_marked region deliveries which (Ok next) = record region { tablets = some_stepped which region.tablets (joins region deliveries next) }
 partly_marked region deliveries which (Err fault) = region
 
--- the region after a round that some tablets took
+-- the region after some tablets took a round
 abbrev pub partly_taken : RegionValue → List DeliveryValue → List Bool → RegionValue
 partly_taken region deliveries which = partly_marked region deliveries which (new_marks region.marks deliveries)

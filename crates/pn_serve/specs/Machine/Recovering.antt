@@ -12,13 +12,13 @@ use Rattle.pn_region.specs.Recovery.{losing, adopting}
 use Rattle.pn_region.specs.Regions.{RegionValue}
 use Rattle.pn_tablet.specs.declared.fault.OpFault.{OpFault as AdoptFault}
 use Rattle.pn_json.specs.Lines.{line_of}
-use Rattle.pn_serve.specs.declared.refusal.Part.TheVariants.{Tablet}
-use Rattle.pn_serve.specs.declared.refusal.Refusal.TheVariants.{OutOfRange, Memory}
+use Rattle.pn_protocol.specs.declared.refusal.Part.TheVariants.{Tablet}
+use Rattle.pn_protocol.specs.declared.refusal.Refusal.TheVariants.{OutOfRange, Memory}
 use Rattle.pn_serve.specs.Machine.Outcomes.{Machine, Turn, waiting, refusing, showing}
-use Rattle.pn_serve.specs.Reply.Recovery.{copy_reply, no_copy_data, bad_text_data, not_adopted_data}
-use Rattle.pn_serve.specs.Reply.Short.{lost_data, adopted_data}
+use Rattle.pn_protocol.specs.Reply.Recovery.{copy_reply, no_copy_data, bad_text_data, not_adopted_data}
+use Rattle.pn_protocol.specs.Reply.Short.{lost_data, adopted_data}
 
--- what is done to a tablet, where there is one of this number
+-- what is done to the tablet of this number, if there is one
 abbrev pub at_tablet : Machine → Option TabletStateValue → (TabletStateValue → Turn) → Turn
 at_tablet machine None does = refusing machine (OutOfRange Tablet)
 at_tablet machine (Some state) does = does state
@@ -42,12 +42,12 @@ abbrev pub adopted : LoggedRegion → Result (ℕ × RegionValue) AdoptFault →
 adopted old (Ok (tablet, after)) = record { machine = waiting (record { state = after; log = breaking old.log }); reply = line_of (adopted_data tablet); refused = false }
 adopted old (Err fault) = record { machine = waiting old; reply = line_of (not_adopted_data fault); refused = true }
 
--- a region takes the copy of a text, or the text is none
+-- a region takes the copy of a text, or the text is no copy
 abbrev pub adopting_read : LoggedRegion → Result TabletCopyValue CopyTextFault → Turn
 adopting_read old (Ok copy) = adopted old (adopting old.state copy)
 adopting_read old (Err fault) = record { machine = waiting old; reply = line_of (bad_text_data fault); refused = true }
 
--- a region takes the copy of a text that was announced, unless memory ran out
+-- a region takes the copy of an announced text, unless memory ran out
 abbrev pub adopting_text : LoggedRegion → Option (List ℕ) → Turn
 adopting_text old None = refusing (waiting old) Memory
 adopting_text old (Some text) = adopting_read old (copy_at text)

@@ -1,50 +1,39 @@
--- What parts of a turn come to: as they say, or out of memory.
-use Rattle.std.specs.Prelude.{◌≡◌, ◌⊎◌, ◌==◌, Bool, ℕ, List, Option}
-use Rattle.pn_tablet.specs.Copies.{TabletCopyValue}
+-- What parts of a turn come to.
+use Rattle.std.specs.Prelude.{◌≡◌, ◌⊎◌, ℕ, List, Option}
 use Rattle.pn_region.specs.Logged.{LoggedRegion}
-use Rattle.pn_serve.specs.declared.reply.Reply.{Reply}
-use Rattle.pn_serve.specs.declared.reply.Reply.TheVariants.{Copied, Refused}
-use Rattle.pn_serve.specs.declared.refusal.Refusal.TheVariants.{Memory}
+use Rattle.pn_protocol.specs.declared.reply.Reply.{Reply}
+use Rattle.pn_protocol.specs.declared.reply.Reply.TheVariants.{Refused}
+use Rattle.pn_protocol.specs.declared.refusal.Refusal.TheVariants.{Memory}
 use Rattle.pn_serve.specs.Machine.Announced.{unless_call, with_line}
 use Rattle.pn_serve.specs.Machine.Outcomes.{Outcome, Turn, waiting}
-use Rattle.pn_serve.specs.Command.Lines.{command_at}
-use Rattle.pn_serve.specs.Command.Meaning.{CommandValue, adopt}
-use Rattle.pn_serve.specs.declared.machine.Begun.{Begun}
-use Rattle.pn_serve.specs.declared.machine.Begun.TheVariants.{Obeyed, Announces}
+use Rattle.pn_protocol.specs.Command.Lines.{command_at}
+use Rattle.pn_protocol.specs.Command.Meaning.{CommandValue, adopt}
+use Rattle.pn_serve.specs.declared.machine.Handled.{Handled}
+use Rattle.pn_serve.specs.declared.machine.Handled.TheVariants.{Obeyed, Announces}
 use Rattle.pn_serve.specs.Machine.LastTurns.{last_of}
 use Rattle.pn_serve.specs.Machine.Turns.{outcome_at}
 use Rattle.pn_serve.specs.Machine.Answers.{TurnedBy, Obeys}
-use Rattle.pn_serve.specs.Reply.Recovery.{copy_reply}
-use Rattle.pn_serve.specs.Reply.Texts.{reply_text, is_refusal}
-
--- the byte that ends a line
-abbrev pub is_newline : ℕ → Bool
-is_newline b = b == 10
-
--- the reply is the copy, or that memory ran out
-abbrev pub ShowsCopy : TabletCopyValue → Reply → Type 0
-ShowsCopy copy (Copied lines text) = reply_text (Copied lines text) ≡ copy_reply copy
-ShowsCopy copy reply = reply ≡ Refused Memory
+use Rattle.pn_protocol.specs.Reply.Texts.{reply_text, is_refusal}
 
 -- a turn of a region comes to this region and this reply, or memory ran out and nothing changed
 abbrev pub ComesTo : Turn → LoggedRegion → LoggedRegion → Reply → Type 0
 ComesTo turn old new reply =
     ((turn.machine ≡ waiting new) × (turn.reply ≡ reply_text reply) × (turn.refused ≡ is_refusal reply)) ⊎ ((new ≡ old) × (reply ≡ Refused Memory))
 
--- no line behind the command belongs to it
+-- the command announces no lines
 abbrev pub IsAlone : CommandValue → Type 0
 IsAlone (adopt lines) = ⊥
 IsAlone command = Unit {0}
 
--- what the program made of a command before the next line: it obeyed it, or waits for the lines that it announces
-abbrev pub BeginsTo : LoggedRegion → CommandValue → LoggedRegion → Begun → Type 0
-BeginsTo old command new (Obeyed reply) = IsAlone command × Obeys (waiting old) command (waiting new) reply
-BeginsTo old command new (Announces lines) = (command ≡ adopt lines) × (new ≡ old)
+-- the first step of a command: it was run, or waits for the lines that it announces
+abbrev pub HandlesTo : LoggedRegion → CommandValue → LoggedRegion → Handled → Type 0
+HandlesTo old command new (Obeyed reply) = IsAlone command × Obeys (waiting old) command (waiting new) reply
+HandlesTo old command new (Announces lines) = (command ≡ adopt lines) × (new ≡ old)
 
--- what the program made of the last line, without newline
+-- what the program did with a last line without newline
 abbrev pub LastsBy : Type 0 → LoggedRegion → List ℕ → LoggedRegion → Reply → Type 0
 LastsBy may_run_out old text new reply = TurnedBy may_run_out (λ outcome. last_of (waiting old) (outcome_at outcome text) (command_at text)) (waiting new) reply
 
--- the line stands behind the text that came, or memory ran out
+-- the line was added to the text, or memory ran out
 abbrev pub IsJoined : Option (List ℕ) → List ℕ → List ℕ → Option (List ℕ) → Type 0
 IsJoined text line newline joined = (outcome : Outcome) × (joined ≡ unless_call outcome (with_line text line newline))

@@ -9,12 +9,12 @@ use Rattle.pn_serve.specs.declared.script.RunFault.{RunFault}
 use Rattle.pn_serve.specs.declared.script.RunFault.TheVariants.{Read, Write, TooManyTurns, Memory}
 use Rattle.pn_serve.specs.Machine.Outcomes.{Outcome, serving}
 use Rattle.pn_serve.specs.Script.Written.{replies, replies_from, refusals}
-use Rattle.pn_serve.specs.Runs.Starts.{Begun}
+use Rattle.pn_serve.specs.Runs.Starts.{RunStart}
 use Rattle.pn_serve.specs.Runs.Bounds.{lines_within, IsAtBound}
 
--- the script was read to its end, by one list of outcomes, and one for the end, the replies to it were written, and its lines and its
+-- the whole script was read; by one list of outcomes and one for the end, its replies were written, and its lines and
 -- refusals were counted
-pub record Ended (begun : Begun) (script : List ℕ) (left written : Option (List ℕ)) (counts : Counts) : Type 0 where
+pub record Ended (begun : RunStart) (script : List ℕ) (left written : Option (List ℕ)) (counts : Counts) : Type 0 where
   pub outcomes : List Outcome
   pub last : Outcome
   pub wrote : Appends begun.written written (replies begun.region script outcomes last)
@@ -23,16 +23,16 @@ pub record Ended (begun : Begun) (script : List ℕ) (left written : Option (Lis
   pub within : lines_within script ≡ lines_of script
   pub at_end : left ≡ Some []
 
--- these lines were read, and of the next one a part; the replies to the lines were written
-pub record Broken (begun : Begun) (script : List ℕ) (left written : Option (List ℕ)) : Type 0 where
+-- these lines and a part of the next were read; the replies to the lines were written
+pub record Broken (begun : RunStart) (script : List ℕ) (left written : Option (List ℕ)) : Type 0 where
   pub lines : List (List ℕ)
   pub part : List ℕ
   pub read : PartRead script left lines part
   pub outcomes : List Outcome
   pub wrote : Appends begun.written written (replies_from (serving begun.region) lines outcomes)
 
--- some lines were read, and of the next one a part; a prefix of the replies to the script was written
-pub record Cut (begun : Begun) (script : List ℕ) (left written : Option (List ℕ)) : Type 0 where
+-- some lines and a part of the next were read; a prefix of the script's replies was written
+pub record Cut (begun : RunStart) (script : List ℕ) (left written : Option (List ℕ)) : Type 0 where
   pub lines : List (List ℕ)
   pub part : List ℕ
   pub read : PartRead script left lines part
@@ -40,9 +40,9 @@ pub record Cut (begun : Begun) (script : List ℕ) (left written : Option (List 
   pub last : Outcome
   pub prefix : AppendsPrefix begun.written written (replies begun.region script outcomes last)
 
--- the lines that may be answered were read, and of the next one a part: nothing after a million lines, and else a
--- billion bytes. The replies to the lines were written, and there are more lines
-pub record Exceeded (begun : Begun) (script : List ℕ) (left written : Option (List ℕ)) : Type 0 where
+-- the lines that may be answered and a part of the next were read, and there are more; the replies to the lines were
+-- written
+pub record Exceeded (begun : RunStart) (script : List ℕ) (left written : Option (List ℕ)) : Type 0 where
   pub part : List ℕ
   pub read : PartRead script left (lines_within script) part
   pub stopped : IsAtBound (lines_within script) part
@@ -50,8 +50,8 @@ pub record Exceeded (begun : Begun) (script : List ℕ) (left written : Option (
   pub wrote : Appends begun.written written (replies_from (serving begun.region) (lines_within script) outcomes)
   pub more : lines_within script ≢ lines_of script
 
--- where a run ends by what it answered. Out of memory, nothing was read or written
-abbrev pub Ends : Begun → Option (List ℕ) → Option (List ℕ) → Result Counts RunFault → Type 0
+-- where a run ends, by what it answered; out of memory, nothing was read or written
+abbrev pub Ends : RunStart → Option (List ℕ) → Option (List ℕ) → Result Counts RunFault → Type 0
 Ends begun left written (Ok counts) = IfSome begun.left (λ script. Ended begun script left written counts)
 Ends begun left written (Err Read) = IfSome begun.left (λ script. Broken begun script left written)
 Ends begun left written (Err Write) = IfSome begun.left (λ script. Cut begun script left written)

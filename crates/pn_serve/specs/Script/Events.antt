@@ -14,29 +14,29 @@ use Rattle.pn_region.specs.Marking.{new_marks}
 use Rattle.pn_region.specs.Recovery.{adopting}
 use Rattle.pn_region.specs.Regions.{RegionValue}
 use Rattle.pn_region.specs.declared.fault.RoundFault.{RoundFault}
-use Rattle.pn_serve.specs.declared.refusal.Refusal.{Refusal}
-use Rattle.pn_serve.specs.Command.Lines.{command_at}
-use Rattle.pn_serve.specs.Command.Meaning.{CommandValue, deliver, lose}
+use Rattle.pn_protocol.specs.declared.refusal.Refusal.{Refusal}
+use Rattle.pn_protocol.specs.Command.Lines.{command_at}
+use Rattle.pn_protocol.specs.Command.Meaning.{CommandValue, deliver, lose}
 use Rattle.pn_serve.specs.Machine.Announced.{unless_call, with_line}
 use Rattle.pn_serve.specs.Machine.Outcomes.{Outcome, line, round, Mode, idle, announced, Machine, Turn, logged, serving}
 use Rattle.pn_serve.specs.Machine.Recovering.{adopted}
 use Rattle.pn_serve.specs.Machine.Turns.{turn_of, outcome_at, turn}
 use Rattle.pn_serve.specs.Script.Written.{first_outcome, later_outcomes}
 
--- what was asked for happened, unless the turn is a refusal
+-- the event happened, unless the turn is a refusal
 abbrev pub unless_refused : Turn → RegionEvent → List RegionEvent
 unless_refused turn event = if turn.refused then [] else event ∷ []
 
--- one of the tablets has a flag
+-- some tablet has a flag
 abbrev pub some_tablet : List Bool → List TabletStateValue → Bool
 some_tablet which all = list_any (λ flag. flag) (take (length all) which)
 
--- a round that ran out of memory happened where some tablet took its part, and reaches none where it is refused
+-- a round that ran out of memory happened if some tablet took its part; a refused one reaches no tablet
 abbrev pub half_happened : List DeliveryValue → Bool → Result Positions RoundFault → List RegionEvent
 half_happened deliveries true (Ok next) = events.half_round deliveries ∷ []
 half_happened deliveries some right = []
 
--- what happens by a line that says this: nothing where memory ran out before it was read
+-- what happens by a line, by how it reads: nothing if memory ran out before it was read
 abbrev pub happened_by : Machine → Outcome → Result CommandValue Refusal → List RegionEvent
 happened_by machine line said = []
 happened_by machine (round which) (Ok (deliver deliveries)) = half_happened deliveries (some_tablet which machine.region.tablets) (new_marks machine.region.marks deliveries)
@@ -44,7 +44,7 @@ happened_by machine outcome (Ok (deliver deliveries)) = unless_refused (turn_of 
 happened_by machine outcome (Ok (lose tablet)) = unless_refused (turn_of machine outcome (Ok (lose tablet))) (events.loss tablet)
 happened_by machine outcome said = []
 
--- what happens by the copy of a text that was announced, by a text that is none, and where memory ran out
+-- what happens by an announced text, if it is a copy and memory did not run out
 abbrev pub happened_by_copy : LoggedRegion → Result TabletCopyValue CopyTextFault → List RegionEvent
 happened_by_copy old (Ok copy) = unless_refused (adopted old (adopting old.state copy)) (events.adoption copy)
 happened_by_copy old (Err fault) = []

@@ -1,8 +1,8 @@
 -- Lines without losses and adoptions.
 use Rattle.std.specs.Prelude.{ℕ, List, All, Result, Ok}
-use Rattle.pn_serve.specs.declared.refusal.Refusal.{Refusal}
-use Rattle.pn_serve.specs.Command.Lines.{command_at}
-use Rattle.pn_serve.specs.Command.Meaning.{CommandValue, adopt, lose}
+use Rattle.pn_protocol.specs.declared.refusal.Refusal.{Refusal}
+use Rattle.pn_protocol.specs.Command.Lines.{command_at}
+use Rattle.pn_protocol.specs.Command.Meaning.{CommandValue, adopt, lose}
 
 -- what a line says is neither a loss nor an adoption
 abbrev pub KeepsTablets : Result CommandValue Refusal → Type 0

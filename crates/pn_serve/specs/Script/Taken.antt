@@ -11,11 +11,11 @@ use Rattle.pn_serve.specs.Machine.Outcomes.{Outcome, idle, serving}
 use Rattle.pn_serve.specs.Script.Events.{happened}
 use Rattle.pn_serve.specs.Script.Written.{machine_after, region_after}
 
--- the images that lines took: those of accepted rounds, and of each adopted copy those in its range up to its marks
+-- the images that lines took: those of accepted rounds, and those in the range and up to the marks of adopted copies
 abbrev pub taken : BrokerRecord → RegionValue → List (List ℕ) → List Outcome → List Image
 taken broker region lines outcomes = all_taken broker (happened region lines outcomes)
 
--- what a round left in some tablets when it ran out of memory is among what was taken: the round was retried
+-- each round that ran out of memory was retried: what it left in some tablets is among what was taken
 abbrev pub AllRetried : BrokerRecord → RegionValue → List (List ℕ) → List Outcome → Type 0
 AllRetried broker region lines outcomes = AreIn (all_left (happened region lines outcomes)) (taken broker region lines outcomes)
 
@@ -23,15 +23,16 @@ AllRetried broker region lines outcomes = AreIn (all_left (happened region lines
 abbrev pub NothingLost : RegionValue → List (List ℕ) → List Outcome → Type 0
 NothingLost region lines outcomes = AreRounds (happened region lines outcomes)
 
--- the deliveries of rounds that were accepted or ran out of memory, and the adopted copies, are honest about what brokers published
+-- the deliveries of rounds that were not refused, and the adopted copies, are honest about what brokers published
 abbrev pub AllHonest : BrokerRecord → RegionValue → List (List ℕ) → List Outcome → Type 0
 AllHonest broker region lines outcomes = AreHonestEvents broker (happened region lines outcomes)
 
--- nothing was lost and no copy adopted, or all is honest and no tablet is still recovering; and what ran out of memory was retried
+-- nothing was lost and no copy adopted, or all is honest and no tablet is recovering; and what ran out of memory was
+-- retried
 pub record Settled (broker : BrokerRecord) (region : RegionValue) (lines : List (List ℕ)) (outcomes : List Outcome) : Type 0 where
   pub whole : NothingLost region lines outcomes ⊎ (AllHonest broker region lines outcomes × AllServe (region_after region lines outcomes))
   pub retried : AllRetried broker region lines outcomes
 
--- a command is waited for behind the lines, and not a line that was announced
+-- after the lines, the next line is a command
 abbrev pub Waits : RegionValue → List (List ℕ) → List Outcome → Type 0
 Waits region lines outcomes = (machine_after (serving region) lines outcomes).mode ≡ idle

@@ -1,4 +1,4 @@
--- New regions that were told lines, and what two of them have in common.
+-- New regions that took lines, and what two of them have in common.
 use Rattle.std.specs.Prelude.{◌≡◌, ◌⊎◌, ℕ, List}
 use Rattle.std.specs.FinMap.{find}
 use Rattle.pn_json.specs.Lines.{line_of}
@@ -11,22 +11,22 @@ use Rattle.pn_tablet.specs.Layouts.{Bounds, IsLayout}
 use Rattle.pn_region.specs.Held.{HoldsStill}
 use Rattle.pn_region.specs.Regions.{RegionValue, new_region, all_cells}
 use Rattle.pn_region.specs.Serving.{ServesAt}
-use Rattle.pn_serve.specs.declared.refusal.Refusal.TheVariants.{Memory}
+use Rattle.pn_protocol.specs.declared.refusal.Refusal.TheVariants.{Memory}
 use Rattle.pn_serve.specs.Machine.Outcomes.{Outcome, Machine, serving}
 use Rattle.pn_serve.specs.Machine.Turns.{turn}
 use Rattle.pn_serve.specs.Machine.LastTurns.{end_turn}
-use Rattle.pn_serve.specs.Reply.Short.{refusal_data}
+use Rattle.pn_protocol.specs.Reply.Short.{refusal_data}
 use Rattle.pn_serve.specs.Script.Taken.{taken, Settled, Waits}
 use Rattle.pn_serve.specs.Script.Written.{machine_after}
 
--- a new region of a layout that was told lines, each with its outcome
+-- a new region of a layout that took lines, each with its outcome
 pub record Told : Type 0 where
   pub layout : Bounds
   pub lawful : IsLayout layout
   pub lines : List (List ℕ)
   pub outcomes : List Outcome
 
--- its machine behind the lines
+-- its machine after the lines
 abbrev pub machine_of : Told → Machine
 machine_of told = machine_after (serving (new_region told.layout)) told.lines told.outcomes
 
@@ -34,7 +34,7 @@ machine_of told = machine_after (serving (new_region told.layout)) told.lines to
 abbrev pub records_of : Told → Entries
 records_of told = all_cells (machine_of told).region
 
--- the images that it took: of accepted rounds, and of each adopted copy those in its range up to its marks
+-- the images that it took, in rounds and by copies
 abbrev pub images_of : BrokerRecord → Told → List Image
 images_of broker told = taken broker (new_region told.layout) told.lines told.outcomes
 
@@ -48,17 +48,18 @@ pub record TookTheSame (broker : BrokerRecord) (one other : Told) : Type 0 where
 abbrev pub AwaitsCommand : Told → Type 0
 AwaitsCommand told = Waits (new_region told.layout) told.lines told.outcomes
 
--- its replies to one line more, with a newline and, at the end of the input, without
+-- its replies to one more line: with a newline, and without at the end of the input
 abbrev pub reply_of : Told → Outcome → List ℕ → List ℕ
 reply_of told outcome text = (turn (machine_of told) outcome text).reply
 
 abbrev pub last_reply : Told → Outcome → List ℕ → List ℕ
 last_reply told outcome text = (end_turn (machine_of told) outcome text).reply
 
--- the replies are the same, or memory ran out
+-- the replies are equal, or memory ran out
 abbrev pub AreAlike : List ℕ → List ℕ → Type 0
 AreAlike reply other = ((reply ≡ line_of (refusal_data Memory)) ⊎ (other ≡ line_of (refusal_data Memory))) ⊎ (reply ≡ other)
 
--- where the tablet of the key serves in both, what the first has at the key is held still
+-- if the tablet of the key serves in both, the second holds what the first has at the key, at the same or a newer
+-- version
 abbrev pub IsNoOlder : RegionValue → RegionValue → List ℕ → Type 0
 IsNoOlder old new key = ServesAt old key → ServesAt new key → HoldsStill (find bytes_cmp key (all_cells old)) (find bytes_cmp key (all_cells new))

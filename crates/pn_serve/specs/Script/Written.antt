@@ -6,7 +6,7 @@ use Rattle.pn_serve.specs.Machine.Turns.{turn}
 use Rattle.pn_serve.specs.Machine.LastTurns.{end_turn}
 use Rattle.pn_serve.specs.Script.Parts.{parts_of}
 
--- a line's outcome: lines beyond the list go as they say
+-- a line's outcome; lines beyond the list go as they say
 abbrev pub first_outcome : List Outcome → Outcome
 first_outcome [] = done
 first_outcome (outcome ∷ outcomes) = outcome
@@ -30,7 +30,7 @@ machine_after machine (text ∷ lines) outcomes = machine_after (turn machine (f
 abbrev pub region_after : RegionValue → List (List ℕ) → List Outcome → RegionValue
 region_after region lines outcomes = (machine_after (serving region) lines outcomes).region
 
--- one where it is a refusal
+-- 1 for a refusal, else 0
 abbrev pub one_if : Bool → ℕ
 one_if true = 1
 one_if false = 0
@@ -41,7 +41,7 @@ refusals_from machine [] outcomes = 0
 refusals_from machine (text ∷ lines) outcomes =
     one_if (turn machine (first_outcome outcomes) text).refused + refusals_from (turn machine (first_outcome outcomes) text).machine lines (later_outcomes outcomes)
 
--- what the end of a script does, by an outcome of its own: behind its last newline stands a part of a line, or nothing
+-- what the end of a script does, by an outcome of its own, after the part of a line that follows its last newline
 abbrev pub end_of : RegionValue → List ℕ → List Outcome → Outcome → Turn
 end_of region script outcomes last = end_turn (machine_after (serving region) (parts_of script).0 outcomes) last (parts_of script).1
 

@@ -11,13 +11,13 @@ IsOfReading Start = ⊥
 IsOfReading Close = ⊥
 IsOfReading Write = ⊥
 
--- that of a stream before that of the round
+-- a stream's fault outranks the round's
 abbrev pub of_round : {T E : Type 0} → Option (List ℕ) → Result T E → Result (Unit {0}) ServeFault
 of_round (Some name) round = Err (Stream name)
 of_round None (Err fault) = Err Round
 of_round None (Ok done) = Ok tt
 
--- that of the start or of the reading before that of the end
+-- an earlier fault outranks that of closing
 abbrev pub of_end : {T E : Type 0} → Result (Unit {0}) ServeFault → Result T E → Result (Unit {0}) ServeFault
 of_end (Err fault) closed = Err fault
 of_end (Ok served) (Err fault) = Err Close

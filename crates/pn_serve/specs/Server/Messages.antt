@@ -6,6 +6,6 @@ use Rattle.pn_stream.specs.Positions.{DeliveryValue}
 abbrev pub max_messages : ℕ
 max_messages = 1000
 
--- messages of a stream for one round: some, and not too many
+-- 1 to 1,000 messages of a stream
 abbrev pub FitRound : DeliveryValue → Type 0
 FitRound delivery = (1 ≤ length delivery.images) × (length delivery.images ≤ max_messages)

@@ -1,7 +1,5 @@
--- What a session answers to lookups, each by what its reader found.
-use Rattle.std.specs.Prelude.{◌≡◌, ◌⊎◌, ◌<◌, ◌≤◌, ℕ, List, length, Option, Result, Ok, Err}
-use Rattle.serde_json.specs.Data.{Data}
-use Rattle.pn_json.specs.Lines.{line_of}
+-- Lookups of a session, answered by what its reader found.
+use Rattle.std.specs.Prelude.{◌≡◌, ◌⊎◌, ◌<◌, ◌≤◌, ℕ, List, length, Option, Result}
 use Rattle.pn_join.specs.Marks.{Positions}
 use Rattle.pn_record.specs.Sets.{Stamp, CellValue}
 use Rattle.pn_tablet.specs.Copies.{TabletCopyValue}
@@ -16,46 +14,34 @@ use Rattle.pn_scan.specs.Visits.{IsScan}
 use Rattle.pn_scan.specs.declared.fault.ScanFault.{ScanFault}
 use Rattle.pn_live.specs.Copying.{IsCopied}
 use Rattle.pn_live.specs.Readers.{LiveReaderValue, LooksLive}
-use Rattle.pn_serve.specs.declared.refusal.Part.TheVariants.{Tablet}
-use Rattle.pn_serve.specs.declared.refusal.Refusal.TheVariants.{OutOfRange, Memory}
-use Rattle.pn_serve.specs.declared.reply.Reply.{Reply}
-use Rattle.pn_serve.specs.declared.reply.Reply.TheVariants.{Text, Refused}
-use Rattle.pn_serve.specs.Machine.Refusals.{Refuses, TellsNoCopy}
-use Rattle.pn_serve.specs.Machine.Ways.{ShowsCopy}
-use Rattle.pn_serve.specs.Reply.Record.{read_data, get_data}
-use Rattle.pn_serve.specs.Reply.Scan.{scan_data}
-
--- the reply shows what a lookup found, or says why it was refused; or memory ran out
-abbrev pub Shows : {A : Type 0} → (A → Data) → Result A ScanFault → Reply → Type 0
-Shows show (Ok found) (Text text) = text.items ≡ line_of (show found)
-Shows show (Ok found) reply = reply ≡ Refused Memory
-Shows show (Err fault) reply = Refuses fault reply
-
--- the same of a copy of the tablet of this number
-abbrev pub ShowsCopyOf : ℕ → Result TabletCopyValue CopyFault → Reply → Type 0
-ShowsCopyOf tablet (Ok copy) reply = ShowsCopy copy reply
-ShowsCopyOf tablet (Err fault) reply = TellsNoCopy tablet fault reply
+use Rattle.pn_protocol.specs.declared.refusal.Part.TheVariants.{Tablet}
+use Rattle.pn_protocol.specs.declared.refusal.Refusal.TheVariants.{OutOfRange}
+use Rattle.pn_protocol.specs.declared.reply.Reply.{Reply}
+use Rattle.pn_protocol.specs.declared.reply.Reply.TheVariants.{Refused}
+use Rattle.pn_protocol.specs.Reply.Answers.{ShowsFound, ShowsCopyOf}
+use Rattle.pn_protocol.specs.Reply.Record.{read_data, get_data}
+use Rattle.pn_protocol.specs.Reply.Scan.{scan_data}
 
 -- the record of a key was looked up, by one look into the key's tablet
 pub record LooksUpKey (old : LiveReaderValue) (key : List ℕ) (wanted : Option Stamp) (new : LiveReaderValue) (reply : Reply) : Type 0 where
   pub found : Option TabletStateValue
   pub answer : Result (Option CellValue) ScanFault
   pub read : IsRead LooksLive old.layout key wanted old new answer (tablet_of old.layout key, found)
-  pub shows : Shows (read_data key) answer reply
+  pub shows : ShowsFound (read_data key) answer reply
 
 -- the records of keys were looked up, key by key
 pub record LooksUpKeys (old : LiveReaderValue) (keys : List (List ℕ)) (new : LiveReaderValue) (reply : Reply) : Type 0 where
   pub seen : List Look
   pub answer : Result (List (Option CellValue)) ScanFault
   pub got : IsGet LooksLive old.layout keys old new (λ cells. cells) answer seen
-  pub shows : Shows (get_data keys) answer reply
+  pub shows : ShowsFound (get_data keys) answer reply
 
 -- the page of a query was looked up, tablet by tablet
 pub record LooksUpPage (old : LiveReaderValue) (query : QueryValue) (new : LiveReaderValue) (reply : Reply) : Type 0 where
   pub seen : List Look
   pub answer : Result PageValue ScanFault
   pub scanned : IsScan LooksLive old.layout query old new (λ page. page) answer (first_page query) seen
-  pub shows : Shows scan_data answer reply
+  pub shows : ShowsFound scan_data answer reply
 
 -- a tablet was copied, by one look
 pub record CopiesTablet (old : LiveReaderValue) (need : Positions) (tablet : ℕ) (new : LiveReaderValue) (reply : Reply) : Type 0 where

@@ -1,4 +1,4 @@
-//! Replies that wait to go out, in blocks of the output.
+//! Replies that wait to be written in blocks.
 
 ghost use Rattle.std.specs.Prelude.{◌≡◌, ◌++◌, [], IfOk, OnOk, OnErr};
 ghost use Rattle.std.specs.Io.KnownBytes.{Appends};
@@ -8,15 +8,15 @@ use pn_line::{OUTBOX_ROOM, Outbox, Sink, WriteFault};
 use std::alloc::{AllocError, Global};
 use std::marker::Model;
 
-/// How many bytes a block has: as many as may wait.
+/// The bytes of a block: as many as may wait.
 const BLOCK: usize = OUTBOX_ROOM;
 
-/// Bytes that wait for a writer. Where they are too many, those go out that make a block of all the output full:
-/// a file takes whole blocks faster than pieces of them.
+/// Bytes that wait for a writer. Too many are written up to the end of a block of the output: a file takes whole
+/// blocks faster.
 #[derive(Drop)]
 pub(crate) struct Blocks {
     outbox: Outbox,
-    // How many bytes wait, and where in its block the next byte lies. No promise rests on them.
+    // The number of waiting bytes, and the place of the next byte in its block. Nothing rests on them.
     waiting: usize,
     place: usize,
 }
@@ -44,8 +44,8 @@ impl Blocks {
         })
     }
 
-    /// Adds bytes behind those that wait. Where they are too many to wait, what is missing of a block goes out with
-    /// those that wait, and the rest waits or goes out.
+    /// Adds bytes after those that wait. If they are too many, the current block is completed and written; the rest
+    /// waits or is written.
     pub(crate) fn push<W: Sink>(&mut self, writer: &mut W, bytes: &[u8]) -> Result<(), WriteFault>
         ensures ok { OnOk result (Sends (W.contents writer.old) (W.contents writer.new) self.old self.new bytes.now) }
         ensures err { OnErr result (AppendsPrefix (W.contents writer.old) (W.contents writer.new) (self.old ++ bytes.now)) }
@@ -63,7 +63,7 @@ impl Blocks {
         self.begin(writer, rest)
     }
 
-    /// Writes all that waits, and flushes the writer. After a fault nothing waits either.
+    /// Writes all that waits, and flushes the writer. Nothing waits afterwards, even after a fault.
     pub(crate) fn flush<W: Sink>(&mut self, writer: &mut W) -> Result<(), WriteFault>
         ensures ok { OnOk result (Appends (W.contents writer.old) (W.contents writer.new) self.old) }
         ensures err { OnErr result (AppendsPrefix (W.contents writer.old) (W.contents writer.new) self.old) }
@@ -74,7 +74,7 @@ impl Blocks {
         self.outbox.flush(writer)
     }
 
-    // Adds bytes where nothing waits. Those that are too many to wait go out at once.
+    // Adds bytes where nothing waits. Too many are written at once.
     fn begin<W: Sink>(&mut self, writer: &mut W, bytes: &[u8]) -> Result<(), WriteFault>
         ensures ok { OnOk result (Sends (W.contents writer.old) (W.contents writer.new) self.old self.new bytes.now) }
         ensures err { OnErr result (AppendsPrefix (W.contents writer.old) (W.contents writer.new) (self.old ++ bytes.now)) }

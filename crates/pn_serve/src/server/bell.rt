@@ -1,8 +1,8 @@
-//! A bell that threads ring, and that one thread waits for.
+//! A signal from many threads to one.
 
 use std::sync::{Condvar, Mutex, Wait};
 
-/// Threads ring it, and one thread waits until it was rung.
+/// Many threads ring it; one thread waits until it is rung.
 #[derive(Drop)]
 pub(crate) struct Bell {
     is_rung: Mutex<bool>,
@@ -24,7 +24,7 @@ impl Bell {
         self.rings.notify_one();
     }
 
-    /// Waits until it was rung since the last call.
+    /// Waits until it is rung, or was rung since the last call.
     pub(crate) fn wait<R: Wait>(&self, rt: &R) {
         let guard = self.is_rung.lock(rt);
         let mut is_rung = self.rings.wait_while(rt, guard, |is_rung| !*is_rung);

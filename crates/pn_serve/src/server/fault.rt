@@ -6,7 +6,7 @@ use thiserror::Error;
 /// Why streams were not served to their end.
 #[derive(Debug, Drop, Error)]
 pub enum ServeFault {
-    /// The live region was not opened, or a thread was refused. The sessions that ran were served.
+    /// The live region was not opened, or a thread was refused. Sessions that had started were served.
     #[error("cannot start")]
     Start,
     /// The stream of this name has a fault. The sessions were served.
@@ -15,7 +15,7 @@ pub enum ServeFault {
     /// A round was refused. The sessions were served.
     #[error("round failed")]
     Round,
-    /// There was no memory to close the live region. The sessions were served.
+    /// Out of memory while closing the live region. The sessions were served.
     #[error("close failed")]
     Close,
     /// The writer failed or took no byte.

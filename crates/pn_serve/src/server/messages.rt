@@ -7,7 +7,7 @@ use pn_stream::Delivery;
 /// The most messages of a stream that are taken in one round.
 pub(crate) const MAX_MESSAGES: usize = 1_000;
 
-/// Messages of a stream for one round: from 1 to 1,000.
+/// 1 to 1,000 messages of a stream, for one round.
 #[derive(Drop)]
 pub(crate) struct Messages {
     pub(crate) delivery: Delivery,

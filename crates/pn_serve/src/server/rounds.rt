@@ -1,15 +1,15 @@
-//! Rounds of what streams left.
+//! Rounds of the messages that streams report.
 
 ghost use Rattle.std.specs.Prelude.{◌≡◌, ◌+◌, ◌<◌, ◌≤◌, [], ◌++◌, length, vec_len, vec_capacity, All, IfOk, IfErr};
 ghost use Rattle.pn_apply.specs.Limits.{max_workers};
 ghost use Rattle.pn_live.specs.LiveRegions.{tablets_in};
 ghost use Rattle.pn_serve.specs.Server.Faults.{of_round, IsOfReading};
 ghost use Rattle.pn_serve.specs.Server.Messages.{FitRound};
-ghost use Rattle.pn_serve.specs.Server.Notes.{messages_of, ends_in, first_fault};
+ghost use Rattle.pn_serve.specs.Server.Reports.{messages_of, ends_in, first_fault};
 
 use crate::ServeFault;
 use crate::server::messages::Messages;
-use crate::server::notes::Note;
+use crate::server::reports::Report;
 use crate::server::streams::Feeds;
 use pn_apply::Open;
 use pn_join::StreamName;
@@ -20,18 +20,18 @@ use std::alloc::{AllocError, Global};
 use std::sync::Wait;
 use std::thread::Threads;
 
-// What streams left for one round.
+// The reports for one round.
 #[derive(Drop)]
 struct Gathered {
     /// Their messages.
     deliveries: Vec<Delivery>,
-    /// How many are at their ends.
+    /// How many streams ended.
     ended: usize,
-    /// The first one that has a fault.
+    /// The first stream with a fault.
     fault: Option<StreamName>,
 }
 
-/// Takes what the streams leave in rounds, until all are at their ends, or to the first fault.
+/// Runs rounds until all streams end, or to the first fault.
 pub(crate) fn take_rounds<R: Threads + Wait + Sync>(
     rt: &R,
     alloc: Global,
@@ -55,7 +55,7 @@ pub(crate) fn take_rounds<R: Threads + Wait + Sync>(
     Ok(())
 }
 
-// One round of what the streams left. Answers how many streams ended.
+// Runs one round. Answers how many streams ended.
 fn take_round<R: Threads + Wait + Sync>(
     rt: &R,
     alloc: Global,
@@ -80,21 +80,21 @@ fn take_round<R: Threads + Wait + Sync>(
     Ok(ended)
 }
 
-// Takes the note that each stream left, if one did.
+// Takes one report of each stream that has one.
 fn gather<R: Wait>(rt: &R, alloc: Global, feeds: &Feeds) -> Result<Gathered, AllocError>
     ensures fit { IfOk result (λ gathered. All FitRound gathered.deliveries.items) }
-    ensures few { IfOk result (λ gathered. vec_len gathered.deliveries ≤ vec_len feeds.now.places) }
+    ensures few { IfOk result (λ gathered. vec_len gathered.deliveries ≤ vec_len feeds.now.mailboxes) }
 {
     let mut gathered = nothing(alloc, feeds.count())?;
     for stream in 0..feeds.count() {
-        if let Some(note) = feeds.take(rt, stream) {
-            add_note(&mut gathered, note);
+        if let Some(report) = feeds.take(rt, stream) {
+            add_report(&mut gathered, report);
         }
     }
     Ok(gathered)
 }
 
-// Nothing, with room for what so many streams leave.
+// No reports, with room for those of this many streams.
 fn nothing(alloc: Global, streams: usize) -> Result<Gathered, AllocError>
     ensures none { IfOk result (λ gathered. gathered.deliveries.items ≡ []) }
     ensures room { IfOk result (λ gathered. vec_capacity gathered.deliveries ≡ streams) }
@@ -108,20 +108,20 @@ fn nothing(alloc: Global, streams: usize) -> Result<Gathered, AllocError>
     })
 }
 
-// Adds what a stream left.
-fn add_note(gathered: &mut Gathered, note: Note)
+// Adds the report of a stream.
+fn add_report(gathered: &mut Gathered, report: Report)
     requires room { vec_len gathered.old.deliveries < vec_capacity gathered.old.deliveries }
     requires few { gathered.old.ended < vec_capacity gathered.old.deliveries }
-    ensures deliveries { gathered.new.deliveries.items ≡ gathered.old.deliveries.items ++ messages_of note }
-    ensures ended { gathered.new.ended ≡ gathered.old.ended + ends_in note }
-    ensures fault { gathered.new.fault ≡ first_fault gathered.old.fault note }
+    ensures deliveries { gathered.new.deliveries.items ≡ gathered.old.deliveries.items ++ messages_of report }
+    ensures ended { gathered.new.ended ≡ gathered.old.ended + ends_in report }
+    ensures fault { gathered.new.fault ≡ first_fault gathered.old.fault report }
     ensures fit { All FitRound gathered.old.deliveries.items → All FitRound gathered.new.deliveries.items }
     ensures capacity { vec_capacity gathered.new.deliveries ≡ vec_capacity gathered.old.deliveries }
 {
-    match note {
-        Note::Taken(Messages { delivery }) => gathered.deliveries.push_reserved(delivery),
-        Note::End => gathered.ended += 1,
-        Note::Fault(name) => {
+    match report {
+        Report::Taken(Messages { delivery }) => gathered.deliveries.push_reserved(delivery),
+        Report::End => gathered.ended += 1,
+        Report::Fault(name) => {
             if gathered.fault.is_none() {
                 gathered.fault = Some(name);
             }
@@ -129,7 +129,7 @@ fn add_note(gathered: &mut Gathered, note: Note)
     }
 }
 
-// One round of messages, at most 1,000 of each stream.
+// Runs one round of messages, at most 1,000 of each stream.
 fn take<R: Threads + Wait + Sync>(
     rt: &R,
     live: &mut LiveRegion,
@@ -143,7 +143,7 @@ fn take<R: Threads + Wait + Sync>(
     live.round(rt, deliveries, workers, &Open)
 }
 
-// A stream's fault comes before the round's.
+// A stream's fault outranks the round's.
 fn outcome(
     fault: Option<StreamName>,
     round: Result<(Round, Front), RoundFault>,

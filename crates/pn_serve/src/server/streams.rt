@@ -1,4 +1,4 @@
-//! Streams in threads of their own, each of which leaves what it reads at its place.
+//! Reads streams, each in its own thread, which leaves reports in its mailbox.
 
 ghost use Rattle.std.specs.Prelude.{◌≡◌, ◌+◌, ◌<◌, ◌∷◌, [], ◌++◌, length, map, vec_len, IfOk, IfErr, OnOk};
 ghost use Rattle.pn_serve.specs.Server.Faults.{IsOfReading};
@@ -6,8 +6,8 @@ ghost use Rattle.pn_serve.specs.Server.Whole.{IsWhole, AreWhole};
 
 use crate::ServeFault;
 use crate::server::bell::Bell;
-use crate::server::notes::{Note, name_of, next_note};
-use crate::server::place::Place;
+use crate::server::mailbox::Mailbox;
+use crate::server::reports::{Report, name_of, next_report};
 use pn_join::StreamName;
 use pn_line::Source;
 use pn_stream::StreamReader;
@@ -17,7 +17,7 @@ use std::sync::{Arc, Wait};
 use std::thread;
 use std::thread::{Promise, PromisedHandle, Threads};
 
-/// What the thread of a stream says comes true: that it came to the end of the stream, or else only the stream's name.
+/// Promises that `Ok` means the whole stream was read. An error is the stream's name.
 #[derive(Drop)]
 pub(crate) struct SaysWhetherWhole<S: Source + Drop>(Snapshot<StreamReader<S>>);
 
@@ -31,49 +31,49 @@ impl<S: Source + Drop> Promise<Result<(), StreamName>> for SaysWhetherWhole<S> {
 /// The thread of a stream.
 pub(crate) type Feeding<S> = PromisedHandle<Result<(), StreamName>, SaysWhetherWhole<S>>;
 
-/// Where the threads of streams leave their notes, each at a place of its own, and the bell that they ring.
+/// The mailboxes of the streams, and the bell that their threads ring.
 #[derive(Drop)]
 pub(crate) struct Feeds {
-    pub(crate) places: Vec<Arc<Place>>,
+    pub(crate) mailboxes: Vec<Arc<Mailbox>>,
     bell: Arc<Bell>,
 }
 
 impl Feeds {
-    /// How many streams they are.
+    /// The number of streams.
     pub(crate) fn count(&self) -> usize
-        ensures { result ≡ vec_len self.now.places }
+        ensures { result ≡ vec_len self.now.mailboxes }
     {
-        self.places.len()
+        self.mailboxes.len()
     }
 
-    /// Waits until a note was left since the last call, or more.
+    /// Waits until a report is left, or was left since the last call.
     pub(crate) fn wait<R: Wait>(&self, rt: &R) {
         self.bell.wait(rt);
     }
 
-    /// Takes the note that a stream left.
-    pub(crate) fn take<R: Wait>(&self, rt: &R, stream: usize) -> Option<Note>
-        requires { stream < vec_len self.now.places }
+    /// Takes the report of a stream, if there is one.
+    pub(crate) fn take<R: Wait>(&self, rt: &R, stream: usize) -> Option<Report>
+        requires { stream < vec_len self.now.mailboxes }
     {
-        self.places[stream].take(rt)
+        self.mailboxes[stream].take(rt)
     }
 
-    /// Ends the reading: each thread ends once it waits for messages no more.
+    /// Ends the reading. Each thread ends after its current wait for messages.
     pub(crate) fn close<R: Wait>(&self, rt: &R) {
-        for place in self.places.iter() {
-            place.close(rt);
+        for mailbox in self.mailboxes.iter() {
+            mailbox.close(rt);
         }
     }
 }
 
-/// Streams that are read, each by a thread.
+/// Streams that are being read.
 #[derive(Drop)]
 pub(crate) struct Reading<S: Source + Drop> {
     pub(crate) feeds: Feeds,
     pub(crate) threads: Vec<Feeding<S>>,
 }
 
-/// Begins to read streams, each in a thread of its own. A thread that is refused ends the reading.
+/// Starts to read streams, each in its own thread. A refused thread ends the reading.
 pub(crate) fn begin_reading<R, S>(
     rt: &R,
     alloc: Global,
@@ -86,7 +86,7 @@ where
 {
     let mut reading = Reading {
         feeds: Feeds {
-            places: Vec::with_capacity(alloc, streams.len())?,
+            mailboxes: Vec::with_capacity(alloc, streams.len())?,
             bell: Arc::new(alloc, Bell::new())?,
         },
         threads: Vec::with_capacity(alloc, streams.len())?,
@@ -112,34 +112,33 @@ where
     ensures { OnOk result (map (λ thread. thread.promise.0.value) reading.new.threads.items
         ≡ map (λ thread. thread.promise.0.value) reading.old.threads.items ++ stream ∷ []) }
 {
-    let place = Arc::new(alloc, Place::new())?;
+    let mailbox = Arc::new(alloc, Mailbox::new())?;
     let bell = Arc::try_clone(&reading.feeds.bell)?;
-    reading.feeds.places.push(Arc::try_clone(&place)?)?;
+    reading.feeds.mailboxes.push(Arc::try_clone(&mailbox)?)?;
     let host = *rt;
     let promise = SaysWhetherWhole(Snapshot::of(&stream));
     let thread = thread::spawn_with(rt, promise, move || {
-        leave_all(&host, stream, &place, &bell)
+        leave_all(&host, stream, &mailbox, &bell)
     })?;
     reading.threads.push(thread)?;
     Ok(())
 }
 
-// Leaves note after note of a stream, until its last one, or until no more are taken. The stream's name, where its end was
-// not left.
+// Reports a stream to its end, or until the mailbox is closed. The error is the stream's name.
 fn leave_all<R: Wait, S: Source + Drop>(
     rt: &R,
     stream: StreamReader<S>,
-    place: &Place,
+    mailbox: &Mailbox,
     bell: &Bell,
 ) -> Result<(), StreamName>
     ensures { OnOk result (IsWhole S.left stream) }
 {
     let mut stream = stream;
     for _ in rt.forever() {
-        let note = next_note(&mut stream);
-        let is_end = note.is_end();
-        let is_taken = note.is_taken();
-        let is_wanted = place.leave(rt, note);
+        let report = next_report(&mut stream);
+        let is_end = report.is_end();
+        let is_taken = report.is_taken();
+        let is_wanted = mailbox.leave(rt, report);
         bell.ring(rt);
         if is_end {
             return Ok(());
@@ -151,8 +150,7 @@ fn leave_all<R: Wait, S: Source + Drop>(
     Err(name_of(&stream))
 }
 
-/// Waits for the threads of streams, which were taken to their ends. The first one that did not come to its stream's end
-/// names that.
+/// Waits for the threads of streams. The error is the first stream that was not read to its end.
 pub(crate) fn end_reading<R: Threads, S: Source + Drop>(
     rt: &R,
     threads: Vec<Feeding<S>>,

@@ -1,18 +1,16 @@
-//! What the lookups of a session are answered.
+//! Answers to the lookups of a session.
 
 ghost use Rattle.std.specs.Prelude.{◌≡◌};
 ghost use Rattle.pn_live.specs.Readers.{tablets_of};
-ghost use Rattle.pn_serve.specs.Command.Meaning.{command_value};
+ghost use Rattle.pn_protocol.specs.Command.Meaning.{command_value};
 ghost use Rattle.pn_serve.specs.Session.Lines.{AnswersLine, LooksUp};
 ghost use Rattle.pn_serve.specs.Session.Lookups.{LooksUpKey, LooksUpKeys, LooksUpPage, LooksUpCopy};
 
-use crate::command::sessions::lookup_of;
-use crate::machine::lookups::{page_reply, refused, shown};
-use crate::machine::tablets::{copied, no_copy};
-use crate::reply::record::{get_reply, read_reply};
-use crate::{Command, Part, Refusal, Reply};
 use pn_join::Marks;
 use pn_live::LiveReader;
+use pn_protocol::{
+    Command, Part, Refusal, Reply, answer_copy, answer_get, answer_read, answer_scan, lookup_of,
+};
 use pn_record::{Key, Version};
 use pn_scan::{Query, View};
 use std::alloc::Global;
@@ -45,30 +43,21 @@ fn read(alloc: Global, reader: &mut LiveReader, key: &Key, version: Option<Versi
     ensures looks_up { LooksUpKey reader.old key.now version reader.new result }
     ensures same { tablets_of reader.new ≡ tablets_of reader.old }
 {
-    match reader.read(key, version) {
-        Ok(cell) => shown(read_reply(alloc, key, cell.as_ref())),
-        Err(fault) => refused(alloc, &fault),
-    }
+    answer_read(alloc, key, reader.read(key, version))
 }
 
 fn get(alloc: Global, reader: &mut LiveReader, keys: &[Key]) -> Reply
     ensures looks_up { LooksUpKeys reader.old keys.now reader.new result }
     ensures same { tablets_of reader.new ≡ tablets_of reader.old }
 {
-    match reader.get(keys) {
-        Ok(cells) => shown(get_reply(alloc, keys, &cells)),
-        Err(fault) => refused(alloc, &fault),
-    }
+    answer_get(alloc, keys, reader.get(keys))
 }
 
 fn scan(alloc: Global, reader: &mut LiveReader, query: &Query) -> Reply
     ensures looks_up { LooksUpPage reader.old query.now reader.new result }
     ensures same { tablets_of reader.new ≡ tablets_of reader.old }
 {
-    match reader.scan(query) {
-        Ok(page) => shown(page_reply(alloc, page)),
-        Err(fault) => refused(alloc, &fault),
-    }
+    answer_scan(alloc, reader.scan(query))
 }
 
 fn copy(alloc: Global, reader: &mut LiveReader, need: &Marks, tablet: u64) -> Reply
@@ -78,8 +67,6 @@ fn copy(alloc: Global, reader: &mut LiveReader, need: &Marks, tablet: u64) -> Re
     if tablet >= reader.layout().count() as u64 {
         return Reply::Refused(Refusal::OutOfRange(Part::Tablet));
     }
-    match reader.copy(tablet as usize, need) {
-        Ok(copy) => copied(alloc, &copy),
-        Err(fault) => no_copy(alloc, tablet as usize, &fault),
-    }
+    let tablet = tablet as usize;
+    answer_copy(alloc, tablet, reader.copy(tablet, need))
 }

@@ -1,4 +1,4 @@
--- The command was obeyed, or announces lines; or the line was refused.
+-- The command was run, or announces lines; or the line was refused.
 use Rattle.std.proofs.Common.{Err, ap}
 use Rattle.pn_serve.proofs.Announcing.{begun_said}
 use Rattle.pn_serve.proofs.Turns.{turned_err}

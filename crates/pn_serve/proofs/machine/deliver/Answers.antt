@@ -1,4 +1,4 @@
--- What a delivery does where its round ends without memory.
+-- A delivery whose round runs out of memory.
 use Rattle.pn_serve.proofs.Turns.{turned_half}
 use Rattle.pn_serve.proofs.machine.deliver.Goals as goal
 

@@ -1,4 +1,4 @@
--- The last command was obeyed, or the line was refused.
+-- The last command was run, or the line was refused.
 use Rattle.std.proofs.Common.{Err, ap}
 use Rattle.pn_serve.proofs.Announcing.{last_obeyed, last_announced, last_err}
 use Rattle.pn_serve.proofs.machine.last_command.Goals as goal

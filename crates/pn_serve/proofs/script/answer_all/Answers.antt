@@ -1,6 +1,6 @@
--- What was served before a line is served behind it.
+-- What was answered before a line stays answered after it.
 use Rattle.std.proofs.Common.{◌+◌, Ok, ap, refl, ◌∙◌}
-use Rattle.pn_serve.specs.declared.script.turns.Next.{Next}
+use Rattle.pn_serve.specs.declared.script.line_loop.Next.{Next}
 use Rattle.pn_serve.proofs.Stopping.{Handed_on}
 use Rattle.pn_serve.proofs.script.answer_all.Goals as goal
 
@@ -9,7 +9,7 @@ turns-init g c = record { turns = c.requires.none; served = λ start served. ser
 
 pub returns-in_err-turn-clause-ends : goal.returns-in_err-turn-clause-ends
 returns-in_err-turn-clause-ends g c = λ start served.
-    Handed_on g.M.Serves.makes g.M.Serves.ends _ _ _ _ _ _ c.from_residual.ensures.1 (c.in_err-turn.ensures.turns start (c.turns.invariant.served start served))
+    Handed_on g.M.LineHandler.makes g.M.LineHandler.ends _ _ _ _ _ _ c.from_residual.ensures.1 (c.in_err-turn.ensures.turns start (c.turns.invariant.served start served))
 
 pub returns-in-End-clause-ends : goal.returns-in-End-clause-ends
 returns-in-End-clause-ends g c = λ start served.

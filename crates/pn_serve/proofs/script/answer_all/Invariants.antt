@@ -1,4 +1,4 @@
--- The replies to the lines so far went out or wait.
+-- The replies to the lines so far wait or were written.
 use Rattle.std.proofs.Common.{◌≡◌}
 use Rattle.pn_serve.specs.Lines.States.{Start}
 use Rattle.pn_serve.specs.Lines.Served.{Served}
@@ -7,6 +7,6 @@ use Rattle.pn_serve.proofs.script.answer_all.Given as goal
 abbrev pub invariant-turns : goal.invariant-turns
 invariant-turns g l = record {
   turns : l.lines.counts.lines ≡ l._turn;
-  served : (start : Start _) → Served g.M.Serves.makes start (g.S.Source.left l.initial.input) (g.W.Sink.contents l.initial.output) l.initial.machine l.initial.lines → Served g.M.Serves.makes start (g.S.Source.left l.input) (g.W.Sink.contents l.output) l.machine l.lines;
-  same : g.M.Serves.tablets l.machine ≡ g.M.Serves.tablets l.initial.machine;
+  served : (start : Start _) → Served g.M.LineHandler.makes start (g.S.Source.left l.initial.input) (g.W.Sink.contents l.initial.output) l.initial.machine l.initial.lines → Served g.M.LineHandler.makes start (g.S.Source.left l.input) (g.W.Sink.contents l.output) l.machine l.lines;
+  same : g.M.LineHandler.tablets l.machine ≡ g.M.LineHandler.tablets l.initial.machine;
 }

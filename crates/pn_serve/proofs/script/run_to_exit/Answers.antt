@@ -1,4 +1,4 @@
--- What is served from a new region on.
+-- A run from a new region on.
 use Rattle.pn_serve.specs.Machine.Answers.{Answers, Concludes}
 use Rattle.pn_serve.proofs.Serving.{Begins_new}
 use Rattle.pn_serve.proofs.Scripts.{as_script}

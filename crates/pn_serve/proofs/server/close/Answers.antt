@@ -1,4 +1,4 @@
--- Readers that are the region's own, one after another.
+-- All readers are the region's own.
 use Rattle.std.proofs.lemmas.List.Elements.{recursion_from_All}
 use Rattle.pn_live.specs.LiveRegions.{IsReaderIn}
 use Rattle.pn_serve.proofs.server.close.Goals as goal

@@ -1,4 +1,4 @@
--- The threads that are asked are those of the streams.
+-- The threads are those of the streams.
 use Rattle.std.proofs.Common.{OnOk, List, subst}
 use Rattle.pn_stream.specs.Batches.{Stream}
 use Rattle.pn_serve.specs.Server.Whole.{AreWhole}

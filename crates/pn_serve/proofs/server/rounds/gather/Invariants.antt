@@ -8,5 +8,5 @@ invariant-loop-stream g l = record {
   fit : All FitRound l.gathered.deliveries.items;
   few : vec_len l.gathered.deliveries ≤ l.stream;
   ended : l.gathered.ended ≤ l.stream;
-  room : vec_capacity l.gathered.deliveries ≡ vec_len l.feeds.places;
+  room : vec_capacity l.gathered.deliveries ≡ vec_len l.feeds.mailboxes;
 }

@@ -1,6 +1,6 @@
 -- Messages that were taken go on from what was read, and at the end of the stream all was read.
 use Rattle.std.proofs.Common.{◌≡◌, refl, sym, subst}
-use Rattle.pn_serve.specs.Server.Notes.{IsTaken, Leaves}
+use Rattle.pn_serve.specs.Server.Reports.{IsTaken, Leaves}
 use Rattle.pn_serve.proofs.StreamsRead.{read_none, read_on, whole_at_end}
 use Rattle.pn_serve.proofs.server.streams.leave_all.Goals as goal
 
@@ -9,8 +9,8 @@ loop-init g c = read_none g.S.Source.left c.args.stream
 
 pub returns-then-is_end : goal.returns-then-is_end
 returns-then-is_end g c =
-    whole_at_end g.S.Source.left c.args.stream c.loop.stream c.next_note-note.new.stream c.next_note-note.result c.loop.invariant c.next_note-note.ensures.leaves (c.is_end-is_end.ensures c.if-is_end.true)
+    whole_at_end g.S.Source.left c.args.stream c.loop.stream c.next_report-report.new.stream c.next_report-report.result c.loop.invariant c.next_report-report.ensures.leaves (c.is_end-is_end.ensures c.if-is_end.true)
 
 pub loop-preserved : goal.loop-preserved
 loop-preserved g c =
-    read_on g.S.Source.left c.args.stream c.loop.stream c.next_note-note.new.stream c.next_note-note.result c.loop.invariant c.next_note-note.ensures.leaves (c.is_taken-is_taken.ensures c.if-not-is_taken.false)
+    read_on g.S.Source.left c.args.stream c.loop.stream c.next_report-report.new.stream c.next_report-report.result c.loop.invariant c.next_report-report.ensures.leaves (c.is_taken-is_taken.ensures c.if-not-is_taken.false)

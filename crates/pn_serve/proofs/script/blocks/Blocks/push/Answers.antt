@@ -1,4 +1,4 @@
--- What is missing of a block goes out, and then the rest goes out or waits.
+-- A block is completed and written, and the rest waits or is written.
 use Rattle.pn_line.proofs.SentLaws.{Sends-cut_flush}
 use Rattle.pn_serve.proofs.Sending.{on_err, part_cut, parts_sent, parts_cut, split_of}
 use Rattle.pn_serve.proofs.script.blocks.Blocks.push.Goals as goal

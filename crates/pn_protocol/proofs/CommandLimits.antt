@@ -1,0 +1,142 @@
+-- What is in its ranges keeps the limits, and what keeps the limits is in its ranges.
+use Rattle.std.proofs.Common.{◌≡◌, ◌<◌, ℕ, zero, suc, arith, slice_index_or, IsTrue, List, [], ◌∷◌, length, map, codes, Bool, true, false, ◌&&◌, Option, Some, None, Result, Ok, refl}
+use Rattle.std.proofs.lemmas.Bool.{and_parts, and_from}
+use Rattle.std.specs.Borrow.{Bor}
+use Rattle.std.specs.List.{list_all}
+use Rattle.pn_json.specs.Members.{texts}
+use Rattle.pn_join.specs.Naming.{is_name}
+use Rattle.serde_json.specs.Data.{Data, number, string, array, object, unsigned, Members, member, no_members}
+use Rattle.serde_json.specs.View.{items_of}
+use Rattle.pn_record.specs.Canonical.{is_image}
+use Rattle.pn_record.specs.Grammar.{ranges_in}
+use Rattle.pn_record.specs.Limits.{is_key, is_version}
+use Rattle.pn_record.specs.Sets.{Stamp}
+use Rattle.pn_record.specs.Writing.{image_data}
+use Rattle.pn_record.specs.declared.image.Image.{Image}
+use Rattle.pn_json.proofs.Inverses.{guard_ok}
+use Rattle.pn_record.proofs.Limiting.{in_ranges, image_from_ranges}
+use Rattle.pn_stream.specs.Positions.{DeliveryValue, are_positions}
+use Rattle.pn_protocol.specs.Command.Json.{delivery_data, deliver_command}
+use Rattle.pn_protocol.specs.Command.Limits.{is_delivery, may_be_required, is_command}
+use Rattle.pn_protocol.specs.Command.Meaning.{deliver, get, read}
+use Rattle.pn_protocol.specs.Command.RangeChecks.{fits, each_fits, image_fits, batch_fits, batches_fit, key_fits, keys_fit, fitting_version}
+use Rattle.pn_protocol.specs.declared.refusal.Part.{Part}
+use Rattle.pn_protocol.specs.declared.refusal.Part.TheVariants.{Batches, First, Key, Keys, Stream, Version}
+use Rattle.pn_protocol.specs.declared.refusal.Refusal.{Refusal}
+use Rattle.pn_protocol.specs.declared.refusal.Refusal.TheVariants.{OutOfRange}
+use Rattle.pn_protocol.proofs.EachFits.{both_fit, as_ok}
+use Rattle.pn_record.proofs.ReadImages.{fields_rise}
+use Rattle.pn_record.proofs.ReadInOrder.{InOrder, ItemsInOrder, MembersInOrder, in_order-at}
+
+members_in_order : (ms : Members) → InOrder (object ms) → MembersInOrder ms
+members_in_order ms order = order.1
+
+image_kept : (image : Image) → InOrder (image_data image) → image_fits image ≡ Ok tt → is_image image ≡ true
+image_kept image order is = image_from_ranges image (as_ok _ (ranges_in image) tt is) (fields_rise image.content.0 _ order)
+
+image_again : (image : Image) → is_image image ≡ true → image_fits image ≡ Ok tt
+image_again image keeps = rw (in_ranges image keeps) refl
+
+kept_each : {A : Type 0} (written : A → Data) (check : A → Result (Unit {0}) Refusal) (test : A → Bool) → ((a : A) → InOrder (written a) → check a ≡ Ok tt → test a ≡ true)
+    → (xs : List A) → ItemsInOrder (items_of (map written xs)) → each_fits check xs ≡ Ok tt → list_all test xs ≡ true
+kept_each written check test so [] order is = refl
+kept_each written check test so (x ∷ xs) order is =
+    let parts = both_fit (check x) (each_fits check xs) is in
+    and_from (test x) (list_all test xs) (so x order.0 parts.0) (kept_each written check test so xs order.1 parts.1)
+
+fit_each : {A : Type 0} (check : A → Result (Unit {0}) Refusal) (test : A → Bool) → ((a : A) → test a ≡ true → check a ≡ Ok tt) → (xs : List A) → list_all test xs ≡ true → each_fits check xs ≡ Ok tt
+fit_each check test so [] keeps = refl
+fit_each check test so (x ∷ xs) keeps =
+    let parts = and_parts (test x) (list_all test xs) keeps in
+    rw (so x parts.0, fit_each check test so xs parts.1) refl
+
+pub fits_true : (part : Part) (test : Bool) → fits part test ≡ Ok tt → test ≡ true
+fits_true part true is = refl
+fits_true part false is = absurd (cc)
+
+abbrev pub delivery_members : DeliveryValue → Members
+delivery_members delivery =
+    member (codes "first") (number (unsigned delivery.first)) (member (codes "images") (array (items_of (map image_data delivery.images))) (member (codes "stream") (string delivery.stream) no_members))
+
+delivery_kept : (delivery : DeliveryValue) → InOrder (delivery_data delivery) → batch_fits delivery ≡ Ok tt → is_delivery delivery ≡ true
+unfolding batch_fits
+delivery_kept delivery order is =
+    let first = both_fit (fits First (are_positions delivery.first (length delivery.images))) _ is in
+    let rest = both_fit (each_fits image_fits delivery.images) (fits Stream (is_name delivery.stream)) first.1 in
+    let inside = in_order-at (codes "images") (delivery_members delivery) (array (items_of (map image_data delivery.images))) (members_in_order (delivery_members delivery) order) refl in
+    and_from _ _ (and_from _ _ (fits_true Stream _ rest.1) (fits_true First _ first.0)) (kept_each image_data image_fits is_image image_kept delivery.images inside rest.0)
+
+delivery_again : (delivery : DeliveryValue) → is_delivery delivery ≡ true → batch_fits delivery ≡ Ok tt
+unfolding batch_fits
+delivery_again delivery keeps =
+    let parts = and_parts (is_name delivery.stream && are_positions delivery.first (length delivery.images)) (list_all is_image delivery.images) keeps in
+    let places = and_parts (is_name delivery.stream) (are_positions delivery.first (length delivery.images)) parts.0 in
+    rw (places.0, places.1, fit_each image_fits is_image image_again delivery.images parts.1) refl
+
+abbrev pub deliver_members : List DeliveryValue → Members
+deliver_members deliveries =
+    member (codes "batches") (array (items_of (map delivery_data deliveries))) (member (codes "do") (string (codes "deliver")) no_members)
+
+-- deliveries whose JSON is in order, and that are in their ranges
+pub deliveries_kept : (deliveries : List DeliveryValue) → InOrder (deliver_command deliveries) → batches_fit deliveries ≡ Ok tt → is_command (deliver deliveries) ≡ true
+unfolding batches_fit
+deliveries_kept deliveries order is =
+    let count = both_fit (fits Batches _) (each_fits batch_fits deliveries) is in
+    let inside = in_order-at (codes "batches") (deliver_members deliveries) (array (items_of (map delivery_data deliveries))) (members_in_order (deliver_members deliveries) order) refl in
+    and_from _ _ (fits_true Batches _ count.0) (kept_each delivery_data batch_fits is_delivery delivery_kept deliveries inside count.1)
+
+-- deliveries that keep their limits
+pub deliveries_again : (deliveries : List DeliveryValue) → is_command (deliver deliveries) ≡ true → batches_fit deliveries ≡ Ok tt
+unfolding batches_fit
+deliveries_again deliveries keeps =
+    let parts = and_parts _ (list_all is_delivery deliveries) keeps in
+    rw (parts.0, fit_each batch_fits is_delivery delivery_again deliveries parts.1) refl
+
+all_keys : (keys : List (List ℕ)) → each_fits key_fits keys ≡ Ok tt → list_all is_key keys ≡ true
+all_keys [] is = refl
+all_keys (key ∷ keys) is =
+    let parts = both_fit (key_fits key) (each_fits key_fits keys) is in
+    and_from (is_key key) (list_all is_key keys) (fits_true Keys (is_key key) parts.0) (all_keys keys parts.1)
+
+key_again : (key : List ℕ) → is_key key ≡ true → key_fits key ≡ Ok tt
+key_again key keeps = rw keeps refl
+
+-- each of texts that are keys in their ranges
+pub key_at : (keys : List (Bor (List ℕ))) (i : ℕ) (other : Bor (List ℕ)) → i < length keys → keys_fit (texts keys) ≡ Ok tt → IsTrue (is_key (slice_index_or keys i other).now)
+unfolding keys_fit
+key_at keys i other inside is = fit_at keys i inside (both_fit (fits Keys _) (each_fits key_fits (texts keys)) is).1
+  where
+    fit_at : (keys : List (Bor (List ℕ))) (i : ℕ) → i < length keys → each_fits key_fits (texts keys) ≡ Ok tt → IsTrue (is_key (slice_index_or keys i other).now)
+    fit_at [] i inside is = absurd (omega (arith, inside))
+    fit_at (key ∷ keys) zero inside is = fits_true Keys (is_key key.now) (both_fit (key_fits key.now) (each_fits key_fits (texts keys)) is).0
+    fit_at (key ∷ keys) (suc i) inside is = fit_at keys i (omega (arith, inside)) (both_fit (key_fits key.now) (each_fits key_fits (texts keys)) is).1
+
+-- keys that are in their ranges
+pub keys_kept : (keys : List (List ℕ)) → keys_fit keys ≡ Ok tt → is_command (get keys) ≡ true
+unfolding keys_fit
+keys_kept keys is =
+    let count = both_fit (fits Keys _) (each_fits key_fits keys) is in
+    and_from _ _ (fits_true Keys _ count.0) (all_keys keys count.1)
+
+-- keys that keep their limits
+pub keys_again : (keys : List (List ℕ)) → is_command (get keys) ≡ true → keys_fit keys ≡ Ok tt
+unfolding keys_fit
+keys_again keys keeps =
+    let parts = and_parts _ (list_all is_key keys) keeps in
+    rw (parts.0, fit_each key_fits is_key key_again keys parts.1) refl
+
+version_kept : (required version : Option Stamp) → fitting_version required ≡ Ok version → (required ≡ version) × (may_be_required required ≡ true)
+version_kept None version is = (cc, refl)
+version_kept (Some required) version is =
+    let kept = guard_ok (is_version required) (Some required) version (OutOfRange Version) is in (kept.1, kept.0)
+
+-- a key and a version that are in their ranges
+pub read_kept : (key : List ℕ) (required version : Option Stamp) → fits Key (is_key key) ≡ Ok tt → fitting_version required ≡ Ok version → (required ≡ version) × (is_command (read key required) ≡ true)
+read_kept key required version key_fits is =
+    let kept = version_kept required version is in
+    (kept.0, and_from (is_key key) (may_be_required required) (fits_true Key (is_key key) key_fits) kept.1)
+
+-- a version that keeps its limits
+pub version_again : (required : Option Stamp) → may_be_required required ≡ true → fitting_version required ≡ Ok required
+version_again None keeps = refl
+version_again (Some required) keeps = rw keeps refl

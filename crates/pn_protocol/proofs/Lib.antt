@@ -1,0 +1,10 @@
+pub mod BatchParts
+pub mod CommandJson
+pub mod CommandLimits
+pub mod CommandLines
+pub mod CommandNeeds
+pub mod CommandParts
+pub mod CopyLines
+pub mod EachFits
+pub mod FoundRows
+pub mod Walks

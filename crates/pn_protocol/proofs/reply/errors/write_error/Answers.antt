@@ -1,0 +1,26 @@
+-- The members are between braces.
+use Rattle.std.proofs.Common.{◌≡◌, ℕ, List, [], ◌∷◌, ◌++◌, codes, Some, None, refl}
+use Rattle.json.specs.Token.{begin_object, end_object}
+use Rattle.serde_json.specs.Data.{string}
+use Rattle.pn_json.specs.Tokens.{member_tokens, value_tokens}
+use Rattle.pn_json.proofs.TokenLists.{appends_token, appends_both, appends_as}
+use Rattle.pn_protocol.specs.declared.reply.errors.ErrorDetails.{ErrorDetails}
+use Rattle.pn_protocol.specs.declared.reply.errors.ErrorDetails.TheVariants.{Nothing, Line, Tablet, Has, Gap, Behind, TooOld}
+use Rattle.pn_protocol.specs.Reply.Errors.{details_members, details_tokens, error_data}
+use Rattle.pn_protocol.proofs.reply.errors.write_error.Goals as goal
+
+whole : (name : List ℕ) (details : ErrorDetails) → begin_object ∷ (member_tokens (codes "error") (string name) ++ (details_tokens details ++ end_object ∷ [])) ≡ value_tokens (error_data name (details_members details))
+whole name Nothing = refl
+whole name (Line place) = refl
+whole name (Tablet place) = refl
+whole name (Has None) = refl
+whole name (Has (Some version)) = refl
+whole name (Gap stream got wanted) = refl
+whole name (Behind stream has wanted) = refl
+whole name (TooOld stream has needs) = refl
+
+pub returns : goal.returns
+returns c =
+    appends_as (whole c.args.name.now c.args.details)
+    (appends_both (appends_token c.in_ok-begin_object.ensures)
+    (appends_both c.in_ok-write_text_member.ensures (appends_both c.in_ok-write_details.ensures (appends_token c.in_ok-end_object.ensures))))

@@ -1,0 +1,65 @@
+-- The command that a JSON object is, by its word.
+use Rattle.std.specs.Prelude.{◌≡◌, ◌⊎◌, codes, Some, Result, Ok, Err, IsOk}
+use Rattle.std.specs.Option.{ok_or}
+use Rattle.serde_json.specs.Data.{Data, string, Members}
+use Rattle.serde_json.specs.Find.{get, as_object}
+use Rattle.pn_json.specs.Answers.{◌>>=◌}
+use Rattle.pn_json.specs.Members.{member_as}
+use Rattle.pn_protocol.specs.Command.Meaning.{CommandValue, marks, tablets}
+use Rattle.pn_protocol.specs.Command.Words.{word_in}
+use Rattle.pn_protocol.specs.Command.Notices.{notices_in}
+use Rattle.pn_protocol.specs.Command.Recovery.{adopt_in, copy_in, lose_in}
+use Rattle.pn_protocol.specs.declared.command.parse.Allowed.{Allowed}
+use Rattle.pn_protocol.specs.declared.command.parse.Allowed.TheVariants.{All, Lookups}
+use Rattle.pn_protocol.specs.declared.command.word.CommandWord.{CommandWord}
+use Rattle.pn_protocol.specs.declared.command.word.CommandWord.TheVariants.{Adopt, Copy, Deliver, Get, Lose, Marks, Notices, Read, Scan, Tablets}
+use Rattle.pn_protocol.specs.declared.refusal.Part.TheVariants.{Whole, Do}
+use Rattle.pn_protocol.specs.declared.refusal.Refusal.{Refusal}
+use Rattle.pn_protocol.specs.declared.refusal.Refusal.TheVariants.{BadShape, ReadOnly}
+use Rattle.pn_protocol.specs.Command.Deliveries.{deliver_in}
+use Rattle.pn_protocol.specs.Command.Lookups.{get_in, read_in, scan_in}
+use Rattle.pn_protocol.specs.Command.Overview.{alone_in}
+
+-- the command of a word
+abbrev pub command_as : CommandWord → Members → Data → Result CommandValue Refusal
+command_as Adopt members d = adopt_in members d
+command_as Copy members d = copy_in members d
+command_as Deliver members d = deliver_in members d
+command_as Get members d = get_in members d
+command_as Lose members d = lose_in members d
+command_as Marks members d = alone_in marks members
+command_as Notices members d = notices_in members d
+command_as Read members d = read_in members d
+command_as Scan members d = scan_in members d
+command_as Tablets members d = alone_in tablets members
+
+-- the word of a lookup
+abbrev pub lookup_word : CommandWord → Result (Unit {0}) Refusal
+lookup_word Copy = Ok tt
+lookup_word Get = Ok tt
+lookup_word Read = Ok tt
+lookup_word Scan = Ok tt
+lookup_word word = Err ReadOnly
+
+-- the word is allowed, whatever the other members are
+abbrev pub allowed_word : Allowed → CommandWord → Result (Unit {0}) Refusal
+allowed_word All word = Ok tt
+allowed_word Lookups word = lookup_word word
+
+-- the command that a value says, if it is allowed
+unfoldable pub allowed_in : Allowed → Data → Result CommandValue Refusal
+allowed_in allowed d = do
+  members ← ok_or (as_object d) (BadShape Whole)
+  word ← member_as word_in (BadShape Do) (get (codes "do") d)
+  may ← allowed_word allowed word
+  command_as word members d
+
+-- the command that a value says
+abbrev pub command_in : Data → Result CommandValue Refusal
+command_in d = allowed_in All d
+
+-- memory may run out: the value is a command, or says `deliver` or `get`, whose batches or keys are gathered before
+-- their ranges are checked
+abbrev pub TakesMemory : Allowed → Data → Type 0
+TakesMemory allowed d =
+    IsOk (allowed_in allowed d) ⊎ (get (codes "do") d ≡ Some (string (codes "deliver"))) ⊎ (get (codes "do") d ≡ Some (string (codes "get")))

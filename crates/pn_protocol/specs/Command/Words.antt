@@ -1,0 +1,25 @@
+-- The words of commands.
+use Rattle.std.specs.Prelude.{ℕ, List, codes, if◌then◌else◌, Option, Some, None, option_and_then}
+use Rattle.std.specs.Str.{bytes_eq}
+use Rattle.serde_json.specs.Data.{Data}
+use Rattle.serde_json.specs.Find.{as_str}
+use Rattle.pn_protocol.specs.declared.command.word.CommandWord.{CommandWord}
+use Rattle.pn_protocol.specs.declared.command.word.CommandWord.TheVariants.{Adopt, Copy, Deliver, Get, Lose, Marks, Notices, Read, Scan, Tablets}
+
+-- the word that a text is
+abbrev pub word_of : List ℕ → Option CommandWord
+word_of text =
+    if bytes_eq text (codes "adopt") then Some Adopt else
+    (if bytes_eq text (codes "copy") then Some Copy else
+    (if bytes_eq text (codes "deliver") then Some Deliver else
+    (if bytes_eq text (codes "get") then Some Get else
+    (if bytes_eq text (codes "lose") then Some Lose else
+    (if bytes_eq text (codes "marks") then Some Marks else
+    (if bytes_eq text (codes "notices") then Some Notices else
+    (if bytes_eq text (codes "read") then Some Read else
+    (if bytes_eq text (codes "scan") then Some Scan else
+    (if bytes_eq text (codes "tablets") then Some Tablets else None)))))))))
+
+-- the word that a value is
+abbrev pub word_in : Data → Option CommandWord
+word_in d = option_and_then word_of (as_str d)

@@ -1,0 +1,156 @@
+//! Reads a line as a command.
+
+ghost use Rattle.std.specs.Prelude.{◌≡◌, ◌<◌, false, Ok, length, IfOk, IsOk, IsErrOf, IsTrue};
+ghost use Rattle.serde_json.specs.View.{view, members_view};
+ghost use Rattle.pn_json.specs.Answers.{Shows, ShowsUnless};
+ghost use Rattle.pn_record.specs.Limits.{max_line_bytes};
+ghost use Rattle.pn_protocol.specs.Command.BatchParts.{deliver_at};
+ghost use Rattle.pn_protocol.specs.Command.Grammar.{IsCommandLine};
+ghost use Rattle.pn_protocol.specs.Command.Meaning.{CommandValue, deliver, command_value};
+ghost use Rattle.pn_protocol.specs.Command.Lines.{refusal_of, allowed_at, command_at, lookup_at, is_too_long};
+ghost use Rattle.pn_protocol.specs.Command.Overview.{alone_in};
+ghost use Rattle.pn_protocol.specs.Command.Objects.{allowed_in, allowed_word, lookup_word, TakesMemory};
+
+use crate::command::batch::BatchShape;
+use crate::command::build::{built_deliveries, items_at};
+use crate::command::notices::notices_of;
+use crate::command::ranges::check_batches;
+use crate::command::records::{get_of, read_of, scan_of};
+use crate::command::recovery::{adopt_of, copy_of, lose_of};
+use crate::command::shapes::{batches_of, check_members};
+use crate::command::word::{CommandWord, word_of};
+use crate::{Command, Part, Refusal};
+use pn_json::{items_of, member_from};
+use pn_record::{ImageFault, read_value};
+use serde_json::{Map, Value};
+use std::alloc::Global;
+
+impl From<ImageFault> for Refusal {
+    ghost from_gives = { λ fault refusal. refusal ≡ refusal_of fault };
+
+    fn from(fault: ImageFault) -> Refusal {
+        match fault {
+            ImageFault::TooLong => Refusal::TooLong,
+            ImageFault::NotJson => Refusal::NotJson,
+            ImageFault::Memory => Refusal::Memory,
+            ImageFault::BadShape(member) => Refusal::BadShape(Part::Image(member)),
+            ImageFault::OutOfRange(member) => Refusal::OutOfRange(Part::Image(member)),
+        }
+    }
+}
+
+/// Reads a line as a command, or answers its first fault in the order of [`Refusal`]. `Memory` may replace any fault
+/// but `TooLong`.
+pub fn command_of(alloc: Global, line: &[u8]) -> Result<Command, Refusal>
+    ensures found { IfOk result (λ command. IsCommandLine line.now (command_value command)) }
+    ensures only { (command : CommandValue) → IsCommandLine line.now command → ShowsUnless Refusal.Memory command_value result (Ok command) }
+
+    // Exactly this fault.
+    ensures exact { ShowsUnless Refusal.Memory command_value result (command_at line.now) }
+    ensures too_long { IsTrue (is_too_long line.now) → IsErrOf result Refusal.TooLong }
+    ensures memory { IsErrOf result Refusal.Memory → is_too_long line.now ≡ false }
+{
+    allowed_command(alloc, line, Allowed::All)
+}
+
+/// Reads a line of a session as a lookup, or answers its first fault. `ReadOnly` names another command, whatever its
+/// other members are.
+pub fn lookup_of(alloc: Global, line: &[u8]) -> Result<Command, Refusal>
+    ensures exact { ShowsUnless Refusal.Memory command_value result (lookup_at line.now) }
+    ensures memory { IsErrOf result Refusal.Memory → is_too_long line.now ≡ false }
+{
+    allowed_command(alloc, line, Allowed::Lookups)
+}
+
+/// The commands that a line may say.
+#[derive(Clone, Copy)]
+pub(crate) enum Allowed {
+    All,
+    /// `copy`, `get`, `read` and `scan`.
+    Lookups,
+}
+
+#[tactic(auto, unfolding(crate::specs::Command::Lines::allowed_at))]
+fn allowed_command(alloc: Global, line: &[u8], allowed: Allowed) -> Result<Command, Refusal>
+    ensures exact { ShowsUnless Refusal.Memory command_value result (allowed_at allowed line.now) }
+    ensures too_long { max_line_bytes < length line.now → IsErrOf result Refusal.TooLong }
+{
+    let value = read_value(alloc, line)?;
+    command_in(alloc, value, allowed)
+}
+
+// Reads a value as a command. Memory runs out only for a command, or while batches or keys are gathered.
+#[tactic(auto, unfolding(crate::specs::Command::Objects::allowed_in, crate::specs::Command::BatchParts::deliver_at))]
+fn command_in(alloc: Global, value: Value, allowed: Allowed) -> Result<Command, Refusal>
+    ensures exact { ShowsUnless Refusal.Memory command_value result (allowed_in allowed (view value)) }
+    ensures memory { IsErrOf result Refusal.Memory → TakesMemory allowed (view value) }
+{
+    let members = value.as_object().ok_or(Refusal::BadShape(Part::Whole))?;
+    let word = word_of(value.get("do"))?;
+    check_allowed(allowed, word)?;
+    match word {
+        CommandWord::Adopt => adopt_of(members, &value),
+        CommandWord::Copy => copy_of(alloc, members, &value),
+        CommandWord::Deliver => deliver_of(alloc, value),
+        CommandWord::Get => get_of(alloc, members, &value),
+        CommandWord::Lose => lose_of(members, &value),
+        CommandWord::Marks => alone(members, Command::Marks),
+        CommandWord::Notices => notices_of(members, &value),
+        CommandWord::Read => read_of(alloc, members, &value),
+        CommandWord::Scan => scan_of(alloc, members, &value),
+        CommandWord::Tablets => alone(members, Command::Tablets),
+    }
+}
+
+fn check_allowed(allowed: Allowed, word: CommandWord) -> Result<(), Refusal>
+    ensures exact { result ≡ allowed_word allowed word }
+    ensures memory { IsErrOf result Refusal.Memory → ⊥ }
+{
+    match allowed {
+        Allowed::All => Ok(()),
+        Allowed::Lookups => check_lookup(word),
+    }
+}
+
+fn check_lookup(word: CommandWord) -> Result<(), Refusal>
+    ensures exact { result ≡ lookup_word word }
+    ensures memory { IsErrOf result Refusal.Memory → ⊥ }
+{
+    match word {
+        CommandWord::Copy | CommandWord::Get | CommandWord::Read | CommandWord::Scan => Ok(()),
+        _ => Err(Refusal::ReadOnly),
+    }
+}
+
+// Checks all before it moves anything out of the value.
+#[tactic(auto, unfolding(crate::specs::Command::BatchParts::deliver_at))]
+fn deliver_of(alloc: Global, value: Value) -> Result<Command, Refusal>
+    ensures { ShowsUnless Refusal.Memory command_value result (deliver_at (view value)) }
+{
+    drop(checked_batches(alloc, &value)?);
+    let batches = items_at(alloc, member_from(value, "batches"));
+    Ok(Command::Deliver(built_deliveries(alloc, batches)?))
+}
+
+// The batches of a `deliver` command, borrowed from its value.
+#[tactic(auto, unfolding(crate::specs::Command::Deliveries::deliver_in, crate::specs::Command::BatchParts::deliver_at))]
+fn checked_batches(alloc: Global, value: &Value) -> Result<Vec<BatchShape<'_>>, Refusal>
+    ensures { ShowsUnless Refusal.Memory (λ batches. deliver batches.items) result (deliver_at (view value.now)) }
+{
+    let members = value.as_object().ok_or(Refusal::BadShape(Part::Whole))?;
+    let items = items_of(value.get("batches"), Refusal::BadShape(Part::Batches))?;
+    let shapes = batches_of(alloc, items)?;
+    check_members(members, &["batches", "do"])?;
+    check_batches(&shapes)?;
+    Ok(shapes)
+}
+
+// A command whose one member is its word.
+#[tactic(auto, unfolding(crate::specs::Command::Overview::alone_in))]
+fn alone(members: &Map<String, Value>, command: Command) -> Result<Command, Refusal>
+    ensures exact { Shows command_value result (alone_in (command_value command) (members_view members.now.entries)) }
+    ensures memory { IsErrOf result Refusal.Memory → ⊥ }
+{
+    check_members(members, &["do"])?;
+    Ok(command)
+}

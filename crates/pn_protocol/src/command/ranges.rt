@@ -1,0 +1,90 @@
+//! Checks the ranges of a line's parts.
+
+ghost use Rattle.std.specs.Prelude.{◌≡◌, IsErrOf};
+ghost use Rattle.pn_json.specs.Members.{texts};
+ghost use Rattle.pn_record.specs.Limits.{is_key};
+ghost use Rattle.pn_protocol.specs.Command.RangeChecks.{fits, each_fits, image_fits, batch_fits, batches_fit, keys_fit};
+
+use crate::command::batch::BatchShape;
+use crate::{Part, Refusal};
+use pn_join::Name;
+use pn_record::UncheckedImage;
+use pn_record::limits::MAX_KEY_BYTES;
+use pn_stream::positions_fit;
+
+/// The most batches of a command.
+const MAX_BATCHES: usize = 64;
+
+/// The most keys of a command.
+const MAX_KEYS: usize = 100;
+
+/// Checks that there are 1 to 64 batches, each within its limits.
+#[tactic(auto, unfolding(crate::specs::Command::RangeChecks::batches_fit))]
+pub(crate) fn check_batches(batches: &[BatchShape<'_>]) -> Result<(), Refusal>
+    ensures { result ≡ batches_fit batches.now }
+{
+    if batches.is_empty() || batches.len() > MAX_BATCHES {
+        return Err(Refusal::OutOfRange(Part::Batches));
+    }
+    for batch in batches {
+        check_batch(batch)?;
+    }
+    Ok(())
+}
+
+#[tactic(auto, unfolding(crate::specs::Command::RangeChecks::batch_fits))]
+fn check_batch(batch: &BatchShape<'_>) -> Result<(), Refusal>
+    ensures { result ≡ batch_fits batch.now }
+{
+    if !positions_fit(batch.first, batch.images.len()) {
+        return Err(Refusal::OutOfRange(Part::First));
+    }
+    check_images(&batch.images)?;
+    if !Name::fits(batch.stream.as_bytes()) {
+        return Err(Refusal::OutOfRange(Part::Stream));
+    }
+    Ok(())
+}
+
+fn check_images(images: &[UncheckedImage<'_>]) -> Result<(), Refusal>
+    ensures { result ≡ each_fits image_fits images.now }
+{
+    for image in images {
+        check_image(image)?;
+    }
+    Ok(())
+}
+
+fn check_image(image: &UncheckedImage<'_>) -> Result<(), Refusal>
+    ensures { result ≡ image_fits image.now }
+{
+    match image.check_ranges() {
+        Ok(()) => Ok(()),
+        Err(member) => Err(Refusal::OutOfRange(Part::Image(member))),
+    }
+}
+
+/// Checks that there are 1 to 100 keys, each of 1 to 256 bytes.
+#[tactic(auto, unfolding(crate::specs::Command::RangeChecks::keys_fit))]
+pub(crate) fn check_keys(keys: &[&str]) -> Result<(), Refusal>
+    ensures { result ≡ keys_fit (texts keys.now) }
+{
+    if keys.is_empty() || keys.len() > MAX_KEYS {
+        return Err(Refusal::OutOfRange(Part::Keys));
+    }
+    for key in keys {
+        check_key(key, Part::Keys)?;
+    }
+    Ok(())
+}
+
+/// Checks that the text has 1 to 256 bytes. The part names the fault.
+pub(crate) fn check_key(text: &str, part: Part) -> Result<(), Refusal>
+    ensures exact { result ≡ fits part (is_key text.now) }
+    ensures memory { IsErrOf result Refusal.Memory → ⊥ }
+{
+    if text.is_empty() || text.len() > MAX_KEY_BYTES {
+        return Err(Refusal::OutOfRange(part));
+    }
+    Ok(())
+}

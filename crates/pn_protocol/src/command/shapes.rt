@@ -1,0 +1,114 @@
+//! Checks the shapes of a line's parts, and borrows them from the parsed value.
+
+ghost use Rattle.std.specs.Prelude.{◌≡◌, [], vec_capacity, IfOk, IsErrOf};
+ghost use Rattle.serde_json.specs.View.{view, items_view, members_view};
+ghost use Rattle.pn_json.specs.Answers.{Shows, ShowsUnless, IsUnless};
+ghost use Rattle.pn_json.specs.Members.{seen, texts, each_in};
+ghost use Rattle.pn_protocol.specs.Command.ShapeChecks.{named_alone, image_shape, batch_shape, key_shape, required_in, version_shape};
+
+use crate::command::batch::BatchShape;
+use crate::{Part, Refusal};
+use pn_join::NoMemory;
+use pn_json::{check_names, items_of, text_of, whole_number_of};
+use pn_record::{UncheckedImage, numbers_of, unchecked_image};
+use serde_json::{Map, Value};
+use std::alloc::Global;
+
+/// Checks that each member has one of these names.
+pub(crate) fn check_members(members: &Map<String, Value>, names: &[&str]) -> Result<(), Refusal>
+    ensures exact { result ≡ named_alone (texts names.now) (members_view members.now.entries) }
+    ensures memory { IsErrOf result Refusal.Memory → ⊥ }
+{
+    check_names(members, names, Refusal::BadShape(Part::Other))
+}
+
+fn image_of(value: &Value) -> Result<UncheckedImage<'_>, Refusal>
+    ensures { result ≡ image_shape (view value.now) }
+{
+    match unchecked_image(value) {
+        Ok(shape) => Ok(shape),
+        Err(member) => Err(Refusal::BadShape(Part::Image(member))),
+    }
+}
+
+fn images_of(alloc: Global, items: &[Value]) -> Result<Vec<UncheckedImage<'_>>, Refusal>
+    ensures { ShowsUnless Refusal.Memory (λ images. images.items) result (each_in image_shape (items_view items.now)) }
+{
+    let mut images = room(alloc, items.len())?;
+    for item in items {
+        images.push_reserved(image_of(item)?);
+    }
+    Ok(images)
+}
+
+#[tactic(auto, unfolding(crate::specs::Command::ShapeChecks::batch_shape))]
+fn batch_of(alloc: Global, value: &Value) -> Result<BatchShape<'_>, Refusal>
+    ensures { IsUnless Refusal.Memory result (batch_shape (view value.now)) }
+{
+    let members = value.as_object().ok_or(Refusal::BadShape(Part::Batches))?;
+    let first = whole_number_of(value.get("first"), Refusal::BadShape(Part::First))?;
+    let items = items_of(value.get("images"), Refusal::BadShape(Part::Images))?;
+    let images = images_of(alloc, items)?;
+    let stream = text_of(value.get("stream"), Refusal::BadShape(Part::Stream))?;
+    check_members(members, &["first", "images", "stream"])?;
+    Ok(BatchShape {
+        first,
+        images,
+        stream,
+    })
+}
+
+/// The shapes of all batches, or the first fault.
+pub(crate) fn batches_of(alloc: Global, items: &[Value]) -> Result<Vec<BatchShape<'_>>, Refusal>
+    ensures { ShowsUnless Refusal.Memory (λ batches. batches.items) result (each_in batch_shape (items_view items.now)) }
+{
+    let mut batches = room(alloc, items.len())?;
+    for item in items {
+        batches.push_reserved(batch_of(alloc, item)?);
+    }
+    Ok(batches)
+}
+
+fn key_text(value: &Value) -> Result<&str, Refusal>
+    ensures { Shows (λ text. text.now) result (key_shape (view value.now)) }
+{
+    value.as_str().ok_or(Refusal::BadShape(Part::Keys))
+}
+
+/// The texts of `keys`.
+pub(crate) fn key_texts<'v>(alloc: Global, items: &'v [Value]) -> Result<Vec<&'v str>, Refusal>
+    ensures { ShowsUnless Refusal.Memory (λ keys. texts keys.items) result (each_in key_shape (items_view items.now)) }
+{
+    let mut keys = room(alloc, items.len())?;
+    for item in items {
+        keys.push_reserved(key_text(item)?);
+    }
+    Ok(keys)
+}
+
+/// The version that `version` requires, in numbers. None if it is missing or null.
+pub(crate) fn version_numbers(value: Option<&Value>) -> Result<Option<(u64, u64)>, Refusal>
+    ensures exact { result ≡ version_shape (seen value.entry) }
+    ensures memory { IsErrOf result Refusal.Memory → ⊥ }
+{
+    match value {
+        None => Ok(None),
+        Some(value) => numbers_required(value).ok_or(Refusal::BadShape(Part::Version)),
+    }
+}
+
+fn numbers_required(value: &Value) -> Option<Option<(u64, u64)>>
+    ensures { result ≡ required_in (view value.now) }
+{
+    match value {
+        Value::Null => Some(None),
+        _ => Some(Some(numbers_of(value)?)),
+    }
+}
+
+fn room<T: Drop>(alloc: Global, count: usize) -> Result<Vec<T>, NoMemory>
+    ensures none { IfOk result (λ items. items.items ≡ []) }
+    ensures room { IfOk result (λ items. vec_capacity items ≡ count) }
+{
+    Ok(Vec::with_capacity(alloc, count)?)
+}

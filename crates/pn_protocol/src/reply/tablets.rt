@@ -1,0 +1,87 @@
+//! The reply that shows the tablets.
+
+ghost use Rattle.std.specs.Prelude.{◌≡◌, ◌≤◌, length, map, Some, IfOk, OnOk, slice_get};
+ghost use Rattle.std.specs.Option.{option_copied};
+ghost use Rattle.serde_json.specs.Data.{array};
+ghost use Rattle.serde_json.specs.View.{items_of};
+ghost use Rattle.pn_json.specs.Lines.{line_of};
+ghost use Rattle.pn_json.specs.Tokens.{Appends, value_tokens};
+ghost use Rattle.pn_tablet.specs.Tablets.{TabletStateValue};
+ghost use Rattle.pn_protocol.specs.Reply.Tablets.{end_data, need_data, tablet_data, tablets_data};
+
+use json::Writer;
+use pn_join::NoMemory;
+use pn_json::{begin_line, finish_line};
+use pn_record::{Key, write_marks};
+use pn_region::Region;
+use pn_tablet::Status;
+use std::alloc::Global;
+
+/// The tablets in their order: `{"tablets":[{"cover":{..},"from":F,"need":M,"to":T},..]}`.
+pub fn tablets_reply(alloc: Global, region: &Region) -> Result<Vec<u8>, NoMemory>
+    ensures { IfOk result (λ text. text.items ≡ line_of (tablets_data region.now.state.tablets)) }
+{
+    let mut writer = begin_line(alloc)?;
+    write_tablets_shown(&mut writer, region)?;
+    finish_line(writer)
+}
+
+#[tactic(auto, unfolding(crate::specs::Reply::Tablets::tablets_data))]
+fn write_tablets_shown(writer: &mut Writer, region: &Region) -> Result<(), NoMemory>
+    ensures { OnOk result (Appends writer.old writer.new (value_tokens (tablets_data region.now.state.tablets))) }
+{
+    writer.begin_object()?;
+    writer.key("tablets")?;
+    write_tablets(writer, region)?;
+    writer.end_object()?;
+    Ok(())
+}
+
+fn write_tablets(writer: &mut Writer, region: &Region) -> Result<(), NoMemory>
+    ensures { OnOk result (Appends writer.old writer.new
+        (value_tokens (array (items_of (map tablet_data region.now.state.tablets))))) }
+{
+    writer.begin_array()?;
+    for tablet in 0..region.layout().count() {
+        write_tablet(writer, region, tablet)?;
+    }
+    writer.end_array()?;
+    Ok(())
+}
+
+fn write_tablet(writer: &mut Writer, region: &Region, tablet: usize) -> Result<(), NoMemory>
+    requires { tablet ≤ length region.now.state.layout }
+    ensures { OnOk result ((shown : TabletStateValue) → slice_get region.now.state.tablets tablet ≡ Some shown
+        → Appends writer.old writer.new (value_tokens (tablet_data shown))) }
+{
+    let state = region.tablet(tablet);
+    writer.begin_object()?;
+    writer.key("cover")?;
+    write_marks(writer, state.cover())?;
+    writer.key("from")?;
+    write_end(writer, state.range().from())?;
+    writer.key("need")?;
+    write_need(writer, state.status())?;
+    writer.key("to")?;
+    write_end(writer, state.range().to())?;
+    writer.end_object()?;
+    Ok(())
+}
+
+fn write_end(writer: &mut Writer, end: Option<&Key>) -> Result<(), NoMemory>
+    ensures { OnOk result (Appends writer.old writer.new (value_tokens (end_data (option_copied end.entry)))) }
+{
+    match end {
+        Some(key) => Ok(writer.string(key.as_str())?),
+        None => Ok(writer.null()?),
+    }
+}
+
+fn write_need(writer: &mut Writer, status: &Status) -> Result<(), NoMemory>
+    ensures { OnOk result (Appends writer.old writer.new (value_tokens (need_data status.now))) }
+{
+    match status {
+        Status::Serving => Ok(writer.null()?),
+        Status::Recovering { need } => write_marks(writer, need),
+    }
+}

@@ -1,0 +1,26 @@
+-- Each option is added to those before it.
+use Rattle.std.proofs.Common.{◌≡◌, ◌∙◌, ◌||◌, Bool, false, ap, ap₂, rules}
+use Rattle.std.proofs.lemmas.Result.{IfOk-weaker}
+use Rattle.clap.specs.Simple.{app_of_fields, with_rule}
+use Rattle.clap.specs.declared.builder.command.Command.TheViews.{out-Command}
+use Rattle.pn_serve.proofs.arguments.options.serve.Goals as goal
+
+pub returns-clause-app : goal.returns-clause-app
+returns-clause-app c =
+    let one = c.in_ok-arg.ensures.shape c.bounds.ensures.local ∙ ap₂ with_rule (ap app_of_fields c.about.ensures ∙ c.new.ensures.app) c.bounds.ensures.rule in
+    let two = c.in_ok-arg-2.ensures.shape c.workers.ensures.local ∙ ap₂ with_rule one c.workers.ensures.rule in
+    let three = c.in_ok-arg-3.ensures.shape c.sessions.ensures.local ∙ ap₂ with_rule two c.sessions.ensures.rule in
+    let four = c.in_ok-arg-4.ensures.shape c.port.ensures.local ∙ ap₂ with_rule three c.port.ensures.rule in
+    IfOk-weaker c.arg-5.result _ _ (λ r adds. adds.shape c.streams.ensures.local ∙ ap₂ with_rule four c.streams.ensures.rule) c.arg-5.ensures
+
+neither : (a b : Bool) → a ≡ false → b ≡ false → (a || b) ≡ false
+neither a b one other = ap₂ (λ (x y : Bool). x || y) one other
+
+pub returns-clause-local : goal.returns-clause-local
+returns-clause-local c =
+    let none : (out-Command c.about.result).has_globals ≡ false = search rules in
+    let one = c.in_ok-arg.ensures.globals ∙ neither _ _ none c.bounds.ensures.local in
+    let two = c.in_ok-arg-2.ensures.globals ∙ neither _ _ one c.workers.ensures.local in
+    let three = c.in_ok-arg-3.ensures.globals ∙ neither _ _ two c.sessions.ensures.local in
+    let four = c.in_ok-arg-4.ensures.globals ∙ neither _ _ three c.port.ensures.local in
+    IfOk-weaker c.arg-5.result _ _ (λ r adds. adds.globals ∙ neither _ _ four c.streams.ensures.local) c.arg-5.ensures

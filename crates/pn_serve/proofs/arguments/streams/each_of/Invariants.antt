@@ -1,0 +1,14 @@
+-- The streams so far, then those of the rest, are the streams of all.
+use Rattle.std.proofs.Common.{◌≡◌, drop, map, length}
+use Rattle.std.specs.Prelude.{vec_len, vec_capacity}
+use Rattle.pn_json.specs.Members.{texts}
+use Rattle.pn_serve.specs.Arguments.Streams.{each_stream, stream_value}
+use Rattle.pn_protocol.proofs.Walks.{onto}
+use Rattle.pn_serve.proofs.arguments.streams.each_of.Given as goal
+
+abbrev pub invariant-loop-word : goal.invariant-loop-word
+invariant-loop-word l = record {
+  so_far : each_stream (texts l.words) ≡ onto (map stream_value l.streams.items) (each_stream (texts (drop l.word-index l.words)));
+  count : vec_len l.streams ≡ l.word-index;
+  room : vec_capacity l.streams ≡ length l.words;
+}

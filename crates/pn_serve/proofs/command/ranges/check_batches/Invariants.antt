@@ -1,7 +1,0 @@
--- What is left fits, or has the first fault, exactly as all.
-use Rattle.std.proofs.Common.{◌≡◌, drop}
-use Rattle.pn_serve.specs.Command.RangeChecks.{each_fits, batch_fits}
-use Rattle.pn_serve.proofs.command.ranges.check_batches.Given as goal
-
-abbrev pub invariant-loop-batch : goal.invariant-loop-batch
-invariant-loop-batch l = each_fits batch_fits l.batches ≡ each_fits batch_fits (drop l.batch-index l.batches)

@@ -1,7 +1,0 @@
--- What is left fits, or has the first fault, exactly as all.
-use Rattle.std.proofs.Common.{◌≡◌, drop}
-use Rattle.pn_serve.specs.Command.RangeChecks.{each_fits, image_fits}
-use Rattle.pn_serve.proofs.command.ranges.check_images.Given as goal
-
-abbrev pub invariant-loop-image : goal.invariant-loop-image
-invariant-loop-image l = each_fits image_fits l.images ≡ each_fits image_fits (drop l.image-index l.images)

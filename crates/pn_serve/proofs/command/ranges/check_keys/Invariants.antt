@@ -1,8 +1,0 @@
--- What is left fits, or has the first fault, exactly as all.
-use Rattle.std.proofs.Common.{◌≡◌, drop}
-use Rattle.pn_json.specs.Members.{texts}
-use Rattle.pn_serve.specs.Command.RangeChecks.{each_fits, key_fits}
-use Rattle.pn_serve.proofs.command.ranges.check_keys.Given as goal
-
-abbrev pub invariant-loop-key : goal.invariant-loop-key
-invariant-loop-key l = each_fits key_fits (texts l.keys) ≡ each_fits key_fits (texts (drop l.key-index l.keys))

@@ -1,5 +1,0 @@
--- The tokens of the fault that it is.
-use Rattle.pn_serve.proofs.reply.faults.write_why.Goals as goal
-
-pub returns-in-TooManyStreams : goal.returns-in-TooManyStreams
-returns-in-TooManyStreams c = rw c.in-TooManyStreams.is c.write_error-in-TooManyStreams.ensures

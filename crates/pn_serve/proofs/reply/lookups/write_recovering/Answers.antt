@@ -1,6 +1,0 @@
--- The members stand one after another.
-use Rattle.pn_json.proofs.TokenLists.{appends_both}
-use Rattle.pn_serve.proofs.reply.lookups.write_recovering.Goals as goal
-
-pub returns : goal.returns
-returns c = appends_both c.in_ok-write_error.ensures c.in_ok-write_number_member.ensures

@@ -1,5 +1,0 @@
--- The tokens of the fault that it is.
-use Rattle.pn_serve.proofs.reply.lookups.write_why.Goals as goal
-
-pub returns-in-NoEntry : goal.returns-in-NoEntry
-returns-in-NoEntry c = rw c.in-NoEntry.is c.write_error-in-NoEntry.ensures

@@ -1,5 +1,0 @@
--- The reply of the fault that it is.
-use Rattle.pn_serve.proofs.reply.recovery.bad_text_reply.Goals as goal
-
-pub returns-in-OutsideRange : goal.returns-in-OutsideRange
-returns-in-OutsideRange c = rw c.in-OutsideRange.is c.error_reply-in-OutsideRange.ensures

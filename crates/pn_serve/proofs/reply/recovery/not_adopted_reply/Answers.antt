@@ -1,5 +1,0 @@
--- The reply of the fault that it is.
-use Rattle.pn_serve.proofs.reply.recovery.not_adopted_reply.Goals as goal
-
-pub returns-in-WrongRange : goal.returns-in-WrongRange
-returns-in-WrongRange c = rw c.in-WrongRange.is c.error_reply.ensures

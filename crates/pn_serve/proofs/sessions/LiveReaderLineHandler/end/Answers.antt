@@ -1,0 +1,10 @@
+-- A part of a line is answered as a line.
+use Rattle.std.proofs.Common.{List, ℕ, subst}
+use Rattle.pn_serve.specs.Session.Lines.{AnswersLine}
+use Rattle.pn_serve.proofs.Lookups.{ends_some, not_none}
+use Rattle.pn_serve.proofs.sessions.LiveReaderLineHandler.end.Goals as goal
+
+pub returns-clause-ends : goal.returns-clause-ends
+returns-clause-ends c text is =
+    ends_some _ _ c.args.part.now text _ is (not_none c.is_empty.result c.args.part.now.count c.is_empty.ensures c.if-is_empty.false)
+    (subst (λ (bytes : List ℕ). AnswersLine c.args.self.now bytes c.answer.new.reader c.answer.result) c.bytes.ensures c.answer.ensures.answers)

@@ -1,0 +1,51 @@
+-- The commands of the program and their options, as `clap` reads arguments by them.
+use Rattle.std.specs.Prelude.{ℕ, [], ◌∷◌, true, codes, Some, pos}
+use Rattle.clap.specs.Words.{App, Rule, Text, new_app, new_rule, with_rule, with_subcommand}
+use Rattle.clap.specs.declared.builder.action.ArgAction.TheVariants.{Append}
+use Rattle.clap.specs.declared.builder.value_parser.ValueParser.TheVariants as values
+
+-- an option with one value, and its default
+abbrev pub option_of : Text → Text → Rule
+option_of name default = record (new_rule name) { long = Some name; value_names = 1; defaults = default ∷ [] }
+
+-- an option whose value is a number from 1 to `most`
+abbrev pub number_option : Text → Text → ℕ → Rule
+number_option name default most = record (option_of name default) { parser = Some (values.Signed (pos 1) (pos most)) }
+
+-- the keys between tablets, as JSON
+abbrev pub bounds_option : Rule
+bounds_option = option_of (codes "bounds") (codes "[]")
+
+-- how many workers a round has
+abbrev pub workers_option : Rule
+workers_option = number_option (codes "workers") (codes "1") 16
+
+-- how many sessions are served
+abbrev pub sessions_option : Rule
+sessions_option = number_option (codes "sessions") (codes "4") 16
+
+-- the port that is listened on
+abbrev pub port_option : Rule
+port_option = number_option (codes "port") (codes "7070") 65535
+
+-- at least one stream, one argument each
+abbrev pub streams_words : Rule
+streams_words = record (new_rule (codes "streams")) { value_names = 1; action = Some Append; required = true }
+
+-- a script is answered
+abbrev pub replay : App
+replay = with_rule (with_rule (new_app (codes "replay")) bounds_option) workers_option
+
+-- streams are read while sessions are served
+abbrev pub serve : App
+serve = with_rule (with_rule (with_rule (with_rule (with_rule (new_app (codes "serve")) bounds_option) workers_option) sessions_option) port_option) streams_words
+
+-- the program, which needs a command
+abbrev pub named : App
+named = record (new_app (codes "pnuts")) {
+  top = record (new_app (codes "pnuts")).top { subcommand_required = true; disable_help_subcommand = true };
+}
+
+-- the program with its commands
+abbrev pub program : App
+program = with_subcommand (with_subcommand named replay.top) serve.top

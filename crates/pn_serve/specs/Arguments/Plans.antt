@@ -1,0 +1,47 @@
+-- What arguments plan, or why they are refused.
+use Rattle.std.specs.Prelude.{◌≡◌, ◌≢◌, ◌≤◌, ⊤, List, [], Some, Result, Ok, Err}
+use Rattle.clap.specs.Words.{IsAmong, Row, Text, fault_of, subcommand_of}
+use Rattle.clap.specs.declared.error.kind.ErrorKind.{ErrorKind}
+use Rattle.clap.specs.declared.error.kind.ErrorKind.TheVariants.{DisplayHelp, OutOfMemory}
+use Rattle.pn_live.specs.Limits.{max_readers}
+use Rattle.pn_serve.specs.Arguments.Options.{program}
+use Rattle.pn_serve.specs.declared.arguments.plans.Plan.{Plan}
+use Rattle.pn_serve.specs.declared.arguments.plans.Plan.TheVariants as plan
+use Rattle.pn_serve.specs.declared.arguments.plans.PlanFault.{PlanFault}
+use Rattle.pn_serve.specs.declared.arguments.plans.PlanFault.TheVariants as fault
+use Rattle.pn_serve.specs.Arguments.PlanValues.{PlanValue, plan_value}
+use Rattle.pn_serve.specs.Arguments.Commands.{plan_in}
+
+-- `clap` accepts the arguments, and their command says this
+pub record Says (words : List Text) (said : Result PlanValue PlanFault) : Type 0 where
+  pub taken : fault_of program words ≡ []
+  pub command : Text × List Row
+  pub found : subcommand_of program words ≡ Some command
+  pub means : plan_in command ≡ said
+
+-- `clap` refuses the arguments, and they do not ask for help
+pub record IsRefused (words : List Text) : Type 0 where
+  pub kind : ErrorKind
+  pub among : IsAmong kind (fault_of program words)
+  pub other : kind ≢ DisplayHelp
+
+-- what the arguments plan, or their first fault
+abbrev pub Plans : List Text → Result Plan PlanFault → Type 0
+Plans words (Ok (plan.Help text)) = IsAmong DisplayHelp (fault_of program words)
+Plans words (Ok planned) = Says words (Ok (plan_value planned))
+Plans words (Err (fault.Words text)) = IsRefused words
+Plans words (Err fault.Memory) = ⊤
+Plans words (Err found) = Says words (Err found)
+
+-- what is answered if `clap` accepts no arguments
+abbrev pub Answers : ErrorKind → Result Plan PlanFault → Type 0
+Answers kind (Ok (plan.Help text)) = kind ≡ DisplayHelp
+Answers kind (Ok planned) = ⊥
+Answers kind (Err (fault.Words text)) = (kind ≢ DisplayHelp) × (kind ≢ OutOfMemory)
+Answers kind (Err fault.Memory) = ⊤
+Answers kind (Err found) = ⊥
+
+-- a plan to serve has 1 to 16 sessions
+abbrev pub HasSessions : Plan → Type 0
+HasSessions (plan.Serve settings sessions port streams) = (1 ≤ sessions) × (sessions ≤ max_readers)
+HasSessions planned = ⊤

@@ -1,0 +1,65 @@
+//! The argument `--bounds`.
+
+ghost use Rattle.std.specs.Option.{ok_or};
+ghost use Rattle.serde_json.specs.View.{view, items_view};
+ghost use Rattle.pn_json.specs.Answers.{IsUnless, ShowsUnless};
+ghost use Rattle.pn_json.specs.Members.{each_in};
+ghost use Rattle.pn_record.specs.Reading.{reading};
+ghost use Rattle.pn_serve.specs.Arguments.Bounds.{bounds_in, key_in};
+
+use crate::PlanFault;
+use pn_json::items_of;
+use pn_record::{Key, KeyFault};
+use pn_tablet::Layout;
+use serde_json::Value;
+use std::alloc::Global;
+
+/// The layout whose bounds are a JSON array of keys.
+#[tactic(auto, unfolding(crate::specs::Arguments::Bounds::bounds_in))]
+pub(crate) fn layout_of(alloc: Global, text: &str) -> Result<Layout, PlanFault>
+    ensures { IsUnless PlanFault.Memory result (bounds_in text.now) }
+{
+    let value = value_of(alloc, text)?;
+    let keys = keys_of(alloc, items_of(Some(&value), PlanFault::Bounds)?)?;
+    match Layout::new(keys) {
+        Ok(layout) => Ok(layout),
+        Err(_) => Err(PlanFault::Bounds),
+    }
+}
+
+#[tactic(auto, unfolding(pn_record::specs::Reading::reading))]
+fn value_of(alloc: Global, text: &str) -> Result<Value, PlanFault>
+    ensures { ShowsUnless PlanFault.Memory view result (ok_or (reading text.now) PlanFault.Bounds) }
+{
+    match Value::from_slice(alloc, text.as_bytes()) {
+        Ok(value) => Ok(value),
+        Err(error) => {
+            if error.is_memory() {
+                Err(PlanFault::Memory)
+            } else {
+                Err(PlanFault::Bounds)
+            }
+        }
+    }
+}
+
+fn keys_of(alloc: Global, items: &[Value]) -> Result<Vec<Key>, PlanFault>
+    ensures { ShowsUnless PlanFault.Memory (λ keys. keys.items) result (each_in key_in (items_view items.now)) }
+{
+    let mut keys = Vec::with_capacity(alloc, items.len())?;
+    for item in items {
+        keys.push_reserved(key_of(alloc, item)?);
+    }
+    Ok(keys)
+}
+
+fn key_of(alloc: Global, item: &Value) -> Result<Key, PlanFault>
+    ensures { IsUnless PlanFault.Memory result (key_in (view item.now)) }
+{
+    let text = item.as_str().ok_or(PlanFault::Bounds)?;
+    match Key::of(alloc, text) {
+        Ok(key) => Ok(key),
+        Err(KeyFault::OutOfRange) => Err(PlanFault::Bounds),
+        Err(KeyFault::Memory) => Err(PlanFault::Memory),
+    }
+}

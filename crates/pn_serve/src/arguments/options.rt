@@ -1,0 +1,138 @@
+//! The commands of the program and their options, for `clap`.
+
+ghost use Rattle.std.specs.Prelude.{◌≡◌, ◌≤◌, [], false, unwrap_or, IfOk, pos};
+ghost use Rattle.clap.specs.Words.{app_of, first_of, found_of, rows_of, rule_of};
+ghost use Rattle.clap.specs.declared.builder.command.Command.TheViews.{out-Command};
+ghost use Rattle.clap.specs.declared.builder.value_parser.ValueParser.TheVariants as values;
+ghost use Rattle.pn_serve.specs.Arguments.Options.{bounds_option, port_option, program, replay as replay_app, serve as serve_app, sessions_option, streams_words, workers_option};
+ghost use Rattle.pn_serve.specs.Arguments.Commands.{number_at};
+
+use clap::builder::ValueParser;
+use clap::{Arg, ArgAction, ArgMatches, Command, value_parser};
+use std::alloc::{AllocError, Global};
+
+/// The program's commands and options.
+pub(crate) fn command<'w>(alloc: Global) -> Result<Command<'w>, AllocError>
+    ensures { IfOk result (λ command. app_of command ≡ program) }
+{
+    let command = Command::new(alloc, "pnuts")
+        .about("A read region of a replicated record store")
+        .subcommand_required(true)
+        .disable_help_subcommand(true);
+    command
+        .subcommand(replay(alloc)?)?
+        .subcommand(serve(alloc)?)
+}
+
+fn replay<'w>(alloc: Global) -> Result<Command<'w>, AllocError>
+    ensures app { IfOk result (λ command. app_of command ≡ replay_app) }
+    ensures local { IfOk result (λ command. (out-Command command).has_globals ≡ false) }
+{
+    Command::new(alloc, "replay")
+        .about("Answers the script on standard input, a reply a line, on standard output")
+        .arg(bounds(alloc))?
+        .arg(workers(alloc))
+}
+
+fn serve<'w>(alloc: Global) -> Result<Command<'w>, AllocError>
+    ensures app { IfOk result (λ command. app_of command ≡ serve_app) }
+    ensures local { IfOk result (λ command. (out-Command command).has_globals ≡ false) }
+{
+    Command::new(alloc, "serve")
+        .about("CommandReader streams from files while it serves sessions on 127.0.0.1")
+        .arg(bounds(alloc))?
+        .arg(workers(alloc))?
+        .arg(sessions(alloc))?
+        .arg(port(alloc))?
+        .arg(streams(alloc))
+}
+
+fn bounds<'w>(alloc: Global) -> Arg<'w>
+    ensures rule { rule_of result ≡ bounds_option }
+    ensures local { result.global ≡ false }
+{
+    Arg::new(alloc, "bounds")
+        .long("bounds")
+        .value_name("JSON")
+        .default_value("[]")
+        .help(
+            "The keys that divide all keys into tablets: a JSON array of up to 63, each less than the next",
+        )
+}
+
+fn workers<'w>(alloc: Global) -> Arg<'w>
+    ensures rule { rule_of result ≡ workers_option }
+    ensures local { result.global ≡ false }
+{
+    Arg::new(alloc, "workers")
+        .long("workers")
+        .value_name("N")
+        .default_value("1")
+        .value_parser(one_to_16())
+        .help("How many threads work a round: 1 to 16")
+}
+
+fn sessions<'w>(alloc: Global) -> Arg<'w>
+    ensures rule { rule_of result ≡ sessions_option }
+    ensures local { result.global ≡ false }
+{
+    Arg::new(alloc, "sessions")
+        .long("sessions")
+        .value_name("N")
+        .default_value("4")
+        .value_parser(one_to_16())
+        .help("How many sessions are served: 1 to 16")
+}
+
+fn port<'w>(alloc: Global) -> Arg<'w>
+    ensures rule { rule_of result ≡ port_option }
+    ensures local { result.global ≡ false }
+{
+    Arg::new(alloc, "port")
+        .long("port")
+        .value_name("P")
+        .default_value("7070")
+        .value_parser(one_to_65_535())
+        .help("The port that is listened on")
+}
+
+fn streams<'w>(alloc: Global) -> Arg<'w>
+    ensures rule { rule_of result ≡ streams_words }
+    ensures local { result.global ≡ false }
+{
+    Arg::new(alloc, "streams")
+        .value_name("NAME=PATH")
+        .action(ArgAction::Append)
+        .required(true)
+        .help("A stream's name and the file of its messages, for 1 to 16 streams")
+}
+
+fn one_to_16<'w>() -> ValueParser<'w>
+    ensures { result ≡ values.Signed (pos 1) (pos 16) }
+{
+    value_parser!(u16).range(1..=16)
+}
+
+fn one_to_65_535<'w>() -> ValueParser<'w>
+    ensures { result ≡ values.Signed (pos 1) (pos 65535) }
+{
+    value_parser!(u16).range(1..=65_535)
+}
+
+/// The number of an option, from 1 to the most that `clap` lets through.
+pub(crate) fn option_number(options: &ArgMatches<'_>, name: &str, most: u16) -> u16
+    requires { 1 ≤ most }
+    ensures { result ≡ number_at name.now most (rows_of (found_of options.now)) }
+{
+    options.get_one::<u16>(name).unwrap_or(1).clamp(1, most)
+}
+
+/// The text of an option; it is empty where there is none.
+pub(crate) fn option_text<'w>(options: &ArgMatches<'w>, name: &str) -> &'w str
+    ensures { result.now ≡ unwrap_or (first_of name.now (rows_of (found_of options.now))) [] }
+{
+    match options.get_str(name) {
+        Some(text) => text,
+        None => "",
+    }
+}

@@ -1,0 +1,108 @@
+//! Adoption: the lines that `adopt` announces are gathered, and their copy is adopted.
+
+ghost use Rattle.std.specs.Prelude.{◌≡◌, ◌++◌, [], Some, IfOk};
+ghost use Rattle.pn_line.specs.Line.{kept};
+ghost use Rattle.pn_json.specs.Answers.{IsUnless};
+ghost use Rattle.pn_region.specs.Recovery.{adopting};
+ghost use Rattle.pn_tablet.specs.CopyReading.{copy_at};
+ghost use Rattle.pn_serve.specs.Machine.Modes.{bytes_of, mode_of, with_mode};
+ghost use Rattle.pn_serve.specs.Machine.Outcomes.{announced as announced_mode, waiting};
+ghost use Rattle.pn_serve.specs.Machine.Recovering.{adopted, adopting_text};
+ghost use Rattle.pn_serve.specs.Machine.Answers.{AnswersBy, ConcludesBy};
+ghost use Rattle.pn_serve.specs.Machine.Ways.{ComesTo, IsJoined};
+
+use crate::machine::Done;
+use pn_join::NoMemory;
+use pn_line::MAX_KEPT_BYTES;
+use pn_protocol::{Refusal, Reply, bad_text, not_adopted};
+use pn_region::Region;
+use pn_tablet::{CopyTextFault, TabletCopy, read_copy};
+use std::alloc::Global;
+
+/// The text of a copy that is not complete yet.
+#[derive(Drop)]
+pub(crate) struct Announced {
+    /// How many lines are still to come.
+    left: u64,
+    /// The text so far. None once memory ran out.
+    text: Option<Vec<u8>>,
+}
+
+impl Announced {
+    /// This many lines are to come, and none has come.
+    pub(crate) fn new(alloc: Global, lines: u64) -> Announced
+        ensures { mode_of (Some result) ≡ announced_mode lines (Some []) }
+    {
+        Announced {
+            left: lines,
+            text: Some(Vec::new(alloc)),
+        }
+    }
+}
+
+/// Takes an announced line. The last one adopts the copy.
+pub(crate) fn go_on(alloc: Global, region: &mut Region, announced: Announced, line: &[u8]) -> Done
+    ensures { AnswersBy ⊥ (with_mode (Some announced) region.old) line.now (with_mode result.1 region.new) result.0 }
+{
+    let Announced { left, text } = announced;
+    let text = joined(text, line, b"\n");
+    if left > 1 {
+        let left = left - 1;
+        return (Reply::Silent, Some(Announced { left, text }));
+    }
+    (adopt(alloc, region, text), None)
+}
+
+/// Adopts the text so far, after a last part of a line.
+pub(crate) fn finish(alloc: Global, region: &mut Region, announced: Announced, part: &[u8]) -> Reply
+    ensures { ConcludesBy ⊥ (with_mode (Some announced) region.old) part.now (waiting region.new) result }
+{
+    adopt(alloc, region, joined(announced.text, part, b""))
+}
+
+// Adds a line to the text. None once memory ran out.
+fn joined(text: Option<Vec<u8>>, line: &[u8], newline: &[u8]) -> Option<Vec<u8>>
+    ensures { IsJoined (bytes_of text) line.now newline.now (bytes_of result) }
+{
+    extended(text?, line, newline).ok()
+}
+
+// Adds the line's first 65,537 bytes and its newline, if any.
+fn extended(text: Vec<u8>, line: &[u8], newline: &[u8]) -> Result<Vec<u8>, NoMemory>
+    ensures { IfOk result (λ whole. whole.items ≡ text.items ++ (kept line.now ++ newline.now)) }
+{
+    let mut text = text;
+    let kept = line.len().min(MAX_KEPT_BYTES);
+    text.extend_from_slice(&line[..kept])?;
+    text.extend_from_slice(newline)?;
+    Ok(text)
+}
+
+/// Adopts the copy of the text. None: memory ran out before.
+pub(crate) fn adopt(alloc: Global, region: &mut Region, text: Option<Vec<u8>>) -> Reply
+    ensures { ComesTo (adopting_text region.old (bytes_of text)) region.old region.new result }
+{
+    let Some(text) = text else {
+        return Reply::Refused(Refusal::Memory);
+    };
+    match read_text(alloc, text) {
+        Ok(copy) => adopt_copy(alloc, region, copy),
+        Err(fault) => bad_text(alloc, &fault),
+    }
+}
+
+// Parses the copy and frees its text.
+fn read_text(alloc: Global, text: Vec<u8>) -> Result<TabletCopy, CopyTextFault>
+    ensures { IsUnless CopyTextFault.Memory result (copy_at text.items) }
+{
+    read_copy(alloc, &text)
+}
+
+fn adopt_copy(alloc: Global, region: &mut Region, copy: TabletCopy) -> Reply
+    ensures { ComesTo (adopted region.old (adopting region.old.state copy)) region.old region.new result }
+{
+    match region.adopt(copy) {
+        Ok(tablet) => Reply::Adopted(tablet as u64),
+        Err(fault) => not_adopted(alloc, &fault),
+    }
+}

@@ -1,0 +1,38 @@
+//! Handlers of lines: the region of a script, or a reader of a live region.
+
+ghost use Rattle.std.specs.Prelude.{◌≡◌, ℕ, List};
+ghost use Rattle.pn_line.specs.Line.{so_far};
+ghost use Rattle.pn_live.specs.Readers.{Tablets};
+
+use pn_line::LineBuffer;
+use pn_protocol::Reply;
+use std::alloc::Global;
+
+/// Answers lines one after another.
+pub(crate) trait LineHandler {
+    ghost use Rattle.pn_protocol.specs.declared.reply.Reply.{Reply};
+
+    // What its types need.
+    ghost ready: { Type 0 };
+
+    // Relates the state before, the line, the state after and the reply.
+    ghost makes: { Self → List ℕ → Self → Reply → Type 0 };
+
+    // Relates the state before, the last part of a line, the state after and the reply.
+    ghost ends: { Self → List ℕ → Self → Reply → Type 0 };
+
+    // The live tablets that it reads, if any.
+    ghost tablets: { Self → Tablets };
+
+    /// Answers a line.
+    fn answer(&mut self, alloc: Global, line: &LineBuffer) -> Reply
+        requires { ready }
+        ensures makes { (text : List ℕ) → line.now ≡ so_far text → makes self.old text self.new result }
+        ensures same { tablets self.new ≡ tablets self.old };
+
+    /// Answers the end of the input, after a part of a line.
+    fn end(&mut self, alloc: Global, part: &LineBuffer) -> Reply
+        requires { ready }
+        ensures ends { (text : List ℕ) → part.now ≡ so_far text → ends self.old text self.new result }
+        ensures same { tablets self.new ≡ tablets self.old };
+}

@@ -1,0 +1,102 @@
+//! The handler of a script's lines.
+
+ghost use Rattle.std.specs.Prelude.{◌≡◌, IfOk};
+ghost use Rattle.pn_region.specs.Regions.{new_region};
+ghost use Rattle.pn_serve.specs.Machine.Outcomes.{serving};
+
+use crate::Settings;
+use crate::machine::adoption::Announced;
+use crate::machine::command_reader::Json;
+use crate::machine::line_handler::LineHandler;
+use crate::machine::{answer, end};
+use pn_join::NoMemory;
+use pn_line::LineBuffer;
+use pn_protocol::Reply;
+use pn_region::Region;
+use std::alloc::Global;
+use std::marker::Model;
+use std::thread::Threads;
+
+/// A region, the workers of its rounds, and the announced lines.
+#[derive(Drop)]
+pub(crate) struct ScriptHandler<'a, R> {
+    rt: &'a R,
+    region: Region,
+    workers: usize,
+    // The lines that are still to come. None: the next line is a command.
+    announced: Option<Announced>,
+}
+
+impl<'a, R> Model for ScriptHandler<'a, R> {
+    ghost use Rattle.std.specs.Prelude.{◌≤◌};
+    ghost use Rattle.pn_apply.specs.Limits.{max_workers};
+    ghost use Rattle.pn_serve.specs.Machine.Modes.{with_mode};
+    ghost use Rattle.pn_serve.specs.Machine.Outcomes.{Machine};
+
+    ghost Value = { Machine };
+
+    ghost use Rattle.pn_serve.specs.Lines.Coding.{machine_code};
+
+    ghost coded = { machine_code };
+
+    ghost view = { λ scripted. with_mode scripted.announced scripted.region };
+
+    ghost invariant = { λ scripted. (1 ≤ scripted.workers) × (scripted.workers ≤ max_workers) };
+}
+
+impl<'a, R: Threads + Sync> ScriptHandler<'a, R> {
+    /// A new region that waits for a command.
+    pub(crate) fn new(
+        rt: &'a R,
+        alloc: Global,
+        settings: Settings,
+    ) -> Result<ScriptHandler<'a, R>, NoMemory>
+        ensures { IfOk result (λ scripted. scripted ≡ serving (new_region settings.layout)) }
+    {
+        let Settings { layout, workers } = settings;
+        Ok(ScriptHandler {
+            rt,
+            region: Region::new(alloc, layout)?,
+            workers,
+            announced: None,
+        })
+    }
+}
+
+impl<'a, R: Threads + Sync> LineHandler for ScriptHandler<'a, R> {
+    ghost use Rattle.pn_serve.specs.Machine.Answers.{Answers, Concludes};
+    ghost use Rattle.pn_serve.specs.Session.Lines.{no_tablets};
+    ghost use Rattle.std.specs.Thread.{IsSync};
+
+    // Threads can share the runtime.
+    ghost ready = { IsSync R.row };
+
+    ghost makes = { Answers };
+
+    ghost ends = { Concludes };
+
+    ghost tablets = { λ _. no_tablets };
+
+    fn answer(&mut self, alloc: Global, line: &LineBuffer) -> Reply {
+        let waiting = self.announced.take();
+        let bytes = line.bytes();
+        let region = &mut self.region;
+        let (reply, announced) = answer::<R, Json>(
+            self.rt,
+            alloc,
+            region,
+            self.workers,
+            waiting,
+            bytes,
+        );
+        self.announced = announced;
+        reply
+    }
+
+    fn end(&mut self, alloc: Global, part: &LineBuffer) -> Reply {
+        let announced = self.announced.take();
+        let bytes = part.bytes();
+        let region = &mut self.region;
+        end::<R, Json>(self.rt, alloc, region, self.workers, announced, bytes)
+    }
+}

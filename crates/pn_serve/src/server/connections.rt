@@ -1,0 +1,125 @@
+//! Sessions over TCP, each in its own thread, which gives its reader back.
+
+ghost use Rattle.std.specs.Prelude.{◌≡◌, ◌+◌, ◌≤◌, [], length, vec_len, vec_capacity, All, IfOk, IsFalse};
+ghost use Rattle.pn_live.specs.LiveRegions.{tablets_in};
+ghost use Rattle.pn_live.specs.Readers.{tablets_of};
+ghost use Rattle.pn_serve.specs.Server.Sessions.{AllRead};
+
+use crate::session;
+use pn_live::{LiveReader, LiveRegion};
+use std::alloc::Global;
+use std::io::BufReader;
+use std::net::TcpListener;
+use std::snapshot::Snapshot;
+use std::thread::{Promise, PromisedHandle, Threads};
+use std::{io, thread};
+
+/// How many bytes of a session are read at a time.
+const SESSION_ROOM: usize = 65_536;
+
+/// Promises that the reader comes back: it reads the same tablets.
+#[derive(Drop)]
+pub(crate) struct ComesBack(Snapshot<LiveReader>);
+
+impl Promise<LiveReader> for ComesBack {
+    ghost use Rattle.std.specs.Prelude.{◌≡◌};
+    ghost use Rattle.pn_live.specs.Readers.{tablets_of};
+
+    ghost kept_by = { λ promise reader. tablets_of reader ≡ tablets_of promise.0.value };
+}
+
+/// A session that runs.
+pub(crate) type Running = PromisedHandle<LiveReader, ComesBack>;
+
+/// The sessions that run, and whether one was refused.
+#[derive(Drop)]
+pub(crate) struct StartedSessions {
+    pub(crate) running: Vec<Running>,
+    pub(crate) is_refused: bool,
+}
+
+/// Starts a session for each reader, until one is refused. Its reader is dropped.
+pub(crate) fn begin_sessions<R: Threads>(
+    rt: &R,
+    alloc: Global,
+    listener: &TcpListener,
+    live: &LiveRegion,
+    readers: &mut Vec<LiveReader>,
+) -> StartedSessions
+    requires { AllRead (tablets_in live.now) readers.old.items }
+    ensures running { All (λ session. tablets_of session.promise.0.value ≡ tablets_in live.now) result.running.items }
+    ensures readers { AllRead (tablets_in live.now) readers.new.items }
+    ensures all { IsFalse result.is_refused → (vec_len result.running ≡ vec_len readers.old) × (readers.new.items ≡ []) }
+    ensures room { vec_len result.running + vec_len readers.new ≤ vec_capacity readers.new }
+{
+    let Ok(mut running) = Vec::with_capacity(alloc, readers.len()) else {
+        return StartedSessions {
+            running: Vec::new(alloc),
+            is_refused: true,
+        };
+    };
+    while let Some(reader) = readers.pop() {
+        let Ok(session) = begin_session(rt, alloc, listener, reader) else {
+            return StartedSessions {
+                running,
+                is_refused: true,
+            };
+        };
+        running.push_reserved(session);
+    }
+    StartedSessions {
+        running,
+        is_refused: false,
+    }
+}
+
+fn begin_session<R: Threads>(
+    rt: &R,
+    alloc: Global,
+    listener: &TcpListener,
+    reader: LiveReader,
+) -> io::Result<Running>
+    ensures { IfOk result (λ session. tablets_of session.promise.0.value ≡ tablets_of reader) }
+{
+    let listener = listener.try_clone()?;
+    let promise = ComesBack(Snapshot::of(&reader));
+    Ok(thread::spawn_with(rt, promise, move || { serve_one(alloc, listener, reader) })?)
+}
+
+// Serves one connection, and gives the reader back.
+fn serve_one(alloc: Global, listener: TcpListener, reader: LiveReader) -> LiveReader
+    ensures { tablets_of result ≡ tablets_of reader }
+{
+    let mut reader = reader;
+    let _ = answer_client(alloc, &listener, &mut reader);
+    reader
+}
+
+fn answer_client(alloc: Global, listener: &TcpListener, reader: &mut LiveReader) -> io::Result<()>
+    ensures { tablets_of reader.new ≡ tablets_of reader.old }
+{
+    let (stream, _) = listener.accept()?;
+    stream.set_nodelay(true)?;
+    let mut input = BufReader::with_capacity(alloc, SESSION_ROOM, &stream)?;
+    let _ = session(alloc, reader, &mut input, &mut &stream);
+    Ok(())
+}
+
+/// Waits for the sessions, and takes their readers back.
+pub(crate) fn end_sessions<R: Threads>(
+    rt: &R,
+    live: &LiveRegion,
+    running: Vec<Running>,
+    readers: &mut Vec<LiveReader>,
+)
+    requires running { All (λ session. tablets_of session.promise.0.value ≡ tablets_in live.now) running.items }
+    requires readers { AllRead (tablets_in live.now) readers.old.items }
+    requires room { vec_len running + vec_len readers.old ≤ vec_capacity readers.old }
+    ensures readers { AllRead (tablets_in live.now) readers.new.items }
+    ensures all { vec_len readers.new ≡ vec_len readers.old + vec_len running }
+{
+    let mut running = running;
+    while let Some(session) = running.pop() {
+        readers.push_reserved(session.join(rt));
+    }
+}
