@@ -26,13 +26,14 @@ STAGE ?= notices
 
 .PHONY: run test edits build bench checks rows toolchain
 
-# Shows the program at work: the replies to the script on standard output. It proves nothing.
+# Shows the program at work: the replies to the script on standard output. It proves nothing. A program that is current answers
+# at once; otherwise one is built, in about two minutes, and kept.
 run: toolchain
-	@(cd crates/pnuts && rt try -- replay) < "$(SCRIPT)"
+	@bin/program replay "$(SCRIPT)"
 
 # The gate: every proof from nothing, the edits that must fail, the program and the tests.
 test: toolchain
-	@rt ci
+	@sources=$$(bin/program sum); rt ci; bin/program note "$$sources"
 
 # Tries all wrong bodies, and not only those that the gate tries: the prover must refuse each.
 edits: build
@@ -40,7 +41,7 @@ edits: build
 
 # Proves the program, and leaves it built with optimisation.
 build: toolchain
-	@cd crates/pnuts && rt run -- replay < /dev/null
+	@sources=$$(bin/program sum); (cd crates/pnuts && rt run -- replay < /dev/null); bin/program note "$$sources"
 	@echo "the proved, optimised program: $(PROGRAM)"
 
 # Measures the built program, and prints a table.
