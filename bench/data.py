@@ -1,6 +1,6 @@
-"""Scripts and streams for the benches, made from a seed: the same on every machine.
+"""Scripts and streams for the benches, made from seeds: the same on every machine.
 
-Of the images most are the first of a new key, and the others are a next version, an older one, one of the same version
+New keys have images of some 480 bytes in five fields. Of mixed images most are the first of a new key, and the others are a next version, an older one, one of the same version
 with other fields, or a deletion. Some lines are delivered twice. Fields have 100 to 600 bytes in all.
 """
 import dataclasses
@@ -8,6 +8,7 @@ import json
 import random
 
 WORDS = "amber birch cedar delta ember fjord grove haven inlet jetty karst ledge marsh north oasis pines quarry river stone".split()
+PLAIN_WORDS = WORDS[:15] + ["\u00e9tang"]
 RARE = ["\u00e9tang", "\u6771\u4eac", '"quoted"', "back\\slash", "\u0141\u00f3d\u017a"]
 STATES = ["active", "away", "blocked", "idle", "invited"]
 MASTERS = ["asia-south", "eu-north", "us-east", "us-west"]
@@ -55,8 +56,41 @@ def fields(rng: random.Random) -> dict[str, str]:
     return {"state": rng.choice(STATES), **{name: phrase(rng, size // len(names)) for name in names}}
 
 
+def new_image(key: str) -> str:
+    """An image of some 480 bytes, in five fields."""
+    rng = random.Random(key)
+    texts = {name: " ".join(rng.choices(PLAIN_WORDS, k=12)) for name in ["city", "name", "note", "road", "text"]}
+    return text_of({"fields": texts, "key": key, "master": "home", "version": [1, len(key)]})
+
+
+def new_keys(count: int) -> list[str]:
+    """So many keys in a mixed order."""
+    keys = [f"record-{at:08}" for at in range(count)]
+    random.Random(count).shuffle(keys)
+    return keys
+
+
+def bounds(count: int, tablets: int) -> list[str]:
+    """The arguments that divide so many new keys into equal tablets."""
+    return ["--bounds", text_of([f"record-{count * at // tablets:08}" for at in range(1, tablets)])]
+
+
+def new_deliveries(count: int, in_line: int = IMAGES_IN_LINE) -> bytes:
+    """A script that delivers images of new keys."""
+    keys, lines = new_keys(count), []
+    for at in range(0, count, in_line):
+        images = [Image("east", at + 1 + place, new_image(key)) for place, key in enumerate(keys[at : at + in_line])]
+        lines.append(delivery(images))
+    return b"".join(lines)
+
+
+def new_messages(keys: list[str]) -> bytes:
+    """A stream of images of new keys."""
+    return "".join(f'{{"at":{at},"image":{new_image(key)}}}\n' for at, key in enumerate(keys, 1)).encode()
+
+
 class Data:
-    """Images of streams with the scripts that deliver them, and lookups of their records."""
+    """Mixed images of streams with the scripts that deliver them, and lookups of their records."""
 
     def __init__(self, images: int, seed: int = 1) -> None:
         self.rng = random.Random(seed)

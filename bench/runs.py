@@ -1,12 +1,50 @@
 """What the benches share: processor time and instructions of a run, and tables."""
+import dataclasses
 import os
 import re
 import resource
 import shutil
 import subprocess
 import sys
+import tempfile
+from collections.abc import Callable
 
 CALLGRIND = ["valgrind", "--tool=callgrind", "--callgrind-out-file=/dev/null"]
+
+
+@dataclasses.dataclass(frozen=True)
+class Measure:
+    """A figure that is taken of a program, and the most that is wanted."""
+
+    name: str
+    most: float
+    take: Callable[[str], float]
+
+
+def report(measures: list[Measure], program: str) -> int:
+    """Takes all figures, and prints a table. The status is 0 where all are within what is wanted."""
+    rows, is_missed = [], False
+    for measure in measures:
+        print(measure.name, flush=True)
+        figure = measure.take(program)
+        is_missed = is_missed or figure > measure.most
+        rows.append([measure.name, f"{figure:.3f}", f"{measure.most:.2f}", "MISSED" if figure > measure.most else ""])
+    print_table(["figure", "", "at most", ""], rows)
+    return 1 if is_missed else 0
+
+
+def least_seconds(command: list[str], lines: bytes, runs: int) -> float:
+    """The least processor time of a few runs over the same lines."""
+    with tempfile.NamedTemporaryFile() as script:
+        script.write(lines)
+        script.flush()
+        return min(processor_seconds(command, script.name) for _ in range(runs))
+
+
+def most_memory(process: int) -> int:
+    """The most memory that a process has had so far, in KiB."""
+    with open(f"/proc/{process}/status") as status:
+        return next((int(line.split()[1]) for line in status if line.startswith("VmHWM:")), 0)
 
 
 def processor_seconds(command: list[str], script: str, replies: str = os.devnull) -> float:
