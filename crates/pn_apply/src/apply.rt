@@ -17,11 +17,14 @@ use std::alloc::Global;
 use std::marker::{Send, Sync};
 use std::thread::Threads;
 
-/// Applies each operation to the slot at its place, by 1 to 16 workers. It returns the changes of each, in
-/// the order of the tablets. Each operation is a join in its slot's range, with positions of 1 to 10^15.
+/// Applies each operation to the slot at its place, by 1 to 16 workers. It returns the changes of each, in the
+/// order of the tablets.
 ///
-/// A worker enters the gate before each of its tablets. After an error each slot is as it was or has taken
-/// its operation, and at least one is as it was.
+/// Each operation is a join in its slot's range, with positions of 1 to 10^15.
+///
+/// A worker enters the gate before each of its tablets.
+///
+/// After an error each slot is as it was or has taken its operation, and at least one is as it was.
 pub fn apply_all<R: Threads + Sync, S: Slot + Send, G: Gate + Sync>(
     rt: &R,
     alloc: Global,

@@ -26,7 +26,9 @@ use std::thread::Threads;
 pub const MAX_WORKERS: usize = 16;
 
 /// The join that the deliveries bring to each tablet, in the order of the tablets: the cells of all images in
-/// its range, with the marks. Images are copied. The marks' positions are 1 to 10^15.
+/// its range, with the marks. Images are copied.
+///
+/// The marks' positions are 1 to 10^15.
 ///
 /// There are 1 to 16 workers, whose number does not change the answer. A worker enters the gate before each
 /// of its tablets.

@@ -15,7 +15,9 @@ pub trait Slot {
     ghost tablet: { Self → TabletStateValue };
 
     /// Takes one operation, whose positions are 1 to 10^15, as [`TabletState::apply`] does, but may also run out
-    /// of memory in a loss. An error leaves the slot's tablet as it was.
+    /// of memory in a loss.
+    ///
+    /// An error leaves the slot's tablet as it was.
     fn apply(&mut self, op: &TabletOp) -> Result<Vec<Change>, OpFault>
         requires positions { HasPositions op.now }
         ensures ok { OnOk result (step (tablet self.old) op.now ≡ Ok (tablet self.new)) }

@@ -1,8 +1,9 @@
 //! Measures a live region beside a plain one, by the clock: reads of many records by four threads, and rounds into them.
 //!
-//! `pn_bench WAY RECORDS IN_ROUND ROUNDS` reads the messages of a stream. WAY is `plain`, `live`, or `busy` for a live region
-//! that is read during its rounds too. It says on standard error how many microseconds reading each key once took, and the
-//! rounds.
+//! `pn_bench WAY RECORDS IN_ROUND ROUNDS` reads the messages of a stream. WAY is `plain`, `live`, or `busy` for
+//! a live region that is read during its rounds too.
+//!
+//! It says on standard error how many microseconds reading each key once took, and the rounds.
 #![tactic(auto)]
 
 mod driver;

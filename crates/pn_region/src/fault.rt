@@ -19,8 +19,9 @@ pub enum RoundFault {
     /// There would be more than 16 streams. Nothing was changed.
     #[error("more than 16 streams")]
     TooManyStreams,
-    /// Each tablet is as it was or has taken its part of the round, and at least one is as it was. The marks
-    /// are as they were, and the round can be retried.
+    /// Each tablet is as it was or has taken its part of the round, and at least one is as it was.
+    ///
+    /// The marks are as they were, and the round can be retried.
     #[error("out of memory")]
     Memory,
 }

@@ -57,7 +57,9 @@ pub fn a_round_takes_its_images()
 {}
 
 /// The cells of all tablets, one after another, are in key order, each key once, also after a round that ran out
-/// of memory. They are those of the images that spell them.
+/// of memory.
+///
+/// They are those of the images that spell them.
 pub fn all_cells_are_in_key_order()
     ensures rising { (region : RegionValue) → IsRegion region → IsTrue (is_sorted bytes_cmp (all_cells region)) }
     ensures spelled { (region : RegionValue) → IsRegion region → IsSpelled (all_cells region) }
@@ -121,7 +123,9 @@ pub fn a_gap_is_a_missing_position()
 {}
 
 /// New marks name the streams of the marks and of the deliveries with images, at most 16. `TooManyStreams` comes
-/// where there are more. Besides it only `Gap` comes. The names of the marks rise.
+/// where there are more. Besides it only `Gap` comes.
+///
+/// The names of the marks rise.
 pub fn new_marks_name_at_most_16_streams()
     ensures few { (marks next : Positions) (deliveries : List DeliveryValue)
         → IsTrue (is_sorted name_cmp marks) → new_marks marks deliveries ≡ Ok next
@@ -156,8 +160,10 @@ pub fn marks_tell_what_was_taken()
         → HasImages (taking region deliveries marks) (up_to broker marks) }
 {}
 
-/// A lost tablet is faithful, and adopting an honest copy keeps a tablet faithful. A faithful tablet that serves
-/// has the cells of all images in its range up to its cover, and gives honest copies.
+/// A lost tablet is faithful, and adopting an honest copy keeps a tablet faithful.
+///
+/// A faithful tablet that serves has the cells of all images in its range up to its cover, and gives honest
+/// copies.
 pub fn honest_copies_keep_tablets_faithful()
     ensures lost { (broker : BrokerRecord) (tablet : TabletStateValue) → IsFaithful broker (lost tablet) }
     ensures adopted { (broker : BrokerRecord) (tablet after : TabletStateValue) (copy : TabletCopyValue)

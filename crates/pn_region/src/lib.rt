@@ -1,5 +1,6 @@
-//! A region: the tablets of a layout, the marks of the streams taken into them, and a log of changes. It takes
-//! deliveries in rounds, loses tablets, adopts copies, and answers reads, gets and queries.
+//! A region: the tablets of a layout, the marks of the streams taken into them, and a log of changes.
+//!
+//! It takes deliveries in rounds, loses tablets, adopts copies, and answers reads, gets and queries.
 //!
 //! Only calls that return a `Result` take memory.
 

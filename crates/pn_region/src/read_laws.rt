@@ -35,8 +35,8 @@ pub fn rounds_leave_tablets_serving()
         → AllServe old → IsHalfTaken old deliveries new → AllServe new }
 {}
 
-/// Where every tablet serves, answers depend only on the cells of all tablets together: a read is the key's cell,
-/// unless it is `Behind`; a get has the keys' cells; a page is the first of the rows shown.
+/// Where every tablet serves, answers depend only on the cells of all tablets together: a read is the key's
+/// cell, unless it is `Behind`; a get has the keys' cells; a page is the first of the rows shown.
 pub fn reads_depend_on_the_cells_alone()
     ensures read { (region : RegionValue) (key : List ℕ) (wanted : Option Stamp) → IsRegion region → AllServe region
         → read_in region key wanted ≡ unless_behind wanted (find bytes_cmp key (all_cells region)) }
@@ -59,7 +59,9 @@ pub fn regions_of_the_same_cells_answer_alike()
 {}
 
 /// The pages of an unchanged region, each continuing the one before, have together the rows that its cells show,
-/// each once. Where every tablet serves, such a walk comes to its end.
+/// each once.
+///
+/// Where every tablet serves, such a walk comes to its end.
 pub fn pages_together_are_the_shown_rows()
     ensures walked { (region : RegionValue) (query : QueryValue) (pages : List PageValue) → IsRegion region → 0 < query.limit
         → ArePagesOf region (Some query) pages → left_by (Some query) pages ≡ None

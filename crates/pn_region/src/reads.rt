@@ -44,8 +44,9 @@ impl Region {
     /// one.
     ///
     /// `Recovering` comes exactly where the key's tablet is recovering; else `Behind` exactly where a version is
-    /// required and the record is absent or older. `Memory` comes only where the tablet is not recovering, and
-    /// `NoEntry` never.
+    /// required and the record is absent or older.
+    ///
+    /// `Memory` comes only where the tablet is not recovering, and `NoEntry` never.
     pub fn read(&self, key: &Key, version: Option<Version>) -> Result<Option<Cell>, ScanFault>
         ensures read { AnswersAfter (cell_at key.now (look_for self.now.state key.now)) result (read_in self.now.state key.now version) }
         ensures entered { result ≡ Err NoEntry → ⊥ }

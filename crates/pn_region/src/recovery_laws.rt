@@ -58,8 +58,9 @@ pub fn covers_never_fall()
         → Reaches after.cover before.cover }
 {}
 
-/// A tablet that serves after an event still holds each record it held before. After honest events, so does one
-/// that serves before and after them, whatever losses and copies came between.
+/// A tablet that serves after an event still holds each record it held before.
+///
+/// After honest events, so does one that serves before and after them, whatever losses and copies came between.
 pub fn what_is_served_never_goes_back()
     ensures event { (event : RegionEvent) (old new : RegionValue) (tablet : ℕ) (before after : TabletStateValue)
         → IsRegion old → LeadsTo event old new
@@ -72,7 +73,9 @@ pub fn what_is_served_never_goes_back()
         → (key : List ℕ) → HoldsStill (find bytes_cmp key before.cells) (find bytes_cmp key after.cells) }
 {}
 
-/// After an event, or honest events, a region still holds the record of a key whose tablet serves before and after.
+/// After an event, or honest events, a region still holds the record of a key whose tablet serves before and
+/// after.
+///
 /// A record that is still held exists, and not at an older version.
 pub fn records_served_never_go_back()
     ensures event { (event : RegionEvent) (old new : RegionValue) (key : List ℕ) → IsRegion old → LeadsTo event old new
@@ -94,8 +97,10 @@ pub fn a_recovery_leaves_no_trace()
         → step (fold stepped tablet joins) (Adopt copy) ≡ Ok after }
 {}
 
-/// Such a tablet still holds each record it held before the loss: at a greater version, or at the same one with all
-/// its contents. The cells of faithful serving tablets of one range depend on their covers alone.
+/// Such a tablet still holds each record it held before the loss: at a greater version, or at the same one with
+/// all its contents.
+///
+/// The cells of faithful serving tablets of one range depend on their covers alone.
 pub fn a_recovery_brings_all_back()
     ensures whole { (broker : BrokerRecord) (tablet after : TabletStateValue) (joins : List TabletOp) (copy : TabletCopyValue) → AreJoins joins
         → IsFaithful broker tablet → tablet.status ≡ Serving → IsHonestCopy broker copy
@@ -106,8 +111,10 @@ pub fn a_recovery_brings_all_back()
         → Reaches tablet.cover other.cover → Reaches other.cover tablet.cover → tablet.cells ≡ other.cells }
 {}
 
-/// Honest events take the images of their rounds, and those of each copy up to its marks. Each tablet's cover then
-/// reaches all of these in its range, and else only images of rounds that ran out of memory.
+/// Honest events take the images of their rounds, and those of each copy up to its marks.
+///
+/// Each tablet's cover then reaches all of these in its range, and else only images of rounds that ran out of
+/// memory.
 pub fn covers_tell_what_events_took()
     ensures new { (broker : BrokerRecord) (bounds : Bounds) → CoversTell broker [] [] (new_region bounds).tablets }
     ensures events { (broker : BrokerRecord) (events : List RegionEvent) (old new : RegionValue) (taken left : List Image)
@@ -115,8 +122,10 @@ pub fn covers_tell_what_events_took()
         → CoversTell broker (taken ++ all_taken broker events) (left ++ all_left events) new.tablets }
 {}
 
-/// After honest events of a new region, its cells are exactly those of the images taken, if all tablets serve and
-/// rounds that ran out of memory were retried. Rounds alone need not be honest.
+/// After honest events of a new region, its cells are exactly those of the images taken, if all tablets serve
+/// and rounds that ran out of memory were retried.
+///
+/// Rounds alone need not be honest.
 pub fn events_leave_what_they_took()
     ensures honest { (broker : BrokerRecord) (bounds : Bounds) (events : List RegionEvent) (region : RegionValue)
         → IsLayout bounds → AllLeadTo events (new_region bounds) region → AreHonestEvents broker events → AllServe region

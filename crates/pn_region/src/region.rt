@@ -113,12 +113,15 @@ impl Region {
     }
 
     /// Takes deliveries, in order; those without images are passed over. There are 1 to 16 workers, whose number
-    /// does not change the answer. A worker enters the gate before each of its tablets.
+    /// does not change the answer.
+    ///
+    /// A worker enters the gate before each of its tablets.
     ///
     /// `Gap` comes exactly where a delivery begins more than one past its stream's mark, and names the first;
-    /// else `TooManyStreams` exactly where there would be more than 16 streams. Both change nothing. After
-    /// `Memory` each tablet is as it was or has taken its part, and at least one is as it was; the marks are as
-    /// they were.
+    /// else `TooManyStreams` exactly where there would be more than 16 streams.
+    ///
+    /// Both change nothing. After `Memory` each tablet is as it was or has taken its part, and at least one is
+    /// as it was; the marks are as they were.
     ///
     /// A round adds its changes to the log, in key order, or a break if it ran out of memory.
     pub fn round<R: Threads + Sync, G: Gate + Sync>(

@@ -15,8 +15,10 @@ use pn_tablet::{Layout, TabletState};
 use std::alloc::Global;
 
 impl Region {
-    /// The region of these parts. There is one tablet for each range of the layout, in order, whose cover reaches
-    /// the marks. The marks name at most 16 streams, at positions of 1 to 10^15.
+    /// The region of these parts. There is one tablet for each range of the layout, in order, whose cover
+    /// reaches the marks.
+    ///
+    /// The marks name at most 16 streams, at positions of 1 to 10^15.
     pub fn of_parts(
         alloc: Global,
         layout: Layout,

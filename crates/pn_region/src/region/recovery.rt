@@ -16,8 +16,10 @@ use pn_join::Marks;
 use pn_tablet::{CopyFault, Range, TabletCopy, TabletOp};
 
 impl Region {
-    /// Loses the records of a tablet, whose number is below the layout's count. The tablet then recovers: it needs
-    /// a copy that reaches its cover. Cover and marks stay, and the log has a break.
+    /// Loses the records of a tablet, whose number is below the layout's count. The tablet then recovers: it
+    /// needs a copy that reaches its cover.
+    ///
+    /// Cover and marks stay, and the log has a break.
     pub fn lose(&mut self, tablet: usize)
         requires { tablet ≤ length self.old.state.layout }
         ensures state { self.new.state ≡ losing self.old.state tablet }
@@ -30,8 +32,10 @@ impl Region {
     /// Joins the copy into the tablet of its range, which then serves, and returns the tablet's number. The marks
     /// stay, and the log has a break.
     ///
-    /// `WrongRange` comes exactly where no tablet has the copy's range, and else `TooOld` exactly where the tablet
-    /// is recovering and the copy does not reach what it needs. An error leaves the region as it was.
+    /// `WrongRange` comes exactly where no tablet has the copy's range, and else `TooOld` exactly where the
+    /// tablet is recovering and the copy does not reach what it needs.
+    ///
+    /// An error leaves the region as it was.
     pub fn adopt(&mut self, copy: TabletCopy) -> Result<usize, AdoptFault>
         ensures ok { IfOk result (λ tablet. adopting self.old.state copy ≡ Ok (tablet, self.new.state)) }
         ensures log { OnOk result (self.new.log ≡ breaking self.old.log) }
