@@ -7,8 +7,8 @@ use pn_join::NoMemory;
 use std::marker::Send;
 use std::thread::{Threads, join_mut};
 
-/// The fewest images worth a worker: with 500 each, two workers take as long as one with all (measured).
-const MIN_IMAGES_PER_THREAD: usize = 500;
+/// The fewest images worth a worker: two workers take as long as one for some 950 images (measured).
+const MIN_IMAGES_PER_THREAD: usize = 600;
 
 /// The number of the first of consecutive tablets, and how many workers they have.
 #[derive(Clone, Copy)]
@@ -18,7 +18,7 @@ pub(crate) struct Span {
 }
 
 impl Span {
-    /// All tablets, with at most one worker for each tablet and, at an open gate, for each 500 images.
+    /// All tablets, with at most one worker for each tablet and, at an open gate, for each 600 images.
     pub(crate) fn new<G: Gate>(gate: &G, workers: usize, tablets: usize, images: usize) -> Span
         ensures first { result.first ≡ 0 }
         ensures workers { result.workers ≤ tablets }
