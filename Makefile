@@ -7,7 +7,7 @@ MAKEFLAGS += --no-print-directory
 # What `make run` answers.
 SCRIPT ?= crates/pnuts/stdin
 
-# The proved, optimised program that `make build` leaves, and the one whose steps the benches count.
+# The proved, optimised program that `make build` leaves, and the one that measures live regions.
 PROGRAM := crates/pnuts/out/pnuts
 STEPS := crates/pn_bench/out/pn_bench
 
@@ -17,18 +17,19 @@ LIVE := crates/test_live/out/test_live_tests
 # The program that answers many scripts in one input.
 SCRIPTS := crates/test_rows/out/test_rows
 
-# The crate whose edits `make edits` tries; none: all crates.
+# The crate whose edits `make edits` tries, and whose definitions `make definitions` prints; none: all crates.
 CRATE ?=
 
 # Worked rows that are kept outside the repository, and which of them `make rows` runs.
 ROWS ?= ../shared/rows
 STAGE ?= notices
 
-.PHONY: run test edits build bench checks rows toolchain
+.PHONY: run test edits build bench bench-beside checks definitions rows toolchain
 
-# Shows the program at work: the replies to the script on standard output. It proves nothing.
+# Shows the program at work: the replies to the script on standard output. It proves nothing. A program that is current answers
+# at once; otherwise one is built, in about two minutes, and kept.
 run: toolchain
-	@(cd crates/pnuts && rt try -- replay) < "$(SCRIPT)"
+	@bin/program replay "$(SCRIPT)"
 
 # The gate: every proof from nothing, the edits that must fail, the program and the tests.
 test: toolchain
@@ -40,25 +41,35 @@ edits: build
 
 # Proves the program, and leaves it built with optimisation.
 build: toolchain
-	@cd crates/pnuts && rt run -- replay < /dev/null
+	@sources=$$(bin/program sum); (cd crates/pnuts && rt run -- replay < /dev/null); bin/program note "$$sources"
 	@echo "the proved, optimised program: $(PROGRAM)"
 
-# Measures the built program, and prints a table.
+# Measures the built program, and prints tables.
 bench: build
-	@cd crates/pn_bench && rt run < stdin > /dev/null
-	@bench/run "$(PROGRAM)" "$(STEPS)"
+	@cd crates/pn_bench && rt run -- $$(< args) < stdin > /dev/null
+	@bench/run "$(PROGRAM)"
+	@bench/rounds "$(PROGRAM)"
 	@bench/sessions "$(PROGRAM)"
+	@bench/live "$(STEPS)"
+	@bench/instructions "$(PROGRAM)"
+
+# Measures the built program beside a plain Rust program and a server that does nothing.
+bench-beside: build
+	@bench/beside "$(PROGRAM)"
 
 # Brings the built program to each of its ends, talks to its sessions, refuses each of its allocations in turn, and compares its
 # replies to random scripts with those of a plain, slow program.
 checks: build
-	@cd crates/pn_bench && rt run < stdin > /dev/null
 	@cd crates/test_rows && rt run < stdin > /dev/null
 	@cd crates/test_live && rt test > /dev/null
 	@checks/exit-statuses "$(PROGRAM)"
 	@checks/sessions "$(PROGRAM)"
-	@checks/out-of-memory "$(PROGRAM)" "$(STEPS)" "$(LIVE)"
+	@checks/out-of-memory "$(PROGRAM)" "$(LIVE)"
 	@checks/random-scripts "$(SCRIPTS)" --scripts 3000
+
+# Prints the definitions that contracts cite, each with its comment: of all crates, or of one.
+definitions:
+	@checks/definitions $(CRATE)
 
 # Runs the worked rows through the built program, where they are at hand.
 rows:

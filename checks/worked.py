@@ -1,6 +1,11 @@
 """The scripts that checks/out-of-memory sends, and the talks that it has, with their replies."""
+from typing import NamedTuple
 
-# Two contents of one version, shown together.
+# Arguments of the program: two tablets, and four, each with a worker.
+HALVES = ["--bounds", '["m"]']
+QUARTERS = ["--bounds", '["g","m","s"]', "--workers", "4"]
+
+# A script and its replies. Two contents of one version, shown together.
 CONFLICT = (
     b'{"batches":[{"first":1,"images":[{"fields":{"v":"y"},"key":"k","master":"w","version":[1,4]}],"stream":"east"}],"do":"deliver"}\n'
     b'{"batches":[{"first":1,"images":[{"fields":{"v":"x"},"key":"k","master":"w","version":[1,4]}],"stream":"west"}],"do":"deliver"}\n'
@@ -24,7 +29,7 @@ OVERLAP = (
     b'{"tablets":[{"cover":{"east":5},"from":null,"need":null,"to":null}]}\n',
 )
 
-# Keys that are got, a read that is behind, and a page with its continuation.
+# Keys that are got, a read of a later version than there is, and a page with its continuation.
 LOOKUPS = (
     b'{"batches":[{"first":1,"images":['
     b'{"fields":{"v":"x"},"key":"a","master":"w","version":[1,0]},'
@@ -50,10 +55,9 @@ SPLIT = (
     b'{"row":{"contents":[{"fields":{"v":"x"},"master":"w"}],"key":"m","state":"one","version":[1,0]}}\n'
     b'{"tablets":[{"cover":{"east":3},"from":null,"need":null,"to":"m"},{"cover":{"east":3},"from":"m","need":null,"to":null}]}\n',
 )
-BOUND = "m"
 
-# The same over four tablets, each with a record of its own worker.
-QUARTERS = (
+# Four records, each in a tablet of its own worker.
+SPLIT_BY_FOUR = (
     b'{"batches":[{"first":1,"images":[{"fields":{"v":"x"},"key":"a","master":"w","version":[1,0]},'
     b'{"fields":{"v":"x"},"key":"h","master":"w","version":[1,0]},'
     b'{"fields":{"v":"x"},"key":"n","master":"w","version":[1,0]},'
@@ -66,26 +70,35 @@ QUARTERS = (
     b'{"row":{"contents":[{"fields":{"v":"x"},"master":"w"}],"key":"t","state":"one","version":[1,0]}}\n'
     b'{"marks":{"east":4}}\n',
 )
-BOUNDS = ["g", "m", "s"]
 
 
-def image(key, version=0, text="x"):
+class Step(NamedTuple):
+    """A command with the lines that it announces, and its replies; or, after an ask for notices, the number that it names.
+
+    A command adds entries to the log: the changes of a round, as notices without their numbers, or a break (None)."""
+
+    lines: list[str]
+    replies: list[str] | int
+    entries: list[str | None] = []
+
+
+def image(key: str, version: int = 0, text: str = "x") -> str:
     return f'{{"fields":{{"v":"{text}"}},"key":"{key}","master":"w","version":[1,{version}]}}'
 
 
-def row(key, version=0, text="x"):
+def row(key: str, version: int = 0, text: str = "x") -> str:
     return f'{{"contents":[{{"fields":{{"v":"{text}"}},"master":"w"}}],"key":"{key}","state":"one","version":[1,{version}]}}'
 
 
-def deliver(first, *images):
+def deliver(first: int, *images: str) -> str:
     return f'{{"batches":[{{"first":{first},"images":[{",".join(images)}],"stream":"east"}}],"do":"deliver"}}'
 
 
-def page(*rows):
+def page(*rows: str) -> str:
     return f'{{"next":null,"rows":[{",".join(rows)}]}}'
 
 
-def tablets(cover, need="null"):
+def tablets(cover: int, need: str = "null") -> str:
     return f'{{"tablets":[{{"cover":{{"east":{cover}}},"from":null,"need":{need},"to":null}}]}}'
 
 
@@ -94,49 +107,48 @@ COPY = ['{"copy":1,"from":null,"to":null}', '{"at":6,"stream":"east"}', image("a
 OLD_COPY = [COPY[0], '{"at":4,"stream":"east"}', *FIVE[:4], '{"end":5}']
 SCAN, TABLETS, LOSE = '{"do":"scan","query":{}}', '{"do":"tablets"}', '{"do":"lose","tablet":0}'
 LOST = [
-    ([deliver(1, *FIVE)], ['{"changed":5}']),
-    ([LOSE], ['{"lost":0}']),
-    ([deliver(6, image("a", 1, "y"), image("f"))], ['{"changed":2}']),
+    Step([deliver(1, *FIVE)], ['{"changed":5}']),
+    Step([LOSE], ['{"lost":0}']),
+    Step([deliver(6, image("a", 1, "y"), image("f"))], ['{"changed":2}']),
 ]
 
-# Talks: each command with the lines that it announces, and its reply.
 COPIES = [
-    ([deliver(1, *FIVE)], ['{"changed":5}']),
-    ([deliver(6, image("a", 1, "y"))], ['{"changed":1}']),
-    (['{"do":"copy","need":{"east":7},"tablet":0}'], ['{"error":"behind","has":6,"stream":"east","wanted":7}']),
-    (['{"do":"copy","need":{"east":5},"tablet":0}'], ['{"lines":8}', *COPY]),
-    ([TABLETS], [tablets(6)]),
+    Step([deliver(1, *FIVE)], ['{"changed":5}']),
+    Step([deliver(6, image("a", 1, "y"))], ['{"changed":1}']),
+    Step(['{"do":"copy","need":{"east":7},"tablet":0}'], ['{"error":"behind","has":6,"stream":"east","wanted":7}']),
+    Step(['{"do":"copy","need":{"east":5},"tablet":0}'], ['{"lines":8}', *COPY]),
+    Step([TABLETS], [tablets(6)]),
 ]
 RECOVERY = [
     *LOST,
-    ([SCAN], ['{"error":"recovering","tablet":0}']),
-    ([TABLETS], [tablets(7, '{"east":5}')]),
-    (['{"do":"adopt","lines":8}', *COPY], ['{"adopted":0}']),
-    ([SCAN], [page(row("a", 1, "y"), *map(row, "bcdef"))]),
-    ([TABLETS], [tablets(7)]),
+    Step([SCAN], ['{"error":"recovering","tablet":0}']),
+    Step([TABLETS], [tablets(7, '{"east":5}')]),
+    Step(['{"do":"adopt","lines":8}', *COPY], ['{"adopted":0}']),
+    Step([SCAN], [page(row("a", 1, "y"), *map(row, "bcdef"))]),
+    Step([TABLETS], [tablets(7)]),
 ]
 TOO_OLD = [
     *LOST,
-    (['{"do":"adopt","lines":7}', *OLD_COPY], ['{"error":"too-old","has":4,"needs":5,"stream":"east"}']),
-    ([TABLETS], [tablets(7, '{"east":5}')]),
+    Step(['{"do":"adopt","lines":7}', *OLD_COPY], ['{"error":"too-old","has":4,"needs":5,"stream":"east"}']),
+    Step([TABLETS], [tablets(7, '{"east":5}')]),
 ]
 AHEAD = [
-    ([deliver(1, image("a"))], ['{"changed":1}']),
-    (['{"do":"adopt","lines":4}', COPY[0], '{"at":5,"stream":"east"}', image("a", 4), '{"end":2}'], ['{"adopted":0}']),
-    ([LOSE], ['{"lost":0}']),
-    (['{"do":"marks"}'], ['{"marks":{"east":1}}']),
-    ([TABLETS], [tablets(5, '{"east":5}')]),
+    Step([deliver(1, image("a"))], ['{"changed":1}']),
+    Step(['{"do":"adopt","lines":4}', COPY[0], '{"at":5,"stream":"east"}', image("a", 4), '{"end":2}'], ['{"adopted":0}']),
+    Step([LOSE], ['{"lost":0}']),
+    Step(['{"do":"marks"}'], ['{"marks":{"east":1}}']),
+    Step([TABLETS], [tablets(5, '{"east":5}')]),
 ]
 
 DAMAGED = [
-    ([deliver(1, image("q"))], ['{"changed":1}']),
-    (['{"do":"adopt","lines":2}', *COPY[:2]], ['{"error":"truncated"}']),
-    (['{"do":"adopt","lines":3}', *COPY[:2], '{"end":2}'], ['{"error":"bad-end"}']),
-    (['{"do":"adopt","lines":2}', '{"copy":1,"from":"m","to":null}', '{"end":0}'], ['{"error":"wrong-range"}']),
-    (['{"do":"adopt","lines":2}', '{"copy":1,"from":"m","to":null}', FIVE[0]], ['{"error":"outside-range","line":2}']),
-    (['{"do":"adopt","lines":8}', *COPY[:3], FIVE[2], FIVE[1], *COPY[5:]], ['{"error":"not-rising","line":5}']),
-    ([SCAN], [page(row("q"))]),
-    ([TABLETS], [tablets(1)]),
+    Step([deliver(1, image("q"))], ['{"changed":1}']),
+    Step(['{"do":"adopt","lines":2}', *COPY[:2]], ['{"error":"truncated"}']),
+    Step(['{"do":"adopt","lines":3}', *COPY[:2], '{"end":2}'], ['{"error":"bad-end"}']),
+    Step(['{"do":"adopt","lines":2}', '{"copy":1,"from":"m","to":null}', '{"end":0}'], ['{"error":"wrong-range"}']),
+    Step(['{"do":"adopt","lines":2}', '{"copy":1,"from":"m","to":null}', FIVE[0]], ['{"error":"outside-range","line":2}']),
+    Step(['{"do":"adopt","lines":8}', *COPY[:3], FIVE[2], FIVE[1], *COPY[5:]], ['{"error":"not-rising","line":5}']),
+    Step([SCAN], [page(row("q"))]),
+    Step([TABLETS], [tablets(1)]),
 ]
 
 TALKS = [
@@ -147,25 +159,22 @@ TALKS = [
     ("damaged copies", DAMAGED),
 ]
 
-
-# Talks with a log: each command with the lines that it announces, its reply, and what it does to the log: the changes of a
-# round, as notices without their numbers, or a break. Where the reply is a number, notices are asked for behind it.
 BREAK = [None]
 
 
-def change(key, after=0, before="null"):
+def change(key: str, after: int = 0, before: str = "null") -> str:
     return f'{{"after":[1,{after}],"before":{before},"key":"{key}","number":%d}}'
 
 
-def round_of(line, *changes):
-    return ([line], ['{"changed":%d}' % len(changes)], list(changes))
+def round_of(line: str, *changes: str) -> Step:
+    return Step([line], ['{"changed":%d}' % len(changes)], list(changes))
 
 
-def notices(*numbers):
-    return [([f'{{"do":"notices","since":{number}}}'], number, []) for number in numbers]
+def notices(*numbers: int) -> list[Step]:
+    return [Step([f'{{"do":"notices","since":{number}}}'], number) for number in numbers]
 
 
-def halves(lower, upper):
+def halves(lower: tuple[int, str], upper: tuple[int, str]) -> str:
     """Two tablets, with their covers, and their needs or null."""
     ends = (("null", '"m"'), ('"m"', "null"))
     shown = [
@@ -175,28 +184,28 @@ def halves(lower, upper):
     return f'{{"tablets":[{",".join(shown)}]}}'
 
 
-def copy_of(start, end, position, *images):
+def copy_of(start: str, end: str, position: int, *images: str) -> list[str]:
     text = [f'{{"copy":1,"from":{start},"to":{end}}}', f'{{"at":{position},"stream":"east"}}', *images]
     return [*text, f'{{"end":{len(images) + 1}}}']
 
 
-def lose(tablet):
-    return ([f'{{"do":"lose","tablet":{tablet}}}'], [f'{{"lost":{tablet}}}'], BREAK)
+def lose(tablet: int) -> Step:
+    return Step([f'{{"do":"lose","tablet":{tablet}}}'], [f'{{"lost":{tablet}}}'], BREAK)
 
 
-def adopt(tablet, lines):
-    return ([f'{{"do":"adopt","lines":{len(lines)}}}', *lines], [f'{{"adopted":{tablet}}}'], BREAK)
+def adopt(tablet: int, lines: list[str]) -> Step:
+    return Step([f'{{"do":"adopt","lines":{len(lines)}}}', *lines], [f'{{"adopted":{tablet}}}'], BREAK)
 
 
-def copied(tablet, lines):
-    return ([f'{{"do":"copy","tablet":{tablet}}}'], [f'{{"lines":{len(lines)}}}', *lines], [])
+def copied(tablet: int, lines: list[str]) -> Step:
+    return Step([f'{{"do":"copy","tablet":{tablet}}}'], [f'{{"lines":{len(lines)}}}', *lines])
 
 
-def told(line, reply):
-    return ([line], [reply], [])
+def told(line: str, reply: str) -> Step:
+    return Step([line], [reply])
 
 
-def read(key):
+def read(key: str) -> str:
     return f'{{"do":"read","key":"{key}"}}'
 
 
@@ -210,7 +219,7 @@ NOTICES_MISSED = [
 ]
 
 
-def deleted(key):
+def deleted(key: str) -> str:
     return f'{{"deleted":true,"key":"{key}","master":"w","version":[1,0]}}'
 
 

@@ -74,7 +74,7 @@ and_true : (x : Bool) → (x && true) ≡ x
 and_true true = refl
 and_true false = refl
 
--- behind a key that is not below a bound no key is
+-- after a key that is not below a bound no key is below it
 none_below : (test : List ℕ → Bool) (b key : List ℕ) (es : Entries) → is_below key b ≡ false → below_all bytes_cmp key es ≡ true → entries_that (λ k. test k && is_below k b) es ≡ []
 none_below test b key [] above below = refl
 none_below test b key (e ∷ es) above below =

@@ -1,5 +1,5 @@
 pub mod Cuts
-pub mod Halves
+pub mod Parts
 pub mod Prefixes
 pub mod ReduceLaws
 pub mod Sharing

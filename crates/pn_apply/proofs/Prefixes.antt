@@ -1,4 +1,4 @@
--- Tablets of which the first so many have taken their operations.
+-- Tablets of which the first ones have taken their operations.
 use Rattle.std.proofs.Common.{◌≡◌, ℕ, zero, suc, ◌+◌, ◌<◌, ◌≤◌, List, [], ◌∷◌, ◌++◌, length, map, take, set, get_or, refl, sym, ap, ◌∙◌, subst, inl, inr, arith, add-one}
 use Rattle.std.proofs.lemmas.List.{take_more, map-set, length-map}
 use Rattle.std.proofs.Math.Seq.{map-set_same}
@@ -97,7 +97,7 @@ old_or_stepped (u ∷ ts) [] n fit = absurd fit
 old_or_stepped (u ∷ ts) (o ∷ ops) zero fit = (inl refl, old_or_stepped ts ops zero fit.1)
 old_or_stepped (u ∷ ts) (o ∷ ops) (suc n) fit = (inr refl, old_or_stepped ts ops n fit.1)
 
-length-changes : (ts : List TabletStateValue) (ops : List TabletOp) → AreJoinsIn ts ops → length (all_changes ts ops) ≡ length ops
+pub length-changes : (ts : List TabletStateValue) (ops : List TabletOp) → AreJoinsIn ts ops → length (all_changes ts ops) ≡ length ops
 length-changes [] [] fit = refl
 length-changes [] (op ∷ ops) fit = absurd fit
 length-changes (t ∷ ts) [] fit = absurd fit
@@ -133,12 +133,12 @@ length-prefix [] ops (suc n) = refl
 length-prefix (u ∷ ts) [] (suc n) = refl
 length-prefix (u ∷ ts) (o ∷ ops) (suc n) = ap suc (length-prefix ts ops n)
 
--- a fact that holds anyway holds after an error
+-- a fact that always holds also holds after an error
 pub on_err : {T E : Type 0} (r : Result T E) {P : Type 0} → P → OnErr r P
 on_err (Ok x) holds = tt
 on_err (Err e) holds = holds
 
--- slots of which the first so many have taken their operations
+-- slots of which the first n have taken their operations
 module _ {S : Type 0} (tablet : S → TabletStateValue) (ts : List TabletStateValue) (ops : List TabletOp) (fit : AreJoinsIn ts ops) (slots : List S) (n : ℕ) (so_far : map tablet slots ≡ prefix_stepped n ts ops) where
   pub slot_count : length slots ≡ length ops
   slot_count = sym (length-map slots tablet) ∙ ap length so_far ∙ length-prefix ts ops n ∙ same_length ts ops fit

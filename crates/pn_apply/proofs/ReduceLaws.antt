@@ -1,4 +1,4 @@
--- The laws of what images bring to tablets that `src/laws.rt` states.
+-- The laws of `src/laws.rt`.
 use Rattle.std.proofs.Common.{◌≡◌, true, List, [], ◌∷◌, ◌++◌, map, Option, sym, ap, ◌∙◌, subst}
 use Rattle.std.specs.List.{flat_map}
 use Rattle.std.proofs.lemmas.List.Elements.{filter-append}

@@ -130,9 +130,9 @@ next_same left shares n d rest =
     let read : (xs : List Share) → get_or (drop n xs) 0 d ≡ get_or xs n d = λ xs. get_or-drop n xs 0 d ∙ ap (λ k. get_or xs k d) here in
     sym (read left) ∙ ap (λ (xs : List Share). get_or xs 0 d) rest ∙ read shares
 
--- where a share is taken out of its place, those behind it stay
-pub left_behind : (left shares : List Share) (n : ℕ) (none : Share) → drop n left ≡ drop n shares → drop (n + 1) (set left n none) ≡ drop (n + 1) shares
-left_behind left shares n none rest = drop-set-lt (n + 1) left n none (omega arith) ∙ drop_more_same left shares n rest
+-- where a share is taken out of its place, those after it stay
+pub left_after : (left shares : List Share) (n : ℕ) (none : Share) → drop n left ≡ drop n shares → drop (n + 1) (set left n none) ≡ drop (n + 1) shares
+left_after left shares n none rest = drop-set-lt (n + 1) left n none (omega arith) ∙ drop_more_same left shares n rest
 
 -- one more share is joined, which is taken out of what is left
 pub joined_more : (cells : Entries) (shares left : List Share) (n : ℕ) (share at : Share) (so_far new : List Entries) → n < length shares

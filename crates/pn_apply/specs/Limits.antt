@@ -1,6 +1,6 @@
--- How many there can be.
+-- The limits of a call.
 use Rattle.std.specs.Prelude.{ℕ}
 
--- the most workers that can be asked for
+-- the most workers of a call
 abbrev pub max_workers : ℕ
 max_workers = 16

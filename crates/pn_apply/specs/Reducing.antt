@@ -26,7 +26,7 @@ ranges bounds = map (tablet_ends bounds) (range_with_len 0 (length bounds + 1))
 abbrev pub join_in : Positions → List Image → Ends → TabletOp
 join_in marks images range = Join (table_of (images_in range images)) marks
 
--- what images bring to each tablet of a layout: their join in its range
+-- the joins that images bring to the tablets of a layout
 abbrev pub joins_of : Bounds → Positions → List Image → List TabletOp
 joins_of bounds marks images = map (join_in marks images) (ranges bounds)
 

@@ -1,20 +1,40 @@
-//! Consecutive tablets, of which one worker's share is cut off again and again until each worker has a share of its own.
+//! Consecutive tablets and their workers: one worker's part is cut off until each worker has its own.
 
 ghost use Rattle.std.specs.Prelude.{◌≡◌, ◌+◌, ◌++◌, ◌≤◌, ◌<◌, ◌^◌, ◌⊎◌, [], length, vec_capacity, IfOk, IsOk, IsErr};
 
+use crate::Gate;
 use pn_join::NoMemory;
+use std::marker::Send;
+use std::thread::{Threads, join_mut};
 
-/// Consecutive tablets, of which the first has this number, and how many workers share them.
+/// The fewest images worth a worker: two workers take as long as one for some 950 images (measured).
+const MIN_IMAGES_PER_THREAD: usize = 600;
+
+/// The number of the first of consecutive tablets, and how many workers they have.
 #[derive(Clone, Copy)]
-pub(crate) struct Share {
+pub(crate) struct Span {
     pub(crate) first: usize,
     pub(crate) workers: usize,
 }
 
-impl Share {
-    /// The share of one worker, that of all others, and how many of the tablets the one works. The caller's thread goes on with
-    /// the others, so that no two threads start threads at the same time.
-    pub(crate) fn cut(self, tablets: usize) -> (Share, Share, usize)
+impl Span {
+    /// All tablets, with at most one worker for each tablet and, at an open gate, for each 600 images.
+    pub(crate) fn new<G: Gate>(gate: &G, workers: usize, tablets: usize, images: usize) -> Span
+        ensures first { result.first ≡ 0 }
+        ensures workers { result.workers ≤ tablets }
+    {
+        let workers = workers.min(tablets);
+        let workers = if gate.is_open() {
+            workers.min(images / MIN_IMAGES_PER_THREAD)
+        } else {
+            workers
+        };
+        Span { first: 0, workers }
+    }
+
+    /// One worker's part, that of all others, and how many tablets the one works. The caller's thread goes on with
+    /// the others: no two threads start threads at once.
+    pub(crate) fn cut(self, tablets: usize) -> (Span, Span, usize)
         requires several { 2 ≤ self.workers }
         requires enough { self.workers ≤ tablets }
         requires numbers { self.first + tablets < 2 ^ 64 }
@@ -23,21 +43,46 @@ impl Share {
         ensures firsts { (result.0.first ≡ self.first) × (result.1.first ≡ self.first + result.2) }
         ensures enough { (result.0.workers ≤ result.2) × (result.1.workers + result.2 ≤ tablets) }
     {
-        let (front, back) = (1, self.workers - 1);
-        let most = tablets.div_ceil(self.workers);
-        let place = most.saturating_mul(front).clamp(front, tablets - back);
+        let others = self.workers - 1;
+        let place = tablets.div_ceil(self.workers).clamp(1, tablets - others);
         (
-            Share {
+            Span {
                 first: self.first,
-                workers: front,
+                workers: 1,
             },
-            Share {
+            Span {
                 first: self.first + place,
-                workers: back,
+                workers: others,
             },
             place,
         )
     }
+}
+
+/// Whether a part with these images gets a thread. At an open gate half of a worker's is enough, as parts are
+/// uneven; at any other gate one image is.
+pub(crate) fn is_worth_a_thread<G: Gate>(gate: &G, images: usize) -> bool {
+    if gate.is_open() {
+        images >= MIN_IMAGES_PER_THREAD / 2
+    } else {
+        images > 0
+    }
+}
+
+/// Calls both: in two threads at the same time, or in turn.
+pub(crate) fn both<R: Threads, F: FnMut() -> T + Send, H: FnMut() -> T, T: Send>(
+    rt: &R,
+    at_once: bool,
+    front: &mut F,
+    back: &mut H,
+) -> (T, T)
+    requires { F.pre front.old × H.pre back.old }
+    ensures { F.step front.old result.0 front.new × H.step back.old result.1 back.new }
+{
+    if at_once {
+        return join_mut(rt, front, back);
+    }
+    (front(), back())
 }
 
 /// The results of both parts, in order, in room that was made before they were worked.

@@ -1,15 +1,25 @@
 //! Gates, which a worker passes before it works a tablet.
 
-/// Is told of each tablet before it is worked, by the thread that works it.
+/// Passed with each tablet's number, by the thread that works the tablet.
 pub trait Gate {
-    /// The worker is about to work this tablet. It begins when the call returns.
+    /// Returns once the worker may begin the tablet.
     fn enter(&self, tablet: usize);
+
+    /// Whether no worker waits here for another. Only then do workers without enough images get no thread.
+    fn is_open(&self) -> bool {
+        false
+    }
 }
 
-/// Holds nobody up.
+/// The gate that everyone passes at once.
 pub struct Open;
 
 impl Gate for Open {
-    /// Does nothing, and takes no memory.
+    /// Returns at once.
     fn enter(&self, _tablet: usize) {}
+
+    /// Always true.
+    fn is_open(&self) -> bool {
+        true
+    }
 }

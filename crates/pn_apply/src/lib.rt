@@ -1,5 +1,7 @@
-//! Operations on the tablets of a layout, shared out by tablet: what deliveries bring to each, and each
-//! applied to its own.
+//! Rounds over the tablets of a layout, by several workers: the join that deliveries bring to each tablet, and
+//! each join applied to its own tablet.
+//!
+//! Only calls that return a `Result` take memory.
 #![tactic(auto)]
 
 mod apply;

@@ -1,6 +1,6 @@
-//! What deliveries bring to each tablet.
+//! The join that deliveries bring to each tablet.
 
-ghost use Rattle.std.specs.Prelude.{◌≡◌, ◌+◌, ◌≤◌, ◌<◌, ◌^◌, length, map, IsTrue, IfOk};
+ghost use Rattle.std.specs.Prelude.{◌≡◌, ◌≤◌, length, map, IsTrue, IfOk};
 ghost use Rattle.std.specs.Thread.{IsSync};
 ghost use Rattle.pn_join.specs.Marks.{are_positions};
 ghost use Rattle.pn_record.specs.CellMap.{table_of};
@@ -8,9 +8,10 @@ ghost use Rattle.pn_tablet.specs.declared.op.TabletOp.TheVariants.{Join};
 ghost use Rattle.pn_apply.specs.Limits.{max_workers};
 ghost use Rattle.pn_apply.specs.Reducing.{all_images, joins_of};
 ghost use Rattle.pn_apply.specs.Shares.{lists};
+ghost use Rattle.pn_apply.specs.Working.{IsSpanOf, AreCellsOf};
 
 use crate::Gate;
-use crate::cut::{Share, gathered};
+use crate::cut::{Span, both, gathered, is_worth_a_thread};
 use crate::share::{copies_by_tablet, images_by_tablet};
 use pn_join::{Dup, Marks, NoMemory};
 use pn_record::{Image, Records, take_image};
@@ -19,15 +20,18 @@ use pn_tablet::{Layout, TabletOp};
 use std::alloc::Global;
 use std::marker::Sync;
 use std::mem;
-use std::thread::{Threads, join_mut};
+use std::thread::Threads;
 
 /// The most workers of a call.
 pub const MAX_WORKERS: usize = 16;
 
-/// What the deliveries bring to each tablet of the layout, in the order of the tablets: the join of the
-/// cells of all images whose keys lie in the tablet's range, with the marks, whose positions are 1 to 10^15.
-/// Each image is copied. Between 1 and 16 workers are asked for; their number makes no difference to the
-/// answer. The gate is entered with a tablet's number before that tablet is worked.
+/// The join that the deliveries bring to each tablet, in the order of the tablets: the cells of all images in
+/// its range, with the marks. Images are copied.
+///
+/// The marks' positions are 1 to 10^15.
+///
+/// There are 1 to 16 workers, whose number does not change the answer. A worker enters the gate before each
+/// of its tablets.
 pub fn reduce<R: Threads + Sync, G: Gate + Sync>(
     rt: &R,
     alloc: Global,
@@ -45,7 +49,7 @@ pub fn reduce<R: Threads + Sync, G: Gate + Sync>(
     joins_of_shares(rt, alloc, gate, workers, shares, marks)
 }
 
-/// As [`reduce`], of deliveries that are given away: their images are moved into the cells.
+/// The joins of [`reduce`], with the images moved into the cells.
 pub fn reduce_owned<R: Threads + Sync, G: Gate + Sync>(
     rt: &R,
     alloc: Global,
@@ -63,7 +67,7 @@ pub fn reduce_owned<R: Threads + Sync, G: Gate + Sync>(
     joins_of_shares(rt, alloc, gate, workers, shares, marks)
 }
 
-// The join of the cells of each share, with the marks, by so many workers at most.
+// The join of the cells of each tablet's images, with the marks.
 fn joins_of_shares<R: Threads + Sync, G: Gate + Sync>(
     rt: &R,
     alloc: Global,
@@ -78,7 +82,7 @@ fn joins_of_shares<R: Threads + Sync, G: Gate + Sync>(
     joins(alloc, cells, marks)
 }
 
-// The joins of these cells, with the marks.
+// A join of each tablet's cells, with the marks.
 fn joins(alloc: Global, cells: Vec<Records>, marks: &Marks) -> Result<Vec<TabletOp>, NoMemory>
     ensures { IfOk result (λ operations. operations.items ≡ map (λ own. Join own marks.now) cells.items) }
 {
@@ -92,7 +96,7 @@ fn joins(alloc: Global, cells: Vec<Records>, marks: &Marks) -> Result<Vec<Tablet
     Ok(operations)
 }
 
-// The cells of each share, by so many workers at most.
+// The cells of each tablet's images.
 fn work_all<R: Threads + Sync, G: Gate + Sync>(
     rt: &R,
     alloc: Global,
@@ -100,98 +104,95 @@ fn work_all<R: Threads + Sync, G: Gate + Sync>(
     workers: usize,
     images: &mut [Vec<Image>],
 ) -> Result<Vec<Records>, NoMemory>
-    ensures { IfOk result (λ cells. cells.items ≡ map (λ own. table_of own.items) images.old) }
+    ensures { AreCellsOf images.old result }
 {
-    let workers = workers.min(images.len());
-    work_shares(rt, alloc, gate, Share { first: 0, workers }, images)
+    let span = Span::new(gate, workers, images.len(), count_of(images));
+    work_span(rt, alloc, gate, span, images)
 }
 
-// Works the tablets of a share, of which one worker's is cut off as long as there are workers for both parts, and work.
-#[cycle(halves)]
-fn work_shares<R: Threads + Sync, G: Gate + Sync>(
+// Works the tablets of a span. One worker's part is cut off while there are two workers or more.
+#[cycle(parts)]
+fn work_span<R: Threads + Sync, G: Gate + Sync>(
     rt: &R,
     alloc: Global,
     gate: &G,
-    share: Share,
+    span: Span,
     images: &mut [Vec<Image>],
 ) -> Result<Vec<Records>, NoMemory>
-    requires workers { share.workers ≤ length images.old }
-    requires numbers { share.first + length images.old < 2 ^ 64 }
-    ensures { IfOk result (λ cells. cells.items ≡ map (λ own. table_of own.items) images.old) }
+    requires { IsSpanOf (length images.old) span }
+    ensures { AreCellsOf images.old result }
 {
-    if share.workers < 2 || busy(images) < 2 {
-        return work_share(alloc, share.first, images, gate);
+    if span.workers < 2 {
+        return work_alone(alloc, gate, span, images);
     }
     let results = Vec::with_capacity(alloc, images.len())?;
-    let (front, back, place) = share.cut(images.len());
+    let (front, back, place) = span.cut(images.len());
     let (low, high) = images.split_at_mut(place);
-    let (front, back) = work_halves(rt, alloc, gate, (front, back), low, high);
+    let (front, back) = work_parts(rt, alloc, gate, (front, back), low, high);
     gathered(results, front, back)
 }
 
-// Works both parts of a cut at the same time; in turn where one of them has nothing to do.
-#[cycle(halves)]
-fn work_halves<R: Threads + Sync, G: Gate + Sync>(
+// Works both parts of a cut: at the same time if each is worth a thread.
+#[cycle(parts)]
+fn work_parts<R: Threads + Sync, G: Gate + Sync>(
     rt: &R,
     alloc: Global,
     gate: &G,
-    shares: (Share, Share),
+    spans: (Span, Span),
     low: &mut [Vec<Image>],
     high: &mut [Vec<Image>],
 ) -> (
     Result<Vec<Records>, NoMemory>,
     Result<Vec<Records>, NoMemory>,
 )
-    requires low_workers { (1 ≤ shares.0.workers) × (shares.0.workers ≤ length low.old) }
-    requires low_numbers { shares.0.first + length low.old < 2 ^ 64 }
-    requires high_workers { (1 ≤ shares.1.workers) × (shares.1.workers ≤ length high.old) }
-    requires high_numbers { shares.1.first + length high.old < 2 ^ 64 }
-    ensures low { IfOk result.0 (λ cells. cells.items ≡ map (λ own. table_of own.items) low.old) }
-    ensures high { IfOk result.1 (λ cells. cells.items ≡ map (λ own. table_of own.items) high.old) }
+    requires some { (1 ≤ spans.0.workers) × (1 ≤ spans.1.workers) }
+    requires low { IsSpanOf (length low.old) spans.0 }
+    requires high { IsSpanOf (length high.old) spans.1 }
+    ensures low { AreCellsOf low.old result.0 }
+    ensures high { AreCellsOf high.old result.1 }
 {
-    let (first, second) = shares;
-    if busy(low) == 0 || busy(high) == 0 {
-        return (
-            work_shares(rt, alloc, gate, first, low),
-            work_shares(rt, alloc, gate, second, high),
-        );
-    }
+    let (first, second) = spans;
+    let at_once = is_worth_a_thread(gate, count_of(low)) && is_worth_a_thread(gate, count_of(high));
     let mut front = || -> Result<Vec<Records>, NoMemory>
-        requires { IsSync R.row × IsSync G.row × (1 ≤ first.workers) × (first.workers ≤ length low.now) × (first.first + length low.now < 2 ^ 64) }
-        ensures { IfOk result (λ cells. cells.items ≡ map (λ own. table_of own.items) low.entry.now) }
-    { work_shares(rt, alloc, gate, first, low) };
+        requires { IsSync R.row × IsSync G.row × (1 ≤ first.workers) × IsSpanOf (length low.now) first }
+        ensures { AreCellsOf low.entry.now result }
+    { work_span(rt, alloc, gate, first, low) };
     let mut back = || -> Result<Vec<Records>, NoMemory>
-        requires { IsSync R.row × IsSync G.row × (1 ≤ second.workers) × (second.workers ≤ length high.now) × (second.first + length high.now < 2 ^ 64) }
-        ensures { IfOk result (λ cells. cells.items ≡ map (λ own. table_of own.items) high.entry.now) }
-    { work_shares(rt, alloc, gate, second, high) };
-    join_mut(rt, &mut front, &mut back)
+        requires { IsSync R.row × IsSync G.row × (1 ≤ second.workers) × IsSpanOf (length high.now) second }
+        ensures { AreCellsOf high.entry.now result }
+    { work_span(rt, alloc, gate, second, high) };
+    both(rt, at_once, &mut front, &mut back)
 }
 
-// How many of the shares have an image.
-fn busy(images: &[Vec<Image>]) -> usize {
-    images.iter().filter(|own| !own.is_empty()).count()
+// How many images there are.
+fn count_of(images: &[Vec<Image>]) -> usize {
+    let mut count = 0_usize;
+    for own in images {
+        count = count.saturating_add(own.len());
+    }
+    count
 }
 
-// Works consecutive tablets, of which the first has this number. Each share is taken out of its place.
-fn work_share<G: Gate>(
+// Works the tablets of a span one after another. Their images are moved out of their places.
+fn work_alone<G: Gate>(
     alloc: Global,
-    first: usize,
-    images: &mut [Vec<Image>],
     gate: &G,
+    span: Span,
+    images: &mut [Vec<Image>],
 ) -> Result<Vec<Records>, NoMemory>
-    requires { first + length images.old < 2 ^ 64 }
-    ensures { IfOk result (λ cells. cells.items ≡ map (λ own. table_of own.items) images.old) }
+    requires { IsSpanOf (length images.old) span }
+    ensures { AreCellsOf images.old result }
 {
     let mut cells = Vec::with_capacity(alloc, images.len())?;
     for place in 0..images.len() {
-        gate.enter(first + place);
+        gate.enter(span.first + place);
         let own = mem::replace(&mut images[place], Vec::new(alloc));
         cells.push_reserved(cells_of(alloc, own)?);
     }
     Ok(cells)
 }
 
-// The cells of images, into which these are moved.
+// The cells of images, which are moved into them.
 fn cells_of(alloc: Global, images: Vec<Image>) -> Result<Records, NoMemory>
     ensures { IfOk result (λ cells. cells ≡ table_of images.items) }
 {

@@ -12,7 +12,7 @@ use pn_stream::Delivery;
 use pn_tablet::Layout;
 use std::alloc::Global;
 
-/// The images of each tablet, in the order in which they are delivered. Each is looked at once.
+/// The images of each tablet, in the order of delivery.
 pub fn images_by_tablet(
     alloc: Global,
     deliveries: Vec<Delivery>,
@@ -28,7 +28,7 @@ pub fn images_by_tablet(
     Ok(shares)
 }
 
-/// Copies of the images of each tablet, in the order in which they are delivered.
+/// Copies of the images of each tablet, in the order of delivery.
 pub fn copies_by_tablet(
     alloc: Global,
     deliveries: &[Delivery],
@@ -53,7 +53,7 @@ fn images_of(deliveries: &[Delivery]) -> usize {
     count
 }
 
-// A share without images for each tablet, with room for an equal part of so many.
+// An empty share for each tablet, with room for an equal part of the images.
 fn empty_shares(alloc: Global, layout: &Layout, images: usize) -> Result<Vec<Vec<Image>>, NoMemory>
     ensures empty { IfOk result (λ shares. lists shares.items ≡ by_tablet layout.now []) }
     ensures lawful { IsLayout layout.now }

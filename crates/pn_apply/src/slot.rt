@@ -1,4 +1,4 @@
-//! Slots, which take the operations of one tablet.
+//! Slots, each of which takes the operations of one tablet.
 
 ghost use Rattle.std.specs.Prelude.{◌≡◌, Ok, IfOk, IfErr, OnOk, OnErr};
 ghost use Rattle.pn_tablet.specs.Tablets.{TabletStateValue};
@@ -9,14 +9,15 @@ ghost use Rattle.pn_tablet.specs.Changes.{answer};
 
 use pn_tablet::{Change, OpFault, TabletOp, TabletState};
 
-/// What takes operations as a tablet's state does: the state itself, or what stands for it.
+/// Takes operations as a tablet's state does.
 pub trait Slot {
-    /// The tablet that the slot is.
+    /// The state of the slot's tablet.
     ghost tablet: { Self → TabletStateValue };
 
-    /// Takes one operation, whose positions are 1 to 10^15. The answers and refusals are those of
-    /// [`TabletState::apply`], but that memory may run out in a loss too. An error leaves the slot's tablet
-    /// as it was.
+    /// Takes one operation, whose positions are 1 to 10^15, as [`TabletState::apply`] does, but may also run out
+    /// of memory in a loss.
+    ///
+    /// An error leaves the slot's tablet as it was.
     fn apply(&mut self, op: &TabletOp) -> Result<Vec<Change>, OpFault>
         requires positions { HasPositions op.now }
         ensures ok { OnOk result (step (tablet self.old) op.now ≡ Ok (tablet self.new)) }

@@ -1,4 +1,4 @@
--- Contents that are put at the keys of another table are a join with it.
+-- Putting the changed contents is joining with the other table.
 use Rattle.std.proofs.Common.{◌≡◌, false, cond, List, [], ◌∷◌, ◌++◌, Option, Some, None, option_map, Ordering, Less, Greater, is_eq, refl, sym, ap, ◌∙◌, subst, append-nil}
 use Rattle.std.specs.List.{AllZip}
 use Rattle.std.specs.Option.{option_to_list}
@@ -17,12 +17,12 @@ use Rattle.pn_join.proofs.JoinAll.{JoinsSoFar, none_joined, one_joined, all_join
 use Rattle.pn_join.proofs.Puts.{contents_at-put, contents_at-same}
 use Rattle.pn_join.proofs.Rising.{Below, Rising, Rising-from_sorted, flipped}
 
--- the edits so far, and what is left of the other's entries
-pub record EditsSoFar {K C M : Type 0} (cmp : K → K → Ordering) (meaning : C → M) (joined : M → M → M) (valid : C → Type 0) (rows : List (List (K × C))) (other left : List (K × C)) (edits : List (Edit K C)) : Type 0 where
+-- the edits so far, and the other's remaining entries
+pub record EditsSoFar {K C M : Type 0} (cmp : K → K → Ordering) (meaning : C → M) (joined : M → M → M) (valid : C → Type 0) (list : List (List (K × C))) (other left : List (K × C)) (edits : List (Edit K C)) : Type 0 where
   pub done : List (K × C)
   pub parted : other ≡ done ++ left
-  pub changes : AreChanges cmp meaning joined valid (all_entries rows) done (changes_in edits)
-  pub aimed : AreAimed cmp rows edits
+  pub changes : AreChanges cmp meaning joined valid (all_entries list) done (changes_in edits)
+  pub aimed : AreAimed cmp list edits
 
 those_push : {A : Type 0} (xs : List (Option A)) (x : Option A) → those_there (xs ++ x ∷ []) ≡ those_there xs ++ option_to_list x
 those_push [] None = refl
@@ -41,33 +41,33 @@ in_push [] None = refl
 in_push [] (Some d) = refl
 in_push (e ∷ es) made = ap (λ cs. e.change ∷ cs) (in_push es made)
 
-aims : {K C : Type 0} (cmp : K → K → Ordering) (rows : List (List (K × C))) (made : Option (Edit K C)) → IsAimed cmp rows made → AreAimed cmp rows (option_to_list made)
-aims cmp rows None is = tt
-aims cmp rows (Some d) is = (is, tt)
+aims : {K C : Type 0} (cmp : K → K → Ordering) (list : List (List (K × C))) (made : Option (Edit K C)) → IsAimed cmp list made → AreAimed cmp list (option_to_list made)
+aims cmp list None is = tt
+aims cmp list (Some d) is = (is, tt)
 
-module _ {K C M : Type 0} {cmp : K → K → Ordering} {meaning : C → M} {joined : M → M → M} {valid : C → Type 0} (rows : List (List (K × C))) (other : List (K × C)) where
-  pub no_edits : EditsSoFar cmp meaning joined valid rows other other []
+module _ {K C M : Type 0} {cmp : K → K → Ordering} {meaning : C → M} {joined : M → M → M} {valid : C → Type 0} (list : List (List (K × C))) (other : List (K × C)) where
+  pub no_edits : EditsSoFar cmp meaning joined valid list other other []
   no_edits = record { done = []; parted = refl; changes = record { made = []; each = tt; are = refl }; aimed = tt }
 
-  pub one_more : (e : K × C) (left : List (K × C)) (edits : List (Edit K C)) (made : Option (Edit K C)) → EditsSoFar cmp meaning joined valid rows other (e ∷ left) edits → Changes cmp meaning joined valid (all_entries rows) e (option_map (λ d. d.change) made) → IsAimed cmp rows made → EditsSoFar cmp meaning joined valid rows other left (edits ++ option_to_list made)
+  pub one_more : (e : K × C) (left : List (K × C)) (edits : List (Edit K C)) (made : Option (Edit K C)) → EditsSoFar cmp meaning joined valid list other (e ∷ left) edits → Changes cmp meaning joined valid (all_entries list) e (option_map (λ d. d.change) made) → IsAimed cmp list made → EditsSoFar cmp meaning joined valid list other left (edits ++ option_to_list made)
   one_more e left edits made h changes aimed = record {
     done = h.done ++ e ∷ [];
     parted = h.parted ∙ append_split h.done;
     changes = record {
       made = h.changes.made ++ option_map (λ d. d.change) made ∷ [];
-      each = zip_push (Changes cmp meaning joined valid (all_entries rows)) h.done h.changes.made e (option_map (λ d. d.change) made) h.changes.each changes;
+      each = zip_push (Changes cmp meaning joined valid (all_entries list)) h.done h.changes.made e (option_map (λ d. d.change) made) h.changes.each changes;
       are = in_push edits made ∙ ap (λ cs. cs ++ option_to_list (option_map (λ d. d.change) made)) h.changes.are ∙ sym (those_push h.changes.made (option_map (λ d. d.change) made));
     };
-    aimed = each_append (λ d. d.leaf ≡ leaf_for cmp d.change.key rows) edits (option_to_list made) h.aimed (aims cmp rows made aimed);
+    aimed = each_append (λ d. d.leaf ≡ leaf_for cmp d.change.key list) edits (option_to_list made) h.aimed (aims cmp list made aimed);
   } where
     append_split : (xs : List (K × C)) → xs ++ e ∷ left ≡ (xs ++ e ∷ []) ++ left
     append_split [] = refl
     append_split (x ∷ xs) = ap (λ ys. x ∷ ys) (append_split xs)
 
-  pub left_valid : (e : K × C) (left : List (K × C)) (edits : List (Edit K C)) → IsTable cmp valid other → EditsSoFar cmp meaning joined valid rows other (e ∷ left) edits → valid e.1
+  pub left_valid : (e : K × C) (left : List (K × C)) (edits : List (Edit K C)) → IsTable cmp valid other → EditsSoFar cmp meaning joined valid list other (e ∷ left) edits → valid e.1
   left_valid e left edits table h = (each_back (λ x. valid x.1) h.done (e ∷ left) (rw h.parted at table.contents)).0
 
-  pub all_changes : (edits : List (Edit K C)) → EditsSoFar cmp meaning joined valid rows other [] edits → AreChanges cmp meaning joined valid (all_entries rows) other (changes_in edits)
+  pub all_changes : (edits : List (Edit K C)) → EditsSoFar cmp meaning joined valid list other [] edits → AreChanges cmp meaning joined valid (all_entries list) other (changes_in edits)
   all_changes edits h = rw (h.parted ∙ append-nil h.done) h.changes
 
 not_tied : (r : Ordering) → r ≡ Greater → is_eq r ≡ false
@@ -96,7 +96,7 @@ module _ {K C M : Type 0} (cmp : K → K → Ordering) (o : IsTotalOrder cmp) (m
     is_valid = is.is_valid;
   }
 
-  -- the changes of greater keys stay what they are
+  -- a put does not alter the changes of greater keys
   later_changes : (k : K) (v : C) (now entries : List (K × C)) (made : List (Option (TableChange K C))) → Below cmp k entries → Each now entries made → Each (put cmp k v now) entries made
   later_changes k v now [] [] below all = tt
   later_changes k v now [] (m ∷ ms) below all = absurd all
@@ -121,7 +121,7 @@ module _ {K C M : Type 0} (cmp : K → K → Ordering) (o : IsTotalOrder cmp) (m
         (later_changes e.0 change.after now es ms rising.0 all.1)
         (one_joined cmp o meaning joined laws valid own other others e es now (put cmp e.0 change.after now) joins is))
 
-  -- the changes that another table's entries make are the join with it
+  -- putting the changes of another table's entries is joining with it
   pub puts_joined : (own other : List (K × C)) (changes : List (TableChange K C)) → IsTable cmp valid other → AreChanges cmp meaning joined valid own other changes → contents_at cmp meaning (puts cmp own changes) ≡ key_by_key joined (contents_at cmp meaning own) (contents_at cmp meaning other)
   puts_joined own other changes others are =
       ap (λ cs. contents_at cmp meaning (puts cmp own cs)) are.are

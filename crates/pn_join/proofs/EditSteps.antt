@@ -1,4 +1,4 @@
--- A value that is put at its key in its leaf, and the leaves then.
+-- A value put at its key in its leaf, and the leaves afterwards.
 use Rattle.std.proofs.Common.{◌≡◌, ℕ, zero, suc, ◌+◌, ◌<◌, ◌≤◌, List, [], ◌∷◌, ◌++◌, length, get_or, set, take, Ordering, refl, sym, ap, ◌∙◌, subst, arith}
 use Rattle.std.specs.List.{AllByRecursion}
 use Rattle.std.specs.FinMap.{put}
@@ -10,8 +10,8 @@ use Rattle.pn_join.specs.LeafEntries.{leaf_entries, leaves_of}
 use Rattle.std.proofs.lemmas.List.{take_more}
 use Rattle.pn_join.proofs.Each.{each_append}
 use Rattle.pn_join.proofs.Partitions.{get_or-leaves}
-use Rattle.pn_join.proofs.RowFacts.{length-leaves}
-use Rattle.pn_join.proofs.RowGrowth.{same_leaves}
+use Rattle.pn_join.proofs.LeafListFacts.{length-leaves}
+use Rattle.pn_join.proofs.LeafListGrowth.{same_leaves}
 use Rattle.pn_join.proofs.PutFacts.{put_grows, put_by_one}
 
 -- a list in which one element is replaced
@@ -73,47 +73,47 @@ module _ {K C : Type 0} where
 
 -- leaves only grow
 module _ {K C : Type 0} (cmp : K → K → Ordering) where
-  pub put_at-grows : (rows : List (List (K × C))) (edit : Edit K C) (j : ℕ) → length (get_or rows j []) ≤ length (get_or (put_at cmp rows edit) j [])
-  put_at-grows rows edit j = grows rows edit.leaf j where
-    grows : (rows : List (List (K × C))) (i j : ℕ) → length (get_or rows j []) ≤ length (get_or (set rows i (put cmp edit.change.key edit.change.after (get_or rows i []))) j [])
+  pub put_at-grows : (list : List (List (K × C))) (edit : Edit K C) (j : ℕ) → length (get_or list j []) ≤ length (get_or (put_at cmp list edit) j [])
+  put_at-grows list edit j = grows list edit.leaf j where
+    grows : (list : List (List (K × C))) (i j : ℕ) → length (get_or list j []) ≤ length (get_or (set list i (put cmp edit.change.key edit.change.after (get_or list i []))) j [])
     grows [] i j = omega arith
     grows (l ∷ ls) zero zero = put_grows cmp edit.change.key edit.change.after l
     grows (l ∷ ls) zero (suc j) = omega arith
     grows (l ∷ ls) (suc i) zero = omega arith
     grows (l ∷ ls) (suc i) (suc j) = grows ls i j
 
-  pub put_all-grows : (edits : List (Edit K C)) (rows : List (List (K × C))) (j : ℕ) → length (get_or rows j []) ≤ length (get_or (put_all cmp rows edits) j [])
-  put_all-grows [] rows j = omega arith
-  put_all-grows (e ∷ es) rows j = omega (arith, put_at-grows rows e j, put_all-grows es (put_at cmp rows e) j)
+  pub put_all-grows : (edits : List (Edit K C)) (list : List (List (K × C))) (j : ℕ) → length (get_or list j []) ≤ length (get_or (put_all cmp list edits) j [])
+  put_all-grows [] list j = omega arith
+  put_all-grows (e ∷ es) list j = omega (arith, put_at-grows list e j, put_all-grows es (put_at cmp list e) j)
 
-  few_at : (rows : List (List (K × C))) (j : ℕ) → AreFew rows → length (get_or rows j []) ≤ max_leaf_entries
+  few_at : (list : List (List (K × C))) (j : ℕ) → AreFew list → length (get_or list j []) ≤ max_leaf_entries
   few_at [] j h = omega arith
   few_at (l ∷ ls) zero h = h.0
   few_at (l ∷ ls) (suc j) h = few_at ls j h.1
 
-  put_here : (rows : List (List (K × C))) (i : ℕ) (x : List (K × C)) → i < length rows → get_or (set rows i x) i [] ≡ x
+  put_here : (list : List (List (K × C))) (i : ℕ) (x : List (K × C)) → i < length list → get_or (set list i x) i [] ≡ x
   put_here [] i x lt = absurd (omega (arith, lt))
   put_here (l ∷ ls) zero x lt = refl
   put_here (l ∷ ls) (suc i) x lt = put_here ls i x (omega (arith, lt))
 
-  -- what is put fits, where all that is put does
-  pub put_fits : (edit : Edit K C) (edits : List (Edit K C)) (rows : List (List (K × C))) → edit.leaf < length rows → AreFew (put_all cmp (put_at cmp rows edit) edits) → length (put cmp edit.change.key edit.change.after (get_or rows edit.leaf [])) ≤ max_leaf_entries
-  put_fits edit edits rows lt h =
-      let x = put cmp edit.change.key edit.change.after (get_or rows edit.leaf []) in
-      let here : length (get_or (put_at cmp rows edit) edit.leaf []) ≡ length x = ap length (put_here rows edit.leaf x lt) in
-      omega (arith, here, put_all-grows edits (put_at cmp rows edit) edit.leaf, few_at (put_all cmp (put_at cmp rows edit) edits) edit.leaf h)
+  -- one value fits if all do
+  pub put_fits : (edit : Edit K C) (edits : List (Edit K C)) (list : List (List (K × C))) → edit.leaf < length list → AreFew (put_all cmp (put_at cmp list edit) edits) → length (put cmp edit.change.key edit.change.after (get_or list edit.leaf [])) ≤ max_leaf_entries
+  put_fits edit edits list lt h =
+      let x = put cmp edit.change.key edit.change.after (get_or list edit.leaf []) in
+      let here : length (get_or (put_at cmp list edit) edit.leaf []) ≡ length x = ap length (put_here list edit.leaf x lt) in
+      omega (arith, here, put_all-grows edits (put_at cmp list edit) edit.leaf, few_at (put_all cmp (put_at cmp list edit) edits) edit.leaf h)
 
-  -- how far a look at the edits has come: the leaves with what was looked at, and how much came to the last leaf
-  pub record FitsSoFar (rows now : List (List (K × C))) (last more : ℕ) : Type 0 where
+  -- the edits looked at so far: the leaves after them, and how many fell into the last leaf
+  pub record FitsSoFar (list now : List (List (K × C))) (last more : ℕ) : Type 0 where
     pub few : AreFew now
-    pub here : length (get_or now last []) ≤ length (get_or rows last []) + more
-    pub above : (j : ℕ) → last < j → get_or now j [] ≡ get_or rows j []
+    pub here : length (get_or now last []) ≤ length (get_or list last []) + more
+    pub above : (j : ℕ) → last < j → get_or now j [] ≡ get_or list j []
 
-  pub fits_at_first : (rows : List (List (K × C))) → AreFew rows → FitsSoFar rows rows 0 0
-  fits_at_first rows h = record { few = h; here = omega arith; above = λ j lt. refl }
+  pub fits_at_first : (list : List (List (K × C))) → AreFew list → FitsSoFar list list 0 0
+  fits_at_first list h = record { few = h; here = omega arith; above = λ j lt. refl }
 
-  fits_by : (rows now : List (List (K × C))) (last more next : ℕ) (edit : Edit K C) → FitsSoFar rows now last more → last ≤ edit.leaf → length (get_or now edit.leaf []) + 1 ≤ length (get_or rows edit.leaf []) + next → length (get_or rows edit.leaf []) + next ≤ max_leaf_entries → FitsSoFar rows (put_at cmp now edit) edit.leaf next
-  fits_by rows now last more next edit h le grown room =
+  fits_by : (list now : List (List (K × C))) (last more next : ℕ) (edit : Edit K C) → FitsSoFar list now last more → last ≤ edit.leaf → length (get_or now edit.leaf []) + 1 ≤ length (get_or list edit.leaf []) + next → length (get_or list edit.leaf []) + next ≤ max_leaf_entries → FitsSoFar list (put_at cmp now edit) edit.leaf next
+  fits_by list now last more next edit h le grown room =
       let x = put cmp edit.change.key edit.change.after (get_or now edit.leaf []) in
       let one : length x ≤ length (get_or now edit.leaf []) + 1 = put_by_one cmp edit.change.key edit.change.after (get_or now edit.leaf []) in
       record {
@@ -122,44 +122,44 @@ module _ {K C : Type 0} (cmp : K → K → Ordering) where
         above = λ j lt. above_set now edit.leaf j x [] lt ∙ h.above j (omega (arith, le, lt));
       }
 
-  pub fits_same : (rows now : List (List (K × C))) (last more : ℕ) (edit : Edit K C) → FitsSoFar rows now last more → edit.leaf ≡ last → length (get_or rows edit.leaf []) + (more + 1) ≤ max_leaf_entries → FitsSoFar rows (put_at cmp now edit) edit.leaf (more + 1)
-  fits_same rows now last more edit h same room =
-      let here : length (get_or now edit.leaf []) ≤ length (get_or rows edit.leaf []) + more = rw same h.here in
-      fits_by rows now last more (more + 1) edit h (omega (arith, same)) (omega (arith, here)) room
+  pub fits_same : (list now : List (List (K × C))) (last more : ℕ) (edit : Edit K C) → FitsSoFar list now last more → edit.leaf ≡ last → length (get_or list edit.leaf []) + (more + 1) ≤ max_leaf_entries → FitsSoFar list (put_at cmp now edit) edit.leaf (more + 1)
+  fits_same list now last more edit h same room =
+      let here : length (get_or now edit.leaf []) ≤ length (get_or list edit.leaf []) + more = rw same h.here in
+      fits_by list now last more (more + 1) edit h (omega (arith, same)) (omega (arith, here)) room
 
-  pub fits_next : (rows now : List (List (K × C))) (last more : ℕ) (edit : Edit K C) → FitsSoFar rows now last more → last < edit.leaf → length (get_or rows edit.leaf []) + 1 ≤ max_leaf_entries → FitsSoFar rows (put_at cmp now edit) edit.leaf 1
-  fits_next rows now last more edit h lt room =
-      let here : length (get_or now edit.leaf []) ≡ length (get_or rows edit.leaf []) = ap length (h.above edit.leaf lt) in
-      fits_by rows now last more 1 edit h (omega (arith, lt)) (omega (arith, here)) room
+  pub fits_next : (list now : List (List (K × C))) (last more : ℕ) (edit : Edit K C) → FitsSoFar list now last more → last < edit.leaf → length (get_or list edit.leaf []) + 1 ≤ max_leaf_entries → FitsSoFar list (put_at cmp now edit) edit.leaf 1
+  fits_next list now last more edit h lt room =
+      let here : length (get_or now edit.leaf []) ≡ length (get_or list edit.leaf []) = ap length (h.above edit.leaf lt) in
+      fits_by list now last more 1 edit h (omega (arith, lt)) (omega (arith, here)) room
 
-  put_all-push : (edits : List (Edit K C)) (rows : List (List (K × C))) (edit : Edit K C) → put_all cmp rows (edits ++ edit ∷ []) ≡ put_at cmp (put_all cmp rows edits) edit
-  put_all-push [] rows edit = refl
-  put_all-push (e ∷ es) rows edit = put_all-push es (put_at cmp rows e) edit
+  put_all-push : (edits : List (Edit K C)) (list : List (List (K × C))) (edit : Edit K C) → put_all cmp list (edits ++ edit ∷ []) ≡ put_at cmp (put_all cmp list edits) edit
+  put_all-push [] list edit = refl
+  put_all-push (e ∷ es) list edit = put_all-push es (put_at cmp list e) edit
 
   -- one more edit of a list is looked at
-  module _ (rows : List (List (K × C))) (edits : List (Edit K C)) (k : ℕ) (edit : Edit K C) (at : edit ≡ get_or edits k edit) (lt : k < length edits) (last more next : ℕ) (h : FitsSoFar rows (put_all cmp rows (take k edits)) last more) where
+  module _ (list : List (List (K × C))) (edits : List (Edit K C)) (k : ℕ) (edit : Edit K C) (at : edit ≡ get_or edits k edit) (lt : k < length edits) (last more next : ℕ) (h : FitsSoFar list (put_all cmp list (take k edits)) last more) where
     taken : take (k + 1) edits ≡ take k edits ++ edit ∷ []
     taken = take_more edits k edit lt ∙ ap (λ e. take k edits ++ e ∷ []) (sym at)
 
-    put_taken : put_at cmp (put_all cmp rows (take k edits)) edit ≡ put_all cmp rows (take (k + 1) edits)
-    put_taken = sym (ap (put_all cmp rows) taken ∙ put_all-push (take k edits) rows edit)
+    put_taken : put_at cmp (put_all cmp list (take k edits)) edit ≡ put_all cmp list (take (k + 1) edits)
+    put_taken = sym (ap (put_all cmp list) taken ∙ put_all-push (take k edits) list edit)
 
-    pub fits_again : edit.leaf ≡ last → next ≡ more + 1 → length (get_or rows edit.leaf []) + next ≤ max_leaf_entries → FitsSoFar rows (put_all cmp rows (take (k + 1) edits)) edit.leaf next
+    pub fits_again : edit.leaf ≡ last → next ≡ more + 1 → length (get_or list edit.leaf []) + next ≤ max_leaf_entries → FitsSoFar list (put_all cmp list (take (k + 1) edits)) edit.leaf next
     fits_again same is room =
-        subst (λ now. FitsSoFar rows now edit.leaf next) put_taken
-        (rw is (fits_same rows (put_all cmp rows (take k edits)) last more edit h same (rw is at room)))
+        subst (λ now. FitsSoFar list now edit.leaf next) put_taken
+        (rw is (fits_same list (put_all cmp list (take k edits)) last more edit h same (rw is at room)))
 
-    pub fits_anew : last < edit.leaf → next ≡ 1 → length (get_or rows edit.leaf []) + next ≤ max_leaf_entries → FitsSoFar rows (put_all cmp rows (take (k + 1) edits)) edit.leaf next
+    pub fits_anew : last < edit.leaf → next ≡ 1 → length (get_or list edit.leaf []) + next ≤ max_leaf_entries → FitsSoFar list (put_all cmp list (take (k + 1) edits)) edit.leaf next
     fits_anew above is room =
-        subst (λ now. FitsSoFar rows now edit.leaf next) put_taken
-        (rw is (fits_next rows (put_all cmp rows (take k edits)) last more edit h above (rw is at room)))
+        subst (λ now. FitsSoFar list now edit.leaf next) put_taken
+        (rw is (fits_next list (put_all cmp list (take k edits)) last more edit h above (rw is at room)))
 
 -- the leaf of the last edit
 abbrev pub last_leaf : {K C : Type 0} → ℕ → List (Edit K C) → ℕ
 last_leaf n [] = n
 last_leaf n (edit ∷ edits) = last_leaf edit.leaf edits
 
--- the edits so far go up, and the last of them stands beside this leaf
+-- the edits so far are in leaf order, and the last is in this leaf
 pub record UpTo {K C : Type 0} (edits : List (Edit K C)) (last : ℕ) : Type 0 where
   pub order : GoUp 0 edits
   pub last_is : last_leaf 0 edits ≡ last
@@ -193,8 +193,8 @@ module _ {K C : Type 0} (leaves : List (Leaf K C)) (edits : List (Edit K C)) (k 
       (each_ready (take k edits) leaves edit.leaf leaf is h) (ready_here leaves edit.leaf leaf is within)
 
   -- the entries of a leaf that was taken are few
-  pub few_taken : (rows : List (List (K × C))) → leaves_of leaves ≡ rows → AreFew rows → edit.leaf < length leaves → (leaf : Leaf K C) → leaf ≡ get_or leaves edit.leaf leaf → length (leaf_entries leaf) ≤ max_leaf_entries
-  few_taken rows same few within leaf is =
+  pub few_taken : (list : List (List (K × C))) → leaves_of leaves ≡ list → AreFew list → edit.leaf < length leaves → (leaf : Leaf K C) → leaf ≡ get_or leaves edit.leaf leaf → length (leaf_entries leaf) ≤ max_leaf_entries
+  few_taken list same few within leaf is =
       let long : length (leaves_of leaves) ≡ length leaves = length-leaves leaves in
       let inside : edit.leaf < length (leaves_of leaves) = omega (arith, within, long) in
       let few_leaves : AreFew (leaves_of leaves) = rw same few in

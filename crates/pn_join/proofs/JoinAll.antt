@@ -9,7 +9,7 @@ use Rattle.pn_join.proofs.Each.{each_back}
 use Rattle.pn_join.proofs.JoinSteps.{joined_more, contents_at_push, not_found_before}
 use Rattle.pn_join.proofs.Rising.{Rising-from_sorted}
 
--- what is joined so far, and what is left of the other
+-- the entries joined so far, and the other's remaining entries
 pub record JoinsSoFar {K C M : Type 0} (cmp : K → K → Ordering) (meaning : C → M) (joined : M → M → M) (valid : C → Type 0) (own other left now : List (K × C)) : Type 0 where
   pub done : List (K × C)
   pub parted : other ≡ done ++ left

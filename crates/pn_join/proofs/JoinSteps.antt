@@ -10,7 +10,7 @@ use Rattle.pn_join.specs.Tables.{contents_at, optional_joined, key_by_key}
 use Rattle.pn_join.proofs.Puts.{contents_at-put}
 use Rattle.pn_join.proofs.Rising.{Rising, AllBelow, AllBelow-from_Rising, flipped}
 
--- what is joined so far, and one more
+-- the entries joined so far, and one more
 pub joined_more : {M : Type 0} {joined : M → M → M} → JoinLaws joined → (own part one done : M) {part' done' : M} → done' ≡ joined done one → done ≡ joined own part → part' ≡ joined part one → done' ≡ joined own part'
 joined_more {joined = joined} laws own part one done step so_far more =
     step ∙ ap (λ a. joined a one) so_far ∙ laws.associates own part one ∙ ap (joined own) (sym more)
@@ -41,7 +41,7 @@ module _ {K X : Type 0} (cmp : K → K → Ordering) (o : IsTotalOrder cmp) wher
         (λ i q. option_map meaning ((find-append cmp o es e.0 e.1 q none ∙ sym (find-put cmp o q e.0 e.1 es)) i))
         ∙ contents_at-put cmp o meaning joined e.0 e.1 e.1 es (ap (λ x. optional_joined joined (option_map meaning x) (Some (meaning e.1))) (sym none))
 
-    -- the contents of one more entry are those before joined with it
+    -- joining one more entry changes the contents by that entry
     pub contents_at_more : (es : List (K × X)) → Rising cmp es → (i : ℕ) (e : K × X) → i < length es → e ≡ get_or es i e → contents_at cmp meaning (take (i + 1) es) ≡ key_by_key joined (contents_at cmp meaning (take i es)) (contents_at cmp meaning (e ∷ []))
     contents_at_more es h i e within at =
         ap (contents_at cmp meaning) (take_more es i e within ∙ ap (λ x. take i es ++ x ∷ []) (sym at))

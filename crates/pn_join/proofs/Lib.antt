@@ -1,6 +1,7 @@
 pub mod Changing
 pub mod Each
 pub mod EditJoins
+pub mod EditPuts
 pub mod EditSteps
 pub mod JoinAll
 pub mod JoinSteps
@@ -13,12 +14,12 @@ pub mod PutFacts
 pub mod PutTogether
 pub mod Puts
 pub mod Rising
-pub mod RowEdits
-pub mod RowFacts
-pub mod RowGrowth
-pub mod RowJoin
-pub mod RowPlaces
-pub mod RowSearch
-pub mod RowSplits
+pub mod LeafListEdits
+pub mod LeafListFacts
+pub mod LeafListGrowth
+pub mod LeafListJoin
+pub mod LeafListPlaces
+pub mod LeafListSearch
+pub mod LeafListSplits
 pub mod Singles
 pub mod TableFacts

@@ -1,4 +1,4 @@
--- What marks reach, and what they are once raised.
+-- What marks reach, and raised marks.
 use Rattle.std.proofs.Common.{◌≡◌, ℕ, ◌≤◌, max, Bool, true, false, cond, T, List, [], ◌∷◌, Option, Some, None, option_map, unwrap_or, nat_lt, Less, Equal, Greater, is_eq, IsTrue, refl, sym, ap, ◌∙◌, subst, arith, zero-le}
 use Rattle.std.proofs.lemmas.Bool.{and_parts, and_from, or_parts}
 use Rattle.std.proofs.lemmas.Bool.Decides.{nat_tests}
@@ -48,7 +48,7 @@ joined_repeats : (a : Option ℕ) → optional_joined max a a ≡ a
 joined_repeats None = refl
 joined_repeats (Some m) = ap Some (omega arith)
 
--- what raised marks have at a name
+-- the position of raised marks at a name
 pub find-raised : (a b : Positions) (name : List ℕ) → find name_cmp name (raised a b) ≡ optional_joined max (find name_cmp name a) (find name_cmp name b)
 find-raised a [] name = unchanged (find name_cmp name a)
 find-raised a (e ∷ es) name =
@@ -63,7 +63,7 @@ pub position_of-raised : (a b : Positions) (name : List ℕ) → position_of (ra
 position_of-raised a b name =
     ap (λ o. unwrap_or o 0) (find-raised a b name) ∙ joined_position (find name_cmp name a) (find name_cmp name b)
 
--- names still rise
+-- raised marks have rising names
 pub is_sorted-raised : (a b : Positions) → IsTrue (is_sorted name_cmp a) → IsTrue (is_sorted name_cmp (raised a b))
 is_sorted-raised a [] rising = rising
 is_sorted-raised a (e ∷ es) rising =
@@ -89,7 +89,7 @@ put_position name n (e ∷ es) is are =
       | Greater ↦ and_from _ _ parts.0 (put_position name n es is parts.1)
     ]
 
--- positions that are raised are still positions
+-- raised marks have positions of messages
 pub are_positions-raised : (a b : Positions) → IsTrue (are_positions a) → IsTrue (are_positions b) → IsTrue (are_positions (raised a b))
 are_positions-raised a [] are other = are
 are_positions-raised a (e ∷ es) are others =
@@ -133,7 +133,7 @@ raised_from_joined old other new g h is =
     ∙ (λ i. optional_joined max (option_map-same (find name_cmp name old) i) (option_map-same (find name_cmp name other) i))
     ∙ sym (find-raised old other name))
 
--- where no entry of the need falls short, all of it is reached
+-- if no entry of the need falls short, the need is reached
 pub reached : (marks need : Positions) → list_any (falls_short marks) need ≡ false → Reaches marks need
 reached marks [] none name = omega arith
 reached marks (e ∷ es) none name =
@@ -154,7 +154,7 @@ reached_rest marks e es below reach name =
       | false ↦ λ p. subst (λ b. unwrap_or (cond b (Some e.1) (find name_cmp name es)) 0 ≤ position_of marks name) p (reach name)
     ] refl
 
--- and the other way round
+-- if the need is reached, no entry of it falls short
 pub none_short : (marks need : Positions) → Rising name_cmp need → Reaches marks need → list_any (falls_short marks) need ≡ false
 none_short marks [] rising reach = refl
 none_short marks (e ∷ es) rising reach =

@@ -1,4 +1,4 @@
--- A binary search over rising entries answers the key's place.
+-- A binary search over rising entries returns the key's index.
 use Rattle.std.proofs.Common.{◌≡◌, ℕ, zero, suc, ◌<◌, ◌≤◌, List, [], ◌∷◌, length, get_or, Result, Ok, Err, Ordering, Less, Equal, Greater, is_lt, HoldsAt, sym, ap, ◌∙◌, arith, refl, suc-add}
 use Rattle.std.specs.List.{AllWithin}
 use Rattle.std.specs.List.Sorted.{IsBinarySearchResult, IsSearchInRange, IsSortedBy}
@@ -38,7 +38,7 @@ module _ {K X : Type 0} (cmp : K → K → Ordering) (key : K) (o : IsTotalOrder
   IsSortedBy-from_Rising (e ∷ es) h zero d ge lt = ap is_lt (o.antisymm (get_or es 0 d).0 e.0 ∙ ap ordering_reverse (Below-at e.0 es h.0 0 d (omega arith)))
   IsSortedBy-from_Rising (e ∷ es) h (suc k) d ge lt = rw suc-add (IsSortedBy-from_Rising es h.1 k d (omega arith) (omega arith))
 
-  -- what a binary search answers is the place
+  -- a binary search returns the index
   pub place_from_search : (es : List (K × X)) → Rising cmp es → (r : Result ℕ ℕ) → IsSearchInRange r (length es) → IsBinarySearchResult (λ e. cmp e.0 key) es r → r ≡ place_of cmp key es
   place_from_search es h (Ok i) within found = place_from_tie es h i within found
   place_from_search es h (Err i) within found =

@@ -1,4 +1,4 @@
--- What the place of a key says of the entries.
+-- What the index of a key says about the entries.
 use Rattle.std.proofs.Common.{◌≡◌, ℕ, suc, ◌+◌, ◌<◌, ◌≤◌, cond, List, [], ◌∷◌, length, get_or, set, insert, Some, None, Result, Ok, Err, MatchResult, Ordering, Less, Equal, Greater, is_eq, is_lt, count_by, refl, sym, ap, ◌∙◌, zero-le, suc-le-suc, zero-add, one-add}
 use Rattle.std.specs.Cmp.{IsTotalOrder}
 use Rattle.std.specs.FinMap.{find, put}
@@ -19,7 +19,7 @@ module _ {K X : Type 0} (cmp : K → K → Ordering) (key : K) where
         | Greater ↦ λ p. past e es p _ (by_place P at_end at_less at_tie past es)
       ] refl
 
-  -- a place is within the entries, and a gap may be at their end
+  -- an index is within the entries, or at their end if the key is absent
   abbrev IsWithin : List (K × X) → Result ℕ ℕ → Type 0
   IsWithin es r = MatchResult r (λ i. i < length es) (λ i. i ≤ length es)
 
@@ -30,7 +30,7 @@ module _ {K X : Type 0} (cmp : K → K → Ordering) (key : K) where
   pub place_within : (es : List (K × X)) → IsWithin es (place_of cmp key es)
   place_within es = by_place IsWithin zero-le (λ e es p. zero-le) (λ e es p. suc-le-suc zero-le) (λ e es p r h. later_within e es r h) es
 
-  -- one list: the entry at the place ties, or nothing does
+  -- the entry at the index has the key, or no entry does
   abbrev IsFound : List (K × X) → Result ℕ ℕ → Type 0
   IsFound es r = MatchResult r (λ i. (x : K × X) → x ≡ get_or es i x → find cmp key es ≡ Some x.1) (λ i. find cmp key es ≡ None)
 
@@ -46,7 +46,7 @@ module _ {K X : Type 0} (cmp : K → K → Ordering) (key : K) where
   later_found e es p (Ok i) h = λ x is. not_first e es p ∙ h x is
   later_found e es p (Err i) h = not_first e es p ∙ h
 
-  -- what `put` does at the place
+  -- what `put` does at the index
   abbrev IsPut : X → List (K × X) → Result ℕ ℕ → Type 0
   IsPut v es r = MatchResult r (λ i. (x : K × X) → x ≡ get_or es i x → put cmp key v es ≡ set es i (x.0, v)) (λ i. put cmp key v es ≡ insert es i (key, v))
 

@@ -1,4 +1,4 @@
--- What an entry that is put in adds.
+-- How many entries a put adds.
 use Rattle.std.proofs.Common.{◌≡◌, ◌+◌, ◌≤◌, List, [], ◌∷◌, length, Ordering, Less, Equal, Greater, ap, arith, ◌∙◌}
 use Rattle.std.specs.Cmp.{IsTotalOrder}
 use Rattle.std.specs.FinMap.{put}

@@ -47,7 +47,7 @@ module _ {K X : Type 0} (cmp : K → K → Ordering) where
       unchanged None = refl
       unchanged (Some a) = refl
 
-      -- an entry joined in: v means the join of what is there and the content
+      -- an entry joined in: v means the join of the content present and the one given
       pub contents_at-put : (key : K) (v content : X) (es : List (K × X)) → Some (meaning v) ≡ optional_joined joined (option_map meaning (find cmp key es)) (Some (meaning content)) → contents_at cmp meaning (put cmp key v es) ≡ key_by_key joined (contents_at cmp meaning es) (contents_at cmp meaning ((key, content) ∷ []))
       contents_at-put key v content es means i q = at i where
         at : option_map meaning (find cmp q (put cmp key v es)) ≡ optional_joined joined (option_map meaning (find cmp q es)) (option_map meaning (cond (eq_by_cmp cmp q key) (Some content) None))
@@ -57,7 +57,7 @@ module _ {K X : Type 0} (cmp : K → K → Ordering) where
               | false ↦ λ p. unchanged (option_map meaning (find cmp q es))
             ] refl
 
-      -- an entry that joins to what is there already
+      -- an entry that changes nothing when joined
       pub contents_at-same : (key : K) (content : X) (es : List (K × X)) → optional_joined joined (option_map meaning (find cmp key es)) (Some (meaning content)) ≡ option_map meaning (find cmp key es) → contents_at cmp meaning es ≡ key_by_key joined (contents_at cmp meaning es) (contents_at cmp meaning ((key, content) ∷ []))
       contents_at-same key content es same i q = at i where
         at : option_map meaning (find cmp q es) ≡ optional_joined joined (option_map meaning (find cmp q es)) (option_map meaning (cond (eq_by_cmp cmp q key) (Some content) None))

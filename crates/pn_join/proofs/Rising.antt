@@ -23,7 +23,7 @@ less Less p = refl
 less Equal p = cc
 less Greater p = cc
 
--- the two keys the other way round
+-- the two keys exchanged
 pub flipped : {K : Type 0} {cmp : K → K → Ordering} → IsTotalOrder cmp → (x y : K) {r : Ordering} → cmp x y ≡ r → cmp y x ≡ ordering_reverse r
 flipped o x y p = o.antisymm y x ∙ ap ordering_reverse p
 
@@ -81,7 +81,7 @@ module _ {K X : Type 0} (cmp : K → K → Ordering) where
   AllBelow-from_Rising [] ys h = tt
   AllBelow-from_Rising (x ∷ xs) ys h = (Below-back x.0 xs ys h.0, AllBelow-from_Rising xs ys h.1)
 
-  -- an entry leaves from between
+  -- an entry removed from the middle
   pub Rising-without : (xs : List (K × X)) (e : K × X) (ys : List (K × X)) → Rising (xs ++ e ∷ ys) → Rising (xs ++ ys)
   Rising-without [] e ys h = h.1
   Rising-without (x ∷ xs) e ys h =

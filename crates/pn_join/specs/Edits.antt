@@ -1,4 +1,4 @@
--- What comes to keys of leaves, and what it makes of the leaves.
+-- Edits: contents put into leaves, and the leaves afterwards.
 use Rattle.std.specs.Prelude.{◌≡◌, ℕ, zero, suc, ◌<◌, ◌≤◌, List, [], ◌∷◌, Option, None, Some, map, get_or, set, length, vec_capacity}
 use Rattle.std.specs.declared.cmp.Ordering.{Ordering}
 use Rattle.std.specs.List.{AllByRecursion, fold}
@@ -9,11 +9,11 @@ use Rattle.pn_join.specs.declared.table.leaf.Leaf.{Leaf}
 use Rattle.pn_join.specs.declared.table.leaf.Leaf.TheVariants.{Own, Shared}
 use Rattle.pn_join.specs.Leaves.{leaf_for, max_leaf_entries}
 
--- the leaves once a value is put at its key in its leaf
+-- the leaves after a value is put at its key in its leaf
 abbrev pub put_at : {K C : Type 0} → (K → K → Ordering) → List (List (K × C)) → Edit K C → List (List (K × C))
 put_at cmp leaves edit = set leaves edit.leaf (put cmp edit.change.key edit.change.after (get_or leaves edit.leaf []))
 
--- the leaves once all values are put
+-- the leaves after all values are put
 abbrev pub put_all : {K C : Type 0} → (K → K → Ordering) → List (List (K × C)) → List (Edit K C) → List (List (K × C))
 put_all cmp leaves edits = fold (put_at cmp) leaves edits
 
@@ -21,36 +21,36 @@ put_all cmp leaves edits = fold (put_at cmp) leaves edits
 abbrev pub AreFew : {A : Type 0} → List (List A) → Type 0
 AreFew leaves = AllByRecursion (λ leaf. length leaf ≤ max_leaf_entries) leaves
 
--- nobody shares the leaf, and there is room for as many entries as it may have
+-- the leaf is not shared, and has room for 64 entries
 abbrev pub IsReady : {K C : Type 0} → Leaf K C → Type 0
 IsReady (Own entries) = max_leaf_entries ≤ vec_capacity entries
 IsReady (Shared entries) = ⊥
 
--- there is such a leaf at the place
+-- the leaf at the index is ready
 abbrev pub IsReadyAt : {K C : Type 0} → List (Leaf K C) → ℕ → Type 0
 IsReadyAt [] i = ⊥
 IsReadyAt (leaf ∷ leaves) zero = IsReady leaf
 IsReadyAt (leaf ∷ leaves) (suc i) = IsReadyAt leaves i
 
--- what the edits change
+-- the changes of the edits
 abbrev pub changes_in : {K C : Type 0} → List (Edit K C) → List (TableChange K C)
 changes_in edits = map (λ edit. edit.change) edits
 
--- each edit stands beside its key's leaf
+-- each edit has the index of its key's leaf
 abbrev pub AreAimed : {K C : Type 0} → (K → K → Ordering) → List (List (K × C)) → List (Edit K C) → Type 0
 AreAimed cmp leaves edits = AllByRecursion (λ edit. edit.leaf ≡ leaf_for cmp edit.change.key leaves) edits
 
--- the edit, if there is one, stands beside its key's leaf
+-- the edit, if there is one, has the index of its key's leaf
 abbrev pub IsAimed : {K C : Type 0} → (K → K → Ordering) → List (List (K × C)) → Option (Edit K C) → Type 0
 IsAimed cmp leaves None = Unit {0}
 IsAimed cmp leaves (Some edit) = edit.leaf ≡ leaf_for cmp edit.change.key leaves
 
--- the edits stand in the order of their leaves, none of which comes before this one
+-- the edits are in leaf order, none before this leaf
 abbrev pub GoUp : {K C : Type 0} → ℕ → List (Edit K C) → Type 0
 GoUp leaf [] = Unit {0}
 GoUp leaf (edit ∷ edits) = (leaf ≤ edit.leaf) × GoUp edit.leaf edits
 
--- the edits go up the leaves, each of which has room for what comes to it
+-- the edits are in leaf order, and each leaf has room for its edits
 pub record HaveRoom {K C : Type 0} (cmp : K → K → Ordering) (leaves : List (List (K × C))) (edits : List (Edit K C)) : Type 0 where
   pub within : AllByRecursion (λ edit. edit.leaf < length leaves) edits
   pub sizes : AreFew (put_all cmp leaves edits)

@@ -1,4 +1,4 @@
--- What every join keeps, whatever it joins.
+-- The laws of joining.
 use Rattle.std.specs.Prelude.{◌≡◌}
 
 -- joining is commutative, associative and idempotent

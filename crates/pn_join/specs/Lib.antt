@@ -1,3 +1,4 @@
+pub mod EditPuts
 pub mod Edits
 pub mod Laws
 pub mod LeafEntries
@@ -7,6 +8,6 @@ pub mod Naming
 pub mod Places
 pub mod Proofs
 pub mod PutInLeaves
-pub mod RowChanges
+pub mod LeafListChanges
 pub mod TableChanges
 pub mod Tables

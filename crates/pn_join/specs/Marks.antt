@@ -1,4 +1,4 @@
--- Marks: positions of streams by their names, where an absent name counts as 0.
+-- Marks: positions of streams by name. An absent name counts as 0.
 use Rattle.std.specs.Prelude.{ℕ, ◌≤◌, ◌^◌, max, Bool, ◌&&◌, nat_lt, nat_le, List, [], ◌∷◌, Option, unwrap_or}
 use Rattle.std.specs.declared.cmp.Ordering.{Ordering}
 use Rattle.std.specs.Ordering.{nat_cmp}
@@ -14,7 +14,7 @@ Positions = List (List ℕ × ℕ)
 abbrev pub name_cmp : List ℕ → List ℕ → Ordering
 name_cmp = slice_cmp nat_cmp
 
--- the position of a name, 0 where it is absent
+-- the position of a name, 0 if it is absent
 abbrev pub position_of : Positions → List ℕ → ℕ
 position_of marks name = unwrap_or (find name_cmp name marks) 0
 
@@ -26,11 +26,11 @@ Reaches marks need = (name : List ℕ) → position_of need name ≤ position_of
 abbrev pub falls_short : Positions → List ℕ × ℕ → Bool
 falls_short marks wanted = nat_lt (position_of marks wanted.0) wanted.1
 
--- the place in the need of the first name at which the marks fall short
+-- the index in the need of the first name at which the marks fall short
 abbrev pub shortfall : Positions → Positions → Option ℕ
 shortfall marks need = position (falls_short marks) need
 
--- both together: at each name of either the greater position
+-- at each name of either the greater position
 abbrev pub raised : Positions → Positions → Positions
 raised marks [] = marks
 raised marks (other ∷ others) = put name_cmp other.0 (max (position_of marks other.0) other.1) (raised marks others)
@@ -39,10 +39,10 @@ raised marks (other ∷ others) = put name_cmp other.0 (max (position_of marks o
 abbrev pub last_position : ℕ
 last_position = 10 ^ 15
 
--- a position of a message: 1 to the last that a stream can have
+-- a position of a message: from 1 to the last position
 abbrev pub is_position : ℕ → Bool
 is_position n = nat_le 1 n && nat_le n last_position
 
--- each is the position of a message
+-- each position is that of a message
 abbrev pub are_positions : Positions → Bool
 are_positions marks = list_all (λ mark. is_position mark.1) marks

@@ -6,10 +6,10 @@ use Rattle.std.specs.List.{list_all}
 abbrev pub is_name_byte : ℕ → Bool
 is_name_byte b = (nat_le 97 b && nat_le b 122) || (nat_le 48 b && nat_le b 57) || b == 45
 
--- how many bytes a name may have
+-- the most bytes of a name
 abbrev pub max_name_bytes : ℕ
 max_name_bytes = 32
 
--- at least one such byte, and at most as many as a name may have
+-- 1 to 32 such bytes
 abbrev pub is_name : List ℕ → Bool
 is_name bytes = nat_le 1 (length bytes) && nat_le (length bytes) max_name_bytes && list_all is_name_byte bytes

@@ -1,4 +1,4 @@
--- A table as the list of its entries, and what it has at each key.
+-- A table as the list of its entries, and its content at each key.
 use Rattle.std.specs.Prelude.{List, Option, Some, None, option_map, IsTrue}
 use Rattle.std.specs.declared.cmp.Ordering.{Ordering}
 use Rattle.std.specs.List.{AllByRecursion}
@@ -9,11 +9,11 @@ pub record IsTable {K C : Type 0} (cmp : K → K → Ordering) (valid : C → Ty
   pub rising : IsTrue (is_sorted cmp entries)
   pub contents : AllByRecursion (λ entry. valid entry.1) entries
 
--- what the entries have at a key, by what their contents mean
+-- what the content at a key means
 abbrev pub contents_at : {K C M : Type 0} → (K → K → Ordering) → (C → M) → List (K × C) → K → Option M
 contents_at cmp meaning entries key = option_map meaning (find cmp key entries)
 
--- the join of two contents, where there may be none
+-- the join of two optional contents
 abbrev pub optional_joined : {M : Type 0} → (M → M → M) → Option M → Option M → Option M
 optional_joined joined None b = b
 optional_joined joined (Some a) None = Some a

@@ -1,22 +1,22 @@
-//! Values that copy themselves, and values that join with their equals.
+//! Values that can be copied, and values that join with others of their type.
 
 ghost use Rattle.std.specs.Prelude.{◌≡◌, unwrap_or, IfOk, OnOk, OnErr};
 ghost use Rattle.pn_join.specs.Laws.{JoinLaws};
 
 use crate::NoMemory;
 
-/// A value that can be copied where there is memory.
+/// A value that can be copied if there is memory.
 pub trait Dup: Sized + Drop {
     /// An equal value.
     fn dup(&self) -> Result<Self, NoMemory>
         ensures { IfOk result (λ copy. copy ≡ self.now) };
 
-    /// Reads what a copy will count up, so that it is near when many are copied one after another.
+    /// Brings what a copy will need into the cache, before many are copied.
     fn prefetch(&self) {}
 }
 
-/// A value that joins with others of its kind. The order in which values are joined, and how often
-/// each is, makes no difference to what the join means.
+/// A value that joins with others of its type. Joining is commutative, associative and idempotent in what the
+/// values mean.
 pub trait Join: Dup {
     /// What a value means.
     ghost Meaning: { Type 0 };
@@ -26,7 +26,7 @@ pub trait Join: Dup {
     /// What the join of two values means.
     ghost joined: { Meaning → Meaning → Meaning };
 
-    /// What holds of every value of the type, though its value in a contract does not show it.
+    /// What holds of every value of the type but is not seen in a contract.
     ghost valid: { Self → Type 0 } = { λ _. Unit {0} };
 
     /// Becomes the join of itself and the other. An error leaves it as it was.
@@ -35,7 +35,7 @@ pub trait Join: Dup {
         ensures err { OnErr result (self.new ≡ self.old) }
         ensures are_valid { valid self.old × valid other.now × valid self.new };
 
-    /// The join of itself and the other. None says that it means what this value means already.
+    /// The join of both, or `None` if this value already means the same.
     fn changed_by(&self, other: &Self) -> Result<Option<Self>, NoMemory>
         ensures joined { IfOk result (λ value. meaning (unwrap_or value self.now) ≡ joined (meaning self.now) (meaning other.now)) }
         ensures are_valid { IfOk result (λ value. valid self.now × valid other.now × valid (unwrap_or value self.now)) }

@@ -1,4 +1,4 @@
-//! Marks: how far streams were taken, by their names.
+//! Marks: the last position taken of each stream, by the stream's name.
 
 ghost use Rattle.std.specs.Prelude.{◌≡◌, ℕ, max, ◌∷◌, [], IsTrue, ◌↔◌, IfOk, IsOk, OnOk, OnErr};
 ghost use Rattle.std.specs.List.{list_any};
@@ -6,7 +6,10 @@ ghost use Rattle.std.specs.FinMap.{is_sorted};
 ghost use Rattle.std.proofs.Common.{arith};
 ghost use Rattle.pn_join.specs.Marks.{name_cmp, position_of, Reaches, falls_short, shortfall, raised};
 
-use crate::{Dup, Join, NoMemory, StreamName, Table};
+mod name;
+
+use crate::{Dup, Join, NoMemory, Table};
+pub use name::{BadName, MAX_NAME_BYTES, Name, StreamName};
 use std::marker::Model;
 
 /// The last position that a stream can have.
@@ -27,7 +30,7 @@ impl Model for Highest {
 }
 
 impl Dup for Highest {
-    /// Always succeeds, and takes no memory.
+    /// Always succeeds.
     fn dup(&self) -> Result<Highest, NoMemory>
         ensures equal { IfOk result (λ copy. copy ≡ self.now) }
         ensures always { IsOk result }
@@ -49,7 +52,7 @@ impl Join for Highest {
       repeats = λ a. Prim.omega arith;
     } };
 
-    /// Becomes the greater of the two. It always succeeds, and takes no memory.
+    /// Becomes the greater of the two. It always succeeds.
     fn join_from(&mut self, other: &Highest) -> Result<(), NoMemory>
         ensures ok { OnOk result (self.new ≡ max self.old other.now) }
         ensures err { OnErr result (self.new ≡ self.old) }
@@ -60,19 +63,18 @@ impl Join for Highest {
     }
 }
 
-/// How far each stream was taken: its name and its last position. A name that is absent counts as 0.
+/// The last position taken of each stream. An absent name counts as 0.
 pub type Marks = Table<StreamName, Highest>;
 
 impl Table<StreamName, Highest> {
-    /// Whether no position of the need is greater. It takes no memory.
+    /// Whether no position of `need` is greater.
     pub fn reaches(&self, need: &Marks) -> bool
         ensures { IsTrue result ↔ Reaches self.now need.now }
     {
         !self.falls_short_of(need)
     }
 
-    /// The place in the need of the first name, in byte order, at which these marks have a lesser position.
-    /// It takes no memory.
+    /// The index in `need` of the first name, in byte order, at which these marks have a lesser position.
     pub fn shortfall(&self, need: &Marks) -> Option<usize>
         ensures { result ≡ shortfall self.now need.now }
     {
@@ -99,7 +101,7 @@ impl Table<StreamName, Highest> {
         false
     }
 
-    /// The position at a name, 0 where it is absent. It takes no memory.
+    /// The position at a name, 0 if it is absent.
     pub fn position(&self, name: &StreamName) -> u64
         ensures { result ≡ position_of self.now name.now }
     {
@@ -110,8 +112,7 @@ impl Table<StreamName, Highest> {
     }
 }
 
-/// Raises marks by others: at each name of either they have the greater position then. An error leaves
-/// them as they were.
+/// Raises the marks to the greater position at each name of either. An error leaves them as they were.
 pub fn raise(marks: &mut Marks, others: &Marks) -> Result<(), NoMemory>
     ensures ok { OnOk result (marks.new ≡ raised marks.old others.now) }
     ensures err { OnErr result (marks.new ≡ marks.old) }
@@ -125,7 +126,7 @@ pub fn raise_at(marks: &mut Marks, name: StreamName, position: u64) -> Result<()
     ensures ok { OnOk result (marks.new ≡ raised marks.old ((name, position) ∷ [])) }
     ensures err { OnErr result (marks.new ≡ marks.old) }
 {
-    // Only a table that has been looked into is known to be one.
+    // A call on the table tells the checker that its keys rise.
     let _ = marks.len();
     marks.join_entry(name, Highest(position))
 }

@@ -1,8 +1,8 @@
-//! Out of memory, as every layer names it.
+//! Out of memory, the error of every layer.
 
 use std::alloc::{AllocError, AllocFailed};
 
-/// There was no memory left for what was to be made or to grow.
+/// Out of memory.
 #[derive(Clone, Copy, Debug, PartialEq, Eq)]
 pub struct NoMemory;
 

@@ -11,26 +11,26 @@ ghost use Rattle.pn_join.specs.TableChanges.{AreChanges};
 
 mod change;
 mod edit;
-mod ends;
 mod entries;
+mod entry_counts;
 mod leaf;
-mod row;
-mod single;
+mod leaf_join;
+mod leaf_list;
 
 use crate::{Dup, Join, NoMemory};
 pub use change::TableChange;
-use edit::changes_of;
+use edit::take_changes;
 pub use entries::Entries;
-use row::Row;
+use leaf_list::LeafList;
 use std::alloc::Global;
 use std::marker::Model;
 
 /// A finite map whose keys are kept in rising order, each once.
 ///
-/// Its entries stand in leaves, one after another. No leaf is empty, and none has more than 64.
+/// The entries are held in leaves of 1 to 64 entries each.
 #[derive(Drop)]
 pub struct Table<K: Ord + Dup, C: Join> {
-    row: Row<K, C>,
+    leaf_list: LeafList<K, C>,
 }
 
 impl<K: Ord + Dup, C: Join> Model for Table<K, C> {
@@ -39,16 +39,16 @@ impl<K: Ord + Dup, C: Join> Model for Table<K, C> {
 
     ghost Value = { List (K × C) };
 
-    ghost view = { λ table. all_entries table.row };
+    ghost view = { λ table. all_entries table.leaf_list };
 }
 
 impl<K: Ord + Dup, C: Join> Table<K, C> {
-    /// An empty table, whose later growth is taken from the allocator. It takes no memory.
+    /// An empty table that grows with this allocator.
     pub fn new(alloc: Global) -> Self
         ensures { result ≡ [] }
     {
         Table {
-            row: Row::new(alloc),
+            leaf_list: LeafList::new(alloc),
         }
     }
 
@@ -57,68 +57,68 @@ impl<K: Ord + Dup, C: Join> Table<K, C> {
         ensures count { result ≡ length self.now }
         ensures rising { IsTrue (is_sorted K.cmp self.now) }
     {
-        self.row.len()
+        self.leaf_list.len()
     }
 
-    /// The content at a key, if the key is there. It takes no memory.
+    /// The content at a key, if the key is present.
     pub fn get(&self, key: &K) -> Option<&C>
         ensures found { option_copied result ≡ find K.cmp key.now self.now }
         ensures is_valid { IfSome result (λ content. C.valid content.now) }
     {
-        self.row.get(key)
+        self.leaf_list.get(key)
     }
 
-    /// The entry at a place in the order of the keys, the first at 0. None past the end.
+    /// The entry at an index in key order. `None` past the end.
     pub fn entry_at(&self, place: usize) -> Option<(&K, &C)>
         ensures entry { option_map (λ e. (e.0.now, e.1.now)) result ≡ slice_get self.now place }
         ensures is_valid { IfSome result (λ e. C.valid e.1.now) }
     {
-        let (key, content) = self.row.entry_at(place)?;
+        let (key, content) = self.leaf_list.entry_at(place)?;
         Some((key, content))
     }
 
-    /// The entries of a leaf, the first at 0. None past the last. It takes no memory.
+    /// The entries of the leaf at an index. `None` past the last leaf.
     ///
     /// The leaves in order are the table's entries.
     pub fn leaf(&self, place: usize) -> Option<&[(K, C)]>
         ensures { (leaves : List (List (K × C))) × AreLeavesOf self.now leaves
             × (option_map (λ leaf. leaf.now) result ≡ slice_get leaves place) }
     {
-        self.row.leaf(place)
+        self.leaf_list.leaf(place)
     }
 
-    /// Walks all entries in key order, each as its key and content. It takes no memory.
+    /// All entries in key order, as keys and contents.
     pub fn iter(&self) -> Entries<'_, K, C>
         ensures all { result ≡ self.now }
         ensures table { IsTable K.cmp C.valid self.now }
     {
-        self.row.iter()
+        self.leaf_list.iter()
     }
 
-    /// Walks the entries from a place on, in key order. It takes no memory.
+    /// The entries from an index on, in key order.
     pub fn iter_from(&self, place: usize) -> Entries<'_, K, C>
         ensures rest { result ≡ drop place self.now }
         ensures table { IsTable K.cmp C.valid self.now }
     {
-        self.row.iter_from(place)
+        self.leaf_list.iter_from(place)
     }
 
-    /// How many keys are less than this one: the place of the first that is not.
+    /// How many keys are less than this one.
     pub fn lower_bound(&self, key: &K) -> usize
         ensures { result ≡ count_by (λ e. is_lt (K.cmp e.0 key.now)) self.now }
     {
-        match self.row.place_of(key) {
+        match self.leaf_list.place_of(key) {
             Ok(place) => place,
             Err(place) => place,
         }
     }
 
-    /// Joins a content into what is at the key. Where a key that ties is there, that key stays.
-    /// An error leaves the table as it was.
+    /// Joins a content into that at the key. An equal key that is present stays. An error leaves the table
+    /// as it was.
     ///
-    /// One leaf is changed, cut in two, or the first, and all others stay as they were.
+    /// At most one leaf is changed, split or added; all others stay as they were.
     ///
-    /// Every content that code can make is valid; its value in a contract does not show it.
+    /// Every content that code can make is `valid`.
     pub fn join_entry(&mut self, key: K, content: C) -> Result<(), NoMemory>
         requires { C.valid content }
         ensures ok { OnOk result (contents_at K.cmp C.meaning self.new
@@ -131,13 +131,13 @@ impl<K: Ord + Dup, C: Join> Table<K, C> {
         ensures leaves { OnOk result ((before after : List (List (K × C)))
             × AreLeavesOf self.old before × AreLeavesOf self.new after × ChangesOneLeaf before after) }
     {
-        self.row.join_entry(key, content)
+        self.leaf_list.join_entry(key, content)
     }
 
-    /// Joins the other in, and tells what that changes: each key of the other whose content means
-    /// something else then, in key order. An error leaves the table as it was.
+    /// Joins the other table into this one. Returns each key whose content now means something else, in key
+    /// order. An error leaves the table as it was.
     ///
-    /// A content that tells nothing of its changes is told also where it means the same.
+    /// If the content type has no `changed_by` of its own, every key of the other table is returned.
     pub fn join_and_tell(&mut self, other: &Self) -> Result<Vec<TableChange<K, C>>, NoMemory>
         ensures ok { OnOk result (contents_at K.cmp C.meaning self.new
             ≡ key_by_key C.joined (contents_at K.cmp C.meaning self.old) (contents_at K.cmp C.meaning other.now)) }
@@ -147,9 +147,9 @@ impl<K: Ord + Dup, C: Join> Table<K, C> {
     {
         self.is_table();
         other.is_table();
-        let edits = self.row.edits_from(&other.row)?;
-        let changes = changes_of(self.row.alloc(), &edits)?;
-        if self.row.put(edits)? {
+        let mut edits = self.leaf_list.edits_from(&other.leaf_list)?;
+        let changes = take_changes(self.leaf_list.alloc(), &mut edits)?;
+        if self.leaf_list.put(edits)? {
             return Ok(changes);
         }
         *self = self.joined_with(other)?;
@@ -160,7 +160,7 @@ impl<K: Ord + Dup, C: Join> Table<K, C> {
 impl<K: Ord + Dup, C: Join> Dup for Table<K, C> {
     fn dup(&self) -> Result<Self, NoMemory> {
         Ok(Table {
-            row: self.row.share()?,
+            leaf_list: self.leaf_list.share()?,
         })
     }
 }
@@ -183,8 +183,8 @@ impl<K: Ord + Dup, C: Join> Join for Table<K, C> {
     fn join_from(&mut self, other: &Self) -> Result<(), NoMemory> {
         self.is_table();
         other.is_table();
-        let edits = self.row.edits_from(&other.row)?;
-        if !self.row.put(edits)? {
+        let edits = self.leaf_list.edits_from(&other.leaf_list)?;
+        if !self.leaf_list.put(edits)? {
             *self = self.joined_with(other)?;
         }
         Ok(())
@@ -192,14 +192,14 @@ impl<K: Ord + Dup, C: Join> Join for Table<K, C> {
 }
 
 impl<K: Ord + Dup, C: Join> Table<K, C> {
-    /// Only a table that has been looked into is known to be one.
+    /// Tells the checker that the entries are a table.
     fn is_table(&self)
         ensures { IsTable K.cmp C.valid self.now }
     {
-        self.row.count();
+        self.leaf_list.count();
     }
 
-    /// The join of both. It shares the leaves into which no key of the other falls.
+    /// The join of both. Leaves that get no key of the other are shared.
     fn joined_with(&self, other: &Self) -> Result<Self, NoMemory>
         ensures { IfOk result (λ joined. (contents_at K.cmp C.meaning joined
             ≡ key_by_key C.joined (contents_at K.cmp C.meaning self.now)

@@ -1,4 +1,4 @@
--- Members in the order of their names are told by what is found at each name.
+-- Members in name order are determined by what is found at each name.
 use Rattle.std.proofs.Common.{◌≡◌, ℕ, List, [], ◌∷◌, T, Bool, true, false, ◌&&◌, cond, Option, Some, None, Ordering, Less, Equal, Greater, nat_cmp, is_eq, bytes_eq, string_bytes, string_cmp, String, Global, refl, sym, ap, ◌∙◌, subst}
 use Rattle.std.proofs.lemmas.Bool.{and_parts, false≢true}
 use Rattle.std.proofs.lemmas.Cmp.{nat_list_cmp_total}

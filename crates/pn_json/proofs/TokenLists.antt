@@ -38,11 +38,11 @@ items_by_items : (ds : List Data) → items_tokens (items_outline (items_of ds))
 items_by_items [] = refl
 items_by_items (d ∷ ds) = ap (λ l. value_tokens d ++ l) (items_by_items ds) ∙ sym (append_assoc (value_tokens d) _ _)
 
--- what stands between brackets is an array
+-- tokens between brackets are an array
 pub whole_array : {a b c d : Written} (ds : List Data) → Appends a b (begin_array ∷ []) → Appends b c (values_tokens ds) → Appends c d (end_array ∷ []) → Appends a d (value_tokens (array (items_of ds)))
 whole_array ds first inside last = appends_as (ap (λ l. begin_array ∷ l) (sym (items_by_items ds))) (appends_both (appends_both first inside) last)
 
--- the tokens of members that stand for a list
+-- the tokens of members made from a list
 abbrev pub each_member : {X : Type 0} → (X → List ℕ) → (X → Data) → List X → List Token
 each_member name value xs = flat_map (λ x. member_tokens (name x) (value x)) xs
 
@@ -53,7 +53,7 @@ module _ {X : Type 0} (name : X → List ℕ) (value : X → Data) (all : List X
       ap (λ ms. members_tokens (members_outline ms)) (more x xs)
       ∙ ap (λ l. member_tokens (name x) (value x) ++ l) (members_by_members xs) ∙ sym (append_assoc (member_tokens (name x) (value x)) (each_member name value xs) (end_object ∷ []))
 
-  -- what stands between braces is an object
+  -- tokens between braces are an object
   pub whole_object : {a b c d : Written} (xs : List X) → Appends a b (begin_object ∷ []) → Appends b c (each_member name value xs) → Appends c d (end_object ∷ []) → Appends a d (value_tokens (object (all xs)))
   whole_object xs first inside last = appends_as (ap (λ l. begin_object ∷ l) (sym (members_by_members xs))) (appends_both (appends_both first inside) last)
 

@@ -1,7 +1,7 @@
--- Checks one after another, where the first fault decides, and answers compared with the right ones.
+-- Chains of checks in which the first fault decides, and results compared with the right ones.
 use Rattle.std.specs.Prelude.{◌≡◌, ◌≢◌, Result, Ok, Err}
 
--- what the second gives on the value of the first, or the first's fault
+-- the result of the second on the value of the first, or the first's fault
 infixl 10 ◌>>=◌
 abbrev pub ◌>>=◌ : {A B F : Type 0} → Result A F → (A → Result B F) → Result B F
 (Ok value) >>= next = next value
@@ -12,16 +12,16 @@ abbrev pub fault_as : {A F G : Type 0} → (F → G) → Result A F → Result A
 fault_as name (Ok value) = Ok value
 fault_as name (Err fault) = Err (name fault)
 
--- the answer, as it shows, is the right one
+-- the result, as a contract shows it, is the right one
 abbrev pub Shows : {A B F : Type 0} → (A → B) → Result A F → Result B F → Type 0
 Shows show (Ok value) right = right ≡ Ok (show value)
 Shows show (Err fault) right = right ≡ Err fault
 
--- the answer, as it shows, is the right one, unless it is this fault, which says that memory ran out
+-- the result, as a contract shows it, is the right one, unless it is this fault, which means out of memory
 abbrev pub ShowsUnless : {A B F : Type 0} → F → (A → B) → Result A F → Result B F → Type 0
 ShowsUnless memory show (Ok value) right = right ≡ Ok (show value)
 ShowsUnless memory show (Err fault) right = fault ≢ memory → right ≡ Err fault
 
--- the answer is the right one, unless it is this fault, which says that memory ran out
+-- the result is the right one, unless it is this fault, which means out of memory
 abbrev pub IsUnless : {A F : Type 0} → F → Result A F → Result A F → Type 0
 IsUnless memory answer right = ShowsUnless memory (λ value. value) answer right

@@ -10,7 +10,7 @@ use Rattle.serde_json.specs.View.{view}
 use Rattle.serde_json.specs.declared.value.Value.{Value}
 use Rattle.pn_json.specs.Answers.{◌>>=◌}
 
--- the data of a borrowed value, where there is one
+-- the data of an optional borrowed value
 abbrev pub seen : Option (Bor Value) → Option Data
 seen value = option_map (λ v. view v.now) value
 
@@ -18,11 +18,11 @@ seen value = option_map (λ v. view v.now) value
 abbrev pub whole_number : Data → Option ℕ
 whole_number d = option_and_then as_u64 (as_number d)
 
--- what a value of a kind holds, or the fault where it is absent or of another kind
+-- the content of a value of a kind, or the fault if it is absent or of another kind
 abbrev pub member_as : {A F : Type 0} → (Data → Option A) → F → Option Data → Result A F
 member_as kind fault d = ok_or (option_and_then kind d) fault
 
--- what each item is read as, or the fault of the first that has one
+-- each item as read, or the fault of the first that has one
 abbrev pub each_in : {A F : Type 0} → (Data → Result A F) → Items → Result (List A) F
 each_in read no_items = Ok []
 each_in read (item d ds) = do
@@ -35,7 +35,7 @@ abbrev pub only_named : List (List ℕ) → Members → Bool
 only_named names no_members = true
 only_named names (member name d ms) = list_any (bytes_eq name) names && only_named names ms
 
--- the fault where a member has another name
+-- the fault if a member has another name
 abbrev pub no_others : {F : Type 0} → List (List ℕ) → F → Members → Result (Unit {0}) F
 no_others names fault ms = if only_named names ms then Ok tt else Err fault
 

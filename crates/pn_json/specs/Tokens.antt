@@ -11,7 +11,7 @@ use Rattle.serde_json.specs.Written.{outline}
 abbrev pub value_tokens : Data → List Token
 value_tokens value = json_tokens (outline value)
 
--- the tokens of values, one after another
+-- the tokens of several values
 abbrev pub values_tokens : List Data → List Token
 values_tokens values = flat_map value_tokens values
 
@@ -24,12 +24,12 @@ pub record IsBegun (line : Written) : Type 0 where
   pub before : line.before ≡ []
   pub tokens : line.tokens ≡ []
 
--- a value was written, and nothing else
+-- one value was written, and nothing else
 pub record HasValue (line : Written) (value : Data) : Type 0 where
   pub before : line.before ≡ []
   pub tokens : line.tokens ≡ value_tokens value
 
--- these tokens were written after what was there
+-- these tokens were added
 pub record Appends (old new : Written) (added : List Token) : Type 0 where
   pub before : new.before ≡ old.before
   pub tokens : new.tokens ≡ old.tokens ++ added

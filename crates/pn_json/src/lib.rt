@@ -1,4 +1,6 @@
 //! JSON: the members of parsed values by their kinds, and values written as lines.
+//!
+//! What returns no `NoMemory` allocates nothing.
 #![tactic(auto)]
 
 mod line;

@@ -1,4 +1,4 @@
-//! Values as lines: begun without a value, written token by token, and ended by a newline.
+//! Lines of JSON, written token by token and ended by a newline.
 
 ghost use Rattle.std.specs.Prelude.{◌≡◌, IfOk};
 ghost use Rattle.serde_json.specs.Data.{Data};
@@ -9,10 +9,10 @@ use json::Writer;
 use pn_join::NoMemory;
 use std::alloc::Global;
 
-/// The first size of a line, in bytes.
+/// The first capacity of a line, in bytes.
 const FIRST_SIZE: usize = 256;
 
-/// A line in which nothing is written yet.
+/// An empty line to write into.
 pub fn begin_line(alloc: Global) -> Result<Writer, NoMemory>
     ensures { IfOk result IsBegun }
 {

@@ -1,4 +1,4 @@
-//! Members of a parsed value, each by its kind. None of them takes memory.
+//! Members of a parsed value, each by its kind.
 
 ghost use Rattle.std.specs.Prelude.{◌≡◌};
 ghost use Rattle.serde_json.specs.Find.{as_str, as_array, as_object};
@@ -8,21 +8,21 @@ ghost use Rattle.pn_json.specs.Members.{seen, whole_number, member_as};
 
 use serde_json::{Map, Value};
 
-/// The text that the value is, or the fault where it is absent or of another kind.
+/// The text that the value is, or the fault if it is absent or of another kind.
 pub fn text_of<'v, F: Drop>(value: Option<&'v Value>, fault: F) -> Result<&'v str, F>
     ensures { Shows (λ text. text.now) result (member_as as_str fault (seen value.entry)) }
 {
     value.and_then(Value::as_str).ok_or(fault)
 }
 
-/// The whole number below 2^64 that the value is, or the fault.
+/// The whole number below 2^64 that the value is, or the fault otherwise.
 pub fn whole_number_of<F: Drop>(value: Option<&Value>, fault: F) -> Result<u64, F>
     ensures { result ≡ member_as whole_number fault (seen value.entry) }
 {
     value.and_then(Value::as_u64).ok_or(fault)
 }
 
-/// The items of the array that the value is, or the fault.
+/// The items of the array that the value is, or the fault otherwise.
 pub fn items_of<'v, F: Drop>(value: Option<&'v Value>, fault: F) -> Result<&'v [Value], F>
     ensures { Shows (λ items. items_view items.now) result (member_as as_array fault (seen value.entry)) }
 {
@@ -32,7 +32,7 @@ pub fn items_of<'v, F: Drop>(value: Option<&'v Value>, fault: F) -> Result<&'v [
     }
 }
 
-/// The members of the object that the value is, or the fault.
+/// The members of the object that the value is, or the fault otherwise.
 pub fn object_of<'v, F: Drop>(
     value: Option<&'v Value>,
     fault: F,

@@ -9,7 +9,7 @@ ghost use Rattle.pn_json.specs.Members.{texts, only_named, no_others};
 
 use serde_json::{Map, Value};
 
-/// Nothing where each member has one of the names, or the fault.
+/// Checks that each member has one of the names. Returns the fault otherwise.
 pub fn check_names<F: Drop>(members: &Map<String, Value>, names: &[&str], fault: F) -> Result<(), F>
     ensures named { result ≡ no_others (texts names.now) fault (members_view members.now.entries) }
     ensures ordered { IsOrdered string_cmp members.now }
@@ -21,7 +21,7 @@ pub fn check_names<F: Drop>(members: &Map<String, Value>, names: &[&str], fault:
     }
 }
 
-/// Whether each member has one of the names. Members in the order of the names are found at the first look.
+/// Whether each member has one of the names. It is fastest if members come in the order of the names.
 pub fn is_only_named(members: &Map<String, Value>, names: &[&str]) -> bool
     ensures named { result ≡ only_named (texts names.now) (members_view members.now.entries) }
     ensures ordered { IsOrdered string_cmp members.now }
@@ -36,7 +36,7 @@ pub fn is_only_named(members: &Map<String, Value>, names: &[&str]) -> bool
     true
 }
 
-/// A place of the name, which is looked for first where it is expected.
+/// An index of the name. The expected one is tried first.
 fn place_among(names: &[&str], name: &str, expected: usize) -> Option<usize>
     ensures { is_some result ≡ list_any (bytes_eq name.now) (texts names.now) }
 {

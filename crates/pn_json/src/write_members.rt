@@ -1,4 +1,4 @@
-//! Members of objects, written into a line.
+//! Writes members of objects into a line.
 
 ghost use Rattle.std.specs.Prelude.{OnOk};
 ghost use Rattle.serde_json.specs.Data.{null, string, number, unsigned};
@@ -7,7 +7,7 @@ ghost use Rattle.pn_json.specs.Tokens.{Appends, member_tokens};
 use json::Writer;
 use pn_join::NoMemory;
 
-/// A member whose value is a text.
+/// Writes a member whose value is a text.
 pub fn write_text_member(writer: &mut Writer, name: &str, text: &str) -> Result<(), NoMemory>
     ensures { OnOk result (Appends writer.old writer.new (member_tokens name.now (string text.now))) }
 {
@@ -16,7 +16,7 @@ pub fn write_text_member(writer: &mut Writer, name: &str, text: &str) -> Result<
     Ok(())
 }
 
-/// A member whose value is a whole number.
+/// Writes a member whose value is a whole number.
 pub fn write_number_member(writer: &mut Writer, name: &str, value: u64) -> Result<(), NoMemory>
     ensures { OnOk result (Appends writer.old writer.new (member_tokens name.now (number (unsigned value)))) }
 {
@@ -25,7 +25,7 @@ pub fn write_number_member(writer: &mut Writer, name: &str, value: u64) -> Resul
     Ok(())
 }
 
-/// A member whose value is null.
+/// Writes a member whose value is null.
 pub fn write_null_member(writer: &mut Writer, name: &str) -> Result<(), NoMemory>
     ensures { OnOk result (Appends writer.old writer.new (member_tokens name.now null)) }
 {

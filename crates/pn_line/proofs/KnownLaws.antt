@@ -1,4 +1,4 @@
--- What reading a line says of known bytes: the line, the text behind it, and the lines of it all.
+-- What reading a line says of known bytes: the line, the text after it, and the lines of it all.
 use Rattle.std.proofs.Common.{◌≡◌, ◌≢◌, ℕ, Option, None, Some, List, [], ◌∷◌, ◌++◌, refl, ap, ◌∙◌, append_assoc, append-nil, sym}
 use Rattle.std.proofs.lemmas.List.Elements.{All-append}
 use Rattle.std.specs.Io.KnownBytes.{Consumes, IsAtEnd}
@@ -8,13 +8,13 @@ use Rattle.pn_line.specs.Text.{lines_of, last_line}
 use Rattle.pn_line.proofs.LineLaws.{so_far-append}
 use Rattle.pn_line.proofs.TextLaws.{lines_of-nil, lines_of-line, lines_of-last}
 
--- of a line with this part and this text behind it: what was taken, and the text that is left
-pub record ReadsPart (part text : List ℕ) (new : LineBufferValue) (leaves : Option (List ℕ)) (behind : List ℕ) : Type 0 where
+-- of a line with this part and this text after it: what was taken, and the text that is left
+pub record ReadsPart (part text : List ℕ) (new : LineBufferValue) (leaves : Option (List ℕ)) (after : List ℕ) : Type 0 where
   pub taken : List ℕ
   pub rest : List ℕ
   pub unbroken : IsUnbroken (part ++ taken)
   pub line : new ≡ so_far (part ++ taken)
-  pub text_is : text ≡ taken ++ (behind ++ rest)
+  pub text_is : text ≡ taken ++ (after ++ rest)
   pub leaves_is : leaves ≡ Some rest
 
 -- known bytes that some bytes were taken of stay known
@@ -22,16 +22,16 @@ still_known : (xs bs : List ℕ) (leaves : Option (List ℕ)) → Consumes (Some
 still_known xs bs None consumed = absurd consumed
 still_known xs bs (Some ys) consumed = (ys, refl, consumed)
 
-pub ReadsPart-from_takes : (part text : List ℕ) {new : LineBufferValue} {leaves : Option (List ℕ)} {behind : List ℕ} → IsUnbroken part
-    → Takes (so_far part) new (Some text) leaves behind → ReadsPart part text new leaves behind
-ReadsPart-from_takes part text {behind = behind} unbroken takes =
+pub ReadsPart-from_takes : (part text : List ℕ) {new : LineBufferValue} {leaves : Option (List ℕ)} {after : List ℕ} → IsUnbroken part
+    → Takes (so_far part) new (Some text) leaves after → ReadsPart part text new leaves after
+ReadsPart-from_takes part text {after = after} unbroken takes =
     let (rest, leaves_is, text_is) = still_known text _ _ takes.source in
     record {
       taken = takes.taken;
       rest = rest;
       unbroken = All-append (λ b. b ≢ 10) part takes.taken unbroken takes.unbroken;
       line = takes.line ∙ so_far-append part takes.taken;
-      text_is = text_is ∙ append_assoc takes.taken behind rest;
+      text_is = text_is ∙ append_assoc takes.taken after rest;
       leaves_is = leaves_is;
     }
 

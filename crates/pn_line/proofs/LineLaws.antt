@@ -21,7 +21,7 @@ longer-filled line bs new m least filled =
 pub longer-nil : (line : LineBufferValue) → longer line [] ≡ line
 longer-nil line = same_line _ _ _ _ (ap (λ l. line.bytes ++ l) (take_all (max_kept - length line.bytes) [] (omega arith)) ∙ append-nil line.bytes) (omega arith)
 
--- the first bytes of two lists, one behind the other
+-- the first bytes of two lists, one after the other
 take-append_split : (n : ℕ) (a b : List ℕ) → take n (a ++ b) ≡ take n a ++ take (n - length a) b
 take-append_split zero a b = let none : zero - length a ≡ zero = omega arith in sym (ap (λ k. take k b) none)
 take-append_split (suc n) [] b = let all : suc n ≡ suc n - zero = omega arith in ap (λ k. take k b) all

@@ -14,8 +14,8 @@ pub LinesRead-none : (text : List ℕ) → LinesRead text (Some text) []
 LinesRead-none text = record { rest = text; unbroken = All-nil IsUnbroken; text_is = ap (λ l. l ++ text) (sym text_of-nil); left_is = refl }
 
 -- what reading the next line says of the bytes that are left
-next : {text : List ℕ} {left : Option (List ℕ)} {lines : List (List ℕ)} {line : LineBufferValue} {leaves : Option (List ℕ)} {behind : List ℕ}
-    → (read : LinesRead text left lines) → Takes (so_far []) line left leaves behind → ReadsPart [] read.rest line leaves behind
+next : {text : List ℕ} {left : Option (List ℕ)} {lines : List (List ℕ)} {line : LineBufferValue} {leaves : Option (List ℕ)} {after : List ℕ}
+    → (read : LinesRead text left lines) → Takes (so_far []) line left leaves after → ReadsPart [] read.rest line leaves after
 next read takes = ReadsPart-from_takes [] read.rest (All-nil (λ b. b ≢ 10)) (rw read.left_is at takes)
 
 -- one line more

@@ -11,19 +11,19 @@ use Rattle.pn_line.proofs.LineLaws.{longer-nil, longer-append}
 pub Takes-none : (line : LineBufferValue) (a : Option (List ℕ)) → Takes line line a a []
 Takes-none line a = record { taken = []; unbroken = All-nil (λ b. b ≢ 10); line = sym (longer-nil line); source = Consumes-nil a }
 
--- some bytes of the line, and then others with what is behind them
-pub Takes-trans : {l m n : LineBufferValue} {a b c : Option (List ℕ)} {behind : List ℕ} → Takes l m a b [] → Takes m n b c behind → Takes l n a c behind
-Takes-trans {l = l} {a = a} {b = b} {c = c} {behind = behind} first second =
+-- some bytes of the line, and then others with what is after them
+pub Takes-trans : {l m n : LineBufferValue} {a b c : Option (List ℕ)} {after : List ℕ} → Takes l m a b [] → Takes m n b c after → Takes l n a c after
+Takes-trans {l = l} {a = a} {b = b} {c = c} {after = after} first second =
     let P : List ℕ → Type 0 = Consumes a c in
     record {
       taken = first.taken ++ second.taken;
       unbroken = All-append (λ b. b ≢ 10) _ _ first.unbroken second.unbroken;
       line = second.line ∙ ap (λ line. longer line second.taken) first.line ∙ longer-append l first.taken second.taken;
-      source = subst P (ap (λ l. l ++ (second.taken ++ behind)) (append-nil first.taken) ∙ sym (append_assoc first.taken second.taken behind))
+      source = subst P (ap (λ l. l ++ (second.taken ++ after)) (append-nil first.taken) ∙ sym (append_assoc first.taken second.taken after))
           (Consumes-trans a b c _ _ first.source second.source);
     }
 
--- what holds of bytes that are told behind some others holds where those are told
+-- what holds of known bytes holds where both parts of them are known
 pub known_before : (P : Type 0) (first between : Option (List ℕ)) (bs : List ℕ) → Consumes first between bs → OnSome between P → OnSome first P
 known_before P None between bs consumed holds = tt
 known_before P (Some xs) None bs consumed holds = absurd consumed

@@ -1,12 +1,12 @@
 -- A source and a sink of which one call fails.
 use Rattle.std.specs.Prelude.{ℕ, List}
 
--- the bytes that are left, and which look from now on fails, the next being 1; none where it is 0
+-- the bytes left, and which look fails, counted from 1 for the next; 0 for none
 pub record FailingSourceValue : Type 0 where
   pub left : List ℕ
   pub fails_at : ℕ
 
--- the bytes that were taken, how many a write takes at most, and which call from now on fails
+-- the bytes taken, the most bytes of one write, and which call fails, counted from 1 for the next; 0 for none
 pub record FailingSinkValue : Type 0 where
   pub taken : List ℕ
   pub most : ℕ

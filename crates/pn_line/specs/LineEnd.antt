@@ -8,20 +8,20 @@ use Rattle.pn_line.specs.declared.reading.LineEnd.TheVariants.{Newline, EndOfInp
 use Rattle.pn_line.specs.declared.reading.BoundedEnd.{BoundedEnd}
 use Rattle.pn_line.specs.declared.reading.BoundedEnd.TheVariants as bounded
 
--- the newline that reading a line took behind it, if it did
-abbrev pub newline_behind : LineEnd → List ℕ
-newline_behind (Newline more) = 10 ∷ []
-newline_behind EndOfInput = []
-newline_behind Endless = []
+-- the newline that was taken after the line, if one was
+abbrev pub newline_taken : LineEnd → List ℕ
+newline_taken (Newline more) = 10 ∷ []
+newline_taken EndOfInput = []
+newline_taken Endless = []
 
--- where a further newline was shown behind the line, what is left has one
+-- if another newline was seen after the line, the bytes left contain one
 abbrev pub HasNext : LineEnd → Option (List ℕ) → Type 0
 HasNext (Newline more) left = HasShown more left
 HasNext EndOfInput left = Unit {0}
 HasNext Endless left = Unit {0}
 
--- the line was read to its newline, behind which a further one is left where it was shown, or to the end of the input, and is not too long; or it is, with or without its newline
+-- the line was read to its newline or to the end of the input and is short enough, or it is too long and reading stopped
 abbrev pub ReadsTo : BoundedEnd → LineBufferValue → LineBufferValue → Option (List ℕ) → Option (List ℕ) → Type 0
 ReadsTo (bounded.Newline more) old new left leaves = Takes old new left leaves (10 ∷ []) × (new.count ≤ max_line_bytes) × OnSome left (HasShown more leaves)
 ReadsTo bounded.EndOfInput old new left leaves = Takes old new left leaves [] × OnSome left (IsAtEnd leaves) × (new.count ≤ max_line_bytes)
-ReadsTo bounded.TooLong old new left leaves = ((behind : List ℕ) × Takes old new left leaves behind) × (max_line_bytes < new.count)
+ReadsTo bounded.TooLong old new left leaves = ((after : List ℕ) × Takes old new left leaves after) × (max_line_bytes < new.count)

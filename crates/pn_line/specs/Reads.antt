@@ -1,4 +1,4 @@
--- What reading takes of a source for a line, and the newline behind it.
+-- What reading a line takes from its source.
 use Rattle.std.specs.Prelude.{◌≡◌, ◌≢◌, ℕ, Bool, true, false, List, [], ◌∷◌, ◌++◌, Option, IfSome, All, Contains}
 use Rattle.std.specs.Io.KnownBytes.{Consumes}
 use Rattle.pn_line.specs.Line.{LineBufferValue, longer}
@@ -9,19 +9,19 @@ use Rattle.pn_line.specs.declared.piece.Piece.TheVariants.{Part, Ended, NoMore}
 abbrev pub IsUnbroken : List ℕ → Type 0
 IsUnbroken bs = All (λ b. b ≢ 10) bs
 
--- of these bytes the line got all but what is behind them, and none of its bytes is a newline
-pub record Splits (old new : LineBufferValue) (bs behind : List ℕ) : Type 0 where
+-- the bytes are what was appended to the line, without a newline, and what comes after it
+pub record Splits (old new : LineBufferValue) (bs after : List ℕ) : Type 0 where
   pub taken : List ℕ
   pub unbroken : IsUnbroken taken
   pub line : new ≡ longer old taken
-  pub whole : bs ≡ taken ++ behind
+  pub whole : bs ≡ taken ++ after
 
--- the source lost such bytes
-pub record Takes (old new : LineBufferValue) (left leaves : Option (List ℕ)) (behind : List ℕ) : Type 0 where
+-- the source lost the bytes appended to the line, without a newline, and those after them
+pub record Takes (old new : LineBufferValue) (left leaves : Option (List ℕ)) (after : List ℕ) : Type 0 where
   pub taken : List ℕ
   pub unbroken : IsUnbroken taken
   pub line : new ≡ longer old taken
-  pub source : Consumes left leaves (taken ++ behind)
+  pub source : Consumes left leaves (taken ++ after)
 
 -- the newline that a piece of a line ends with, if it does
 abbrev pub newline_after : Piece → List ℕ
@@ -29,13 +29,13 @@ newline_after Part = []
 newline_after (Ended more) = 10 ∷ []
 newline_after NoMore = []
 
--- where a further newline was shown, these bytes have one, if they are told
+-- if another newline was seen, the bytes left contain one, where they are known
 abbrev pub HasShown : Bool → Option (List ℕ) → Type 0
 HasShown true left = IfSome left (λ rest. Contains rest 10)
 HasShown false left = Unit {0}
 
--- so has what is left behind a piece of a line
-abbrev pub HasBehind : Piece → Option (List ℕ) → Type 0
-HasBehind Part left = Unit {0}
-HasBehind (Ended more) left = HasShown more left
-HasBehind NoMore left = Unit {0}
+-- if another newline was seen after a piece, the bytes left contain one, where they are known
+abbrev pub HasMore : Piece → Option (List ℕ) → Type 0
+HasMore Part left = Unit {0}
+HasMore (Ended more) left = HasShown more left
+HasMore NoMore left = Unit {0}

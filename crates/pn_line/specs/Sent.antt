@@ -1,15 +1,15 @@
--- What of some bytes went out to a writer, and what of them waits.
+-- Which bytes were written, and which wait.
 use Rattle.std.specs.Prelude.{◌≡◌, ℕ, List, ◌++◌, Option}
 use Rattle.std.specs.Io.KnownBytes.{Appends}
 
--- a prefix of these bytes went out, and the writer took no other byte
+-- a prefix of these bytes was written, and nothing else
 pub record AppendsPrefix (old new : Option (List ℕ)) (bs : List ℕ) : Type 0 where
   pub sent : List ℕ
   pub back : List ℕ
   pub appends : Appends old new sent
   pub whole : sent ++ back ≡ bs
 
--- of the bytes that waited and then these bytes a prefix went out, and the rest waits now
+-- a prefix of the bytes that waited and these was written, and the rest waits
 pub record Sends (old new : Option (List ℕ)) (waited waits bs : List ℕ) : Type 0 where
   pub sent : List ℕ
   pub appends : Appends old new sent

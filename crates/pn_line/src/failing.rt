@@ -1,8 +1,8 @@
-//! A source and a sink of which one call fails, for runs that are to break. Both tell their bytes, so that
-//! a contract says what a broken run read and wrote.
+//! A source and a sink of which one chosen call fails. A contract sees their bytes, so that it says what a
+//! failed run read and wrote.
 ghost use Rattle.std.specs.Prelude.{◌≡◌, ◌≢◌, ◌-◌, ◌<◌, ◌≤◌, ◌↔◌, [], true, false, Ok, Some, IfOk, IfSome, IsErr, OnErr, OnSome, length, max, min, take};
 ghost use Rattle.std.specs.Io.KnownBytes.{Appends, Keeps, IsAtEnd};
-ghost use Rattle.pn_line.specs.Reads.{Takes, newline_after, HasBehind};
+ghost use Rattle.pn_line.specs.Reads.{Takes, newline_after, HasMore};
 
 use crate::in_memory::InMemory;
 use crate::line_buffer::{ENDLESS, LineBuffer};
@@ -21,7 +21,7 @@ struct Countdown {
 }
 
 impl Countdown {
-    // Counts one call, which fails where the count stands at 1.
+    // Counts one call down. It fails where the count is 1.
     fn call(&mut self) -> io::Result<()>
         ensures fails { IsErr result ↔ (self.old.fails_at ≡ 1) }
         ensures counted { self.new.fails_at ≡ self.old.fails_at - 1 }
@@ -35,7 +35,7 @@ impl Countdown {
     }
 }
 
-/// Bytes in memory as a source of lines, of which one look fails. The looks behind that one go on.
+/// Bytes in memory as a source of lines, of which one look fails. Later looks succeed.
 #[derive(Debug, Drop)]
 pub struct FailingSource<'a> {
     bytes: InMemory<'a>,
@@ -51,8 +51,7 @@ impl<'a> Model for FailingSource<'a> {
 }
 
 impl<'a> FailingSource<'a> {
-    /// A source with all of these bytes left. Its look number `fails_at` fails, the first being 1, or none
-    /// where that is 0.
+    /// A source with all of these bytes left. Look number `fails_at` fails, counted from 1; 0 means none.
     pub fn new(bytes: &'a [u8], fails_at: usize) -> FailingSource<'a>
         ensures left { result.left ≡ bytes.now }
         ensures fails_at { result.fails_at ≡ fails_at }
@@ -69,7 +68,7 @@ impl Source for FailingSource<'_> {
 
     ghost may_fail = { Unit {0} };
 
-    /// Looks as any source does, and fails at the look that was chosen, and at no other.
+    /// Fails at the chosen look, and at no other.
     fn take_some(&mut self, line: &mut LineBuffer) -> io::Result<Piece>
         requires { line.old.count < ENDLESS }
         ensures takes { IfOk result
@@ -77,7 +76,7 @@ impl Source for FailingSource<'_> {
         ensures part { result ≡ Ok Piece.Part → line.old.count < line.new.count }
         ensures below { result ≢ Ok Piece.Part → line.new.count < ENDLESS }
         ensures end { result ≡ Ok Piece.NoMore → OnSome (Some self.old.left) (IsAtEnd (Some self.new.left)) }
-        ensures more { IfOk result (λ piece. OnSome (Some self.old.left) (HasBehind piece (Some self.new.left))) }
+        ensures more { IfOk result (λ piece. OnSome (Some self.old.left) (HasMore piece (Some self.new.left))) }
         ensures fault { OnErr result (Unit {0}) }
         ensures kept { OnErr result (Keeps (Some self.old.left) (Some self.new.left)) }
         ensures line_kept { OnErr result (line.new ≡ line.old) }
@@ -88,7 +87,7 @@ impl Source for FailingSource<'_> {
         self.bytes.take_some(line)
     }
 
-    /// Counts as a look, and fails where this one was chosen.
+    /// Counts as a look, and fails if it is the chosen one.
     fn has_more(&mut self) -> io::Result<bool>
         ensures more { result ≡ Ok true → IfSome (Some self.old.left) (λ rest. rest ≢ []) }
         ensures end { result ≡ Ok false → IfSome (Some self.old.left) (λ rest. rest ≡ []) }
@@ -102,8 +101,8 @@ impl Source for FailingSource<'_> {
     }
 }
 
-/// A sink that keeps the bytes it takes, a few at a time, and of which one call fails: a write, or one that
-/// hands on. The calls behind that one go on.
+/// A sink that keeps the bytes it takes, a few at a time. One call fails, a write or a hand-on; later calls
+/// succeed.
 #[derive(Debug, Drop)]
 pub struct FailingSink {
     taken: Vec<u8>,
@@ -120,8 +119,8 @@ impl Model for FailingSink {
 }
 
 impl FailingSink {
-    /// A sink that took nothing yet. A write takes at most `most` bytes, and at least one. Call number
-    /// `fails_at` fails, the first being 1, or none where that is 0; writes and hand-ons count alike.
+    /// An empty sink. A write takes at least one byte and at most `most`. Call number `fails_at` fails, counted
+    /// from 1; 0 means none.
     pub fn new(alloc: Global, most: usize, fails_at: usize) -> FailingSink
         ensures taken { result.taken ≡ [] }
         ensures most { result.most ≡ most }
@@ -147,7 +146,7 @@ impl Sink for FailingSink {
 
     ghost may_fail = { Unit {0} };
 
-    /// Takes what it takes of the bytes, or fails where this call was chosen. It fails without memory too.
+    /// Takes up to `most` bytes. Fails if it is the chosen call, or out of memory.
     fn write_some(&mut self, bytes: &[u8]) -> Result<usize, WriteFault>
         ensures within { IfOk result (λ count. count ≤ length bytes.now) }
         ensures some { IfOk result (λ count. 0 < length bytes.now → 0 < count) }
@@ -167,7 +166,7 @@ impl Sink for FailingSink {
         }
     }
 
-    /// Fails where this call was chosen, and only there.
+    /// Fails if it is the chosen call, and only then.
     fn hand_on(&mut self) -> Result<(), WriteFault>
         ensures kept { Keeps (Some self.old.taken) (Some self.new.taken) }
         ensures fails { IsErr result ↔ (self.old.fails_at ≡ 1) }

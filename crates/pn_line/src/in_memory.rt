@@ -7,7 +7,7 @@ use crate::source::Source;
 use std::io;
 use std::marker::Model;
 
-/// Bytes in memory, of which those that are left are still to be read.
+/// The bytes in memory that are still to be read.
 #[derive(Debug, Drop)]
 pub struct InMemory<'a> {
     rest: &'a [u8],

@@ -1,4 +1,6 @@
-//! Bounded lines from any buffered reader, and a write loop that says how much went out.
+//! Bounded lines from any buffered reader, and a write loop that says how much was written.
+//!
+//! What returns no `Result` allocates nothing.
 #![tactic(auto)]
 
 mod failing;

@@ -1,4 +1,4 @@
-//! A line while it is read: its first bytes, in room that is taken once, and its length.
+//! A line while it is read: its first bytes, in room that is allocated once, and its length.
 ghost use Rattle.std.specs.Prelude.{◌≡◌, ◌+◌, ◌<◌, ◌≤◌, ◌↔◌, [], length, IfOk, IsTrue};
 ghost use Rattle.pn_line.specs.Line.{so_far, longer, max_line_bytes};
 
@@ -14,8 +14,8 @@ pub const MAX_KEPT_BYTES: usize = MAX_LINE_BYTES + 1;
 /// A line that has not ended after this many bytes has no end.
 pub const ENDLESS: usize = 1_000_000_000;
 
-/// A line so far: its first bytes, at most `MAX_KEPT_BYTES`, and how many bytes it has. It takes its room
-/// when it is made, and no memory after that.
+/// A line so far: its first bytes, at most `MAX_KEPT_BYTES`, and its length. Its room is allocated when it is
+/// made, and never again.
 #[derive(Debug, Drop)]
 pub struct LineBuffer {
     kept: Vec<u8>,
@@ -46,7 +46,7 @@ impl LineBuffer {
         })
     }
 
-    /// Begins a new line, that has no byte yet.
+    /// Begins a new, empty line.
     pub fn start(&mut self)
         ensures { self.new ≡ so_far [] }
     {
@@ -61,7 +61,7 @@ impl LineBuffer {
         &self.kept
     }
 
-    /// How many bytes the line has, those that are not kept too.
+    /// How many bytes the line has, those that are not kept included.
     pub fn len(&self) -> usize
         ensures count { result ≡ self.now.count }
         ensures bounded { result ≤ ENDLESS }
@@ -83,7 +83,7 @@ impl LineBuffer {
         self.count > MAX_LINE_BYTES
     }
 
-    /// Adds bytes behind the line. Those that are not kept are counted.
+    /// Appends bytes to the line. Those that are not kept are counted.
     pub(crate) fn append(&mut self, bytes: &[u8])
         requires { self.old.count + length bytes.now ≤ ENDLESS }
         ensures { self.new ≡ longer self.old bytes.now }

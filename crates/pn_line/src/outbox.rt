@@ -1,4 +1,4 @@
-//! Bytes that wait to be written together, in room that is taken once.
+//! Bytes that wait to be written together, in room that is allocated once.
 ghost use Rattle.std.specs.Prelude.{◌≡◌, ◌+◌, ◌<◌, ◌≤◌, ◌++◌, [], length, IfOk, IsOk, OnOk, OnErr};
 ghost use Rattle.std.specs.Io.KnownBytes.{Appends, Keeps};
 ghost use Rattle.pn_line.specs.Sent.{AppendsPrefix, Sends};
@@ -11,7 +11,7 @@ use std::marker::Model;
 /// How many bytes an outbox has room for.
 pub const OUTBOX_ROOM: usize = 65_536;
 
-/// Bytes that wait for a writer. It takes its room when it is made, and no memory after that.
+/// Bytes that wait for a writer. Its room is allocated when it is made, and never again.
 #[derive(Debug, Drop)]
 pub struct Outbox {
     waiting: Vec<u8>,
@@ -38,10 +38,10 @@ impl Outbox {
         })
     }
 
-    /// Adds bytes behind those that wait. Where there is no room for them, those that wait are
-    /// written first, and bytes that fit no outbox are written at once.
+    /// Appends bytes to those that wait. Without room for them, those that wait are written first. Bytes
+    /// that fit no outbox are written at once.
     ///
-    /// After a fault nothing waits: what did not go out is given up.
+    /// After a fault nothing waits: what was not written is dropped.
     pub fn push<W: Sink>(&mut self, writer: &mut W, bytes: &[u8]) -> Result<(), WriteFault>
         ensures ok { OnOk result
             (Sends (W.contents writer.old) (W.contents writer.new) self.old self.new bytes.now) }
@@ -50,19 +50,19 @@ impl Outbox {
         ensures fault { OnErr result W.may_fail }
         ensures given_up { OnErr result (self.new ≡ []) }
 
-        // Bytes that fit only wait.
+        // Bytes that fit are kept, and nothing is written.
         ensures succeeds { length self.old + length bytes.now ≤ OUTBOX_ROOM → IsOk result }
         ensures waits { length self.old + length bytes.now ≤ OUTBOX_ROOM
             → self.new ≡ self.old ++ bytes.now }
         ensures unsent { length self.old + length bytes.now ≤ OUTBOX_ROOM → writer.new ≡ writer.old }
 
-        // Bytes that fit alone wait once what waited was sent.
+        // Bytes that fit only an empty outbox wait after what waited was written.
         ensures alone { OUTBOX_ROOM < length self.old + length bytes.now → length bytes.now ≤ OUTBOX_ROOM
             → OnOk result (self.new ≡ bytes.now) }
         ensures sent { OUTBOX_ROOM < length self.old + length bytes.now → length bytes.now ≤ OUTBOX_ROOM
             → OnOk result (Appends (W.contents writer.old) (W.contents writer.new) self.old) }
 
-        // Bytes that fit no outbox were sent, and nothing waits.
+        // Bytes that fit no outbox are written, and nothing waits.
         ensures whole { OUTBOX_ROOM < length bytes.now → OnOk result (self.new ≡ []) }
     {
         if bytes.len() > OUTBOX_ROOM - self.waiting.len() {
@@ -75,7 +75,7 @@ impl Outbox {
         Ok(())
     }
 
-    /// Writes all that waits, and flushes the writer. After a fault nothing waits either.
+    /// Writes all that waits, and flushes the writer. Afterwards nothing waits, also after a fault.
     pub fn flush<W: Sink>(&mut self, writer: &mut W) -> Result<(), WriteFault>
         ensures ok { OnOk result (Appends (W.contents writer.old) (W.contents writer.new) self.old) }
         ensures err { OnErr result
@@ -100,7 +100,7 @@ impl Outbox {
         sent
     }
 
-    // Adds bytes that fit.
+    // Appends bytes that fit.
     fn keep(&mut self, bytes: &[u8])
         requires { length self.old + length bytes.now ≤ OUTBOX_ROOM }
         ensures { self.new ≡ self.old ++ bytes.now }

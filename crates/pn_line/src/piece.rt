@@ -1,6 +1,6 @@
 //! A piece of a line: what one look at a source's bytes gives of it.
 ghost use Rattle.std.specs.Prelude.{◌≡◌, ◌≢◌, ◌<◌, ◌≤◌, Some, length, take, drop};
-ghost use Rattle.pn_line.specs.Reads.{Splits, newline_after, HasBehind};
+ghost use Rattle.pn_line.specs.Reads.{Splits, newline_after, HasMore};
 
 use crate::line_buffer::{ENDLESS, LineBuffer};
 use memchr::memchr;
@@ -12,14 +12,14 @@ pub enum Piece {
     Part,
     /// The rest of the line, and its newline.
     Ended {
-        /// Whether a further newline was shown behind it. Where it was, a look shows it again.
+        /// Whether another newline was seen after it. The next look sees it again.
         more: bool,
     },
     /// No byte: the source is at its end.
     NoMore,
 }
 
-// Adds what these bytes have of the line to it. Answers how many of them that took, the newline too.
+// Appends the bytes up to the newline to the line. Returns how many bytes that used, the newline included.
 pub(crate) fn take_piece(line: &mut LineBuffer, shown: &[u8]) -> (usize, Piece)
     requires { line.old.count < ENDLESS }
     ensures within { result.0 ≤ length shown.now }
@@ -27,7 +27,7 @@ pub(crate) fn take_piece(line: &mut LineBuffer, shown: &[u8]) -> (usize, Piece)
     ensures part { result.1 ≡ Piece.Part → line.old.count < line.new.count }
     ensures below { result.1 ≢ Piece.Part → line.new.count < ENDLESS }
     ensures none { result.1 ≡ Piece.NoMore → length shown.now ≡ 0 }
-    ensures more { HasBehind result.1 (Some (drop result.0 shown.now)) }
+    ensures more { HasMore result.1 (Some (drop result.0 shown.now)) }
 {
     if shown.is_empty() {
         return (0, Piece::NoMore);

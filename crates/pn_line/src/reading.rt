@@ -1,8 +1,8 @@
-//! One line read from a source: on from what is there of it until its newline, or no further.
+//! Reads one line from a source, up to and with its newline.
 ghost use Rattle.std.specs.Prelude.{◌≡◌, ◌≢◌, ◌<◌, ◌↔◌, [], IfOk, OnErr, OnSome};
 ghost use Rattle.std.specs.Io.KnownBytes.{IsAtEnd};
 ghost use Rattle.pn_line.specs.Reads.{Takes};
-ghost use Rattle.pn_line.specs.LineEnd.{newline_behind, HasNext, ReadsTo};
+ghost use Rattle.pn_line.specs.LineEnd.{newline_taken, HasNext, ReadsTo};
 
 use crate::line_buffer::{ENDLESS, LineBuffer};
 use crate::piece::Piece;
@@ -12,10 +12,9 @@ use std::io;
 /// How reading a line came to its end.
 #[derive(Clone, Copy, Debug, PartialEq, Eq)]
 pub enum LineEnd {
-    /// At the line's newline, which was taken and stands in no line.
+    /// At the line's newline, which was taken and is part of no line.
     Newline {
-        /// Whether a further newline was there behind it. Where it is false, the next read of a line
-        /// may have to wait for input.
+        /// Whether another newline was seen after it. If not, reading the next line may wait for input.
         more: bool,
     },
     /// At the end of the input. The line may go on if more input comes.
@@ -24,14 +23,13 @@ pub enum LineEnd {
     Endless,
 }
 
-/// Reads on with a line, from what the buffer has of it, until its newline was taken, the source is
-/// at its end, or the line has `ENDLESS` bytes. Takes no memory.
+/// Appends to the line until its newline was taken, the source is at its end, or the line has `ENDLESS`
+/// bytes. Allocates nothing.
 ///
-/// After an error of the reader the line has what was taken, and a later call goes on with it. An
-/// `Interrupted` read is such an error too.
+/// After an error of the reader, `Interrupted` too, the line keeps what was read, and a later call goes on with it.
 pub fn read_line<S: Source>(line: &mut LineBuffer, source: &mut S) -> io::Result<LineEnd>
     ensures takes { IfOk result (λ end.
-        Takes line.old line.new (S.left source.old) (S.left source.new) (newline_behind end)) }
+        Takes line.old line.new (S.left source.old) (S.left source.new) (newline_taken end)) }
     ensures end { IfOk result (λ end. end ≡ LineEnd.EndOfInput
         → OnSome (S.left source.old) (IsAtEnd (S.left source.new))) }
     ensures endless { IfOk result (λ end. (end ≡ LineEnd.Endless) ↔ (line.new.count ≡ ENDLESS)) }
@@ -54,9 +52,9 @@ pub fn read_line<S: Source>(line: &mut LineBuffer, source: &mut S) -> io::Result
 /// How reading a line that may not be too long came to its end.
 #[derive(Clone, Copy, Debug, PartialEq, Eq)]
 pub enum BoundedEnd {
-    /// At the line's newline, which was taken and stands in no line.
+    /// At the line's newline, which was taken and is part of no line.
     Newline {
-        /// Whether a further newline was there behind it, as `LineEnd` has it.
+        /// Whether another newline was seen after it. If not, reading the next line may wait for input.
         more: bool,
     },
     /// At the end of the input, before a newline. The line may go on if more input comes.
@@ -65,10 +63,10 @@ pub enum BoundedEnd {
     TooLong,
 }
 
-/// Reads on with a line as `read_line` does, but no further once it is too long, whether or not its
-/// newline was taken then. Takes no memory.
+/// Appends to the line until its newline was taken, the source is at its end, or the line is too long.
+/// Allocates nothing.
 ///
-/// After an error of the reader the line has what was taken, and a later call goes on with it.
+/// After an error of the reader, `Interrupted` too, the line keeps what was read, and a later call goes on with it.
 pub fn read_bounded_line<S: Source>(line: &mut LineBuffer, source: &mut S) -> io::Result<BoundedEnd>
     ensures takes { IfOk result (λ end. ReadsTo end line.old line.new (S.left source.old) (S.left source.new)) }
     ensures fault { OnErr result S.may_fail }

@@ -1,4 +1,4 @@
-//! Where bytes are written to: any writer, whose writes may fail, or nowhere, where none does.
+//! Where bytes are written to: any writer, or nowhere, where no write fails.
 ghost use Rattle.std.specs.Prelude.{◌<◌, ◌≤◌, ℕ, List, Option, length, take, IfOk, OnErr};
 ghost use Rattle.std.specs.Io.KnownBytes.{Appends, Keeps};
 
@@ -7,15 +7,15 @@ use std::io::Write;
 
 /// What bytes are written to.
 pub trait Sink {
-    // The bytes that were written, where the type tells them.
+    // The bytes written so far, where the type shows them.
     ghost contents: { Self → Option (List ℕ) };
 
-    // What holds where a write can fail at all.
+    // False for a type whose writes never fail.
     ghost may_fail: { Type 0 };
 
-    /// Writes a prefix of the bytes, at least one where there is one, and answers how many it wrote.
+    /// Writes a prefix of the bytes, at least one if there is one, and returns its length.
     ///
-    /// A fault is an error of the writer, `Interrupted` too, or that it takes no byte. It writes nothing.
+    /// A fault is an error of the writer, `Interrupted` too, or that it accepts no byte. Then nothing is written.
     fn write_some(&mut self, bytes: &[u8]) -> Result<usize, WriteFault>
         ensures within { IfOk result (λ count. count ≤ length bytes.now) }
         ensures some { IfOk result (λ count. 0 < length bytes.now → 0 < count) }
@@ -24,7 +24,7 @@ pub trait Sink {
         ensures fault { OnErr result may_fail }
         ensures kept { OnErr result (Keeps (contents self.old) (contents self.new)) };
 
-    /// Hands on what the writer holds back.
+    /// Flushes the writer.
     fn hand_on(&mut self) -> Result<(), WriteFault>
         ensures fault { OnErr result may_fail }
         ensures kept { Keeps (contents self.old) (contents self.new) };

@@ -1,8 +1,7 @@
-//! Where lines are read from: any buffered reader, whose reads may fail, or bytes in memory, whose
-//! reads do not.
+//! Where lines are read from: any buffered reader, or bytes in memory, whose reads never fail.
 ghost use Rattle.std.specs.Prelude.{◌≡◌, ◌≢◌, ◌<◌, ℕ, List, [], true, false, IfOk, OnErr, IfSome, OnSome, Option};
 ghost use Rattle.std.specs.Io.KnownBytes.{Keeps, IsAtEnd};
-ghost use Rattle.pn_line.specs.Reads.{Takes, newline_after, HasBehind};
+ghost use Rattle.pn_line.specs.Reads.{Takes, newline_after, HasMore};
 
 use crate::line_buffer::{ENDLESS, LineBuffer};
 use crate::piece::{Piece, take_piece};
@@ -11,16 +10,16 @@ use std::io::BufRead;
 
 /// A source of lines.
 pub trait Source {
-    // The bytes that are left, where the type tells them.
+    // The bytes that are left, where the type shows them.
     ghost left: { Self → Option (List ℕ) };
 
-    // What holds where a read can fail at all.
+    // False for a type whose reads never fail.
     ghost may_fail: { Type 0 };
 
-    /// Looks at some of the bytes that are left, waits for them where it has to, and takes from them
-    /// what they have of the line.
+    /// Looks at some of the bytes that are left, waiting for them if need be, and moves those of the line
+    /// into it.
     ///
-    /// An error of the reader takes nothing, and the next call goes on where this one was.
+    /// An error of the reader takes nothing, so that the call can be repeated.
     fn take_some(&mut self, line: &mut LineBuffer) -> io::Result<Piece>
         requires { line.old.count < ENDLESS }
         ensures takes { IfOk result
@@ -28,12 +27,12 @@ pub trait Source {
         ensures part { result ≡ Ok Piece.Part → line.old.count < line.new.count }
         ensures below { result ≢ Ok Piece.Part → line.new.count < ENDLESS }
         ensures end { result ≡ Ok Piece.NoMore → OnSome (left self.old) (IsAtEnd (left self.new)) }
-        ensures more { IfOk result (λ piece. OnSome (left self.old) (HasBehind piece (left self.new))) }
+        ensures more { IfOk result (λ piece. OnSome (left self.old) (HasMore piece (left self.new))) }
         ensures fault { OnErr result may_fail }
         ensures kept { OnErr result (Keeps (left self.old) (left self.new)) }
         ensures line_kept { OnErr result (line.new ≡ line.old) };
 
-    /// Whether bytes are left, for which it waits where it has to. It takes none of them.
+    /// Whether bytes are left, waiting for them if need be. It takes none of them.
     fn has_more(&mut self) -> io::Result<bool>
         ensures more { result ≡ Ok true → IfSome (left self.old) (λ rest. rest ≢ []) }
         ensures end { result ≡ Ok false → IfSome (left self.old) (λ rest. rest ≡ []) }

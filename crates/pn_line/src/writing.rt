@@ -1,4 +1,4 @@
-//! A write loop of our own, which says how much of the bytes went out where a write failed.
+//! A write loop whose contract says how much was written when a write fails.
 ghost use Rattle.std.specs.Prelude.{◌≡◌, length, IsOk, OnOk, OnErr};
 ghost use Rattle.std.specs.Io.KnownBytes.{Appends};
 ghost use Rattle.pn_line.specs.Sent.{AppendsPrefix};
@@ -7,12 +7,12 @@ use crate::sink::Sink;
 use std::error::Error;
 use std::{fmt, io};
 
-/// Why bytes did not go out whole.
+/// Why not all bytes were written.
 #[derive(Debug, Drop)]
 pub enum WriteFault {
     /// The writer gave this error.
     Failed(io::Error),
-    /// The writer took no byte of those that were left.
+    /// The writer accepted no byte although some were left.
     TookNothing,
 }
 
@@ -29,7 +29,7 @@ impl Error for WriteFault {}
 
 /// Writes all the bytes, and does not flush the writer.
 ///
-/// Each error of the writer ends it, `Interrupted` too: to try again forever would not be known to end.
+/// Any error of the writer ends it, `Interrupted` too: retries without limit might never end.
 pub fn write_all_of<W: Sink>(writer: &mut W, bytes: &[u8]) -> Result<(), WriteFault>
     ensures ok { OnOk result (Appends (W.contents writer.old) (W.contents writer.new) bytes.now) }
     ensures err { OnErr result

@@ -47,7 +47,7 @@ module _ {O : Type 0} where
         rw is tt,
       )
 
-  -- whatever the book is, the exchange adds the attempt to those that were seen, or leaves the book
+  -- the exchange adds the attempt to those that were seen, or leaves the book as it is
   pub adds_moves : (v : List (Attempt O)) (a : Option ℕ) (e : Attempt O) (old : ℕ) → length v ≡ old → MayFollow v e
       → Moves IsKept shown moved 0 (v, (no_nib, a)) (λ n. either (n == old) (old + 1) n) (Adds (step 0 old (old + 1) e) (v, (no_nib, a)))
   adds_moves v a e old len may cs log kept pre away =

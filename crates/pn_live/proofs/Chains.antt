@@ -1,9 +1,9 @@
--- What is settled early in a lawful list of attempts begins what is tried late.
+-- What an early attempt settles begins what a later one tries.
 use Rattle.std.proofs.Common.{◌≡◌, ℕ, suc, ◌≤◌, List, [], ◌∷◌, ◌++◌, length, refl, ap, sym, subst, arith, length-append, ⊎_elim, ◌⊎◌, inl, inr, zero, take}
 use mathlib.Core.List.{IsPrefix}
 use Rattle.pn_live.specs.declared.attempt.Attempt.{Attempt}
 use Rattle.pn_live.specs.Attempts.{settled_from, tried_from, settled_of, tried_of, Follows, Chained, AreLawful, MayFollow, one_more, well_ended}
-use Rattle.pn_live.proofs.Prefixes.{begins_itself, begins_more, begins_on, shorter_begins, begins_of_take, take_of_begins}
+use Rattle.pn_live.proofs.Prefixes.{begins_itself, begins_more, begins_on, shorter_begins, begins_of_take}
 
 up_to_or_more : (a b : ℕ) → (a ≤ b) ⊎ (suc b ≤ a)
 up_to_or_more zero b = inl (omega arith)
@@ -44,14 +44,14 @@ module _ {O : Type 0} where
   lawful_front : (xs zs : List (Attempt O)) → IsPrefix xs zs → AreLawful zs → AreLawful xs
   lawful_front xs zs p c = chained_front [] [] xs p.0 (subst AreLawful (sym p.1) c)
 
-  one_behind : (told shown : List (Attempt O)) → (p : IsPrefix shown told) → AreLawful told → length told ≡ suc (length shown) → IsPrefix (settled_of told) (tried_of shown)
-  one_behind told shown ([], is) c n = absurd (omega (arith, ap length is, length-append shown []))
-  one_behind told shown (e ∷ [], is) c n =
+  one_after : (told shown : List (Attempt O)) → (p : IsPrefix shown told) → AreLawful told → length told ≡ suc (length shown) → IsPrefix (settled_of told) (tried_of shown)
+  one_after told shown ([], is) c n = absurd (omega (arith, ap length is, length-append shown []))
+  one_after told shown (e ∷ [], is) c n =
       let b = next_begins [] [] shown e (subst AreLawful (sym is) c) in
       subst (λ xs. IsPrefix (settled_of xs) (tried_of shown)) is (subst (λ xs. IsPrefix xs (tried_of shown)) (sym (settled_last [] shown e)) b)
-  one_behind told shown (e ∷ x ∷ xs, is) c n = absurd (omega (arith, ap length is, length-append shown (e ∷ x ∷ xs)))
+  one_after told shown (e ∷ x ∷ xs, is) c n = absurd (omega (arith, ap length is, length-append shown (e ∷ x ∷ xs)))
 
-  -- what is settled begins what an attempt tries that is no more than one before it
+  -- what is settled begins what is tried at most one attempt earlier
   pub told_begins_shown : (told shown both : List (Attempt O)) → AreLawful both → IsPrefix told both → IsPrefix shown both → length told ≤ suc (length shown)
       → IsPrefix (settled_of told) (tried_of shown)
   told_begins_shown told shown both c p q le = ⊎_elim
@@ -59,10 +59,10 @@ module _ {O : Type 0} where
       let r = shorter_begins told shown both p q few in
       subst (λ xs. IsPrefix (settled_of told) (tried_of xs)) r.1 (settled_begins [] [] told r.0 (begins_itself []) (subst AreLawful (sym r.1) (lawful_front shown both q c))))
       (λ (more : suc (length shown) ≤ length told).
-      one_behind told shown (shorter_begins shown told both q p (omega (arith, more))) (lawful_front told both p c) (omega (arith, le, more)))
+      one_after told shown (shorter_begins shown told both q p (omega (arith, more))) (lawful_front told both p c) (omega (arith, le, more)))
       (up_to_or_more (length told) (length shown))
 
-  -- what is settled in the shorter list begins what is settled in the longer
+  -- what fewer attempts settle begins what more settle
   pub settled_in_longer : (xs ys both : List (Attempt O)) → AreLawful both → IsPrefix xs both → IsPrefix ys both → length xs ≤ length ys → IsPrefix (settled_of xs) (settled_of ys)
   settled_in_longer xs ys both c p q le =
       let r = shorter_begins xs ys both p q le in
@@ -73,11 +73,3 @@ module _ {O : Type 0} where
 
   pub well_ended_follows : (xs : List (Attempt O)) → take (length (settled_of xs)) (tried_of xs) ≡ settled_of xs → MayFollow xs (well_ended xs)
   well_ended_follows xs on = record { stays = begins_of_take (settled_of xs) (tried_of xs) on; was_tried = begins_itself (tried_of xs); goes_on = begins_itself (tried_of xs) }
-
-  -- what is tried goes on from what is settled, where it is one operation more, or the same
-  pub on_more : (settled old tried : List O) (op : O) → settled ≡ old → tried ≡ old ++ op ∷ [] → take (length settled) tried ≡ settled
-  on_more settled old tried op is more =
-      take_of_begins settled tried (subst (λ l. IsPrefix settled l) (sym more) (subst (λ l. IsPrefix l (old ++ op ∷ [])) (sym is) (begins_more old (op ∷ []))))
-
-  pub on_same : (settled tried : List O) → tried ≡ settled → take (length settled) tried ≡ settled
-  on_same settled tried is = take_of_begins settled tried (subst (λ l. IsPrefix settled l) (sym is) (begins_itself settled))

@@ -1,5 +1,5 @@
--- What a draft lacks of the state that is shown.
-use Rattle.std.proofs.Common.{rules, ◌≡◌, Bool, true, false, if◌then◌else◌, List, [], ◌∷◌, ◌++◌, fold, IsTrue, refl, sym, ap, subst, ◌∙◌, Option, Some, None, IfSome, Ok, Err}
+-- What a draft lacks of the published state.
+use Rattle.std.proofs.Common.{rules, ◌≡◌, Bool, true, false, if◌then◌else◌, List, [], ◌∷◌, ◌++◌, fold, sym, ap, subst, ◌∙◌, Option, Some, None, Ok, Err}
 use Rattle.std.proofs.lemmas.List.{append-nil}
 use Rattle.pn_join.specs.Marks.{Positions}
 use Rattle.pn_record.specs.Cells.{spell}
@@ -7,15 +7,13 @@ use Rattle.pn_record.specs.CellMap.{Entries, table_of, adds}
 use Rattle.pn_record.proofs.CellMaps.{spelled_table, table_of-nil}
 use Rattle.pn_tablet.specs.Copies.{TabletCopyValue}
 use Rattle.pn_tablet.specs.Needs.{lacking}
-use Rattle.pn_tablet.specs.Operations.{HasPositions}
-use Rattle.pn_tablet.specs.Ranges.{Ends}
-use Rattle.pn_tablet.specs.Steps.{step, stepped, after_step, taking, adopting, state_of}
+use Rattle.pn_tablet.specs.Steps.{stepped, after_step, taking, adopting}
 use Rattle.pn_tablet.specs.Tablets.{TabletStateValue, lie_in, same_range}
 use Rattle.pn_tablet.specs.declared.needs.Short.{Short}
 use Rattle.pn_tablet.specs.declared.op.TabletOp.{TabletOp}
 use Rattle.pn_tablet.specs.declared.op.TabletOp.TheVariants.{Join, Lose, Adopt}
 use Rattle.pn_tablet.specs.declared.fault.OpFault.TheVariants.{WrongRange}
-use Rattle.pn_live.specs.declared.shown.Shown.{Shown}
+use Rattle.pn_live.specs.declared.published_state.PublishedState.{PublishedState}
 use Rattle.pn_live.specs.Attempts.{tried_of}
 use Rattle.pn_live.specs.Drafts.{Lacks}
 
@@ -45,31 +43,19 @@ fold_spelled : (t : TabletStateValue) (ops : List TabletOp) → Spelled t → Sp
 fold_spelled t [] is = is
 fold_spelled t (op ∷ ops) is = fold_spelled (stepped t op) ops (step_spelled t op is)
 
--- the records of what is shown are those that spell them
-shown_spelled : (x : Shown) → Spelled x.state
-shown_spelled x = subst Spelled (sym x.replayed) (fold_spelled _ (tried_of x.stamp.seen.log) (sym table_of-nil))
+-- so are those of a published state
+shown_spelled : (x : PublishedState) → Spelled x.state
+shown_spelled x = subst Spelled (sym x.replayed) (fold_spelled _ (tried_of x.position.seen.log) (sym table_of-nil))
 
--- where there are no records to join they stay as they were
+-- joining no records changes nothing
 none_added : (cells : Entries) → cells ≡ table_of (spell cells) → cells ≡ adds cells (spell [])
 unfolding adds
 none_added cells spelled = spelled ∙ ap table_of (sym (append-nil (spell cells)))
 
--- what is shown lacks nothing of itself
-pub lacks_nothing : (x : Shown) → Lacks x.state (Join [] []) x.state
+-- a published state lacks nothing of itself
+pub lacks_nothing : (x : PublishedState) → Lacks x.state (Join [] []) x.state
 lacks_nothing x = record {
   join = search rules;
   positions = search rules;
   makes = ap (λ (cells : Entries). record x.state { cells = cells }) (sym (none_added x.state.cells (shown_spelled x)));
-}
-
-lies_in : (t n : TabletStateValue) (cells : Entries) (marks : Positions) (b : Bool) → (if b then Ok (taking t cells marks) else Err WrongRange) ≡ Ok n → IsTrue b
-lies_in t n cells marks true is = search rules
-lies_in t n cells marks false is = absurd (cc is)
-
--- a state that a join was applied to lacks it of what came of that
-pub lacks_join : (t n : TabletStateValue) (cells : Entries) (marks : Positions) → HasPositions (Join cells marks) → step t (Join cells marks) ≡ Ok n → Lacks t (Join cells marks) n
-lacks_join t n cells marks positions is = record {
-  join = lies_in t n cells marks (lie_in t.range cells) is;
-  positions = positions;
-  makes = ap (after_step t) is;
 }

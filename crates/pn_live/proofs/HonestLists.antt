@@ -1,4 +1,4 @@
--- Published lists stay honest, and readers of honest lists keep what they found across losses.
+-- Published lists stay honest, and readers of honest lists find no less after a loss.
 use Rattle.std.proofs.Common.{◌≡◌, ◌⊎◌, ℕ, zero, suc, Bool, true, false, if◌then◌else◌, List, [], ◌∷◌, ◌++◌, fold, map, refl, sym, ap, ◌∙◌, subst, inl, inr, ⊎_elim, Ok, Err, IsTrue, Contains, arith}
 use Rattle.std.specs.FinMap.{find}
 use Rattle.std.specs.Prelude.{Option, Some, Result, MatchResult}
@@ -37,18 +37,18 @@ use Rattle.pn_region.proofs.FaithfulCopies.{serving_has_all}
 use Rattle.pn_region.proofs.InRange.{more_in, to_images_in}
 use Rattle.pn_region.proofs.RoundSteps.{new_reached}
 use Rattle.pn_region.proofs.StillHeld.{more_held}
-use Rattle.pn_live.specs.Honest.{IsHonestList, AreHonestPlaces}
+use Rattle.pn_live.specs.Honest.{IsHonestList, AreHonestTablets}
 use Rattle.pn_live.specs.Laws.{HasImage}
 use Rattle.pn_live.specs.LiveRegions.{LiveRegionValue, core, publishing, IsHalfPublished}
-use Rattle.pn_live.specs.Places.{PlaceValue, state_at, AreNewPlaces, appended, all_appended, AreOldOrAppended, note_of}
+use Rattle.pn_live.specs.PublishedTablets.{PublishedTabletValue, state_at, AreNewTablets, appended, all_appended, AreOldOrAppended, note_of}
 use Rattle.pn_live.specs.Recovery.{appended_at, publishing_at, Adopts}
-use Rattle.pn_live.specs.Windows.{WindowValue, Finds, Learns, KnowsMore}
+use Rattle.pn_live.specs.TabletReaders.{TabletReaderValue, Finds, Learns, KnowsMore}
 use Rattle.pn_live.proofs.ListLaws.{fold_on, range_kept}
-use Rattle.pn_live.proofs.OnePlace.{core_after}
+use Rattle.pn_live.proofs.OneTablet.{core_after}
 use Rattle.pn_live.proofs.Prefixes.{begins_itself, begins_on}
-use Rattle.pn_live.proofs.WindowLaws.{has_image, found_alone}
+use Rattle.pn_live.proofs.TabletReaderLaws.{has_image, found_alone}
 
--- a beginning of a list with one more is one of the list, or the whole
+-- what begins a list with one element more begins the list, or is the whole
 begins_or_whole : {A : Type 0} (first list : List A) (x : A) → IsPrefix first (list ++ x ∷ []) → IsPrefix first list ⊎ (first ≡ list ++ x ∷ [])
 begins_or_whole [] list x p = inl (list, refl)
 begins_or_whole (a ∷ first) [] x (more, is) = inr (nothing_more first more (cc is) (cc is))
@@ -64,63 +64,63 @@ begins_or_whole (a ∷ first) (y ∷ list) x (more, is) =
     (λ (whole : first ≡ list ++ x ∷ []). inr (λ i. same i ∷ whole i))
     (begins_or_whole first list x (more, rest))
 
--- each place is as it was, or has one operation more
-abbrev EachGrows : List PlaceValue → List PlaceValue → Type 0
+-- each tablet is as it was, or has one operation more
+abbrev EachGrows : List PublishedTabletValue → List PublishedTabletValue → Type 0
 EachGrows [] [] = Unit {0}
 EachGrows (old ∷ olds) (new ∷ news) = ((new ≡ old) ⊎ ((op : TabletOp) × (new ≡ appended old op))) × EachGrows olds news
 EachGrows _ _ = ⊥
 
-none_grow : (ps : List PlaceValue) → EachGrows ps ps
+none_grow : (ps : List PublishedTabletValue) → EachGrows ps ps
 none_grow [] = tt
 none_grow (p ∷ ps) = (inl refl, none_grow ps)
 
-all_grow : (ps : List PlaceValue) (ops : List TabletOp) → EachGrows ps (all_appended ps ops)
+all_grow : (ps : List PublishedTabletValue) (ops : List TabletOp) → EachGrows ps (all_appended ps ops)
 all_grow [] ops = tt
 all_grow (p ∷ ps) [] = none_grow (p ∷ ps)
 all_grow (p ∷ ps) (op ∷ ops) = (inr (op, refl), all_grow ps ops)
 
-one_half : (old new : PlaceValue) (op : TabletOp) → (new ≡ old) ⊎ (new ≡ appended old op) → (new ≡ old) ⊎ ((op : TabletOp) × (new ≡ appended old op))
+one_half : (old new : PublishedTabletValue) (op : TabletOp) → (new ≡ old) ⊎ (new ≡ appended old op) → (new ≡ old) ⊎ ((op : TabletOp) × (new ≡ appended old op))
 one_half old new op (inl same) = inl same
 one_half old new op (inr more) = inr (op, more)
 
-half_grow : (ps : List PlaceValue) (ops : List TabletOp) (news : List PlaceValue) → AreOldOrAppended ps ops news → EachGrows ps news
+half_grow : (ps : List PublishedTabletValue) (ops : List TabletOp) (news : List PublishedTabletValue) → AreOldOrAppended ps ops news → EachGrows ps news
 half_grow [] ops news half = subst (EachGrows []) (sym half) tt
 half_grow (p ∷ ps) [] news half = subst (EachGrows (p ∷ ps)) (sym half) (none_grow (p ∷ ps))
 half_grow (p ∷ ps) (op ∷ ops) [] half = absurd half
 half_grow (p ∷ ps) (op ∷ ops) (new ∷ news) half = (one_half p new op half.0, half_grow ps ops news half.1)
 
-one_grows : (n : ℕ) (op : TabletOp) (ps : List PlaceValue) → EachGrows ps (appended_at n op ps)
+one_grows : (n : ℕ) (op : TabletOp) (ps : List PublishedTabletValue) → EachGrows ps (appended_at n op ps)
 one_grows n op [] = tt
 one_grows zero op (p ∷ ps) = (inr (op, refl), none_grow ps)
 one_grows (suc n) op (p ∷ ps) = (inl refl, one_grows n op ps)
 
 module _ (broker : BrokerRecord) where
-  abbrev IsHonestPlace : PlaceValue → Type 0
-  IsHonestPlace place = IsHonestList broker place.range place.list
+  abbrev IsHonestTablet : PublishedTabletValue → Type 0
+  IsHonestTablet tablet = IsHonestList broker tablet.range tablet.list
 
   -- the states of honest lists are faithful
-  now_faithful : (ps : List PlaceValue) → AreHonestPlaces broker ps → AreFaithful broker (map state_at ps)
+  now_faithful : (ps : List PublishedTabletValue) → AreHonestTablets broker ps → AreFaithful broker (map state_at ps)
   now_faithful [] honest = tt
   now_faithful (p ∷ ps) honest = (honest.0 p.list (begins_itself p.list), now_faithful ps honest.1)
 
-  one_grown : (old new : PlaceValue) → (new ≡ old) ⊎ ((op : TabletOp) × (new ≡ appended old op)) → IsHonestPlace old → IsFaithful broker (state_at new) → IsHonestPlace new
-  one_grown old new (inl same) honest faithful = subst IsHonestPlace (sym same) honest
+  one_grown : (old new : PublishedTabletValue) → (new ≡ old) ⊎ ((op : TabletOp) × (new ≡ appended old op)) → IsHonestTablet old → IsFaithful broker (state_at new) → IsHonestTablet new
+  one_grown old new (inl same) honest faithful = subst IsHonestTablet (sym same) honest
   one_grown old new (inr (op, more)) honest faithful =
-      let now : IsFaithful broker (state_at (appended old op)) = subst (λ (p : PlaceValue). IsFaithful broker (state_at p)) more faithful in
-      let whole : IsHonestPlace (appended old op) =
+      let now : IsFaithful broker (state_at (appended old op)) = subst (λ (p : PublishedTabletValue). IsFaithful broker (state_at p)) more faithful in
+      let whole : IsHonestTablet (appended old op) =
       λ first p. ⊎_elim (λ (early : IsPrefix first old.list). honest first early)
       (λ (is : first ≡ old.list ++ op ∷ []). subst (λ (l : List TabletOp). IsFaithful broker (state_of old.range l)) (sym is) now)
       (begins_or_whole first old.list op p) in
-      subst IsHonestPlace (sym more) whole
+      subst IsHonestTablet (sym more) whole
 
-  grown : (olds news : List PlaceValue) → EachGrows olds news → AreHonestPlaces broker olds → AreFaithful broker (map state_at news) → AreHonestPlaces broker news
+  grown : (olds news : List PublishedTabletValue) → EachGrows olds news → AreHonestTablets broker olds → AreFaithful broker (map state_at news) → AreHonestTablets broker news
   grown [] [] grows honest faithful = tt
   grown [] (new ∷ news) grows honest faithful = absurd grows
   grown (old ∷ olds) [] grows honest faithful = absurd grows
   grown (old ∷ olds) (new ∷ news) grows honest faithful = (one_grown old new grows.0 honest.0 faithful.0, grown olds news grows.1 honest.1 faithful.1)
 
   -- what is published of a new live region
-  pub opened_honest : (rs : List Ends) (ps : List PlaceValue) → AreNewPlaces rs ps → AreHonestPlaces broker ps
+  pub opened_honest : (rs : List Ends) (ps : List PublishedTabletValue) → AreNewTablets rs ps → AreHonestTablets broker ps
   opened_honest [] [] are = tt
   opened_honest [] (p ∷ ps) are = absurd are
   opened_honest (r ∷ rs) [] are = absurd are
@@ -138,37 +138,37 @@ module _ (broker : BrokerRecord) where
       empty_faithful : (range : Ends) → IsFaithful broker (empty_tablet range)
       empty_faithful range = record { images = []; cells = sym table_of-nil; published = λ image there. absurd (omega (arith, there.1)); all = λ image there. absurd (omega (arith, there.1)) }
 
-  module _ (old new : LiveRegionValue) (is : IsRegion (core old)) (honest : AreHonestPlaces broker old.places) where
-    pub round_honest : (deliveries : List DeliveryValue) → AreHonest broker deliveries → rounds.round (core old) deliveries ≡ Ok (core new) → new.places ≡ publishing old deliveries new.marks → AreHonestPlaces broker new.places
+  module _ (old new : LiveRegionValue) (is : IsRegion (core old)) (honest : AreHonestTablets broker old.tablets) where
+    pub round_honest : (deliveries : List DeliveryValue) → AreHonest broker deliveries → rounds.round (core old) deliveries ≡ Ok (core new) → new.tablets ≡ publishing old deliveries new.marks → AreHonestTablets broker new.tablets
     round_honest deliveries brings leads all =
-        grown old.places new.places (subst (EachGrows old.places) (sym all) (all_grow old.places (joins (core old) deliveries new.marks))) honest
-        (event_faithful broker (round deliveries) (core old) (core new) is (now_faithful old.places honest) brings leads)
+        grown old.tablets new.tablets (subst (EachGrows old.tablets) (sym all) (all_grow old.tablets (joins (core old) deliveries new.marks))) honest
+        (event_faithful broker (round deliveries) (core old) (core new) is (now_faithful old.tablets honest) brings leads)
 
-    half_by : (deliveries : List DeliveryValue) (right : Result Positions RoundFault) → MatchResult right (λ marks. AreOldOrAppended old.places (joins (core old) deliveries marks) new.places) (λ fault. new.places ≡ old.places)
-        → EachGrows old.places new.places
-    half_by deliveries (Ok marks) left = half_grow old.places (joins (core old) deliveries marks) new.places left
-    half_by deliveries (Err fault) left = subst (EachGrows old.places) (sym left) (none_grow old.places)
+    half_by : (deliveries : List DeliveryValue) (right : Result Positions RoundFault) → MatchResult right (λ marks. AreOldOrAppended old.tablets (joins (core old) deliveries marks) new.tablets) (λ fault. new.tablets ≡ old.tablets)
+        → EachGrows old.tablets new.tablets
+    half_by deliveries (Ok marks) left = half_grow old.tablets (joins (core old) deliveries marks) new.tablets left
+    half_by deliveries (Err fault) left = subst (EachGrows old.tablets) (sym left) (none_grow old.tablets)
 
-    half_grows : (deliveries : List DeliveryValue) → IsHalfPublished old deliveries new → EachGrows old.places new.places
+    half_grows : (deliveries : List DeliveryValue) → IsHalfPublished old deliveries new → EachGrows old.tablets new.tablets
     half_grows deliveries half = half_by deliveries (new_marks old.marks deliveries) half.2
 
-    pub half_honest : (deliveries : List DeliveryValue) → AreHonest broker deliveries → IsHalfPublished old deliveries new → rounds.IsHalfTaken (core old) deliveries (core new) → AreHonestPlaces broker new.places
+    pub half_honest : (deliveries : List DeliveryValue) → AreHonest broker deliveries → IsHalfPublished old deliveries new → rounds.IsHalfTaken (core old) deliveries (core new) → AreHonestTablets broker new.tablets
     half_honest deliveries brings half leads =
-        grown old.places new.places (half_grows deliveries half) honest
-        (event_faithful broker (half_round deliveries) (core old) (core new) is (now_faithful old.places honest) brings leads)
+        grown old.tablets new.tablets (half_grows deliveries half) honest
+        (event_faithful broker (half_round deliveries) (core old) (core new) is (now_faithful old.tablets honest) brings leads)
 
-    pub loss_honest : (n : ℕ) → new ≡ publishing_at old n Lose → AreHonestPlaces broker new.places
+    pub loss_honest : (n : ℕ) → new ≡ publishing_at old n Lose → AreHonestTablets broker new.tablets
     loss_honest n now =
-        let places : new.places ≡ appended_at n Lose old.places = ap (λ (l : LiveRegionValue). l.places) now in
-        grown old.places new.places (subst (EachGrows old.places) (sym places) (one_grows n Lose old.places)) honest
-        (event_faithful broker (loss n) (core old) (core new) is (now_faithful old.places honest) tt
-        (ap core now ∙ core_after old n Lose (appended_at n Lose old.places) refl []))
+        let tablets : new.tablets ≡ appended_at n Lose old.tablets = ap (λ (l : LiveRegionValue). l.tablets) now in
+        grown old.tablets new.tablets (subst (EachGrows old.tablets) (sym tablets) (one_grows n Lose old.tablets)) honest
+        (event_faithful broker (loss n) (core old) (core new) is (now_faithful old.tablets honest) tt
+        (ap core now ∙ core_after old n Lose (appended_at n Lose old.tablets) refl []))
 
-    pub adoption_honest : (copy : TabletCopyValue) → IsCopy copy.range copy.marks copy.cells → IsHonestCopy broker copy → Adopts copy old new → AreHonestPlaces broker new.places
+    pub adoption_honest : (copy : TabletCopyValue) → IsCopy copy.range copy.marks copy.cells → IsHonestCopy broker copy → Adopts copy old new → AreHonestTablets broker new.tablets
     adoption_honest copy lawful gives adopts =
-        let places : new.places ≡ appended_at adopts.tablet (Adopt copy) old.places = ap (λ (l : LiveRegionValue). l.places) adopts.published in
-        grown old.places new.places (subst (EachGrows old.places) (sym places) (one_grows adopts.tablet (Adopt copy) old.places)) honest
-        (event_faithful broker (adoption copy) (core old) (core new) is (now_faithful old.places honest) gives
+        let tablets : new.tablets ≡ appended_at adopts.tablet (Adopt copy) old.tablets = ap (λ (l : LiveRegionValue). l.tablets) adopts.published in
+        grown old.tablets new.tablets (subst (EachGrows old.tablets) (sym tablets) (one_grows adopts.tablet (Adopt copy) old.tablets)) honest
+        (event_faithful broker (adoption copy) (core old) (core new) is (now_faithful old.tablets honest) gives
         (record { tablet = adopts.tablet; lawful = lawful; adopted = adopts.adopted }))
 
   -- operations lower no cover
@@ -176,25 +176,25 @@ module _ (broker : BrokerRecord) where
   covers_on t [] name = omega arith
   covers_on t (op ∷ ops) name = omega (arith, never_falls t op name, covers_on (stepped t op) ops name)
 
-  -- what a serving tablet of a reader's has
-  found_all : (later last : WindowValue) (now : TabletStateValue) → Finds later now last → IsHonestList broker last.range last.seen → now.status ≡ Serving
+  -- a serving tablet has all images up to its cover
+  found_all : (later last : TabletReaderValue) (now : TabletStateValue) → Finds later now last → IsHonestList broker last.range last.seen → now.status ≡ Serving
       → now.cells ≡ table_of (images_in last.range (up_to broker now.cover))
   found_all later last now found honest serves =
       let faithful = subst (IsFaithful broker) (sym found.state) (honest last.seen (begins_itself last.seen)) in
       let range : now.range ≡ last.range = ap (λ (t : TabletStateValue). t.range) found.state ∙ range_kept (empty_tablet last.range) last.seen in
       serving_has_all broker now faithful serves ∙ ap (λ (r : Ends). table_of (images_in r (up_to broker now.cover))) range
 
-  -- a list that begins another leads to no greater cover
+  -- a longer list leads to no smaller cover
   cover_begins : (range : Ends) (first list : List TabletOp) → IsPrefix first list → Reaches (state_of range list).cover (state_of range first).cover
   cover_begins range first list begins =
       subst (λ (t : TabletStateValue). Reaches t.cover (state_of range first).cover)
       (sym (ap (state_of range) (sym begins.1) ∙ fold_on (empty_tablet range) first begins.0)) (covers_on (state_of range first) begins.0)
 
-  pub never_back_across : (first seen later last : WindowValue) (was now : TabletStateValue) → Finds first was seen → KnowsMore seen later → Finds later now last
+  pub never_back_across : (first seen later last : TabletReaderValue) (was now : TabletStateValue) → Finds first was seen → KnowsMore seen later → Finds later now last
       → IsHonestList broker last.range last.seen → was.status ≡ Serving → now.status ≡ Serving → (key : List ℕ) → HoldsStill (find bytes_cmp key was.cells) (find bytes_cmp key now.cells)
   never_back_across first seen later last was now found more found_later honest serves serves_too key =
       let begins = begins_on seen.seen later.seen last.seen more.seen found_later.seen in
-      let range : last.range ≡ seen.range = ap (λ (w : WindowValue). w.range) found_later.same ∙ more.range in
+      let range : last.range ≡ seen.range = ap (λ (w : TabletReaderValue). w.range) found_later.same ∙ more.range in
       let honest_first : IsHonestList broker seen.range seen.seen =
       λ early p. subst (λ (r : Ends). IsFaithful broker (state_of r early)) range (honest early (begins_on early seen.seen last.seen p begins)) in
       let had = found_all first seen was found honest_first serves in
@@ -208,7 +208,7 @@ module _ (broker : BrokerRecord) where
       (more_held (images_in seen.range (up_to broker was.cover)) (images_in seen.range (up_to broker now.cover)) key
       (more_in seen.range (up_to broker was.cover) (up_to broker now.cover) (up_to_more broker now.cover was.cover reach))))
 
-  -- a join's marks are reached
+  -- a join raises the cover to its marks
   joined_cover : (t : TabletStateValue) (cells : Entries) (marks : Positions) (b : Bool) → b ≡ true → Reaches (after_step t (if b then Ok (taking t cells marks) else Err WrongRange)).cover marks
   joined_cover t cells marks true inside = new_reached t.cover marks
   joined_cover t cells marks false inside = absurd (cc inside)
@@ -218,30 +218,30 @@ module _ (broker : BrokerRecord) where
       joined_cover t (table_of (images_in range images)) marks (lie_in t.range (table_of (images_in range images)))
       (subst (λ (r : Ends). lie_in r (table_of (images_in range images)) ≡ true) (sym ranged) (cells_inside range images))
 
-  pub not_missed_across : (place : PlaceValue) (old marks : Positions) (deliveries : List DeliveryValue) (window learnt later last : WindowValue) (now : TabletStateValue)
+  pub not_missed_across : (tablet : PublishedTabletValue) (old marks : Positions) (deliveries : List DeliveryValue) (reader learnt later last : TabletReaderValue) (now : TabletStateValue)
       → AreHonest broker deliveries → new_marks old deliveries ≡ Ok marks
-      → window.range ≡ place.range → Learns window (note_of (appended place (join_in marks (all_images deliveries) place.range))) learnt
+      → reader.range ≡ tablet.range → Learns reader (note_of (appended tablet (join_in marks (all_images deliveries) tablet.range))) learnt
       → KnowsMore learnt later → Finds later now last → IsHonestList broker last.range last.seen → now.status ≡ Serving
-      → (image : Image) → Contains (all_images deliveries) image → IsTrue (in_range place.range image.key) → HasImage image (find bytes_cmp image.key now.cells)
-  not_missed_across place old marks deliveries window learnt later last now brings accepted ranged learns more found honest serves image there lies =
-      let op = join_in marks (all_images deliveries) place.range in
-      let told = place.list ++ op ∷ [] in
+      → (image : Image) → Contains (all_images deliveries) image → IsTrue (in_range tablet.range image.key) → HasImage image (find bytes_cmp image.key now.cells)
+  not_missed_across tablet old marks deliveries reader learnt later last now brings accepted ranged learns more found honest serves image there lies =
+      let op = join_in marks (all_images deliveries) tablet.range in
+      let told = tablet.list ++ op ∷ [] in
       let begins : IsPrefix told last.seen = begins_on told later.told last.seen (begins_on told learnt.told later.told learns.note more.told) found.told in
-      let range : last.range ≡ place.range = ap (λ (w : WindowValue). w.range) found.same ∙ (more.range ∙ (ap (λ (w : WindowValue). w.range) learns.same ∙ ranged)) in
-      let is : now ≡ state_of place.range last.seen = found.state ∙ ap (λ (r : Ends). state_of r last.seen) range in
-      let first : Reaches (state_of place.range told).cover marks =
-      subst (λ (t : TabletStateValue). Reaches t.cover marks) (sym (fold_on (empty_tablet place.range) place.list (op ∷ [])))
-      (join_reaches (state_of place.range place.list) marks (all_images deliveries) place.range (range_kept (empty_tablet place.range) place.list)) in
-      let on = cover_begins place.range told last.seen begins in
+      let range : last.range ≡ tablet.range = ap (λ (w : TabletReaderValue). w.range) found.same ∙ (more.range ∙ (ap (λ (w : TabletReaderValue). w.range) learns.same ∙ ranged)) in
+      let is : now ≡ state_of tablet.range last.seen = found.state ∙ ap (λ (r : Ends). state_of r last.seen) range in
+      let first : Reaches (state_of tablet.range told).cover marks =
+      subst (λ (t : TabletStateValue). Reaches t.cover marks) (sym (fold_on (empty_tablet tablet.range) tablet.list (op ∷ [])))
+      (join_reaches (state_of tablet.range tablet.list) marks (all_images deliveries) tablet.range (range_kept (empty_tablet tablet.range) tablet.list)) in
+      let on = cover_begins tablet.range told last.seen begins in
       let reach : Reaches now.cover marks =
       subst (λ (t : TabletStateValue). Reaches t.cover marks) (sym is) (λ name. omega (arith, first name, on name)) in
       let has = found_all later last now found honest serves ∙ ap (λ (r : Ends). table_of (images_in r (up_to broker now.cover))) range in
       let up = brought broker old marks deliveries brings accepted now.cover reach image there in
-      let listed = to_images_in place.range (up_to broker now.cover) image up lies in
+      let listed = to_images_in tablet.range (up_to broker now.cover) image up lies in
       has_image image (find bytes_cmp image.key now.cells)
       (subst (λ (cells : Entries). HoldsStill (Some (image.version, set_of (image.content ∷ []))) (find bytes_cmp image.key cells)) (sym has)
-      (subst (λ (o : Option CellValue). HoldsStill o (find bytes_cmp image.key (table_of (images_in place.range (up_to broker now.cover))))) (found_alone image)
-      (more_held (image ∷ []) (images_in place.range (up_to broker now.cover)) image.key (only image (images_in place.range (up_to broker now.cover)) listed))))
+      (subst (λ (o : Option CellValue). HoldsStill o (find bytes_cmp image.key (table_of (images_in tablet.range (up_to broker now.cover))))) (found_alone image)
+      (more_held (image ∷ []) (images_in tablet.range (up_to broker now.cover)) image.key (only image (images_in tablet.range (up_to broker now.cover)) listed))))
     where
       only : (image : Image) (images : List Image) → Contains images image → (one : Image) → Contains (image ∷ []) one → Contains images one
       only image images there one (zero, within, is) = subst (Contains images) is there

@@ -12,11 +12,11 @@ pub mod Learning
 pub mod Entering
 pub mod Opening
 pub mod Closing
-pub mod OnePlace
+pub mod OneTablet
 pub mod Adopting
 pub mod Rounds
 pub mod Taken
-pub mod WindowLaws
+pub mod TabletReaderLaws
 pub mod HonestLists
 pub mod Joining
 pub mod Drafting

@@ -1,4 +1,4 @@
--- What a list of operations makes is held still by a list that goes on from it without a loss.
+-- Without a loss, later states keep every record.
 use Rattle.std.proofs.Common.{◌≡◌, ℕ, Bool, true, false, if◌then◌else◌, List, [], ◌∷◌, ◌++◌, fold, refl, sym, ap, ◌∙◌, subst, append_assoc, Option, Some, None, Ok, Err, IsTrue, Contains}
 use Rattle.std.proofs.lemmas.List.{append-nil}
 use Rattle.std.proofs.lemmas.List.Elements.{Contains-append_left, Contains-append_right}
@@ -81,7 +81,7 @@ pub range_kept : (t : TabletStateValue) (ops : List TabletOp) → (fold stepped 
 range_kept t [] = refl
 range_kept t (op ∷ ops) = range_kept (stepped t op) ops ∙ range_stays t op
 
--- what some images make is held still where they are among those of a tablet
+-- a tablet with the images of another holds all that the other holds
 held_among : (images all : List Image) (cells now : Entries) (key : List ℕ) → cells ≡ table_of images → now ≡ table_of all → ((image : Image) → Contains images image → Contains all image)
     → HoldsStill (find bytes_cmp key cells) (find bytes_cmp key now)
 held_among images all cells now key is are among =

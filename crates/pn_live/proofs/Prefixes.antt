@@ -9,9 +9,6 @@ begins_itself (x ∷ xs) = (let r = begins_itself xs in r.0, ap (λ ys. x ∷ ys
 pub begins_more : {A : Type 0} (xs ys : List A) → IsPrefix xs (xs ++ ys)
 begins_more xs ys = (ys, refl)
 
-pub nothing_begins : {A : Type 0} (xs : List A) → IsPrefix [] xs
-nothing_begins xs = (xs, refl)
-
 pub begins_on : {A : Type 0} (xs ys zs : List A) → IsPrefix xs ys → IsPrefix ys zs → IsPrefix xs zs
 begins_on xs ys zs p q = (p.0 ++ q.0, sym (append_assoc xs p.0 q.0) ∙ (ap (λ w. w ++ q.0) p.1 ∙ q.1))
 
@@ -25,7 +22,7 @@ shorter_begins (x ∷ xs) (y ∷ ys) (z ∷ zs) p q le =
     let rest = shorter_begins xs ys zs (p.0, cc (p.1)) (q.0, cc (q.1)) (omega arith) in
     (rest.0, cc (heads, rest.1))
 
--- a list that begins one no longer is that one
+-- a list that begins one that is no longer is that one
 pub begins_no_more : {A : Type 0} (xs ys : List A) → IsPrefix xs ys → length ys ≤ length xs → xs ≡ ys
 begins_no_more [] [] p le = refl
 begins_no_more [] (y ∷ ys) p le = absurd (omega arith)

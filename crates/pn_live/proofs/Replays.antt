@@ -1,11 +1,11 @@
--- One operation more on what a list makes.
+-- States and histories with one operation more.
 use Rattle.std.proofs.Common.{◌≡◌, List, [], ◌∷◌, ◌++◌, fold, take, length, refl, sym, ap, subst, ◌∙◌, Option, Some, IfSome}
 use Rattle.pn_tablet.specs.Steps.{stepped, state_of}
 use Rattle.pn_tablet.specs.Tablets.{TabletStateValue, empty_tablet}
 use Rattle.pn_tablet.specs.declared.op.TabletOp.{TabletOp}
-use Rattle.pn_live.specs.declared.shown.Shown.{Shown}
+use Rattle.pn_live.specs.declared.published_state.PublishedState.{PublishedState}
 use Rattle.pn_live.specs.Orders.{list_of, IsLater, GoesOn}
-use Rattle.pn_live.proofs.Prefixes.{begins_itself, begins_more, begins_on, begins_of_take, take_of_begins}
+use Rattle.pn_live.proofs.Prefixes.{begins_more, begins_on, begins_of_take, take_of_begins}
 use Rattle.pn_region.proofs.Events.{range_stays}
 use mathlib.Core.List.{IsPrefix}
 
@@ -19,28 +19,20 @@ replayed_more s n before after op is next more =
     let here : n ≡ state_of s.range (before ++ op ∷ []) = next ∙ (ap (λ t. stepped t op) is ∙ sym (fold_last stepped (empty_tablet s.range) before op)) in
     here ∙ (ap (λ ops. state_of s.range ops) (sym more) ∙ ap (λ r. state_of r after) (sym same))
 
-pub later_by : (x y : Shown) (op : TabletOp) → y.stamp.seen.book ≡ x.stamp.seen.book → y.state ≡ stepped x.state op → list_of y ≡ list_of x ++ op ∷ [] → IsLater x y
+pub later_by : (x y : PublishedState) (op : TabletOp) → y.position.seen.book ≡ x.position.seen.book → y.state ≡ stepped x.state op → list_of y ≡ list_of x ++ op ∷ [] → IsLater x y
 later_by x y op book next more = record {
   book = book;
   range = ap (λ (t : TabletStateValue). t.range) next ∙ range_stays x.state op;
   begins = subst (λ l. IsPrefix (list_of x) l) (sym more) (begins_more (list_of x) (op ∷ []));
 }
 
--- what was seen before, where something was
-pub goes_on_from : (v w : Option Shown) (old x y : Shown) → v ≡ Some old → GoesOn v x y w → IsLater old y
+-- an entry finds a state that extends the one before, if there was one
+pub goes_on_from : (v w : Option PublishedState) (old x y : PublishedState) → v ≡ Some old → GoesOn v x y w → IsLater old y
 goes_on_from v w old x y is on = subst (λ u. IfSome u (λ seen. IsLater seen y)) is on.0
 
--- what was seen begins what is later than what was found
-pub begins_later : (s f n : Shown) → take (length (list_of s)) (list_of f) ≡ list_of s → IsLater f n → IsPrefix (list_of s) (list_of n)
+-- what extends the state found last extends what was seen
+pub begins_later : (s f n : PublishedState) → take (length (list_of s)) (list_of f) ≡ list_of s → IsLater f n → IsPrefix (list_of s) (list_of n)
 begins_later s f n on later = begins_on (list_of s) (list_of f) (list_of n) (begins_of_take (list_of s) (list_of f) on) later.begins
 
-pub still_on : (s f n : Shown) → take (length (list_of s)) (list_of f) ≡ list_of s → IsLater f n → take (length (list_of s)) (list_of n) ≡ list_of s
+pub still_on : (s f n : PublishedState) → take (length (list_of s)) (list_of f) ≡ list_of s → IsLater f n → take (length (list_of s)) (list_of n) ≡ list_of s
 still_on s f n on later = take_of_begins (list_of s) (list_of n) (begins_later s f n on later)
-
--- a tablet that keeps the state that is shown is at the state of the list that is published
-pub kept_state : (t : TabletStateValue) (x : Shown) (settled published : List TabletOp) → x.state ≡ t → list_of x ≡ settled → published ≡ settled → t ≡ state_of t.range published
-kept_state t x settled published kept is same =
-    subst (λ (u : TabletStateValue). u ≡ state_of u.range published) kept (x.replayed ∙ ap (λ ops. state_of x.state.range ops) (is ∙ sym same))
-
-pub itself_on : (s f : Shown) → s ≡ f → take (length (list_of s)) (list_of f) ≡ list_of s
-itself_on s f same = take_of_begins (list_of s) (list_of f) (subst (λ (x : Shown). IsPrefix (list_of s) (list_of x)) same (begins_itself (list_of s)))

@@ -1,47 +1,60 @@
--- A live region after a round, by its parts.
+-- A live region after a round.
 use Rattle.std.proofs.Common.{◌≡◌, List, [], ◌∷◌, map, refl, sym, ap, ◌∙◌, subst, Ok}
 use Rattle.std.specs.List.{flat_map}
 use Rattle.logbook.specs.Pages.{Book}
-use Rattle.pn_join.specs.Marks.{Positions}
 use Rattle.pn_stream.specs.Positions.{DeliveryValue}
 use Rattle.pn_tablet.specs.Changes.{changes}
 use Rattle.pn_tablet.specs.declared.change.Change.{Change}
 use Rattle.pn_tablet.specs.declared.op.TabletOp.{TabletOp}
-use Rattle.pn_apply.specs.Applying.{all_changes}
+use Rattle.pn_apply.specs.Applying.{all_stepped, all_changes}
 use Rattle.pn_region.specs.Marking.{new_marks}
 use Rattle.pn_region.specs.Regions.{RegionValue, AreRegionMarks, IsRegion, IsLawfulRegion, all_cells}
 use Rattle.pn_region.specs.Rounds.{joins, round}
+use Rattle.pn_region.proofs.RoundEnds.{new_region_is, round_ok, told_changes}
 use Rattle.pn_live.specs.LiveRegions.{LiveRegionValue, core, tablets_in, publishing}
-use Rattle.pn_live.specs.Places.{PlaceValue, NoteValue, state_at, notes_of, all_appended}
+use Rattle.pn_live.specs.PublishedTablets.{PublishedTabletValue, TabletNoteValue, state_at, notes_of, all_appended}
 use Rattle.pn_live.specs.Readers.{AreNotesOf}
-use Rattle.pn_live.proofs.Rounds.{published_live, region_live, ok_live, changes_live, books_live}
+use Rattle.pn_live.proofs.Appending.{states_appended, books_appended, same_count}
+use Rattle.pn_live.proofs.Rounds.{fit_live}
 
-pub notes_books : (places : List PlaceValue) → map (λ (n : NoteValue). n.book) (notes_of places) ≡ map (λ (p : PlaceValue). p.book) places
+pub notes_books : (tablets : List PublishedTabletValue) → map (λ (n : TabletNoteValue). n.book) (notes_of tablets) ≡ map (λ (p : PublishedTabletValue). p.book) tablets
 notes_books [] = refl
-notes_books (p ∷ places) = ap (λ (rest : List Book). p.book ∷ rest) (notes_books places)
+notes_books (p ∷ tablets) = ap (λ (rest : List Book). p.book ∷ rest) (notes_books tablets)
 
-module _ (old now : LiveRegionValue) (deliveries : List DeliveryValue) (is : IsRegion (core old)) (marks : Positions) (ops : List TabletOp) (found : ops ≡ joins (core old) deliveries marks)
-    (accepted : new_marks old.marks deliveries ≡ Ok marks) (layout : now.layout ≡ old.layout) where
-  -- all joins are published
-  module _ (all : now.places ≡ all_appended old.places ops) (marked : now.marks ≡ marks) where
-    core_now : core now ≡ record { layout = old.layout; tablets = map state_at now.places; marks = marks }
-    core_now = λ i. record { layout = layout i; tablets = map state_at now.places; marks = marked i }
+-- what a round makes of a live region, and what it tells of changes
+pub record Takes (old now : LiveRegionValue) (deliveries : List DeliveryValue) (told : List Change) : Type 0 where
+  pub ok : round (core old) deliveries ≡ Ok (core now)
+  pub published : now.tablets ≡ publishing old deliveries now.marks
+  pub tells : told ≡ changes (all_cells (core old)) (all_cells (core now))
+  pub fits : AreNotesOf (tablets_in old) (notes_of now.tablets)
+  pub same : tablets_in now ≡ tablets_in old
 
-    pub taken_ok : round (core old) deliveries ≡ Ok (core now)
-    taken_ok = ok_live old deliveries is marks ops found now.places all accepted ∙ ap Ok (sym core_now)
+-- all joins are published, and the marks are the new ones
+module _ (old now : LiveRegionValue) (deliveries : List DeliveryValue) (is : IsRegion (core old)) (ops : List TabletOp) (found : ops ≡ joins (core old) deliveries now.marks)
+    (layout : now.layout ≡ old.layout) (all : now.tablets ≡ all_appended old.tablets ops) where
+  stepped : map state_at now.tablets ≡ all_stepped (map state_at old.tablets) (joins (core old) deliveries now.marks)
+  stepped =
+      ap (map state_at) all
+      ∙ (states_appended old.tablets ops (same_count old.tablets ops (fit_live old deliveries is now.marks ops found)) ∙ ap (all_stepped (map state_at old.tablets)) found)
 
-    pub taken_places : now.places ≡ publishing old deliveries now.marks
-    taken_places = published_live old deliveries is marks ops found now.places all ∙ ap (publishing old deliveries) (sym marked)
+  core_now : core now ≡ record { layout = old.layout; tablets = map state_at now.tablets; marks = now.marks }
+  core_now = λ i. record { layout = layout i; tablets = map state_at now.tablets; marks = now.marks }
 
-    pub taken_changes : (told : List Change) → told ≡ flat_map (λ (list : List Change). list) (all_changes (map state_at old.places) ops) → told ≡ changes (all_cells (core old)) (all_cells (core now))
-    taken_changes told are =
-        changes_live old deliveries is marks ops found now.places all told are ∙ ap (λ (r : RegionValue). changes (all_cells (core old)) (all_cells r)) (sym core_now)
+  books : map (λ (p : PublishedTabletValue). p.book) now.tablets ≡ map (λ (p : PublishedTabletValue). p.book) old.tablets
+  books = ap (map (λ (p : PublishedTabletValue). p.book)) all ∙ books_appended old.tablets ops
 
-    pub taken_lawful : AreRegionMarks marks → IsLawfulRegion (core now)
-    taken_lawful good = subst IsLawfulRegion (sym core_now) (record { is_region = region_live old deliveries is marks ops found now.places all; are_marks = good })
+  pub taken_lawful : AreRegionMarks now.marks → IsLawfulRegion (core now)
+  taken_lawful good = subst IsLawfulRegion (sym core_now) (record { is_region = new_region_is (core old) deliveries is now.marks (map state_at now.tablets) stepped; are_marks = good })
 
-    pub taken_same : tablets_in now ≡ tablets_in old
-    taken_same = λ i. record { layout = layout i; books = books_live old deliveries is marks ops found now.places all i }
-
-    pub taken_fits : AreNotesOf (tablets_in old) (notes_of now.places)
-    taken_fits = notes_books now.places ∙ books_live old deliveries is marks ops found now.places all
+  pub takes : new_marks old.marks deliveries ≡ Ok now.marks → (told : List Change) → told ≡ flat_map (λ (list : List Change). list) (all_changes (map state_at old.tablets) ops)
+      → Takes old now deliveries told
+  takes accepted told are = record {
+    ok = round_ok (core old) deliveries is now.marks (map state_at now.tablets) accepted stepped ∙ ap Ok (sym core_now);
+    published = all ∙ ap (all_appended old.tablets) found;
+    tells =
+        told_changes (core old) deliveries is now.marks (map state_at now.tablets) told stepped
+        (are ∙ ap (λ (os : List TabletOp). flat_map (λ (list : List Change). list) (all_changes (map state_at old.tablets) os)) found)
+        ∙ ap (λ (r : RegionValue). changes (all_cells (core old)) (all_cells r)) (sym core_now);
+    fits = notes_books now.tablets ∙ books;
+    same = λ i. record { layout = layout i; books = books i };
+  }

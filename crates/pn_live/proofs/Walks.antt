@@ -1,21 +1,20 @@
--- Lists of which the first so many places were changed, each by what stands for it in another list.
-use Rattle.std.proofs.Common.{◌≡◌, ℕ, zero, suc, ◌+◌, ◌<◌, ◌≤◌, List, [], ◌∷◌, ◌++◌, length, map, drop, set, get_or, refl, sym, ap, ◌∙◌, subst, arith, add-one, append_assoc, length-append}
-use Rattle.std.proofs.lemmas.List.{append-nil}
+-- Lists whose first elements were changed, each by the element of another list at its index.
+use Rattle.std.proofs.Common.{◌≡◌, ℕ, zero, suc, ◌+◌, ◌<◌, ◌≤◌, List, [], ◌∷◌, ◌++◌, length, map, drop, set, get_or, refl, sym, ap, ◌∙◌, subst, arith, add-one, length-append}
 
--- a list that goes on behind a place has that place
+-- a list with something from an index on has that index
 pub within_of : {A : Type 0} (xs : List A) (n : ℕ) (x : A) (rest : List A) → x ∷ rest ≡ drop n xs → n < length xs
 within_of [] zero x rest is = absurd (cc is)
 within_of [] (suc n) x rest is = absurd (cc is)
 within_of (y ∷ xs) zero x rest is = omega arith
 within_of (y ∷ xs) (suc n) x rest is = omega (arith, within_of xs n x rest is)
 
--- a list that ends at a place has no more
+-- a list with nothing from an index on ends there
 pub past_of : {A : Type 0} (xs : List A) (n : ℕ) → [] ≡ drop n xs → length xs ≤ n
 past_of [] n is = omega arith
 past_of (y ∷ xs) zero is = absurd (cc is)
 past_of (y ∷ xs) (suc n) is = omega (arith, past_of xs n is)
 
--- what stands at the place, and what is left behind it
+-- the element at the index, and what is left after it
 pub first_of : {A : Type 0} (xs : List A) (n : ℕ) (x : A) (rest : List A) → x ∷ rest ≡ drop n xs → x ≡ get_or xs n x
 first_of [] zero x rest is = absurd (cc is)
 first_of [] (suc n) x rest is = absurd (cc is)
@@ -32,13 +31,13 @@ pub rest_of : {A : Type 0} (xs : List A) (n : ℕ) (x : A) (rest : List A) → x
 rest_of xs n x rest is = rest_after xs n x rest is ∙ ap (λ k. drop k xs) (sym (add-one n))
 
 module _ {A B : Type 0} (Does : A → B → A → Type 0) where
-  -- the first so many are done, and the others are as they were
+  -- the first `n` are changed, and the others are as they were
   abbrev pub DoneFirst : ℕ → List A → List B → List A → Type 0
   DoneFirst zero olds bs news = news ≡ olds
   DoneFirst (suc n) (old ∷ olds) (b ∷ bs) (new ∷ news) = Does old b new × DoneFirst n olds bs news
   DoneFirst (suc n) _ _ _ = ⊥
 
-  -- as many as there were
+  -- the list is as long as it was
   pub done_count : (n : ℕ) (olds : List A) (bs : List B) (news : List A) → DoneFirst n olds bs news → length news ≡ length olds
   done_count zero olds bs news done = ap length done
   done_count (suc n) [] bs news done = absurd done
@@ -67,22 +66,14 @@ module _ {A B : Type 0} (Does : A → B → A → Type 0) where
   done_next (suc n) (old ∷ olds) (c ∷ bs) (x ∷ news) a b new done within too at there does =
       (done.0, done_next n olds bs news a b new done.1 (omega arith) (omega arith) at there does)
 
-  -- one more is done
+  -- one more is changed
   pub done_more : (n : ℕ) (olds : List A) (bs : List B) (news : List A) (a : A) (b : B) (new : A) → DoneFirst n olds bs news → n < length olds → n < length bs
       → a ≡ get_or olds n a → b ≡ get_or bs n b → Does a b new → DoneFirst (n + 1) olds bs (set news n new)
   done_more n olds bs news a b new done within too at there does =
       subst (λ (k : ℕ). DoneFirst k olds bs (set news n new)) (sym (add-one n)) (done_next n olds bs news a b new done within too at there does)
 
--- a list is moved over, one after another
+-- elements are moved to another list; while some are left, it is not full
 module _ {A B : Type 0} (f : A → B) (all : List B) (done : List B) (left : List A) (so_far : done ++ map f left ≡ all) where
-  pub moved_more : (a : A) (rest : List A) (b : B) → left ≡ a ∷ rest → b ≡ f a → (done ++ b ∷ []) ++ map f rest ≡ all
-  moved_more a rest b is made =
-      append_assoc done (b ∷ []) (map f rest)
-      ∙ ((λ i. done ++ made i ∷ map f rest) ∙ (ap (λ (xs : List A). done ++ map f xs) (sym is) ∙ so_far))
-
-  pub moved_whole : left ≡ [] → done ≡ all
-  moved_whole is = sym (append-nil done) ∙ (ap (λ (xs : List A). done ++ map f xs) (sym is) ∙ so_far)
-
   pub moved_room : (a : A) (rest : List A) → left ≡ a ∷ rest → length done < length all
   moved_room a rest is =
       let whole : length (done ++ (f a ∷ map f rest)) ≡ length all = ap length (ap (λ (xs : List A). done ++ map f xs) (sym is) ∙ so_far) in

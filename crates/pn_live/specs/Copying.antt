@@ -11,15 +11,15 @@ use Rattle.pn_region.specs.Regions.{IsSound}
 use Rattle.pn_scan.specs.Candidates.{Look}
 use Rattle.pn_scan.specs.Views.{IsFoundIn}
 use Rattle.pn_live.specs.Readers.{LiveReaderValue, LooksLive}
-use Rattle.pn_live.specs.Windows.{WindowValue, Sees}
+use Rattle.pn_live.specs.TabletReaders.{TabletReaderValue, Sees}
 
--- the copy that the state which was found gives, or why there is none
+-- the copy of the state found, or why there is none
 abbrev pub copy_at : Positions → Option TabletStateValue → Result TabletCopyValue CopyFault
 copy_at need None = Err NoEntry
 copy_at need (Some state) = copy_of state need
 
--- the window was looked through once, and the answer is the right one for what was found
-pub record IsOneCopy (old : WindowValue) (need : Positions) (new : WindowValue) (answer : Result TabletCopyValue CopyFault) (found : Option TabletStateValue) : Type 0 where
+-- one entry, and the right answer for what it found
+pub record IsOneCopy (old : TabletReaderValue) (need : Positions) (new : TabletReaderValue) (answer : Result TabletCopyValue CopyFault) (found : Option TabletStateValue) : Type 0 where
   pub sees : Sees old found new
   pub sound : IfSome found IsSound
   pub answers : Answers is_memory answer (copy_at need found)

@@ -6,7 +6,7 @@ use Rattle.pn_tablet.specs.Tablets.{TabletStateValue}
 use Rattle.pn_tablet.specs.declared.op.TabletOp.{TabletOp}
 use Rattle.pn_apply.specs.Applying.{IsJoinIn}
 
--- the operation is a join that the draft does not refuse, and makes of it the state that is shown
+-- the operation is a join that the draft takes, and makes the published state of it
 pub record Lacks (draft : TabletStateValue) (op : TabletOp) (shown : TabletStateValue) : Type 0 where
   pub join : IsJoinIn draft op
   pub positions : HasPositions op

@@ -7,12 +7,12 @@ use Rattle.pn_tablet.specs.Ranges.{Ends}
 use Rattle.pn_tablet.specs.Steps.{state_of}
 use Rattle.pn_tablet.specs.declared.op.TabletOp.{TabletOp}
 use Rattle.pn_region.specs.Faith.{IsFaithful}
-use Rattle.pn_live.specs.Places.{PlaceValue}
+use Rattle.pn_live.specs.PublishedTablets.{PublishedTabletValue}
 
 -- the state of each beginning of the list is faithful
 abbrev pub IsHonestList : BrokerRecord → Ends → List TabletOp → Type 0
 IsHonestList broker range list = (first : List TabletOp) → IsPrefix first list → IsFaithful broker (state_of range first)
 
 -- what is published of each live tablet is honest
-abbrev pub AreHonestPlaces : BrokerRecord → List PlaceValue → Type 0
-AreHonestPlaces broker places = AllByRecursion (λ place. IsHonestList broker place.range place.list) places
+abbrev pub AreHonestTablets : BrokerRecord → List PublishedTabletValue → Type 0
+AreHonestTablets broker tablets = AllByRecursion (λ tablet. IsHonestList broker tablet.range tablet.list) tablets

@@ -1,11 +1,11 @@
--- The words of the laws over lists of operations.
+-- What the laws over lists of operations speak of.
 use Rattle.std.specs.Prelude.{◌≡◌, ◌⊎◌, ℕ, List, [], ◌∷◌, drop, Option, None, Some, IsTrue}
 use Rattle.std.specs.FinMap.{contains_key}
 use Rattle.std.specs.Ordering.{is_lt}
 use Rattle.pn_record.specs.Order.{version_cmp}
 use Rattle.pn_record.specs.Sets.{CellValue}
 use Rattle.pn_record.specs.declared.image.Image.{Image}
-use Rattle.pn_live.specs.Windows.{WindowValue, KnowsMore}
+use Rattle.pn_live.specs.TabletReaders.{TabletReaderValue, KnowsMore}
 use Rattle.pn_tablet.specs.declared.op.TabletOp.{TabletOp}
 use Rattle.pn_tablet.specs.declared.op.TabletOp.TheVariants.{Lose}
 
@@ -19,17 +19,17 @@ abbrev pub AreNoLosses : List TabletOp → Type 0
 AreNoLosses [] = Unit {0}
 AreNoLosses (op ∷ ops) = IsNoLoss op × AreNoLosses ops
 
--- the record is there in a greater version than the image's, or in its version with its content among the contents
+-- the record is there in a newer version than the image's, or in its version with its content among the contents
 abbrev pub HasImage : Image → Option CellValue → Type 0
 HasImage image None = ⊥
 HasImage image (Some cell) = IsTrue (is_lt (version_cmp image.version cell.0)) ⊎ ((cell.0 ≡ image.version) × IsTrue (contains_key cell.1 image.content))
 
--- no loss stands behind the first so many operations of what was seen
-abbrev pub HasNoLossBehind : ℕ → WindowValue → Type 0
-HasNoLossBehind count window = AreNoLosses (drop count window.seen)
+-- no operation that was seen after the first `count` is a loss
+abbrev pub HasNoLossAfter : ℕ → TabletReaderValue → Type 0
+HasNoLossAfter count reader = AreNoLosses (drop count reader.seen)
 
--- every window knows as much as before, or more
-abbrev pub AllKnowMore : List WindowValue → List WindowValue → Type 0
+-- every tablet reader's history only grew
+abbrev pub AllKnowMore : List TabletReaderValue → List TabletReaderValue → Type 0
 AllKnowMore [] [] = Unit {0}
 AllKnowMore (old ∷ olds) (new ∷ news) = KnowsMore old new × AllKnowMore olds news
 AllKnowMore _ _ = ⊥

@@ -1,5 +1,5 @@
 pub mod Attempts
-pub mod Behind
+pub mod Closing
 pub mod Books
 pub mod Copying
 pub mod Drafts
@@ -9,9 +9,9 @@ pub mod Limits
 pub mod LiveRegions
 pub mod Looks
 pub mod Orders
-pub mod Places
+pub mod PublishedTablets
 pub mod Proofs
 pub mod Published
 pub mod Readers
 pub mod Recovery
-pub mod Windows
+pub mod TabletReaders

@@ -10,47 +10,47 @@ use Rattle.pn_region.specs.Rounds.{joins}
 use Rattle.pn_region.specs.declared.entry.Entry.{Entry}
 use Rattle.pn_region.specs.declared.fault.RoundFault.{RoundFault}
 use Rattle.pn_region.specs.declared.fault.RoundFault.TheVariants.{Memory}
-use Rattle.pn_live.specs.Places.{PlaceValue, AreNewPlaces, state_at, all_appended, AreOldOrAppended}
+use Rattle.pn_live.specs.PublishedTablets.{PublishedTabletValue, AreNewTablets, state_at, all_appended, AreOldOrAppended}
 use Rattle.pn_live.specs.Readers.{LiveReaderValue, Tablets, tablets_of}
 
--- a layout, a live tablet for each of its ranges, how far streams were taken, and the entries of the log
+-- a layout, a live tablet for each of its ranges, marks, and the entries of the log
 pub record LiveRegionValue : Type 0 where
   pub layout : Bounds
-  pub places : List PlaceValue
+  pub tablets : List PublishedTabletValue
   pub marks : Positions
   pub log : List Entry
 
--- the region that stands behind it: each tablet is at the state of what is published
+-- the region that it is: each tablet has the state of what is published
 abbrev pub core : LiveRegionValue → RegionValue
-core live = record { layout = live.layout; tablets = map state_at live.places; marks = live.marks }
+core live = record { layout = live.layout; tablets = map state_at live.tablets; marks = live.marks }
 
--- nothing was taken, and nothing is published
+-- a live region with nothing taken or published
 pub record IsNewLive (bounds : Bounds) (live : LiveRegionValue) : Type 0 where
   pub layout : live.layout ≡ bounds
-  pub places : AreNewPlaces (ranges bounds) live.places
+  pub tablets : AreNewTablets (ranges bounds) live.tablets
   pub marks : live.marks ≡ []
   pub log : live.log ≡ []
 
 -- which tablets it has
 abbrev pub tablets_in : LiveRegionValue → Tablets
-tablets_in live = record { layout = live.layout; books = map (λ place. place.book) live.places }
+tablets_in live = record { layout = live.layout; books = map (λ tablet. tablet.book) live.tablets }
 
 -- the reader is one of the region's
 abbrev pub IsReaderIn : LiveRegionValue → LiveReaderValue → Type 0
 IsReaderIn live reader = tablets_of reader ≡ tablets_in live
 
--- what the deliveries bring is published of each tablet
-abbrev pub publishing : LiveRegionValue → List DeliveryValue → Positions → List PlaceValue
-publishing live deliveries marks = all_appended live.places (joins (core live) deliveries marks)
+-- the live tablets after a round: the join of each is published
+abbrev pub publishing : LiveRegionValue → List DeliveryValue → Positions → List PublishedTabletValue
+publishing live deliveries marks = all_appended live.tablets (joins (core live) deliveries marks)
 
--- what a round leaves that ran out of memory: of each tablet its join is published, or nothing, and nothing where the round would be refused
+-- what a round leaves that ran out of memory: each tablet's join is published or not, and none if the round would be refused
 abbrev pub IsHalfPublished : LiveRegionValue → List DeliveryValue → LiveRegionValue → Type 0
 IsHalfPublished old deliveries new = (new.layout ≡ old.layout) × (new.marks ≡ old.marks)
     × MatchResult (new_marks old.marks deliveries)
-    (λ marks. AreOldOrAppended old.places (joins (core old) deliveries marks) new.places)
-    (λ fault. new.places ≡ old.places)
+    (λ marks. AreOldOrAppended old.tablets (joins (core old) deliveries marks) new.tablets)
+    (λ fault. new.tablets ≡ old.tablets)
 
--- what a fault leaves: where memory ran out some joins may be published, and every other changes nothing
+-- what a refused round leaves: out of memory, some joins may be published; every other fault changes nothing
 abbrev pub LeavesLive : RoundFault → LiveRegionValue → List DeliveryValue → LiveRegionValue → Type 0
 LeavesLive Memory old deliveries new = IsHalfPublished old deliveries new
 LeavesLive _ old deliveries new = new ≡ old

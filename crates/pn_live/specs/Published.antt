@@ -1,34 +1,40 @@
 -- What is published of a live tablet, and what a reader knows of it.
 use Rattle.std.specs.Prelude.{◌≡◌, List}
 use Rattle.pn_tablet.specs.Ranges.{Ends}
+use Rattle.pn_tablet.specs.Steps.{state_of}
 use Rattle.pn_tablet.specs.Tablets.{TabletStateValue}
 use Rattle.pn_tablet.specs.declared.op.TabletOp.{TabletOp}
 use Rattle.pn_live.specs.Attempts.{settled_of}
 use Rattle.pn_live.specs.Orders.{list_of}
-use Rattle.pn_live.specs.declared.tablet.LiveTablet.{LiveTablet}
-use Rattle.pn_live.specs.declared.seat.Seat.{Seat}
+use Rattle.pn_live.specs.declared.live_tablet.LiveTablet.{LiveTablet}
+use Rattle.pn_live.specs.declared.read_guard.ReadGuard.{ReadGuard}
+use Rattle.pn_live.specs.declared.reader_handle.ReaderHandle.{ReaderHandle}
 
 -- the operations whose publication ended well
 abbrev pub published : LiveTablet → List TabletOp
-published tablet = settled_of tablet.note.seen.log
+published tablet = settled_of tablet.settled.seen.log
 
 -- the state that readers find
 abbrev pub state_in : LiveTablet → TabletStateValue
 state_in tablet = tablet.writer.desk.shown.value.state
 
--- the operations that lead to what the reader's last answer read
-abbrev pub seen_by : Seat → List TabletOp
-seen_by seat = list_of seat.seen.value
+-- the operations that lead to the state answered last
+abbrev pub seen_by : ReaderHandle → List TabletOp
+seen_by handle = list_of handle.seen.value
 
--- the operations that the reader was told of
-abbrev pub told_to : Seat → List TabletOp
-told_to seat = settled_of seat.told.seen.log
+-- the operations that the reader learnt
+abbrev pub told_to : ReaderHandle → List TabletOp
+told_to handle = settled_of handle.told.seen.log
 
--- the tablet's range is that of the reader's
-abbrev pub range_of : Seat → Ends
-range_of seat = seat.seen.value.state.range
+-- the range of the reader's tablet
+abbrev pub range_of : ReaderHandle → Ends
+range_of handle = handle.seen.value.state.range
 
--- the reader is one of this tablet's
-pub record IsReaderOf (tablet : LiveTablet) (seat : Seat) : Type 0 where
-  pub book : seat.told.seen.book ≡ tablet.note.seen.book
-  pub range : range_of seat ≡ (state_in tablet).range
+-- the state that a read guard found: that of its list
+abbrev pub found_by : ReadGuard → TabletStateValue
+found_by guard = state_of guard.found.value.state.range (list_of guard.found.value)
+
+-- the reader is of this tablet
+pub record IsReaderOf (tablet : LiveTablet) (handle : ReaderHandle) : Type 0 where
+  pub book : handle.told.seen.book ≡ tablet.settled.seen.book
+  pub range : range_of handle ≡ (state_in tablet).range

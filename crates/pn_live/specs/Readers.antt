@@ -5,50 +5,50 @@ use Rattle.logbook.specs.Pages.{Book}
 use Rattle.pn_tablet.specs.Layouts.{Bounds}
 use Rattle.pn_apply.specs.Reducing.{ranges}
 use Rattle.pn_scan.specs.Candidates.{Look}
-use Rattle.pn_live.specs.Places.{PlaceValue, NoteValue}
-use Rattle.pn_live.specs.Windows.{WindowValue, Sees}
+use Rattle.pn_live.specs.PublishedTablets.{PublishedTabletValue, TabletNoteValue}
+use Rattle.pn_live.specs.TabletReaders.{TabletReaderValue, Sees}
 
--- a layout, and a window for each of its ranges
+-- a layout, and a tablet reader for each of its ranges
 pub record LiveReaderValue : Type 0 where
   pub layout : Bounds
-  pub windows : List WindowValue
+  pub tablet_readers : List TabletReaderValue
 
--- the tablets of a live region, which it has as long as it lives
+-- which tablets a live region has, which stays
 pub record Tablets : Type 0 where
   pub layout : Bounds
   pub books : List Book
 
--- which tablets it reads
+-- which tablets the reader reads
 abbrev pub tablets_of : LiveReaderValue → Tablets
-tablets_of reader = record { layout = reader.layout; books = map (λ window. window.book) reader.windows }
+tablets_of reader = record { layout = reader.layout; books = map (λ part. part.book) reader.tablet_readers }
 
 -- the notes are of these tablets
-abbrev pub AreNotesOf : Tablets → List NoteValue → Type 0
+abbrev pub AreNotesOf : Tablets → List TabletNoteValue → Type 0
 AreNotesOf tablets notes = map (λ note. note.book) notes ≡ tablets.books
 
 -- the front is of the tablets that the reader reads
-abbrev pub IsFrontFor : LiveReaderValue → List NoteValue → Type 0
+abbrev pub IsFrontFor : LiveReaderValue → List TabletNoteValue → Type 0
 IsFrontFor reader front = AreNotesOf (tablets_of reader) front
 
 -- the reader reads these live tablets
-pub record ReadsFrom (places : List PlaceValue) (reader : LiveReaderValue) : Type 0 where
-  pub books : map (λ window. window.book) reader.windows ≡ map (λ place. place.book) places
-  pub ends : ranges reader.layout ≡ map (λ place. place.range) places
+pub record ReadsFrom (tablets : List PublishedTabletValue) (reader : LiveReaderValue) : Type 0 where
+  pub books : map (λ part. part.book) reader.tablet_readers ≡ map (λ tablet. tablet.book) tablets
+  pub ends : ranges reader.layout ≡ map (λ tablet. tablet.range) tablets
 
--- there is a window for each range, in their order
-abbrev pub AreWindowsOf : Bounds → List WindowValue → Type 0
-AreWindowsOf layout windows = map (λ window. window.range) windows ≡ ranges layout
+-- the tablet readers are of the layout's ranges, one each, in their order
+abbrev pub AreTabletReadersOf : Bounds → List TabletReaderValue → Type 0
+AreTabletReadersOf layout readers = map (λ reader. reader.range) readers ≡ ranges layout
 
--- the reader looked into a tablet: an entry found a state there, or was refused, and all other windows stay
+-- the reader entered one tablet, and found a state or was refused; nothing else changed
 abbrev pub LooksLive : LiveReaderValue → Look → LiveReaderValue → Type 0
 LooksLive old look new =
-    (was : WindowValue) × (now : WindowValue) × (slice_get old.windows look.0 ≡ Some was) × Sees was look.1 now
-    × (new ≡ record old { windows = set old.windows look.0 now })
+    (was : TabletReaderValue) × (now : TabletReaderValue) × (slice_get old.tablet_readers look.0 ≡ Some was) × Sees was look.1 now
+    × (new ≡ record old { tablet_readers = set old.tablet_readers look.0 now })
 
--- a new reader saw and was told of what is published
-abbrev pub opening : PlaceValue → WindowValue
-opening place = record { book = place.book; range = place.range; seen = place.list; told = place.list }
+-- a new reader of a tablet, which saw and learnt what is published
+abbrev pub opening : PublishedTabletValue → TabletReaderValue
+opening tablet = record { book = tablet.book; range = tablet.range; seen = tablet.list; told = tablet.list }
 
--- each of them reads these tablets, of which it saw nothing and was told of nothing
+-- a reader of these tablets that saw and learnt nothing
 abbrev pub IsNewReader : Tablets → LiveReaderValue → Type 0
-IsNewReader tablets reader = (tablets_of reader ≡ tablets) × AllByRecursion (λ window. (window.seen ≡ []) × (window.told ≡ [])) reader.windows
+IsNewReader tablets reader = (tablets_of reader ≡ tablets) × AllByRecursion (λ part. (part.seen ≡ []) × (part.told ≡ [])) reader.tablet_readers

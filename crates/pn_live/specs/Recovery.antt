@@ -6,22 +6,22 @@ use Rattle.pn_tablet.specs.declared.op.TabletOp.{TabletOp}
 use Rattle.pn_tablet.specs.declared.op.TabletOp.TheVariants.{Adopt}
 use Rattle.pn_region.specs.Logged.{breaking}
 use Rattle.pn_region.specs.Recovery.{adopting}
-use Rattle.pn_region.specs.declared.fault.AdoptFault.{AdoptFault}
-use Rattle.pn_region.specs.declared.fault.AdoptFault.TheVariants.{TooOld}
+use Rattle.pn_tablet.specs.declared.fault.OpFault.{OpFault as AdoptFault}
+use Rattle.pn_tablet.specs.declared.fault.OpFault.TheVariants.{TooOld}
 use Rattle.pn_live.specs.LiveRegions.{LiveRegionValue, core}
-use Rattle.pn_live.specs.Places.{PlaceValue, appended}
+use Rattle.pn_live.specs.PublishedTablets.{PublishedTabletValue, appended}
 
--- the places after one operation more is published of the tablet of this number
-abbrev pub appended_at : ℕ → TabletOp → List PlaceValue → List PlaceValue
-appended_at tablet op [] = []
-appended_at zero op (place ∷ places) = appended place op ∷ places
-appended_at (suc tablet) op (place ∷ places) = place ∷ appended_at tablet op places
+-- the tablets after one operation more of the tablet of this number
+abbrev pub appended_at : ℕ → TabletOp → List PublishedTabletValue → List PublishedTabletValue
+appended_at number op [] = []
+appended_at zero op (tablet ∷ tablets) = appended tablet op ∷ tablets
+appended_at (suc number) op (tablet ∷ tablets) = tablet ∷ appended_at number op tablets
 
--- the live region then: the log has a break, and everything else stays
+-- the live region after one operation more of the tablet of this number, and a break in the log
 abbrev pub publishing_at : LiveRegionValue → ℕ → TabletOp → LiveRegionValue
-publishing_at live tablet op = record live { places = appended_at tablet op live.places; log = breaking live.log }
+publishing_at live number op = record live { tablets = appended_at number op live.tablets; log = breaking live.log }
 
--- the copy is adopted, and the adoption is published of the tablet that a region's adoption names
+-- the copy is adopted as in a region, and the adoption is published of that tablet
 pub record Adopts (copy : TabletCopyValue) (old new : LiveRegionValue) : Type 0 where
   pub tablet : ℕ
   pub adopted : adopting (core old) copy ≡ Ok (tablet, core new)

@@ -1,24 +1,24 @@
 //! Attempts to publish, and the rule of the book that keeps those of one tablet.
 
-use crate::stamp::Stamp;
+use crate::publish_position::PublishPosition;
 use logbook::{Gain, Plain, Play, Rule};
 use std::collections::LinkedList;
 use std::marker::PhantomData;
 use std::snapshot::Snapshot;
 
-/// An attempt to publish: the operations that are published before it, and those that it would have
-/// published. No value of it is made.
+/// An attempt to publish: the operations published before it, and those that it would publish. Only proofs
+/// have values of it.
 pub struct Attempt<O> {
     pub settled: LinkedList<O>,
     pub tried: LinkedList<O>,
 }
 
 /// The rule of a book of attempts.
-pub struct Law<O> {
+pub struct AttemptRule<O> {
     operation: PhantomData<O>,
 }
 
-impl<O> Rule<Attempt<O>, u64> for Law<O> {
+impl<O> Rule<Attempt<O>, u64> for AttemptRule<O> {
     ghost use Rattle.std.specs.Prelude.{[]};
     ghost use base.Fml.{ftrue};
     ghost use Rattle.pn_live.specs.Books.{IsKept};
@@ -36,32 +36,32 @@ impl<O> Rule<Attempt<O>, u64> for Law<O> {
     ghost moves = { λ ask before after answer. Unit {0} };
 }
 
-/// Who adds an attempt trades nothing for it.
-pub struct Nothing;
+/// Adding an attempt earns nothing beside it.
+pub struct NoGain;
 
-impl<O> Gain<Attempt<O>, u64> for Nothing {
+impl<O> Gain<Attempt<O>, u64> for NoGain {
     ghost use base.Fml.{ftrue};
 
     ghost after = { λ names about answer. ftrue };
 }
 
 /// The step that adds an attempt.
-pub struct Add;
+pub struct AddAttempt;
 
-impl<O> Play<Attempt<O>, u64> for Add {
+impl<O> Play<Attempt<O>, u64> for AddAttempt {
     ghost use Rattle.pn_live.specs.Books.{Adds};
 
     ghost then = { Adds };
 }
 
-/// What is published is tried with one operation more.
+/// One operation more is tried.
 #[derive(Drop)]
 pub struct Trying<O> {
-    pub latest: Stamp<O>,
+    pub latest: PublishPosition<O>,
     pub operation: Snapshot<O>,
 }
 
-impl<O> Plain<Trying<O>, Attempt<O>, u64> for Add {
+impl<O> Plain<Trying<O>, Attempt<O>, u64> for AddAttempt {
     ghost use Rattle.std.specs.Prelude.{None};
     ghost use Rattle.pn_live.specs.Attempts.{one_more};
 
@@ -73,10 +73,10 @@ impl<O> Plain<Trying<O>, Attempt<O>, u64> for Add {
 /// What was tried is published.
 #[derive(Drop)]
 pub struct Settling<O> {
-    pub latest: Stamp<O>,
+    pub latest: PublishPosition<O>,
 }
 
-impl<O> Plain<Settling<O>, Attempt<O>, u64> for Add {
+impl<O> Plain<Settling<O>, Attempt<O>, u64> for AddAttempt {
     ghost use Rattle.std.specs.Prelude.{None};
     ghost use Rattle.pn_live.specs.Attempts.{well_ended};
 

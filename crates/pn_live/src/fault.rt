@@ -10,7 +10,7 @@ use thiserror::Error;
 /// Why a live region was not opened.
 #[derive(Debug, Drop, Error)]
 pub enum OpenFault {
-    /// A tablet gave no place to a reader.
+    /// A tablet has no place for a reader.
     #[error("no place for a reader")]
     NoReader,
     #[error("out of memory")]

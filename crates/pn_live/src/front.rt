@@ -3,60 +3,58 @@
 ghost use Rattle.std.specs.Prelude.{◌≡◌};
 ghost use Rattle.pn_live.specs.Attempts.{settled_of};
 
-use crate::stamp::Stamp;
+use crate::publish_position::PublishPosition;
 use pn_tablet::TabletOp;
 use std::marker::Model;
 
 /// What is published of one tablet.
 #[derive(Drop)]
-pub struct Note {
-    stamp: Stamp<TabletOp>,
+pub struct TabletNote {
+    position: PublishPosition<TabletOp>,
 }
 
-impl Model for Note {
+impl Model for TabletNote {
     ghost use Rattle.pn_live.specs.Attempts.{settled_of};
-    ghost use Rattle.pn_live.specs.Places.{NoteValue};
+    ghost use Rattle.pn_live.specs.PublishedTablets.{TabletNoteValue};
 
-    ghost Value = { NoteValue };
+    ghost Value = { TabletNoteValue };
 
     ghost use Rattle.pn_live.specs.Proofs.Coding.{note_code};
 
     ghost coded = { note_code };
 
-    ghost view = { λ note. record { book = note.stamp.seen.book; list = settled_of note.stamp.seen.log } };
+    ghost view = { λ note. record { book = note.position.seen.book; list = settled_of note.position.seen.log } };
 }
 
-impl Note {
-    /// The note that the stamp is.
-    pub fn of(stamp: Stamp<TabletOp>) -> Note
-        ensures book { result.book ≡ stamp.seen.book }
-        ensures list { result.list ≡ settled_of stamp.seen.log }
+impl TabletNote {
+    pub fn of(position: PublishPosition<TabletOp>) -> TabletNote
+        ensures book { result.book ≡ position.seen.book }
+        ensures list { result.list ≡ settled_of position.seen.log }
     {
-        Note { stamp }
+        TabletNote { position }
     }
 
-    /// Its stamp.
-    pub fn into_stamp(self) -> Stamp<TabletOp>
+    pub fn into_position(self) -> PublishPosition<TabletOp>
         ensures book { result.seen.book ≡ self.book }
         ensures list { settled_of result.seen.log ≡ self.list }
     {
-        let Note { stamp } = self;
-        stamp
+        let TabletNote { position } = self;
+        position
     }
 }
 
-/// What was published of each tablet of a live region when a call had ended. One reader of the region takes
-/// it, and then reads no less.
+/// What was published of each tablet of a live region when a call had ended. A reader of the region that
+/// learns it reads no less from then on.
 #[derive(Drop)]
 pub struct Front {
-    notes: Vec<Note>,
+    notes: Vec<TabletNote>,
 }
 
 impl Model for Front {
     ghost use Rattle.std.specs.Prelude.{List};
-    ghost use Rattle.pn_live.specs.Places.{NoteValue};
+    ghost use Rattle.pn_live.specs.PublishedTablets.{TabletNoteValue};
 
-    ghost Value = { List NoteValue };
+    ghost Value = { List TabletNoteValue };
 
     ghost use Rattle.std.specs.Coded.{coded_list};
     ghost use Rattle.pn_live.specs.Proofs.Coding.{note_code};
@@ -68,14 +66,13 @@ impl Model for Front {
 
 impl Front {
     /// The front of these notes, one for each tablet.
-    pub fn of(notes: Vec<Note>) -> Front
+    pub fn of(notes: Vec<TabletNote>) -> Front
         ensures { result ≡ notes.items }
     {
         Front { notes }
     }
 
-    /// Its notes.
-    pub fn into_notes(self) -> Vec<Note>
+    pub fn into_notes(self) -> Vec<TabletNote>
         ensures { result.items ≡ self }
     {
         let Front { notes } = self;

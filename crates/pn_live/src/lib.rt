@@ -1,4 +1,6 @@
 //! Live tablets, which one thread changes while others read them without locks.
+//!
+//! A call that answers no `Result` takes no memory.
 #![tactic(auto)]
 
 mod attempt;
@@ -6,15 +8,16 @@ mod fault;
 mod front;
 pub mod honest_laws;
 pub mod laws;
-mod order;
-mod place;
+mod live_tablet;
+mod publish_order;
+mod publish_position;
+mod published_state;
+mod published_tablet;
+mod read_guard;
 mod reader;
+mod reader_handle;
 mod region;
-mod seat;
-mod shown;
-mod stamp;
-mod tablet;
-mod window;
+mod tablet_reader;
 
 pub use fault::OpenFault;
 pub use front::Front;

@@ -1,17 +1,17 @@
 //! Readers of a live region.
 
-ghost use Rattle.std.specs.Prelude.{◌≡◌, ◌≤◌, length, slice_get, map, IsSomeAnd, Option};
+ghost use Rattle.std.specs.Prelude.{◌≡◌, map, Option};
 ghost use Rattle.pn_tablet.specs.Layouts.{tablet_of};
 ghost use Rattle.pn_tablet.specs.Tablets.{TabletStateValue};
 ghost use Rattle.pn_scan.specs.Reads.{IsRead};
-ghost use Rattle.pn_live.specs.Readers.{LooksLive, IsFrontFor, AreWindowsOf, tablets_of};
-ghost use Rattle.pn_live.specs.Windows.{AllLearn};
+ghost use Rattle.pn_live.specs.Readers.{LooksLive, IsFrontFor, AreTabletReadersOf, tablets_of};
+ghost use Rattle.pn_live.specs.TabletReaders.{AllLearn};
 
 mod copying;
 mod scanning;
 
-use crate::front::{Front, Note};
-use crate::window::Window;
+use crate::front::{Front, TabletNote};
+use crate::tablet_reader::TabletReader;
 use pn_record::{Cell, Key, Version};
 use pn_scan::{Query, Row, ScanFault, View, read_at_least};
 use pn_tablet::Layout;
@@ -22,12 +22,12 @@ use std::marker::Model;
 #[derive(Drop)]
 pub struct LiveReader {
     layout: Layout,
-    windows: Vec<Window>,
+    tablet_readers: Vec<TabletReader>,
     alloc: Global,
 }
 
 impl Model for LiveReader {
-    ghost use Rattle.pn_live.specs.Readers.{LiveReaderValue, AreWindowsOf};
+    ghost use Rattle.pn_live.specs.Readers.{LiveReaderValue, AreTabletReadersOf};
 
     ghost Value = { LiveReaderValue };
 
@@ -35,54 +35,51 @@ impl Model for LiveReader {
 
     ghost coded = { reader_code };
 
-    ghost view = { λ reader. record { layout = reader.layout; windows = reader.windows.items } };
+    ghost view = { λ reader. record { layout = reader.layout; tablet_readers = reader.tablet_readers.items } };
 
-    ghost invariant = { λ reader. AreWindowsOf reader.layout reader.windows.items };
+    ghost invariant = { λ reader. AreTabletReadersOf reader.layout reader.tablet_readers.items };
 }
 
 impl LiveReader {
-    // The reader that has these windows, one for each range of the layout. What it answers is taken from the allocator.
-    pub(crate) fn of(alloc: Global, layout: Layout, windows: Vec<Window>) -> LiveReader
-        requires { AreWindowsOf layout windows.items }
+    // A reader of these tablets, one for each range of the layout. Its answers take memory of the allocator.
+    pub(crate) fn of(alloc: Global, layout: Layout, tablet_readers: Vec<TabletReader>) -> LiveReader
+        requires { AreTabletReadersOf layout tablet_readers.items }
         ensures layout { result.layout ≡ layout }
-        ensures windows { result.windows ≡ windows.items }
+        ensures tablet_readers { result.tablet_readers ≡ tablet_readers.items }
     {
         LiveReader {
             layout,
-            windows,
+            tablet_readers,
             alloc,
         }
     }
 
-    // Its windows.
-    pub(crate) fn into_windows(self) -> Vec<Window>
-        ensures windows { result.items ≡ self.windows }
-        ensures ranges { AreWindowsOf self.layout self.windows }
+    pub(crate) fn into_tablet_readers(self) -> Vec<TabletReader>
+        ensures tablet_readers { result.items ≡ self.tablet_readers }
+        ensures ranges { AreTabletReadersOf self.layout self.tablet_readers }
     {
         let LiveReader {
             layout: _layout,
-            windows,
+            tablet_readers,
             alloc: _alloc,
         } = self;
-        windows
+        tablet_readers
     }
 
-    /// Takes in what a front of its live region tells: from then on it finds no less of any tablet. It takes no
-    /// memory, and is never refused.
+    /// Learns a front of its live region: from then on it finds no less of any tablet.
     pub fn learn(&mut self, front: Front)
         requires { IsFrontFor self.old front }
-        ensures told { AllLearn self.old.windows front self.new.windows }
+        ensures told { AllLearn self.old.tablet_readers front self.new.tablet_readers }
         ensures same { tablets_of self.new ≡ tablets_of self.old }
     {
-        learn_all(self.windows.as_mut_slice(), front.into_notes());
+        learn_all(self.tablet_readers.as_mut_slice(), front.into_notes());
     }
 
-    /// The cell of a key, or none where there is no record, in the state of its tablet that one entry finds. Where a
-    /// version is required, the record is there, in that version or a later one.
+    /// The cell of a key, or none, in the state of its tablet that one entry finds. A version asks for that version or a
+    /// later one.
     ///
-    /// `NoEntry` comes exactly where the entry is refused, and else `Recovering` exactly where the tablet is
-    /// recovering; else `Behind` exactly where a version is required and the record is absent or older. `Memory`
-    /// comes only where neither of the first two does.
+    /// `NoEntry`: the entry is refused. Else `Recovering`: the tablet is recovering. Else `Behind`: the record is
+    /// absent or older than the version. `Memory` comes after the first two.
     pub fn read(&mut self, key: &Key, version: Option<Version>) -> Result<Option<Cell>, ScanFault>
         ensures read { (found : Option TabletStateValue) × IsRead LooksLive self.old.layout key.now version self.old self.new result
             (tablet_of self.old.layout key.now, found) }
@@ -92,15 +89,15 @@ impl LiveReader {
     }
 }
 
-// Each note is taken in at its own window.
-fn learn_all(windows: &mut [Window], notes: Vec<Note>)
-    requires { map (λ note. note.book) notes.items ≡ map (λ window. window.book) windows.old }
-    ensures { AllLearn windows.old notes.items windows.new }
+// Each tablet reader learns the note of its tablet.
+fn learn_all(tablet_readers: &mut [TabletReader], notes: Vec<TabletNote>)
+    requires { map (λ note. note.book) notes.items ≡ map (λ reader. reader.book) tablet_readers.old }
+    ensures { AllLearn tablet_readers.old notes.items tablet_readers.new }
 {
-    let mut tablet = 0;
+    let mut number = 0;
     for note in notes {
-        windows[tablet].learn(note);
-        tablet += 1;
+        tablet_readers[number].learn(note);
+        number += 1;
     }
 }
 
@@ -121,11 +118,11 @@ impl View for LiveReader {
         query: &Query,
         room: usize,
     ) -> Result<(Vec<Row>, bool), ScanFault> {
-        self.windows[tablet].part(alloc, tablet, query, room)
+        self.tablet_readers[tablet].part(alloc, tablet, query, room)
     }
 
     fn cell(&mut self, key: &Key) -> Result<Option<Cell>, ScanFault> {
         let tablet = self.layout.tablet_of(key);
-        self.windows[tablet].cell(tablet, key)
+        self.tablet_readers[tablet].cell(tablet, key)
     }
 }

@@ -11,18 +11,18 @@ mod publishing;
 mod recovery;
 mod rounds;
 
-use crate::place::Place;
+use crate::published_tablet::PublishedTablet;
 use pn_join::Marks;
 use pn_region::Log;
 use pn_tablet::Layout;
 use std::alloc::Global;
 use std::marker::Model;
 
-/// The live tablets of a layout, how far streams were taken into all of them, and a log of what changed. One thread
-/// calls it, and readers of its own read the tablets meanwhile. It is not `Drop`: end it by `close`.
+/// The live tablets of a layout, how far streams were taken into all of them, and a log of what changed. It is not
+/// `Drop`: end it by `close`.
 pub struct LiveRegion {
     layout: Layout,
-    places: Vec<Place>,
+    tablets: Vec<PublishedTablet>,
     marks: Marks,
     log: Log,
     alloc: Global,
@@ -38,13 +38,13 @@ impl Model for LiveRegion {
 
     ghost coded = { live_code };
 
-    ghost view = { λ live. record { layout = live.layout; places = live.places.items; marks = live.marks; log = live.log } };
+    ghost view = { λ live. record { layout = live.layout; tablets = live.tablets.items; marks = live.marks; log = live.log } };
 
-    ghost invariant = { λ live. IsLawfulRegion (core (record { layout = live.layout; places = live.places.items; marks = live.marks; log = live.log })) };
+    ghost invariant = { λ live. IsLawfulRegion (core (record { layout = live.layout; tablets = live.tablets.items; marks = live.marks; log = live.log })) };
 }
 
 impl LiveRegion {
-    /// How far streams were taken into every tablet. It takes no memory, and waits for nobody.
+    /// How far streams were taken into every tablet.
     pub fn marks(&self) -> &Marks
         ensures marks { result.now ≡ self.now.marks }
         ensures few { length self.now.marks ≤ max_streams }
@@ -53,7 +53,7 @@ impl LiveRegion {
         &self.marks
     }
 
-    /// How the keys are divided into tablets. It takes no memory, and waits for nobody.
+    /// How the keys are divided into tablets.
     pub fn layout(&self) -> &Layout
         ensures { result.now ≡ self.now.layout }
     {

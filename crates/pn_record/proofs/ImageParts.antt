@@ -1,4 +1,4 @@
--- What stands at the members of a value that is an image.
+-- The members of a value that is an image.
 use Rattle.std.proofs.Common.{◌≡◌, List, codes, Option, Some, None, Result, Ok, Err, IsOk, IsTrue, refl, sym, ap, ◌∙◌}
 use Rattle.std.specs.Option.{ok_or}
 use Rattle.serde_json.specs.Data.{Data, object, Members}
@@ -16,7 +16,7 @@ use Rattle.pn_record.proofs.ReadImages.{named_ok}
 use Rattle.pn_record.proofs.SameImage.{fields_of-fields_data}
 use Rattle.pn_record.proofs.ShapeParts.{Holds, holds, at_fields}
 
--- the image that is put together of what stands at the members
+-- the image put together from the members
 abbrev pub parts : Data → Image
 parts d = record {
   key = text_at (get (codes "key") d);

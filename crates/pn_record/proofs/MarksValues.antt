@@ -101,7 +101,7 @@ marks_fit (mark ∷ marks) names positions =
     let placed = and_parts (is_position mark.1) (are_positions marks) positions in
     and_from _ _ (and_from _ _ named.0 placed.0) (marks_fit marks named.1 placed.1)
 
--- a mark that is joined behind those of lesser names stands there
+-- a mark joined after those of lesser names is the last
 pub mark_pushed : (old : Positions) (mark : List ℕ × ℕ) (rest new : Positions) → IsTrue (is_sorted name_cmp (old ++ mark ∷ rest)) → IsTrue (is_sorted name_cmp new)
     → contents_at name_cmp (λ position. position) new ≡ key_by_key max (contents_at name_cmp (λ position. position) old) (contents_at name_cmp (λ position. position) (mark ∷ [])) → new ≡ old ++ mark ∷ []
 mark_pushed old mark rest new rising risen is =

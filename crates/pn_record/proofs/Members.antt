@@ -28,7 +28,7 @@ module _ {X : Type 0} where
   below_at name (first ∷ entries) (suc i) entry within is below =
       below_at name entries i entry (omega arith) is (and_parts _ _ below).1
 
-  -- an entry that is put to those before it stands behind them
+  -- an entry put to those of lesser keys is the last
   pub put_next : (value : X → Data) (all : List (List ℕ × X) → Members) → all [] ≡ no_members → ((e : List ℕ × X) (es : List (List ℕ × X)) → all (e ∷ es) ≡ member e.0 (value e.1) (all es))
       → (entries : List (List ℕ × X)) (i : ℕ) (entry : List ℕ × X) → i < length entries → entry ≡ get_or entries i entry → IsTrue (is_sorted (slice_cmp nat_cmp) entries) → put entry.0 (value entry.1) (all (take i entries)) ≡ all (take (suc i) entries)
   put_next value all none more [] i entry within is rising = absurd (omega arith)

@@ -111,7 +111,7 @@ either Less e d rest here there is = there is
 either Equal e d rest here there is = let same : e ≡ d = cc in subst InOrder same here
 either Greater e d rest here there is = there is
 
--- and so do those of what stands at a name
+-- and so are those at a name
 pub in_order-at : (name : List ℕ) (ms : Members) (d : Data) → MembersInOrder ms → get_member name ms ≡ Some d → InOrder d
 in_order-at name no_members d order is = absurd (cc)
 in_order-at name (member other e ms) d order is =

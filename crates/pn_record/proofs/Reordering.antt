@@ -44,7 +44,7 @@ both_first k l d e ms Less is apart first second = put_less k l d e ms is ∙ sy
 both_first k l d e ms Equal is apart first second = absurd (apart (names_tied k l is))
 both_first k l d e ms Greater is apart first second = put_greater k l d e ms is ∙ ap (member l e) first ∙ sym (put_less l k e d ms (below k l is))
 
--- the first before the rest, the second at its head or behind
+-- the first before the rest, the second at its head or later
 first_before : (k l x : List ℕ) (d e f : Data) (ms rest : Members) → cmp k x ≡ Less → cmp k l ≡ Less → put l e (member x f ms) ≡ rest → put k d rest ≡ member k d rest → put k d (put l e (member x f ms)) ≡ put l e (put k d (member x f ms))
 first_before k l x d e f ms rest before less is stays =
     ap (put k d) is ∙ stays ∙ ap (member k d) (sym is) ∙ sym (ap (put l e) (put_less k x d f ms before) ∙ put_greater l k e d (member x f ms) (above k l less))

@@ -32,7 +32,7 @@ fields_there : (f : Option (List Field)) (rest : Members) → get_member (codes 
 fields_there None rest none = none
 fields_there (Some fields) rest none = refl
 
--- at the three names behind the body
+-- at the three names after the body
 behind : (q : List ℕ) (f : Option (List Field)) (rest : Members) → bytes_eq q (codes "deleted") ≡ false → bytes_eq q (codes "fields") ≡ false → get_member q (body_data f rest) ≡ get_member q rest
 behind q None rest deleted fields = get_member-member q (codes "deleted") _ rest ∙ rw deleted refl
 behind q (Some fs) rest deleted fields = get_member-member q (codes "fields") _ rest ∙ rw fields refl

@@ -13,7 +13,7 @@ use Rattle.pn_record.specs.declared.fault.Member.TheVariants.{Fields, Key, Maste
 use Rattle.pn_json.proofs.Inverses.{bind_ok, guard_ok, ok_or_ok, and_then_some, true_from_as_bool, string_from_as_str, object_from_as_object}
 use Rattle.pn_record.proofs.Inverses.{version_from_numbers, fields_data-fields_of}
 
--- what stands at `deleted`, and at `fields`
+-- the values of `deleted` and `fields`
 abbrev pub at_deleted : Option (List Field) → Option Data
 at_deleted None = Some (boolean true)
 at_deleted (Some fields) = None
@@ -22,7 +22,7 @@ abbrev pub at_fields : Option (List Field) → Option Data
 at_fields None = None
 at_fields (Some fields) = Some (object (fields_data fields))
 
--- at each name stands what the image has there, and nothing at any other
+-- each name has the value of the image there, and no other name has one
 pub record Holds (ms : Members) (image : Image) : Type 0 where
   pub deleted : get_member (codes "deleted") ms ≡ at_deleted image.content.0
   pub fields : get_member (codes "fields") ms ≡ at_fields image.content.0

@@ -1,4 +1,4 @@
--- The images that values are.
+-- Values and lines that are images.
 use Rattle.std.specs.Prelude.{◌≡◌, ℕ, List, Bool, ◌&&◌, IsTrue}
 use Rattle.serde_json.specs.Data.{Data}
 use Rattle.pn_record.specs.Bodies.{is_content}
@@ -16,6 +16,6 @@ pub record IsImage (d : Data) (image : Image) : Type 0 where
   pub value : d ≡ image_data image
   pub limits : IsTrue (is_image image)
 
--- the line is that of the image
+-- the line is the image's JSON
 abbrev pub IsImageLine : List ℕ → Image → Type 0
 IsImageLine line image = IsLine IsImage line image

@@ -19,6 +19,6 @@ Entries = List (List ℕ × CellValue)
 unfoldable pub table_of : List Image → Entries
 table_of images = entries (cells_map images)
 
--- a table that takes more images: the table of the images that spell it, and then of these
+-- a table with more images added: the table of the images that spell it and of these
 unfoldable pub adds : Entries → List Image → Entries
 adds table images = table_of (spell table ++ images)

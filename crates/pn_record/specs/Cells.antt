@@ -19,7 +19,7 @@ pub record IsTop (version : Stamp) (images : List Image) : Type 0 where
 abbrev pub later : Stamp → Stamp → Stamp
 later a b = by_order (version_cmp a b) b b a
 
--- the greatest version, where there is an image
+-- the greatest version, if there is an image
 abbrev pub top : List Image → Option Stamp
 top [] = None
 top (image ∷ images) = Some (option_map_or (later image.version) (top images) image.version)
@@ -32,11 +32,11 @@ images_of key images = filter (λ image. bytes_eq image.key key) images
 abbrev pub contents_with : Stamp → List Image → Contents
 contents_with version images = set_of (map (λ image. image.content) (filter (λ image. eq_by_cmp version_cmp image.version version) images))
 
--- the greatest version with the contents of all images that have it, or nothing where there is no image
+-- the greatest version, with the contents of all images that have it, if there is an image
 abbrev pub cell_of : List Image → Option CellValue
 cell_of images = option_map (λ version. (version, contents_with version images)) (top images)
 
--- the cells of a list: what each key has in it
+-- the cells of a list of images, by key
 abbrev pub cells : List Image → List ℕ → Option CellValue
 cells images key = cell_of (images_of key images)
 
@@ -52,6 +52,6 @@ spell_cell entry = map (λ shown. record { key = entry.0; version = entry.1.0; c
 abbrev pub spell : List (List ℕ × CellValue) → List Image
 spell table = flat_map spell_cell table
 
--- each image of one is in the other, however often and in whatever order
+-- each image of one is in the other, in any order and any number
 abbrev pub SameImages : List Image → List Image → Type 0
 SameImages images others = (image : Image) → Contains images image ↔ Contains others image

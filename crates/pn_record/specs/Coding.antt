@@ -1,4 +1,4 @@
--- How values of contents are encoded, so that different ones differ.
+-- An encoding of contents that differs for different ones.
 use Rattle.std.specs.Coded.{Coded, coded×, coded_list, coded_option, coded_ℕ}
 use Rattle.pn_record.specs.Limits.{Field, ContentValue}
 

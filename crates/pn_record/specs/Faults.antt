@@ -1,8 +1,8 @@
--- Which faults are of a value.
+-- Which faults a value can have.
 use Rattle.pn_record.specs.declared.fault.ImageFault.{ImageFault}
 use Rattle.pn_record.specs.declared.fault.ImageFault.TheVariants.{TooLong, NotJson, Memory, BadShape, OutOfRange}
 
--- a fault of a value, and not of the line that it came in
+-- a fault of a value, not of its line
 abbrev pub IsOfValue : ImageFault → Type 0
 IsOfValue Memory = Unit {0}
 IsOfValue (BadShape member) = Unit {0}

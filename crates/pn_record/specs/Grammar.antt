@@ -1,4 +1,4 @@
--- The image that a JSON value is: the shapes of its members one after another, and then their ranges.
+-- The image that a JSON value spells: all its members must have the right kinds, and then keep the limits.
 use Rattle.std.specs.Prelude.{ℕ, not, if◌then◌else◌, List, [], ◌∷◌, codes, Option, None, option_map, option_and_then, Result, Ok, Err}
 use Rattle.std.specs.Option.{ok_or}
 use Rattle.pn_join.specs.Naming.{is_name}
@@ -29,7 +29,7 @@ numbers_in d = option_and_then two_numbers (as_array d)
 abbrev pub image_members : List (List ℕ)
 image_members = codes "deleted" ∷ codes "fields" ∷ codes "key" ∷ codes "master" ∷ codes "version" ∷ []
 
--- the image of which the value has the shape, or the first member of another shape
+-- the image that the value has the shape of, or the first member of another shape
 unfoldable pub shape_in : Data → Result Image Member
 shape_in d = do
   members ← ok_or (as_object d) Whole
@@ -49,7 +49,7 @@ ranges_in image =
     (if not (is_name image.content.1) then Err Master else
     (if not (is_version image.version) then Err Version else Ok tt)))
 
--- the image that the value is, or its first fault: all shapes come before the ranges
+-- the image that the value spells, or its first fault: shapes are checked before limits
 unfoldable pub image_in : Data → Result Image ImageFault
 image_in d = do
   image ← fault_as BadShape (shape_in d)

@@ -1,4 +1,4 @@
--- What keys and cells hold, in whatever form they hold it.
+-- The text of keys and the contents of cells, in either form of storage.
 use Rattle.std.specs.Prelude.{ℕ, Bool, true, false, List, [], ◌∷◌, string_bytes}
 use Rattle.pn_record.specs.declared.key_text.KeyText.{KeyText}
 use Rattle.pn_record.specs.declared.key_text.KeyText.TheVariants.{Short, Long}
@@ -11,12 +11,12 @@ abbrev pub held_text : KeyText → List ℕ
 held_text (Short text) = text
 held_text (Long text) = string_bytes text
 
--- a key's text that takes no memory of its own
+-- the key's text is held in place
 abbrev pub is_in_place : KeyText → Bool
 is_in_place (Short text) = true
 is_in_place (Long text) = false
 
--- the contents of a cell, in the order that they are held in
+-- the contents of a cell, in the order of storage
 abbrev pub held_contents : HeldContents → List ContentValue
 held_contents (One content) = content ∷ []
 held_contents (Many contents) = contents.items

@@ -1,4 +1,4 @@
--- Laws that definitions and code rest on, proved.
+-- Laws of cells, with their proofs.
 pub mod JoinedCells
 pub mod Totals
 pub mod Unions

@@ -25,7 +25,7 @@ marks_data marks = object (positions_data marks)
 abbrev pub is_mark : List ℕ × ℕ → Bool
 is_mark mark = is_name mark.0 && is_position mark.1
 
--- the value is the JSON of the marks, which are in their ranges
+-- the value is the JSON of the marks, which keep their limits
 pub record IsMarks (d : Data) (marks : Positions) : Type 0 where
   pub value : d ≡ marks_data marks
   pub fits : IsTrue (list_all is_mark marks)
@@ -35,12 +35,12 @@ abbrev pub all_whole : Members → Bool
 all_whole no_members = true
 all_whole (member name d ms) = is_some (whole_number d) && all_whole ms
 
--- the names and the numbers of members, which are all whole numbers
+-- the names and numbers of members that are all whole numbers
 abbrev pub positions_of : Members → Positions
 positions_of no_members = []
 positions_of (member name d ms) = (name, unwrap_or (whole_number d) 0) ∷ positions_of ms
 
--- the marks that members spell: all shapes come before the ranges
+-- the marks that members spell: shapes are checked before limits
 abbrev pub positions_in : Members → Result Positions ImageFault
 positions_in ms =
     if not (all_whole ms) then Err (BadShape At) else

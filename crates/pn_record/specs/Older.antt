@@ -4,7 +4,7 @@ use Rattle.std.specs.Ordering.{is_gt}
 use Rattle.pn_record.specs.Order.{version_cmp}
 use Rattle.pn_record.specs.Sets.{CellValue}
 
--- where there was a record there is one still, and its version is not below the one it had
+-- if there was a record, there is one now, and its version is not older
 abbrev pub NotOlder : Option CellValue → Option CellValue → Type 0
 NotOlder None now = Unit {0}
 NotOlder (Some was) None = ⊥

@@ -1,4 +1,4 @@
--- What stands at a member of a value.
+-- The parts of an image, as the members of a value.
 use Rattle.std.specs.Prelude.{ℕ, List, [], Option, option_map, option_and_then, unwrap_or}
 use Rattle.serde_json.specs.Data.{Data}
 use Rattle.serde_json.specs.Find.{as_str, as_object}

@@ -1,4 +1,4 @@
--- What lines and values are read as.
+-- Reading lines and values.
 use Rattle.std.specs.Prelude.{◌≡◌, ℕ, ◌≤◌, List, length, nat_lt, if◌then◌else◌, Option, Some, None, Result, Ok, Err}
 use Rattle.std.specs.Option.{ok_or}
 use Rattle.std.specs.Str.{is_utf8}
@@ -18,7 +18,7 @@ version_in d = do
   version ← ok_or (numbers_in d) (BadShape Version)
   if is_version version then Ok version else Err (OutOfRange Version)
 
--- the value that `serde_json` reads the bytes as, if it reads them
+-- the value that `serde_json` reads from the bytes, if any
 unfoldable pub reading : List ℕ → Option Data
 reading bytes = if is_utf8 bytes then read bytes else None
 
@@ -26,7 +26,7 @@ reading bytes = if is_utf8 bytes then read bytes else None
 unfoldable pub value_at : List ℕ → Result Data ImageFault
 value_at line = if nat_lt max_line_bytes (length line) then Err TooLong else ok_or (reading line) NotJson
 
--- the line is not too long, and `serde_json` reads it as a value that spells this
+-- the line is not too long, and `serde_json` reads a value from it that spells this
 pub record IsLine {A : Type 0} (IsSpelled : Data → A → Type 0) (line : List ℕ) (meant : A) : Type 0 where
   pub short : length line ≤ max_line_bytes
   pub value : Data

@@ -1,4 +1,4 @@
--- JSON values that differ in the order of members alone.
+-- JSON values that differ only in the order of members.
 use Rattle.std.specs.Prelude.{◌≡◌, ◌≤◌, ℕ, List, length, IsUtf8}
 use Rattle.json.specs.Lex.{tokens}
 use Rattle.json.specs.Tree.{json_tokens, depth}
@@ -6,7 +6,7 @@ use Rattle.json.specs.Json as json
 use Rattle.pn_record.specs.Limits.{max_line_bytes}
 
 mutual
-  -- the same value, but for the order of members somewhere in it
+  -- equal values, except for the order of members
   pub data IsReordered : json.Json → json.Json → Type 0 where
     same : {j : json.Json} → IsReordered j j
     in_array : {js ks : json.Items} → ItemsReordered js ks → IsReordered (json.array js) (json.array ks)
@@ -17,7 +17,7 @@ mutual
     no_items : ItemsReordered json.no_items json.no_items
     item : {j k : json.Json} {js ks : json.Items} → IsReordered j k → ItemsReordered js ks → ItemsReordered (json.item j js) (json.item k ks)
 
-  -- neighbours of different names may change places, as often as one likes
+  -- neighbours of different names may change places, any number of times
   pub data MembersReordered : json.Members → json.Members → Type 0 where
     no_members : MembersReordered json.no_members json.no_members
     member : {name : List ℕ} {j k : json.Json} {ms ns : json.Members} → IsReordered j k → MembersReordered ms ns → MembersReordered (json.member name j ms) (json.member name k ns)

@@ -10,7 +10,7 @@ use Rattle.pn_record.specs.Sets.{CellValue}
 abbrev pub same_cell : CellValue → CellValue → Bool
 same_cell a b = eq_by_cmp version_cmp a.0 b.0 && pointwise (eq_by_cmp content_cmp) (keys a.1) (keys b.1)
 
--- both are there and the same, or neither is there
+-- both are present and the same, or both are absent
 abbrev pub same_at : Option CellValue → Option CellValue → Bool
 same_at None None = true
 same_at None (Some b) = false

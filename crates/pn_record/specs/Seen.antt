@@ -13,11 +13,11 @@ use Rattle.pn_record.specs.BodyGrammar.{fields_of}
 abbrev pub Borrowed : Type 0
 Borrowed = Bor (BTreeMap (String Global) Value)
 
--- the fields of the members, where there are any
+-- the fields of the members, if there are any
 abbrev pub seen_fields : Option Borrowed → Option (List Field)
 seen_fields members = option_map (λ ms. fields_of (members_view ms.now.entries)) members
 
--- the names of the fields strictly rise, where there are any
+-- the names of the fields strictly rise, if there are any
 abbrev pub body_rises : Option (List Field) → Bool
 body_rises None = true
 body_rises (Some fields) = names_rise fields

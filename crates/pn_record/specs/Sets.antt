@@ -37,7 +37,7 @@ cell_joined a b = by_order (version_cmp a.0 b.0) b (a.0, union a.1 b.1) a
 abbrev pub HasContents : CellValue → Type 0
 HasContents cell = 0 < length (keys cell.1)
 
--- a list of contents that is in content order, each once, and not empty
+-- a non-empty list of contents in content order, each once
 pub record IsContents (list : List ContentValue) : Type 0 where
   pub rising : IsTrue (is_sorted content_cmp (as_entries list))
   pub some : 0 < length list

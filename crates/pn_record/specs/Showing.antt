@@ -1,4 +1,4 @@
--- What bodies and fields of the program show.
+-- Bodies and fields as a contract shows them.
 use Rattle.std.specs.Prelude.{ℕ, List, map, Option, Some, None, String, string_bytes}
 use Rattle.std.specs.declared.alloc.Global.{Global}
 use Rattle.pn_record.specs.declared.content.Value.{Value}

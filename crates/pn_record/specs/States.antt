@@ -11,7 +11,7 @@ use Rattle.pn_record.specs.Sets.{CellValue}
 abbrev pub is_deletion : ContentValue → Bool
 is_deletion shown = is_none shown.0
 
--- deleted where all contents are deletions, one where there is one content, and else a conflict
+-- deleted if all contents are deletions, one if there is one content, otherwise a conflict
 abbrev pub state_of_contents : List ContentValue → CellState
 state_of_contents contents = if list_all is_deletion contents then Deleted else (if length contents == 1 then One else Conflict)
 

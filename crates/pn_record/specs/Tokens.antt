@@ -10,7 +10,7 @@ use Rattle.pn_record.specs.Writing.{fields_data}
 abbrev pub field_tokens : Field → List Token
 field_tokens field = member_tokens field.0 (string field.1)
 
--- the fields, or that there is a deletion
+-- the member `fields`, or `deleted` for a deletion
 abbrev pub body_tokens : Option (List Field) → List Token
 body_tokens None = member_tokens (codes "deleted") (boolean true)
 body_tokens (Some fields) = member_tokens (codes "fields") (object (fields_data fields))

@@ -1,4 +1,4 @@
-//! Cells: what a replica keeps of a record.
+//! Cells: what a replica keeps of each record.
 
 ghost use Rattle.std.specs.Prelude.{◌≡◌, ◌∷◌, [], ◌<◌, length, unwrap_or, IsTrue, IfOk, OnOk, OnErr};
 ghost use Rattle.std.specs.FinMap.{keys};
@@ -16,8 +16,8 @@ use std::cmp::Ordering;
 use std::marker::Model;
 use std::sync::Arc;
 
-/// The greatest version seen of a record, with all different contents that came with it, in content
-/// order. Several are shown together and never chosen between. Copies share their contents.
+/// The greatest version seen of a record, with all contents that came with it, in content order. If there are
+/// several, all are shown. Copies share their contents.
 #[derive(Debug, Drop)]
 pub struct Cell {
     version: Version,
@@ -66,7 +66,7 @@ impl Cell {
         })
     }
 
-    /// The version of its contents. It takes no memory.
+    /// The version of its contents.
     pub fn version(&self) -> Version
         ensures version { result ≡ self.now.0 }
         ensures some { HasContents self.now }
@@ -74,7 +74,7 @@ impl Cell {
         self.version
     }
 
-    /// Its contents in content order, each once; there is at least one. It takes no memory.
+    /// Its contents in content order, each once. There is at least one.
     pub fn contents(&self) -> &[Content]
         ensures contents { result.now ≡ keys self.now.1 }
         ensures some { 0 < length result.now }
@@ -82,7 +82,7 @@ impl Cell {
         self.contents.as_slice()
     }
 
-    /// What its contents say together. It takes no memory.
+    /// What its contents say together.
     pub fn state(&self) -> CellState
         ensures { result ≡ state_of self.now }
     {
@@ -116,7 +116,7 @@ fn is_deletion(content: &Content) -> bool
 }
 
 impl Dup for Cell {
-    /// Shares the contents, so that it costs no copy of them.
+    /// A cell that shares the contents.
     fn dup(&self) -> Result<Cell, NoMemory>
         ensures { IfOk result (λ copy. copy ≡ self.now) }
     {
@@ -127,7 +127,7 @@ impl Dup for Cell {
         })
     }
 
-    // (an atomic read is done also where nothing uses what it gives)
+    // An atomic read is not optimised away, although its result is unused.
     fn prefetch(&self) {
         Arc::strong_count(&self.contents);
     }
@@ -144,7 +144,7 @@ impl Join for Cell {
 
     ghost laws = { cell_joined-laws };
 
-    /// Keeps the cell of the greater version, and at equal versions the contents of both.
+    /// Keeps the cell of the greater version, or at equal versions the contents of both.
     fn join_from(&mut self, other: &Cell) -> Result<(), NoMemory>
         ensures ok { OnOk result (self.new ≡ cell_joined self.old other.now) }
         ensures err { OnErr result (self.new ≡ self.old) }
@@ -158,7 +158,7 @@ impl Join for Cell {
         Ok(())
     }
 
-    /// None where the other is older, or has no content that is not there already.
+    /// `None` if the other is older, or brings no new content.
     fn changed_by(&self, other: &Cell) -> Result<Option<Cell>, NoMemory>
         ensures joined { IfOk result (λ cell. unwrap_or cell self.now ≡ cell_joined self.now other.now) }
         ensures are_valid { IfOk result (λ cell. HasContents self.now × HasContents other.now × HasContents (unwrap_or cell self.now)) }
@@ -173,7 +173,7 @@ impl Join for Cell {
 }
 
 impl Cell {
-    // The cell with the contents of the other too, which has the same version. None where they are all there.
+    // This cell with the contents of another of the same version added. `None` if that adds none.
     fn gathered_with(&self, other: &Cell) -> Result<Option<Cell>, NoMemory>
         ensures gathered { IfOk result (λ cell. unwrap_or cell self.now ≡ (self.now.0, union self.now.1 other.now.1)) }
         ensures some { IfOk result (λ cell. HasContents self.now × HasContents other.now × HasContents (unwrap_or cell self.now)) }
@@ -186,7 +186,7 @@ impl Cell {
         Ok(self.unless_same(both))
     }
 
-    // Another cell of the same version, or none where that has the same contents.
+    // The other cell, of the same version. `None` if its contents are the same.
     fn unless_same(&self, other: Cell) -> Option<Cell>
         requires version { other.0 ≡ self.now.0 }
         requires some { HasContents other }
@@ -199,7 +199,7 @@ impl Cell {
         Some(other)
     }
 
-    // Takes the contents of the other too, which has the same version.
+    // Adds the contents of another cell of the same version.
     fn gather(&mut self, other: &Cell) -> Result<(), NoMemory>
         ensures ok { OnOk result (self.new ≡ (self.old.0, union self.old.1 other.now.1)) }
         ensures err { OnErr result (self.new ≡ self.old) }

@@ -8,7 +8,7 @@ ghost use Rattle.pn_record.specs.Limits.{is_field as one_fits};
 ghost use Rattle.pn_record.specs.Showing.{shown_body, shown_field, shown_value};
 
 use crate::limits::{MAX_FIELD_BYTES, MAX_FIELD_NAME_BYTES, MAX_FIELDS, MAX_TEXT_BYTES};
-use pn_join::Name;
+use pn_join::{Name, NoMemory};
 use std::marker::Model;
 
 /// The value of a field.
@@ -27,8 +27,8 @@ pub enum Body {
     Deleted,
 }
 
-/// A body and the name of the record's master. Contents are ordered by body, a deletion before fields
-/// and fields by their list of name and value pairs, and then by master.
+/// A body and the name of the record's master. Contents are ordered by body, and then by master. A deletion
+/// comes before fields.
 #[derive(Debug, Drop)]
 pub struct Content {
     pub body: Body,
@@ -50,7 +50,7 @@ impl Model for Content {
 }
 
 impl Content {
-    /// None exactly where a limit is broken, or where the names of the fields do not strictly rise. It takes no memory.
+    /// `None` exactly if a limit is broken, or the field names do not strictly rise.
     pub fn new(body: Body, master: Name) -> Option<Content>
         ensures made { IfSome result (λ content. content ≡ (shown_body body, master)) }
         ensures exactly { IsSome result ↔ IsTrue (is_body (shown_body body)) }
@@ -94,7 +94,8 @@ fn fits(field: &(String, Value)) -> bool
     is_field(field.0.as_str(), field.1.as_str())
 }
 
-pub(crate) fn is_field(name: &str, text: &str) -> bool
+/// Whether a name and a text keep the limits of a field.
+pub fn is_field(name: &str, text: &str) -> bool
     ensures { result ≡ one_fits (name.now, text.now) }
 {
     !name.is_empty() && name.len() <= MAX_FIELD_NAME_BYTES && text.len() <= MAX_TEXT_BYTES
@@ -118,11 +119,21 @@ fn is_below(field: &(String, Value), next: &(String, Value)) -> bool
 }
 
 impl Value {
-    pub(crate) fn as_str(&self) -> &str
+    /// The value as text.
+    pub fn as_str(&self) -> &str
         ensures { result.now ≡ shown_value self.now }
     {
         match self {
             Value::Text(text) => text.as_str(),
+        }
+    }
+
+    /// An equal value.
+    pub fn copy(&self) -> Result<Value, NoMemory>
+        ensures { IfOk result (λ copy. shown_value copy ≡ shown_value self.now) }
+    {
+        match self {
+            Value::Text(text) => Ok(Value::Text(text.clone()?)),
         }
     }
 

@@ -1,4 +1,4 @@
-//! Why a text or a value was not taken as an image.
+//! Why a text or a value is no image.
 
 ghost use Rattle.std.specs.Prelude.{◌≡◌, Some};
 ghost use Rattle.pn_record.specs.Words.{word_of};
@@ -11,7 +11,7 @@ use thiserror::Error;
 /// The part of a value that is at fault.
 #[derive(Clone, Copy, Debug, PartialEq, Eq)]
 pub enum Member {
-    /// The value itself, which is no object.
+    /// The whole value, which is no object.
     Whole,
     Deleted,
     Fields,
@@ -22,7 +22,7 @@ pub enum Member {
     At,
     /// The image of a message.
     Image,
-    /// A member by a name that has no meaning there.
+    /// A member with an unknown name.
     Other,
 }
 
@@ -35,10 +35,10 @@ pub enum ImageFault {
     NotJson,
     #[error("out of memory")]
     Memory,
-    /// A member is absent where it is wanted, or of another kind.
+    /// A member is missing, or of another kind.
     #[error("bad shape: {0}")]
     BadShape(Member),
-    /// A member is of the right kind and breaks a limit.
+    /// A member is of the right kind but breaks a limit.
     #[error("out of range: {0}")]
     OutOfRange(Member),
 }

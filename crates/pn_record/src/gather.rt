@@ -1,4 +1,4 @@
-//! The contents of two cells of one version, gathered.
+//! Merges the contents of two cells of one version.
 
 ghost use Rattle.std.specs.Prelude.{◌≡◌, ◌++◌, ◌<◌, length, IsTrue, IfOk, OnOk};
 ghost use Rattle.pn_record.specs.Sets.{IsContents, set_of, union};

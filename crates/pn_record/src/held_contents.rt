@@ -1,4 +1,4 @@
-//! What a cell holds: its contents, a single one without a list of its own.
+//! The contents of a cell. A single one needs no list.
 
 ghost use Rattle.std.specs.Prelude.{◌≡◌};
 ghost use Rattle.pn_record.specs.Held.{held_contents};
@@ -16,7 +16,7 @@ pub enum HeldContents {
 }
 
 impl HeldContents {
-    /// The contents side by side.
+    /// The contents as a slice.
     pub fn as_slice(&self) -> &[Content]
         ensures { result.now ≡ held_contents self.now }
     {

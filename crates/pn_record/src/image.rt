@@ -2,7 +2,7 @@
 
 use crate::{Content, Key, Version};
 
-/// A full image of a record: what one update made of it.
+/// A full image of a record, as one update left it.
 #[derive(Debug, Drop)]
 pub struct Image {
     pub key: Key,

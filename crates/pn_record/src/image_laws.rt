@@ -1,4 +1,4 @@
-//! The laws of lines of images, as contracts. A call does nothing.
+//! The laws of image lines, as contracts of functions that do nothing.
 
 ghost use Rattle.std.specs.Prelude.{◌≡◌, ◌≤◌, ℕ, List, length, IsUtf8};
 ghost use Rattle.json.specs.Json.{Json};
@@ -9,23 +9,23 @@ ghost use Rattle.pn_record.specs.Reading.{value_at, image_at};
 ghost use Rattle.pn_record.specs.Reordered.{Spells, IsReordered};
 ghost use Rattle.pn_record.specs.declared.image.Image.{Image};
 
-/// No line is read as two images.
+/// No line is two different images.
 pub fn a_line_is_one_image()
     ensures { (line : List ℕ) (one other : Image) → IsImageLine line one → IsImageLine line other → one ≡ other }
 {}
 
-/// Lines of one value are read alike.
+/// Lines of equal values are the same image.
 pub fn the_value_decides()
     ensures { (one other : List ℕ) → value_at one ≡ value_at other → image_at one ≡ image_at other }
 {}
 
-/// White space between the tokens changes nothing, so long as the lines are not too long.
+/// White space between tokens makes no difference, if the lines are not too long.
 pub fn white_space_changes_nothing()
     ensures { (one other : List ℕ) → length one ≤ max_line_bytes → length other ≤ max_line_bytes → IsUtf8 one → IsUtf8 other
         → tokens one ≡ tokens other → image_at one ≡ image_at other }
 {}
 
-/// Nor does the order of the members, of the image's own or of its fields'.
+/// The order of members makes no difference, neither of the image's nor of its fields'.
 pub fn the_order_of_members_changes_nothing()
     ensures { (one other : List ℕ) (value moved : Json) → Spells one value → Spells other moved
         → IsReordered value moved → image_at one ≡ image_at other }

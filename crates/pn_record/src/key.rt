@@ -17,14 +17,13 @@ use std::cmp::Ordering;
 use std::marker::Model;
 use thiserror::Error;
 
-/// A record's key: text of 1 to 256 bytes. Keys are ordered by their bytes. One of at most 31 bytes
-/// takes no memory of its own.
+/// A record's key: text of 1 to 256 bytes, ordered by its bytes. Up to 31 bytes are held in place.
 #[derive(Debug, Drop)]
 pub struct Key {
     text: KeyText,
 }
 
-/// Why a text was not taken as a key.
+/// Why a key could not be made.
 #[derive(Clone, Copy, Debug, PartialEq, Eq, Error)]
 pub enum KeyFault {
     #[error("a key has 1 to 256 bytes")]
@@ -46,12 +45,12 @@ impl Model for Key {
 }
 
 impl Key {
-    /// Copies the text. `OutOfRange` exactly where it has not 1 to 256 bytes.
+    /// Copies the text. `OutOfRange` exactly if it has not 1 to 256 bytes.
     pub fn of(alloc: Global, text: &str) -> Result<Key, KeyFault>
         ensures copied { IfOk result (λ key. (key ≡ text.now) × IsTrue (is_key_text text.now)) }
         ensures out_of_range { IsErrOf result KeyFault.OutOfRange ↔ (is_key_text text.now ≡ false) }
     {
-        if !is_key(text) {
+        if !Key::fits(text) {
             return Err(KeyFault::OutOfRange);
         }
         match KeyText::of(alloc, text) {
@@ -60,7 +59,14 @@ impl Key {
         }
     }
 
-    /// The key as text. It takes no memory.
+    /// Whether a text is a key.
+    pub fn fits(text: &str) -> bool
+        ensures { result ≡ is_key_text text.now }
+    {
+        !text.is_empty() && text.len() <= MAX_KEY_BYTES
+    }
+
+    /// The key as text.
     pub fn as_str(&self) -> &str
         ensures text { result.now ≡ self.now }
         ensures is_key { IsTrue (is_key_text self.now) }
@@ -69,18 +75,12 @@ impl Key {
     }
 }
 
-pub(crate) fn is_key(text: &str) -> bool
-    ensures { result ≡ is_key_text text.now }
-{
-    !text.is_empty() && text.len() <= MAX_KEY_BYTES
-}
-
 impl Dup for Key {
     fn dup(&self) -> Result<Key, NoMemory>
         ensures { IfOk result (λ copy. copy ≡ self.now) }
     {
         Ok(Key {
-            text: self.text.copied()?,
+            text: self.text.copy_text()?,
         })
     }
 }

@@ -1,4 +1,4 @@
-//! What a key holds: its text, a short one in place.
+//! The text of a key. A short one is held in place.
 
 ghost use Rattle.std.specs.Prelude.{◌≡◌, nat_le, length, IsTrue, IfOk, IsOk};
 ghost use Rattle.pn_record.specs.Held.{held_text, is_in_place};
@@ -18,7 +18,7 @@ pub enum KeyText {
 }
 
 impl KeyText {
-    /// Copies a text. A short one takes no memory, so that it always succeeds.
+    /// Copies a text. A short one always succeeds.
     pub fn of(alloc: Global, text: &str) -> Result<KeyText, NoMemory>
         ensures copied { IfOk result (λ held. held_text held ≡ text.now) }
         ensures in_place { IfOk result (λ held. is_in_place held ≡ nat_le (length text.now) max_short_bytes) }
@@ -41,14 +41,14 @@ impl KeyText {
         }
     }
 
-    /// The same text. A short one takes no memory, so that it always succeeds.
-    pub fn copied(&self) -> Result<KeyText, NoMemory>
+    /// An equal text. A short one always succeeds.
+    pub fn copy_text(&self) -> Result<KeyText, NoMemory>
         ensures equal { IfOk result (λ copy. held_text copy ≡ held_text self.now) }
         ensures in_place { IfOk result (λ copy. is_in_place copy ≡ is_in_place self.now) }
         ensures always { IsTrue (is_in_place self.now) → IsOk result }
     {
         match self {
-            KeyText::Short(text) => Ok(KeyText::Short(text.copied())),
+            KeyText::Short(text) => Ok(KeyText::Short(text.copy_bytes())),
             KeyText::Long(text) => Ok(KeyText::Long(text.clone()?)),
         }
     }

@@ -1,4 +1,4 @@
-//! The laws of cells, as contracts. A call does nothing.
+//! The laws of cells, as contracts of functions that do nothing.
 
 ghost use Rattle.std.specs.Prelude.{◌≡◌, ℕ, false, List, [], ◌++◌, MatchOption, IsTrue};
 ghost use Rattle.std.specs.Ordering.{is_gt};
@@ -10,18 +10,18 @@ ghost use Rattle.pn_record.specs.Order.{bytes_cmp, version_cmp};
 ghost use Rattle.pn_record.specs.Sets.{CellValue, cell_joined};
 ghost use Rattle.pn_record.specs.Cells.{Holds, IsTop, SameImages, cells, top};
 
-/// The top version of images is that of one of them, and none has a greater one.
+/// The top version is the version of one of the images, and none has a greater one.
 pub fn top_is_greatest()
     ensures { (images : List Image) → MatchOption (top images) (images ≡ []) (λ version. IsTop version images) }
 {}
 
-/// The cell of a key in one list followed by another is the join of its cells in both.
+/// A key's cell in two lists appended is the join of its cells in each.
 pub fn cells_of_both_lists()
     ensures { (images more : List Image) (key : List ℕ)
         → cells (images ++ more) key ≡ optional_joined cell_joined (cells images key) (cells more key) }
 {}
 
-/// The same images, however often and in whatever order, have the same cells.
+/// Lists of the same images, in any order and any number, have the same cells.
 pub fn cells_of_the_same_images()
     ensures { (images others : List Image) → SameImages images others → (key : List ℕ) → cells images key ≡ cells others key }
 {}

@@ -1,5 +1,5 @@
-//! The order of contents: by body, a deletion before fields and fields by their list of name and value
-//! pairs, and then by master.
+//! The order of contents: by body, and then by master. A deletion comes before fields, and fields are ordered
+//! as lists of names and values.
 
 ghost use Rattle.std.specs.Prelude.{◌≡◌, map};
 ghost use Rattle.std.specs.Ordering.{as_partial_cmp, eq_by_cmp, on};

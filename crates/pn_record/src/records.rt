@@ -1,4 +1,4 @@
-//! Records by key: a table of cells, and what it holds of a list of images.
+//! Records by key: a table of cells.
 
 ghost use Rattle.std.specs.Prelude.{◌≡◌, ℕ, IsTrue, ◌∷◌, [], ◌++◌, List, IfOk, OnOk, OnErr};
 ghost use Rattle.pn_record.specs.declared.image.Image.{Image};
@@ -17,7 +17,7 @@ use std::alloc::Global;
 /// Cells by key.
 pub type Records = Table<Key, Cell>;
 
-/// Takes an image: the records hold its list with this image more. An error leaves them as they were.
+/// Adds an image. An error leaves the records as they were.
 pub fn take_image(alloc: Global, records: &mut Records, image: Image) -> Result<(), NoMemory>
     ensures ok { OnOk result ((taken : List Image) → Holds records.old taken → Holds records.new (taken ++ image ∷ [])) }
     ensures rising { OnOk result (IsTrue (is_sorted bytes_cmp records.new)) }
@@ -31,8 +31,7 @@ pub fn take_image(alloc: Global, records: &mut Records, image: Image) -> Result<
     records.join_entry(key, Cell::of(alloc, version, content)?)
 }
 
-/// Joins other records into these: what both held of their lists of images is held of the one list
-/// followed by the other. An error leaves them as they were.
+/// Joins other records into these, which then hold the images of both. An error leaves them as they were.
 pub fn join_records(records: &mut Records, other: &Records) -> Result<(), NoMemory>
     ensures lists { OnOk result ((taken more : List Image) → Holds records.old taken → Holds other.now more → Holds records.new (taken ++ more)) }
     ensures spelled { OnOk result (Holds records.new (spell records.old ++ spell other.now)) }
@@ -45,8 +44,7 @@ pub fn join_records(records: &mut Records, other: &Records) -> Result<(), NoMemo
     records.join_from(other)
 }
 
-/// Joins other records into these, and tells what that changes, in key order. An error leaves them as
-/// they were.
+/// Joins other records into these, and returns the changes in key order. An error leaves them as they were.
 pub fn join_and_tell(
     records: &mut Records,
     other: &Records,

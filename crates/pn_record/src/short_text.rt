@@ -6,12 +6,10 @@ ghost use Rattle.pn_record.specs.Limits.{max_short_bytes as most};
 use std::marker::Model;
 use std::str;
 
-/// How many bytes a short text may have.
+/// The most bytes of a short text.
 pub const MAX_SHORT_BYTES: usize = 31;
 
-/// A text of at most 31 bytes, without memory of its own.
-///
-/// It begins at a multiple of eight bytes, so that it is copied in whole words: pieces that overlap are waited for.
+/// A text of at most 31 bytes, held in place. Its alignment lets it be copied in whole words.
 #[derive(Debug, Drop)]
 pub struct ShortText {
     aligned: [u64; 0],
@@ -31,7 +29,7 @@ impl Model for ShortText {
 }
 
 impl ShortText {
-    /// A copy of a text that is short.
+    /// A copy of a short text.
     pub fn of(text: &str) -> ShortText
         requires short { length text.now ≤ most }
         ensures copied { result ≡ text.now }
@@ -59,8 +57,8 @@ impl ShortText {
         &self.bytes[..self.length as usize]
     }
 
-    /// The same text. It takes no memory.
-    pub fn copied(&self) -> ShortText
+    /// An equal text.
+    pub fn copy_bytes(&self) -> ShortText
         ensures { result ≡ self.now }
     {
         ShortText {

@@ -3,11 +3,11 @@
 ghost use Rattle.std.specs.Prelude.{◌≡◌, ◌≤◌, ◌^◌, IsTrue, ◌↔◌, IsSome, IfSome};
 ghost use Rattle.pn_record.specs.Limits.{is_version};
 
-use crate::limits::GREATEST;
+use crate::limits::MAX_VERSION_NUMBER;
 use std::marker::Model;
 
-/// Which image of a record this is: a generation, one for each new insert of the record, and a number
-/// within it. Versions are ordered by generation, and then by number.
+/// Which image of a record this is: its generation, counted per insert, and its number within that. Versions
+/// are ordered by generation, and then by number.
 #[derive(Clone, Copy, Debug, PartialEq, Eq, PartialOrd, Ord)]
 pub struct Version {
     /// From 1 to 10^15.
@@ -30,12 +30,12 @@ impl Model for Version {
 }
 
 impl Version {
-    /// None where the generation is not from 1 to 10^15, or the number is above 10^15.
+    /// `None` if the generation is not from 1 to 10^15, or the number is above 10^15.
     pub fn new(generation: u64, number: u64) -> Option<Version>
         ensures made { IfSome result (λ version. version ≡ (generation, number)) }
         ensures exactly { IsSome result ↔ IsTrue (is_version (generation, number)) }
     {
-        if generation == 0 || generation > GREATEST || number > GREATEST {
+        if generation == 0 || generation > MAX_VERSION_NUMBER || number > MAX_VERSION_NUMBER {
             return None;
         }
         Some(Version { generation, number })

@@ -1,10 +1,7 @@
 -- The ranges of a layout have no key in common.
 use Rattle.std.proofs.Common.{◌≡◌, ℕ, zero, suc, ◌+◌, ◌<◌, ◌≤◌, true, false, List, [], ◌∷◌, length, map, refl, arith}
-use Rattle.std.specs.List.{range_with_len}
-use Rattle.pn_tablet.specs.Ranges.{Ends, in_range}
-use Rattle.pn_tablet.specs.Layouts.{Bounds, IsLayout, tablet_ends}
 use Rattle.pn_tablet.proofs.LayoutFacts.{tablet_of_key}
-use Rattle.pn_apply.specs.Reducing.{ranges}
+use Rattle.pn_region.proofs.Common.{range_with_len, Ends, in_range, Bounds, IsLayout, tablet_ends, ranges}
 
 -- no key of the others is in the range
 abbrev pub Outside : Ends → List Ends → Type 0

@@ -1,28 +1,14 @@
--- How many changes there are: at most as many as entries are joined.
+-- There are at most as many changes as joined entries.
 use Rattle.std.proofs.Common.{◌≡◌, ℕ, ◌≤◌, true, List, [], ◌∷◌, ◌++◌, map, length, sym, ap, ◌∙◌, subst, arith}
-use Rattle.std.specs.List.{flat_map}
 use Rattle.std.specs.Prelude.{Vec}
-use Rattle.std.specs.FinMap.{find, is_sorted}
 use Rattle.std.specs.declared.alloc.Global.{Global}
 use Rattle.std.proofs.lemmas.List.{length-append}
 use Rattle.std.proofs.lemmas.List.Folds.{flat_map-map}
-use Rattle.pn_join.specs.Marks.{Positions}
-use Rattle.pn_record.specs.declared.image.Image.{Image}
-use Rattle.pn_record.specs.Order.{bytes_cmp}
-use Rattle.pn_record.specs.Cells.{spell}
-use Rattle.pn_record.specs.CellMap.{Entries, table_of, adds}
+use Rattle.pn_record.specs.CellMap.{adds}
 use Rattle.pn_record.proofs.CellLists.{both, cells-append}
 use Rattle.pn_record.proofs.CellMaps.{rising-table_of, Holds-table_of, cells-spelled}
-use Rattle.pn_tablet.specs.Changes.{changes}
-use Rattle.pn_tablet.specs.Ranges.{Ends}
-use Rattle.pn_tablet.specs.Steps.{stepped}
-use Rattle.pn_tablet.specs.Tablets.{TabletStateValue}
-use Rattle.pn_tablet.specs.declared.change.Change.{Change}
-use Rattle.pn_tablet.specs.declared.op.TabletOp.{TabletOp}
 use Rattle.pn_tablet.proofs.Changed.{few_changes}
-use Rattle.pn_apply.specs.Applying.{all_changes}
-use Rattle.pn_apply.specs.Reducing.{images_in, join_in, joined_cells}
-use Rattle.pn_region.specs.Regions.{IsTabletOf, AreTabletsOf}
+use Rattle.pn_region.proofs.Common.{flat_map, find, is_sorted, Positions, Image, bytes_cmp, spell, Entries, table_of, changes, Ends, stepped, TabletStateValue, Change, TabletOp, all_changes, images_in, join_in, joined_cells, IsTabletOf, AreTabletsOf}
 use Rattle.pn_region.proofs.RoundSteps.{is_taken, same_list}
 
 -- what lists of changes hold together

@@ -1,24 +1,15 @@
--- What a tablet's cover tells of the images that were taken.
+-- The images that a tablet's cover reaches.
 use Rattle.std.proofs.Common.{◌≡◌, ℕ, ◌<◌, ◌≤◌, true, false, nat_lt, List, [], ◌++◌, length, get_or, refl, sym, ap, ◌∙◌, subst, arith, ◌⊎◌, inl, inr, Contains}
-use Rattle.std.specs.Prelude.{Ok}
 use Rattle.std.proofs.lemmas.Bool.Decides.{nat_tests}
 use Rattle.std.proofs.lemmas.List.Elements.{Contains-append_left, Contains-append_right}
-use Rattle.pn_join.specs.Marks.{Positions, Reaches, position_of, raised}
 use Rattle.pn_join.proofs.MarksFacts.{position_of-raised}
-use Rattle.pn_record.specs.declared.image.Image.{Image}
-use Rattle.pn_stream.specs.Brokers.{BrokerRecord, up_to, AreHonest}
-use Rattle.pn_stream.specs.Positions.{DeliveryValue}
 use Rattle.pn_stream.proofs.Published.{Stands, is_up_to, published}
-use Rattle.pn_tablet.specs.Copies.{TabletCopyValue}
-use Rattle.pn_tablet.specs.Ranges.{Ends, in_range}
-use Rattle.pn_tablet.specs.Tablets.{TabletStateValue}
-use Rattle.pn_apply.specs.Reducing.{all_images, images_in}
 use Rattle.pn_region.specs.Taken.{CoverTells}
-use Rattle.pn_region.specs.Marking.{new_marks}
+use Rattle.pn_region.proofs.Common.{Ok, Positions, Reaches, position_of, raised, Image, BrokerRecord, up_to, AreHonest, DeliveryValue, TabletCopyValue, Ends, in_range, TabletStateValue, all_images, images_in, new_marks}
 use Rattle.pn_region.proofs.Events.{up_to_more}
 use Rattle.pn_region.proofs.Faith.{brought, was_brought}
 use Rattle.pn_region.proofs.InRange.{from_images_in, to_images_in}
-use Rattle.pn_region.proofs.TakenImages.{by_part}
+use Rattle.pn_region.proofs.TakenImages.{either_one, by_part}
 
 -- what was taken or left before was so after more
 among_more : (taken left more maybe : List Image) (image : Image) → Contains (taken ++ left) image → Contains ((taken ++ more) ++ (left ++ maybe)) image
@@ -34,10 +25,6 @@ among_new taken left more maybe image =
     (λ there. Contains-append_left (taken ++ more) (left ++ maybe) image (Contains-append_right taken more image there))
     (λ there. Contains-append_right (taken ++ more) (left ++ maybe) image (Contains-append_right left maybe image there))
 
-by_side : {A B P : Type 0} → (A → P) → (B → P) → A ⊎ B → P
-by_side first second (inl one) = first one
-by_side first second (inr other) = second other
-
 -- a cover that is raised by what was taken
 pub tells_more : (broker : BrokerRecord) (taken left more maybe : List Image) (t u : TabletStateValue) → u.range ≡ t.range → Reaches u.cover t.cover → CoverTells broker taken left t
     → ((image : Image) → Contains more image → in_range t.range image.key ≡ true → Contains (up_to broker u.cover) image)
@@ -49,14 +36,14 @@ tells_more broker taken left more maybe t u range reach tells added from = recor
       by_part taken more image (λ old. up_to_more broker u.cover t.cover reach image (tells.all image old inside)) (λ new. added image new inside) there;
   no_others = λ image there lies.
       let inside = ap (λ (ends : Ends). in_range ends image.key) (sym range) ∙ lies in
-      by_side (λ old. among_more taken left more maybe image (tells.no_others image old inside)) (among_new taken left more maybe image) (from image there inside);
+      either_one (λ old. among_more taken left more maybe image (tells.no_others image old inside)) (among_new taken left more maybe image) (from image there inside);
 }
 
 second_so : {A B C : Type 0} → (B → C) → A ⊎ B → A ⊎ C
 second_so f (inl a) = inl a
 second_so f (inr b) = inr (f b)
 
--- one that stays tells the same, where nothing in its range was taken
+-- a cover that stays reaches the same, where nothing in its range was taken
 pub tells_itself : (broker : BrokerRecord) (taken left more maybe : List Image) (t u : TabletStateValue) → u.range ≡ t.range → u.cover ≡ t.cover → CoverTells broker taken left t
     → ((image : Image) → Contains more image → in_range t.range image.key ≡ true → ⊥) → CoverTells broker (taken ++ more) (left ++ maybe) u
 tells_itself broker taken left more maybe t u range cover tells apart =
@@ -64,7 +51,7 @@ tells_itself broker taken left more maybe t u range cover tells apart =
     (λ image there lies. absurd (apart image there lies))
     (λ image there lies. inl (subst (λ (marks : Positions). Contains (up_to broker marks) image) cover there))
 
--- what the raised cover has reached the old one had, or it stands past that, up to the marks
+-- the raised cover reaches what the old one did, and positions past that, up to the marks
 beyond : (broker : BrokerRecord) (cover marks : Positions) (more : List Image)
     → ((image : Image) (stream : List ℕ) (at : ℕ) → position_of cover stream ≤ at → at < position_of marks stream → at < length (broker stream) → get_or (broker stream) at image ≡ image → Contains more image)
     → (image : Image) → Contains (up_to broker (raised cover marks)) image → Contains (up_to broker cover) image ⊎ Contains more image

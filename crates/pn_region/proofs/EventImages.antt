@@ -1,41 +1,16 @@
 -- The images that a region has after events.
 use Rattle.std.proofs.Common.{◌≡◌, ℕ, zero, suc, ◌<◌, Bool, true, false, if◌then◌else◌, List, [], ◌∷◌, ◌++◌, map, length, slice_get, Option, None, Some, Ok, Err, refl, sym, ap, ◌∙◌, subst, arith, ◌⊎◌, inl, inr, Contains}
-use Rattle.std.specs.Prelude.{MatchResult}
-use Rattle.std.specs.List.{AllByRecursion}
 use Rattle.std.specs.Option.{option_and_then}
 use Rattle.std.proofs.lemmas.List.{append-nil, append_assoc}
 use Rattle.std.proofs.lemmas.List.Elements.{Contains-append_left}
-use Rattle.pn_join.specs.Marks.{Positions}
-use Rattle.pn_record.specs.declared.image.Image.{Image}
-use Rattle.pn_record.specs.Cells.{SameImages}
-use Rattle.pn_record.specs.CellMap.{table_of}
 use Rattle.pn_record.proofs.CellLists.{cells-same}
 use Rattle.pn_record.proofs.CellMaps.{same_cells_table}
-use Rattle.pn_stream.specs.Brokers.{BrokerRecord, up_to, AreHonest}
-use Rattle.pn_stream.specs.Positions.{DeliveryValue}
-use Rattle.pn_tablet.specs.Copies.{TabletCopyValue}
-use Rattle.pn_tablet.specs.Layouts.{Bounds, IsLayout}
-use Rattle.pn_tablet.specs.Needs.{lacking}
-use Rattle.pn_tablet.specs.Ranges.{Ends, in_range}
-use Rattle.pn_tablet.specs.Steps.{taking, after_step, stepped}
+use Rattle.pn_tablet.specs.Steps.{taking}
 use Rattle.pn_tablet.specs.Steps as steps
-use Rattle.pn_tablet.specs.Tablets.{TabletStateValue, empty_tablet, same_range}
-use Rattle.pn_tablet.specs.declared.fault.OpFault.TheVariants.{WrongRange}
-use Rattle.pn_tablet.specs.declared.needs.Short.{Short}
-use Rattle.pn_tablet.specs.declared.op.TabletOp.TheVariants.{Lose, Adopt}
-use Rattle.pn_tablet.specs.declared.state.Status.TheVariants.{Serving}
 use Rattle.pn_tablet.proofs.Stepping.{one_range}
-use Rattle.pn_apply.specs.Applying.{all_stepped, AreOldOrStepped}
-use Rattle.pn_apply.specs.Reducing.{all_images, images_in, join_in, ranges}
 use Rattle.pn_region.specs.Events.{RegionEvent, round, half_round, loss, adoption, LeadsTo, AllLeadTo, IsHonestEvent, AreHonestEvents}
-use Rattle.pn_region.specs.Faith.{IsFaithful, AreFaithful}
-use Rattle.pn_region.specs.Laws.{AreIn, HasBetween}
-use Rattle.pn_region.specs.Marking.{new_marks}
-use Rattle.pn_region.specs.Recovery.{stepped_at}
-use Rattle.pn_region.specs.Regions.{RegionValue, IsTabletOf, AreTabletsOf, IsRegion, new_region, all_cells}
-use Rattle.pn_region.specs.Rounds.{joins}
-use Rattle.pn_region.specs.Serving.{AllServe}
 use Rattle.pn_region.specs.Taken.{taken_by, all_taken, left_by, all_left, CoverTells, CoversTell, IsRound, AreRounds}
+use Rattle.pn_region.proofs.Common.{MatchResult, AllByRecursion, Positions, Image, SameImages, table_of, BrokerRecord, up_to, AreHonest, DeliveryValue, TabletCopyValue, Bounds, IsLayout, lacking, Ends, in_range, after_step, stepped, TabletStateValue, empty_tablet, same_range, WrongRange, Short, Lose, Adopt, Serving, all_stepped, AreOldOrStepped, all_images, images_in, join_in, ranges, IsFaithful, AreFaithful, AreIn, HasBetween, new_marks, stepped_at, RegionValue, IsTabletOf, AreTabletsOf, IsRegion, new_region, all_cells, joins, AllServe}
 use Rattle.pn_region.proofs.Apart.{Outside, Apart, ranges_apart}
 use Rattle.pn_region.proofs.Covers.{tells_itself, round_tells, adopted_tells}
 use Rattle.pn_region.proofs.Events.{events_faithful}
@@ -176,7 +151,7 @@ module _ (broker : BrokerRecord) (taken left : List Image) where
       (λ t there. (found_at old copy leads.tablet t known.found there, sym (ap (option_and_then (λ (state : TabletStateValue). lacking state.status copy.marks)) there) ∙ known.lacks_none))
       (found_within old copy leads.tablet known.found) tell)
 
--- after events each cover tells what was taken
+-- after events each cover reaches what was taken
 pub events_tell : (broker : BrokerRecord) (events : List RegionEvent) (old new : RegionValue) (taken left : List Image) → IsRegion old → AreHonestEvents broker events → AllLeadTo events old new → CoversTell broker taken left old.tablets
     → CoversTell broker (taken ++ all_taken broker events) (left ++ all_left events) new.tablets
 events_tell broker [] old new taken left is honest lead tell =
@@ -231,7 +206,7 @@ taken_together broker bounds events region lawful lead honest serve are =
     (events_faithful broker events (new_region bounds) region first (new_faithful broker bounds) honest lead) serve
     (events_tell broker events (new_region bounds) region [] [] first honest lead (new_tells broker bounds)))
 
--- where all are rounds nobody needs to be honest
+-- rounds alone need not be honest
 event_between : (broker : BrokerRecord) (event : RegionEvent) (old new : RegionValue) (sure maybe : List Image) → IsRegion old → IsRound event → LeadsTo event old new → HasBetween sure maybe old
     → HasBetween (sure ++ taken_by broker event) (maybe ++ left_by event) new
 event_between broker (round deliveries) old new sure maybe is one leads has =

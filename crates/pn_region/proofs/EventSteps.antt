@@ -1,26 +1,13 @@
 -- What an event does to each tablet.
 use Rattle.std.proofs.Common.{◌≡◌, ℕ, zero, suc, List, [], ◌∷◌, map, slice_get, Option, None, Some, Result, Ok, Err, refl, sym, ap, ◌∙◌, subst, arith, ◌⊎◌, inl, inr}
 use Rattle.std.specs.Result.{result_map_both}
-use Rattle.pn_join.specs.Marks.{Positions, Reaches}
-use Rattle.pn_record.specs.declared.image.Image.{Image}
-use Rattle.pn_stream.specs.Positions.{DeliveryValue}
-use Rattle.pn_tablet.specs.Copies.{TabletCopyValue}
-use Rattle.pn_tablet.specs.Ranges.{Ends}
-use Rattle.pn_tablet.specs.Steps.{stepped}
-use Rattle.pn_tablet.specs.Tablets.{TabletStateValue}
-use Rattle.pn_tablet.specs.declared.needs.Short.{Short}
-use Rattle.pn_tablet.specs.declared.op.TabletOp.{TabletOp}
-use Rattle.pn_tablet.specs.declared.op.TabletOp.TheVariants.{Lose, Adopt}
-use Rattle.pn_apply.specs.Applying.{all_stepped, AreOldOrStepped}
-use Rattle.pn_apply.specs.Reducing.{all_images, join_in, ranges}
 use Rattle.pn_region.specs.Events.{RegionEvent, round, half_round, loss, adoption, LeadsTo, AllLeadTo}
-use Rattle.pn_region.specs.Marking.{new_marks}
-use Rattle.pn_region.specs.Recovery.{stepped_at, stepping, tablet_for, lacks, adopting_unless, adopting_by, adopting}
-use Rattle.pn_region.specs.Regions.{RegionValue, AreTabletsOf, IsRegion}
+use Rattle.pn_region.specs.Recovery.{stepping, lacks, adopting_unless, adopting}
 use Rattle.pn_region.specs.Rounds as rounds
-use Rattle.pn_region.specs.declared.fault.RoundFault.{RoundFault}
+use Rattle.pn_region.proofs.Common.{Positions, Reaches, Image, DeliveryValue, TabletCopyValue, Ends, stepped, TabletStateValue, Short, TabletOp, Lose, Adopt, all_stepped, AreOldOrStepped, all_images, join_in, ranges, new_marks, stepped_at, tablet_for, adopting_by, RegionValue, AreTabletsOf, IsRegion, RoundFault}
 use Rattle.pn_region.proofs.HalfRounds.{half_so, half_taken_is}
 use Rattle.pn_region.proofs.OneTablet.{stepping_is}
+use Rattle.pn_region.proofs.RoundEnds.{taken_half}
 use Rattle.pn_region.proofs.RoundSteps.{all_taken}
 
 -- what is known of an adoption
@@ -122,12 +109,6 @@ each_at R (s ∷ ts) (v ∷ us) zero t u each there there_too =
     subst (λ (a : TabletStateValue). R a u) same (subst (R s) same_too each.0)
 each_at R (s ∷ ts) (v ∷ us) (suc n) t u each there there_too = each_at R ts us n t u each.1 there there_too
 
-rounds_move : (marks old : Positions) (images : List Image) (rs : List Ends) (ts : List TabletStateValue) → AreTabletsOf old rs ts → Each Moves ts (all_stepped ts (map (join_in marks images) rs))
-rounds_move marks old images [] [] are = tt
-rounds_move marks old images [] (t ∷ ts) are = absurd are
-rounds_move marks old images (r ∷ rs) [] are = absurd are
-rounds_move marks old images (r ∷ rs) (t ∷ ts) are = (inr (join_in marks images r, refl), rounds_move marks old images rs ts are.1)
-
 moves_half : (t u : TabletStateValue) (op : TabletOp) → (u ≡ t) ⊎ (u ≡ stepped t op) → Moves t u
 moves_half t u op (inl same) = inl same
 moves_half t u op (inr took) = inr (op, took)
@@ -149,7 +130,7 @@ one_moves (suc n) op (t ∷ ts) = (inl refl, one_moves n op ts)
 pub each_moves : (event : RegionEvent) (old new : RegionValue) → IsRegion old → LeadsTo event old new → Each Moves old.tablets new.tablets
 each_moves (round deliveries) old new is leads =
     let took = takes old deliveries new leads in
-    subst (λ (r : RegionValue). Each Moves old.tablets r.tablets) (sym took.is) (rounds_move took.marks old.marks (all_images deliveries) (ranges old.layout) old.tablets is.tablets)
+    subst (λ (r : RegionValue). Each Moves old.tablets r.tablets) (sym took.is) (halves_move old.tablets (rounds.joins old deliveries took.marks) (rounds.taking old deliveries took.marks).tablets (taken_half old deliveries is took.marks))
 each_moves (half_round deliveries) old new is leads =
     half_so old new deliveries (Each Moves old.tablets) (each_itself Moves (λ t. inl refl) old.tablets) (λ marks half. halves_move old.tablets _ new.tablets half) leads
 each_moves (loss n) old new is leads = subst (λ (r : RegionValue). Each Moves old.tablets r.tablets) (sym leads) (one_moves n Lose old.tablets)

@@ -1,33 +1,14 @@
 -- Events keep covers, faithful tablets and what tablets that serve hold.
 use Rattle.std.proofs.Common.{◌≡◌, ℕ, zero, suc, Bool, true, false, if◌then◌else◌, List, [], ◌∷◌, slice_get, Option, None, Some, Ok, Err, refl, sym, ap, ◌∙◌, subst, inl, inr, Contains}
-use Rattle.std.specs.FinMap.{find}
-use Rattle.pn_join.specs.Marks.{Positions, Reaches, position_of}
-use Rattle.pn_record.specs.declared.image.Image.{Image}
-use Rattle.pn_record.specs.Order.{bytes_cmp}
-use Rattle.pn_record.specs.Cells.{spell}
-use Rattle.pn_record.specs.CellMap.{Entries, table_of}
-use Rattle.pn_stream.specs.Brokers.{BrokerRecord, up_to}
 use Rattle.pn_stream.proofs.Published.{wider, is_up_to, published}
-use Rattle.pn_tablet.specs.Copies.{TabletCopyValue}
 use Rattle.pn_tablet.specs.Laws.{IsSpelled}
-use Rattle.pn_tablet.specs.Needs.{lacking}
-use Rattle.pn_tablet.specs.Ranges.{Ends}
-use Rattle.pn_tablet.specs.Steps.{taking, step, after_step, stepped}
+use Rattle.pn_tablet.specs.Steps.{taking}
 use Rattle.pn_tablet.specs.Steps as steps
-use Rattle.pn_tablet.specs.Tablets.{TabletStateValue, lie_in, same_range}
-use Rattle.pn_tablet.specs.declared.fault.OpFault.TheVariants.{WrongRange}
-use Rattle.pn_tablet.specs.declared.needs.Short.{Short}
-use Rattle.pn_tablet.specs.declared.op.TabletOp.{TabletOp}
-use Rattle.pn_tablet.specs.declared.op.TabletOp.TheVariants.{Join, Lose, Adopt}
-use Rattle.pn_tablet.specs.declared.state.Status.TheVariants.{Serving}
 use Rattle.pn_tablet.proofs.TabletLaws.{never_falls}
-use Rattle.pn_apply.specs.Reducing.{images_in}
 use Rattle.pn_region.specs.Events.{RegionEvent, round, half_round, loss, adoption, LeadsTo, AllLeadTo, IsHonestEvent, AreHonestEvents}
-use Rattle.pn_region.specs.Faith.{IsFaithful, AreFaithful}
 use Rattle.pn_region.specs.Held.{HoldsStill}
 use Rattle.pn_region.specs.Honest.{IsHonestCopy}
-use Rattle.pn_region.specs.Recovery.{stepped_at}
-use Rattle.pn_region.specs.Regions.{RegionValue, AreTabletsOf, IsRegion}
+use Rattle.pn_region.proofs.Common.{find, Positions, Reaches, position_of, Image, bytes_cmp, spell, Entries, table_of, BrokerRecord, up_to, TabletCopyValue, lacking, Ends, step, after_step, stepped, TabletStateValue, lie_in, same_range, WrongRange, Short, TabletOp, Join, Lose, Adopt, Serving, images_in, IsFaithful, AreFaithful, stepped_at, RegionValue, AreTabletsOf, IsRegion}
 use Rattle.pn_region.proofs.EventSteps.{adopts, takes, event_is, Moves, Each, each_at, each_moves, each_after, Grows, grows_itself, grows_then}
 use Rattle.pn_region.proofs.Faith.{round_keeps, half_keeps}
 use Rattle.pn_region.proofs.FaithfulCopies.{lost_faithful, adopted_faithful, serving_has_all}
@@ -138,7 +119,7 @@ spelled_at marks (r ∷ rs) (u ∷ ts) zero t are there =
     subst (λ (now : TabletStateValue). IsSpelled now.cells) same are.0.spelled
 spelled_at marks (r ∷ rs) (u ∷ ts) (suc n) t are there = spelled_at marks rs ts n t are.1 there
 
--- a tablet that serves after an event holds still what it held before
+-- a tablet that serves after an event still holds what it held before
 pub event_held : (event : RegionEvent) (old new : RegionValue) (n : ℕ) (t u : TabletStateValue) → IsRegion old → LeadsTo event old new → slice_get old.tablets n ≡ Some t → slice_get new.tablets n ≡ Some u → u.status ≡ Serving
     → (key : List ℕ) → HoldsStill (find bytes_cmp key t.cells) (find bytes_cmp key u.cells)
 event_held event old new n t u is leads there there_too serves key =

@@ -1,32 +1,18 @@
 -- Rounds of honest deliveries keep tablets faithful.
 use Rattle.std.proofs.Common.{◌≡◌, ℕ, ◌+◌, ◌<◌, ◌≤◌, true, false, nat_lt, List, [], ◌∷◌, ◌++◌, map, length, get_or, refl, sym, ap, ◌∙◌, subst, arith, ◌⊎◌, inl, inr, Contains}
-use Rattle.std.specs.Prelude.{Ok, Err, MatchResult}
 use Rattle.std.proofs.lemmas.Bool.Decides.{nat_tests}
 use Rattle.std.proofs.lemmas.List.Elements.{Contains-append_left, Contains-append_right}
-use Rattle.pn_join.specs.Marks.{Positions, Reaches, position_of, raised}
 use Rattle.pn_join.proofs.MarksFacts.{position_of-raised}
-use Rattle.pn_record.specs.declared.image.Image.{Image}
-use Rattle.pn_record.specs.Cells.{spell, SameImages}
-use Rattle.pn_record.specs.CellMap.{Entries, table_of, adds}
+use Rattle.pn_record.specs.CellMap.{adds}
 use Rattle.pn_record.proofs.CellMaps.{table_of-nil}
-use Rattle.pn_stream.specs.Positions.{DeliveryValue}
-use Rattle.pn_stream.specs.Brokers.{BrokerRecord, up_to, AreHonest}
 use Rattle.pn_stream.proofs.Published.{Stands, wider, in_part, part_of, is_up_to, published, brings, is_brought}
-use Rattle.pn_tablet.specs.Layouts.{Bounds}
-use Rattle.pn_tablet.specs.Ranges.{Ends}
-use Rattle.pn_tablet.specs.Steps.{taking, stepped}
-use Rattle.pn_tablet.specs.Tablets.{TabletStateValue, empty_tablet}
-use Rattle.pn_apply.specs.Applying.{all_stepped, AreOldOrStepped}
-use Rattle.pn_apply.specs.Reducing.{all_images, images_in, join_in, ranges}
+use Rattle.pn_tablet.specs.Steps.{taking}
 use Rattle.pn_apply.proofs.ReduceLaws.{range_joins, same_in}
 use Rattle.pn_tablet.specs.Needs.{needed}
-use Rattle.pn_region.specs.Faith.{IsFaithful, AreFaithful}
-use Rattle.pn_region.specs.Laws.{HasImages}
-use Rattle.pn_region.specs.Marking.{new_marks, last_position}
-use Rattle.pn_region.specs.Regions.{RegionValue, IsTabletOf, AreTabletsOf, IsRegion, new_region}
-use Rattle.pn_region.specs.Rounds.{joins, IsHalfTaken}
 use Rattle.pn_region.specs.Rounds as rounds
+use Rattle.pn_region.proofs.Common.{Ok, Err, MatchResult, Positions, Reaches, position_of, raised, Image, spell, SameImages, Entries, table_of, DeliveryValue, BrokerRecord, up_to, AreHonest, Bounds, Ends, stepped, TabletStateValue, empty_tablet, all_stepped, AreOldOrStepped, all_images, images_in, join_in, ranges, IsFaithful, AreFaithful, HasImages, new_marks, last_position, RegionValue, IsTabletOf, AreTabletsOf, IsRegion, new_region, joins, IsHalfTaken}
 use Rattle.pn_region.proofs.MarkLaws.{not_skipped, next_has_last, next_reaches}
+use Rattle.pn_region.proofs.RoundEnds.{taken_half}
 use Rattle.pn_region.proofs.RoundSteps.{is_taken}
 use Rattle.pn_region.proofs.TakenImages.{by_part, pieces_of, round_takes}
 
@@ -54,7 +40,7 @@ module _ (broker : BrokerRecord) (marks next : Positions) (deliveries : List Del
   abbrev images : List Image
   images = all_images deliveries
 
-  -- what was brought stands up to marks that reach the new ones
+  -- what was brought is among the images up to marks that reach the new ones
   pub brought : (reached : Positions) → Reaches reached next → (image : Image) → Contains images image → Contains (up_to broker reached) image
   brought reached reaches image there =
       let found = part_of (λ (delivery : DeliveryValue). delivery.images) deliveries image there in
@@ -63,7 +49,7 @@ module _ (broker : BrokerRecord) (marks next : Positions) (deliveries : List Del
       is_up_to broker reached found.part.stream image
       (wider (last_position found.part) (position_of reached found.part.stream) (broker found.part.stream) image (omega (arith, last, reaches found.part.stream)) stands)
 
-  -- what stands past the old marks, up to the new ones, was brought
+  -- what is past the old marks, up to the new ones, was brought
   pub was_brought : (stream : List ℕ) (image : Image) (at : ℕ) → position_of marks stream < at + 1 → at + 1 ≤ position_of next stream → at < length (broker stream) → get_or (broker stream) at image ≡ image → Contains images image
   was_brought stream image at past up within is =
       let has = not_skipped marks next deliveries stream (at + 1) accepted past up in
@@ -139,12 +125,6 @@ module _ (broker : BrokerRecord) (marks next : Positions) (deliveries : List Del
     one_half u (inl same) = subst (IsFaithful broker) (sym same) faithful
     one_half u (inr took) = subst (IsFaithful broker) (sym took) stepped_keeps
 
-  all_keep : (rs : List Ends) (ts : List TabletStateValue) → AreTabletsOf marks rs ts → AreFaithful broker ts → AreFaithful broker (all_stepped ts (map (join_in next images) rs))
-  all_keep [] [] are faithful = tt
-  all_keep [] (t ∷ ts) are faithful = absurd are
-  all_keep (r ∷ rs) [] are faithful = absurd are
-  all_keep (r ∷ rs) (t ∷ ts) are faithful = (stepped_keeps r t are.0 faithful.0, all_keep rs ts are.1 faithful.1)
-
   all_half : (rs : List Ends) (ts us : List TabletStateValue) → AreTabletsOf marks rs ts → AreFaithful broker ts → AreOldOrStepped ts (map (join_in next images) rs) us → AreFaithful broker us
   all_half [] [] [] are faithful half = tt
   all_half [] [] (u ∷ us) are faithful half = absurd half
@@ -157,7 +137,7 @@ module _ (broker : BrokerRecord) (marks next : Positions) (deliveries : List Del
 pub round_keeps : (broker : BrokerRecord) (region : RegionValue) (deliveries : List DeliveryValue) (marks : Positions) → IsRegion region → AreFaithful broker region.tablets → AreHonest broker deliveries
     → new_marks region.marks deliveries ≡ Ok marks → AreFaithful broker (rounds.taking region deliveries marks).tablets
 round_keeps broker region deliveries marks is faithful honest accepted =
-    all_keep broker region.marks marks deliveries honest accepted (ranges region.layout) region.tablets is.tablets faithful
+    all_half broker region.marks marks deliveries honest accepted (ranges region.layout) region.tablets (rounds.taking region deliveries marks).tablets is.tablets faithful (taken_half region deliveries is marks)
 
 -- and so does one that ran out of memory
 pub half_keeps : (broker : BrokerRecord) (old new : RegionValue) (deliveries : List DeliveryValue) → IsRegion old → AreFaithful broker old.tablets → AreHonest broker deliveries

@@ -1,35 +1,22 @@
 -- A loss, and an honest copy that is adopted, leave faithful tablets, and these give honest copies.
 use Rattle.std.proofs.Common.{◌≡◌, ℕ, ◌≤◌, Bool, true, false, nat_lt, if◌then◌else◌, List, [], ◌++◌, Option, None, Some, refl, sym, ap, ◌∙◌, subst, arith, ◌⊎◌, inl, inr, Contains}
-use Rattle.std.specs.Prelude.{Result, Ok, Err}
 use Rattle.std.proofs.lemmas.Bool.Decides.{nat_tests}
 use Rattle.std.proofs.lemmas.List.Elements.{Contains-append_left, Contains-append_right}
-use Rattle.pn_join.specs.Marks.{Positions, Reaches, position_of, raised}
 use Rattle.pn_join.proofs.MarksFacts.{position_of-raised}
-use Rattle.pn_record.specs.declared.image.Image.{Image}
-use Rattle.pn_record.specs.Cells.{spell}
-use Rattle.pn_record.specs.CellMap.{table_of, adds}
+use Rattle.pn_record.specs.CellMap.{adds}
 use Rattle.pn_record.proofs.CellMaps.{table_of-nil}
-use Rattle.pn_stream.specs.Brokers.{BrokerRecord, up_to}
 use Rattle.pn_stream.proofs.Published.{Stands, wider, is_up_to, published}
-use Rattle.pn_tablet.specs.Copies.{TabletCopyValue}
 use Rattle.pn_tablet.specs.Copying.{unless_behind, copy_from, copy_of}
-use Rattle.pn_tablet.specs.Needs.{needed, lacking, first_short}
-use Rattle.pn_tablet.specs.Ranges.{Ends}
-use Rattle.pn_tablet.specs.Steps.{taking, lost, adopting, step}
-use Rattle.pn_tablet.specs.Tablets.{TabletStateValue, same_range}
+use Rattle.pn_tablet.specs.Needs.{needed, first_short}
+use Rattle.pn_tablet.specs.Steps.{taking, adopting}
 use Rattle.pn_tablet.specs.declared.state.Status.{Status}
-use Rattle.pn_tablet.specs.declared.state.Status.TheVariants.{Serving, Recovering}
-use Rattle.pn_tablet.specs.declared.needs.Short.{Short}
-use Rattle.pn_tablet.specs.declared.op.TabletOp.TheVariants.{Adopt}
 use Rattle.pn_tablet.specs.declared.fault.OpFault.{OpFault}
-use Rattle.pn_tablet.specs.declared.fault.OpFault.TheVariants.{WrongRange}
 use Rattle.pn_tablet.proofs.Recovery.{nothing_short}
 use Rattle.pn_tablet.proofs.Stepping.{one_range}
 use Rattle.pn_tablet.proofs.TabletLaws.{adopted}
-use Rattle.pn_apply.specs.Reducing.{images_in}
 use Rattle.pn_apply.proofs.ReduceLaws.{range_joins, same_in}
-use Rattle.pn_region.specs.Faith.{IsFaithful}
 use Rattle.pn_region.specs.Honest.{IsHonestCopy}
+use Rattle.pn_region.proofs.Common.{Result, Ok, Err, Positions, Reaches, position_of, raised, Image, spell, table_of, BrokerRecord, up_to, TabletCopyValue, lacking, Ends, lost, step, TabletStateValue, same_range, Serving, Recovering, Short, Adopt, WrongRange, images_in, IsFaithful}
 use Rattle.pn_region.proofs.TakenImages.{by_part}
 
 -- a tablet that was lost may lack all up to its need

@@ -1,10 +1,7 @@
 -- Marks that follow one delivery more.
 use Rattle.std.proofs.Common.{◌≡◌, ℕ, ◌+◌, ◌-◌, ◌<◌, ◌≤◌, ◌^◌, min, max, Bool, true, false, T, cond, not, eqb, nat_lt, List, [], ◌∷◌, length, take, get_or, Some, None, unwrap_or, is_some, fold, refl, sym, ap, ◌∙◌, subst, arith}
-use Rattle.std.specs.Prelude.{Ok, Err}
 use Rattle.std.specs.Int.{from_bool}
-use Rattle.std.specs.Ordering.{eq_by_cmp}
 use Rattle.std.specs.Str.{bytes_eq}
-use Rattle.std.specs.FinMap.{find, is_sorted}
 use Rattle.std.specs.FinMap.Entries.{length-put}
 use Rattle.std.proofs.lemmas.Bool.{and_parts, and_from}
 use Rattle.std.proofs.lemmas.Bool.Decides.{nat_tests}
@@ -12,13 +9,14 @@ use Rattle.std.proofs.lemmas.Cmp.{nat_list_cmp_total}
 use Rattle.std.proofs.lemmas.List.{take_more}
 use Rattle.std.proofs.lemmas.List.Elements.{filter-append}
 use Rattle.std.proofs.lemmas.List.Sums.{fold-append}
-use Rattle.pn_join.specs.Marks.{Positions, name_cmp, position_of, is_position, are_positions}
+use Rattle.pn_join.specs.Marks.{is_position}
 use Rattle.pn_join.proofs.MarksFacts.{position_of-raised, is_sorted-raised, are_positions-raised}
 use Rattle.pn_record.proofs.HeldRecords.{same_key}
-use Rattle.pn_stream.specs.Positions.{DeliveryValue}
 use Rattle.pn_stream.specs.Positions.{are_positions as fit}
-use Rattle.pn_region.specs.Marking.{brings, bringing, last_position, last_of, last_of_stream, marked, all_marked, leaves_gap, marks_after, of_few_streams, new_marks}
-use Rattle.pn_region.specs.declared.fault.RoundFault.TheVariants.{TooManyStreams}
+use Rattle.pn_tablet.proofs.BoundSteps.{is_so}
+use Rattle.pn_tablet.proofs.LayoutFacts.{is_not}
+use Rattle.pn_region.specs.Marking.{brings, last_of, last_of_stream}
+use Rattle.pn_region.proofs.Common.{Ok, Err, eq_by_cmp, find, is_sorted, Positions, name_cmp, position_of, are_positions, DeliveryValue, bringing, last_position, marked, all_marked, leaves_gap, marks_after, of_few_streams, new_marks, TooManyStreams}
 use Rattle.pn_region.proofs.MarkLaws.{gap_of}
 
 -- the marks after one more delivery
@@ -39,14 +37,8 @@ found_name (e ∷ es) name lawful =
     ]
 
 counted_by : (b new : Bool) (n : ℕ) → b ≡ not new → cond b n (n + 1) ≡ n + from_bool new
-counted_by true new n is = let known : new ≡ false = not_true new (sym is) in omega (arith, ap from_bool known) where
-  not_true : (b : Bool) → not b ≡ true → b ≡ false
-  not_true true h = cc
-  not_true false h = refl
-counted_by false new n is = let known : new ≡ true = not_false new (sym is) in omega (arith, ap from_bool known) where
-  not_false : (b : Bool) → not b ≡ false → b ≡ true
-  not_false true h = refl
-  not_false false h = cc
+counted_by true new n is = let known : new ≡ false = is_not new (sym is) in omega (arith, ap from_bool known)
+counted_by false new n is = let known : new ≡ true = is_so new (sym is) in omega (arith, ap from_bool known)
 
 -- one stream more or none, where the count stops at what a number holds
 pub streams_more : (streams old more total result : ℕ) → streams ≡ min old (2 ^ 64 - 1) → total ≡ old + more → result ≡ min (streams + more) (2 ^ 64 - 1) → result ≡ min total (2 ^ 64 - 1)

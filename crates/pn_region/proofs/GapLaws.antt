@@ -1,15 +1,11 @@
--- Where a gap stands.
+-- The first gap of deliveries.
 use Rattle.std.proofs.Common.{◌≡◌, inl, inr, ℕ, zero, suc, ◌+◌, ◌<◌, ◌≤◌, pred, Bool, true, false, cond, nat_lt, List, [], ◌∷◌, ◌++◌, length, refl, sym, ap, ◌∙◌, arith}
-use Rattle.std.specs.Prelude.{Result, Ok, Err}
 use Rattle.std.proofs.lemmas.Bool.Decides.{nat_tests}
 use Rattle.std.proofs.lemmas.List.Elements.{filter-append}
-use Rattle.pn_join.specs.Marks.{Positions, position_of}
-use Rattle.pn_stream.specs.Positions.{DeliveryValue}
-use Rattle.pn_region.proofs.MarkLaws.{gap_of, accepted, few, none_skipped, never_fall, some_brings, last_taken}
+use Rattle.pn_region.proofs.Common.{Result, Ok, Err, Positions, position_of, DeliveryValue, bringing, last_position, marked, leaves_gap, marks_after, of_few_streams, new_marks, RoundFault, Gap, TooManyStreams}
+use Rattle.pn_region.proofs.MarkLaws.{gap_of, only_gaps, accepted, few, none_skipped, never_fall, some_brings, last_taken}
 use Rattle.pn_region.specs.Laws.{WasTaken, HasNoGap, IsGap}
-use Rattle.pn_region.specs.Marking.{brings, bringing, last_position, marked, leaves_gap, marks_after, of_few_streams, new_marks}
-use Rattle.pn_region.specs.declared.fault.RoundFault.{RoundFault}
-use Rattle.pn_region.specs.declared.fault.RoundFault.TheVariants.{Gap, TooManyStreams}
+use Rattle.pn_region.specs.Marking.{brings}
 
 -- the position is one that the marks have reached by these deliveries
 taken_up_to : (ds : List DeliveryValue) (m n : Positions) (name : List ℕ) (p : ℕ) → marks_after m (bringing ds) ≡ Ok n → p ≤ position_of n name → WasTaken m ds name p
@@ -73,15 +69,6 @@ no_gap ds m n is before d after p place some below =
 pub none_is_told : (marks next : Positions) (deliveries : List DeliveryValue) → new_marks marks deliveries ≡ Ok next → HasNoGap marks deliveries
 none_is_told marks next deliveries is = no_gap deliveries marks next (few (marks_after marks (bringing deliveries)) next is)
 
-gap_or_on : (b : Bool) (gap : RoundFault) (rest : Result Positions RoundFault) (P : Type 0) → (rest ≡ Err TooManyStreams → P) → (gap ≡ TooManyStreams → P) → cond b (Err gap) rest ≡ Err TooManyStreams → P
-gap_or_on true gap rest P on now is = now cc
-gap_or_on false gap rest P on now is = on is
-
--- too many streams are no gap
-never_too_many : (ds : List DeliveryValue) (m : Positions) → marks_after m ds ≡ Err TooManyStreams → ⊥
-never_too_many [] m is = cc
-never_too_many (d ∷ ds) m is = gap_or_on (leaves_gap m d) (gap_of m d) (marks_after (marked m d) ds) ⊥ (never_too_many ds (marked m d)) (λ same. cc) is
-
 too_many_after_all : (right : Result Positions RoundFault) (P : Type 0) → (right ≡ Err TooManyStreams → P) → ((n : Positions) → right ≡ Ok n → P) → of_few_streams right ≡ Err TooManyStreams → P
 too_many_after_all (Ok n) P never all is = all n refl
 too_many_after_all (Err fault) P never all is = never is
@@ -89,11 +76,11 @@ too_many_after_all (Err fault) P never all is = never is
 pub too_many_leave_none : (marks : Positions) (deliveries : List DeliveryValue) → new_marks marks deliveries ≡ Err TooManyStreams → HasNoGap marks deliveries
 too_many_leave_none marks deliveries is =
     too_many_after_all (marks_after marks (bringing deliveries)) (HasNoGap marks deliveries)
-    (λ never. absurd (never_too_many (bringing deliveries) marks never))
+    (λ never. absurd (only_gaps TooManyStreams (λ d m same. cc) (bringing deliveries) marks never))
     (λ n all. no_gap deliveries marks n all)
     is
 
--- a delivery that leaves a gap, behind those that were taken
+-- a delivery that leaves a gap after those that were taken
 record Met (m : Positions) (ds : List DeliveryValue) (fault : RoundFault) : Type 0 where
   before : List DeliveryValue
   delivery : DeliveryValue
@@ -105,11 +92,11 @@ record Met (m : Positions) (ds : List DeliveryValue) (fault : RoundFault) : Type
   leaves : leaves_gap reached delivery ≡ true
   fault_is : gap_of reached delivery ≡ fault
 
--- behind a delivery that is taken or brings nothing
-behind : (m next : Positions) (d : DeliveryValue) (ds : List DeliveryValue) (fault : RoundFault)
+-- the gap after a delivery that is taken or has no images
+gap_after : (m next : Positions) (d : DeliveryValue) (ds : List DeliveryValue) (fault : RoundFault)
     → ((before : List DeliveryValue) (n : Positions) → marks_after next (bringing before) ≡ Ok n → marks_after m (bringing (d ∷ before)) ≡ Ok n)
     → Met next ds fault → Met m (d ∷ ds) fault
-behind m next d ds fault on met = record {
+gap_after m next d ds fault on met = record {
   before = d ∷ met.before;
   delivery = met.delivery;
   after = met.after;
@@ -121,7 +108,7 @@ behind m next d ds fault on met = record {
   fault_is = met.fault_is;
 }
 
--- the first gap is met behind deliveries that are taken
+-- the first gap is met after deliveries that are taken
 first_met : (ds : List DeliveryValue) (m : Positions) (fault : RoundFault) → marks_after m (bringing ds) ≡ Err fault → Met m ds fault
 first_met [] m fault is = absurd cc
 first_met (d ∷ ds) m fault is =
@@ -139,14 +126,14 @@ first_met (d ∷ ds) m fault is =
               leaves = gap;
               fault_is = cc;
             }
-            | false ↦ λ joins rest. behind m (marked m d) d ds fault
+            | false ↦ λ joins rest. gap_after m (marked m d) d ds fault
                 (λ before n is.
                 ap (λ (b : Bool). marks_after m (cond b (d ∷ bringing before) (bringing before))) some
                 ∙ ap (λ (b : Bool). cond b (Err (gap_of m d)) (marks_after (marked m d) (bringing before))) joins
                 ∙ is)
                 (first_met ds (marked m d) fault rest)
           ] refl all
-      | false ↦ λ none rest. behind m m d ds fault
+      | false ↦ λ none rest. gap_after m m d ds fault
           (λ before n is. ap (λ (b : Bool). marks_after m (cond b (d ∷ bringing before) (bringing before))) none ∙ is)
           (first_met ds m fault rest)
     ] refl is

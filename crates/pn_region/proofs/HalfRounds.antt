@@ -1,14 +1,6 @@
 -- What a round that ran out of memory leaves in the tablets.
 use Rattle.std.proofs.Common.{◌≡◌, List, Ok, Err, sym, subst}
-use Rattle.std.specs.Prelude.{Result, MatchResult}
-use Rattle.pn_join.specs.Marks.{Positions}
-use Rattle.pn_stream.specs.Positions.{DeliveryValue}
-use Rattle.pn_tablet.specs.Tablets.{TabletStateValue}
-use Rattle.pn_apply.specs.Applying.{AreOldOrStepped}
-use Rattle.pn_region.specs.Marking.{new_marks}
-use Rattle.pn_region.specs.Regions.{RegionValue, IsRegion}
-use Rattle.pn_region.specs.Rounds.{joins, IsHalfTaken}
-use Rattle.pn_region.specs.declared.fault.RoundFault.{RoundFault}
+use Rattle.pn_region.proofs.Common.{Result, MatchResult, Positions, DeliveryValue, TabletStateValue, AreOldOrStepped, new_marks, RegionValue, IsRegion, joins, IsHalfTaken, RoundFault}
 use Rattle.pn_region.proofs.RoundEnds.{half_region}
 
 module _ (old new : RegionValue) (deliveries : List DeliveryValue) where

@@ -1,8 +1,6 @@
 -- Which images lie in a range.
 use Rattle.std.proofs.Common.{◌≡◌, zero, suc, true, false, cond, List, [], ◌∷◌, refl, subst, arith, ◌⊎◌, inl, inr, Contains}
-use Rattle.pn_record.specs.declared.image.Image.{Image}
-use Rattle.pn_tablet.specs.Ranges.{Ends, in_range}
-use Rattle.pn_apply.specs.Reducing.{images_in}
+use Rattle.pn_region.proofs.Common.{Image, Ends, in_range, images_in}
 
 first_or_later : (first : Image) (images : List Image) (image : Image) → Contains (first ∷ images) image → (first ≡ image) ⊎ Contains images image
 first_or_later first images image (zero, within, is) = inl is

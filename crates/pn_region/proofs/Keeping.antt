@@ -2,11 +2,10 @@
 use Rattle.std.proofs.Common.{◌≡◌, inr, ℕ, ◌+◌, ◌-◌, min, List, [], ◌∷◌, ◌++◌, length, drop, refl, sym, ap, ◌∙◌, subst, arith, append_assoc, append-nil, length-append, length-drop, drop-drop}
 use Rattle.std.proofs.lemmas.List.{drop-append-le, map-append}
 use Rattle.circular_buffer.specs.Buffer.{Buffer, buffer, keep_last}
-use Rattle.pn_tablet.specs.declared.change.Change.{Change}
 use Rattle.pn_region.specs.declared.entry.Entry.{Entry}
 use Rattle.pn_region.specs.declared.entry.Entry.TheVariants.{Changed, Break}
-use Rattle.pn_region.specs.Log.{max_notices, last_number, entries_of}
 use Rattle.pn_region.specs.Kept.{AreKept, kept_with, IsLog}
+use Rattle.pn_region.proofs.Common.{Change, max_notices, last_number, entries_of}
 
 -- to keep the last ones of what was kept and one more is to keep the last ones of all
 pub kept_more : {X : Type 0} (n : ℕ) (xs : List X) (x : X) → keep_last n (keep_last n xs ++ x ∷ []) ≡ keep_last n (xs ++ x ∷ [])
@@ -27,14 +26,14 @@ changed_more changes change before entries parts =
 kept_on : (entries : List Entry) (kept : List Change) (entry : Entry) → AreKept entries kept → AreKept (entries ++ entry ∷ []) (kept_with entry max_notices kept)
 kept_on entries kept (Changed change) are = record {
   before = are.before;
-  behind = are.behind ++ change ∷ [];
-  parts = changed_more are.behind change are.before entries are.parts;
+  later = are.later ++ change ∷ [];
+  parts = changed_more are.later change are.before entries are.parts;
   is_cut = are.is_cut;
-  last = ap (λ l. keep_last max_notices (l ++ change ∷ [])) are.last ∙ kept_more max_notices are.behind change;
+  last = ap (λ l. keep_last max_notices (l ++ change ∷ [])) are.last ∙ kept_more max_notices are.later change;
 }
 kept_on entries kept Break are = record {
   before = entries ++ Break ∷ [];
-  behind = [];
+  later = [];
   parts = sym (append-nil (entries ++ Break ∷ []));
   is_cut = inr (entries, refl);
   last = refl;

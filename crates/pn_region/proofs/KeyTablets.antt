@@ -1,20 +1,12 @@
 -- The tablet of a key has its cell.
 use Rattle.std.proofs.Common.{◌≡◌, ℕ, zero, suc, ◌+◌, ◌<◌, ◌≤◌, true, false, List, [], ◌∷◌, length, Some, refl, sym, ap, ◌∙◌, arith}
-use Rattle.std.specs.Prelude.{slice_get, IsSome}
-use Rattle.std.specs.FinMap.{find}
 use Rattle.std.proofs.lemmas.List.FromFn.{length-map-range_with_len, get_or-map-range_with_len}
 use Rattle.std.proofs.lemmas.Option.{slice_get_read}
-use Rattle.pn_join.specs.Marks.{Positions}
-use Rattle.pn_record.specs.Order.{bytes_cmp}
-use Rattle.pn_tablet.specs.Layouts.{Bounds, tablet_of, tablet_ends}
-use Rattle.pn_tablet.specs.Ranges.{Ends, in_range}
-use Rattle.pn_tablet.specs.Tablets.{TabletStateValue}
 use Rattle.pn_tablet.proofs.LayoutFacts.{key_in_tablet, tablet_of_within}
-use Rattle.pn_apply.specs.Reducing.{ranges}
-use Rattle.pn_region.specs.Regions.{RegionValue, AreTabletsOf, IsRegion, all_cells}
+use Rattle.pn_region.proofs.Common.{slice_get, IsSome, find, Positions, bytes_cmp, Bounds, tablet_of, tablet_ends, Ends, in_range, TabletStateValue, ranges, RegionValue, AreTabletsOf, IsRegion, all_cells}
 use Rattle.pn_region.proofs.Apart.{Outside, Apart, ranges_apart}
 use Rattle.pn_region.proofs.NewRegion.{tablet_count}
-use Rattle.pn_region.proofs.Pieces.{cells_of, none_outside, found_behind, found_before, none_there}
+use Rattle.pn_region.proofs.Pieces.{cells_of, none_outside, found_after, found_before, none_there}
 
 -- a key of one of the others is not in the range
 outside_of : (range : Ends) (others : List Ends) (n : ℕ) (other : Ends) (key : List ℕ) → Outside range others → slice_get others n ≡ Some other → in_range other key ≡ true → in_range range key ≡ false
@@ -37,7 +29,7 @@ found_there marks key (q ∷ rs) (u ∷ ts) zero r t apart are at lies there =
     ∙ sym (found_before key u.cells (cells_of ts) (none_there marks q rs ts apart.0 are.1 key (ap (λ (ends : Ends). in_range ends key) same ∙ lies)))
 found_there marks key (q ∷ rs) (u ∷ ts) (suc n) r t apart are at lies there =
     found_there marks key rs ts n r t apart.1 are.1 at lies there
-    ∙ sym (found_behind key u.cells (cells_of ts) (none_outside q u.cells key are.0.inside (outside_of q rs n r key apart.0 at lies)))
+    ∙ sym (found_after key u.cells (cells_of ts) (none_outside q u.cells key are.0.inside (outside_of q rs n r key apart.0 at lies)))
 
 pub range_at : (bounds : Bounds) (n : ℕ) → n ≤ length bounds → slice_get (ranges bounds) n ≡ Some (tablet_ends bounds n)
 range_at bounds n within =

@@ -1,4 +1,5 @@
 pub mod Apart
+pub mod Common
 pub mod Counting
 pub mod Covers
 pub mod EventImages
@@ -27,6 +28,7 @@ pub mod RoundEnds
 pub mod RoundSteps
 pub mod ServedRecords
 pub mod ServingTablets
+pub mod Sound
 pub mod Spelled
 pub mod Standing
 pub mod StillHeld
@@ -35,4 +37,3 @@ pub mod TakenImages
 pub mod Telling
 pub mod Together
 pub mod Untraced
-pub mod Sound

@@ -1,4 +1,4 @@
--- What a log tells, and what it does not.
+-- The laws of logs.
 use Rattle.std.proofs.Common.{◌≡◌, inl, inr, ℕ, ◌+◌, ◌<◌, ◌≤◌, nat_le, Bool, true, false, ◌&&◌, if◌then◌else◌, List, [], ◌∷◌, ◌++◌, length, drop, Option, Some, None, option_map, Contains, refl, sym, ap, ◌∙◌, arith, length-drop}
 use Rattle.std.proofs.Math.Seq.{drop-append_seam}
 use Rattle.std.proofs.lemmas.Bool.{cases_lt, and_parts, leb-true}
@@ -7,7 +7,7 @@ use Rattle.std.proofs.lemmas.List.Elements.{Contains-append_left, Contains-appen
 use Rattle.pn_tablet.specs.declared.change.Change.{Change}
 use Rattle.pn_region.specs.declared.entry.Entry.{Entry}
 use Rattle.pn_region.specs.declared.entry.Entry.TheVariants.{Changed, Break}
-use Rattle.pn_region.specs.Log.{max_notices, last_number, entries_of, changes_in, is_recent, changes_behind, numbered, last_of}
+use Rattle.pn_region.specs.Log.{max_notices, last_number, entries_of, changes_in, is_recent, changes_after, numbered, last_of}
 use Rattle.pn_region.proofs.Telling.{le_true, unless, broken}
 
 -- entries that are changes
@@ -48,7 +48,7 @@ recent entries n yet =
       given = leb-true (length entries) last_number parts.1;
     }
 
-module _ (entries : List Entry) (n : ℕ) (changes : List Change) (is : changes_behind entries n ≡ Some changes) where
+module _ (entries : List Entry) (n : ℕ) (changes : List Change) (is : changes_after entries n ≡ Some changes) where
   pub told_recent : IsRecent entries n
   told_recent = recent entries n (when (is_recent entries n) (changes_in (drop n entries)) changes is).0
 
@@ -66,8 +66,8 @@ module _ (entries : List Entry) (n : ℕ) (changes : List Change) (is : changes_
   pub told_few : length changes ≤ max_notices
   told_few = omega (arith, told_recent.near, told_count)
 
--- two answers, one behind the other
-pub both_told : (entries more : List Entry) (n : ℕ) (first second : List Change) → changes_behind entries n ≡ Some first → changes_behind (entries ++ more) (last_of entries) ≡ Some second
+-- two answers, one after the other
+pub both_told : (entries more : List Entry) (n : ℕ) (first second : List Change) → changes_after entries n ≡ Some first → changes_after (entries ++ more) (last_of entries) ≡ Some second
     → drop n (entries ++ more) ≡ entries_of (first ++ second)
 both_told entries more n first second one two =
     let at : last_of entries ≡ length entries = omega (arith, (told_recent entries n first one).given) in
@@ -82,8 +82,8 @@ numbers_go_on n (change ∷ first) second =
     let on : n + 1 + length first ≡ n + length (change ∷ first) = omega arith in
     ap (λ rest. record { number = n + 1; change = change } ∷ rest) (numbers_go_on (n + 1) first second ∙ ap (λ k. numbered (n + 1) first ++ numbered k second) on)
 
--- a break is not told
-pub below_break : (before after : List Entry) (n : ℕ) (changes : List Change) → changes_behind (before ++ Break ∷ after) n ≡ Some changes → length before < n
+-- no answer reaches over a break
+pub below_break : (before after : List Entry) (n : ℕ) (changes : List Change) → changes_after (before ++ Break ∷ after) n ≡ Some changes → length before < n
 below_break before after n changes is = elim (cases_lt (length before) n) [
   | inl past ↦ past
   | inr below ↦
@@ -92,14 +92,14 @@ below_break before after n changes is = elim (cases_lt (length before) n) [
       let never : ⊥ = cc in absurd never
 ]
 
-pub break_behind : (entries : List Entry) (n : ℕ) → changes_behind entries n ≡ None → n ≤ length entries → length entries ≤ n + max_notices → length entries ≤ last_number
+pub break_after : (entries : List Entry) (n : ℕ) → changes_after entries n ≡ None → n ≤ length entries → length entries ≤ n + max_notices → length entries ≤ last_number
     → Contains (drop n entries) Break
-break_behind entries n none there near given =
+break_after entries n none there near given =
     let yet : is_recent entries n ≡ true =
     λ i. le_true n (length entries) there i && le_true (length entries) (n + max_notices) near i && le_true (length entries) last_number given i in
     has_break (drop n entries) (ap (λ (b : Bool). if b then changes_in (drop n entries) else None) (sym yet) ∙ none)
 
-pub over : (entries : List Entry) (n : ℕ) → last_number < length entries → (changes_behind entries n ≡ None) × (last_of entries ≡ last_number)
+pub over : (entries : List Entry) (n : ℕ) → last_number < length entries → (changes_after entries n ≡ None) × (last_of entries ≡ last_number)
 over entries n past = (
   unless (is_recent entries n) (changes_in (drop n entries)) (λ (yet : is_recent entries n ≡ true). let never : ⊥ = omega (arith, (recent entries n yet).given) in absurd never),
   omega arith,

@@ -1,17 +1,13 @@
 -- What new marks have taken.
 use Rattle.std.proofs.Common.{◌≡◌, ℕ, zero, suc, ◌+◌, ◌<◌, ◌≤◌, max, pred, Bool, true, false, cond, nat_lt, is_eq, List, [], ◌∷◌, length, get_or, Some, None, unwrap_or, refl, sym, ap, ◌∙◌, subst, arith}
-use Rattle.std.specs.Prelude.{Result, Ok, Err, Contains}
-use Rattle.std.specs.Ordering.{eq_by_cmp}
+use Rattle.std.specs.Prelude.{Contains}
 use Rattle.std.proofs.lemmas.Bool.Decides.{nat_tests}
 use Rattle.std.proofs.lemmas.Cmp.{nat_list_cmp_total, tied_itself}
-use Rattle.pn_join.specs.Marks.{Positions, Reaches, name_cmp, position_of}
 use Rattle.pn_join.proofs.MarksFacts.{position_of-raised}
 use Rattle.pn_record.proofs.HeldRecords.{tied_keys}
-use Rattle.pn_stream.specs.Positions.{DeliveryValue}
 use Rattle.pn_region.specs.Laws.{HasPosition}
-use Rattle.pn_region.specs.Marking.{brings, bringing, last_position, marked, leaves_gap, marks_after, of_few_streams, new_marks}
-use Rattle.pn_region.specs.declared.fault.RoundFault.{RoundFault}
-use Rattle.pn_region.specs.declared.fault.RoundFault.TheVariants.{Gap, TooManyStreams}
+use Rattle.pn_region.specs.Marking.{brings}
+use Rattle.pn_region.proofs.Common.{Result, Ok, Err, eq_by_cmp, Positions, Reaches, name_cmp, position_of, DeliveryValue, bringing, last_position, marked, leaves_gap, marks_after, of_few_streams, new_marks, RoundFault, Gap, TooManyStreams}
 
 -- the gap that it leaves
 abbrev pub gap_of : Positions → DeliveryValue → RoundFault
@@ -21,6 +17,15 @@ gap_of m d = Gap d.stream (position_of m d.stream + 1) d.first
 pub accepted : (b : Bool) (fault : RoundFault) (rest : Result Positions RoundFault) (next : Positions) → cond b (Err fault) rest ≡ Ok next → (b ≡ false) × (rest ≡ Ok next)
 accepted true fault rest next is = cc
 accepted false fault rest next is = (refl, is)
+
+-- deliveries one after another are refused for a gap alone
+pub only_gaps : (fault : RoundFault) → ((d : DeliveryValue) (m : Positions) → gap_of m d ≡ fault → ⊥) → (ds : List DeliveryValue) (m : Positions) → marks_after m ds ≡ Err fault → ⊥
+only_gaps fault other [] m is = cc
+only_gaps fault other (d ∷ ds) m is =
+    elim (leaves_gap m d) as (λ b. cond b (Err (gap_of m d)) (marks_after (marked m d) ds) ≡ Err fault → ⊥) [
+      | true ↦ λ gap. other d m cc
+      | false ↦ λ rest. only_gaps fault other ds (marked m d) rest
+    ] is
 
 -- marks that are of few streams are those after all deliveries
 pub few : (right : Result Positions RoundFault) (next : Positions) → of_few_streams right ≡ Ok next → right ≡ Ok next
@@ -60,7 +65,7 @@ one_position m d ds name p joins below within =
       | false ↦ λ apart most. absurd (omega (arith, below, within, most))
     ] refl (position_of-raised m ((d.stream, last_position d) ∷ []) name)
 
--- each position that marks have gone past stands in a delivery
+-- each position that marks have gone past is in a delivery
 pub none_skipped : (ds : List DeliveryValue) (m next : Positions) (name : List ℕ) (p : ℕ) → marks_after m (bringing ds) ≡ Ok next → position_of m name < p → p ≤ position_of next name → HasPosition ds name p
 none_skipped [] m next name p is below within =
     let same : m ≡ next = cc in

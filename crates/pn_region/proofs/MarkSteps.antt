@@ -1,13 +1,9 @@
 -- Marks after deliveries, one after another.
 use Rattle.std.proofs.Common.{◌≡◌, ℕ, zero, suc, ◌+◌, ◌<◌, Bool, true, false, cond, List, [], ◌∷◌, ◌++◌, length, take, drop, get_or, refl, sym, ap, ◌∙◌}
-use Rattle.std.specs.Prelude.{Result, Ok, Err}
 use Rattle.std.proofs.lemmas.List.Elements.{filter-append}
 use Rattle.std.proofs.lemmas.List.{take_more}
-use Rattle.pn_join.specs.Marks.{Positions, position_of}
-use Rattle.pn_stream.specs.Positions.{DeliveryValue}
-use Rattle.pn_region.specs.Marking.{brings, bringing, marked, leaves_gap, marks_after, of_few_streams, new_marks}
-use Rattle.pn_region.specs.declared.fault.RoundFault.{RoundFault}
-use Rattle.pn_region.specs.declared.fault.RoundFault.TheVariants.{Gap}
+use Rattle.pn_region.specs.Marking.{brings}
+use Rattle.pn_region.proofs.Common.{Result, Ok, Err, Positions, position_of, DeliveryValue, bringing, marked, leaves_gap, marks_after, of_few_streams, new_marks, RoundFault, Gap}
 
 step_on : (b : Bool) (fault : RoundFault) (rest more after : Result Positions RoundFault) (n : Positions) → (rest ≡ Ok n → more ≡ after) → cond b (Err fault) rest ≡ Ok n → cond b (Err fault) more ≡ after
 step_on true fault rest more after n next is = cc

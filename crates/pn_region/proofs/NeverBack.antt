@@ -1,24 +1,14 @@
 -- No round takes a record away or leaves it at an older version.
 use Rattle.std.proofs.Common.{◌≡◌, ℕ, true, false, List, [], ◌∷◌, ◌++◌, map, Option, None, Some, refl, sym, subst, ◌⊎◌, inl, inr}
-use Rattle.std.specs.FinMap.{find}
-use Rattle.pn_join.specs.Marks.{Positions}
-use Rattle.pn_stream.specs.Positions.{DeliveryValue}
-use Rattle.pn_record.specs.declared.image.Image.{Image}
-use Rattle.pn_record.specs.Order.{bytes_cmp}
-use Rattle.pn_record.specs.Sets.{CellValue}
 use Rattle.pn_record.specs.Older.{NotOlder}
 use Rattle.pn_record.proofs.NeverOlder.{joined_not_older}
-use Rattle.pn_tablet.specs.Ranges.{Ends, in_range}
-use Rattle.pn_tablet.specs.Steps.{stepped}
-use Rattle.pn_tablet.specs.Tablets.{TabletStateValue}
 use Rattle.pn_tablet.proofs.TabletLaws.{never_older}
-use Rattle.pn_apply.specs.Applying.{all_stepped, AreOldOrStepped}
-use Rattle.pn_apply.specs.Reducing.{all_images, join_in, ranges}
-use Rattle.pn_region.specs.Regions.{RegionValue, IsTabletOf, AreTabletsOf, IsRegion, all_cells}
-use Rattle.pn_region.specs.Rounds.{taking, IsHalfTaken}
+use Rattle.pn_region.specs.Rounds.{taking}
+use Rattle.pn_region.proofs.Common.{find, Positions, DeliveryValue, Image, bytes_cmp, CellValue, Ends, in_range, stepped, TabletStateValue, all_stepped, AreOldOrStepped, all_images, join_in, ranges, RegionValue, IsTabletOf, AreTabletsOf, IsRegion, all_cells, IsHalfTaken}
 use Rattle.pn_region.proofs.Apart.{Apart, ranges_apart}
-use Rattle.pn_region.proofs.Pieces.{cells_of, none_outside, found_behind, found_before, none_there}
+use Rattle.pn_region.proofs.Pieces.{cells_of, none_outside, found_after, found_before, none_there}
 use Rattle.pn_region.proofs.HalfRounds.{half_so}
+use Rattle.pn_region.proofs.RoundEnds.{taken_half}
 use Rattle.pn_region.proofs.RoundSteps.{all_taken, half_taken}
 
 -- the record of the key is not older in any tablet
@@ -47,8 +37,8 @@ none_older key marks later (r ∷ rs) (t ∷ ts) (u ∷ us) apart are too not_ol
           (found_before key u.cells (cells_of us) (none_there later r rs us apart.0 too.1 key lies)) not_older.0
       | false ↦ λ outside.
           renamed (find bytes_cmp key (cells_of ts)) (find bytes_cmp key (t.cells ++ cells_of ts)) (find bytes_cmp key (cells_of us)) (find bytes_cmp key (u.cells ++ cells_of us))
-          (found_behind key t.cells (cells_of ts) (none_outside r t.cells key are.0.inside outside))
-          (found_behind key u.cells (cells_of us) (none_outside r u.cells key too.0.inside outside))
+          (found_after key t.cells (cells_of ts) (none_outside r t.cells key are.0.inside outside))
+          (found_after key u.cells (cells_of us) (none_outside r u.cells key too.0.inside outside))
           (none_older key marks later rs ts us apart.1 are.1 too.1 not_older.1)
     ] refl
 
@@ -59,12 +49,6 @@ itself_not_older (Some cell) = joined_not_older (Some cell) None
 module _ (key : List ℕ) (marks old : Positions) (images : List Image) where
   one_taken : (r : Ends) (t : TabletStateValue) → IsTabletOf old r t → NotOlder (find bytes_cmp key t.cells) (find bytes_cmp key (stepped t (join_in marks images r)).cells)
   one_taken r t is = never_older t (join_in marks images r) is.spelled (λ lost. cc) key
-
-  each_taken : (rs : List Ends) (ts : List TabletStateValue) → AreTabletsOf old rs ts → AreNotOlder key ts (all_stepped ts (map (join_in marks images) rs))
-  each_taken [] [] are = tt
-  each_taken [] (t ∷ ts) are = absurd are
-  each_taken (r ∷ rs) [] are = absurd are
-  each_taken (r ∷ rs) (t ∷ ts) are = (one_taken r t are.0, each_taken rs ts are.1)
 
   one_half : (r : Ends) (t u : TabletStateValue) → IsTabletOf old r t → (u ≡ t) ⊎ (u ≡ stepped t (join_in marks images r)) → NotOlder (find bytes_cmp key t.cells) (find bytes_cmp key u.cells)
   one_half r t u is (inl same) = subst (λ (now : TabletStateValue). NotOlder (find bytes_cmp key t.cells) (find bytes_cmp key now.cells)) (sym same) (itself_not_older (find bytes_cmp key t.cells))
@@ -85,7 +69,7 @@ round_not_older region deliveries marks is key =
     let images = all_images deliveries in
     let rs = ranges region.layout in
     none_older key region.marks marks rs region.tablets (all_stepped region.tablets (map (join_in marks images) rs)) (ranges_apart region.layout is.lawful) is.tablets
-    (all_taken marks images region.marks rs region.tablets is.tablets) (each_taken key marks region.marks images rs region.tablets is.tablets)
+    (all_taken marks images region.marks rs region.tablets is.tablets) (each_half key marks region.marks images rs region.tablets (taking region deliveries marks).tablets is.tablets (taken_half region deliveries is marks))
 
 -- nor does one that ran out of memory
 pub half_not_older : (old new : RegionValue) (deliveries : List DeliveryValue) → IsRegion old → IsHalfTaken old deliveries new → (key : List ℕ)

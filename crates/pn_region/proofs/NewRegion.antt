@@ -1,16 +1,9 @@
 -- Regions that have taken nothing.
 use Rattle.std.proofs.Common.{◌≡◌, ℕ, zero, suc, ◌+◌, ◌<◌, List, [], ◌∷◌, ◌++◌, map, length, get_or, refl, sym, ap, ◌∙◌, subst, arith}
-use Rattle.std.specs.Prelude.{Some, slice_get}
-use Rattle.std.specs.List.{range_with_len}
 use Rattle.std.proofs.lemmas.List.{length-map, map-append}
 use Rattle.std.proofs.lemmas.List.FromFn.{length-map-range_with_len, map-range_with_len_more}
-use Rattle.pn_join.specs.Marks.{Positions}
-use Rattle.pn_tablet.specs.Layouts.{Bounds, IsLayout, tablet_ends}
-use Rattle.pn_tablet.specs.Ranges.{Ends}
-use Rattle.pn_tablet.specs.Tablets.{TabletStateValue, empty_tablet}
 use Rattle.pn_tablet.proofs.Keeping.{spelled_nil}
-use Rattle.pn_apply.specs.Reducing.{ranges}
-use Rattle.pn_region.specs.Regions.{AreTabletsOf, IsRegion}
+use Rattle.pn_region.proofs.Common.{Some, slice_get, range_with_len, Positions, Bounds, IsLayout, tablet_ends, Ends, TabletStateValue, empty_tablet, ranges, AreTabletsOf, IsRegion}
 use Rattle.pn_region.proofs.RoundSteps.{own_ranges}
 
 pub empty_ones : (rs : List Ends) → AreTabletsOf [] rs (map empty_tablet rs)

@@ -4,29 +4,19 @@ use Rattle.std.specs.Prelude.{IsOk, OnOk}
 use Rattle.std.specs.Option.{option_and_then}
 use Rattle.std.proofs.lemmas.List.Elements.{filter-append}
 use Rattle.std.proofs.lemmas.List.Quantifiers.{position-Some}
-use Rattle.pn_join.specs.Marks.{Positions}
-use Rattle.pn_record.specs.declared.image.Image.{Image}
-use Rattle.pn_record.specs.Cells.{spell}
-use Rattle.pn_record.specs.CellMap.{Entries, table_of, adds}
-use Rattle.pn_tablet.specs.Copies.{TabletCopyValue}
-use Rattle.pn_tablet.specs.Needs.{lacking}
-use Rattle.pn_tablet.specs.Ranges.{Ends, in_range}
+use Rattle.pn_record.specs.CellMap.{adds}
 use Rattle.pn_tablet.specs.Refusals.{Refuses}
-use Rattle.pn_tablet.specs.Steps.{taking, lost, step, after_step, stepped}
+use Rattle.pn_tablet.specs.Steps.{taking, is_memory}
 use Rattle.pn_tablet.specs.Steps as steps
-use Rattle.pn_tablet.specs.Tablets.{TabletStateValue, empty_tablet, lie_in, same_range}
 use Rattle.pn_tablet.specs.declared.fault.OpFault.{OpFault}
 use Rattle.pn_tablet.specs.declared.fault.OpFault.TheVariants as op
-use Rattle.pn_tablet.specs.declared.needs.Short.{Short}
-use Rattle.pn_tablet.specs.declared.op.TabletOp.{TabletOp}
-use Rattle.pn_tablet.specs.declared.op.TabletOp.TheVariants.{Join, Lose, Adopt}
 use Rattle.pn_tablet.proofs.Keeping.{spelled_adds, spelled_nil}
 use Rattle.pn_tablet.proofs.Stepping.{one_range}
 use Rattle.pn_tablet.proofs.TabletLaws.{adopted}
 use Rattle.pn_apply.proofs.ReduceLaws.{cells_inside}
-use Rattle.pn_region.specs.Faults.{refusal_of}
-use Rattle.pn_region.specs.Recovery.{stepped_at, stepping, tablet_for, lacks, adopting_unless, adopting_by, adopting, is_memory}
-use Rattle.pn_region.specs.Regions.{RegionValue, IsTabletOf, AreTabletsOf, IsRegion, IsLawfulRegion}
+use Rattle.pn_region.specs.Recovery.{stepping, lacks, adopting_unless, adopting}
+use Rattle.pn_region.specs.Regions.{IsLawfulRegion}
+use Rattle.pn_region.proofs.Common.{Positions, Image, spell, Entries, table_of, TabletCopyValue, lacking, Ends, in_range, lost, step, after_step, stepped, TabletStateValue, empty_tablet, lie_in, same_range, Short, TabletOp, Join, Lose, Adopt, stepped_at, tablet_for, adopting_by, RegionValue, IsTabletOf, AreTabletsOf, IsRegion}
 use Rattle.pn_region.proofs.NewRegion.{tablet_at}
 use Rattle.pn_region.proofs.RoundSteps.{old_reached}
 use Rattle.pn_region.proofs.Spelled.{spelled_inside}
@@ -124,7 +114,7 @@ module _ (region : RegionValue) (copy : TabletCopyValue) (n : ℕ) (t : TabletSt
       adopting_is ∙ ap (adopting_unless region copy n) (adopted t copy after is).reaches
       ∙ ap (λ (now : RegionValue). Ok (n, now)) (sym (now_is region n (Adopt copy) t after there is))
 
-  refused_by : (short : Option Short) (refusal : OpFault) → Refuses steps.is_memory refusal (steps.adopting t copy short) → Refuses is_memory (refusal_of refusal) (adopting_unless region copy n short)
+  refused_by : (short : Option Short) (refusal : OpFault) → Refuses is_memory refusal (steps.adopting t copy short) → Refuses is_memory refusal (adopting_unless region copy n short)
   refused_by None op.WrongRange right = cc
   refused_by None (op.TooOld stream has needs) right = cc
   refused_by None op.Memory right = refl
@@ -133,17 +123,17 @@ module _ (region : RegionValue) (copy : TabletCopyValue) (n : ℕ) (t : TabletSt
   refused_by (Some short) op.Memory right = cc
 
   -- and refused where that is
-  pub refused_at : (refusal : OpFault) → Refuses steps.is_memory refusal (step t (Adopt copy)) → Refuses is_memory (refusal_of refusal) (adopting region copy)
+  pub refused_at : (refusal : OpFault) → Refuses is_memory refusal (step t (Adopt copy)) → Refuses is_memory refusal (adopting region copy)
   refused_at refusal right =
-      subst (Refuses is_memory (refusal_of refusal)) (sym adopting_is)
+      subst (Refuses is_memory refusal) (sym adopting_is)
       (refused_by (lacking t.status copy.marks) refusal
-      (subst (Refuses steps.is_memory refusal) (ap (λ (b : Bool). if b then steps.adopting t copy (lacking t.status copy.marks) else Err op.WrongRange) (found_at region copy n t found there)) right))
+      (subst (Refuses is_memory refusal) (ap (λ (b : Bool). if b then steps.adopting t copy (lacking t.status copy.marks) else Err op.WrongRange) (found_at region copy n t found there)) right))
 
 -- the tablet that is found is one of them
 pub found_within : (region : RegionValue) (copy : TabletCopyValue) (n : ℕ) → tablet_for region copy ≡ Some n → n < length region.tablets
 found_within region copy n found = (position-Some (λ (state : TabletStateValue). same_range state.range copy.range) region.tablets n (empty_tablet copy.range) found).0
 
--- the tablet that is read there stands there
+-- the tablet that is read is the one at that place
 pub stands_at : (region : RegionValue) (copy : TabletCopyValue) (n : ℕ) (t : TabletStateValue) → tablet_for region copy ≡ Some n → t ≡ get_or region.tablets n t → slice_get region.tablets n ≡ Some t
 stands_at region copy n t found is = tablet_at region.tablets n t (position-Some (λ (state : TabletStateValue). same_range state.range copy.range) region.tablets n t found).0 is
 

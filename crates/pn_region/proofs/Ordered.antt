@@ -1,23 +1,14 @@
 -- The cells of all tablets are those of the images that spell them.
 use Rattle.std.proofs.Common.{◌≡◌, ℕ, Bool, true, false, cond, List, [], ◌∷◌, ◌++◌, map, refl, sym, ap, ◌∙◌, append-nil, IsTrue}
-use Rattle.std.specs.FinMap.{keys, is_sorted}
+use Rattle.std.specs.FinMap.{keys}
 use Rattle.std.proofs.lemmas.Grind.{flat_map-append}
 use Rattle.std.proofs.lemmas.List.Elements.{filter-append}
-use Rattle.pn_join.specs.Marks.{Positions}
-use Rattle.pn_record.specs.declared.image.Image.{Image}
 use Rattle.pn_record.specs.Limits.{ContentValue}
-use Rattle.pn_record.specs.Order.{bytes_cmp}
-use Rattle.pn_record.specs.Sets.{Stamp}
-use Rattle.pn_record.specs.Cells.{spell, spell_cell}
-use Rattle.pn_record.specs.CellMap.{Entries, table_of}
+use Rattle.pn_record.specs.Cells.{spell_cell}
 use Rattle.pn_record.proofs.CellMaps.{rising-table_of}
 use Rattle.pn_record.proofs.Sorted.{first_true, second_true}
 use Rattle.pn_tablet.specs.Laws.{IsSpelled}
-use Rattle.pn_tablet.specs.Ranges.{Ends, in_range}
-use Rattle.pn_tablet.specs.Tablets.{TabletStateValue, lie_in}
-use Rattle.pn_apply.specs.Reducing.{images_in, ranges}
-use Rattle.pn_region.specs.Laws.{HasImages}
-use Rattle.pn_region.specs.Regions.{RegionValue, AreTabletsOf, IsRegion, all_cells}
+use Rattle.pn_region.proofs.Common.{is_sorted, Positions, Image, bytes_cmp, Stamp, spell, Entries, table_of, Ends, in_range, TabletStateValue, lie_in, images_in, ranges, HasImages, RegionValue, AreTabletsOf, IsRegion, all_cells}
 use Rattle.pn_region.proofs.Apart.{Outside, Apart, ranges_apart}
 use Rattle.pn_region.proofs.Pieces.{cells_of, not_in}
 use Rattle.pn_region.proofs.Spelled.{spelled_inside}
@@ -55,13 +46,13 @@ none_of_others marks range (r ∷ rs) (t ∷ ts) outside are =
     ∙ (λ i. spelled_outside range r t.cells outside.0 are.0.inside i ++ none_of_others marks range rs ts outside.1 are.1 i)
 
 -- images in a range that is apart from the others make no difference to them
-behind_first : (range : Ends) (rs : List Ends) (es : Entries) (images : List Image) → Outside range rs → lie_in range es ≡ true → pieces_of (spell es ++ images) rs ≡ pieces_of images rs
-behind_first range [] es images outside inside = refl
-behind_first range (r ∷ rs) es images outside inside =
+after_first : (range : Ends) (rs : List Ends) (es : Entries) (images : List Image) → Outside range rs → lie_in range es ≡ true → pieces_of (spell es ++ images) rs ≡ pieces_of images rs
+after_first range [] es images outside inside = refl
+after_first range (r ∷ rs) es images outside inside =
     let here : images_in r (spell es ++ images) ≡ images_in r images =
     filter-append (λ (image : Image). in_range r image.key) (spell es) images
     ∙ ap (λ (own : List Image). own ++ images_in r images) (spelled_outside r range es (λ key lies. not_in range r key (outside.0 key) lies) inside) in
-    λ i. table_of (here i) ∷ behind_first range rs es images outside.1 inside i
+    λ i. table_of (here i) ∷ after_first range rs es images outside.1 inside i
 
 own_pieces : (marks : Positions) (rs : List Ends) (ts : List TabletStateValue) → Apart rs → AreTabletsOf marks rs ts → cells_each ts ≡ pieces_of (spell (cells_of ts)) rs
 own_pieces marks [] [] apart are = refl
@@ -75,7 +66,7 @@ own_pieces marks (r ∷ rs) (t ∷ ts) apart are =
     ∙ (λ i. spelled_inside r t.cells are.0.inside i ++ none_of_others marks r rs ts apart.0 are.1 i)
     ∙ append-nil (spell t.cells) in
     λ i. (are.0.spelled ∙ ap table_of (sym here)) i
-    ∷ (own_pieces marks rs ts apart.1 are.1 ∙ sym (ap (λ (images : List Image). pieces_of images rs) all ∙ behind_first r rs t.cells (spell (cells_of ts)) apart.0 are.0.inside)) i
+    ∷ (own_pieces marks rs ts apart.1 are.1 ∙ sym (ap (λ (images : List Image). pieces_of images rs) all ∙ after_first r rs t.cells (spell (cells_of ts)) apart.0 are.0.inside)) i
 
 own_images : (region : RegionValue) → IsRegion region → HasImages region (spell (all_cells region))
 own_images region is = own_pieces region.marks (ranges region.layout) region.tablets (ranges_apart region.layout is.lawful) is.tablets

@@ -1,19 +1,14 @@
--- The pages of a region that stays as it is.
+-- The pages of an unchanged region.
 use Rattle.std.proofs.Common.{◌≡◌, ◌<◌, ◌++◌, List, Option, None, Some, sym, ap, ◌∙◌, subst, append-nil, IsTrue}
-use Rattle.std.specs.FinMap.{is_sorted}
-use Rattle.std.specs.List.{flat_map}
 use Rattle.pn_join.proofs.Rising.{Rising, Rising-from_sorted}
-use Rattle.pn_record.specs.CellMap.{Entries}
-use Rattle.pn_record.specs.Order.{bytes_cmp}
 use Rattle.pn_scan.specs.Queries.{QueryValue}
 use Rattle.pn_scan.specs.Shown.{shown_rows}
 use Rattle.pn_scan.specs.Candidates.{Look, cells_in}
 use Rattle.pn_scan.specs.Pages.{PageValue}
 use Rattle.pn_scan.specs.Walks.{left_by, rows_of, rows_left}
 use Rattle.pn_scan.proofs.WalkLaws.{walked, walk_ends}
-use Rattle.pn_region.specs.Reads.{all_looks}
-use Rattle.pn_region.specs.Regions.{RegionValue, IsRegion, all_cells}
-use Rattle.pn_region.specs.Serving.{AllServe, ArePagesOf}
+use Rattle.pn_region.specs.Serving.{ArePagesOf}
+use Rattle.pn_region.proofs.Common.{is_sorted, flat_map, Entries, bytes_cmp, all_looks, RegionValue, IsRegion, all_cells, AllServe}
 use Rattle.pn_region.proofs.Ordered.{all_rising}
 use Rattle.pn_region.proofs.ReadLaws.{all_together, none_recovering}
 

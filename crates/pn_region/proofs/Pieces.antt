@@ -1,21 +1,12 @@
 -- Maps whose keys lie in ranges that are apart, one after another.
 use Rattle.std.proofs.Common.{◌≡◌, ℕ, Bool, true, false, cond, List, [], ◌∷◌, ◌++◌, Option, Some, None, refl, sym, ap, ◌∙◌}
 use Rattle.std.specs.Prelude.{zip}
-use Rattle.std.specs.Ordering.{eq_by_cmp}
-use Rattle.std.specs.List.{flat_map, filter_map}
-use Rattle.std.specs.FinMap.{find}
+use Rattle.std.specs.List.{filter_map}
 use Rattle.std.proofs.lemmas.List.Elements.{filter_map-append}
-use Rattle.pn_join.specs.Marks.{Positions}
-use Rattle.pn_record.specs.Order.{bytes_cmp}
-use Rattle.pn_record.specs.Sets.{CellValue}
-use Rattle.pn_record.specs.CellMap.{Entries}
 use Rattle.pn_record.proofs.Sorted.{first_true, second_true}
 use Rattle.pn_record.proofs.HeldRecords.{tied_keys}
-use Rattle.pn_tablet.specs.Ranges.{Ends, in_range}
-use Rattle.pn_tablet.specs.Tablets.{TabletStateValue, lie_in}
-use Rattle.pn_tablet.specs.Changes.{changes, change_of}
-use Rattle.pn_tablet.specs.declared.change.Change.{Change}
-use Rattle.pn_region.specs.Regions.{AreTabletsOf}
+use Rattle.pn_tablet.specs.Changes.{change_of}
+use Rattle.pn_region.proofs.Common.{eq_by_cmp, flat_map, find, Positions, bytes_cmp, CellValue, Entries, Ends, in_range, TabletStateValue, lie_in, changes, Change, AreTabletsOf}
 use Rattle.pn_region.proofs.Apart.{Outside, Apart}
 
 -- the cells of tablets together
@@ -36,12 +27,12 @@ none_outside range (e ∷ es) key inside outside =
     (none_outside range es key (second_true (in_range range e.0) (lie_in range es) inside) outside)
 
 -- what is not found in the first is found in the other, or not at all
-pub found_behind : (key : List ℕ) (es more : Entries) → find bytes_cmp key es ≡ None → find bytes_cmp key (es ++ more) ≡ find bytes_cmp key more
-found_behind key [] more none = refl
-found_behind key (e ∷ es) more none =
+pub found_after : (key : List ℕ) (es more : Entries) → find bytes_cmp key es ≡ None → find bytes_cmp key (es ++ more) ≡ find bytes_cmp key more
+found_after key [] more none = refl
+found_after key (e ∷ es) more none =
     elim (eq_by_cmp bytes_cmp key e.0) as (λ t. cond t (Some e.1) (find bytes_cmp key es) ≡ None → cond t (Some e.1) (find bytes_cmp key (es ++ more)) ≡ find bytes_cmp key more) [
       | true ↦ λ there. cc
-      | false ↦ λ later. found_behind key es more later
+      | false ↦ λ later. found_after key es more later
     ] none
 
 -- what is not found in the other is found in the first, or not at all
@@ -64,7 +55,7 @@ none_there marks range [] [] outside are key lies = refl
 none_there marks range [] (t ∷ ts) outside are key lies = absurd are
 none_there marks range (r ∷ rs) [] outside are key lies = absurd are
 none_there marks range (r ∷ rs) (t ∷ ts) outside are key lies =
-    found_behind key t.cells (cells_of ts) (none_outside r t.cells key are.0.inside (not_in range r key (outside.0 key) lies))
+    found_after key t.cells (cells_of ts) (none_outside r t.cells key are.0.inside (not_in range r key (outside.0 key) lies))
     ∙ none_there marks range rs ts outside.1 are.1 key lies
 
 -- the two have the same cells at the keys of the ranges
@@ -72,10 +63,10 @@ abbrev AreAlike : Entries → Entries → List Ends → Type 0
 AreAlike before other [] = Unit {0}
 AreAlike before other (r ∷ rs) = ((key : List ℕ) → in_range r key ≡ true → find bytes_cmp key before ≡ find bytes_cmp key other) × AreAlike before other rs
 
-alike_behind : (range : Ends) (others : List Ends) (es more : Entries) → lie_in range es ≡ true → Outside range others → AreAlike (es ++ more) more others
-alike_behind range [] es more inside outside = tt
-alike_behind range (r ∷ rs) es more inside outside =
-    ((λ key lies. found_behind key es more (none_outside range es key inside (outside.0 key lies))), alike_behind range rs es more inside outside.1)
+alike_after : (range : Ends) (others : List Ends) (es more : Entries) → lie_in range es ≡ true → Outside range others → AreAlike (es ++ more) more others
+alike_after range [] es more inside outside = tt
+alike_after range (r ∷ rs) es more inside outside =
+    ((λ key lies. found_after key es more (none_outside range es key inside (outside.0 key lies))), alike_after range rs es more inside outside.1)
 
 with_change : Option Change → List Change → List Change
 with_change None changes = changes
@@ -92,14 +83,14 @@ changes_alike range before other (e ∷ es) inside alike =
     ∙ (λ i. filter_map (λ entry. change_of (here i) e) (e ∷ []) ++ later i)
     ∙ sym (filter_map-append (λ entry. change_of (find bytes_cmp entry.0 other) entry) (e ∷ []) es)
 
-changes_behind : (marks : Positions) (rs : List Ends) (before other : Entries) (tablets : List TabletStateValue) → AreTabletsOf marks rs tablets → AreAlike before other rs
+changes_after : (marks : Positions) (rs : List Ends) (before other : Entries) (tablets : List TabletStateValue) → AreTabletsOf marks rs tablets → AreAlike before other rs
     → changes before (cells_of tablets) ≡ changes other (cells_of tablets)
-changes_behind marks [] before other [] are alike = refl
-changes_behind marks [] before other (t ∷ ts) are alike = absurd are
-changes_behind marks (r ∷ rs) before other [] are alike = absurd are
-changes_behind marks (r ∷ rs) before other (t ∷ ts) are alike =
+changes_after marks [] before other [] are alike = refl
+changes_after marks [] before other (t ∷ ts) are alike = absurd are
+changes_after marks (r ∷ rs) before other [] are alike = absurd are
+changes_after marks (r ∷ rs) before other (t ∷ ts) are alike =
     filter_map-append (λ entry. change_of (find bytes_cmp entry.0 before) entry) t.cells (cells_of ts)
-    ∙ (λ i. changes_alike r before other t.cells are.0.inside alike.0 i ++ changes_behind marks rs before other ts are.1 alike.1 i)
+    ∙ (λ i. changes_alike r before other t.cells are.0.inside alike.0 i ++ changes_after marks rs before other ts are.1 alike.1 i)
     ∙ sym (filter_map-append (λ entry. change_of (find bytes_cmp entry.0 other) entry) t.cells (cells_of ts))
 
 -- what changes in all tablets together is what changes in each
@@ -114,5 +105,5 @@ changes_by_tablet marks later (r ∷ rs) (t ∷ ts) (u ∷ us) apart are too =
     let whole = t.cells ++ cells_of ts in
     filter_map-append (λ entry. change_of (find bytes_cmp entry.0 whole) entry) u.cells (cells_of us)
     ∙ (λ i. changes_alike r whole t.cells u.cells too.0.inside (λ key lies. found_before key t.cells (cells_of ts) (none_there marks r rs ts apart.0 are.1 key lies)) i
-    ++ (changes_behind later rs whole (cells_of ts) us too.1 (alike_behind r rs t.cells (cells_of ts) are.0.inside apart.0)
+    ++ (changes_after later rs whole (cells_of ts) us too.1 (alike_after r rs t.cells (cells_of ts) are.0.inside apart.0)
     ∙ changes_by_tablet marks later rs ts us apart.1 are.1 too.1) i)

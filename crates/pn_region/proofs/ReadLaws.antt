@@ -1,29 +1,18 @@
--- What is read of a region: never a refused entry, and of tablets that all serve what their one map has.
+-- The laws of reads of regions.
 use Rattle.std.proofs.Common.{◌≡◌, ◌≢◌, ℕ, zero, suc, ◌+◌, true, false, cond, List, [], ◌∷◌, ◌++◌, length, map, slice_get, Option, Some, None, Ok, Err, refl, sym, ap, ◌∙◌, arith, zero-add}
-use Rattle.std.specs.Prelude.{IsSome}
-use Rattle.std.specs.List.{AllByRecursion, flat_map, range_with_len}
-use Rattle.std.specs.FinMap.{find}
-use Rattle.std.specs.Option.{option_or}
 use Rattle.pn_json.specs.Answers.{◌>>=◌}
-use Rattle.pn_record.specs.CellMap.{Entries}
-use Rattle.pn_record.specs.Order.{bytes_cmp}
-use Rattle.pn_record.specs.Sets.{Stamp, CellValue}
 use Rattle.pn_tablet.specs.Changes.{version_at}
-use Rattle.pn_tablet.specs.Layouts.{tablet_of}
-use Rattle.pn_tablet.specs.Tablets.{TabletStateValue}
 use Rattle.pn_tablet.specs.declared.state.Status.{Status}
-use Rattle.pn_tablet.specs.declared.state.Status.TheVariants.{Serving, Recovering}
 use Rattle.pn_scan.specs.Queries.{QueryValue}
 use Rattle.pn_scan.specs.Shown.{shown_rows}
 use Rattle.pn_scan.specs.Candidates.{Look, cells_in}
-use Rattle.pn_scan.specs.Pages.{refusal_by, refusal, first_refusal, unless, first_page}
+use Rattle.pn_scan.specs.Pages.{refusal_by, unless}
 use Rattle.pn_scan.specs.Reads.{reaches, unless_behind, read_of}
 use Rattle.pn_scan.specs.declared.fault.ScanFault.{ScanFault}
 use Rattle.pn_scan.specs.declared.fault.ScanFault.TheVariants as fault
 use Rattle.pn_scan.proofs.WalkLaws.{page_of_cells}
-use Rattle.pn_region.specs.Regions.{RegionValue, IsRegion, all_cells}
-use Rattle.pn_region.specs.Reads.{look_for, all_looks, read_in, get_in, page_in}
-use Rattle.pn_region.specs.Serving.{AllServe}
+use Rattle.pn_region.specs.Reads.{read_in}
+use Rattle.pn_region.proofs.Common.{IsSome, AllByRecursion, flat_map, range_with_len, find, option_or, Entries, bytes_cmp, Stamp, CellValue, tablet_of, TabletStateValue, Serving, Recovering, refusal, first_refusal, first_page, RegionValue, IsRegion, all_cells, look_for, all_looks, get_in, page_in, AllServe}
 use Rattle.pn_region.proofs.KeyTablets.{has_tablet, has_its_cell}
 use Rattle.pn_region.proofs.NewRegion.{tablet_count}
 use Rattle.pn_region.proofs.Pieces.{cells_of}
@@ -40,7 +29,7 @@ by_status : (key : List ℕ) (wanted : Option Stamp) (n : ℕ) (status : Status)
 by_status key wanted n Serving cells is = not_behind wanted (find bytes_cmp key cells) is
 by_status key wanted n (Recovering need) cells is = cc
 
--- a tablet that is there refuses no entry
+-- a tablet that exists refuses no entry
 pub read_entered : (key : List ℕ) (wanted : Option Stamp) (n : ℕ) (found : Option TabletStateValue) → IsSome found → read_of key wanted (n, found) ≢ Err fault.NoEntry
 read_entered key wanted n None there is = cc
 read_entered key wanted n (Some state) there is = by_status key wanted n state.status state.cells is

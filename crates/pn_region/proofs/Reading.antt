@@ -1,23 +1,18 @@
 -- What a view of a region reads, by its looks.
 use Rattle.std.proofs.Common.{◌≡◌, ℕ, List, [], ◌∷◌, ◌++◌, length, map, take, drop, slice_get, Option, Some, None, Result, Ok, Err, refl, sym, ap, ◌∙◌, subst, arith}
-use Rattle.std.specs.FinMap.{find}
-use Rattle.std.specs.Option.{option_or}
 use Rattle.std.proofs.lemmas.List.{map-append, take-append-drop, take_all}
 use Rattle.pn_json.specs.Answers.{ShowsUnless}
-use Rattle.pn_record.specs.Order.{bytes_cmp}
-use Rattle.pn_record.specs.Sets.{CellValue}
-use Rattle.pn_tablet.specs.Layouts.{tablet_of}
 use Rattle.pn_scan.specs.Queries.{QueryValue}
 use Rattle.pn_scan.specs.Candidates.{Look, cells_in}
-use Rattle.pn_scan.specs.Pages.{PageValue, refusal, first_refusal, unless, first_page}
+use Rattle.pn_scan.specs.Pages.{PageValue, unless}
 use Rattle.pn_scan.specs.Views.{Looks}
 use Rattle.pn_scan.specs.Reads.{IsGet, cells_got}
 use Rattle.pn_scan.specs.Visits.{IsScan}
 use Rattle.pn_scan.specs.declared.fault.ScanFault.{ScanFault}
 use Rattle.pn_scan.specs.declared.fault.ScanFault.TheVariants as fault
 use Rattle.pn_scan.proofs.Settled.{Stand, page_settled}
-use Rattle.pn_region.specs.Regions.{RegionValue, IsRegion}
-use Rattle.pn_region.specs.Reads.{IsThere, look_for, get_in, page_in}
+use Rattle.pn_region.specs.Reads.{IsThere}
+use Rattle.pn_region.proofs.Common.{find, option_or, bytes_cmp, CellValue, tablet_of, refusal, first_refusal, first_page, RegionValue, IsRegion, look_for, get_in, page_in}
 use Rattle.pn_region.proofs.Standing.{all_found}
 
 err_value : {A : Type 0} (o : Option ScanFault) (a : A) (why : ScanFault) → unless o a ≡ Err why → o ≡ Some why
@@ -37,7 +32,7 @@ got_each : (region : RegionValue) (keys : List (List ℕ)) → cells_got keys (m
 got_each region [] = refl
 got_each region (key ∷ keys) = ap (λ (l : List (Option CellValue)). find bytes_cmp key (cells_in (look_for region key).1) ∷ l) (got_each region keys)
 
--- looks into the tablets of keys, found as they stand
+-- looks into the tablets of keys, in their present states
 for_keys : (region : RegionValue) (seen : List Look) (keys : List (List ℕ)) → Stand region.tablets seen → map (λ look. look.0) seen ≡ map (tablet_of region.layout) keys → seen ≡ map (look_for region) keys
 for_keys region [] [] stand order = refl
 for_keys region [] (key ∷ keys) stand order = cc
@@ -47,7 +42,7 @@ for_keys region (look ∷ seen) (key ∷ keys) stand order =
     let others : map (λ (l : Look). l.0) seen ≡ map (tablet_of region.layout) keys = cc in
     λ i. (first i, (sym stand.0 ∙ ap (slice_get region.tablets) first) i) ∷ for_keys region seen keys stand.1 others i
 
--- what a get told, by looks into the tablets of the first keys
+-- what a get answered, by looks into the tablets of the first keys
 module _ (region : RegionValue) (keys : List (List ℕ)) (seen : List Look) (stands : seen ≡ map (look_for region) (take (length seen) keys)) where
   all_got : (cells : List (Option CellValue)) → length seen ≡ length keys → unless (first_refusal seen) (cells_got keys seen) ≡ Ok cells → get_in region keys ≡ Ok cells
   all_got cells whole right =
@@ -64,7 +59,7 @@ module _ (region : RegionValue) (keys : List (List ℕ)) (seen : List Look) (sta
       (ap first_refusal parts ∙ first_of seen more why (err_value (first_refusal seen) (cells_got keys seen) why right))
 
 module _ {V : Type 0} (region_of : V → RegionValue) {looks : V → Look → V → Type 0} (steps : (old new : V) (look : Look) → looks old look new → (new ≡ old) × IsThere (region_of old) look) where
-  -- what was found is what stands there
+  -- what was found is the state there
   all_stand : (old new : V) (seen : List Look) → Looks looks old seen new → Stand (region_of old).tablets seen
   all_stand old new [] looked = tt
   all_stand old new (look ∷ seen) looked =

@@ -1,23 +1,12 @@
 -- What a round leaves, by how it ended.
 use Rattle.std.proofs.Common.{◌≡◌, ◌≤◌, List, length, refl, sym, ap, ◌∙◌, subst, arith}
-use Rattle.std.specs.Prelude.{Result, Ok, Err, MatchResult, IfErr, IsErrAnd}
-use Rattle.pn_join.specs.Marks.{Positions}
-use Rattle.pn_stream.specs.Positions.{DeliveryValue}
-use Rattle.pn_tablet.specs.Tablets.{TabletStateValue}
-use Rattle.pn_tablet.specs.Changes.{changes}
-use Rattle.pn_tablet.specs.declared.change.Change.{Change}
-use Rattle.pn_tablet.specs.declared.op.TabletOp.{TabletOp}
-use Rattle.std.specs.List.{flat_map}
+use Rattle.std.specs.Prelude.{IfErr, IsErrAnd}
 use Rattle.std.specs.Result.{result_map_both}
-use Rattle.pn_apply.specs.Applying.{AreJoinsIn, all_stepped, all_changes, AreOldOrStepped, IsSomeOld}
-use Rattle.pn_apply.specs.Reducing.{all_images, joined_cells, ranges}
+use Rattle.pn_apply.specs.Applying.{AreJoinsIn, IsSomeOld}
 use Rattle.pn_apply.proofs.Prefixes.{all_old, old_or_stepped, stepped_whole}
 use Rattle.pn_apply.proofs.ReduceLaws.{joins_fit}
-use Rattle.pn_region.specs.Marking.{new_marks}
-use Rattle.pn_region.specs.Regions.{RegionValue, AreTabletsOf, IsRegion, all_cells}
-use Rattle.pn_region.specs.Rounds.{joins, taking, round, Leaves}
-use Rattle.pn_region.specs.declared.fault.RoundFault.{RoundFault}
-use Rattle.pn_region.specs.declared.fault.RoundFault.TheVariants.{Gap, TooManyStreams, Memory}
+use Rattle.pn_region.specs.Rounds.{taking, round, Leaves}
+use Rattle.pn_region.proofs.Common.{Result, Ok, Err, MatchResult, Positions, DeliveryValue, TabletStateValue, changes, Change, TabletOp, flat_map, all_stepped, all_changes, AreOldOrStepped, all_images, joined_cells, ranges, new_marks, RegionValue, AreTabletsOf, IsRegion, all_cells, joins, RoundFault, Gap, TooManyStreams, Memory}
 use Rattle.pn_region.proofs.Apart.{ranges_apart}
 use Rattle.pn_region.proofs.Counting.{few_together}
 use Rattle.pn_region.proofs.NewRegion.{tablet_count}
@@ -27,11 +16,6 @@ use Rattle.pn_region.proofs.RoundSteps.{own_ranges, all_taken, half_taken, chang
 pub whatever : {T E : Type 0} (answer : Result T E) (P : E → Type 0) → ((fault : E) → P fault) → IfErr answer P
 whatever (Ok value) P holds = tt
 whatever (Err fault) P holds = holds fault
-
--- what holds of the fault that a call hands on
-pub handed_on : {T E : Type 0} (answer : Result T E) (fault : E) (P : E → Type 0) → IsErrAnd answer (λ other. other ≡ fault) → P fault → IfErr answer P
-handed_on (Ok value) fault P is holds = tt
-handed_on (Err other) fault P is holds = subst P (sym is) holds
 
 -- none or all have taken their joins
 pub none_taken : (ts : List TabletStateValue) (ops : List TabletOp) → AreJoinsIn ts ops → AreOldOrStepped ts ops ts
@@ -44,6 +28,10 @@ each_taken ts us ops fit is =
 module _ (old : RegionValue) (deliveries : List DeliveryValue) (is : IsRegion old) where
   pub fit : (marks : Positions) → AreJoinsIn old.tablets (joins old deliveries marks)
   fit marks = joins_fit old.layout marks (all_images deliveries) old.tablets (own_ranges old.marks (ranges old.layout) old.tablets is.tablets)
+
+  -- a round that is taken leaves each tablet with its join
+  pub taken_half : (marks : Positions) → AreOldOrStepped old.tablets (joins old deliveries marks) (taking old deliveries marks).tablets
+  taken_half marks = each_taken old.tablets (taking old deliveries marks).tablets (joins old deliveries marks) (fit marks) refl
 
   half_none : (right : Result Positions RoundFault) → MatchResult right (λ marks. AreOldOrStepped old.tablets (joins old deliveries marks) old.tablets) (λ fault. old.tablets ≡ old.tablets)
   half_none (Ok marks) = none_taken old.tablets (joins old deliveries marks) (fit marks)

@@ -1,24 +1,11 @@
 -- What a round makes of tablets.
 use Rattle.std.proofs.Common.{◌≡◌, Bool, List, [], ◌∷◌, ◌++◌, map, if◌then◌else◌, Ok, Err, refl, sym, ap, ◌∙◌, subst, arith, ◌⊎◌, inl, inr}
 use Rattle.std.specs.Prelude.{zip}
-use Rattle.std.specs.List.{flat_map}
-use Rattle.pn_join.specs.Marks.{Positions, Reaches, raised}
 use Rattle.pn_join.proofs.MarksFacts.{position_of-raised}
-use Rattle.pn_record.specs.declared.image.Image.{Image}
-use Rattle.pn_record.specs.Cells.{spell}
-use Rattle.pn_record.specs.CellMap.{Entries, table_of}
-use Rattle.pn_tablet.specs.Ranges.{Ends}
-use Rattle.pn_tablet.specs.Tablets.{TabletStateValue, lie_in}
-use Rattle.pn_tablet.specs.Steps.{taking, after_step, stepped}
-use Rattle.pn_tablet.specs.Changes.{changes}
-use Rattle.pn_tablet.specs.declared.change.Change.{Change}
-use Rattle.pn_tablet.specs.declared.op.TabletOp.{TabletOp}
-use Rattle.pn_tablet.specs.declared.fault.OpFault.TheVariants.{WrongRange}
+use Rattle.pn_tablet.specs.Steps.{taking}
 use Rattle.pn_tablet.proofs.Keeping.{spelled_adds}
-use Rattle.pn_apply.specs.Applying.{all_stepped, all_changes, AreOldOrStepped}
-use Rattle.pn_apply.specs.Reducing.{images_in, join_in}
 use Rattle.pn_apply.proofs.ReduceLaws.{cells_inside}
-use Rattle.pn_region.specs.Regions.{IsTabletOf, AreTabletsOf}
+use Rattle.pn_region.proofs.Common.{flat_map, Positions, Reaches, raised, Image, spell, Entries, table_of, Ends, TabletStateValue, lie_in, after_step, stepped, changes, Change, TabletOp, WrongRange, all_stepped, all_changes, AreOldOrStepped, images_in, join_in, IsTabletOf, AreTabletsOf}
 use Rattle.pn_region.proofs.Apart.{Apart}
 use Rattle.pn_region.proofs.Pieces.{cells_of, changes_by_tablet}
 use Rattle.pn_region.proofs.Spelled.{taken_inside}

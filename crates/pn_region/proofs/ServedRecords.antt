@@ -1,23 +1,16 @@
 -- Records of a region whose tablets serve.
 use Rattle.std.proofs.Common.{◌≡◌, ℕ, false, List, [], ◌∷◌, slice_get, Option, None, Some, refl, sym, ap, ◌∙◌, subst, inl, inr, IsTrue}
 use Rattle.std.specs.Prelude.{IsSomeAnd}
-use Rattle.std.specs.FinMap.{find}
 use Rattle.std.specs.Ordering.{is_lt, is_gt}
 use Rattle.std.specs.declared.cmp.Ordering.{Ordering}
 use Rattle.std.specs.declared.cmp.Ordering.TheVariants.{Less, Equal, Greater}
 use Rattle.pn_record.specs.Older.{NotOlder}
-use Rattle.pn_record.specs.Order.{bytes_cmp, version_cmp}
-use Rattle.pn_record.specs.Sets.{Stamp, CellValue}
+use Rattle.pn_record.specs.Order.{version_cmp}
 use Rattle.pn_record.proofs.NeverOlder.{joined_not_older}
-use Rattle.pn_stream.specs.Brokers.{BrokerRecord}
-use Rattle.pn_tablet.specs.Layouts.{Bounds, tablet_of}
-use Rattle.pn_tablet.specs.Tablets.{TabletStateValue}
-use Rattle.pn_tablet.specs.declared.state.Status.TheVariants.{Serving}
 use Rattle.pn_region.specs.Events.{RegionEvent, round, half_round, loss, adoption, LeadsTo, AllLeadTo, AreHonestEvents}
-use Rattle.pn_region.specs.Faith.{AreFaithful}
 use Rattle.pn_region.specs.Held.{HoldsStill}
-use Rattle.pn_region.specs.Regions.{RegionValue, IsRegion, all_cells}
 use Rattle.pn_region.specs.Serving.{ServesAt}
+use Rattle.pn_region.proofs.Common.{find, bytes_cmp, Stamp, CellValue, BrokerRecord, Bounds, tablet_of, TabletStateValue, Serving, AreFaithful, RegionValue, IsRegion, all_cells}
 use Rattle.pn_region.proofs.Events.{event_held, events_held}
 use Rattle.pn_region.proofs.EventSteps.{adopts, takes, event_is, events_are}
 use Rattle.pn_region.proofs.KeyTablets.{has_its_cell}
@@ -27,7 +20,7 @@ below_not_above Less below = refl
 below_not_above Equal below = refl
 below_not_above Greater below = cc
 
--- a record that is held still is not older
+-- a record that is still held is not older
 pub not_older : (was now : Option CellValue) → HoldsStill was now → NotOlder was now
 not_older None now held = tt
 not_older (Some was) None held = absurd held
@@ -65,7 +58,7 @@ found_old : (new : RegionValue) (bounds : Bounds) (key : List ℕ) → new.layou
 found_old new bounds key same serves =
     subst (λ (b : Bounds). Served (slice_get new.tablets (tablet_of b key))) same (served (slice_get new.tablets (tablet_of new.layout key)) serves)
 
--- a record whose tablet serves after an event is held still
+-- a record whose tablet serves after an event is still held
 pub event_record : (event : RegionEvent) (old new : RegionValue) (key : List ℕ) → IsRegion old → LeadsTo event old new → ServesAt old key → ServesAt new key
     → HoldsStill (find bytes_cmp key (all_cells old)) (find bytes_cmp key (all_cells new))
 event_record event old new key is leads serves serves_too =

@@ -1,23 +1,8 @@
 -- Rounds leave tablets serving that served.
 use Rattle.std.proofs.Common.{◌≡◌, ◌⊎◌, inl, inr, Bool, true, false, cond, List, [], ◌∷◌, map, Ok, Err, refl, ap, ◌∙◌}
-use Rattle.std.specs.List.{AllByRecursion}
-use Rattle.pn_join.specs.Marks.{Positions}
-use Rattle.pn_record.specs.declared.image.Image.{Image}
-use Rattle.pn_record.specs.CellMap.{Entries}
-use Rattle.pn_stream.specs.Positions.{DeliveryValue}
-use Rattle.pn_tablet.specs.Layouts.{Bounds}
-use Rattle.pn_tablet.specs.Ranges.{Ends}
-use Rattle.pn_tablet.specs.Steps.{taking, after_step, stepped}
-use Rattle.pn_tablet.specs.Tablets.{TabletStateValue, empty_tablet, lie_in}
-use Rattle.pn_tablet.specs.declared.fault.OpFault.TheVariants.{WrongRange}
-use Rattle.pn_tablet.specs.declared.op.TabletOp.TheVariants.{Join}
-use Rattle.pn_tablet.specs.declared.state.Status.TheVariants.{Serving}
-use Rattle.pn_apply.specs.Applying.{all_stepped, AreOldOrStepped}
-use Rattle.pn_apply.specs.Reducing.{all_images, join_in, ranges}
-use Rattle.pn_region.specs.Regions.{RegionValue, new_region}
-use Rattle.pn_region.specs.Rounds.{IsHalfTaken}
+use Rattle.pn_tablet.specs.Steps.{taking}
 use Rattle.pn_region.specs.Rounds as rounds
-use Rattle.pn_region.specs.Serving.{AllServe}
+use Rattle.pn_region.proofs.Common.{AllByRecursion, Positions, Image, Entries, DeliveryValue, Bounds, Ends, after_step, stepped, TabletStateValue, empty_tablet, lie_in, WrongRange, Join, Serving, all_stepped, AreOldOrStepped, all_images, join_in, ranges, RegionValue, new_region, IsHalfTaken, AllServe}
 use Rattle.pn_region.proofs.HalfRounds.{half_so}
 
 abbrev Serve : List TabletStateValue → Type 0

@@ -1,11 +1,8 @@
 -- Parts that fit are a region.
 use Rattle.std.proofs.Common.{List, [], ◌∷◌, ◌++◌, subst}
 use Rattle.std.specs.Prelude.{IsTrue}
-use Rattle.std.specs.List.{AllByRecursion}
-use Rattle.pn_join.specs.Marks.{Positions}
-use Rattle.pn_tablet.specs.Ranges.{Ends}
-use Rattle.pn_tablet.specs.Tablets.{TabletStateValue, lie_in}
-use Rattle.pn_region.specs.Regions.{IsPartOf, ArePartsOf, IsSound, IsTabletOf, AreTabletsOf}
+use Rattle.pn_region.specs.Regions.{IsPartOf, ArePartsOf}
+use Rattle.pn_region.proofs.Common.{AllByRecursion, Positions, Ends, TabletStateValue, lie_in, IsSound, IsTabletOf, AreTabletsOf}
 
 pub all_more : {A : Type 0} (P : A → Type 0) (xs : List A) (x : A) → AllByRecursion P xs → P x → AllByRecursion P (xs ++ x ∷ [])
 all_more P [] x all one = (one, tt)

@@ -2,16 +2,12 @@
 use Rattle.std.proofs.Common.{◌≡◌, ℕ, Bool, true, cond, List, [], ◌∷◌, ◌++◌, map, refl, sym, ap, ◌∙◌}
 use Rattle.std.specs.FinMap.{keys}
 use Rattle.std.proofs.lemmas.List.Elements.{filter-append}
-use Rattle.pn_record.specs.declared.image.Image.{Image}
 use Rattle.pn_record.specs.Limits.{ContentValue}
-use Rattle.pn_record.specs.Sets.{Stamp}
-use Rattle.pn_record.specs.Cells.{spell, spell_cell}
-use Rattle.pn_record.specs.CellMap.{Entries, table_of, adds}
+use Rattle.pn_record.specs.Cells.{spell_cell}
+use Rattle.pn_record.specs.CellMap.{adds}
 use Rattle.pn_record.proofs.Sorted.{first_true, second_true}
-use Rattle.pn_tablet.specs.Ranges.{Ends, in_range}
-use Rattle.pn_tablet.specs.Tablets.{lie_in}
-use Rattle.pn_apply.specs.Reducing.{images_in}
 use Rattle.pn_apply.proofs.ReduceLaws.{range_joins}
+use Rattle.pn_region.proofs.Common.{Image, Stamp, spell, Entries, table_of, Ends, in_range, lie_in, images_in}
 
 -- images of one key are in its range
 own_images : (range : Ends) (key : List ℕ) (version : Stamp) (contents : List ContentValue) → in_range range key ≡ true

@@ -1,21 +1,13 @@
--- The tablets of a region, found as they stand.
+-- The tablets of a region, found in their present states.
 use Rattle.std.proofs.Common.{◌≡◌, ℕ, zero, suc, ◌+◌, ◌≤◌, Bool, true, false, cond, List, [], ◌∷◌, length, map, slice_get, Option, Some, None, refl, sym, subst, arith, IsTrue}
-use Rattle.std.specs.Prelude.{filter, IsSome}
-use Rattle.std.specs.List.{AllByRecursion, range_with_len}
-use Rattle.std.specs.Option.{option_or}
-use Rattle.pn_join.specs.Marks.{Positions}
-use Rattle.pn_tablet.specs.Ranges.{Ends}
-use Rattle.pn_tablet.specs.Tablets.{TabletStateValue, lie_in}
+use Rattle.std.specs.Prelude.{filter}
 use Rattle.pn_tablet.specs.declared.state.Status.{Status}
-use Rattle.pn_tablet.specs.declared.state.Status.TheVariants.{Serving, Recovering}
-use Rattle.pn_apply.specs.Reducing.{ranges}
 use Rattle.pn_scan.specs.Queries.{QueryValue}
 use Rattle.pn_scan.specs.Candidates.{Look, visited}
-use Rattle.pn_scan.specs.Pages.{refusal_by, refusal, first_refusal}
+use Rattle.pn_scan.specs.Pages.{refusal_by}
 use Rattle.pn_scan.specs.Views.{IsStateOf, IsFoundIn}
 use Rattle.pn_scan.specs.declared.fault.ScanFault.TheVariants as fault
-use Rattle.pn_region.specs.Regions.{RegionValue, IsTabletOf, AreTabletsOf, IsRegion}
-use Rattle.pn_region.specs.Reads.{look_for, all_looks}
+use Rattle.pn_region.proofs.Common.{IsSome, AllByRecursion, range_with_len, option_or, Positions, Ends, TabletStateValue, lie_in, Serving, Recovering, ranges, refusal, first_refusal, RegionValue, IsTabletOf, AreTabletsOf, IsRegion, look_for, all_looks}
 use Rattle.pn_region.proofs.KeyTablets.{range_at, some_within, has_tablet}
 use Rattle.pn_region.proofs.NewRegion.{tablet_count}
 
@@ -29,7 +21,7 @@ state_from marks (q ∷ rs) (u ∷ ts) zero r t are at there =
     subst (λ (ends : Ends). IsTabletOf marks ends t) same (subst (IsTabletOf marks q) same_tablet are.0)
 state_from marks (q ∷ rs) (u ∷ ts) (suc n) r t are at there = state_from marks rs ts n r t are.1 at there
 
--- the faults of tablets that are there do not say that an entry was refused
+-- no tablet that exists answers that an entry was refused
 abbrev Entered : Look → Type 0
 Entered look = IsSome look.1
 

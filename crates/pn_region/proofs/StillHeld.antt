@@ -1,20 +1,19 @@
--- A record is held still once another cell is joined to it.
+-- A record is still held after another cell is joined to it.
 use Rattle.std.proofs.Common.{◌≡◌, ℕ, List, ◌++◌, Option, None, Some, refl, sym, ap, ◌∙◌, subst, inl, inr, Contains, IsTrue}
 use Rattle.std.specs.Ordering.{is_lt}
-use Rattle.std.specs.FinMap.{find, get, contains_key}
+use Rattle.std.specs.FinMap.{get, contains_key}
 use Rattle.std.specs.Prelude.{is_some}
-use Rattle.pn_record.specs.declared.image.Image.{Image}
 use Rattle.pn_record.specs.Limits.{ContentValue}
-use Rattle.pn_record.specs.Order.{bytes_cmp}
-use Rattle.pn_record.specs.Sets.{CellValue, Contents, union, cell_joined}
+use Rattle.pn_record.specs.Sets.{Contents, union, cell_joined}
 use Rattle.pn_record.specs.Laws.Unions.{either, get-union}
 use Rattle.pn_record.specs.Laws.JoinedCells.{by_versions, joined-less, joined-equal, joined-greater}
-use Rattle.pn_record.specs.Cells.{cells, spell}
-use Rattle.pn_record.specs.CellMap.{Entries, table_of, adds}
+use Rattle.pn_record.specs.Cells.{cells}
+use Rattle.pn_record.specs.CellMap.{adds}
 use Rattle.pn_record.proofs.CellLists.{both, cells-append, all_absorbed}
 use Rattle.pn_record.proofs.CellMaps.{Holds-table_of}
 use Rattle.pn_tablet.specs.Laws.{IsSpelled}
 use Rattle.pn_region.specs.Held.{HoldsStill}
+use Rattle.pn_region.proofs.Common.{find, Image, bytes_cmp, CellValue, spell, Entries, table_of}
 
 of_first : (a b : Option (Unit {0})) → IsTrue (is_some a) → IsTrue (is_some (either a b))
 of_first None b there = cc
@@ -47,13 +46,13 @@ found_added own images key = Holds-table_of (spell own ++ images) key ∙ cells-
 pub found_spelled : (own : Entries) (key : List ℕ) → IsSpelled own → find bytes_cmp key own ≡ cells (spell own) key
 found_spelled own key spelled = ap (find bytes_cmp key) spelled ∙ Holds-table_of (spell own) key
 
--- cells that take images hold still what they had
+-- cells that take images still hold what they had
 pub added_held : (own : Entries) (images : List Image) (key : List ℕ) → IsSpelled own → HoldsStill (find bytes_cmp key own) (find bytes_cmp key (adds own images))
 added_held own images key spelled =
     subst (λ (o : Option CellValue). HoldsStill o (find bytes_cmp key (adds own images))) (sym (found_spelled own key spelled))
     (subst (HoldsStill (cells (spell own) key)) (sym (found_added own images key)) (joined_held (cells (spell own) key) (cells images key)))
 
--- what some images make is held still by more of them
+-- what some images make is still held by more of them
 pub more_held : (images more : List Image) (key : List ℕ) → ((image : Image) → Contains images image → Contains more image) → HoldsStill (find bytes_cmp key (table_of images)) (find bytes_cmp key (table_of more))
 more_held images more key there =
     subst (λ (o : Option CellValue). HoldsStill o (find bytes_cmp key (table_of more))) (sym (Holds-table_of images key))

@@ -1,9 +1,6 @@
 -- How many streams new marks have.
 use Rattle.std.proofs.Common.{◌≡◌, ℕ, ◌<◌, ◌≤◌, max, Bool, true, false, cond, ◌||◌, nat_lt, List, [], ◌∷◌, map, length, Option, Some, None, is_some, IsTrue, is_eq, refl, sym, ap, ◌∙◌, subst, arith}
-use Rattle.std.specs.Prelude.{Ok, Err}
-use Rattle.std.specs.List.{AllByRecursion, IsDistinct, list_any}
-use Rattle.std.specs.Ordering.{eq_by_cmp}
-use Rattle.std.specs.FinMap.{find, is_sorted}
+use Rattle.std.specs.List.{IsDistinct, list_any}
 use Rattle.std.specs.FinMap.Entries.{is_some-find}
 use Rattle.std.proofs.lemmas.Bool.Decides.{nat_tests}
 use Rattle.std.proofs.lemmas.Cmp.{nat_list_cmp_total, eq_by_cmp_equiv}
@@ -11,17 +8,14 @@ use Rattle.std.proofs.lemmas.List.{length-map}
 use Rattle.std.proofs.lemmas.List.Folds.{list_any-append}
 use Rattle.std.proofs.lemmas.Map.Keys.{IsDistinct-cons}
 use Rattle.std.proofs.lemmas.Map.Made.{length-from_keys}
-use Rattle.pn_join.specs.Marks.{Positions, name_cmp}
 use Rattle.pn_join.specs.Tables.{optional_joined}
 use Rattle.pn_join.proofs.MarksFacts.{find-raised, is_sorted-raised}
 use Rattle.pn_join.proofs.Rising.{Below, Rising, Rising-from_sorted}
-use Rattle.pn_stream.specs.Positions.{DeliveryValue}
 use Rattle.pn_tablet.specs.Refusals.{Refuses}
-use Rattle.pn_region.proofs.MarkLaws.{gap_of, accepted}
+use Rattle.pn_region.proofs.Common.{Ok, Err, AllByRecursion, eq_by_cmp, find, is_sorted, Positions, name_cmp, DeliveryValue, bringing, last_position, marked, leaves_gap, marks_after, of_few_streams, new_marks, RoundFault, Gap, TooManyStreams, Memory}
+use Rattle.pn_region.proofs.MarkLaws.{gap_of, only_gaps, accepted}
 use Rattle.pn_region.specs.Laws.{named, stream_count}
-use Rattle.pn_region.specs.Marking.{bringing, last_position, marked, leaves_gap, marks_after, of_few_streams, new_marks, is_memory}
-use Rattle.pn_region.specs.declared.fault.RoundFault.{RoundFault}
-use Rattle.pn_region.specs.declared.fault.RoundFault.TheVariants.{Gap, TooManyStreams, Memory}
+use Rattle.pn_region.specs.Marking.{is_memory}
 
 abbrev names_of : Positions → List (List ℕ)
 names_of marks = map (λ mark. mark.0) marks
@@ -36,7 +30,7 @@ apart : (name : List ℕ) (es : Positions) → Below name_cmp name es → AllByR
 apart name [] below = tt
 apart name (e ∷ es) below = (ap is_eq below.0, apart name es below.1)
 
--- names that rise stand once each
+-- names that rise are all different
 each_once : (es : Positions) → Rising name_cmp es → IsDistinct (eq_by_cmp name_cmp) (names_of es)
 unfolding IsDistinct
 each_once [] rising = tt
@@ -96,7 +90,7 @@ counted ds m next rising is =
 no_more : (n : ℕ) (b : Bool) → nat_lt 16 n ≡ b → b ≡ false → n ≤ 16
 no_more n b is holds = grind (arith, nat_tests)
 
--- new marks name just the streams, at most sixteen
+-- new marks name exactly the streams, at most 16
 pub few_streams : (marks next : Positions) (deliveries : List DeliveryValue) → IsTrue (is_sorted name_cmp marks) → new_marks marks deliveries ≡ Ok next → (length next ≡ stream_count marks deliveries) × (stream_count marks deliveries ≤ 16)
 few_streams marks next deliveries rising is =
     elim (marks_after marks (bringing deliveries)) as (λ r. marks_after marks (bringing deliveries) ≡ r → of_few_streams r ≡ Ok next → (length next ≡ stream_count marks deliveries) × (stream_count marks deliveries ≤ 16)) [
@@ -112,15 +106,7 @@ more : (b : Bool) (marks : Positions) → cond b (Err TooManyStreams) (Ok marks)
 more true marks is = refl
 more false marks is = cc
 
-not_few : (ds : List DeliveryValue) (m : Positions) → marks_after m ds ≡ Err TooManyStreams → ⊥
-not_few [] m is = cc
-not_few (d ∷ ds) m is =
-    elim (leaves_gap m d) as (λ b. cond b (Err (gap_of m d)) (marks_after (marked m d) ds) ≡ Err TooManyStreams → ⊥) [
-      | true ↦ λ is. cc
-      | false ↦ λ is. not_few ds (marked m d) is
-    ] is
-
--- where there are too many streams they are more than sixteen
+-- too many streams are more than 16
 pub many_streams : (marks : Positions) (deliveries : List DeliveryValue) → IsTrue (is_sorted name_cmp marks) → new_marks marks deliveries ≡ Err TooManyStreams → 16 < stream_count marks deliveries
 many_streams marks deliveries rising is =
     elim (marks_after marks (bringing deliveries)) as (λ r. marks_after marks (bringing deliveries) ≡ r → of_few_streams r ≡ Err TooManyStreams → 16 < stream_count marks deliveries) [
@@ -128,27 +114,19 @@ many_streams marks deliveries rising is =
           let so = more (nat_lt 16 (length all)) all many in
           let as_many = counted deliveries marks all rising after in
           grind (arith, nat_tests)
-      | Err fault ↦ λ after many. absurd (not_few (bringing deliveries) marks (after ∙ many))
+      | Err fault ↦ λ after many. absurd (only_gaps TooManyStreams (λ d m same. cc) (bringing deliveries) marks (after ∙ many))
     ] refl is
 
-not_memory : (ds : List DeliveryValue) (m : Positions) → marks_after m ds ≡ Err Memory → ⊥
-not_memory [] m is = cc
-not_memory (d ∷ ds) m is =
-    elim (leaves_gap m d) as (λ b. cond b (Err (gap_of m d)) (marks_after (marked m d) ds) ≡ Err Memory → ⊥) [
-      | true ↦ λ is. cc
-      | false ↦ λ is. not_memory ds (marked m d) is
-    ] is
-
--- and memory is no matter of marks
+-- marks never answer out of memory
 pub never_memory : (marks : Positions) (deliveries : List DeliveryValue) → new_marks marks deliveries ≡ Err Memory → ⊥
 never_memory marks deliveries is =
     elim (marks_after marks (bringing deliveries)) as (λ r. marks_after marks (bringing deliveries) ≡ r → of_few_streams r ≡ Err Memory → ⊥) [
       | Ok all ↦ λ after wants.
           elim (nat_lt 16 (length all)) as (λ b. cond b (Err TooManyStreams) (Ok all) ≡ Err Memory → ⊥) [ true ↦ λ no. cc | false ↦ λ no. cc ] wants
-      | Err fault ↦ λ after wants. not_memory (bringing deliveries) marks (after ∙ wants)
+      | Err fault ↦ λ after wants. only_gaps Memory (λ d m same. cc) (bringing deliveries) marks (after ∙ wants)
     ] refl is
 
--- a fault that is the right one is no lack of memory
+-- the fault that marks answer is not out of memory
 pub refused_right : (marks : Positions) (deliveries : List DeliveryValue) (fault : RoundFault) → new_marks marks deliveries ≡ Err fault → Refuses is_memory fault (new_marks marks deliveries)
 refused_right marks deliveries (Gap stream wanted got) is = is
 refused_right marks deliveries TooManyStreams is = is

@@ -1,22 +1,12 @@
--- The images that the tablets of a region have: none at first, and those of each round.
+-- The images that the tablets of a region have.
 use Rattle.std.proofs.Common.{◌≡◌, List, [], ◌∷◌, ◌++◌, map, refl, sym, ap, ◌∙◌, ◌⊎◌, inl, inr, Contains}
 use Rattle.std.proofs.lemmas.List.Elements.{Contains-append_left, Contains-append_right, Contains-append_cases}
-use Rattle.pn_join.specs.Marks.{Positions}
-use Rattle.pn_stream.specs.Positions.{DeliveryValue}
-use Rattle.pn_record.specs.declared.image.Image.{Image}
-use Rattle.pn_record.specs.Cells.{spell}
-use Rattle.pn_record.specs.CellMap.{Entries, table_of, adds}
+use Rattle.pn_record.specs.CellMap.{adds}
 use Rattle.pn_record.proofs.CellMaps.{table_of-nil}
-use Rattle.pn_tablet.specs.Layouts.{Bounds}
-use Rattle.pn_tablet.specs.Ranges.{Ends}
-use Rattle.pn_tablet.specs.Steps.{stepped}
-use Rattle.pn_tablet.specs.Tablets.{TabletStateValue, empty_tablet}
-use Rattle.pn_apply.specs.Applying.{all_stepped, AreOldOrStepped}
-use Rattle.pn_apply.specs.Reducing.{all_images, images_in, join_in, ranges}
 use Rattle.pn_apply.proofs.ReduceLaws.{range_joins}
-use Rattle.pn_region.specs.Laws.{HasImages, AreIn, IsBetween, HoldsBetween, AllHoldBetween, HasBetween}
-use Rattle.pn_region.specs.Regions.{RegionValue, IsTabletOf, AreTabletsOf, IsRegion, new_region}
-use Rattle.pn_region.specs.Rounds.{taking, IsHalfTaken}
+use Rattle.pn_region.specs.Laws.{IsBetween, HoldsBetween, AllHoldBetween}
+use Rattle.pn_region.specs.Rounds.{taking}
+use Rattle.pn_region.proofs.Common.{Positions, DeliveryValue, Image, spell, Entries, table_of, Bounds, Ends, stepped, TabletStateValue, empty_tablet, all_stepped, AreOldOrStepped, all_images, images_in, join_in, ranges, HasImages, AreIn, HasBetween, RegionValue, IsTabletOf, AreTabletsOf, IsRegion, new_region, IsHalfTaken}
 use Rattle.pn_region.proofs.HalfRounds.{half_so, left_as}
 use Rattle.pn_region.proofs.RoundSteps.{is_taken}
 
@@ -49,7 +39,7 @@ heads x y xs ys is = cc
 pub tails : {A : Type 0} (x y : A) (xs ys : List A) → x ∷ xs ≡ y ∷ ys → xs ≡ ys
 tails x y xs ys is = cc
 
-either_one : {A B P : Type 0} → (A → P) → (B → P) → A ⊎ B → P
+pub either_one : {A B P : Type 0} → (A → P) → (B → P) → A ⊎ B → P
 either_one first second (inl one) = first one
 either_one first second (inr other) = second other
 

@@ -1,4 +1,4 @@
--- What a log tells of what stands behind a number.
+-- The changes of a log after a number.
 use Rattle.std.proofs.Common.{◌≡◌, ◌⊎◌, inl, inr, ℕ, ◌+◌, ◌-◌, ◌<◌, ◌≤◌, min, nat_le, Bool, true, false, ◌&&◌, if◌then◌else◌, List, [], ◌∷◌, ◌++◌, length, drop, slice_get, Vec, Option, Some, None, option_map, refl, sym, ap, ◌∙◌, subst, arith, append_assoc, length-append, length-drop, drop-drop}
 use Rattle.std.specs.declared.alloc.Global.{Global}
 use Rattle.std.proofs.Math.Seq.{drop-append-add}
@@ -12,7 +12,7 @@ use Rattle.pn_region.specs.declared.entry.Entry.{Entry}
 use Rattle.pn_region.specs.declared.entry.Entry.TheVariants.{Changed, Break}
 use Rattle.pn_region.specs.declared.since.Notice.{Notice}
 use Rattle.pn_region.specs.declared.since.Since.TheVariants.{Notices, Missed}
-use Rattle.pn_region.specs.Log.{max_notices, last_number, entries_of, changes_in, is_recent, changes_behind, numbered}
+use Rattle.pn_region.specs.Log.{max_notices, last_number, entries_of, changes_in, is_recent, changes_after, numbered}
 use Rattle.pn_region.specs.Kept.{AreKept, IsLog}
 use Rattle.pn_region.specs.Since.{IsSince}
 
@@ -27,27 +27,27 @@ broken (Changed change ∷ before) after = ap (option_map (λ (l : List Change).
 broken (Break ∷ before) after = refl
 
 module _ (entries : List Entry) (kept : List Change) (are : AreKept entries kept) where
-  count : length entries ≡ length are.before + length are.behind
-  count = ap length are.parts ∙ length-append are.before (entries_of are.behind) ∙ ap (λ k. length are.before + k) (length-map are.behind Changed)
+  count : length entries ≡ length are.before + length are.later
+  count = ap length are.parts ∙ length-append are.before (entries_of are.later) ∙ ap (λ k. length are.before + k) (length-map are.later Changed)
 
-  kept_count : length kept ≡ length are.behind - (length are.behind - max_notices)
-  kept_count = ap length are.last ∙ length-drop (length are.behind - max_notices) are.behind
+  kept_count : length kept ≡ length are.later - (length are.later - max_notices)
+  kept_count = ap length are.last ∙ length-drop (length are.later - max_notices) are.later
 
   few_kept : length kept ≤ max_notices
   few_kept = omega (arith, kept_count)
 
-  -- what is kept behind a place are the changes behind a number
+  -- the changes kept from a place on are those after a number
   told : (n place : ℕ) → place ≤ length kept → n + length kept ≡ length entries + place → changes_in (drop n entries) ≡ Some (drop place kept)
   told n place within at =
       let m = n - length are.before in
       let reached : n ≡ length are.before + m = omega (arith, count, kept_count) in
-      let passed : (length are.behind - max_notices) + place ≡ m = omega (arith, count, kept_count) in
+      let passed : (length are.later - max_notices) + place ≡ m = omega (arith, count, kept_count) in
       (λ i. changes_in (drop (reached i) (are.parts i)))
-      ∙ ap changes_in (drop-append-add are.before (entries_of are.behind) m ∙ drop-map Changed m are.behind)
-      ∙ all_in (drop m are.behind)
-      ∙ ap Some (sym (ap (drop place) are.last ∙ drop-drop place (length are.behind - max_notices) are.behind ∙ ap (λ k. drop k are.behind) passed))
+      ∙ ap changes_in (drop-append-add are.before (entries_of are.later) m ∙ drop-map Changed m are.later)
+      ∙ all_in (drop m are.later)
+      ∙ ap Some (sym (ap (drop place) are.last ∙ drop-drop place (length are.later - max_notices) are.later ∙ ap (λ k. drop k are.later) passed))
 
-  -- behind a lower number there is a break
+  -- after a lower number there is a break
   untold : (n : ℕ) → n + length kept < length entries → length entries ≤ n + max_notices → changes_in (drop n entries) ≡ None
   untold n below recent =
       let lower : n < length are.before = omega (arith, count, kept_count) in
@@ -55,11 +55,11 @@ module _ (entries : List Entry) (kept : List Change) (are : AreKept entries kept
         | inl none ↦ let never : ⊥ = omega (arith, lower, ap length none) in absurd never
         | inr cut ↦
             let within : n ≤ length cut.0 = omega (arith, lower, ap length cut.1, length-append cut.0 (Break ∷ [])) in
-            let parts : entries ≡ cut.0 ++ Break ∷ entries_of are.behind =
-            are.parts ∙ ap (λ (es : List Entry). es ++ entries_of are.behind) cut.1 ∙ append_assoc cut.0 (Break ∷ []) (entries_of are.behind) in
+            let parts : entries ≡ cut.0 ++ Break ∷ entries_of are.later =
+            are.parts ∙ ap (λ (es : List Entry). es ++ entries_of are.later) cut.1 ∙ append_assoc cut.0 (Break ∷ []) (entries_of are.later) in
             ap (λ (es : List Entry). changes_in (drop n es)) parts
-            ∙ ap changes_in (drop-append-le n cut.0 (Break ∷ entries_of are.behind) within)
-            ∙ broken (drop n cut.0) (entries_of are.behind)
+            ∙ ap changes_in (drop-append-le n cut.0 (Break ∷ entries_of are.later) within)
+            ∙ broken (drop n cut.0) (entries_of are.later)
       ]
 
 pub le_true : (m n : ℕ) → m ≤ n → nat_le m n ≡ true
@@ -71,7 +71,7 @@ unless false value none = refl
 
 module _ (entries : List Entry) (last n : ℕ) (kept : Buffer Change) (is : IsLog entries last kept) where
   pub known : (place : ℕ) → last ≤ last_number → place ≤ length kept.items → n + length kept.items ≡ last + place
-      → changes_behind entries n ≡ Some (drop place kept.items)
+      → changes_after entries n ≡ Some (drop place kept.items)
   known place given within at =
       let are = is.are_kept (omega (arith, is.number)) in
       let all : last ≡ length entries = omega (arith, is.number) in
@@ -86,7 +86,7 @@ module _ (entries : List Entry) (last n : ℕ) (kept : Buffer Change) (is : IsLo
   gone there recent given (inr (inl past)) = let never : ⊥ = omega (arith, is.number) in absurd never
   gone there recent given (inr (inr lower)) = untold entries kept.items (is.are_kept given) n (omega (arith, is.number)) recent
 
-  pub unknown : (last_number < last) ⊎ ((last < n) ⊎ (n + length kept.items < last)) → changes_behind entries n ≡ None
+  pub unknown : (last_number < last) ⊎ ((last < n) ⊎ (n + length kept.items < last)) → changes_after entries n ≡ None
   unknown why = unless (is_recent entries n) (changes_in (drop n entries)) (λ (yet : is_recent entries n ≡ true).
       let parts = and_parts (nat_le n (length entries) && nat_le (length entries) (n + max_notices)) (nat_le (length entries) last_number) yet in
       let first = and_parts (nat_le n (length entries)) (nat_le (length entries) (n + max_notices)) parts.0 in
@@ -103,7 +103,7 @@ module _ (entries : List Entry) (last n : ℕ) (kept : Buffer Change) (is : IsLo
   pub misses : (next most : ℕ) → next ≡ min last last_number → most ≡ length kept.items → (last_number < last) ⊎ ((last < n) ⊎ (n + most < last)) → IsSince entries n (Missed next)
   misses next most at all why = (omega (arith, is.number), unknown (subst (λ k. (last_number < last) ⊎ ((last < n) ⊎ (n + k < last))) all why))
 
--- one more change is told
+-- one more change is numbered
 drop_got : {X : Type 0} (xs : List X) (i : ℕ) (x : X) → slice_get xs i ≡ Some x → drop i xs ≡ x ∷ drop (i + 1) xs
 drop_got xs i x got = drop_more xs i x (slice_get_within xs i x got) ∙ ap (λ y. y ∷ drop (i + 1) xs) (get_or_from_slice_get xs i x x got)
 

@@ -1,18 +1,10 @@
 -- All tablets together have the cells of all images.
 use Rattle.std.proofs.Common.{◌≡◌, List, [], ◌∷◌, refl, sym, ap, ◌∙◌, ◌⊎◌, inl, inr, Contains}
-use Rattle.std.specs.List.{flat_map}
 use Rattle.std.proofs.lemmas.List.Elements.{Contains-append_cases}
 use Rattle.std.proofs.lemmas.List.Folds.{flat_map-map}
-use Rattle.pn_record.specs.declared.image.Image.{Image}
-use Rattle.pn_record.specs.Cells.{SameImages}
-use Rattle.pn_record.specs.CellMap.{Entries, table_of}
-use Rattle.pn_tablet.specs.Layouts.{IsLayout}
-use Rattle.pn_tablet.specs.Ranges.{Ends}
-use Rattle.pn_tablet.specs.Tablets.{TabletStateValue}
-use Rattle.pn_apply.specs.Reducing.{images_in, ranges}
 use Rattle.pn_apply.proofs.ReduceLaws.{cells_cut, same_in}
-use Rattle.pn_region.specs.Laws.{HasImages, AreIn, IsBetween, AllHoldBetween, HasBetween}
-use Rattle.pn_region.specs.Regions.{RegionValue, all_cells}
+use Rattle.pn_region.specs.Laws.{IsBetween, AllHoldBetween}
+use Rattle.pn_region.proofs.Common.{flat_map, Image, SameImages, Entries, table_of, IsLayout, Ends, TabletStateValue, images_in, ranges, HasImages, AreIn, HasBetween, RegionValue, all_cells}
 use Rattle.pn_region.proofs.TakenImages.{cells_each, pieces_of}
 
 pub together : (region : RegionValue) (images : List Image) → IsLayout region.layout → HasImages region images → all_cells region ≡ table_of images

@@ -1,35 +1,20 @@
 -- A tablet that was lost, took what came and adopted a copy, beside one that was never lost.
 use Rattle.std.proofs.Common.{◌≡◌, ℕ, Bool, true, false, if◌then◌else◌, List, [], ◌∷◌, ◌++◌, fold, Option, None, Ok, Err, refl, sym, ap, ◌∙◌, subst}
-use Rattle.std.specs.FinMap.{find}
-use Rattle.pn_join.specs.Marks.{Positions, Reaches, raised}
-use Rattle.pn_record.specs.declared.image.Image.{Image}
-use Rattle.pn_record.specs.Order.{bytes_cmp}
-use Rattle.pn_record.specs.Sets.{CellValue}
-use Rattle.pn_record.specs.Cells.{cells, spell}
-use Rattle.pn_record.specs.CellMap.{Entries, table_of, adds}
+use Rattle.pn_record.specs.Cells.{cells}
+use Rattle.pn_record.specs.CellMap.{adds}
 use Rattle.pn_record.proofs.CellLists.{both, both-assoc, both-comm, cells-append, all_absorbed}
 use Rattle.pn_record.proofs.CellMaps.{Holds-table_of, cells-spelled, same_cells_table}
-use Rattle.pn_stream.specs.Brokers.{BrokerRecord, up_to}
-use Rattle.pn_tablet.specs.Copies.{TabletCopyValue}
 use Rattle.pn_tablet.specs.Laws.{AreJoins}
-use Rattle.pn_tablet.specs.Needs.{lacking}
-use Rattle.pn_tablet.specs.Ranges.{Ends}
-use Rattle.pn_tablet.specs.Steps.{taking, lost, step, after_step, stepped}
+use Rattle.pn_tablet.specs.Steps.{taking}
 use Rattle.pn_tablet.specs.Steps as steps
-use Rattle.pn_tablet.specs.Tablets.{TabletStateValue, lie_in, same_range}
-use Rattle.pn_tablet.specs.declared.fault.OpFault.TheVariants.{WrongRange}
-use Rattle.pn_tablet.specs.declared.op.TabletOp.{TabletOp}
-use Rattle.pn_tablet.specs.declared.op.TabletOp.TheVariants.{Join, Lose, Adopt}
 use Rattle.pn_tablet.specs.declared.state.Status.{Status}
-use Rattle.pn_tablet.specs.declared.state.Status.TheVariants.{Serving, Recovering}
 use Rattle.pn_tablet.proofs.Recovery.{nothing_short}
 use Rattle.pn_tablet.proofs.Stepping.{one_range}
 use Rattle.pn_tablet.proofs.TabletLaws.{adopted}
-use Rattle.pn_apply.specs.Reducing.{images_in}
 use Rattle.pn_apply.proofs.ReduceLaws.{same_in}
-use Rattle.pn_region.specs.Faith.{IsFaithful}
 use Rattle.pn_region.specs.Held.{HoldsStill}
 use Rattle.pn_region.specs.Honest.{IsHonestCopy}
+use Rattle.pn_region.proofs.Common.{find, Positions, Reaches, raised, Image, bytes_cmp, CellValue, spell, Entries, table_of, BrokerRecord, up_to, TabletCopyValue, lacking, Ends, lost, step, after_step, stepped, TabletStateValue, lie_in, same_range, WrongRange, TabletOp, Join, Lose, Adopt, Serving, Recovering, images_in, IsFaithful}
 use Rattle.pn_region.proofs.Events.{up_to_more}
 use Rattle.pn_region.proofs.FaithfulCopies.{was_so, serving_has_all}
 use Rattle.pn_region.proofs.InRange.{more_in}

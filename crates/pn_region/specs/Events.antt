@@ -1,4 +1,4 @@
--- What happens to a region, one event after another.
+-- Sequences of events of a region.
 use Rattle.std.specs.Prelude.{◌≡◌, ℕ, List, [], ◌∷◌, Ok}
 use Rattle.std.specs.List.{AllByRecursion}
 use Rattle.pn_stream.specs.Brokers.{BrokerRecord, AreHonest}
@@ -9,7 +9,7 @@ use Rattle.pn_region.specs.Recovery.{losing, adopting}
 use Rattle.pn_region.specs.Regions.{RegionValue}
 use Rattle.pn_region.specs.Rounds as rounds
 
--- a round of deliveries, one that ran out of memory, the loss of the tablet of a number, or the adoption of a copy
+-- a round, a round that ran out of memory, the loss of a tablet, or the adoption of a copy
 pub data RegionEvent : Type 0 where
   round : List DeliveryValue → RegionEvent
   half_round : List DeliveryValue → RegionEvent
@@ -29,7 +29,7 @@ LeadsTo (half_round deliveries) old new = rounds.IsHalfTaken old deliveries new
 LeadsTo (loss tablet) old new = new ≡ losing old tablet
 LeadsTo (adoption copy) old new = IsAdoption copy old new
 
--- so do events, one after another
+-- the events lead from one region to another, one after another
 abbrev pub AllLeadTo : List RegionEvent → RegionValue → RegionValue → Type 0
 AllLeadTo [] old new = new ≡ old
 AllLeadTo (event ∷ events) old new = (next : RegionValue) × LeadsTo event old next × AllLeadTo events next new

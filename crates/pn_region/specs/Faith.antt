@@ -9,7 +9,7 @@ use Rattle.pn_tablet.specs.Tablets.{TabletStateValue}
 use Rattle.pn_apply.specs.Reducing.{images_in}
 use Rattle.pn_region.specs.Laws.{AreIn}
 
--- a faithful tablet: its cells are those, in its range, of images that stand up to its cover, and it lacks none of these but such as it needs
+-- its cells are those of published images up to its cover, in its range, and all that it lacks of these it needs
 pub record IsFaithful (broker : BrokerRecord) (tablet : TabletStateValue) : Type 0 where
   pub images : List Image
   pub cells : tablet.cells ≡ table_of (images_in tablet.range images)

@@ -1,4 +1,4 @@
--- Records that are held still.
+-- Records that are still held.
 use Rattle.std.specs.Prelude.{◌≡◌, ◌⊎◌, IsTrue, Option, None, Some}
 use Rattle.std.specs.FinMap.{contains_key}
 use Rattle.std.specs.Ordering.{is_lt}
@@ -6,7 +6,7 @@ use Rattle.pn_record.specs.Limits.{ContentValue}
 use Rattle.pn_record.specs.Order.{version_cmp}
 use Rattle.pn_record.specs.Sets.{CellValue}
 
--- where there was a record there is one still: of a greater version, or of the same with all contents that it had
+-- a record is still there: at a greater version, or at the same one with all its contents
 abbrev pub HoldsStill : Option CellValue → Option CellValue → Type 0
 HoldsStill None now = Unit {0}
 HoldsStill (Some was) None = ⊥

@@ -1,4 +1,4 @@
--- What was added to a history.
+-- The items of a history.
 use Rattle.std.specs.Prelude.{List, [], ◌∷◌, ◌++◌}
 use Rattle.pn_region.specs.declared.history.Past.{Past, After', Start}
 

@@ -6,24 +6,24 @@ use Rattle.pn_region.specs.declared.entry.Entry.{Entry}
 use Rattle.pn_region.specs.declared.entry.Entry.TheVariants.{Changed, Break}
 use Rattle.pn_region.specs.Log.{max_notices, last_number, entries_of}
 
--- there is nothing, or a break at the end
+-- there are no entries, or the last one is a break
 abbrev pub EndsInBreak : List Entry → Type 0
 EndsInBreak entries = (entries ≡ []) ⊎ ((before : List Entry) × (entries ≡ before ++ Break ∷ []))
 
--- the last changes behind the last break are kept
+-- the last changes after the last break are kept
 pub record AreKept (entries : List Entry) (kept : List Change) : Type 0 where
   pub before : List Entry
-  pub behind : List Change
-  pub parts : entries ≡ before ++ entries_of behind
+  pub later : List Change
+  pub parts : entries ≡ before ++ entries_of later
   pub is_cut : EndsInBreak before
-  pub last : kept ≡ keep_last max_notices behind
+  pub last : kept ≡ keep_last max_notices later
 
--- the changes that are kept once there is one more entry
+-- the changes that are kept after one more entry
 abbrev pub kept_with : Entry → ℕ → List Change → List Change
 kept_with (Changed change) most kept = keep_last most (kept ++ change ∷ [])
 kept_with Break most kept = []
 
--- what a log has: the number of its last entry, at most one above the greatest, and the changes that it keeps
+-- a log has the number of its last entry, or one above the greatest number, and the changes that it keeps
 pub record IsLog (entries : List Entry) (last : ℕ) (kept : Buffer Change) : Type 0 where
   pub number : last ≡ min (length entries) (suc last_number)
   pub capacity : kept.capacity ≡ max_notices

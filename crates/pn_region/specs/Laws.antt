@@ -1,4 +1,4 @@
--- The words of the laws of regions.
+-- What the laws of regions speak of.
 use Rattle.std.specs.Prelude.{◌≡◌, ◌⊎◌, ℕ, ◌+◌, ◌≤◌, ◌<◌, length, List, [], ◌∷◌, ◌++◌, map, Contains}
 use Rattle.std.specs.Ordering.{eq_by_cmp}
 use Rattle.std.specs.Set.{distinct_count}
@@ -20,22 +20,22 @@ HasImages region images = map (λ tablet. tablet.cells) region.tablets ≡ map (
 abbrev pub AreIn : List Image → List Image → Type 0
 AreIn images others = (image : Image) → Contains images image → Contains others image
 
--- the images have all of the sure ones, and none but the sure ones and those that may be there
+-- the images have all the sure ones, and else only those that may be there
 pub record IsBetween (sure maybe images : List Image) : Type 0 where
   pub all : AreIn sure images
   pub no_others : AreIn images (sure ++ maybe)
 
--- the cells are those, in the range, of a list of images that has all of the sure ones and none but those of both
+-- the cells are those, in the range, of images between the sure ones and both
 abbrev pub HoldsBetween : List Image → List Image → Ends → Entries → Type 0
 HoldsBetween sure maybe range cells = (images : List Image) × IsBetween sure maybe images × (cells ≡ table_of (images_in range images))
 
--- each range has its own tablet, in their order, whose cells are those of such a list
+-- each range has its own tablet, in order, whose cells are those of such images
 abbrev pub AllHoldBetween : List Image → List Image → List Ends → List TabletStateValue → Type 0
 AllHoldBetween sure maybe [] [] = Unit {0}
 AllHoldBetween sure maybe (range ∷ others) (tablet ∷ tablets) = HoldsBetween sure maybe range tablet.cells × AllHoldBetween sure maybe others tablets
 AllHoldBetween sure maybe _ _ = ⊥
 
--- each tablet has the cells, in its range, of a list of images that has all of the sure ones and none but those of both
+-- each tablet has the cells, in its range, of images between the sure ones and both
 abbrev pub HasBetween : List Image → List Image → RegionValue → Type 0
 HasBetween sure maybe region = AllHoldBetween sure maybe (ranges region.layout) region.tablets
 
@@ -47,11 +47,11 @@ pub record HasPosition (deliveries : List DeliveryValue) (name : List ℕ) (posi
   pub from : delivery.first ≤ position
   pub before : position < delivery.first + length delivery.images
 
--- the names of the marks, and those of the deliveries that bring images
+-- the streams of the marks, and those of the deliveries with images
 abbrev pub named : Positions → List DeliveryValue → List (List ℕ)
 named marks deliveries = map (λ mark. mark.0) marks ++ map (λ delivery. delivery.stream) (bringing deliveries)
 
--- how many streams these name
+-- how many different streams these are
 abbrev pub stream_count : Positions → List DeliveryValue → ℕ
 stream_count marks deliveries = distinct_count (eq_by_cmp name_cmp) (named marks deliveries)
 
@@ -59,13 +59,13 @@ stream_count marks deliveries = distinct_count (eq_by_cmp name_cmp) (named marks
 abbrev pub WasTaken : Positions → List DeliveryValue → List ℕ → ℕ → Type 0
 WasTaken marks deliveries name position = (position ≤ position_of marks name) ⊎ HasPosition deliveries name position
 
--- each delivery that has images finds all positions of its stream below its own taken before it
+-- before each delivery with images all lower positions of its stream are taken
 abbrev pub HasNoGap : Positions → List DeliveryValue → Type 0
 HasNoGap marks deliveries = (before : List DeliveryValue) (delivery : DeliveryValue) (after : List DeliveryValue) (position : ℕ)
     → deliveries ≡ before ++ delivery ∷ after → 0 < length delivery.images → position < delivery.first
     → WasTaken marks before delivery.stream position
 
--- behind deliveries without a gap stands one that begins past a position that its stream wants first
+-- the first gap: deliveries without one, then a delivery that begins past its stream's next position
 pub record IsGap (marks : Positions) (deliveries : List DeliveryValue) (stream : List ℕ) (wanted got : ℕ) : Type 0 where
   pub before : List DeliveryValue
   pub delivery : DeliveryValue

@@ -1,6 +1,5 @@
 pub mod Events
 pub mod Faith
-pub mod Faults
 pub mod Held
 pub mod Histories
 pub mod Honest

@@ -1,4 +1,4 @@
--- How many there can be.
+-- The limits of a region.
 use Rattle.std.specs.Prelude.{ℕ}
 
 -- the most streams that a region takes

@@ -1,11 +1,11 @@
--- What a log tells of its entries.
+-- The answers of a log.
 use Rattle.std.specs.Prelude.{ℕ, ◌+◌, ◌^◌, min, nat_le, Bool, ◌&&◌, if◌then◌else◌, List, [], ◌∷◌, length, drop, map, Option, None, Some, option_map}
 use Rattle.pn_tablet.specs.declared.change.Change.{Change}
 use Rattle.pn_region.specs.declared.entry.Entry.{Entry}
 use Rattle.pn_region.specs.declared.entry.Entry.TheVariants.{Changed, Break}
 use Rattle.pn_region.specs.declared.since.Notice.{Notice}
 
--- the most notices that are given
+-- the most notices of an answer
 abbrev pub max_notices : ℕ
 max_notices = 1024
 
@@ -17,21 +17,21 @@ last_number = 10 ^ 18
 abbrev pub entries_of : List Change → List Entry
 entries_of changes = map Changed changes
 
--- the changes that entries are, where none of them is a break
+-- the changes of the entries, or none if one of them is a break
 abbrev pub changes_in : List Entry → Option (List Change)
 changes_in [] = Some []
 changes_in (Changed change ∷ entries) = option_map (λ changes. change ∷ changes) (changes_in entries)
 changes_in (Break ∷ entries) = None
 
--- the number is one of the last that were given, and the numbers are not at their end
+-- at most 1,024 numbers follow the number, and no entry came after the last number
 abbrev pub is_recent : List Entry → ℕ → Bool
 is_recent entries n = nat_le n (length entries) && nat_le (length entries) (n + max_notices) && nat_le (length entries) last_number
 
--- the changes behind a number, where they can be told
-abbrev pub changes_behind : List Entry → ℕ → Option (List Change)
-changes_behind entries n = if is_recent entries n then changes_in (drop n entries) else None
+-- the changes after a number, if they are recent and without a break
+abbrev pub changes_after : List Entry → ℕ → Option (List Change)
+changes_after entries n = if is_recent entries n then changes_in (drop n entries) else None
 
--- changes as notices, numbered from the one behind the number on
+-- changes as notices, numbered from the next number on
 abbrev pub numbered : ℕ → List Change → List Notice
 numbered n [] = []
 numbered n (change ∷ changes) = record { number = n + 1; change = change } ∷ numbered (n + 1) changes

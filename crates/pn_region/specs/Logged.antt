@@ -18,7 +18,7 @@ pub record LoggedRegion : Type 0 where
 abbrev pub new_logged : Bounds → LoggedRegion
 new_logged bounds = record { state = new_region bounds; log = [] }
 
--- the log after what changed from one state of a region to another, in key order
+-- the log after the changes from one state of a region to another, in key order
 abbrev pub noting : List Entry → RegionValue → RegionValue → List Entry
 noting log old new = log ++ entries_of (changes (all_cells old) (all_cells new))
 
@@ -26,7 +26,7 @@ noting log old new = log ++ entries_of (changes (all_cells old) (all_cells new))
 abbrev pub breaking : List Entry → List Entry
 breaking log = log ++ Break ∷ []
 
--- the log after a round that was refused: one that ran out of memory leaves a break, since tablets may have changed
+-- the log after a refused round: out of memory leaves a break, since tablets may have changed
 abbrev pub refused_log : List Entry → RoundFault → List Entry
 refused_log log Memory = breaking log
 refused_log log _ = log

@@ -19,11 +19,11 @@ bringing deliveries = filter brings deliveries
 abbrev pub last_position : DeliveryValue → ℕ
 last_position delivery = pred (delivery.first + length delivery.images)
 
--- the same, where there are images
+-- the position of the last image, if there is one
 abbrev pub last_of : DeliveryValue → Option ℕ
 last_of delivery = if brings delivery then Some (last_position delivery) else None
 
--- the same, where they are of the stream
+-- the position of the last image, if it is of the stream
 abbrev pub last_of_stream : List ℕ → DeliveryValue → Option ℕ
 last_of_stream stream delivery = if eq_by_cmp name_cmp stream delivery.stream then last_of delivery else None
 
@@ -47,7 +47,7 @@ marks_after marks (delivery ∷ deliveries) =
     then Err (Gap delivery.stream (position_of marks delivery.stream + 1) delivery.first)
     else marks_after (marked marks delivery) deliveries
 
--- marks of no more streams than a region takes
+-- the marks, unless they are of more streams than a region takes
 abbrev pub of_few_streams : Result Positions RoundFault → Result Positions RoundFault
 of_few_streams (Ok marks) = if nat_lt max_streams (length marks) then Err TooManyStreams else Ok marks
 of_few_streams (Err fault) = Err fault

@@ -1,5 +1,5 @@
--- What losses and adoptions make of a region.
-use Rattle.std.specs.Prelude.{ℕ, zero, suc, Bool, true, false, List, [], ◌∷◌, slice_get, Option, None, Some, Result, Ok, Err}
+-- Regions after losses and adoptions.
+use Rattle.std.specs.Prelude.{ℕ, zero, suc, List, [], ◌∷◌, slice_get, Option, None, Some, Result, Ok, Err}
 use Rattle.std.specs.List.{position}
 use Rattle.std.specs.Option.{option_and_then}
 use Rattle.pn_tablet.specs.Copies.{TabletCopyValue}
@@ -10,46 +10,41 @@ use Rattle.pn_tablet.specs.declared.needs.Short.{Short}
 use Rattle.pn_tablet.specs.declared.op.TabletOp.{TabletOp}
 use Rattle.pn_tablet.specs.declared.op.TabletOp.TheVariants.{Lose, Adopt}
 use Rattle.pn_region.specs.Regions.{RegionValue}
-use Rattle.pn_region.specs.declared.fault.AdoptFault.{AdoptFault}
-use Rattle.pn_region.specs.declared.fault.AdoptFault.TheVariants.{WrongRange, TooOld, Memory}
+use Rattle.pn_tablet.specs.declared.fault.OpFault.{OpFault}
+use Rattle.pn_tablet.specs.declared.fault.OpFault.TheVariants.{WrongRange, TooOld}
 
--- the tablets after an operation on the one of this number
+-- the tablets after an operation on the one with this number
 abbrev pub stepped_at : ℕ → TabletOp → List TabletStateValue → List TabletStateValue
 stepped_at tablet op [] = []
 stepped_at zero op (state ∷ states) = stepped state op ∷ states
 stepped_at (suc tablet) op (state ∷ states) = state ∷ stepped_at tablet op states
 
--- the region after an operation on the tablet of this number
+-- the region after an operation on the tablet with this number
 abbrev pub stepping : RegionValue → ℕ → TabletOp → RegionValue
 stepping region tablet op = record region { tablets = stepped_at tablet op region.tablets }
 
--- the region after a loss of the tablet of this number
+-- the region after a loss of the tablet with this number
 abbrev pub losing : RegionValue → ℕ → RegionValue
 losing region tablet = stepping region tablet Lose
 
--- the number of the tablet that has the copy's range, if one has it
+-- the number of the tablet with the copy's range
 abbrev pub tablet_for : RegionValue → TabletCopyValue → Option ℕ
 tablet_for region copy = position (λ state. same_range state.range copy.range) region.tablets
 
--- what the copy lacks of what the tablet of this number needs
+-- the first stream in which the copy does not reach what the tablet needs
 abbrev pub lacks : RegionValue → TabletCopyValue → ℕ → Option Short
 lacks region copy tablet = option_and_then (λ state. lacking state.status copy.marks) (slice_get region.tablets tablet)
 
--- the tablet takes the copy, unless that lacks something of what the tablet needs
-abbrev pub adopting_unless : RegionValue → TabletCopyValue → ℕ → Option Short → Result (ℕ × RegionValue) AdoptFault
+-- the tablet takes the copy, unless the copy falls short
+abbrev pub adopting_unless : RegionValue → TabletCopyValue → ℕ → Option Short → Result (ℕ × RegionValue) OpFault
 adopting_unless region copy tablet None = Ok (tablet, stepping region tablet (Adopt copy))
 adopting_unless region copy tablet (Some short) = Err (TooOld short.stream short.has short.wanted)
 
 -- the tablet that was found takes the copy, or none was found
-abbrev pub adopting_by : RegionValue → TabletCopyValue → Option ℕ → Result (ℕ × RegionValue) AdoptFault
+abbrev pub adopting_by : RegionValue → TabletCopyValue → Option ℕ → Result (ℕ × RegionValue) OpFault
 adopting_by region copy None = Err WrongRange
 adopting_by region copy (Some tablet) = adopting_unless region copy tablet (lacks region copy tablet)
 
--- the tablet of the copy's range, and the region after it took the copy, or why the copy is refused
-abbrev pub adopting : RegionValue → TabletCopyValue → Result (ℕ × RegionValue) AdoptFault
+-- the number of the tablet that takes the copy and the region then, or why the copy is refused
+abbrev pub adopting : RegionValue → TabletCopyValue → Result (ℕ × RegionValue) OpFault
 adopting region copy = adopting_by region copy (tablet_for region copy)
-
--- the fault says that memory ran out
-abbrev pub is_memory : AdoptFault → Bool
-is_memory Memory = true
-is_memory _ = false

@@ -10,7 +10,7 @@ use Rattle.pn_tablet.specs.Tablets.{TabletStateValue, empty_tablet, lie_in}
 use Rattle.pn_apply.specs.Reducing.{ranges}
 use Rattle.pn_region.specs.Limits.{max_streams}
 
--- a layout, the tablets of its ranges, and how far streams were taken
+-- a layout, the tablets of its ranges, and the marks
 pub record RegionValue : Type 0 where
   pub layout : Bounds
   pub tablets : List TabletStateValue
@@ -28,18 +28,18 @@ pub record IsPartOf (marks : Positions) (ends : Ends) (tablet : TabletStateValue
   pub range : tablet.range ≡ ends
   pub covered : Reaches tablet.cover marks
 
--- there is one tablet for each range, in their order
+-- there is one tablet for each range, in order
 abbrev pub ArePartsOf : Positions → List Ends → List TabletStateValue → Type 0
 ArePartsOf marks [] [] = Unit {0}
 ArePartsOf marks (range ∷ others) (tablet ∷ tablets) = IsPartOf marks range tablet × ArePartsOf marks others tablets
 ArePartsOf marks _ _ = ⊥
 
--- its keys lie in its range, and its cells are those of images, as every tablet's are
+-- its keys lie in its range, and its cells are those of images
 pub record IsSound (tablet : TabletStateValue) : Type 0 where
   pub inside : IsTrue (lie_in tablet.range tablet.cells)
   pub spelled : IsSpelled tablet.cells
 
--- each range has its own tablet, in their order
+-- each range has its own tablet, in order
 abbrev pub AreTabletsOf : Positions → List Ends → List TabletStateValue → Type 0
 AreTabletsOf marks [] [] = Unit {0}
 AreTabletsOf marks (range ∷ others) (tablet ∷ tablets) = IsTabletOf marks range tablet × AreTabletsOf marks others tablets
@@ -50,12 +50,12 @@ pub record IsRegion (region : RegionValue) : Type 0 where
   pub lawful : IsLayout region.layout
   pub tablets : AreTabletsOf region.marks (ranges region.layout) region.tablets
 
--- what holds of a region's own marks: they are of few enough streams, and each position is that of a message
+-- marks of at most 16 streams, whose positions are those of messages
 pub record AreRegionMarks (marks : Positions) : Type 0 where
   pub few : length marks ≤ max_streams
   pub positions : IsTrue (are_positions marks)
 
--- what holds of every region's fields
+-- a region with such marks
 pub record IsLawfulRegion (region : RegionValue) : Type 0 where
   pub is_region : IsRegion region
   pub are_marks : AreRegionMarks region.marks

@@ -1,4 +1,4 @@
--- What a round makes of a region.
+-- Regions after rounds.
 use Rattle.std.specs.Prelude.{◌≡◌, ℕ, List, length, Result, MatchResult}
 use Rattle.std.specs.Result.{result_map_both}
 use Rattle.pn_join.specs.Marks.{Positions}
@@ -12,7 +12,7 @@ use Rattle.pn_region.specs.Regions.{RegionValue, all_cells}
 use Rattle.pn_region.specs.declared.fault.RoundFault.{RoundFault}
 use Rattle.pn_region.specs.declared.fault.RoundFault.TheVariants.{Memory}
 
--- what the deliveries bring to each tablet of the region: the cells of their images in its range, and the new marks
+-- the join for each tablet: the cells of the images in its range, and the new marks
 abbrev pub joins : RegionValue → List DeliveryValue → Positions → List TabletOp
 joins region deliveries marks = joins_of region.layout marks (all_images deliveries)
 
@@ -28,14 +28,14 @@ round region deliveries = result_map_both (taking region deliveries) (λ fault. 
 abbrev pub changed : RegionValue → RegionValue → ℕ
 changed old new = length (changes (all_cells old) (all_cells new))
 
--- each tablet is as it was, or has taken its join where the round is not refused
+-- each tablet is as it was, or has taken its join if the round is not refused
 abbrev pub IsHalfTaken : RegionValue → List DeliveryValue → RegionValue → Type 0
 IsHalfTaken old deliveries new = (new.layout ≡ old.layout) × (new.marks ≡ old.marks)
     × MatchResult (new_marks old.marks deliveries)
     (λ marks. AreOldOrStepped old.tablets (joins old deliveries marks) new.tablets)
     (λ fault. new.tablets ≡ old.tablets)
 
--- what a fault leaves: where memory ran out some tablets may have taken their joins, and every other changes nothing
+-- after out of memory some tablets may have taken their joins; other faults change nothing
 abbrev pub Leaves : RoundFault → RegionValue → List DeliveryValue → RegionValue → Type 0
 Leaves Memory old deliveries new = IsHalfTaken old deliveries new
 Leaves _ old deliveries new = new ≡ old

@@ -1,4 +1,4 @@
--- Regions of which no tablet is recovering, and pages of a region that follow one another.
+-- Regions whose tablets all serve, and pages that follow one another.
 use Rattle.std.specs.Prelude.{◌≡◌, ℕ, List, Option, Ok, slice_get, IsSomeAnd}
 use Rattle.std.specs.List.{AllByRecursion}
 use Rattle.pn_tablet.specs.Layouts.{tablet_of}
@@ -17,6 +17,6 @@ AllServe region = AllByRecursion (λ tablet. tablet.status ≡ Serving) region.t
 abbrev pub ServesAt : RegionValue → List ℕ → Type 0
 ServesAt region key = IsSomeAnd (slice_get region.tablets (tablet_of region.layout key)) (λ tablet. tablet.status ≡ Serving)
 
--- pages of the region, each that of the continuation before it
+-- pages of the region, each continuing the one before
 abbrev pub ArePagesOf : RegionValue → Option QueryValue → List PageValue → Type 0
 ArePagesOf region asked pages = ArePages (λ query page. page_in region query ≡ Ok page) asked pages

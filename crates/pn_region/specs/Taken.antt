@@ -1,4 +1,4 @@
--- The images that events take, and what covers tell of them.
+-- The images that events take, and the covers that reach them.
 use Rattle.std.specs.Prelude.{List, [], ◌++◌, Contains, IsTrue}
 use Rattle.std.specs.List.{AllByRecursion, flat_map}
 use Rattle.pn_record.specs.declared.image.Image.{Image}
@@ -17,7 +17,7 @@ taken_by broker _ = []
 abbrev pub all_taken : BrokerRecord → List RegionEvent → List Image
 all_taken broker events = flat_map (taken_by broker) events
 
--- the images that an event may leave in some tablets: those of a round that ran out of memory
+-- the images that an event may have left in some tablets: those of a round that ran out of memory
 abbrev pub left_by : RegionEvent → List Image
 left_by (half_round deliveries) = all_images deliveries
 left_by _ = []
@@ -25,12 +25,12 @@ left_by _ = []
 abbrev pub all_left : List RegionEvent → List Image
 all_left events = flat_map left_by events
 
--- in a tablet's range, the cover has reached each image that was taken, and it has reached none but these and such as may have been left
+-- in its range, a tablet's cover reaches each image taken, and else only images that may have been left
 pub record CoverTells (broker : BrokerRecord) (taken left : List Image) (tablet : TabletStateValue) : Type 0 where
   pub all : (image : Image) → Contains taken image → IsTrue (in_range tablet.range image.key) → Contains (up_to broker tablet.cover) image
   pub no_others : (image : Image) → Contains (up_to broker tablet.cover) image → IsTrue (in_range tablet.range image.key) → Contains (taken ++ left) image
 
--- so does the cover of each tablet
+-- the cover of each tablet does
 abbrev pub CoversTell : BrokerRecord → List Image → List Image → List TabletStateValue → Type 0
 CoversTell broker taken left tablets = AllByRecursion (CoverTells broker taken left) tablets
 
@@ -40,6 +40,6 @@ IsRound (round deliveries) = Unit {0}
 IsRound (half_round deliveries) = Unit {0}
 IsRound _ = ⊥
 
--- all are rounds
+-- all events are rounds
 abbrev pub AreRounds : List RegionEvent → Type 0
 AreRounds events = AllByRecursion IsRound events

@@ -1,12 +1,12 @@
-//! What happens to the records of a region, as its log has it.
+//! The entries of a region's log.
 
 use pn_tablet::Change;
 
-/// An entry of a log. Each has a number, from 1.
+/// An entry of a log. Entries are numbered from 1.
 #[derive(Drop)]
 pub enum Entry {
     /// A round changed a record.
     Changed(Change),
-    /// Records may have changed without a notice of it.
+    /// Records may have changed without notices.
     Break,
 }

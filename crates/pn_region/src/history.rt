@@ -1,17 +1,17 @@
-//! A list that clauses see, and that is not stored.
+//! A list that clauses see and that is not stored.
 
 ghost use Rattle.std.specs.Prelude.{◌≡◌, [], ◌∷◌, ◌++◌};
 
 use std::marker::Model;
 use std::snapshot::Snapshot;
 
-/// What was added one after another, as clauses see it. It takes no memory.
+/// All items that were added, in order, as clauses see them. Nothing is stored.
 #[derive(Drop)]
 pub struct History<T> {
     past: Past<T>,
 }
 
-// What was added: nothing, or an item behind what was added before.
+// Nothing, or an item after those before it.
 #[derive(Drop)]
 enum Past<T> {
     Start,
@@ -32,7 +32,7 @@ impl<T> Model for History<T> {
 }
 
 impl<T> History<T> {
-    /// Nothing was added.
+    /// An empty history.
     pub fn new() -> History<T>
         ensures { result ≡ [] }
     {

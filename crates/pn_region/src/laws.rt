@@ -27,14 +27,14 @@ ghost use Rattle.pn_region.specs.Regions.{RegionValue, IsRegion, new_region, all
 ghost use Rattle.pn_region.specs.Rounds.{taking, IsHalfTaken};
 ghost use Rattle.pn_region.specs.declared.fault.RoundFault.TheVariants.{Gap, TooManyStreams, Memory};
 
-/// The new region of a layout is one, and has the cells of no image.
+/// A new region is a region, and has the cells of no image.
 pub fn a_new_region_has_taken_nothing()
     ensures regions { (bounds : Bounds) → IsLayout bounds → IsRegion (new_region bounds) }
     ensures images { (bounds : Bounds) → HasImages (new_region bounds) [] }
     ensures between { (bounds : Bounds) → HasBetween [] [] (new_region bounds) }
 {}
 
-/// A region stays one in every round, also in one that ends out of memory.
+/// Every round leaves a region, also one that runs out of memory.
 pub fn a_round_leaves_a_region()
     ensures taken { (region : RegionValue) (deliveries : List DeliveryValue) (marks : Positions)
         → IsRegion region → IsRegion (taking region deliveries marks) }
@@ -42,8 +42,8 @@ pub fn a_round_leaves_a_region()
         → IsRegion old → IsHalfTaken old deliveries new → IsRegion new }
 {}
 
-/// A round takes its images beside those that were taken before. One that ends out of memory may have taken
-/// them, each tablet for itself.
+/// A round adds its images to those taken before. One that runs out of memory may have added them in some
+/// tablets.
 pub fn a_round_takes_its_images()
     ensures images { (region : RegionValue) (deliveries : List DeliveryValue) (marks : Positions) (taken : List Image)
         → IsRegion region → HasImages region taken
@@ -56,15 +56,17 @@ pub fn a_round_takes_its_images()
         → HasBetween sure (maybe ++ all_images deliveries) new }
 {}
 
-/// The cells of all tablets, one after another, are in key order, each key once, and they are those of the
-/// images that spell them. So they are in every region, also after a round that ended out of memory.
+/// The cells of all tablets, one after another, are in key order, each key once, also after a round that ran out
+/// of memory.
+///
+/// They are those of the images that spell them.
 pub fn all_cells_are_in_key_order()
     ensures rising { (region : RegionValue) → IsRegion region → IsTrue (is_sorted bytes_cmp (all_cells region)) }
     ensures spelled { (region : RegionValue) → IsRegion region → IsSpelled (all_cells region) }
 {}
 
-/// The cells of all tablets, one after another, are those of all images that were taken. So they are once
-/// each image that may have been taken surely was.
+/// The cells of all tablets, one after another, are those of all images taken, once each image that may have
+/// been taken surely was.
 pub fn all_cells_are_those_of_the_images_taken()
     ensures images { (region : RegionValue) (images : List Image)
         → IsLayout region.layout → HasImages region images → all_cells region ≡ table_of images }
@@ -73,7 +75,7 @@ pub fn all_cells_are_those_of_the_images_taken()
         → all_cells region ≡ table_of sure }
 {}
 
-/// No round takes a record away or leaves it at an older version, nor does one that ends out of memory.
+/// No round removes a record or leaves it at an older version, not even one that runs out of memory.
 pub fn a_round_never_goes_back()
     ensures taken { (region : RegionValue) (deliveries : List DeliveryValue) (marks : Positions)
         → IsRegion region → (key : List ℕ)
@@ -83,7 +85,7 @@ pub fn a_round_never_goes_back()
         → NotOlder (find bytes_cmp key (all_cells old)) (find bytes_cmp key (all_cells new)) }
 {}
 
-/// The tablet that the layout names for a key is there, and what it has at the key is what all tablets have.
+/// A key's tablet exists, and has the cell at the key that all tablets together have.
 pub fn the_tablet_of_a_key_has_its_cell()
     ensures there { (region : RegionValue) (key : List ℕ)
         → IsRegion region → IsSome (slice_get region.tablets (tablet_of region.layout key)) }
@@ -92,7 +94,7 @@ pub fn the_tablet_of_a_key_has_its_cell()
         → find bytes_cmp key tablet.cells ≡ find bytes_cmp key (all_cells region) }
 {}
 
-/// Each position that the marks go past stands in one of the deliveries.
+/// Each position that new marks go past is in one of the deliveries.
 pub fn no_position_is_skipped()
     ensures { (marks next : Positions) (deliveries : List DeliveryValue) (name : List ℕ) (position : ℕ)
         → new_marks marks deliveries ≡ Ok next
@@ -100,7 +102,7 @@ pub fn no_position_is_skipped()
         → HasPosition deliveries name position }
 {}
 
-/// New marks are nowhere below those before, nor below the last position of any delivery that has images.
+/// New marks are nowhere below the old ones, nor below the last position of a delivery with images.
 pub fn marks_take_the_greatest()
     ensures before { (marks next : Positions) (deliveries : List DeliveryValue)
         → new_marks marks deliveries ≡ Ok next → Reaches next marks }
@@ -109,8 +111,8 @@ pub fn marks_take_the_greatest()
         → last_position delivery ≤ position_of next delivery.stream }
 {}
 
-/// A gap is answered exactly where a delivery begins past a position of its stream that was not taken before it:
-/// the first such delivery, and the first position that it lacks.
+/// `Gap` comes exactly where a delivery begins past a position of its stream that was not taken before. It names
+/// the first such delivery and the first missing position.
 pub fn a_gap_is_a_missing_position()
     ensures none { (marks next : Positions) (deliveries : List DeliveryValue)
         → new_marks marks deliveries ≡ Ok next → HasNoGap marks deliveries }
@@ -120,8 +122,10 @@ pub fn a_gap_is_a_missing_position()
         → new_marks marks deliveries ≡ Err (Gap stream wanted got) → IsGap marks deliveries stream wanted got }
 {}
 
-/// Over marks whose names rise: new marks have as many names as the marks and the deliveries with images name
-/// streams, and at most 16. Where there are too many streams they are more. Besides these two only a gap is answered.
+/// New marks name the streams of the marks and of the deliveries with images, at most 16. `TooManyStreams` comes
+/// where there are more. Besides it only `Gap` comes.
+///
+/// The names of the marks rise.
 pub fn new_marks_name_at_most_16_streams()
     ensures few { (marks next : Positions) (deliveries : List DeliveryValue)
         → IsTrue (is_sorted name_cmp marks) → new_marks marks deliveries ≡ Ok next
@@ -133,8 +137,8 @@ pub fn new_marks_name_at_most_16_streams()
         → new_marks marks deliveries ≡ Err Memory → ⊥ }
 {}
 
-/// A new region's tablets are faithful, whatever brokers published. A round of honest deliveries keeps tablets
-/// faithful, and so does one that ends out of memory.
+/// A new region's tablets are faithful to any broker. A round of honest deliveries keeps tablets faithful, also
+/// if it runs out of memory.
 pub fn honest_rounds_keep_tablets_faithful()
     ensures new { (broker : BrokerRecord) (bounds : Bounds) → AreFaithful broker (new_region bounds).tablets }
     ensures taken { (broker : BrokerRecord) (region : RegionValue) (deliveries : List DeliveryValue) (marks : Positions)
@@ -146,8 +150,7 @@ pub fn honest_rounds_keep_tablets_faithful()
         → IsHalfTaken old deliveries new → AreFaithful broker new.tablets }
 {}
 
-/// Marks tell what was taken: a new region has just the images up to its marks, which are none, and where one has
-/// just these it has just those up to its new marks after a round of honest deliveries.
+/// A region that takes rounds of honest deliveries has exactly the images up to its marks. A new one has none.
 pub fn marks_tell_what_was_taken()
     ensures new { (broker : BrokerRecord) (bounds : Bounds)
         → HasImages (new_region bounds) (up_to broker (new_region bounds).marks) }
@@ -157,9 +160,10 @@ pub fn marks_tell_what_was_taken()
         → HasImages (taking region deliveries marks) (up_to broker marks) }
 {}
 
-/// A tablet that is lost is faithful, and an honest copy that is adopted keeps a tablet faithful. A faithful
-/// tablet that serves has the cells of all images in its range up to its cover, and the copy that it gives is
-/// honest.
+/// A lost tablet is faithful, and adopting an honest copy keeps a tablet faithful.
+///
+/// A faithful tablet that serves has the cells of all images in its range up to its cover, and gives honest
+/// copies.
 pub fn honest_copies_keep_tablets_faithful()
     ensures lost { (broker : BrokerRecord) (tablet : TabletStateValue) → IsFaithful broker (lost tablet) }
     ensures adopted { (broker : BrokerRecord) (tablet after : TabletStateValue) (copy : TabletCopyValue)

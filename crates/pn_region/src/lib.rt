@@ -1,6 +1,8 @@
-//! A region: the tablets of a layout, and the marks of the streams that were taken into them. It takes
-//! deliveries of streams in rounds, loses tablets and takes copies of them, and answers reads of single records, gets
-//! and queries.
+//! A region: the tablets of a layout, the marks of the streams taken into them, and a log of changes.
+//!
+//! It takes deliveries in rounds, loses tablets, adopts copies, and answers reads, gets and queries.
+//!
+//! Only calls that return a `Result` take memory.
 
 #![tactic(auto)]
 
@@ -18,9 +20,11 @@ mod region;
 mod since;
 
 pub use entry::Entry;
-pub use fault::{AdoptFault, RoundFault};
+pub use fault::RoundFault;
 pub use history::History;
 pub use marking::next_marks;
 pub use notices::Log;
+/// Why a copy was not adopted. `WrongRange`: no tablet has its range.
+pub use pn_tablet::OpFault as AdoptFault;
 pub use region::{Region, Round};
 pub use since::{Notice, Since};

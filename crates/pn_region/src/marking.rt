@@ -1,4 +1,4 @@
-//! How far streams are taken after deliveries.
+//! The marks of streams after deliveries.
 
 ghost use Rattle.std.specs.Prelude.{◌≡◌, ◌≤◌, ◌+◌, ◌∷◌, [], length, Ok, Err, IsTrue, IfOk, IfErr, IfSome, OnOk};
 ghost use Rattle.std.specs.FinMap.{is_sorted};
@@ -15,11 +15,11 @@ use pn_stream::Delivery;
 /// The most streams that a region takes.
 const MAX_STREAMS: usize = 16;
 
-/// The marks after the deliveries, in their order: each that has images takes its stream up to its last
-/// position, where that is greater. The positions of the marks are 1 to 10^15, and so are the new ones.
+/// The marks after the deliveries, in order. One with images raises its stream's mark to its last position.
+/// The positions of the marks are 1 to 10^15, before and after.
 ///
-/// `Gap` comes exactly where one begins more than one past its stream's mark, and names the first; else
-/// `TooManyStreams` exactly where there would be more than 16 names. Neither takes memory.
+/// `Gap` comes exactly where a delivery begins more than one past its stream's mark, and names the first; else
+/// `TooManyStreams` exactly where there would be more than 16 names.
 pub fn next_marks(marks: &Marks, deliveries: &[Delivery]) -> Result<Marks, RoundFault>
     requires positions { IsTrue (are_positions marks.now) }
     ensures ok { IfOk result (λ next. new_marks marks.now deliveries.now ≡ Ok next) }
@@ -31,7 +31,7 @@ pub fn next_marks(marks: &Marks, deliveries: &[Delivery]) -> Result<Marks, Round
     Ok(followed(marks, deliveries)?)
 }
 
-// The first fault of the deliveries: a gap, or else too many streams. It takes no memory.
+// The first fault of the deliveries: a gap, or else too many streams.
 fn check(marks: &Marks, deliveries: &[Delivery]) -> Result<(), RoundFault>
     requires { IsTrue (are_positions marks.now) }
     ensures ok { OnOk result (new_marks marks.now deliveries.now ≡ Ok (all_marked marks.now deliveries.now)) }
@@ -49,7 +49,7 @@ fn check(marks: &Marks, deliveries: &[Delivery]) -> Result<(), RoundFault>
     Ok(())
 }
 
-// Whether the delivery brings images of a stream that neither the marks name nor the deliveries before it.
+// Whether the delivery has images of a stream that neither the marks nor the deliveries before it have.
 fn is_new_stream(
     marks: &Marks,
     before: &[Delivery],
@@ -83,7 +83,7 @@ fn is_new_stream(
     Ok(mark == 0)
 }
 
-// How far the stream is taken after the deliveries, whether or not there is a gap between them.
+// The mark of the stream after the deliveries, whether or not there is a gap between them.
 fn mark_after(marks: &Marks, deliveries: &[Delivery], stream: &StreamName) -> u64
     ensures { result ≡ position_of (all_marked marks.now deliveries.now) stream.now }
 {
@@ -94,7 +94,7 @@ fn mark_after(marks: &Marks, deliveries: &[Delivery], stream: &StreamName) -> u6
     mark
 }
 
-// The position of the last image of a delivery, where it has images of the stream.
+// The position of the delivery's last image, if it is of the stream.
 fn last_of_stream(stream: &StreamName, delivery: &Delivery) -> Option<u64>
     ensures { result ≡ the_last_of_stream stream.now delivery.now }
 {
@@ -104,7 +104,7 @@ fn last_of_stream(stream: &StreamName, delivery: &Delivery) -> Option<u64>
     last_of(delivery)
 }
 
-// The position of the last image of a delivery, if it has any.
+// The position of the delivery's last image.
 fn last_of(delivery: &Delivery) -> Option<u64>
     ensures last { result ≡ the_last_of delivery.now }
     ensures position { IfSome result (λ last. IsTrue (is_position last)) }
@@ -116,7 +116,7 @@ fn last_of(delivery: &Delivery) -> Option<u64>
     Some(first + count - 1)
 }
 
-// The marks once the deliveries are taken, between which there is no gap.
+// The marks after deliveries without a gap between them.
 fn followed(marks: &Marks, deliveries: &[Delivery]) -> Result<Marks, NoMemory>
     requires { IsTrue (are_positions marks.now) }
     ensures ok { IfOk result (λ next. next ≡ all_marked marks.now deliveries.now) }
@@ -129,7 +129,7 @@ fn followed(marks: &Marks, deliveries: &[Delivery]) -> Result<Marks, NoMemory>
     Ok(next)
 }
 
-// Takes one delivery's stream on.
+// Raises the mark of the delivery's stream.
 fn follow(marks: &mut Marks, delivery: &Delivery) -> Result<(), NoMemory>
     requires { IsTrue (are_positions marks.old) }
     ensures ok { OnOk result (marks.new ≡ all_marked marks.old (delivery.now ∷ [])) }

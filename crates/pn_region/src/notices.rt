@@ -20,12 +20,12 @@ const MAX_NOTICES: usize = 1024;
 /// The last number that an entry has.
 const LAST_NUMBER: u64 = 1_000_000_000_000_000_000;
 
-/// What happened to the records of a region, one entry after another. It keeps the last 1,024 changes
-/// behind the last break, for which it takes memory once.
+/// The entries of a region, in order. It keeps the last 1,024 changes after the last break; their memory is
+/// taken once.
 #[derive(Drop)]
 pub struct Log {
     entries: History<Entry>,
-    // The number of the last entry. One above the greatest: entries came that have no number.
+    // The number of the last entry; one above the greatest once entries came that have no number.
     last: u64,
     kept: HeapCircularBuffer<Change>,
     alloc: Global,
@@ -44,7 +44,7 @@ impl Model for Log {
 }
 
 impl Log {
-    /// A log without entries, whose answers are taken from the allocator.
+    /// A log without entries. The allocator serves its answers too.
     pub fn new(alloc: Global) -> Result<Log, NoMemory>
         ensures { IfOk result (λ log. log ≡ []) }
     {
@@ -56,7 +56,7 @@ impl Log {
         })
     }
 
-    /// Adds the changes of a round, in their order. It takes no memory.
+    /// Adds the changes of a round, in order.
     pub fn add(&mut self, lists: Vec<Vec<Change>>)
         ensures { self.new ≡ self.old ++ entries_of (flat_map (λ list. list.items) lists.items) }
     {
@@ -73,14 +73,13 @@ impl Log {
         }
     }
 
-    /// Adds a break: what came before is not told any more. It takes no memory.
+    /// Adds a break: earlier changes are no longer given.
     pub fn cut(&mut self)
         ensures { self.new ≡ self.old ++ Entry.Break ∷ [] }
     {
         self.put(Entry::Break);
     }
 
-    // Adds an entry.
     fn put(&mut self, entry: Entry)
         ensures { self.new ≡ self.old ++ entry ∷ [] }
     {
@@ -92,12 +91,12 @@ impl Log {
         }
     }
 
-    /// The notices behind the number, where all of them are kept.
+    /// The notices after the number, or `Missed` where not all of them are kept.
     pub fn since(&self, number: u64) -> Result<Since, NoMemory>
         ensures { IfOk result (λ since. IsSince self.now number since) }
     {
         let next = self.last.min(LAST_NUMBER);
-        match place_behind(number, self.last, self.kept.len()) {
+        match place_after(number, self.last, self.kept.len()) {
             Some(place) => Ok(Since::Notices {
                 next,
                 list: notices(self.alloc, &self.kept, place, number)?,
@@ -107,7 +106,7 @@ impl Log {
     }
 }
 
-// The changes that are kept once there is one more entry.
+// Adds an entry to the changes that are kept.
 fn keep(kept: &mut HeapCircularBuffer<Change>, entry: Entry)
     ensures { kept.new ≡ buffer (kept_with entry kept.old.capacity kept.old.items) kept.old.capacity }
 {
@@ -119,32 +118,31 @@ fn keep(kept: &mut HeapCircularBuffer<Change>, entry: Entry)
     }
 }
 
-// Where the changes behind a number begin among the last ones, so many of which are kept. None: not all
-// of them are.
-fn place_behind(number: u64, last: u64, kept: usize) -> Option<usize>
+// Where the changes after a number begin among those that are kept. None if some of them are not kept.
+fn place_after(number: u64, last: u64, kept: usize) -> Option<usize>
     ensures some { IfSome result (λ place. (last ≤ last_number) × (place ≤ kept) × (number + kept ≡ last + place)) }
     ensures none { result ≡ None → (last_number < last) ⊎ ((last < number) ⊎ (number + kept < last)) }
 {
     if last > LAST_NUMBER {
         return None;
     }
-    let behind = last.checked_sub(number)?;
-    kept.checked_sub(behind as usize)
+    let later = last.checked_sub(number)?;
+    kept.checked_sub(later as usize)
 }
 
-// The changes from a place on, as notices behind the number.
+// The changes from a place on, numbered from the one after `before`.
 fn notices(
     alloc: Global,
     kept: &HeapCircularBuffer<Change>,
     first: usize,
-    behind: u64,
+    before: u64,
 ) -> Result<Vec<Notice>, NoMemory>
     requires place { first ≤ length kept.now.items }
-    requires numbers { behind + length kept.now.items < 2 ^ 64 }
-    ensures { IfOk result (λ list. list.items ≡ numbered behind (drop first kept.now.items)) }
+    requires numbers { before + length kept.now.items < 2 ^ 64 }
+    ensures { IfOk result (λ list. list.items ≡ numbered before (drop first kept.now.items)) }
 {
     let mut list = Vec::with_capacity(alloc, kept.len() - first)?;
-    let mut number = behind;
+    let mut number = before;
     for place in first..kept.len() {
         let Some(change) = kept.get(place) else {
             unreachable!();
@@ -152,13 +150,13 @@ fn notices(
         number += 1;
         list.push_reserved(Notice {
             number,
-            change: copied(change)?,
+            change: copy_of(change)?,
         });
     }
     Ok(list)
 }
 
-fn copied(change: &Change) -> Result<Change, NoMemory>
+fn copy_of(change: &Change) -> Result<Change, NoMemory>
     ensures { IfOk result (λ copy. copy ≡ change.now) }
 {
     Ok(Change {

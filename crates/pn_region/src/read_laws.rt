@@ -1,4 +1,4 @@
-//! The laws of what is read of regions, as contracts. A call does nothing.
+//! The laws of reads of regions, as contracts. A call does nothing.
 
 ghost use Rattle.std.specs.Prelude.{◌≡◌, ◌≢◌, ℕ, ◌<◌, List, map, Option, Some, None, Ok, Err};
 ghost use Rattle.std.specs.FinMap.{find};
@@ -18,7 +18,7 @@ ghost use Rattle.pn_region.specs.Regions.{RegionValue, IsRegion, new_region, all
 ghost use Rattle.pn_region.specs.Rounds.{taking, IsHalfTaken};
 ghost use Rattle.pn_region.specs.Serving.{AllServe, ArePagesOf};
 
-/// No read of a region is refused an entry.
+/// No read of a region answers `NoEntry`.
 pub fn no_entry_is_refused()
     ensures read { (region : RegionValue) (key : List ℕ) (wanted : Option Stamp)
         → IsRegion region → read_in region key wanted ≢ Err NoEntry }
@@ -26,7 +26,7 @@ pub fn no_entry_is_refused()
     ensures page { (region : RegionValue) (query : QueryValue) → IsRegion region → page_in region query ≢ Err NoEntry }
 {}
 
-/// The tablets of a new region serve, and rounds leave tablets serving that served, those that end out of memory too.
+/// The tablets of a new region serve, and rounds leave serving tablets serving, also if they run out of memory.
 pub fn rounds_leave_tablets_serving()
     ensures new { (bounds : Bounds) → AllServe (new_region bounds) }
     ensures taken { (region : RegionValue) (deliveries : List DeliveryValue) (marks : Positions)
@@ -35,8 +35,8 @@ pub fn rounds_leave_tablets_serving()
         → AllServe old → IsHalfTaken old deliveries new → AllServe new }
 {}
 
-/// Where every tablet serves, what is read depends on the cells of all tablets together alone: a read is the cell of
-/// the key there, unless it is behind; a get has the cells of the keys there; a page is cut from the rows shown there.
+/// Where every tablet serves, answers depend only on the cells of all tablets together: a read is the key's
+/// cell, unless it is `Behind`; a get has the keys' cells; a page is the first of the rows shown.
 pub fn reads_depend_on_the_cells_alone()
     ensures read { (region : RegionValue) (key : List ℕ) (wanted : Option Stamp) → IsRegion region → AllServe region
         → read_in region key wanted ≡ unless_behind wanted (find bytes_cmp key (all_cells region)) }
@@ -46,8 +46,8 @@ pub fn reads_depend_on_the_cells_alone()
         → page_in region query ≡ Ok (first_page query (shown_rows query (all_cells region))) }
 {}
 
-/// Two regions that have the same cells, and whose tablets all serve, answer every read, get and query alike,
-/// whatever their layouts.
+/// Two regions with the same cells, whose tablets all serve, answer every read, get and query alike, whatever
+/// their layouts.
 pub fn regions_of_the_same_cells_answer_alike()
     ensures read { (one other : RegionValue) (key : List ℕ) (wanted : Option Stamp) → IsRegion one → IsRegion other
         → AllServe one → AllServe other → all_cells one ≡ all_cells other
@@ -58,8 +58,10 @@ pub fn regions_of_the_same_cells_answer_alike()
         → AllServe one → AllServe other → all_cells one ≡ all_cells other → page_in one query ≡ page_in other query }
 {}
 
-/// The pages of a region that stays as it is, each asked for by the continuation of the one before, have together the
-/// rows that its cells show, each once. Where every tablet serves, such a walk comes to its end.
+/// The pages of an unchanged region, each continuing the one before, have together the rows that its cells show,
+/// each once.
+///
+/// Where every tablet serves, such a walk comes to its end.
 pub fn pages_together_are_the_shown_rows()
     ensures walked { (region : RegionValue) (query : QueryValue) (pages : List PageValue) → IsRegion region → 0 < query.limit
         → ArePagesOf region (Some query) pages → left_by (Some query) pages ≡ None

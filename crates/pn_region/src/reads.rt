@@ -13,7 +13,7 @@ use pn_scan::{Page, Query, Row, ScanFault, View, cell_of, get, page, part_of, re
 use pn_tablet::Layout;
 use std::alloc::Global;
 
-/// A view of the region's own tablets, which do not change. It is never refused an entry.
+/// A view of the region's own tablets, which do not change while it lasts. It never answers `NoEntry`.
 impl View for &Region {
     ghost bounds = { λ view. view.now.state.layout };
 
@@ -40,12 +40,13 @@ impl View for &Region {
 }
 
 impl Region {
-    /// The cell of a key, or none where there is no record. Where a version is required, the record is there, in
-    /// that version or a later one.
+    /// The cell of a key, or none if there is no record. If a version is required, the record has it or a later
+    /// one.
     ///
     /// `Recovering` comes exactly where the key's tablet is recovering; else `Behind` exactly where a version is
-    /// required and the record is absent or older. `Memory` comes only where the tablet is not recovering, and
-    /// `NoEntry` never.
+    /// required and the record is absent or older.
+    ///
+    /// `Memory` comes only where the tablet is not recovering, and `NoEntry` never.
     pub fn read(&self, key: &Key, version: Option<Version>) -> Result<Option<Cell>, ScanFault>
         ensures read { AnswersAfter (cell_at key.now (look_for self.now.state key.now)) result (read_in self.now.state key.now version) }
         ensures entered { result ≡ Err NoEntry → ⊥ }
@@ -54,7 +55,7 @@ impl Region {
         read_at_least(&mut view, key, version)
     }
 
-    /// The cells of keys, in the order of the keys, repeats included; none where there is no record.
+    /// The cells of keys, in the order of the keys, repeats included; none if there is no record.
     ///
     /// `Recovering` names the tablet of the first key whose tablet is recovering. `Memory` may come before such a
     /// tablet is found, and `NoEntry` never comes.
@@ -66,11 +67,11 @@ impl Region {
         get(self.alloc, &mut view, keys)
     }
 
-    /// The first rows that a query shows of all tablets together, at most as many as its limit, and the query for
-    /// what stands behind them exactly where there is more.
+    /// The first rows that a query shows, up to its limit, and the query for the rows after them exactly where
+    /// there are more.
     ///
-    /// `Recovering` names the first tablet that may have rows, stands behind at most a page of them, and is
-    /// recovering. `Memory` may come before such a tablet is found, and `NoEntry` never comes.
+    /// `Recovering` names the first recovering tablet that may have rows of the page. `Memory` may come before
+    /// such a tablet is found, and `NoEntry` never comes.
     pub fn scan(&self, query: &Query) -> Result<Page, ScanFault>
         ensures page { ShowsUnless Memory (λ page. (page.rows.items, page.next)) result (page_in self.now.state query.now) }
         ensures entered { result ≡ Err NoEntry → ⊥ }

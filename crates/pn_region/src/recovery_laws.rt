@@ -1,4 +1,4 @@
-//! The laws of losses, adoptions and whole lists of events, as contracts. A call does nothing.
+//! The laws of losses, adoptions and sequences of events, as contracts. A call does nothing.
 
 ghost use Rattle.std.specs.Prelude.{◌≡◌, ℕ, List, [], ◌++◌, fold, slice_get, Ok, Option, Some};
 ghost use Rattle.std.specs.FinMap.{find};
@@ -28,13 +28,13 @@ ghost use Rattle.pn_region.specs.Regions.{RegionValue, IsRegion, new_region, all
 ghost use Rattle.pn_region.specs.Serving.{AllServe, ServesAt};
 ghost use Rattle.pn_region.specs.Taken.{all_taken, all_left, CoversTell, AreRounds};
 
-/// Every event leaves a region: a tablet for each range, whose cover reaches the marks.
+/// Every event leaves a region: one tablet for each range, whose cover reaches the marks.
 pub fn events_leave_a_region()
     ensures event { (event : RegionEvent) (old new : RegionValue) → IsRegion old → LeadsTo event old new → IsRegion new }
     ensures events { (events : List RegionEvent) (old new : RegionValue) → IsRegion old → AllLeadTo events old new → IsRegion new }
 {}
 
-/// Honest events leave tablets faithful that were, and the copy that a faithful tablet gives is honest.
+/// Honest events keep tablets faithful, and a faithful tablet gives honest copies.
 pub fn honest_events_keep_tablets_faithful()
     ensures event { (broker : BrokerRecord) (event : RegionEvent) (old new : RegionValue) → IsRegion old
         → AreFaithful broker old.tablets → IsHonestEvent broker event → LeadsTo event old new → AreFaithful broker new.tablets }
@@ -46,7 +46,7 @@ pub fn honest_events_keep_tablets_faithful()
         → copy_of state need ≡ Ok copy → IsHonestCopy broker copy }
 {}
 
-/// No event lowers the cover of a tablet, nor do events one after another.
+/// No event lowers the cover of a tablet, nor does a sequence of events.
 pub fn covers_never_fall()
     ensures event { (event : RegionEvent) (old new : RegionValue) (tablet : ℕ) (before after : TabletStateValue)
         → IsRegion old → LeadsTo event old new
@@ -58,8 +58,9 @@ pub fn covers_never_fall()
         → Reaches after.cover before.cover }
 {}
 
-/// A tablet that serves after an event holds still each record that it held before. Where events are honest, one that
-/// serves before and after them does, however often it was lost between and whatever copies it adopted.
+/// A tablet that serves after an event still holds each record it held before.
+///
+/// After honest events, so does one that serves before and after them, whatever losses and copies came between.
 pub fn what_is_served_never_goes_back()
     ensures event { (event : RegionEvent) (old new : RegionValue) (tablet : ℕ) (before after : TabletStateValue)
         → IsRegion old → LeadsTo event old new
@@ -72,8 +73,10 @@ pub fn what_is_served_never_goes_back()
         → (key : List ℕ) → HoldsStill (find bytes_cmp key before.cells) (find bytes_cmp key after.cells) }
 {}
 
-/// So does the region with the records of each key whose tablet serves before and after: they are held still in all
-/// tablets together. A record that is held still is there, and not at an older version.
+/// After an event, or honest events, a region still holds the record of a key whose tablet serves before and
+/// after.
+///
+/// A record that is still held exists, and not at an older version.
 pub fn records_served_never_go_back()
     ensures event { (event : RegionEvent) (old new : RegionValue) (key : List ℕ) → IsRegion old → LeadsTo event old new
         → ServesAt old key → ServesAt new key
@@ -85,8 +88,8 @@ pub fn records_served_never_go_back()
     ensures versions { (was now : Option CellValue) → HoldsStill was now → NotOlder was now }
 {}
 
-/// A tablet that was lost while it served, took what came and adopted a copy, stands as it would had it never been
-/// lost and taken the copy: its cells, its cover and its status are the same.
+/// A recovery leaves no trace: the tablet ends in the same state as one that is not lost, and takes the same joins
+/// and the same honest copy.
 pub fn a_recovery_leaves_no_trace()
     ensures { (broker : BrokerRecord) (tablet after : TabletStateValue) (joins : List TabletOp) (copy : TabletCopyValue) → AreJoins joins
         → IsFaithful broker tablet → tablet.status ≡ Serving → IsHonestCopy broker copy
@@ -94,8 +97,10 @@ pub fn a_recovery_leaves_no_trace()
         → step (fold stepped tablet joins) (Adopt copy) ≡ Ok after }
 {}
 
-/// So it holds still each record that it held before the loss: of a greater version, or of the same one with all
-/// contents that it had. What faithful tablets hold that serve depends on how far their covers reach, and on nothing else.
+/// Such a tablet still holds each record it held before the loss: at a greater version, or at the same one with
+/// all its contents.
+///
+/// The cells of faithful serving tablets of one range depend on their covers alone.
 pub fn a_recovery_brings_all_back()
     ensures whole { (broker : BrokerRecord) (tablet after : TabletStateValue) (joins : List TabletOp) (copy : TabletCopyValue) → AreJoins joins
         → IsFaithful broker tablet → tablet.status ≡ Serving → IsHonestCopy broker copy
@@ -106,9 +111,10 @@ pub fn a_recovery_brings_all_back()
         → Reaches tablet.cover other.cover → Reaches other.cover tablet.cover → tablet.cells ≡ other.cells }
 {}
 
-/// Honest events take the images of their rounds, and of each copy those in its range up to its marks. After them the
-/// cover of each tablet has reached all of these in its range, and it has reached no others but such as a round may
-/// have left that ran out of memory.
+/// Honest events take the images of their rounds, and those of each copy up to its marks.
+///
+/// Each tablet's cover then reaches all of these in its range, and else only images of rounds that ran out of
+/// memory.
 pub fn covers_tell_what_events_took()
     ensures new { (broker : BrokerRecord) (bounds : Bounds) → CoversTell broker [] [] (new_region bounds).tablets }
     ensures events { (broker : BrokerRecord) (events : List RegionEvent) (old new : RegionValue) (taken left : List Image)
@@ -116,9 +122,10 @@ pub fn covers_tell_what_events_took()
         → CoversTell broker (taken ++ all_taken broker events) (left ++ all_left events) new.tablets }
 {}
 
-/// After honest events of a new region, where every tablet serves and each round that ran out of memory was retried,
-/// the cells of all tablets together are exactly those of the images that the events took. Where all events are
-/// rounds nothing needs to be honest.
+/// After honest events of a new region, its cells are exactly those of the images taken, if all tablets serve
+/// and rounds that ran out of memory were retried.
+///
+/// Rounds alone need not be honest.
 pub fn events_leave_what_they_took()
     ensures honest { (broker : BrokerRecord) (bounds : Bounds) (events : List RegionEvent) (region : RegionValue)
         → IsLayout bounds → AllLeadTo events (new_region bounds) region → AreHonestEvents broker events → AllServe region
@@ -128,8 +135,8 @@ pub fn events_leave_what_they_took()
         → AreIn (all_left events) (all_taken broker events) → all_cells region ≡ table_of (all_taken broker events) }
 {}
 
-/// Two regions whose events took the same images, whatever the layouts, the order, the cuts into rounds, the losses
-/// and the copies, have the same records: so `regions_of_the_same_cells_answer_alike` speaks of them.
+/// Two such regions whose events took the same images have the same records, whatever their layouts and events. By
+/// `regions_of_the_same_cells_answer_alike` they then answer alike.
 pub fn the_same_images_leave_the_same_records()
     ensures { (broker : BrokerRecord) (bounds others : Bounds) (events more : List RegionEvent) (one other : RegionValue)
         → IsLayout bounds → AllLeadTo events (new_region bounds) one → AreHonestEvents broker events → AllServe one

@@ -1,4 +1,4 @@
-//! Regions, and the rounds that they take.
+//! Regions and their rounds.
 
 ghost use Rattle.std.specs.Prelude.{◌≡◌, ◌≤◌, ◌<◌, ◌^◌, length, slice_get, map, Some, Ok, IsTrue, IfOk, IfErr, OnOk, OnErr};
 ghost use Rattle.std.specs.List.{flat_map};
@@ -30,7 +30,7 @@ use std::alloc::Global;
 use std::marker::Model;
 use std::thread::Threads;
 
-/// The tablets of a layout, how far streams were taken into all of them, and a log of what changed.
+/// The tablets of a layout, the marks of the streams taken into all of them, and a log of changes.
 #[derive(Drop)]
 pub struct Region {
     layout: Layout,
@@ -40,7 +40,7 @@ pub struct Region {
     pub(crate) alloc: Global,
 }
 
-/// What a round did.
+/// The outcome of a round.
 #[derive(Clone, Copy, Debug, PartialEq, Eq)]
 pub struct Round {
     /// How many records were changed, in all tablets together.
@@ -63,7 +63,7 @@ impl Model for Region {
 }
 
 impl Region {
-    /// A region of empty tablets that serve, with an empty log, whose later growth is taken from the allocator.
+    /// A region of empty tablets that serve, with an empty log. The allocator serves its later growth too.
     pub fn new(alloc: Global, layout: Layout) -> Result<Region, NoMemory>
         ensures { IfOk result (λ region. region ≡ new_logged layout) }
     {
@@ -78,7 +78,7 @@ impl Region {
         })
     }
 
-    /// How far streams were taken into every tablet. It takes no memory, nor do the two below.
+    /// How far streams were taken into every tablet.
     pub fn marks(&self) -> &Marks
         ensures marks { result.now ≡ self.now.state.marks }
         ensures few { length self.now.state.marks ≤ max_streams }
@@ -87,7 +87,7 @@ impl Region {
         &self.marks
     }
 
-    /// How the keys are divided into tablets.
+    /// The bounds between the tablets.
     pub fn layout(&self) -> &Layout
         ensures layout { result.now ≡ self.now.state.layout }
         ensures region { IsRegion self.now.state }
@@ -103,7 +103,7 @@ impl Region {
         self.state(tablet)
     }
 
-    // The same, which is one of the layout's tablets.
+    // The tablet of this number, as that of its range.
     pub(crate) fn state(&self, tablet: usize) -> &TabletState
         requires { tablet ≤ length self.now.state.layout }
         ensures there { slice_get self.now.state.tablets tablet ≡ Some result.now }
@@ -112,17 +112,18 @@ impl Region {
         &self.tablets[tablet]
     }
 
-    /// Takes deliveries, in their order; those without images are passed over. Between 1 and 16 workers
-    /// are asked for; their number makes no difference to the answer. The gate is entered with a tablet's
-    /// number before that tablet is worked.
+    /// Takes deliveries, in order; those without images are passed over. There are 1 to 16 workers, whose number
+    /// does not change the answer.
     ///
-    /// `Gap` comes exactly where a delivery begins more than one past its stream's mark, and names the
-    /// first; else `TooManyStreams` exactly where there would be more than 16 streams. Both change nothing,
-    /// and take no memory. After `Memory` each tablet is as it was or has taken its part, and one at least is
+    /// A worker enters the gate before each of its tablets.
+    ///
+    /// `Gap` comes exactly where a delivery begins more than one past its stream's mark, and names the first;
+    /// else `TooManyStreams` exactly where there would be more than 16 streams.
+    ///
+    /// Both change nothing. After `Memory` each tablet is as it was or has taken its part, and at least one is
     /// as it was; the marks are as they were.
     ///
-    /// A round that ended well adds what it changed to the log, in key order, and one that ran out of memory a
-    /// break.
+    /// A round adds its changes to the log, in key order, or a break if it ran out of memory.
     pub fn round<R: Threads + Sync, G: Gate + Sync>(
         &mut self,
         rt: &R,
@@ -153,7 +154,7 @@ impl Region {
         }
     }
 
-    // The same, but for the log. Answers what changed in each tablet.
+    // Takes deliveries into the tablets and the marks, and returns the changes of each tablet. The log stays.
     fn take<R: Threads + Sync, G: Gate + Sync>(
         &mut self,
         rt: &R,
@@ -186,7 +187,7 @@ impl Region {
         Ok(lists)
     }
 
-    /// The notices behind the number, where the log knows all of them.
+    /// The notices after the number, or `Missed` where the log does not keep all of them.
     pub fn notices_since(&self, number: u64) -> Result<Since, NoMemory>
         ensures { IfOk result (λ since. IsSince self.now.log number since) }
     {
@@ -210,11 +211,11 @@ fn range_of(layout: &Layout, tablet: usize) -> Result<Range, NoMemory>
     ensures { IfOk result (λ range. range ≡ tablet_ends layout.now tablet) }
 {
     let (from, to) = layout.range(tablet);
-    Range::copied(from, to)
+    Range::from_ends(from, to)
 }
 
-// Each tablet takes its join. Answers what changed in each: at most as many records as are joined, and that these
-// can be counted is seen before a tablet is worked.
+// Each tablet takes its join. Returns the changes of each, of which there are fewer than 2^64: at most as many as
+// records are joined, which are counted first.
 fn take_joins<R: Threads + Sync, G: Gate + Sync>(
     rt: &R,
     alloc: Global,
@@ -241,7 +242,7 @@ fn take_joins<R: Threads + Sync, G: Gate + Sync>(
     Ok(lists)
 }
 
-// Whether a number of 64 bits counts the records of all joins. It does for any that memory holds.
+// Whether the records of all joins can be counted, as any that memory holds can.
 fn can_be_counted(joins: &[TabletOp]) -> bool
     ensures { IsTrue result → length (flat_map joined_cells joins.now) < 2 ^ 64 }
 {
@@ -255,7 +256,7 @@ fn can_be_counted(joins: &[TabletOp]) -> bool
     true
 }
 
-// How many records the join brings.
+// How many records the operation joins.
 fn joined_count(join: &TabletOp) -> usize
     ensures { result ≡ length (joined_cells join.now) }
 {

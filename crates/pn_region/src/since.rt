@@ -1,4 +1,4 @@
-//! What a log tells.
+//! The answer of a log: the notices after a number.
 
 use pn_tablet::Change;
 
@@ -9,11 +9,11 @@ pub struct Notice {
     pub change: Change,
 }
 
-/// What is new behind a number. `next` is the last number that was given, and what to ask with next.
+/// The changes after a number. `next` is the last number that was given: the number to ask with next.
 #[derive(Debug, Drop)]
 pub enum Since {
-    /// All that is behind the number.
+    /// All changes after the number.
     Notices { next: u64, list: Vec<Notice> },
-    /// It is not known: there was a break, it is more than is kept, or there is no such number yet.
+    /// They are not known: there was a break, they are more than the log keeps, or the number was not given yet.
     Missed { next: u64 },
 }

@@ -16,7 +16,7 @@ use Rattle.pn_region.specs.Marking.{new_marks}
 use Rattle.pn_region.specs.Recovery.{losing, adopting}
 use Rattle.pn_region.specs.Regions.{RegionValue, IsRegion}
 use Rattle.pn_region.specs.Rounds.{IsHalfTaken, round as taken_round}
-use Rattle.pn_region.specs.declared.fault.AdoptFault.{AdoptFault}
+use Rattle.pn_tablet.specs.declared.fault.OpFault.{OpFault as AdoptFault}
 use Rattle.pn_region.specs.declared.fault.RoundFault.{RoundFault}
 use Rattle.pn_region.proofs.EventSteps.{events_are}
 use Rattle.pn_json.specs.Lines.{line_of}

@@ -10,6 +10,7 @@ use Rattle.pn_tablet.specs.Copies.{TabletCopyValue}
 use Rattle.pn_tablet.specs.Copying.{copy_of, is_memory}
 use Rattle.pn_tablet.specs.CopyReading.{copy_at}
 use Rattle.pn_tablet.specs.Refusals.{Refuses, Answers}
+use Rattle.pn_tablet.specs.Steps as steps
 use Rattle.pn_tablet.specs.Tablets.{TabletStateValue}
 use Rattle.pn_tablet.specs.declared.copy_fault.CopyTextFault.{CopyTextFault}
 use Rattle.pn_tablet.specs.declared.copy_fault.CopyTextFault.TheVariants as text
@@ -19,8 +20,8 @@ use Rattle.pn_region.specs.Logged.{LoggedRegion, breaking}
 use Rattle.pn_region.specs.Recovery.{adopting}
 use Rattle.pn_region.specs.Recovery as recovery
 use Rattle.pn_region.specs.Regions.{RegionValue, IsRegion}
-use Rattle.pn_region.specs.declared.fault.AdoptFault.{AdoptFault}
-use Rattle.pn_region.specs.declared.fault.AdoptFault.TheVariants as adoption
+use Rattle.pn_tablet.specs.declared.fault.OpFault.{OpFault as AdoptFault}
+use Rattle.pn_tablet.specs.declared.fault.OpFault.TheVariants as adoption
 use Rattle.pn_region.proofs.NewRegion.{tablet_count}
 use Rattle.pn_protocol.specs.declared.reply.Reply.{Reply}
 use Rattle.pn_protocol.specs.declared.reply.Reply.TheVariants.{Adopted, Changed, Copied, Lost, Silent, Text, Refused, NotTaken}
@@ -64,12 +65,12 @@ came_as one other old new reply same comes = subst (λ (t : Turn). ComesTo t old
 pub adopts : (old new : LoggedRegion) (given : TabletCopyValue) (tablet : ℕ) → adopting old.state given ≡ Ok (tablet, new.state) → new.log ≡ breaking old.log → ComesTo (adopted old (adopting old.state given)) old new (Adopted tablet)
 adopts old new given tablet is noted = came_as _ _ old new (Adopted tablet) (ap (adopted old) is) (inl (λ i. record { mode = idle; region = new.state; log = sym noted i }, refl, refl))
 
-not_memory : (fault : AdoptFault) (right : Result (ℕ × RegionValue) AdoptFault) → Refuses recovery.is_memory fault right → fault ≢ adoption.Memory → right ≡ Err fault
+not_memory : (fault : AdoptFault) (right : Result (ℕ × RegionValue) AdoptFault) → Refuses steps.is_memory fault right → fault ≢ adoption.Memory → right ≡ Err fault
 not_memory adoption.WrongRange right is other = is
 not_memory (adoption.TooOld stream has needs) right is other = is
 not_memory adoption.Memory right is other = absurd (other refl)
 
-pub adopts_not : (old new : LoggedRegion) (given : TabletCopyValue) (fault : AdoptFault) (reply : Reply) → new ≡ old → Refuses recovery.is_memory fault (adopting old.state given) → TellsNotAdopted fault reply
+pub adopts_not : (old new : LoggedRegion) (given : TabletCopyValue) (fault : AdoptFault) (reply : Reply) → new ≡ old → Refuses steps.is_memory fault (adopting old.state given) → TellsNotAdopted fault reply
     → ComesTo (adopted old (adopting old.state given)) old new reply
 adopts_not old new given fault reply same right tells =
     told (adopted old (adopting old.state given)) old new (fault ≢ adoption.Memory) (not_adopted_data fault) reply same (λ other. ap (adopted old) (not_memory fault (adopting old.state given) right other)) tells

@@ -29,8 +29,10 @@ use std::thread::Threads;
 /// The reply to a line, and the lines that it announces.
 pub(crate) type Done = (Reply, Option<Announced>);
 
-/// Answers a line with its newline: a command, or an announced line. Only a round out of memory leaves some tablets
-/// changed. If `C` never runs out of memory, losses never do.
+/// Answers a line with its newline: a command, or an announced line. Only a round out of memory leaves some
+/// tablets changed.
+///
+/// If `C` never runs out of memory, losses never do.
 pub(crate) fn answer<R: Threads + Sync, C: CommandReader>(
     rt: &R,
     alloc: Global,

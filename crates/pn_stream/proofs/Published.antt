@@ -1,4 +1,4 @@
--- Which images stand up to marks, and where those of honest deliveries stand.
+-- Which images come up to marks, and at which positions those of honest deliveries are.
 use Rattle.std.proofs.Common.{◌≡◌, ℕ, zero, suc, ◌+◌, ◌-◌, ◌<◌, ◌≤◌, pred, true, false, cond, List, [], ◌∷◌, ◌++◌, length, get_or, Option, Some, None, is_some, unwrap_or, refl, sym, ap, ◌∙◌, subst, arith, ◌⊎◌, inl, inr, Contains}
 use Rattle.std.specs.Prelude.{take, drop}
 use Rattle.std.specs.Ordering.{eq_by_cmp}
@@ -12,7 +12,7 @@ use Rattle.pn_record.proofs.HeldRecords.{tied_keys}
 use Rattle.pn_stream.specs.Positions.{DeliveryValue}
 use Rattle.pn_stream.specs.Brokers.{BrokerRecord, up_to, IsHonest}
 
--- the image stands in the list, below the place n
+-- the image is in the list before the place n
 pub record Stands (images : List Image) (n : ℕ) (image : Image) : Type 0 where
   pub at : ℕ
   pub below : at < n
@@ -88,7 +88,7 @@ named f name (e ∷ es) image some there =
       | false ↦ λ apart so. Contains-append_right (f e.0) (flat_map (λ mark. f mark.0) es) image (named f name es image so there)
     ] refl some
 
--- the image stands in a stream at a position that the marks have reached
+-- the image has a position in a stream that the marks have reached
 pub record Published (broker : BrokerRecord) (marks : Positions) (image : Image) : Type 0 where
   pub stream : List ℕ
   pub stands : Stands (broker stream) (position_of marks stream) image
@@ -114,7 +114,7 @@ module _ (broker : BrokerRecord) (delivery : DeliveryValue) (image : Image) (hon
   abbrev stream : List Image
   stream = broker delivery.stream
 
-  -- what an honest delivery brings stands at one of its positions
+  -- an image of an honest delivery has one of its positions
   pub brings : Contains delivery.images image → Stands stream (pred (delivery.first + length delivery.images)) image
   brings there =
       let here = stands (length delivery.images) (drop before stream) image (subst (λ images. Contains images image) honest.1 there) in
@@ -127,7 +127,7 @@ module _ (broker : BrokerRecord) (delivery : DeliveryValue) (image : Image) (hon
         is = sym (get_or-drop before stream here.at image) ∙ here.is;
       }
 
-  -- and what stands at one of its positions it brings
+  -- and the image at one of its positions is in the delivery
   pub is_brought : (at : ℕ) → delivery.first ≤ at + 1 → at + 1 < delivery.first + length delivery.images → at < length stream → get_or stream at image ≡ image → Contains delivery.images image
   is_brought at from to within is =
       let first = pred_is delivery.first honest.0 in

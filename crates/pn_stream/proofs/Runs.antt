@@ -63,7 +63,7 @@ pub SoFar-none : (position : ℕ) (part : List ℕ) (images : List Image) (left 
 SoFar-none position part images None none = tt
 SoFar-none position part images (Some text) none = rw none (record { rest = part ++ text; run = Run-none position (part ++ text); is_left = (text, refl, refl) })
 
--- what is told of what is left, told of the rest of the text
+-- what holds of what is left, of the rest of the text
 pub on_rest : (rest part : List ℕ) (left : Option (List ℕ)) (P : List ℕ → Type 0) → IsLeft rest part left → IfSome left (λ text. P (part ++ text)) → P rest
 on_rest rest part left P is told =
     let at : IfSome (Some is.0) (λ text. P (part ++ text)) = subst (λ (l : Option (List ℕ)). IfSome l (λ text. P (part ++ text))) is.1 told in
@@ -78,25 +78,25 @@ SoFar-push position wanted front part now images found (Some text) left leaves i
     let (line, more, at, said, is_left) = on_rest so.rest part left (λ (t : List ℕ). IsNext wanted t (Some found) now leaves) so.is_left next in
     record { rest = more; run = Run-push position (front ++ text) images so.rest line more found.image wanted is so.run at said; is_left = is_left }
 
--- before the first line nothing was shown
+-- before the first line none was seen
 pub shown_none : (first : Option (List ℕ)) → OnSome first (Unit {0})
 shown_none None = tt
 shown_none (Some text) = tt
 
--- what was shown behind the next line is told where the text is
+-- a newline that was seen after the next line is in the text
 pub shown_on : (P : Type 0) (position : ℕ) (front part : List ℕ) (images : List Image) (first left : Option (List ℕ))
     → IfSome first (λ text. SoFar position (front ++ text) images part left) → OnSome left P → OnSome first P
 shown_on P position front part images None left so shown = tt
 shown_on P position front part images (Some text) left so shown =
     let told : OnSome (Some so.is_left.0) P = subst (λ (l : Option (List ℕ)). OnSome l P) so.is_left.1 shown in told
 
--- a text with a newline that was shown has a whole line
+-- a text with a newline that was seen has a whole line
 none_shown : (text part rest : List ℕ) (left : Option (List ℕ)) → left ≡ Some rest → text ≡ part ++ rest → HasShown true left → NoLine text → ⊥
 none_shown text part rest left is whole shown none =
     let there : Contains rest 10 = subst (λ (l : Option (List ℕ)). IfSome l (λ bytes. Contains bytes 10)) is shown in
     All-contains (λ b. b ≢ 10) text 10 none.unbroken (subst (λ (t : List ℕ). Contains t 10) (sym whole) (Contains-append_right part rest 10 there)) refl
 
--- no whole line is left: then none was shown, and there are too few messages
+-- no whole line is left: none was seen, and there are too few messages
 pub Batch-end : (least most position wanted : ℕ) (front part now : List ℕ) (images : List Image) (more : Bool) (first left leaves : Option (List ℕ)) → length images ≤ most → (more ≡ false → length images < least)
     → OnSome first (HasShown more left) → IfSome first (λ text. SoFar position (front ++ text) images part left) → IfSome left (λ text. IsNext wanted (part ++ text) None now leaves)
     → IfSome first (λ text. Batch least most position (front ++ text) images None now leaves)
@@ -114,7 +114,7 @@ pub Batch-enough : (least most position : ℕ) (front part : List ℕ) (images :
 Batch-enough least most position front part images None left enough within taken so = tt
 Batch-enough least most position front part images (Some text) left enough within taken so = record { rest = so.rest; within = within; run = so.run; ends = (inl (enough, taken), so.is_left) }
 
--- a fault stands next
+-- a fault follows
 pub Batch-fault : (least most position wanted : ℕ) (front part now : List ℕ) (images : List Image) (fault : StreamFault) (first left leaves : Option (List ℕ)) → wanted ≡ position + length images + 1 → length images < most
     → IfSome first (λ text. SoFar position (front ++ text) images part left) → IfSome left (λ text. Stands wanted (part ++ text) fault)
     → IfSome first (λ text. Batch least most position (front ++ text) images (Some fault) now leaves)
@@ -135,7 +135,7 @@ in_step_none position [] [] none run = text_of-nil
 in_step_none position (line ∷ lines) [] none run = absurd run
 in_step_none position lines (image ∷ images) none run = absurd (omega (arith, none))
 
--- a fault with no message before it stands at the start of the text
+-- a fault with no message before it is at the start of the text
 pub Stands-first : (least most position : ℕ) (part : List ℕ) (images : List Image) (fault : StreamFault) (now : List ℕ) (left leaves : Option (List ℕ)) → length images ≡ 0
     → IfSome left (λ text. Batch least most position (part ++ text) images (Some fault) now leaves) → IfSome left (λ text. Stands (position + 1) (part ++ text) fault)
 Stands-first least most position part images fault now None leaves none batch = tt

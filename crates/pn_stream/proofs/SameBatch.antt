@@ -35,11 +35,11 @@ broken : (line rest : List ℕ) → IsUnbroken (line ++ 10 ∷ rest) → ⊥
 broken [] rest unbroken = All-head (λ x. x ≢ 10) 10 rest unbroken refl
 broken (b ∷ line) rest unbroken = broken line rest (All-tail (λ x. x ≢ 10) b (line ++ 10 ∷ rest) unbroken)
 
-longer_than : (front behind line rest : List ℕ) → IsUnbroken front → length line < length front → front ++ behind ≡ line ++ 10 ∷ rest → ⊥
-longer_than [] behind line rest unbroken long is = omega (arith, long)
-longer_than (b ∷ front) behind [] rest unbroken long is = All-head (λ x. x ≢ 10) b front unbroken (cons_parts b 10 (front ++ behind) rest is).0
-longer_than (b ∷ front) behind (c ∷ line) rest unbroken long is =
-    longer_than front behind line rest (All-tail (λ x. x ≢ 10) b front unbroken) (omega (arith, long)) (cons_parts b c (front ++ behind) (line ++ 10 ∷ rest) is).1
+longer_than : (front after line rest : List ℕ) → IsUnbroken front → length line < length front → front ++ after ≡ line ++ 10 ∷ rest → ⊥
+longer_than [] after line rest unbroken long is = omega (arith, long)
+longer_than (b ∷ front) after [] rest unbroken long is = All-head (λ x. x ≢ 10) b front unbroken (cons_parts b 10 (front ++ after) rest is).0
+longer_than (b ∷ front) after (c ∷ line) rest unbroken long is =
+    longer_than front after line rest (All-tail (λ x. x ≢ 10) b front unbroken) (omega (arith, long)) (cons_parts b c (front ++ after) (line ++ 10 ∷ rest) is).1
 
 -- a line is not both a message and refused
 not_both : (line : List ℕ) (message : Message) (fault : ImageFault) → IsMessageLine line message → message_at line ≡ Err fault → ⊥
@@ -51,7 +51,7 @@ not_both line message fault said refused = neither (sym (message_line_again line
 not_another : (line : List ℕ) (wanted got : ℕ) (image other : Image) → IsMessageLine line (wanted, image) → IsMessageLine line (got, other) → got ≢ wanted → ⊥
 not_another line wanted got image other said stray apart = apart (ap (λ (m : Message). m.0) (message_line_unique line (got, other) (wanted, image) stray said))
 
--- no message in step stands behind a batch that has room for it
+-- no message in step follows a batch that has room for it
 abbrev Stops : ℕ → ℕ → ℕ → List ℕ → Type 0
 Stops max count position text = (wanted : ℕ) (line rest : List ℕ) (image : Image) → wanted ≡ position + count + 1 → FirstLine text line rest → IsMessageLine line (wanted, image) → count < max → ⊥
 
@@ -91,9 +91,9 @@ same_runs max position text (line ∷ lines) [] (image ∷ images) [] rest more 
     let here : more ≡ text = sym (also ∙ ap (λ t. t ++ more) text_of-nil) in
     absurd (halt (position + 1) line (text_of lines ++ rest) image (omega arith) (begins more line lines rest run.0 (here ∙ is)) run.1 (omega (arith, within)))
 same_runs max position text (line ∷ lines) (other ∷ others) (image ∷ images) (show ∷ shown) rest more run again is also within inside stop halt =
-    let (same, behind) = first_unique text line other (text_of lines ++ rest) (text_of others ++ more) (begins text line lines rest run.0 is) (begins text other others more again.0 also) in
+    let (same, after) = first_unique text line other (text_of lines ++ rest) (text_of others ++ more) (begins text line lines rest run.0 is) (begins text other others more again.0 also) in
     let seen : image ≡ show = ap (λ (m : Message). m.1) (message_line_unique line (position + 1, image) (position + 1, show) run.1 (subst (λ (l : List ℕ). IsMessageLine l (position + 1, show)) (sym same) again.1)) in
-    let (next, left) = same_runs (max - 1) (position + 1) (text_of lines ++ rest) lines others images shown rest more run.2 again.2 refl behind
+    let (next, left) = same_runs (max - 1) (position + 1) (text_of lines ++ rest) lines others images shown rest more run.2 again.2 refl after
     (omega (arith, within)) (omega (arith, inside))
     (λ wanted l r i e first said room. stop wanted l r i (omega (arith, e)) first said (omega (arith, room)))
     (λ wanted l r i e first said room. halt wanted l r i (omega (arith, e)) first said (omega (arith, room))) in
@@ -103,7 +103,7 @@ same_runs max position text (line ∷ lines) others [] shown rest more run again
 same_runs max position text lines [] images (show ∷ shown) rest more run again is also within inside stop halt = absurd again
 same_runs max position text lines (other ∷ others) images [] rest more run again is also within inside stop halt = absurd again
 
--- a fault that a text tells has a line, or a long front, in the text
+-- a fault that depends on the text has a line, or a long front, in it
 apart_from_none : (wanted : ℕ) (text : List ℕ) (fault : StreamFault) → IsOfText (Some fault) → NoLine text → Stands wanted text fault → ⊥
 apart_from_none wanted text Read of_text none stands = of_text
 apart_from_none wanted text Memory of_text none stands = of_text
@@ -148,7 +148,7 @@ refused_once wanted text fault other a b one two =
     let (same, _) = first_unique text one.line two.line one.rest two.rest one.first two.first in
     one_refusal wanted two.line fault other a b (subst (λ (l : List ℕ). Refuses wanted l fault) same one.refused) two.refused
 
--- at the front of a text one fault stands
+-- at the front of a text is one fault
 one_stands : (wanted : ℕ) (text : List ℕ) (fault other : StreamFault) → IsOfText (Some fault) → IsOfText (Some other) → Stands wanted text fault → Stands wanted text other → fault ≡ other
 one_stands wanted text LineTooLong LineTooLong a b one two = refl
 one_stands wanted text LineTooLong (BadMessage at fault) a b one two = absurd (long_apart text two.line two.rest two.first two.short one)

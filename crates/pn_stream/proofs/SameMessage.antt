@@ -69,7 +69,7 @@ pub image_fits : (message : Message) → ranges_in message ≡ Ok tt → image_r
 unfolding ranges_in
 image_fits message fits = (passed (is_position message.0) _ _ tt fits).1
 
--- where the image of a message stands
+-- where in a message its image is
 image_in_shape : (d : Data) (message : Message) → shape_in d ≡ Ok message → (value : Data) × (get (codes "image") d ≡ Some value) × (image_shape_in value ≡ Ok message.1)
 unfolding shape_in
 image_in_shape d message is =

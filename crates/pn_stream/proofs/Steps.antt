@@ -24,8 +24,8 @@ use Rattle.pn_stream.specs.declared.next.Found.{Found}
 use Rattle.pn_stream.specs.declared.fault.StreamFault.TheVariants.{Read, LineTooLong, BadMessage, OutOfStep, Memory, Failed}
 
 -- a line that holds a part, by its bytes
-held : (line new : LineBufferValue) (left leaves : Option (List ℕ)) (behind : List ℕ) → IsPart line → Takes line new left leaves behind → Takes (so_far line.bytes) new left leaves behind
-held line new left leaves behind is takes = subst (λ (l : LineBufferValue). Takes l new left leaves behind) is.line_is takes
+held : (line new : LineBufferValue) (left leaves : Option (List ℕ)) (after : List ℕ) → IsPart line → Takes line new left leaves after → Takes (so_far line.bytes) new left leaves after
+held line new left leaves after is takes = subst (λ (l : LineBufferValue). Takes l new left leaves after) is.line_is takes
 
 -- a line that is not too long is kept whole
 whole : (new : LineBufferValue) (bytes : List ℕ) → new ≡ so_far bytes → new.count ≤ 65536 → (new.bytes ≡ bytes) × (length bytes ≤ 65536)
@@ -67,19 +67,19 @@ next_end wanted line new (Some text) leaves is reads =
       (read.rest, read.leaves_is, rest),
     )
 
--- a line that is too long stands next
+-- a line that is too long follows
 pub next_long : (wanted : ℕ) (line new : LineBufferValue) (left leaves : Option (List ℕ)) → IsPart line → ReadsTo TooLong line new left leaves → IfSome left (λ text. Stands wanted (line.bytes ++ text) LineTooLong)
 next_long wanted line new None leaves is reads = tt
 next_long wanted line new (Some text) leaves is reads =
-    let (behind, takes) = reads.0 in
-    let read = ReadsPart-from_takes line.bytes text is.part.unbroken (held line new (Some text) leaves behind is takes) in
+    let (after, takes) = reads.0 in
+    let read = ReadsPart-from_takes line.bytes text is.part.unbroken (held line new (Some text) leaves after is takes) in
     let count : new.count ≡ length (line.bytes ++ read.taken) = ap (λ (l : LineBufferValue). l.count) read.line in
     record {
       front = line.bytes ++ read.taken;
-      rest = behind ++ read.rest;
+      rest = after ++ read.rest;
       unbroken = read.unbroken;
       long = omega (arith, count, reads.1);
-      text_is = ap (λ t. line.bytes ++ t) read.text_is ∙ sym (append_assoc line.bytes read.taken (behind ++ read.rest));
+      text_is = ap (λ t. line.bytes ++ t) read.text_is ∙ sym (append_assoc line.bytes read.taken (after ++ read.rest));
     }
 
 -- the text's first line was taken, and is not too long
@@ -158,7 +158,7 @@ told P all (Some text) = all text
 fault_same : {A : Type 0} (fault other : StreamFault) → ◌≡◌ {A = Result A StreamFault} (Err fault) (Err other) → fault ≡ other
 fault_same fault other is = cc
 
--- with a fault, which stands next
+-- with a fault, which follows
 pub fault_stands : {E : Type 0} (end : Result BoundedEnd E) (fault : StreamFault) (wanted : ℕ) (line new : LineBufferValue) (left leaves : Option (List ℕ)) → IsPart line → line_ended end ≡ Err fault
     → IfOk end (λ e. ReadsTo e line new left leaves) → IfSome left (λ text. Stands wanted (line.bytes ++ text) fault)
 fault_stands (Ok (Newline more)) fault wanted line new left leaves part is reads = cc

@@ -8,8 +8,8 @@ use Rattle.pn_stream.specs.Faults.{Stands}
 use Rattle.pn_stream.specs.declared.fault.StreamFault.{StreamFault}
 use Rattle.pn_stream.specs.declared.next.Found.{Found}
 
--- what a reader of a stream shows: the stream's name, the last position given, the part of a line that was
--- taken, the fault that the next call answers if one waits, and the source
+-- a reader of a stream: its name, the last position returned, the part of a line that was read, a fault for the next
+-- call, and the source
 pub record Stream (S : Type 0) : Type 0 where
   pub name : List ℕ
   pub position : ℕ
@@ -17,32 +17,32 @@ pub record Stream (S : Type 0) : Type 0 where
   pub fault : Option StreamFault
   pub source : S
 
--- the part that a line holds, if there is a line
+-- the bytes of a line, if there is one
 abbrev pub part_of : Option LineBufferValue → List ℕ
 part_of None = []
 part_of (Some line) = line.bytes
 
--- a batch of so many images ends before this text: it has enough, and no byte behind them was taken; or it has too few, and no whole line
--- is left; or there was room, and this fault stands next
+-- a batch of `count` images ends before this text: it has enough and read no byte after them, or no whole line is
+-- left, or this fault follows
 abbrev pub Ends : ℕ → ℕ → ℕ → ℕ → List ℕ → Option StreamFault → List ℕ → Option (List ℕ) → Type 0
 Ends least most count position text None part left = (((least ≤ count) × (part ≡ [])) ⊎ ((count < least) × NoLine text)) × IsLeft text part left
 Ends least most count position text (Some fault) part left = (count < most) × Stands (position + count + 1) text fault
 
--- these images are a run of messages in step from the start of the text, at most `most`, and fewer than `least` only where no whole line
--- is left or a fault stands next. Where the two are the same, it is the longest run of at most so many
+-- the text begins with these messages in step, at most `most`; fewer than `least` only where no whole line is left or
+-- a fault follows
 pub record Batch (least most position : ℕ) (text : List ℕ) (images : List Image) (fault : Option StreamFault) (part : List ℕ) (left : Option (List ℕ)) : Type 0 where
   pub rest : List ℕ
   pub within : length images ≤ most
   pub run : Run position text images rest
   pub ends : Ends least most (length images) position rest fault part left
 
--- so far these images are a run, and this is left
+-- the text begins with the messages of these images, and this is left of it
 pub record SoFar (position : ℕ) (text : List ℕ) (images : List Image) (part : List ℕ) (left : Option (List ℕ)) : Type 0 where
   pub rest : List ℕ
   pub run : Run position text images rest
   pub is_left : IsLeft rest part left
 
--- a line that is read holds this part of it, and is not too long
+-- the line holds a part without its newline, and is not too long
 pub record IsPart (line : LineBufferValue) : Type 0 where
   pub line_is : line ≡ so_far line.bytes
   pub part : NoLine line.bytes

@@ -5,11 +5,11 @@ use Rattle.pn_join.specs.Marks.{Positions, position_of}
 use Rattle.pn_record.specs.declared.image.Image.{Image}
 use Rattle.pn_stream.specs.Positions.{DeliveryValue}
 
--- a broker record: for each stream name one list of images, of which the first stands at position 1
+-- a broker record: for each stream name one list of images, the first of which has position 1
 abbrev pub BrokerRecord : Type 0
 BrokerRecord = List ℕ → List Image
 
--- the images up to marks: of each stream those at positions 1 to its mark
+-- the images up to marks: of each stream those from position 1 to its mark
 abbrev pub up_to : BrokerRecord → Positions → List Image
 up_to broker marks = flat_map (λ mark. take (position_of marks mark.0) (broker mark.0)) marks
 

@@ -1,4 +1,4 @@
--- The faults of a stream, and where each stands.
+-- The faults of a stream, and where in its text each comes.
 use Rattle.std.specs.Prelude.{Option, Some, None, ◌≡◌, ◌≢◌, ℕ, ◌<◌, ◌≤◌, List, ◌++◌, length, Err}
 use Rattle.pn_line.specs.Reads.{IsUnbroken}
 use Rattle.pn_record.specs.Limits.{max_line_bytes}
@@ -9,7 +9,7 @@ use Rattle.pn_stream.specs.Streams.{FirstLine}
 use Rattle.pn_stream.specs.declared.fault.StreamFault.{StreamFault}
 use Rattle.pn_stream.specs.declared.fault.StreamFault.TheVariants.{Read, LineTooLong, BadMessage, OutOfStep, Memory, Failed}
 
--- a line is refused by this fault where the message at this position is wanted. Memory may run out at any line
+-- why a line is not the message of the position `wanted`; memory may run out at any line
 abbrev pub Refuses : ℕ → List ℕ → StreamFault → Type 0
 Refuses wanted line (BadMessage at fault) = (at ≡ wanted) × (message_at line ≡ Err fault)
 Refuses wanted line (OutOfStep named got) = (named ≡ wanted) × (got ≢ wanted) × ((image : Image) × IsMessageLine line (got, image))
@@ -34,8 +34,8 @@ pub record LongLine (text : List ℕ) : Type 0 where
   pub long : max_line_bytes < length front
   pub text_is : text ≡ front ++ rest
 
--- the fault stands next in the text where the message at this position is wanted. Of the text alone nobody
--- knows where its reader fails, or where memory runs out
+-- the fault comes next in the text, where the message of the position `wanted` is due; the source may fail and memory
+-- run out anywhere
 abbrev pub Stands : ℕ → List ℕ → StreamFault → Type 0
 Stands wanted text (BadMessage at fault) = RefusedLine wanted text (BadMessage at fault)
 Stands wanted text (OutOfStep named got) = RefusedLine wanted text (OutOfStep named got)
@@ -44,7 +44,7 @@ Stands wanted text Read = Unit {0}
 Stands wanted text Memory = Unit {0}
 Stands wanted text Failed = ⊥
 
--- the text alone tells that this fault comes next, or that none does
+-- the fault depends on the text alone
 abbrev pub IsOfText : Option StreamFault → Type 0
 IsOfText None = Unit {0}
 IsOfText (Some Read) = ⊥

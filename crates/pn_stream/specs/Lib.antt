@@ -1,5 +1,6 @@
 pub mod Batches
 pub mod Brokers
+pub mod Calls
 pub mod Faults
 pub mod MessageLines
 pub mod Messages

@@ -1,4 +1,4 @@
--- The messages that values and lines are.
+-- Messages as JSON values and as lines.
 use Rattle.std.specs.Prelude.{◌≡◌, ℕ, List, codes, IsTrue}
 use Rattle.serde_json.specs.Data.{Data, number, object, unsigned, no_members, member}
 use Rattle.pn_join.specs.Marks.{is_position}

@@ -1,4 +1,4 @@
--- The message that a JSON value is: the shapes of its members one after another, and then their ranges.
+-- The message of a JSON value: first the shapes of its members, then their ranges.
 use Rattle.std.specs.Prelude.{ℕ, not, if◌then◌else◌, List, [], ◌∷◌, codes, Result, Ok, Err}
 use Rattle.std.specs.Option.{ok_or}
 use Rattle.serde_json.specs.Data.{Data}
@@ -22,7 +22,7 @@ Message = ℕ × Image
 abbrev pub message_members : List (List ℕ)
 message_members = codes "at" ∷ codes "image" ∷ []
 
--- the message of which the value has the shape, or the first member of another shape
+-- the message, or the first member of a wrong shape
 unfoldable pub shape_in : Data → Result Message Member
 shape_in d = do
   members ← ok_or (as_object d) member.Whole
@@ -36,7 +36,7 @@ shape_in d = do
 unfoldable pub ranges_in : Message → Result (Unit {0}) Member
 ranges_in message = if not (is_position message.0) then Err member.At else image_ranges_in message.1
 
--- the message that the value is, or its first fault: all shapes come before the ranges
+-- the message of a value, or its first fault; every shape comes before the ranges
 unfoldable pub message_in : Data → Result Message ImageFault
 message_in d = do
   message ← fault_as BadShape (shape_in d)

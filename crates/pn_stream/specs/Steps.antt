@@ -1,4 +1,4 @@
--- What a line that was read, and a message that was read, come to.
+-- What is made of the end of a line, and of the message that was read in it.
 use Rattle.std.specs.Prelude.{ℕ, ◌==◌, Bool, if◌then◌else◌, Option, None, Some, Result, Ok, Err}
 use Rattle.pn_line.specs.declared.reading.BoundedEnd.{BoundedEnd}
 use Rattle.pn_line.specs.declared.reading.BoundedEnd.TheVariants.{Newline, EndOfInput, TooLong}
@@ -9,14 +9,14 @@ use Rattle.pn_stream.specs.Messages.{Message}
 use Rattle.pn_stream.specs.declared.fault.StreamFault.{StreamFault}
 use Rattle.pn_stream.specs.declared.fault.StreamFault.TheVariants.{Read, LineTooLong, BadMessage, OutOfStep, Memory}
 
--- whether a further newline was shown behind the whole line that was read, if one was; or why none comes
+-- whether a further newline was seen after the line, if a whole one was read; or why none comes
 abbrev pub line_ended : {E : Type 0} → Result BoundedEnd E → Result (Option Bool) StreamFault
 line_ended (Ok (Newline more)) = Ok (Some more)
 line_ended (Ok EndOfInput) = Ok None
 line_ended (Ok TooLong) = Err LineTooLong
 line_ended (Err error) = Err Read
 
--- why there is no message where the one at this position is wanted
+-- why there is no message of the position `wanted`
 abbrev pub fault_at : ℕ → ImageFault → StreamFault
 fault_at wanted image.Memory = Memory
 fault_at wanted image.TooLong = BadMessage wanted image.TooLong
@@ -24,7 +24,7 @@ fault_at wanted image.NotJson = BadMessage wanted image.NotJson
 fault_at wanted (image.BadShape member) = BadMessage wanted (image.BadShape member)
 fault_at wanted (image.OutOfRange member) = BadMessage wanted (image.OutOfRange member)
 
--- the image of a message, where it is at the position that is wanted
+-- the image of a message, if it has the position `wanted`
 abbrev pub image_in_step : ℕ → Result Message ImageFault → Result Image StreamFault
 image_in_step wanted (Ok message) = if message.0 == wanted then Ok message.1 else Err (OutOfStep wanted message.0)
 image_in_step wanted (Err fault) = Err (fault_at wanted fault)

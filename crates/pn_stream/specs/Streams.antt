@@ -1,4 +1,4 @@
--- A stream as a text: its lines, the messages that they are, and what is left of it.
+-- A stream as a text: its lines, their messages, and what is left to read.
 use Rattle.std.specs.Prelude.{◌≡◌, ℕ, ◌+◌, ◌≤◌, List, [], ◌∷◌, ◌++◌, length, Option, Some}
 use Rattle.pn_line.specs.Reads.{IsUnbroken}
 use Rattle.pn_line.specs.Text.{text_of}
@@ -6,7 +6,7 @@ use Rattle.pn_record.specs.Limits.{max_line_bytes}
 use Rattle.pn_record.specs.declared.image.Image.{Image}
 use Rattle.pn_stream.specs.MessageLines.{IsMessageLine}
 
--- these lines are the messages of these images, at the positions after this one
+-- the lines are the messages of these images, at the positions after this one
 abbrev pub InStep : ℕ → List (List ℕ) → List Image → Type 0
 InStep position [] [] = Unit {0}
 InStep position (line ∷ lines) (image ∷ images) =
@@ -30,6 +30,6 @@ pub record NoLine (text : List ℕ) : Type 0 where
   pub unbroken : IsUnbroken text
   pub short : length text ≤ max_line_bytes
 
--- this text is still to be read: a part of a line that was taken, and what the source has left
+-- this text is left: the part of a line that was read, and what the source still has
 abbrev pub IsLeft : List ℕ → List ℕ → Option (List ℕ) → Type 0
 IsLeft text part left = (rest : List ℕ) × (left ≡ Some rest) × (text ≡ part ++ rest)

@@ -1,4 +1,4 @@
-//! Deliveries: images that stand in a stream one after another.
+//! Deliveries: consecutive images of a stream.
 
 ghost use Rattle.std.specs.Prelude.{◌≡◌, ◌↔◌, length, IfSome, IsSome, IsTrue};
 ghost use Rattle.pn_stream.specs.Positions.{are_positions};
@@ -7,8 +7,8 @@ use pn_join::{LAST_POSITION, StreamName};
 use pn_record::Image;
 use std::marker::Model;
 
-/// Images that stand in a stream at consecutive positions. Where there are none, the first position is
-/// that of the image that would come next, or the last position of all.
+/// Images of a stream at consecutive positions. Without images, the first position is the one that comes next, at
+/// most 10^15.
 #[derive(Debug, Drop)]
 pub struct Delivery {
     stream: StreamName,
@@ -28,8 +28,8 @@ impl Model for Delivery {
 }
 
 impl Delivery {
-    /// The images from the position `first` on. None where `first`, or the position of the last image,
-    /// is not from 1 to 10^15.
+    /// The images from the position `first` on. None where `first` or the position of the last image is not
+    /// from 1 to 10^15.
     pub fn new(stream: StreamName, first: u64, images: Vec<Image>) -> Option<Delivery>
         ensures made { IfSome result
             (λ delivery. delivery ≡ record { stream = stream; first = first; images = images.items }) }
@@ -75,7 +75,7 @@ impl Delivery {
         &self.images
     }
 
-    /// The images themselves, in the order of their positions. It takes no memory.
+    /// The images themselves, in the order of their positions.
     pub fn into_images(self) -> Vec<Image>
         ensures { result.items ≡ self.images }
     {
@@ -84,8 +84,7 @@ impl Delivery {
     }
 }
 
-/// Whether `count` images from the position `first` on have positions from 1 to 10^15. Where there are none,
-/// it is `first` that is asked.
+/// Whether `first`, and the positions of `count` images from there on, are from 1 to 10^15.
 pub fn positions_fit(first: u64, count: usize) -> bool
     ensures { result ≡ are_positions first count }
 {

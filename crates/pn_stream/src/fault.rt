@@ -1,4 +1,4 @@
-//! Why a stream gives no further message.
+//! Why a reader returns no further message.
 
 ghost use Rattle.std.specs.Prelude.{◌≡◌};
 ghost use Rattle.pn_stream.specs.declared.fault.StreamFault.TheVariants.{Memory};
@@ -7,10 +7,10 @@ use pn_join::NoMemory;
 use pn_record::ImageFault;
 use thiserror::Error;
 
-/// Why a stream gives no further message.
+/// Why a reader returns no further message.
 #[derive(Clone, Copy, Debug, PartialEq, Eq, Error)]
 pub enum StreamFault {
-    /// The reader answered an error.
+    /// The source returned an error.
     #[error("the stream could not be read")]
     Read,
     /// More than 65,536 bytes came without a newline.
@@ -19,12 +19,12 @@ pub enum StreamFault {
     /// The line is not a message. `at` is the position that was expected.
     #[error("no message at {at}: {fault}")]
     BadMessage { at: u64, fault: ImageFault },
-    /// The line is the message of another position. After the last position, 10^15, every message is one.
+    /// The line is a message of another position. After the last position, 10^15, every message is.
     #[error("the message at {wanted} was wanted and that at {got} came")]
     OutOfStep { wanted: u64, got: u64 },
     #[error("out of memory")]
     Memory,
-    /// A call before answered a fault.
+    /// An earlier call returned a fault.
     #[error("the stream failed before")]
     Failed,
 }

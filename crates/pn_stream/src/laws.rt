@@ -14,8 +14,8 @@ pub fn a_line_is_one_message()
     ensures { (line : List ℕ) (one other : Message) → IsMessageLine line one → IsMessageLine line other → one ≡ other }
 {}
 
-/// Of one text there is one batch: however its bytes come, the same images are given, and the same fault
-/// comes next or none does, where memory does not run out and the reader does not fail.
+/// A text has one batch: however its bytes arrive, the images and the fault after them are the same, unless memory
+/// runs out or the source fails.
 pub fn the_pieces_make_no_difference()
     ensures { (max position : ℕ) (text : List ℕ) (one other : List Image) (fault next : Option StreamFault)
         (part piece : List ℕ) (left leaves : Option (List ℕ))
@@ -23,16 +23,14 @@ pub fn the_pieces_make_no_difference()
         → IsOfText fault → IsOfText next → (one ≡ other) × (fault ≡ next) }
 {}
 
-/// What one call gives and then another, of what the first left, is one run of messages: so it is all the
-/// same by how many calls a stream is read.
+/// Consecutive batches concatenate to one run of messages.
 pub fn batches_follow_one_another()
     ensures { (position : ℕ) (text rest more : List ℕ) (one other : List Image)
         → Run position text one rest → Run (position + length one) rest other more
         → Run position text (one ++ other) more }
 {}
 
-/// What one call gives and then another is what one call gives that asks for as many more: so it is all the same by
-/// which calls a stream is read.
+/// Two calls, one after another, give what one call gives that asks for as many messages.
 pub fn two_calls_are_one()
     ensures { (least most fewest max position : ℕ) (text part piece : List ℕ) (one other : List Image) (fault : Option StreamFault)
         (left leaves : Option (List ℕ))

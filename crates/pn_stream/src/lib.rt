@@ -1,4 +1,5 @@
-//! Streams of images: messages read from lines, in step with their positions.
+//! Streams of images: messages read from lines, in the order of their positions. What returns no `Result` takes no
+//! memory.
 #![tactic(auto)]
 
 mod delivery;

@@ -12,14 +12,15 @@ ghost use Rattle.pn_stream.specs.MessageLines.{IsMessage, IsMessageLine, message
 
 use pn_join::{LAST_POSITION, NoMemory};
 use pn_json::{check_names, member_from, whole_number_of};
-use pn_record::{Image, ImageFault, Member, Shape, image_from, read_value, shape_of};
+use pn_record::{
+    Image, ImageFault, Member, UncheckedImage, image_from, read_value, unchecked_image,
+};
 use serde_json::Value;
 use std::alloc::Global;
 
-/// The position and the image of a message, `{"at":P,"image":I}`. `TooLong` where the line has more than
-/// 65,536 bytes; otherwise `NotJson` where `serde_json` reads no value in it; otherwise `BadShape` with
-/// the first member of a wrong shape; otherwise `OutOfRange` with the first that breaks a limit: `at` is
-/// from 1 to 10^15, and then come the image's own.
+/// The position, from 1 to 10^15, and the image of a message, `{"at":P,"image":I}`.
+///
+/// Errors, in this order: `TooLong` above 65,536 bytes, `NotJson`, `BadShape` and `OutOfRange`, each with its member.
 pub fn read_message(alloc: Global, line: &[u8]) -> Result<(u64, Image), ImageFault>
     ensures found { IfOk result (λ message. IsMessageLine line.now message) }
     ensures only { (message : Message) → IsMessageLine line.now message → IsUnless ImageFault.Memory result (Ok message) }
@@ -68,7 +69,7 @@ fn message_image(alloc: Global, value: Value) -> Result<Image, NoMemory>
 
 // The position and the image of a message, borrowed from the value.
 #[tactic(auto, unfolding(crate::specs::Messages::shape_in))]
-fn message_shape(value: &Value) -> Result<(u64, Shape<'_>), Member>
+fn message_shape(value: &Value) -> Result<(u64, UncheckedImage<'_>), Member>
     ensures exact { result ≡ shape_in (view value.now) }
     ensures found { IfOk result (λ message. view value.now ≡ message_data message) }
     ensures rising { IfOk result (λ message. IsTrue (body_rises message.1.content.0)) }
@@ -76,14 +77,14 @@ fn message_shape(value: &Value) -> Result<(u64, Shape<'_>), Member>
     let members = value.as_object().ok_or(Member::Whole)?;
     let at = whole_number_of(value.get("at"), Member::At)?;
     let image = value.get("image").ok_or(Member::Image)?;
-    let shape = shape_of(image)?;
+    let shape = unchecked_image(image)?;
     check_names(members, &["at", "image"], Member::Other)?;
     Ok((at, shape))
 }
 
 // The first member that breaks a limit, if one does.
 #[tactic(auto, unfolding(crate::specs::Messages::ranges_in))]
-fn check_message(at: u64, image: &Shape<'_>) -> Result<(), Member>
+fn check_message(at: u64, image: &UncheckedImage<'_>) -> Result<(), Member>
     ensures { result ≡ ranges_in (at, image.now) }
 {
     if !is_position(at) {

@@ -1,4 +1,4 @@
-//! The next messages of a stream, from the lines that its source has.
+//! The next messages of a stream, read from the lines of its source.
 
 ghost use Rattle.std.specs.Prelude.{◌≡◌, ◌+◌, ◌<◌, ◌≤◌, false, [], ◌∷◌, ◌++◌, length, IfOk, IfErr, IfSome, OnOk, OnSome, OnErr, IsErrOf, IsSome, IsTrue};
 ghost use Rattle.pn_line.specs.Line.{so_far};
@@ -17,8 +17,8 @@ use pn_record::{Image, ImageFault};
 use std::alloc::Global;
 use std::io;
 
-/// How many messages are asked for: no more than `most`, and fewer than `least` only where no further whole line is
-/// there or a fault stands next.
+/// How many messages are asked for: at most `most`, and fewer than `least` only where no further whole line is there
+/// or a fault follows.
 #[derive(Clone, Copy, Debug)]
 pub(crate) struct Asked {
     pub(crate) least: usize,
@@ -26,7 +26,7 @@ pub(crate) struct Asked {
 }
 
 impl Asked {
-    // Whether so many messages are too few; or there is room for another one, and its newline was shown.
+    // Whether to read on after `count` messages: they are too few, or a further newline was seen and there is room.
     fn wants(self, count: usize, more: bool) -> bool
         requires { self.least ≤ self.most }
         ensures room { IsTrue result → count < self.most }
@@ -37,15 +37,15 @@ impl Asked {
     }
 }
 
-// The image of a message, and whether a further newline was shown behind its line.
+// The image of a message, and whether a further newline was seen after its line.
 #[derive(Drop)]
 struct Found {
     image: Image,
     more: bool,
 }
 
-// Adds the images of the next messages, until there are as many as were asked for, no whole line is left, or a fault
-// comes. The part of a line that was taken is kept. Where there was none, memory for a line is taken first.
+// Adds the images of the next messages, until there are enough, no whole line is left, or a fault comes. The part of
+// a line that was read is kept.
 pub(crate) fn next_images<S: Source>(
     alloc: Global,
     held: &mut Option<LineBuffer>,
@@ -75,7 +75,7 @@ pub(crate) fn next_images<S: Source>(
     Ok(())
 }
 
-// The line that holds a part, or a new one.
+// The line whose part was kept, or a new one.
 fn held_line(alloc: Global, held: &mut Option<LineBuffer>) -> Result<LineBuffer, StreamFault>
     requires { IfSome held.old IsPart }
     ensures part { IfOk result IsPart }
@@ -95,7 +95,7 @@ fn new_line(alloc: Global) -> Result<LineBuffer, NoMemory>
     Ok(LineBuffer::new(alloc)?)
 }
 
-// The same, with the line that holds the part.
+// Adds the images of the next messages, of which `line` holds what was read of the first.
 fn gather<S: Source>(
     alloc: Global,
     line: &mut LineBuffer,
@@ -133,7 +133,7 @@ fn gather<S: Source>(
     Ok(())
 }
 
-// An error leaves the images as they were.
+// Adds an image. An error leaves the images as they were.
 fn push_image(images: &mut Vec<Image>, image: Image) -> Result<(), NoMemory>
     ensures ok { OnOk result (images.new.items ≡ images.old.items ++ image ∷ []) }
     ensures err { OnErr result (images.new.items ≡ images.old.items) }
@@ -142,7 +142,7 @@ fn push_image(images: &mut Vec<Image>, image: Image) -> Result<(), NoMemory>
     Ok(())
 }
 
-// The next message, which must be at the position `wanted`. None where no whole line is left.
+// The next message, which must have the position `wanted`. None where no whole line is left.
 fn next_image<S: Source>(
     alloc: Global,
     line: &mut LineBuffer,
@@ -170,7 +170,7 @@ fn next_image<S: Source>(
     Ok(Some(Found { image, more }))
 }
 
-// Whether a further newline was shown behind the whole line that was read, if one was; or why none comes.
+// Whether a further newline was seen after the line, if a whole one was read.
 fn whole_line(end: io::Result<BoundedEnd>) -> Result<Option<bool>, StreamFault>
     ensures { result ≡ line_ended end }
 {
@@ -182,7 +182,7 @@ fn whole_line(end: io::Result<BoundedEnd>) -> Result<Option<bool>, StreamFault>
     }
 }
 
-// The image of the message at this position that a line is.
+// The image of a line's message, which must have the position `wanted`.
 fn image_at(alloc: Global, line: &[u8], wanted: u64) -> Result<Image, StreamFault>
     ensures ok { IfOk result (λ image. IsMessageLine line.now (wanted, image)) }
     ensures err { IfErr result (λ fault. Refuses wanted line.now fault) }
@@ -190,7 +190,7 @@ fn image_at(alloc: Global, line: &[u8], wanted: u64) -> Result<Image, StreamFaul
     in_step(wanted, read_message(alloc, line))
 }
 
-// The image of the message that was read, if it is at the position `wanted`.
+// The image of the message that was read, if it has the position `wanted`.
 fn in_step(wanted: u64, read: Result<(u64, Image), ImageFault>) -> Result<Image, StreamFault>
     ensures { result ≡ image_in_step wanted read }
 {

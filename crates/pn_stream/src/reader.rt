@@ -1,9 +1,9 @@
-//! Readers of streams: the next messages of a stream, in step, however its bytes come.
+//! Readers of streams: the next messages of a stream in the order of their positions, however its bytes arrive.
 
-ghost use Rattle.std.specs.Prelude.{◌≡◌, ◌≢◌, ◌+◌, ◌≤◌, [], ◌++◌, length, min, IfOk, IfErr, IfSome, OnOk, OnErr, IsErrOf, IsTrue};
+ghost use Rattle.std.specs.Prelude.{◌≡◌, ◌≢◌, ◌+◌, ◌≤◌, [], ◌++◌, length, min, IfErr, IfSome, OnOk, IsTrue};
 ghost use Rattle.pn_record.specs.Limits.{greatest, max_line_bytes};
 ghost use Rattle.pn_stream.specs.Batches.{Batch};
-ghost use Rattle.pn_stream.specs.Faults.{Stands};
+ghost use Rattle.pn_stream.specs.Calls.{IsCall};
 
 use crate::delivery::Delivery;
 use crate::fault::StreamFault;
@@ -20,9 +20,9 @@ pub struct StreamReader<S: Drop> {
     alloc: Global,
     name: StreamName,
     position: u64,
-    // The part of a line that was taken. None before the first call, and after a fault.
+    // The part of a line that was read. None before the first call, and after a fault.
     line: Option<LineBuffer>,
-    // The fault that the next call answers.
+    // The fault that the next call returns.
     fault: Option<StreamFault>,
     source: S,
 }
@@ -41,8 +41,8 @@ impl<S: Drop> Model for StreamReader<S> {
 
 #[tactic(auto, using(crate::proofs::Steps::part_within))]
 impl<S: Source + Drop> StreamReader<S> {
-    /// A reader of the stream `name`, from the message after the position `after` on, which is at most
-    /// 10^15. It takes no memory; later calls take theirs from `alloc`.
+    /// A reader of the stream `name` that begins after the position `after`, at most 10^15. Only later calls
+    /// take memory.
     pub fn new(alloc: Global, name: StreamName, after: u64, source: S) -> StreamReader<S>
         requires { after ≤ greatest }
         ensures { result ≡ record { name = name; position = after; part = []; fault = None; source = source } }
@@ -57,7 +57,7 @@ impl<S: Source + Drop> StreamReader<S> {
         }
     }
 
-    /// The last position given, at first the one that `new` was given.
+    /// The position of the last message returned, at first that of `new`.
     pub fn position(&self) -> u64
         ensures position { result ≡ self.now.position }
         ensures within { result ≤ greatest }
@@ -65,46 +65,24 @@ impl<S: Source + Drop> StreamReader<S> {
         self.position
     }
 
-    /// The name that `new` was given.
+    /// The name of the stream.
     pub fn name(&self) -> &StreamName
         ensures { result.now ≡ self.now.name }
     {
         &self.name
     }
 
-    /// The images of the next messages, at most `max` of them, which is from 1 to 1,000. There are fewer
-    /// only where no further whole line is there or a fault stands next. Without images, no whole line is
-    /// there; a part of a line is kept, and a later call goes on with it.
+    /// The images of the next messages, at most `max`, from 1 to 1,000. Fewer come only where no further whole
+    /// line is there or a fault follows.
     ///
-    /// What comes before a fault is given first, and the fault at the next call. After a fault every call
-    /// answers `Failed`. A new reader goes on from `position`.
+    /// Without a whole line there are none, and the part of one is kept.
+    ///
+    /// Messages before a fault are returned first; the next call returns the fault, and each later one
+    /// `Failed`. A new reader goes on from `position`.
     pub fn next_batch(&mut self, max: usize) -> Result<Delivery, StreamFault>
         requires some { 1 ≤ max }
         requires few { max ≤ 1000 }
-
-        // What is given.
-        ensures delivery { IfOk result (λ delivery.
-            delivery ≡ record { stream = self.old.name; first = min (self.old.position + 1) greatest; images = delivery.images }) }
-        ensures within { IfOk result (λ delivery. length delivery.images ≤ max) }
-        ensures longest { IfOk result (λ delivery. IfSome (S.left self.old.source) (λ text.
-            Batch max max self.old.position (self.old.part ++ text) delivery.images self.new.fault self.new.part (S.left self.new.source))) }
-        ensures waits { IfOk result (λ delivery. length delivery.images ≡ 0 → self.new.fault ≡ None) }
-
-        // Which fault it is.
-        ensures waited { IfSome self.old.fault (λ fault. result ≡ Err fault) }
-        ensures fault { IfErr result (λ fault. self.old.fault ≡ None → IfSome (S.left self.old.source) (λ text.
-            Stands (self.old.position + 1) (self.old.part ++ text) fault)) }
-        ensures read { IsErrOf result StreamFault.Read → self.old.fault ≡ None → S.may_fail }
-        ensures read_next { IfOk result (λ _. self.new.fault ≡ Some StreamFault.Read → S.may_fail) }
-        ensures not_failed { IsErrOf result StreamFault.Failed → self.old.fault ≡ None → ⊥ }
-        ensures not_failed_next { IfOk result (λ _. self.new.fault ≢ Some StreamFault.Failed) }
-
-        // What stands after it.
-        ensures position { IfOk result (λ delivery. self.new.position ≡ self.old.position + length delivery.images) }
-        ensures stays { OnErr result (self.new.position ≡ self.old.position) }
-        ensures failed { OnErr result (self.new.fault ≡ Some StreamFault.Failed) }
-        ensures name { self.new.name ≡ self.old.name }
-        ensures part { length self.new.part ≤ max_line_bytes }
+        ensures { IsCall S.left S.may_fail max max self.old result self.new }
     {
         self.next_asked(Asked {
             least: max,
@@ -112,36 +90,14 @@ impl<S: Source + Drop> StreamReader<S> {
         })
     }
 
-    /// The images of the next messages that are at hand, at most `max` of them, which is from 1 to 1,000. It waits for
-    /// the first message, and looks for a further line only where that line's newline was shown: of other lines it
-    /// takes nothing. Without images, no whole line is there, as from `next_batch`, and faults come as from there.
+    /// The images of the next messages that already arrived, at most `max`, from 1 to 1,000. It waits only for the
+    /// first.
+    ///
+    /// Faults come as from `next_batch`.
     pub fn next_ready(&mut self, max: usize) -> Result<Delivery, StreamFault>
         requires some { 1 ≤ max }
         requires few { max ≤ 1000 }
-
-        // What is given.
-        ensures delivery { IfOk result (λ delivery.
-            delivery ≡ record { stream = self.old.name; first = min (self.old.position + 1) greatest; images = delivery.images }) }
-        ensures within { IfOk result (λ delivery. length delivery.images ≤ max) }
-        ensures run { IfOk result (λ delivery. IfSome (S.left self.old.source) (λ text.
-            Batch 1 max self.old.position (self.old.part ++ text) delivery.images self.new.fault self.new.part (S.left self.new.source))) }
-        ensures waits { IfOk result (λ delivery. length delivery.images ≡ 0 → self.new.fault ≡ None) }
-
-        // Which fault it is.
-        ensures waited { IfSome self.old.fault (λ fault. result ≡ Err fault) }
-        ensures fault { IfErr result (λ fault. self.old.fault ≡ None → IfSome (S.left self.old.source) (λ text.
-            Stands (self.old.position + 1) (self.old.part ++ text) fault)) }
-        ensures read { IsErrOf result StreamFault.Read → self.old.fault ≡ None → S.may_fail }
-        ensures read_next { IfOk result (λ _. self.new.fault ≡ Some StreamFault.Read → S.may_fail) }
-        ensures not_failed { IsErrOf result StreamFault.Failed → self.old.fault ≡ None → ⊥ }
-        ensures not_failed_next { IfOk result (λ _. self.new.fault ≢ Some StreamFault.Failed) }
-
-        // What stands after it.
-        ensures position { IfOk result (λ delivery. self.new.position ≡ self.old.position + length delivery.images) }
-        ensures stays { OnErr result (self.new.position ≡ self.old.position) }
-        ensures failed { OnErr result (self.new.fault ≡ Some StreamFault.Failed) }
-        ensures name { self.new.name ≡ self.old.name }
-        ensures part { length self.new.part ≤ max_line_bytes }
+        ensures { IsCall S.left S.may_fail 1 max self.old result self.new }
     {
         self.next_asked(Asked {
             least: 1,
@@ -149,34 +105,11 @@ impl<S: Source + Drop> StreamReader<S> {
         })
     }
 
-    // The images of the next messages, as many as were asked for.
+    // The images of the next messages, between the least and the most that were asked for.
     fn next_asked(&mut self, asked: Asked) -> Result<Delivery, StreamFault>
         requires some { 1 ≤ asked.least }
         requires few { asked.least ≤ asked.most }
-
-        // What is given.
-        ensures delivery { IfOk result (λ delivery.
-            delivery ≡ record { stream = self.old.name; first = min (self.old.position + 1) greatest; images = delivery.images }) }
-        ensures within { IfOk result (λ delivery. length delivery.images ≤ asked.most) }
-        ensures run { IfOk result (λ delivery. IfSome (S.left self.old.source) (λ text.
-            Batch asked.least asked.most self.old.position (self.old.part ++ text) delivery.images self.new.fault self.new.part (S.left self.new.source))) }
-        ensures waits { IfOk result (λ delivery. length delivery.images ≡ 0 → self.new.fault ≡ None) }
-
-        // Which fault it is.
-        ensures waited { IfSome self.old.fault (λ fault. result ≡ Err fault) }
-        ensures fault { IfErr result (λ fault. self.old.fault ≡ None → IfSome (S.left self.old.source) (λ text.
-            Stands (self.old.position + 1) (self.old.part ++ text) fault)) }
-        ensures read { IsErrOf result StreamFault.Read → self.old.fault ≡ None → S.may_fail }
-        ensures read_next { IfOk result (λ _. self.new.fault ≡ Some StreamFault.Read → S.may_fail) }
-        ensures not_failed { IsErrOf result StreamFault.Failed → self.old.fault ≡ None → ⊥ }
-        ensures not_failed_next { IfOk result (λ _. self.new.fault ≢ Some StreamFault.Failed) }
-
-        // What stands after it.
-        ensures position { IfOk result (λ delivery. self.new.position ≡ self.old.position + length delivery.images) }
-        ensures stays { OnErr result (self.new.position ≡ self.old.position) }
-        ensures failed { OnErr result (self.new.fault ≡ Some StreamFault.Failed) }
-        ensures name { self.new.name ≡ self.old.name }
-        ensures part { length self.new.part ≤ max_line_bytes }
+        ensures { IsCall S.left S.may_fail asked.least asked.most self.old result self.new }
     {
         if let Some(fault) = self.waiting() {
             return Err(self.fail(fault));
@@ -186,7 +119,7 @@ impl<S: Source + Drop> StreamReader<S> {
         Ok(self.deliver(images))
     }
 
-    // The fault that the next call answers.
+    // The fault that the next call returns.
     fn waiting(&self) -> Option<StreamFault>
         ensures fault { result ≡ self.now.fault }
         ensures part { length self.now.part ≤ max_line_bytes }
@@ -194,7 +127,7 @@ impl<S: Source + Drop> StreamReader<S> {
         self.fault
     }
 
-    // Answers the fault. No messages come after it.
+    // Returns the fault. No messages come after it.
     fn fail(&mut self, fault: StreamFault) -> StreamFault
         ensures failed { self.new ≡ record self.old { fault = Some StreamFault.Failed } }
         ensures fault { result ≡ fault }
@@ -233,7 +166,7 @@ impl<S: Source + Drop> StreamReader<S> {
         }
     }
 
-    // A fault with nothing before it is answered now, and another one at the next call.
+    // A fault with no message before it is returned now, another one by the next call.
     fn settle(&mut self, fault: Option<StreamFault>, is_first: bool) -> Result<(), StreamFault>
         ensures ok { OnOk result (self.new ≡ record self.old { fault = fault }) }
         ensures waits { OnOk result (IsTrue is_first → fault ≡ None) }
@@ -249,7 +182,7 @@ impl<S: Source + Drop> StreamReader<S> {
         }
     }
 
-    // A delivery of the images that follow the last position, which is moved past them.
+    // A delivery of the images after the last position, which becomes that of the last image.
     fn deliver(&mut self, images: Vec<Image>) -> Delivery
         requires { self.old.position + length images.items ≤ greatest }
         ensures moved { self.new ≡ record self.old { position = self.old.position + length images.items } }

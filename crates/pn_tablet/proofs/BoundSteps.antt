@@ -33,7 +33,7 @@ rising_from_none (a ∷ b ∷ bounds) none =
       | false ↦ λ p is. cc
     ] refl none
 
--- the first fall behind a place
+-- the first fall after a place
 abbrev pub fall_from : ℕ → Bounds → Option ℕ
 fall_from place bounds = option_map (λ k. place + k) (first_fall (drop place bounds))
 
@@ -44,11 +44,11 @@ fall_from-zero bounds = same (first_fall bounds) where
   same (Some k) = ap Some (sym (zero-add k))
 
 module _ (bounds : Bounds) (j : ℕ) (a b : List ℕ) (here : a ≡ get_or bounds j a) (next : b ≡ get_or bounds (suc j) b) (inside : suc j < length bounds) where
-  behind : drop (suc j) bounds ≡ b ∷ drop (suc (suc j)) bounds
-  behind = drop_more bounds (suc j) b inside ∙ ap (λ x. x ∷ drop (suc j + 1) bounds) (sym next) ∙ ap (λ k. b ∷ drop k bounds) (add-one (suc j))
+  after : drop (suc j) bounds ≡ b ∷ drop (suc (suc j)) bounds
+  after = drop_more bounds (suc j) b inside ∙ ap (λ x. x ∷ drop (suc j + 1) bounds) (sym next) ∙ ap (λ k. b ∷ drop k bounds) (add-one (suc j))
 
   both : drop j bounds ≡ a ∷ b ∷ drop (suc (suc j)) bounds
-  both = drop_more bounds j a (omega arith) ∙ ap (λ x. x ∷ drop (j + 1) bounds) (sym here) ∙ ap (λ k. a ∷ drop k bounds) (add-one j) ∙ ap (λ xs. a ∷ xs) behind
+  both = drop_more bounds j a (omega arith) ∙ ap (λ x. x ∷ drop (j + 1) bounds) (sym here) ∙ ap (λ k. a ∷ drop k bounds) (add-one j) ∙ ap (λ xs. a ∷ xs) after
 
   -- here the bounds fall
   pub falls_here : is_below a b ≡ false → fall_from j bounds ≡ Some (suc j)
@@ -62,17 +62,17 @@ module _ (bounds : Bounds) (j : ℕ) (a b : List ℕ) (here : a ≡ get_or bound
   pub rises_here : is_below a b ≡ true → fall_from j bounds ≡ fall_from (suc j) bounds
   rises_here below =
       ap (λ xs. option_map (λ k. j + k) (first_fall xs)) both
-      ∙ rw below (later (first_fall (b ∷ drop (suc (suc j)) bounds)) ∙ ap (λ xs. option_map (λ k. suc j + k) (first_fall xs)) (sym behind))
+      ∙ rw below (later (first_fall (b ∷ drop (suc (suc j)) bounds)) ∙ ap (λ xs. option_map (λ k. suc j + k) (first_fall xs)) (sym after))
 
--- behind the last bound but one nothing falls
-pub no_fall_behind : (bounds : Bounds) (j : ℕ) → length bounds ≤ suc j → fall_from j bounds ≡ None
-no_fall_behind [] j past = ap (λ xs. option_map (λ k. j + k) (first_fall xs)) (drop-nil j) where
+-- after the last bound but one nothing falls
+pub no_fall_after : (bounds : Bounds) (j : ℕ) → length bounds ≤ suc j → fall_from j bounds ≡ None
+no_fall_after [] j past = ap (λ xs. option_map (λ k. j + k) (first_fall xs)) (drop-nil j) where
   drop-nil : (k : ℕ) → drop {A = List ℕ} k [] ≡ []
   drop-nil zero = refl
   drop-nil (suc k) = refl
-no_fall_behind (a ∷ []) zero past = refl
-no_fall_behind (a ∷ b ∷ bounds) zero past = absurd (omega arith)
-no_fall_behind (a ∷ bounds) (suc j) past = none (first_fall (drop j bounds)) (no_fall_behind bounds j (omega arith)) where
+no_fall_after (a ∷ []) zero past = refl
+no_fall_after (a ∷ b ∷ bounds) zero past = absurd (omega arith)
+no_fall_after (a ∷ bounds) (suc j) past = none (first_fall (drop j bounds)) (no_fall_after bounds j (omega arith)) where
   none : (o : Option ℕ) → option_map (λ k. j + k) o ≡ None → option_map (λ k. suc j + k) o ≡ None
   none None is = refl
   none (Some k) is = cc

@@ -1,4 +1,4 @@
--- The changes among what is joined are those of the whole table.
+-- The changes of the joined keys are those of the whole table.
 use Rattle.std.proofs.Common.{◌≡◌, ℕ, suc, ◌≤◌, length, Bool, true, false, not, cond, List, [], ◌∷◌, map, filter, Option, Some, None, refl, sym, ap, ◌∙◌, subst, arith}
 use Rattle.std.specs.List.{AllByRecursion, filter_map, cons_option}
 use Rattle.std.specs.FinMap.{find}
@@ -50,7 +50,7 @@ from_joined : (before : Option CellValue) (e : List ℕ × CellValue) (after : O
 from_joined None e after is = from_entry None e after is
 from_joined (Some cell) e after is = from_entry (Some cell) (e.0, cell_joined cell e.1) after is
 
--- the changes among what is joined are those of the whole table
+-- the changes of the joined keys are those of the whole table
 pub joined_changes : (old more new : Entries) → Joins old more new → filter_map (λ entry. change_by (find bytes_cmp entry.0 old) entry) more ≡ changes old new
 joined_changes old more new joins =
     let g : List ℕ → Change = λ key. change_at (find bytes_cmp key old) (find bytes_cmp key new) key in
@@ -68,7 +68,7 @@ few_kept : {A B : Type 0} (f : A → Option B) (xs : List A) → length (filter_
 few_kept f [] = omega arith
 few_kept f (x ∷ xs) = fewer (f x) (filter_map f xs) xs (few_kept f xs)
 
--- there are at most as many as are joined
+-- at most as many as joined cells
 pub few_changes : (old more new : Entries) → Joins old more new → length (changes old new) ≤ length more
 few_changes old more new joins =
     subst (λ (list : List Change). length list ≤ length more) (joined_changes old more new joins)

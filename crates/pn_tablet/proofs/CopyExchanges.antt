@@ -22,7 +22,7 @@ use Rattle.pn_record.specs.Writing.{image_data}
 use Rattle.pn_record.specs.Laws.Totals.{bytes_cmp_total, content_cmp_total}
 use Rattle.pn_tablet.specs.Copies.{TabletCopyValue}
 use Rattle.pn_tablet.specs.CopyLines.{IsHead, IsValue, AreLines}
-use Rattle.pn_tablet.specs.CopyTexts.{comes_behind, images_rise, mark_line, lines_behind_head, IsCopyText}
+use Rattle.pn_tablet.specs.CopyTexts.{comes_after, images_rise, mark_line, lines_after_head, IsCopyText}
 use Rattle.pn_tablet.specs.Ranges.{Ends}
 use Rattle.pn_tablet.specs.declared.copy_line.CopyLine.{CopyLine}
 use Rattle.pn_tablet.specs.declared.copy_line.CopyLine.TheVariants.{Mark, Record, End}
@@ -63,7 +63,7 @@ one_way (Record image) (Record next) first second = not_both image_total image n
 one_way (Record image) (End count) first second = second
 one_way (End count) says first second = first
 
--- each comes before all behind it
+-- each comes before all after it
 abbrev Ordered : List CopyLine → Type 0
 Ordered [] = Unit {0}
 Ordered (says ∷ more) = AllByRecursion (Comes says) more × Ordered more
@@ -78,41 +78,41 @@ by_key Less contents versions is = refl
 by_key Equal contents versions is = less_from contents (and_parts versions (is_lt contents) is).1
 by_key Greater contents versions is = absurd (cc)
 
-behind_next : (image next : Image) (says : List CopyLine) → image_cmp image next ≡ Less → AllByRecursion (Comes (Record next)) says → AllByRecursion (Comes (Record image)) says
-behind_next image next [] less all = tt
-behind_next image next (Mark name at ∷ says) less all = absurd all.0
-behind_next image next (Record other ∷ says) less all = (image_total.trans image next other less all.0, behind_next image next says less all.1)
-behind_next image next (End count ∷ says) less all = (tt, behind_next image next says less all.1)
+after_next : (image next : Image) (says : List CopyLine) → image_cmp image next ≡ Less → AllByRecursion (Comes (Record next)) says → AllByRecursion (Comes (Record image)) says
+after_next image next [] less all = tt
+after_next image next (Mark name at ∷ says) less all = absurd all.0
+after_next image next (Record other ∷ says) less all = (image_total.trans image next other less all.0, after_next image next says less all.1)
+after_next image next (End count ∷ says) less all = (tt, after_next image next says less all.1)
 
 images_ordered : (images : List Image) (count : ℕ) → images_rise images ≡ true → Ordered (map Record images ++ End count ∷ [])
 images_ordered [] count rise = (tt, tt)
 images_ordered (image ∷ []) count rise = ((tt, tt), (tt, tt))
 images_ordered (image ∷ next ∷ images) count rise =
-    let parts = and_parts (comes_behind image next) (images_rise (next ∷ images)) rise in
+    let parts = and_parts (comes_after image next) (images_rise (next ∷ images)) rise in
     let less = by_key (bytes_cmp image.key next.key) (content_cmp image.content next.content) _ parts.0 in
     let later = images_ordered (next ∷ images) count parts.1 in
-    ((less, behind_next image next (map Record images ++ End count ∷ []) less later.0), later)
+    ((less, after_next image next (map Record images ++ End count ∷ []) less later.0), later)
 
-images_behind : (mark : List ℕ × ℕ) (images : List Image) (count : ℕ) → AllByRecursion (Comes (mark_line mark)) (map Record images ++ End count ∷ [])
-images_behind mark [] count = (tt, tt)
-images_behind mark (image ∷ images) count = (tt, images_behind mark images count)
+images_after : (mark : List ℕ × ℕ) (images : List Image) (count : ℕ) → AllByRecursion (Comes (mark_line mark)) (map Record images ++ End count ∷ [])
+images_after mark [] count = (tt, tt)
+images_after mark (image ∷ images) count = (tt, images_after mark images count)
 
-mark_behind : (mark : List ℕ × ℕ) (marks : Positions) (images : List Image) (count : ℕ) → below_all name_cmp mark.0 marks ≡ true
+mark_after : (mark : List ℕ × ℕ) (marks : Positions) (images : List Image) (count : ℕ) → below_all name_cmp mark.0 marks ≡ true
     → AllByRecursion (Comes (mark_line mark)) (map mark_line marks ++ (map Record images ++ End count ∷ []))
-mark_behind mark [] images count below = images_behind mark images count
-mark_behind mark (other ∷ marks) images count below =
+mark_after mark [] images count below = images_after mark images count
+mark_after mark (other ∷ marks) images count below =
     let parts = and_parts (is_lt (name_cmp mark.0 other.0)) (below_all name_cmp mark.0 marks) below in
-    (less_from _ parts.0, mark_behind mark marks images count parts.1)
+    (less_from _ parts.0, mark_after mark marks images count parts.1)
 
 lines_ordered : (marks : Positions) (images : List Image) (count : ℕ) → is_sorted name_cmp marks ≡ true → images_rise images ≡ true → Ordered (map mark_line marks ++ (map Record images ++ End count ∷ []))
 lines_ordered [] images count sorted rise = images_ordered images count rise
 lines_ordered (mark ∷ marks) images count sorted rise =
     let parts = and_parts (below_all name_cmp mark.0 marks) (is_sorted name_cmp marks) sorted in
-    (mark_behind mark marks images count parts.0, lines_ordered marks images count parts.1 rise)
+    (mark_after mark marks images count parts.0, lines_ordered marks images count parts.1 rise)
 
 -- ---- two lines of a copy
 
--- each says something, and one comes before the other
+-- each is a line of a copy, and one comes before the other
 record Follow (one other : List ℕ) : Type 0 where
   pub first : CopyLine
   pub second : CopyLine
@@ -120,20 +120,20 @@ record Follow (one other : List ℕ) : Type 0 where
   pub other_is : IsLine IsValue other second
   pub comes : Comes first second
 
-found_behind : (between behind : List (List ℕ)) (one other : List ℕ) (first : CopyLine) (says : List CopyLine) → IsLine IsValue one first → AreLines (between ++ other ∷ behind) says
+found_after : (between after : List (List ℕ)) (one other : List ℕ) (first : CopyLine) (says : List CopyLine) → IsLine IsValue one first → AreLines (between ++ other ∷ after) says
     → AllByRecursion (Comes first) says → Follow one other
-found_behind [] behind one other first [] is are all = absurd are
-found_behind [] behind one other first (second ∷ says) is are all = record { first = first; second = second; one_is = is; other_is = are.0; comes = all.0 }
-found_behind (line ∷ between) behind one other first [] is are all = absurd are
-found_behind (line ∷ between) behind one other first (second ∷ says) is are all = found_behind between behind one other first says is are.1 all.1
+found_after [] after one other first [] is are all = absurd are
+found_after [] after one other first (second ∷ says) is are all = record { first = first; second = second; one_is = is; other_is = are.0; comes = all.0 }
+found_after (line ∷ between) after one other first [] is are all = absurd are
+found_after (line ∷ between) after one other first (second ∷ says) is are all = found_after between after one other first says is are.1 all.1
 
-follow_in : (before between behind : List (List ℕ)) (one other : List ℕ) (says : List CopyLine) → AreLines (before ++ one ∷ (between ++ other ∷ behind)) says → Ordered says → Follow one other
-follow_in [] between behind one other [] are order = absurd are
-follow_in [] between behind one other (first ∷ says) are order = found_behind between behind one other first says are.0 are.1 order.0
-follow_in (line ∷ before) between behind one other [] are order = absurd are
-follow_in (line ∷ before) between behind one other (first ∷ says) are order = follow_in before between behind one other says are.1 order.1
+follow_in : (before between after : List (List ℕ)) (one other : List ℕ) (says : List CopyLine) → AreLines (before ++ one ∷ (between ++ other ∷ after)) says → Ordered says → Follow one other
+follow_in [] between after one other [] are order = absurd are
+follow_in [] between after one other (first ∷ says) are order = found_after between after one other first says are.0 are.1 order.0
+follow_in (line ∷ before) between after one other [] are order = absurd are
+follow_in (line ∷ before) between after one other (first ∷ says) are order = follow_in before between after one other says are.1 order.1
 
--- a line says one thing
+-- a text is one line of a copy
 says_one : (line : List ℕ) (says other : CopyLine) → IsLine IsValue line says → IsLine IsValue line other → says ≡ other
 says_one line says other first second =
     let same = sym (line_at-again Truncated line says first) ∙ line_at-again Truncated line other second in
@@ -170,11 +170,11 @@ no_head line range says head is =
 
 -- ---- the lines of texts that spell copies
 
-found_in : (between behind : List (List ℕ)) (other : List ℕ) (says : List CopyLine) → AreLines (between ++ other ∷ behind) says → (one : CopyLine) × IsLine IsValue other one
-found_in [] behind other [] are = absurd are
-found_in [] behind other (one ∷ says) are = (one, are.0)
-found_in (line ∷ between) behind other [] are = absurd are
-found_in (line ∷ between) behind other (one ∷ says) are = found_in between behind other says are.1
+found_in : (between after : List (List ℕ)) (other : List ℕ) (says : List CopyLine) → AreLines (between ++ other ∷ after) says → (one : CopyLine) × IsLine IsValue other one
+found_in [] after other [] are = absurd are
+found_in [] after other (one ∷ says) are = (one, are.0)
+found_in (line ∷ between) after other [] are = absurd are
+found_in (line ∷ between) after other (one ∷ says) are = found_in between after other says are.1
 
 own_order : (lines : List (List ℕ)) (head : List ℕ) (copy : TabletCopyValue) (is : IsCopyText (text_of (head ∷ lines)) copy) → All IsUnbroken (head ∷ lines)
     → (range : Ends) × IsLine IsHead head range × (says : List CopyLine) × AreLines lines says × Ordered says
@@ -184,39 +184,39 @@ own_order lines head copy is unbroken =
     let same_rest : lines ≡ is.lines = cc in (
       copy.range,
       subst (λ (line : List ℕ). IsLine IsHead line copy.range) (sym same_head) is.head_is,
-      lines_behind_head copy.marks is.images,
-      subst (λ (rest : List (List ℕ)). AreLines rest (lines_behind_head copy.marks is.images)) (sym same_rest) is.lines_are,
+      lines_after_head copy.marks is.images,
+      subst (λ (rest : List (List ℕ)). AreLines rest (lines_after_head copy.marks is.images)) (sym same_rest) is.lines_are,
       lines_ordered copy.marks is.images (length copy.marks + length is.images) is.names_rise is.images_rise,
     )
 
-unbroken_at : (before behind : List (List ℕ)) (line : List ℕ) → All IsUnbroken (before ++ line ∷ behind) → IsUnbroken line
-unbroken_at [] behind line unbroken = All-head IsUnbroken line behind unbroken
-unbroken_at (first ∷ before) behind line unbroken = unbroken_at before behind line (All-tail IsUnbroken first (before ++ line ∷ behind) unbroken)
+unbroken_at : (before after : List (List ℕ)) (line : List ℕ) → All IsUnbroken (before ++ line ∷ after) → IsUnbroken line
+unbroken_at [] after line unbroken = All-head IsUnbroken line after unbroken
+unbroken_at (first ∷ before) after line unbroken = unbroken_at before after line (All-tail IsUnbroken first (before ++ line ∷ after) unbroken)
 
-put_at : (before behind : List (List ℕ)) (line new : List ℕ) → IsUnbroken new → All IsUnbroken (before ++ line ∷ behind) → All IsUnbroken (before ++ new ∷ behind)
-put_at [] behind line new is unbroken = All-cons IsUnbroken new behind is (All-tail IsUnbroken line behind unbroken)
-put_at (first ∷ before) behind line new is unbroken =
-    All-cons IsUnbroken first (before ++ new ∷ behind) (All-head IsUnbroken first (before ++ line ∷ behind) unbroken)
-    (put_at before behind line new is (All-tail IsUnbroken first (before ++ line ∷ behind) unbroken))
+put_at : (before after : List (List ℕ)) (line new : List ℕ) → IsUnbroken new → All IsUnbroken (before ++ line ∷ after) → All IsUnbroken (before ++ new ∷ after)
+put_at [] after line new is unbroken = All-cons IsUnbroken new after is (All-tail IsUnbroken line after unbroken)
+put_at (first ∷ before) after line new is unbroken =
+    All-cons IsUnbroken first (before ++ new ∷ after) (All-head IsUnbroken first (before ++ line ∷ after) unbroken)
+    (put_at before after line new is (All-tail IsUnbroken first (before ++ line ∷ after) unbroken))
 
-exchanged : (before between behind : List (List ℕ)) (one other : List ℕ) → All IsUnbroken (before ++ one ∷ (between ++ other ∷ behind)) → All IsUnbroken (before ++ other ∷ (between ++ one ∷ behind))
-exchanged [] between behind one other unbroken =
-    let rest = All-tail IsUnbroken one (between ++ other ∷ behind) unbroken in
-    All-cons IsUnbroken other (between ++ one ∷ behind) (unbroken_at between behind other rest)
-    (put_at between behind other one (All-head IsUnbroken one (between ++ other ∷ behind) unbroken) rest)
-exchanged (first ∷ before) between behind one other unbroken =
-    All-cons IsUnbroken first (before ++ other ∷ (between ++ one ∷ behind)) (All-head IsUnbroken first (before ++ one ∷ (between ++ other ∷ behind)) unbroken)
-    (exchanged before between behind one other (All-tail IsUnbroken first (before ++ one ∷ (between ++ other ∷ behind)) unbroken))
+exchanged : (before between after : List (List ℕ)) (one other : List ℕ) → All IsUnbroken (before ++ one ∷ (between ++ other ∷ after)) → All IsUnbroken (before ++ other ∷ (between ++ one ∷ after))
+exchanged [] between after one other unbroken =
+    let rest = All-tail IsUnbroken one (between ++ other ∷ after) unbroken in
+    All-cons IsUnbroken other (between ++ one ∷ after) (unbroken_at between after other rest)
+    (put_at between after other one (All-head IsUnbroken one (between ++ other ∷ after) unbroken) rest)
+exchanged (first ∷ before) between after one other unbroken =
+    All-cons IsUnbroken first (before ++ other ∷ (between ++ one ∷ after)) (All-head IsUnbroken first (before ++ one ∷ (between ++ other ∷ after)) unbroken)
+    (exchanged before between after one other (All-tail IsUnbroken first (before ++ one ∷ (between ++ other ∷ after)) unbroken))
 
 -- where two lines of a copy are exchanged no copy is left
-pub none_exchanged : (before between behind : List (List ℕ)) (one other : List ℕ) (copy another : TabletCopyValue) → All IsUnbroken (before ++ one ∷ (between ++ other ∷ behind))
-    → IsCopyText (text_of (before ++ one ∷ (between ++ other ∷ behind))) copy → IsCopyText (text_of (before ++ other ∷ (between ++ one ∷ behind))) another → ⊥
-none_exchanged [] between behind one other copy another unbroken is also =
-    let first = own_order (between ++ other ∷ behind) one copy is unbroken in
-    let second = own_order (between ++ one ∷ behind) other another also (exchanged [] between behind one other unbroken) in
-    let said = found_in between behind other first.2 first.3 in
+pub none_exchanged : (before between after : List (List ℕ)) (one other : List ℕ) (copy another : TabletCopyValue) → All IsUnbroken (before ++ one ∷ (between ++ other ∷ after))
+    → IsCopyText (text_of (before ++ one ∷ (between ++ other ∷ after))) copy → IsCopyText (text_of (before ++ other ∷ (between ++ one ∷ after))) another → ⊥
+none_exchanged [] between after one other copy another unbroken is also =
+    let first = own_order (between ++ other ∷ after) one copy is unbroken in
+    let second = own_order (between ++ one ∷ after) other another also (exchanged [] between after one other unbroken) in
+    let said = found_in between after other first.2 first.3 in
     no_head other second.0 said.0 second.1 said.1
-none_exchanged (head ∷ before) between behind one other copy another unbroken is also =
-    let first = own_order (before ++ one ∷ (between ++ other ∷ behind)) head copy is unbroken in
-    let second = own_order (before ++ other ∷ (between ++ one ∷ behind)) head another also (exchanged (head ∷ before) between behind one other unbroken) in
-    apart one other (follow_in before between behind one other first.2 first.3 first.4) (follow_in before between behind other one second.2 second.3 second.4)
+none_exchanged (head ∷ before) between after one other copy another unbroken is also =
+    let first = own_order (before ++ one ∷ (between ++ other ∷ after)) head copy is unbroken in
+    let second = own_order (before ++ other ∷ (between ++ one ∷ after)) head another also (exchanged (head ∷ before) between after one other unbroken) in
+    apart one other (follow_in before between after one other first.2 first.3 first.4) (follow_in before between after other one second.2 second.3 second.4)

@@ -17,7 +17,7 @@ use Rattle.pn_tablet.specs.Copies.{TabletCopyValue}
 use Rattle.pn_tablet.specs.CopyLines.{IsHead, IsValue, AreLines}
 use Rattle.pn_tablet.specs.CopyLineReading.{line_at}
 use Rattle.pn_tablet.specs.CopyReading.{is_over, with_mark, with_image, ended, after, read_on}
-use Rattle.pn_tablet.specs.CopyTexts.{comes_behind, images_rise, lines_behind_head}
+use Rattle.pn_tablet.specs.CopyTexts.{comes_after, images_rise, lines_after_head}
 use Rattle.pn_tablet.specs.Drafts.{DraftValue, whole}
 use Rattle.pn_tablet.specs.Ranges.{Ends, in_range}
 use Rattle.pn_tablet.specs.declared.copy_line.CopyLine.{CopyLine}
@@ -26,12 +26,12 @@ use Rattle.pn_tablet.specs.declared.copy_fault.CopyTextFault.{CopyTextFault}
 use Rattle.pn_tablet.specs.declared.copy_fault.CopyTextFault.TheVariants.{BadLine, OutsideRange, NotRising, BadEnd}
 use Rattle.pn_tablet.proofs.CopySteps.{read_on-cons, then_ok}
 use Rattle.pn_tablet.proofs.CopyValues.{line_at-again, line_at-found}
-use Rattle.pn_tablet.proofs.Drafting.{is_behind}
+use Rattle.pn_tablet.proofs.Drafting.{is_after_all}
 
--- the images rise behind the last one, if there is one
-abbrev pub rise_behind : Option Image → List Image → Bool
-rise_behind None images = images_rise images
-rise_behind (Some last) images = images_rise (last ∷ images)
+-- the images rise after the last one, if there is one
+abbrev pub rise_after : Option Image → List Image → Bool
+rise_after None images = images_rise images
+rise_after (Some last) images = images_rise (last ∷ images)
 
 abbrev pub all_inside : Ends → List Image → Bool
 all_inside range images = list_all (λ image. in_range range image.key) images
@@ -46,9 +46,9 @@ some_after (line ∷ lines) = (line, lines ++ [] ∷ [], refl)
 
 -- ---- a text that spells a copy is read as it
 
-first_behind : (last : Option Image) (image : Image) (images : List Image) → rise_behind last (image ∷ images) ≡ true → (option_map_or (λ l. comes_behind l image) last true ≡ true) × (rise_behind (Some image) images ≡ true)
-first_behind None image images rise = (refl, rise)
-first_behind (Some last) image images rise = and_parts (comes_behind last image) (images_rise (image ∷ images)) rise
+first_after : (last : Option Image) (image : Image) (images : List Image) → rise_after last (image ∷ images) ≡ true → (option_map_or (λ l. comes_after l image) last true ≡ true) × (rise_after (Some image) images ≡ true)
+first_after None image images rise = (refl, rise)
+first_after (Some last) image images rise = and_parts (comes_after last image) (images_rise (image ∷ images)) rise
 
 draft_with : Ends → Positions → List Image → Option Image → DraftValue
 draft_with range marks done last = record { range = range; marks = marks; cells = table_of done; last = last }
@@ -58,7 +58,7 @@ counted n count is = eq-eqb count (n - 2) is
 
 module _ (range : Ends) (marks : Positions) where
   images_again : (n : ℕ) (done : List Image) (last : Option Image) (images : List Image) (lines : List (List ℕ)) (count : ℕ) → 2 ≤ n → count ≡ n - 2 + length images
-      → AreLines lines (map Record images ++ End count ∷ []) → rise_behind last images ≡ true → all_inside range images ≡ true
+      → AreLines lines (map Record images ++ End count ∷ []) → rise_after last images ≡ true → all_inside range images ≡ true
       → read_on n (record { range = range; marks = marks; cells = table_of done; last = last }) (lines ++ [] ∷ []) ≡ Ok (record { range = range; marks = marks; cells = table_of (done ++ images) })
   images_again n done last [] [] count some counts are rise inside = absurd are
   images_again n done last [] (line ∷ next ∷ lines) count some counts are rise inside = absurd are.1
@@ -72,22 +72,22 @@ module _ (range : Ends) (marks : Positions) where
   images_again n done last (image ∷ images) (line ∷ lines) count some counts are rise inside =
       let draft : DraftValue = record { range = range; marks = marks; cells = table_of done; last = last } in
       let (piece, more, is) = some_after lines in
-      let behind = first_behind last image images rise in
+      let later = first_after last image images rise in
       let within = and_parts (in_range range image.key) (all_inside range images) inside in
       let grown : adds (table_of done) (image ∷ []) ≡ table_of (done ++ image ∷ []) = adds-table_of done (image ∷ []) in
       let longer : DraftValue = record { range = range; marks = marks; cells = table_of (done ++ image ∷ []); last = Some image } in
-      let taken : with_image n draft image ≡ Ok longer = rw (within.0, behind.0, grown) refl in
+      let taken : with_image n draft image ≡ Ok longer = rw (within.0, later.0, grown) refl in
       read_on-cons n draft line piece (lines ++ [] ∷ []) more is
       ∙ then_ok _ _ (Record image) (line_at-again (BadLine n) line (Record image) are.0)
       ∙ then_ok (with_image n draft image) (λ d. read_on (n + 1) d (lines ++ [] ∷ [])) longer taken
-      ∙ images_again (n + 1) (done ++ image ∷ []) (Some image) images lines count (omega (arith, some)) (omega (arith, counts, some)) are.1 behind.1 within.1
+      ∙ images_again (n + 1) (done ++ image ∷ []) (Some image) images lines count (omega (arith, some)) (omega (arith, counts, some)) are.1 later.1 within.1
       ∙ ap (λ all. Ok (record { range = range; marks = marks; cells = table_of all })) (append_assoc done (image ∷ []) images)
 
-sorted_behind : (marks : Positions) (mark : List ℕ × ℕ) (rest : Positions) → is_sorted name_cmp (marks ++ mark ∷ rest) ≡ true → is_behind marks mark.0 ≡ true
-sorted_behind [] mark rest sorted = refl
-sorted_behind (first ∷ marks) mark rest sorted =
+sorted_after : (marks : Positions) (mark : List ℕ × ℕ) (rest : Positions) → is_sorted name_cmp (marks ++ mark ∷ rest) ≡ true → is_after_all marks mark.0 ≡ true
+sorted_after [] mark rest sorted = refl
+sorted_after (first ∷ marks) mark rest sorted =
     let parts = and_parts (below_all name_cmp first.0 (marks ++ mark ∷ rest)) (is_sorted name_cmp (marks ++ mark ∷ rest)) sorted in
-    and_from _ _ (below_there marks parts.0) (sorted_behind marks mark rest parts.1)
+    and_from _ _ (below_there marks parts.0) (sorted_after marks mark rest parts.1)
   where
     below_there : (others : Positions) → below_all name_cmp first.0 (others ++ mark ∷ rest) ≡ true → is_lt (name_cmp first.0 mark.0) ≡ true
     below_there [] below = (and_parts (is_lt (name_cmp first.0 mark.0)) (below_all name_cmp first.0 rest) below).0
@@ -106,7 +106,7 @@ module _ (range : Ends) (images : List Image) (rise : images_rise images ≡ tru
       let draft : DraftValue = record { range = range; marks = marks; cells = []; last = None } in
       let (piece, rest, is) = some_after lines in
       let longer : DraftValue = record { range = range; marks = marks ++ mark ∷ []; cells = []; last = None } in
-      let taken : with_mark n draft (mark.0, mark.1) ≡ Ok longer = rw (sorted_behind marks mark more sorted) refl in
+      let taken : with_mark n draft (mark.0, mark.1) ≡ Ok longer = rw (sorted_after marks mark more sorted) refl in
       read_on-cons n draft line piece (lines ++ [] ∷ []) rest is
       ∙ then_ok _ _ (Mark mark.0 mark.1) (line_at-again (BadLine n) line (Mark mark.0 mark.1) are.0)
       ∙ then_ok (with_mark n draft (mark.0, mark.1)) (λ d. read_on (n + 1) d (lines ++ [] ∷ [])) longer taken
@@ -116,12 +116,12 @@ module _ (range : Ends) (images : List Image) (rise : images_rise images ≡ tru
 
 -- ---- and a text that is read as a copy spells it
 
-sorted_push : (marks : Positions) (name : List ℕ) (n : ℕ) → is_sorted name_cmp marks ≡ true → is_behind marks name ≡ true → is_sorted name_cmp (marks ++ (name, n) ∷ []) ≡ true
-sorted_push [] name n sorted behind = refl
-sorted_push (first ∷ marks) name n sorted behind =
+sorted_push : (marks : Positions) (name : List ℕ) (n : ℕ) → is_sorted name_cmp marks ≡ true → is_after_all marks name ≡ true → is_sorted name_cmp (marks ++ (name, n) ∷ []) ≡ true
+sorted_push [] name n sorted later = refl
+sorted_push (first ∷ marks) name n sorted later =
     let parts = and_parts (below_all name_cmp first.0 marks) (is_sorted name_cmp marks) sorted in
-    let behind_parts = and_parts (is_lt (name_cmp first.0 name)) (is_behind marks name) behind in
-    and_from _ _ (below_push marks parts.0 behind_parts.0) (sorted_push marks name n parts.1 behind_parts.1)
+    let after_parts = and_parts (is_lt (name_cmp first.0 name)) (is_after_all marks name) later in
+    and_from _ _ (below_push marks parts.0 after_parts.0) (sorted_push marks name n parts.1 after_parts.1)
   where
     below_push : (others : Positions) → below_all name_cmp first.0 others ≡ true → is_lt (name_cmp first.0 name) ≡ true → below_all name_cmp first.0 (others ++ (name, n) ∷ []) ≡ true
     below_push [] below less = and_from _ _ less refl
@@ -138,7 +138,7 @@ pub record Follow (n : ℕ) (draft : DraftValue) (done : List Image) (pieces : L
   pub lines_are : AreLines lines (lines_with marks images (n - 2 + (length marks + length images)))
   pub no_marks : is_some draft.last ≡ true → marks ≡ []
   pub sorted : is_sorted name_cmp draft.marks ≡ true → is_sorted name_cmp (draft.marks ++ marks) ≡ true
-  pub rise : rise_behind draft.last images ≡ true
+  pub rise : rise_after draft.last images ≡ true
   pub inside : all_inside draft.range images ≡ true
   pub copy_is : copy ≡ record { range = draft.range; marks = draft.marks ++ marks; cells = table_of (done ++ images) }
 
@@ -148,9 +148,9 @@ over_is ([] ∷ []) is = refl
 over_is ([] ∷ piece ∷ pieces) is = absurd (cc)
 over_is ((b ∷ line) ∷ pieces) is = absurd (cc)
 
-behind_first : (last : Option Image) (image : Image) (images : List Image) → option_map_or (λ l. comes_behind l image) last true ≡ true → images_rise (image ∷ images) ≡ true → rise_behind last (image ∷ images) ≡ true
-behind_first None image images behind rise = rise
-behind_first (Some last) image images behind rise = and_from _ _ behind rise
+after_first : (last : Option Image) (image : Image) (images : List Image) → option_map_or (λ l. comes_after l image) last true ≡ true → images_rise (image ∷ images) ≡ true → rise_after last (image ∷ images) ≡ true
+after_first None image images later rise = rise
+after_first (Some last) image images later rise = and_from _ _ later rise
 
 module _ (n : ℕ) (draft : DraftValue) (done : List Image) (line : List ℕ) (pieces : List (List ℕ)) (copy : TabletCopyValue) (some : 2 ≤ n) (cells_are : draft.cells ≡ table_of done)
     (next : (longer : DraftValue) (more : List Image) → longer.cells ≡ table_of more → read_on (n + 1) longer pieces ≡ Ok copy → Follow (n + 1) longer more pieces copy) where
@@ -172,7 +172,7 @@ module _ (n : ℕ) (draft : DraftValue) (done : List Image) (line : List ℕ) (p
         copy_is = sym parts.1 ∙ (λ i. record { range = draft.range; marks = (sym (append-nil draft.marks)) i; cells = (cells_are ∙ ap table_of (sym (append-nil done))) i });
       }
     where
-      rise_none : (last : Option Image) → rise_behind last [] ≡ true
+      rise_none : (last : Option Image) → rise_after last [] ≡ true
       rise_none None = refl
       rise_none (Some last) = refl
 
@@ -180,9 +180,9 @@ module _ (n : ℕ) (draft : DraftValue) (done : List Image) (line : List ℕ) (p
   follow_mark name position line_is is =
       let taken = bind_ok (with_mark n draft (name, position)) _ copy is in
       let no_image = no_fault (is_some draft.last) (BadLine n) _ taken.0 taken.1 in
-      let behind = guard_ok (is_behind draft.marks name) (record draft { marks = draft.marks ++ (name, position) ∷ [] }) taken.0 (NotRising n) no_image.1 in
+      let later = guard_ok (is_after_all draft.marks name) (record draft { marks = draft.marks ++ (name, position) ∷ [] }) taken.0 (NotRising n) no_image.1 in
       let longer : DraftValue = record draft { marks = draft.marks ++ (name, position) ∷ [] } in
-      let f = next longer done cells_are (ap (λ (d : DraftValue). read_on (n + 1) d pieces) behind.1 ∙ taken.2) in
+      let f = next longer done cells_are (ap (λ (d : DraftValue). read_on (n + 1) d pieces) later.1 ∙ taken.2) in
       let joined : (draft.marks ++ (name, position) ∷ []) ++ f.marks ≡ draft.marks ++ (name, position) ∷ f.marks = append_assoc draft.marks ((name, position) ∷ []) f.marks in
       let counts : n + 1 - 2 + (length f.marks + length f.images) ≡ n - 2 + (suc (length f.marks) + length f.images) = omega (arith, some) in
       record {
@@ -192,7 +192,7 @@ module _ (n : ℕ) (draft : DraftValue) (done : List Image) (line : List ℕ) (p
         pieces_are = ap (λ l. line ∷ l) f.pieces_are;
         lines_are = (line_is, subst (λ count. AreLines f.lines (lines_with f.marks f.images count)) counts f.lines_are);
         no_marks = λ image. absurd (false≢true (sym no_image.0 ∙ image));
-        sorted = λ sorted. ap (is_sorted name_cmp) (sym joined) ∙ f.sorted (sorted_push draft.marks name position sorted behind.0);
+        sorted = λ sorted. ap (is_sorted name_cmp) (sym joined) ∙ f.sorted (sorted_push draft.marks name position sorted later.0);
         rise = f.rise;
         inside = f.inside;
         copy_is = f.copy_is ∙ ap (λ (all : Positions). record { range = draft.range; marks = all; cells = table_of (done ++ f.images) }) joined;
@@ -202,9 +202,9 @@ module _ (n : ℕ) (draft : DraftValue) (done : List Image) (line : List ℕ) (p
   follow_image image line_is is =
       let taken = bind_ok (with_image n draft image) _ copy is in
       let here = passed (in_range draft.range image.key) (OutsideRange n) _ taken.0 taken.1 in
-      let behind = guard_ok (option_map_or (λ last. comes_behind last image) draft.last true) (record draft { cells = adds draft.cells (image ∷ []); last = Some image }) taken.0 (NotRising n) here.1 in
+      let later = guard_ok (option_map_or (λ last. comes_after last image) draft.last true) (record draft { cells = adds draft.cells (image ∷ []); last = Some image }) taken.0 (NotRising n) here.1 in
       let longer : DraftValue = record draft { cells = adds draft.cells (image ∷ []); last = Some image } in
-      let f = next longer (done ++ image ∷ []) (ap (λ cells. adds cells (image ∷ [])) cells_are ∙ adds-table_of done (image ∷ [])) (ap (λ (d : DraftValue). read_on (n + 1) d pieces) behind.1 ∙ taken.2) in
+      let f = next longer (done ++ image ∷ []) (ap (λ cells. adds cells (image ∷ [])) cells_are ∙ adds-table_of done (image ∷ [])) (ap (λ (d : DraftValue). read_on (n + 1) d pieces) later.1 ∙ taken.2) in
       let none : f.marks ≡ [] = f.no_marks refl in
       let counts : n + 1 - 2 + (0 + length f.images) ≡ n - 2 + (0 + suc (length f.images)) = omega (arith, some) in
       record {
@@ -215,7 +215,7 @@ module _ (n : ℕ) (draft : DraftValue) (done : List Image) (line : List ℕ) (p
         lines_are = (line_is, subst (λ count. AreLines f.lines (lines_with [] f.images count)) counts (subst (λ marks. AreLines f.lines (lines_with marks f.images (n + 1 - 2 + (length marks + length f.images)))) none f.lines_are));
         no_marks = λ _. refl;
         sorted = λ sorted. ap (is_sorted name_cmp) (append-nil draft.marks) ∙ sorted;
-        rise = behind_first draft.last image f.images behind.0 f.rise;
+        rise = after_first draft.last image f.images later.0 f.rise;
         inside = and_from _ _ here.0 f.inside;
         copy_is = f.copy_is ∙ (λ i. record { range = draft.range; marks = draft.marks ++ none i; cells = table_of (append_assoc done (image ∷ []) f.images i) });
       }

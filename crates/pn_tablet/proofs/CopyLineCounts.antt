@@ -7,7 +7,7 @@ use Rattle.pn_line.proofs.TextLaws.{lines_of-nil, lines_of-text}
 use Rattle.pn_record.specs.Cells.{spell}
 use Rattle.pn_tablet.specs.Copies.{TabletCopyValue}
 use Rattle.pn_tablet.specs.CopyLines.{AreLines}
-use Rattle.pn_tablet.specs.CopyTexts.{lines_behind_head, IsCopyText}
+use Rattle.pn_tablet.specs.CopyTexts.{lines_after_head, IsCopyText}
 use Rattle.pn_tablet.specs.declared.copy_line.CopyLine.{CopyLine}
 use Rattle.pn_tablet.proofs.SameSpelling.{spelled_again}
 
@@ -20,35 +20,35 @@ as_many [] (line ∷ says) are = absurd are
 as_many (line ∷ lines) [] are = absurd are
 as_many (line ∷ lines) (first ∷ says) are = ap suc (as_many lines says are.1)
 
--- the lines of a copy's text are its head and the lines behind it
+-- the lines of a copy's text are its head and the lines after it
 pub same_lines : (lines : List (List ℕ)) (copy : TabletCopyValue) → All IsUnbroken lines → (is : IsCopyText (text_of lines) copy) → lines ≡ is.head ∷ is.lines
 same_lines lines copy unbroken is = sym (lines_again lines unbroken) ∙ ap lines_of is.text_is ∙ lines_again (is.head ∷ is.lines) is.unbroken
 
 -- a line for each mark and each image, and two more
-lines_counted : (lines : List (List ℕ)) (copy : TabletCopyValue) → All IsUnbroken lines → IsCopyText (text_of lines) copy → length lines ≡ suc (length (lines_behind_head copy.marks (spell copy.cells)))
+lines_counted : (lines : List (List ℕ)) (copy : TabletCopyValue) → All IsUnbroken lines → IsCopyText (text_of lines) copy → length lines ≡ suc (length (lines_after_head copy.marks (spell copy.cells)))
 lines_counted lines copy unbroken is =
     let images = sym (spelled_again is.images is.images_rise) ∙ ap spell (sym is.cells) in
-    ap length (same_lines lines copy unbroken is) ∙ ap suc (as_many is.lines (lines_behind_head copy.marks is.images) is.lines_are ∙ ap (λ images. length (lines_behind_head copy.marks images)) images)
+    ap length (same_lines lines copy unbroken is) ∙ ap suc (as_many is.lines (lines_after_head copy.marks is.images) is.lines_are ∙ ap (λ images. length (lines_after_head copy.marks images)) images)
 
 pub same_count : (one other : List (List ℕ)) (copy : TabletCopyValue) → All IsUnbroken one → All IsUnbroken other → IsCopyText (text_of one) copy → IsCopyText (text_of other) copy → length one ≡ length other
 same_count one other copy one_lines other_lines first second = lines_counted one copy one_lines first ∙ sym (lines_counted other copy other_lines second)
 
-without : (before behind : List (List ℕ)) (line : List ℕ) → All IsUnbroken (before ++ line ∷ behind) → All IsUnbroken (before ++ behind)
-without [] behind line unbroken = All-tail IsUnbroken line behind unbroken
-without (first ∷ before) behind line unbroken =
-    All-cons IsUnbroken first (before ++ behind) (All-head IsUnbroken first (before ++ line ∷ behind) unbroken) (without before behind line (All-tail IsUnbroken first (before ++ line ∷ behind) unbroken))
+without : (before after : List (List ℕ)) (line : List ℕ) → All IsUnbroken (before ++ line ∷ after) → All IsUnbroken (before ++ after)
+without [] after line unbroken = All-tail IsUnbroken line after unbroken
+without (first ∷ before) after line unbroken =
+    All-cons IsUnbroken first (before ++ after) (All-head IsUnbroken first (before ++ line ∷ after) unbroken) (without before after line (All-tail IsUnbroken first (before ++ line ∷ after) unbroken))
 
-doubled : (before behind : List (List ℕ)) (line : List ℕ) → All IsUnbroken (before ++ line ∷ behind) → All IsUnbroken (before ++ line ∷ line ∷ behind)
-doubled [] behind line unbroken = All-cons IsUnbroken line (line ∷ behind) (All-head IsUnbroken line behind unbroken) unbroken
-doubled (first ∷ before) behind line unbroken =
-    All-cons IsUnbroken first (before ++ line ∷ line ∷ behind) (All-head IsUnbroken first (before ++ line ∷ behind) unbroken) (doubled before behind line (All-tail IsUnbroken first (before ++ line ∷ behind) unbroken))
+doubled : (before after : List (List ℕ)) (line : List ℕ) → All IsUnbroken (before ++ line ∷ after) → All IsUnbroken (before ++ line ∷ line ∷ after)
+doubled [] after line unbroken = All-cons IsUnbroken line (line ∷ after) (All-head IsUnbroken line after unbroken) unbroken
+doubled (first ∷ before) after line unbroken =
+    All-cons IsUnbroken first (before ++ line ∷ line ∷ after) (All-head IsUnbroken first (before ++ line ∷ after) unbroken) (doubled before after line (All-tail IsUnbroken first (before ++ line ∷ after) unbroken))
 
-pub none_dropped : (before behind : List (List ℕ)) (line : List ℕ) (copy : TabletCopyValue) → All IsUnbroken (before ++ line ∷ behind) → IsCopyText (text_of (before ++ line ∷ behind)) copy → IsCopyText (text_of (before ++ behind)) copy → ⊥
-none_dropped before behind line copy unbroken is without_it =
-    let same = same_count (before ++ line ∷ behind) (before ++ behind) copy unbroken (without before behind line unbroken) is without_it in
-    omega (arith, same, length-append before (line ∷ behind), length-append before behind)
+pub none_dropped : (before after : List (List ℕ)) (line : List ℕ) (copy : TabletCopyValue) → All IsUnbroken (before ++ line ∷ after) → IsCopyText (text_of (before ++ line ∷ after)) copy → IsCopyText (text_of (before ++ after)) copy → ⊥
+none_dropped before after line copy unbroken is without_it =
+    let same = same_count (before ++ line ∷ after) (before ++ after) copy unbroken (without before after line unbroken) is without_it in
+    omega (arith, same, length-append before (line ∷ after), length-append before after)
 
-pub none_doubled : (before behind : List (List ℕ)) (line : List ℕ) (copy : TabletCopyValue) → All IsUnbroken (before ++ line ∷ behind) → IsCopyText (text_of (before ++ line ∷ behind)) copy → IsCopyText (text_of (before ++ line ∷ line ∷ behind)) copy → ⊥
-none_doubled before behind line copy unbroken is with_it =
-    let same = same_count (before ++ line ∷ behind) (before ++ line ∷ line ∷ behind) copy unbroken (doubled before behind line unbroken) is with_it in
-    omega (arith, same, length-append before (line ∷ behind), length-append before (line ∷ line ∷ behind))
+pub none_doubled : (before after : List (List ℕ)) (line : List ℕ) (copy : TabletCopyValue) → All IsUnbroken (before ++ line ∷ after) → IsCopyText (text_of (before ++ line ∷ after)) copy → IsCopyText (text_of (before ++ line ∷ line ∷ after)) copy → ⊥
+none_doubled before after line copy unbroken is with_it =
+    let same = same_count (before ++ line ∷ after) (before ++ line ∷ line ∷ after) copy unbroken (doubled before after line unbroken) is with_it in
+    omega (arith, same, length-append before (line ∷ after), length-append before (line ∷ line ∷ after))

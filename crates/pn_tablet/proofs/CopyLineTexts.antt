@@ -146,13 +146,17 @@ small_body (Some fields) rest small = (small_fields fields, small)
 below_word : (n : ℕ) → leb n greatest ≡ true → n < 2 ^ 64
 below_word n is = omega (arith, leb-true n greatest is)
 
+pub below_version : (version : ℕ × ℕ) → is_version version ≡ true → (version.0 < 2 ^ 64) × (version.1 < 2 ^ 64)
+below_version version is =
+    let second = and_parts (leb 1 version.0 && leb version.0 greatest) (leb version.1 greatest) is in
+    let first = and_parts (leb 1 version.0) (leb version.0 greatest) second.0 in
+    (below_word version.0 first.1, below_word version.1 second.1)
+
 pub small_image : (image : Image) → is_image image ≡ true → Small (image_data image)
 small_image image is =
     let parts = and_parts (is_key image.key && is_version image.version) (is_content image.content) is in
-    let version = (and_parts (is_key image.key) (is_version image.version) parts.0).1 in
-    let second = and_parts (leb 1 image.version.0 && leb image.version.0 greatest) (leb image.version.1 greatest) version in
-    let first = and_parts (leb 1 image.version.0) (leb image.version.0 greatest) second.0 in
-    small_body image.content.0 _ (tt, (tt, ((below_word image.version.0 first.1, (below_word image.version.1 second.1, tt)), tt)))
+    let version = below_version image.version (and_parts (is_key image.key) (is_version image.version) parts.0).1 in
+    small_body image.content.0 _ (tt, (tt, ((version.0, (version.1, tt)), tt)))
 
 pub small_mark : (name : List ℕ) (position : ℕ) → is_mark (name, position) ≡ true → Small (mark_data (name, position))
 small_mark name position is =

@@ -98,13 +98,13 @@ cut_there text at within is = split_at text at 0 within ∙ rw (is, add-one at) 
 pub pieces-none : (text : List ℕ) → IsFirstByte (is_byte 10) text None → pieces_of text ≡ text ∷ []
 pieces-none text none = pieces_of-last text (IsUnbroken-none text none)
 
--- before the first newline is the first piece, and behind it are the others
+-- before the first newline is the first piece, and after it are the others
 pub pieces-cut : (text : List ℕ) (at : ℕ) → IsFirstByte (is_byte 10) text (Some at) → pieces_of text ≡ take at text ∷ pieces_of (drop (at + 1) text)
 pieces-cut text at found =
     ap pieces_of (cut_there text at found.0.high (eqb-true _ _ found.1))
     ∙ pieces_of-line (take at text) (drop (at + 1) text) (IsUnbroken-before text at found)
 
--- all that stands behind a place
+-- the rest of a list after a place
 pub rest_whole : (at : ℕ) (text : List ℕ) → take (length text - at) (drop at text) ≡ drop at text
 rest_whole at text = take_all (length text - at) (drop at text) (omega (arith, length-drop at text))
 

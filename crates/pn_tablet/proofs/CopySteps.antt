@@ -46,7 +46,7 @@ then_ok read next a is = rw is refl
 pub then_err : {A B E : Type 0} (read : Result A E) (next : A → Result B E) (e : E) → read ≡ Err e → (read >>= next) ≡ Err e
 then_err read next e is = rw is refl
 
--- a fault that is handed on, and an answer that stands for what is left
+-- a fault that is returned, and an answer for what is left
 pub handed_on : {A : Type 0} (result right : Result A CopyTextFault) (fault : CopyTextFault) → IsErrAnd result (λ other. other ≡ fault) → (fault ≢ Memory → right ≡ Err fault) → IsUnless Memory result right
 handed_on (Ok value) right fault is refused = absurd is
 handed_on (Err other) right fault is refused = subst (λ (f : CopyTextFault). f ≢ Memory → right ≡ Err f) (sym is) refused

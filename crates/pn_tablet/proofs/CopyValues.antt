@@ -47,7 +47,7 @@ rises : (d : Data) (ms : Members) → d ≡ object ms → InOrder d → Rise ms
 rises d ms is order = let inside : InOrder (object ms) = subst InOrder is order in inside.0
 
 module _ {F : Type 0} (fault : F) where
-  -- what stands at a name of an object
+  -- the member of a name in an object
   stands : (d : Data) (ms : Members) (name : List ℕ) (e : Data) → d ≡ object ms → get name d ≡ Some e → get_member name ms ≡ Some e
   stands d ms name e whole is = ap (get name) (sym whole) ∙ is
 
@@ -87,7 +87,7 @@ module _ {F : Type 0} (fault : F) where
       let same : ms ≡ head = same_by_name names ms head (rises d ms whole order) tt (named_of names ms named.0 named.1) refl (at_form, (at_from, (at_to, tt))) in
       subst (IsHead d) fits.1 (record { value = whole ∙ ap object same; limits = parts.1 })
 
-  -- ---- lines behind the head
+  -- ---- lines after the head
 
   mark_found : (d : Data) (says : CopyLine) → InOrder d → mark_in fault d ≡ Ok says → IsValue d says
   unfolding mark_in

@@ -1,15 +1,19 @@
 -- What was written of a copy spells it.
-use Rattle.std.proofs.Common.{◌≡◌, ℕ, ◌+◌, ◌<◌, ◌≤◌, ◌^◌, Bool, true, false, ◌&&◌, List, [], ◌∷◌, ◌++◌, map, length, codes, All, Option, Some, None, Result, Ok, Err, OnOk, IsTrue, IsUtf8, refl, sym, ap, ◌∙◌, subst, append_assoc, append-nil, arith, length-append, take, get_or}
+use Rattle.std.proofs.Common.{◌≡◌, ℕ, ◌+◌, ◌<◌, ◌≤◌, ◌^◌, Bool, true, false, cond, ◌&&◌, List, [], ◌∷◌, ◌++◌, map, length, codes, All, Option, Some, None, IsTrue, IsUtf8, refl, sym, ap, ◌∙◌, subst, append_assoc, append-nil, arith, length-append, take, get_or}
 use Rattle.std.proofs.lemmas.Bool.{and_parts, and_from}
 use Rattle.std.proofs.lemmas.Grind.{flat_map-append}
 use Rattle.std.proofs.lemmas.List.{map_more, map-append, length-map}
 use Rattle.std.proofs.lemmas.List.Elements.{All-nil, All-cons}
-use Rattle.std.proofs.lemmas.Str.{is_utf8-from_IsUtf8}
+use Rattle.std.proofs.lemmas.Str.{IsUtf8-append, IsUtf8-from_ascii, IsUtf8-from_is_utf8, IsUtf8-nil}
+use Rattle.std.proofs.lemmas.Str.Ascii.{IsAscii-cons, IsAscii-nil}
+use Rattle.std.specs.Str.{is_utf8}
 use Rattle.std.specs.FinMap.{is_sorted, keys}
 use Rattle.std.specs.List.{list_all, AllByRecursion}
 use Rattle.serde_json.specs.Data.{Data, depth}
 use Rattle.serde_json.specs.Read.{read}
-use Rattle.serde_json.specs.Written.{compact_text, has_float}
+use Rattle.serde_json.specs.Written.{compact_text}
+use Rattle.json.specs.Written.{Written}
+use Rattle.pn_json.specs.Tokens.{Appends, value_tokens}
 use Rattle.pn_join.specs.Marks.{Positions, is_position, name_cmp}
 use Rattle.pn_join.specs.Naming.{is_name}
 use Rattle.pn_line.specs.Reads.{IsUnbroken}
@@ -25,53 +29,52 @@ use Rattle.pn_join.specs.Tables.{IsTable}
 use Rattle.pn_record.specs.Marks.{is_mark}
 use Rattle.pn_record.specs.Reading.{reading}
 use Rattle.pn_record.specs.Writing.{image_data}
-use Rattle.pn_record.proofs.ImageText.{has_float-image_data, depth-image_data, length-image_data}
+use Rattle.pn_record.proofs.ImageText.{depth-image_data, length-image_data}
 use Rattle.pn_tablet.specs.Copies.{TabletCopyValue}
 use Rattle.pn_tablet.specs.CopyLines.{head_data, mark_data, end_data, is_end, is_range, IsHead, IsValue, AreLines}
-use Rattle.pn_tablet.specs.CopyTexts.{images_rise, mark_line, lines_behind_head, IsCopyText}
-use Rattle.pn_tablet.specs.CopyWriting.{line_data, line_text, lines_text, copy_text, WritesValue, IsWritten, IsWrittenLine, WritesLines}
+use Rattle.pn_tablet.specs.CopyTexts.{images_rise, mark_line, lines_after_head, IsCopyText}
+use Rattle.pn_tablet.specs.CopyWriting.{line_data, line_text, lines_text, copy_text, IsReadAgain, WritesValue, IsWritten, IsWrittenLine, WritesLines}
 use Rattle.pn_tablet.specs.Ranges.{Ends, in_range, are_ends}
 use Rattle.pn_tablet.specs.declared.copy_line.CopyLine.{CopyLine}
 use Rattle.pn_tablet.specs.declared.copy_line.CopyLine.TheVariants.{Mark, Record, End}
 use Rattle.pn_tablet.specs.Tablets.{lie_in}
 use Rattle.pn_tablet.proofs.SpelledImages.{spelled_own, spell_inside, spell_rises}
+use Rattle.pn_tablet.proofs.CopyValueTexts.{image_again, mark_again, end_again, head_again}
 use Rattle.pn_tablet.proofs.CopyLineTexts.{Small, text-unbroken, small_image, small_mark, small_head, short_end, short_mark, short_head}
 
 written : {A : Type 0} (IsSpelled : Data → A → Type 0) (d : Data) (meant : A) → reading (compact_text d) ≡ Some d → length (compact_text d) ≤ 65536 → Small d → IsSpelled d meant → IsWritten IsSpelled d meant
 written IsSpelled d meant read short small is = record { line = record { short = short; value = d; read = read; spelled = is }; unbroken = text-unbroken d small }
 
+utf8_from : (b : Bool) (text : List ℕ) (d : Data) → cond b (read text) None ≡ Some d → b ≡ true
+utf8_from true text d is = refl
+utf8_from false text d is = absurd (cc)
+
+-- what is read as a value is UTF-8
+read_utf8 : (text : List ℕ) (d : Data) → reading text ≡ Some d → IsUtf8 text
+unfolding reading
+read_utf8 text d is = IsUtf8-from_is_utf8 text (utf8_from (is_utf8 text) text d is)
+
 -- ---- one line
 
-on_line : {E : Type 0} (result : Result (Unit {0}) E) (old new : List ℕ) (v : Data) (says : CopyLine) → v ≡ line_data says → has_float (line_data says) ≡ false → depth (line_data says) ≤ 127
-    → (reading (compact_text (line_data says)) ≡ Some (line_data says) → IsWrittenLine says) → OnOk result (WritesValue old new v) → OnOk result (WritesLines old new (says ∷ []))
-on_line (Ok u) old new v says is no_float shallow good wrote =
-    let w : WritesValue old new (line_data says) = subst (WritesValue old new) is wrote in
-    let both = w no_float shallow in
-    (both.0 ∙ ap (λ l. old ++ l) (sym (append-nil (line_text (line_data says)))), (good both.1, tt))
-on_line (Err e) old new v says is no_float shallow good wrote = tt
+one_line : (old new : List ℕ) (says : CopyLine) → IsReadAgain (line_data says) → depth (line_data says) ≤ 127
+    → (reading (compact_text (line_data says)) ≡ Some (line_data says) → IsWrittenLine says) → WritesValue old new (line_data says) → WritesLines old new (says ∷ [])
+one_line old new says again shallow good wrote =
+    (wrote.0 ∙ ap (λ l. old ++ l) (sym (append-nil (line_text (line_data says)))), (good (wrote.1 again shallow), tt))
 
-pub mark_written : {E : Type 0} (result : Result (Unit {0}) E) (old new : List ℕ) (v : Data) (name : List ℕ) (position : ℕ) → v ≡ mark_data (name, position) → is_name name ≡ true → is_position position ≡ true
-    → OnOk result (WritesValue old new v) → OnOk result (WritesLines old new (Mark name position ∷ []))
-mark_written result old new v name position is named within =
+pub mark_written : (old new name : List ℕ) (position : ℕ) → is_name name ≡ true → is_position position ≡ true → WritesValue old new (mark_data (name, position)) → WritesLines old new (Mark name position ∷ [])
+mark_written old new name position named within =
     let fits : is_mark (name, position) ≡ true = and_from (is_name name) (is_position position) named within in
-    on_line result old new v (Mark name position) is refl (omega arith) (λ read. written IsValue (mark_data (name, position)) (Mark name position) read (short_mark name position fits) (small_mark name position fits) (refl, fits))
+    let small = small_mark name position fits in
+    one_line old new (Mark name position) (mark_again name position small.0) (omega arith) (λ read. written IsValue (mark_data (name, position)) (Mark name position) read (short_mark name position fits) small (refl, fits))
 
-pub image_written : {E : Type 0} (result : Result (Unit {0}) E) (old new : List ℕ) (v : Data) (image : Image) → v ≡ image_data image → is_image image ≡ true
-    → OnOk result (WritesValue old new v) → OnOk result (WritesLines old new (Record image ∷ []))
-image_written result old new v image is fits =
-    on_line result old new v (Record image) is (has_float-image_data image) (depth-image_data image) (λ read.
+pub image_written : (old new : List ℕ) (image : Image) → is_image image ≡ true → WritesValue old new (image_data image) → WritesLines old new (Record image ∷ [])
+image_written old new image fits =
+    one_line old new (Record image) (image_again image fits) (depth-image_data image) (λ read.
     written IsValue (image_data image) (Record image) read (omega (arith, length-image_data image fits)) (small_image image fits) (record { value = refl; limits = fits }))
 
-pub end_written : {E : Type 0} (result : Result (Unit {0}) E) (old new : List ℕ) (v : Data) (count : ℕ) → v ≡ end_data count → count < 2 ^ 64
-    → OnOk result (WritesValue old new v) → OnOk result (WritesLines old new (End count ∷ []))
-end_written result old new v count is small =
-    on_line result old new v (End count) is refl (omega arith) (λ read. written IsValue (end_data count) (End count) read (short_end count small) (small, tt) refl)
-
-no_float_head : (from to : Option (List ℕ)) → has_float (head_data (from, to)) ≡ false
-no_float_head None None = refl
-no_float_head None (Some to) = refl
-no_float_head (Some from) None = refl
-no_float_head (Some from) (Some to) = refl
+pub end_written : (old new : List ℕ) (count : ℕ) → count < 2 ^ 64 → WritesValue old new (end_data count) → WritesLines old new (End count ∷ [])
+end_written old new count small =
+    one_line old new (End count) (end_again count small) (omega arith) (λ read. written IsValue (end_data count) (End count) read (short_end count small) (small, tt) refl)
 
 shallow_head : (from to : Option (List ℕ)) → depth (head_data (from, to)) ≤ 127
 shallow_head None None = omega arith
@@ -79,21 +82,16 @@ shallow_head None (Some to) = omega arith
 shallow_head (Some from) None = omega arith
 shallow_head (Some from) (Some to) = omega arith
 
-head_both : (old new : List ℕ) (v : Data) (range : Ends) → v ≡ head_data range → is_range range ≡ true → WritesValue old new v → (new ≡ old ++ line_text (head_data range)) × IsWritten IsHead (head_data range) range
-head_both old new v range is fits wrote =
-    let w : WritesValue old new (head_data range) = subst (WritesValue old new) is wrote in
-    let both = w (no_float_head range.0 range.1) (shallow_head range.0 range.1) in
-    let parts = and_parts (is_end range.0 && is_end range.1) (are_ends range) fits in
-    let ends = and_parts (is_end range.0) (is_end range.1) parts.0 in
-    (both.0, written IsHead (head_data range) range both.1 (short_head range.0 range.1 ends.0 ends.1) (small_head range.0 range.1) (record { value = refl; limits = fits }))
+pub head_written : (old new : List ℕ) (range : Ends) → is_end range.0 ≡ true → is_end range.1 ≡ true → are_ends range ≡ true → WritesValue old new (head_data range) → IsWritten IsHead (head_data range) range
+head_written old new range from to order wrote =
+    let fits : is_range range ≡ true = and_from (is_end range.0 && is_end range.1) (are_ends range) (and_from (is_end range.0) (is_end range.1) from to) order in
+    written IsHead (head_data range) range (wrote.1 (head_again range.0 range.1) (shallow_head range.0 range.1)) (short_head range.0 range.1 from to) (small_head range.0 range.1) (record { value = refl; limits = fits })
 
-pub head_text : {E : Type 0} (result : Result (Unit {0}) E) (old new : List ℕ) (v : Data) (range : Ends) → v ≡ head_data range → is_range range ≡ true → OnOk result (WritesValue old new v) → OnOk result (new ≡ old ++ line_text (head_data range))
-head_text (Ok u) old new v range is fits wrote = (head_both old new v range is fits wrote).0
-head_text (Err e) old new v range is fits wrote = tt
-
-pub head_written : {E : Type 0} (result : Result (Unit {0}) E) (old new : List ℕ) (v : Data) (range : Ends) → v ≡ head_data range → is_range range ≡ true → OnOk result (WritesValue old new v) → OnOk result (IsWritten IsHead (head_data range) range)
-head_written (Ok u) old new v range is fits wrote = (head_both old new v range is fits wrote).1
-head_written (Err e) old new v range is fits wrote = tt
+-- the value that a writer wrote after a text, and its newline, are its line
+pub line_from : {old new : Written} (text out : List ℕ) (d : Data) → old.before ≡ text → old.tokens ≡ [] → Appends old new (value_tokens d)
+    → ((value : Data) → new.tokens ≡ value_tokens value → WritesValue new.before out value) → WritesValue text out d
+line_from {old} {new} text out d before none appended line =
+    subst (λ t. WritesValue t out d) (appended.before ∙ before) (line d (appended.tokens ∙ ap (λ ts. ts ++ value_tokens d) none))
 
 -- ---- many lines
 
@@ -143,10 +141,10 @@ unfolding text_of
 head_first d lines rest is = append_assoc (compact_text d) (10 ∷ []) rest ∙ ap (λ t. compact_text d ++ 10 ∷ t) is
 
 -- lines that were all written spell the copy
-pub copy_spelled : (copy : TabletCopyValue) → IsWritten IsHead (head_data copy.range) copy.range → AllByRecursion IsWrittenLine (lines_behind_head copy.marks (spell copy.cells)) → IsTrue (is_sorted name_cmp copy.marks)
+pub copy_spelled : (copy : TabletCopyValue) → IsWritten IsHead (head_data copy.range) copy.range → AllByRecursion IsWrittenLine (lines_after_head copy.marks (spell copy.cells)) → IsTrue (is_sorted name_cmp copy.marks)
     → IsTrue (images_rise (spell copy.cells)) → IsTrue (list_all (λ (image : Image). in_range copy.range image.key) (spell copy.cells)) → copy.cells ≡ table_of (spell copy.cells) → IsCopyText (copy_text copy) copy
 copy_spelled copy head all names rise inside cells =
-    let says = lines_behind_head copy.marks (spell copy.cells) in
+    let says = lines_after_head copy.marks (spell copy.cells) in
     record {
       head = compact_text (head_data copy.range);
       lines = texts says;
@@ -204,13 +202,13 @@ cell_room now new e wrote =
 -- ---- the parts of the whole text
 
 pub parts_written : (copy : TabletCopyValue) (a b c d : List ℕ) → a ≡ [] ++ line_text (head_data copy.range) → WritesLines a b (map mark_line copy.marks) → WritesLines b c (map Record (spell copy.cells))
-    → WritesLines c d (End (length copy.marks + length (spell copy.cells)) ∷ []) → (d ≡ copy_text copy) × AllByRecursion IsWrittenLine (lines_behind_head copy.marks (spell copy.cells))
+    → WritesLines c d (End (length copy.marks + length (spell copy.cells)) ∷ []) → (d ≡ copy_text copy) × AllByRecursion IsWrittenLine (lines_after_head copy.marks (spell copy.cells))
 parts_written copy a b c d head marks images end =
     let all = lines_then a b d (map mark_line copy.marks) (map Record (spell copy.cells) ++ End (length copy.marks + length (spell copy.cells)) ∷ []) marks (lines_then b c d (map Record (spell copy.cells)) (End (length copy.marks + length (spell copy.cells)) ∷ []) images end) in
-    (all.0 ∙ ap (λ t. t ++ lines_text (lines_behind_head copy.marks (spell copy.cells))) head, all.1)
+    (all.0 ∙ ap (λ t. t ++ lines_text (lines_after_head copy.marks (spell copy.cells))) head, all.1)
 
 -- a text that was written so spells the copy
-pub whole_spelled : (copy : TabletCopyValue) (text : List ℕ) → text ≡ copy_text copy → IsWritten IsHead (head_data copy.range) copy.range → AllByRecursion IsWrittenLine (lines_behind_head copy.marks (spell copy.cells))
+pub whole_spelled : (copy : TabletCopyValue) (text : List ℕ) → text ≡ copy_text copy → IsWritten IsHead (head_data copy.range) copy.range → AllByRecursion IsWrittenLine (lines_after_head copy.marks (spell copy.cells))
     → IsTrue (is_sorted name_cmp copy.marks) → IsTable bytes_cmp HasContents copy.cells → IsTrue (lie_in copy.range copy.cells) → IsCopyText text copy
 whole_spelled copy text is head all names table inside =
     subst (λ (t : List ℕ). IsCopyText t copy) (sym is)
@@ -222,7 +220,15 @@ marks_room now new marks wrote =
     let grown : length new ≡ length now + length (lines_text (map mark_line marks)) = ap length wrote.0 ∙ length-append now (lines_text (map mark_line marks)) in
     omega (arith, grown, length-map marks mark_line, lines_room (map mark_line marks))
 
--- what is read of a text is read of its bytes
-pub reads : (text : List ℕ) (d : Data) → IsUtf8 text → read text ≡ Some d → reading text ≡ Some d
-unfolding reading
-reads text d utf8 is = rw (is_utf8-from_IsUtf8 text utf8) is
+-- ---- the bytes are a text
+
+line_utf8 : {A : Type 0} (IsSpelled : Data → A → Type 0) (d : Data) (meant : A) → IsWritten IsSpelled d meant → IsUtf8 (line_text d)
+line_utf8 IsSpelled d meant is = IsUtf8-append (compact_text d) (10 ∷ []) (read_utf8 (compact_text d) is.line.value is.line.read) (IsUtf8-from_ascii (10 ∷ []) (IsAscii-cons 10 [] (omega arith) IsAscii-nil))
+
+lines_utf8 : (says : List CopyLine) → AllByRecursion IsWrittenLine says → IsUtf8 (lines_text says)
+lines_utf8 [] all = IsUtf8-nil
+lines_utf8 (line ∷ says) all = IsUtf8-append (line_text (line_data line)) (lines_text says) (line_utf8 IsValue (line_data line) line all.0) (lines_utf8 says all.1)
+
+-- a head and lines that were written are UTF-8
+pub text_utf8 : (range : Ends) (says : List CopyLine) → IsWritten IsHead (head_data range) range → AllByRecursion IsWrittenLine says → IsUtf8 (line_text (head_data range) ++ lines_text says)
+text_utf8 range says head all = IsUtf8-append (line_text (head_data range)) (lines_text says) (line_utf8 IsHead (head_data range) range head) (lines_utf8 says all)

@@ -31,7 +31,7 @@ module _ {X : Type 0} where
   all_both p q [] = refl
   all_both p q (x ∷ xs) = both_first (p x) (list_all p xs) (q x) (list_all q xs) ∙ ap (λ rest. (p x && q x) && rest) (all_both p q xs)
 
-  -- as many as there are pass where all do
+  -- where all pass, the number that pass is that of all
   pub all_counted : (p : X → Bool) (xs : List X) → eqb (count_by p xs) (length xs) ≡ list_all p xs
   all_counted p [] = refl
   all_counted p (x ∷ xs) =

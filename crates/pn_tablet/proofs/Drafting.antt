@@ -19,7 +19,7 @@ use Rattle.pn_record.proofs.CellMaps.{Holds-table_of, rising-table_of, held_adds
 use Rattle.pn_record.proofs.HeldRecords.{Holds-one}
 use Rattle.pn_tablet.specs.Copies.{IsCopy}
 use Rattle.pn_tablet.specs.CopyReading.{with_mark, with_image, ended}
-use Rattle.pn_tablet.specs.CopyTexts.{comes_behind}
+use Rattle.pn_tablet.specs.CopyTexts.{comes_after}
 use Rattle.pn_tablet.specs.Drafts.{DraftValue, IsDraft, with_last}
 use Rattle.pn_tablet.specs.Ranges.{Ends, in_range}
 use Rattle.pn_tablet.specs.Tablets.{lie_in}
@@ -28,9 +28,9 @@ use Rattle.pn_tablet.proofs.Keeping.{joined_inside, spelled_adds, spelled_nil}
 
 -- ---- marks
 
--- a name that comes behind all others
-abbrev pub is_behind : Positions → List ℕ → Bool
-is_behind marks name = list_all (λ other. is_lt (name_cmp other.0 name)) marks
+-- a name that comes after all others
+abbrev pub is_after_all : Positions → List ℕ → Bool
+is_after_all marks name = list_all (λ other. is_lt (name_cmp other.0 name)) marks
 
 reversed : (o : Ordering) → is_lt o ≡ true → ordering_reverse o ≡ Greater
 reversed Less is = refl
@@ -40,24 +40,24 @@ reversed Greater is = absurd (cc)
 greater : (name other : List ℕ) → is_lt (name_cmp other name) ≡ true → name_cmp name other ≡ Greater
 greater name other less = nat_list_cmp_total.antisymm name other ∙ reversed (name_cmp other name) less
 
-find-behind : (marks : Positions) (name : List ℕ) → is_behind marks name ≡ true → find name_cmp name marks ≡ None
-find-behind [] name behind = refl
-find-behind (mark ∷ marks) name behind =
-    let parts = and_parts (is_lt (name_cmp mark.0 name)) (is_behind marks name) behind in
-    ap (λ o. cond (is_eq o) (Some mark.1) (find name_cmp name marks)) (greater name mark.0 parts.0) ∙ find-behind marks name parts.1
+find-after : (marks : Positions) (name : List ℕ) → is_after_all marks name ≡ true → find name_cmp name marks ≡ None
+find-after [] name after = refl
+find-after (mark ∷ marks) name after =
+    let parts = and_parts (is_lt (name_cmp mark.0 name)) (is_after_all marks name) after in
+    ap (λ o. cond (is_eq o) (Some mark.1) (find name_cmp name marks)) (greater name mark.0 parts.0) ∙ find-after marks name parts.1
 
-put-behind : (marks : Positions) (name : List ℕ) (n : ℕ) → is_behind marks name ≡ true → put name_cmp name n marks ≡ marks ++ (name, n) ∷ []
-put-behind [] name n behind = refl
-put-behind (mark ∷ marks) name n behind =
-    let parts = and_parts (is_lt (name_cmp mark.0 name)) (is_behind marks name) behind in
+put-after : (marks : Positions) (name : List ℕ) (n : ℕ) → is_after_all marks name ≡ true → put name_cmp name n marks ≡ marks ++ (name, n) ∷ []
+put-after [] name n after = refl
+put-after (mark ∷ marks) name n after =
+    let parts = and_parts (is_lt (name_cmp mark.0 name)) (is_after_all marks name) after in
     ap (λ o. by_order o ((name, n) ∷ mark ∷ marks) ((mark.0, n) ∷ marks) (mark ∷ put name_cmp name n marks)) (greater name mark.0 parts.0)
-    ∙ ap (λ l. mark ∷ l) (put-behind marks name n parts.1)
+    ∙ ap (λ l. mark ∷ l) (put-after marks name n parts.1)
 
--- a mark behind all others is the last one
-pub raised-behind : (marks : Positions) (name : List ℕ) (n : ℕ) → is_behind marks name ≡ true → raised marks ((name, n) ∷ []) ≡ marks ++ (name, n) ∷ []
-raised-behind marks name n behind =
-    ap (λ (o : Option ℕ). put name_cmp name (max (unwrap_or o 0) n) marks) (find-behind marks name behind)
-    ∙ ap (λ m. put name_cmp name m marks) (zero_max n) ∙ put-behind marks name n behind
+-- a mark after all others is the last one
+pub raised-after : (marks : Positions) (name : List ℕ) (n : ℕ) → is_after_all marks name ≡ true → raised marks ((name, n) ∷ []) ≡ marks ++ (name, n) ∷ []
+raised-after marks name n after =
+    ap (λ (o : Option ℕ). put name_cmp name (max (unwrap_or o 0) n) marks) (find-after marks name after)
+    ∙ ap (λ m. put name_cmp name m marks) (zero_max n) ∙ put-after marks name n after
   where
     zero_max : (n : ℕ) → max 0 n ≡ n
     zero_max n = omega arith
@@ -126,15 +126,15 @@ draft-copy range marks cells new last was is = record {
 
 -- ---- what each step comes to
 
-pub marked : (n : ℕ) (draft : DraftValue) (name : List ℕ) (position : ℕ) (new : Positions) → is_some draft.last ≡ false → is_behind draft.marks name ≡ true
+pub marked : (n : ℕ) (draft : DraftValue) (name : List ℕ) (position : ℕ) (new : Positions) → is_some draft.last ≡ false → is_after_all draft.marks name ≡ true
     → new ≡ raised draft.marks ((name, position) ∷ []) → with_mark n draft (name, position) ≡ Ok (record draft { marks = new })
-marked n draft name position new no_image behind is =
-    let last : new ≡ draft.marks ++ (name, position) ∷ [] = is ∙ raised-behind draft.marks name position behind in
-    rw (no_image, behind, last) refl
+marked n draft name position new no_image after is =
+    let last : new ≡ draft.marks ++ (name, position) ∷ [] = is ∙ raised-after draft.marks name position after in
+    rw (no_image, after, last) refl
 
-pub imaged : (n : ℕ) (draft : DraftValue) (image : Image) (new : Entries) → in_range draft.range image.key ≡ true → option_map_or (λ last. comes_behind last image) draft.last true ≡ true
+pub imaged : (n : ℕ) (draft : DraftValue) (image : Image) (new : Entries) → in_range draft.range image.key ≡ true → option_map_or (λ last. comes_after last image) draft.last true ≡ true
     → new ≡ draft.cells → with_image n draft image ≡ Ok (record draft { cells = adds new (image ∷ []); last = Some image })
-imaged n draft image new here behind is = rw (here, behind, is) refl
+imaged n draft image new here after is = rw (here, after, is) refl
 
 pub closed : (n : ℕ) (draft : DraftValue) (count : ℕ) (over : Bool) (new : Entries) → (count == n - 2) ≡ true → over ≡ true → new ≡ draft.cells
     → ended n draft count over ≡ Ok (record { range = draft.range; marks = draft.marks; cells = new })

@@ -37,7 +37,7 @@ first_tablet bound [] key below rises = refl
 first_tablet bound (next ∷ bounds) key below rises =
     tablet_of-cons next bounds key true (below_trans key bound next below rises.0) ∙ zero-add _ ∙ first_tablet bound bounds key below rises.1
 
--- behind the first bound the tablets are those of the others
+-- after the first bound the tablets are those of the others
 later_tablet : (bound : List ℕ) (bounds : Bounds) (key : List ℕ) (tablet : ℕ) → is_below key bound ≡ false → in_range (tablet_ends (bound ∷ bounds) (suc tablet)) key ≡ in_range (tablet_ends bounds tablet) key
 later_tablet bound bounds key zero above = ap (λ b. not b && is_before (slice_get bounds 0) key) above
 later_tablet bound bounds key (suc tablet) above = refl
@@ -70,7 +70,7 @@ tablet_of_key (bound ∷ bounds) key (suc tablet) rising within lies =
     let later = tablet_of_key bounds key tablet rising.1 (omega arith) (sym (later_tablet bound bounds key tablet above) ∙ lies) in
     ap suc later ∙ sym (tablet_of-cons bound bounds key false above ∙ one-add _)
 
--- a tablet that is named is there
+-- the tablet of a key is one of the layout
 pub tablet_of_within : (bounds : Bounds) (key : List ℕ) → tablet_of bounds key ≤ length bounds
 tablet_of_within bounds key = count_by-le-length (λ bound. not (is_below key bound)) bounds
 

@@ -8,6 +8,7 @@ pub mod CopyPieces
 pub mod CopyPrefixes
 pub mod CopySteps
 pub mod CopyTextFacts
+pub mod CopyValueTexts
 pub mod CopyValues
 pub mod CopyWritten
 pub mod Counts

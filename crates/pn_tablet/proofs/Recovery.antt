@@ -68,7 +68,7 @@ pub nothing_short : (marks need : Positions) → first_short marks need ≡ None
 nothing_short marks need none =
     reached marks need (none_found (falls_short marks) (λ wanted. record { stream = wanted.0; has = position_of marks wanted.0; wanted = wanted.1 }) need none)
 
--- the cell of what was lost is there once the images of the copy are, which has all that was lost
+-- the lost cell is back once the images of the copy are joined, which has all that was lost
 brought_back : (x s y : Option CellValue) → both x y ≡ y → NotOlder x (both s y)
 brought_back x s y absorbed =
     subst (NotOlder x) (sym (both-assoc x s y) ∙ ap (λ c. both c y) (both-comm x s) ∙ both-assoc s x y ∙ ap (both s) absorbed) (joined_not_older x (both s y))

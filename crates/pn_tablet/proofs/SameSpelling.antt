@@ -1,4 +1,4 @@
--- Images that rise are told by their table.
+-- Images that rise are those that spell their table.
 use Rattle.std.proofs.Common.{◌≡◌, ◌⊎◌, inl, inr, ℕ, ◌<◌, Bool, true, false, ◌||◌, ◌&&◌, List, [], ◌∷◌, ◌++◌, map, length, Ordering, Less, Equal, Greater, refl, sym, ap, ◌∙◌, arith}
 use Rattle.std.proofs.lemmas.Bool.{and_parts}
 use Rattle.std.specs.FinMap.{keys}
@@ -15,7 +15,7 @@ use Rattle.pn_record.specs.Laws.Totals.{bytes_cmp_total, content_cmp_total, vers
 use Rattle.pn_record.specs.Laws.Unions.{keys-set_of, some-set_of}
 use Rattle.pn_record.specs.Sets.{Stamp, CellValue, HasContents, IsContents, as_entries, set_of}
 use Rattle.pn_record.proofs.HeldRecords.{tied_keys}
-use Rattle.pn_tablet.specs.CopyTexts.{comes_behind, images_rise}
+use Rattle.pn_tablet.specs.CopyTexts.{comes_after, images_rise}
 use Rattle.pn_tablet.proofs.SpelledImages.{spelled_own}
 
 -- images of one key and version
@@ -93,12 +93,12 @@ grown_first image next rest key version c cs groups good is same_key same_versio
   (λ i. record { key = same_key i; version = same_version i; content = image.content } ∷ is i),
 )
 
-grown : (image next : Image) (rest : List Image) (groups : List Group) → comes_behind image next ≡ true → Good groups → all_of groups ≡ next ∷ rest → Grouped (image ∷ next ∷ rest)
-grown image next rest [] behind good is = absurd (cc)
-grown image next rest ((key, (version, [])) ∷ groups) behind good is = absurd (omega (arith, good.1))
-grown image next rest ((key, (version, c ∷ cs)) ∷ groups) behind good is =
+grown : (image next : Image) (rest : List Image) (groups : List Group) → comes_after image next ≡ true → Good groups → all_of groups ≡ next ∷ rest → Grouped (image ∷ next ∷ rest)
+grown image next rest [] after good is = absurd (cc)
+grown image next rest ((key, (version, [])) ∷ groups) after good is = absurd (omega (arith, good.1))
+grown image next rest ((key, (version, c ∷ cs)) ∷ groups) after good is =
     let first : record { key = key; version = version; content = c } ≡ next = cc in
-    elim (either_true (is_lt (bytes_cmp image.key next.key)) _ behind) as (λ _. Grouped (image ∷ next ∷ rest)) [
+    elim (either_true (is_lt (bytes_cmp image.key next.key)) _ after) as (λ _. Grouped (image ∷ next ∷ rest)) [
       | inl less ↦ grown_front image next rest key version c cs groups good is (ap (λ (i : Image). i.key) first) less
       | inr alike ↦
           let keys_same = and_parts (eq_by_cmp bytes_cmp image.key next.key) _ alike in
@@ -113,7 +113,7 @@ grouped : (images : List Image) → images_rise images ≡ true → Grouped imag
 grouped [] rise = ([], tt, refl)
 grouped (image ∷ []) rise = ((image.key, (image.version, image.content ∷ [])) ∷ [], ((tt, tt), omega arith, tt, tt), refl)
 grouped (image ∷ next ∷ rest) rise =
-    let parts = and_parts (comes_behind image next) (images_rise (next ∷ rest)) rise in
+    let parts = and_parts (comes_after image next) (images_rise (next ∷ rest)) rise in
     let r = grouped (next ∷ rest) parts.1 in
     grown image next rest r.0 parts.0 r.1 r.2
 

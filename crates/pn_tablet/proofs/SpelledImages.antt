@@ -16,7 +16,7 @@ use Rattle.pn_record.specs.Laws.Totals.{bytes_cmp_total, version_cmp_total}
 use Rattle.pn_record.specs.Sets.{Stamp, Contents, HasContents, as_entries}
 use Rattle.pn_record.proofs.CellMaps.{held_table}
 use Rattle.pn_record.proofs.HeldRecords.{Holds-spell}
-use Rattle.pn_tablet.specs.CopyTexts.{comes_behind, images_rise}
+use Rattle.pn_tablet.specs.CopyTexts.{comes_after, images_rise}
 use Rattle.pn_tablet.specs.Ranges.{Ends, in_range}
 use Rattle.pn_tablet.specs.Tablets.{lie_in}
 
@@ -52,10 +52,10 @@ Above key (image ∷ images) = is_lt (bytes_cmp key image.key) ≡ true
 
 first_rises : (image : Image) (rest : List Image) → Above image.key rest → images_rise rest ≡ true → images_rise (image ∷ rest) ≡ true
 first_rises image [] above rise = refl
-first_rises image (next ∷ rest) above rise = and_from (comes_behind image next) (images_rise (next ∷ rest)) (or_left (is_lt (bytes_cmp image.key next.key)) _ above) rise
+first_rises image (next ∷ rest) above rise = and_from (comes_after image next) (images_rise (next ∷ rest)) (or_left (is_lt (bytes_cmp image.key next.key)) _ above) rise
 
 same_rises : (key : List ℕ) (version : Stamp) (a b : ContentValue) → is_lt (content_cmp a b) ≡ true
-    → comes_behind (record { key = key; version = version; content = a }) (record { key = key; version = version; content = b }) ≡ true
+    → comes_after (record { key = key; version = version; content = a }) (record { key = key; version = version; content = b }) ≡ true
 same_rises key version a b less =
     or_right (is_lt (bytes_cmp key key)) _
     (and_from (eq_by_cmp bytes_cmp key key) _ (ap is_eq (tied_itself bytes_cmp_total key))

@@ -1,4 +1,4 @@
--- What a join of tables tells makes the changes of the cells.
+-- The changes that a join of tables reports are the changes of the cells.
 use Rattle.std.proofs.Common.{◌≡◌, ℕ, ◌≤◌, length, Bool, cond, List, [], ◌∷◌, ◌++◌, Option, Some, None, option_map, refl, sym, ap, ◌∙◌, arith}
 use Rattle.std.specs.List.{AllZip, filter_map, cons_option}
 use Rattle.std.specs.Option.{option_to_list}
@@ -13,7 +13,7 @@ use Rattle.pn_record.proofs.Differing.{same_at-itself}
 use Rattle.pn_tablet.specs.Changes.{version_at, change_of, change_by, change_told}
 use Rattle.pn_tablet.specs.declared.change.Change.{Change}
 
--- a list to which something is added, if it is there
+-- a list with an element added, if there is one
 pub push_option : {A : Type 0} (xs : List A) (x : Option A) (ys : List A) → (xs ++ option_to_list x) ++ ys ≡ xs ++ cons_option x ys
 push_option [] None ys = refl
 push_option [] (Some x) ys = refl
@@ -28,7 +28,7 @@ some_is a b is = cc
 abbrev unless_same : CellValue → List ℕ → Bool → Option Change
 unless_same cell key same = cond same None (Some (record { key = key; before = version_at (Some cell); after = cell.0 }))
 
--- a cell that stays is no change
+-- a cell that stays the same is no change
 no_change : (cell after : CellValue) (key : List ℕ) → after ≡ cell → change_of (Some cell) (key, after) ≡ None
 no_change cell after key is =
     ap (λ (a : CellValue). change_of (Some cell) (key, a)) is
@@ -59,7 +59,7 @@ all_told old (e ∷ es) (Some change ∷ ms) all =
     ap (λ o. cons_option o (filter_map change_told (those_there ms))) (one_told old e change all.0)
     ∙ ap (cons_option (change_by (find bytes_cmp e.0 old) e)) (all_told old es ms all.1)
 
--- the changes that are told are those of the cells that are joined
+-- the changes that a join reports are those of the joined cells
 pub told_changes : (old more : Entries) (told : List (TableChange (List ℕ) CellValue)) → AreChanges bytes_cmp (λ cell. cell) cell_joined HasContents old more told → filter_map change_told told ≡ filter_map (λ entry. change_by (find bytes_cmp entry.0 old) entry) more
 told_changes old more told are = ap (filter_map change_told) are.are ∙ all_told old more are.made are.each
 
@@ -70,6 +70,6 @@ few_there old (e ∷ es) [] all = absurd all
 few_there old (e ∷ es) (None ∷ ms) all = omega (arith, few_there old es ms all.1)
 few_there old (e ∷ es) (Some change ∷ ms) all = omega (arith, few_there old es ms all.1)
 
--- no more are told than are joined
+-- no more changes than joined cells
 pub few_told : (old more : Entries) (told : List (TableChange (List ℕ) CellValue)) → AreChanges bytes_cmp (λ cell. cell) cell_joined HasContents old more told → length told ≤ length more
 few_told old more told are = omega (arith, ap length are.are, few_there old more are.made are.each)

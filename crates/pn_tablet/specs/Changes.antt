@@ -12,28 +12,28 @@ use Rattle.pn_tablet.specs.declared.change.Change.{Change}
 use Rattle.pn_tablet.specs.declared.op.TabletOp.{TabletOp}
 use Rattle.pn_tablet.specs.declared.op.TabletOp.TheVariants.{Join}
 
--- the version of a cell, where there is one
+-- the version of a cell, if there is one
 abbrev pub version_at : Option CellValue → Option Stamp
 version_at cell = option_map (λ c. c.0) cell
 
--- the change of a key from the cell that it had, if it had one, to another
+-- the change of a key from the cell before, if there was one, to the cell of the entry
 abbrev pub change_of : Option CellValue → List ℕ × CellValue → Option Change
 change_of before entry = if same_at before (Some entry.1) then None else Some (record { key = entry.0; before = version_at before; after = entry.1.0 })
 
--- the keys whose cells differ from before, in key order, with their versions before and after
+-- the changes of the keys whose cells differ, in key order
 abbrev pub changes : Entries → Entries → List Change
 changes before after = filter_map (λ entry. change_of (find bytes_cmp entry.0 before) entry) after
 
--- what an operation answers: a join its changes, and any other none
+-- the answer to an operation: the changes of a join, and of any other none
 abbrev pub answer : TabletOp → TabletStateValue → TabletStateValue → List Change
 answer (Join cells marks) before after = changes before.cells after.cells
 answer _ before after = []
 
--- the change that is told by what a key had before and has after, unless that is the same
+-- the change that a join reports, unless the cell stays the same
 abbrev pub change_told : TableChange (List ℕ) CellValue → Option Change
 change_told told = change_of told.before (told.key, told.after)
 
--- the change of a key when another cell is joined to what it has
+-- the change of a key when a cell is joined to the one that it had
 abbrev pub change_by : Option CellValue → List ℕ × CellValue → Option Change
 change_by None entry = change_of None entry
 change_by (Some cell) entry = change_of (Some cell) (entry.0, cell_joined cell entry.1)

@@ -1,11 +1,11 @@
--- What a copy of a tablet is.
+-- Copies of tablets.
 use Rattle.std.specs.Prelude.{IsTrue}
 use Rattle.pn_join.specs.Marks.{Positions, are_positions}
 use Rattle.pn_record.specs.CellMap.{Entries}
 use Rattle.pn_tablet.specs.Ranges.{Ends}
 use Rattle.pn_tablet.specs.Tablets.{lie_in}
 
--- a range, the cells of its keys, and how far streams were taken into them
+-- a range, the last positions taken from streams, and the cells of its keys
 pub record TabletCopyValue : Type 0 where
   pub range : Ends
   pub marks : Positions

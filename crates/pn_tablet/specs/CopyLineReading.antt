@@ -1,4 +1,4 @@
--- What one line of a copy's text is read as.
+-- The lines of a copy's text, read one by one.
 use Rattle.std.specs.Prelude.{ℕ, ◌==◌, Bool, ◌&&◌, if◌then◌else◌, List, [], ◌∷◌, codes, Option, None, Some, is_some, Result, Ok, Err}
 use Rattle.std.specs.Option.{ok_or}
 use Rattle.serde_json.specs.Data.{Data, null, string}
@@ -18,11 +18,11 @@ abbrev pub or_as : {A E F : Type 0} → F → Result A E → Result A F
 or_as fault (Ok value) = Ok value
 or_as fault (Err other) = Err fault
 
--- this, where it keeps the limits
+-- the value, where it keeps the limits
 abbrev pub if_fits : {A F : Type 0} → Bool → F → A → Result A F
 if_fits fits fault value = if fits then Ok value else Err fault
 
--- an end of a range: a text, or null where it is open
+-- an end of a range: a text, or null where the range is open
 abbrev pub end_of : Data → Option (Option (List ℕ))
 end_of null = Some None
 end_of (string key) = Some (Some key)
@@ -32,11 +32,11 @@ end_of _ = None
 unfoldable pub head_in : {F : Type 0} → F → Data → Result Ends F
 head_in fault d = do
   members ← ok_or (as_object d) fault
-  form ← member_as whole_number fault (get (codes "copy") d)
+  format ← member_as whole_number fault (get (codes "copy") d)
   from ← member_as end_of fault (get (codes "from") d)
   to ← member_as end_of fault (get (codes "to") d)
   named ← no_others (codes "copy" ∷ codes "from" ∷ codes "to" ∷ []) fault members
-  if_fits (form == 1 && is_range (from, to)) fault (from, to)
+  if_fits (format == 1 && is_range (from, to)) fault (from, to)
 
 -- a mark: a stream's name, and a position of 1 to 10^15
 unfoldable pub mark_in : {F : Type 0} → F → Data → Result CopyLine F
@@ -61,11 +61,11 @@ record_in fault d = do
   image ← or_as fault (image_in d)
   Ok (Record image)
 
--- what a line behind the head says: its members tell which of the three it can be
+-- a line after the head: a mark where it has a member `at`, an end where it has `end`, otherwise an image
 unfoldable pub line_in : {F : Type 0} → F → Data → Result CopyLine F
 line_in fault d = if is_some (get (codes "at") d) then mark_in fault d else (if is_some (get (codes "end") d) then end_in fault d else record_in fault d)
 
--- the same of lines
+-- the range of a head's line, or the fault
 unfoldable pub head_at : {F : Type 0} → F → List ℕ → Result Ends F
 head_at fault line = or_as fault (value_at line) >>= head_in fault
 

@@ -1,4 +1,4 @@
--- The lines of a copy's text: what each says, and the JSON of it.
+-- The lines of a copy's text, and the JSON of each.
 use Rattle.std.specs.Prelude.{◌≡◌, ℕ, Bool, true, ◌&&◌, List, [], ◌∷◌, codes, Option, None, Some, option_map, IsTrue}
 use Rattle.std.specs.Borrow.{Bor}
 use Rattle.serde_json.specs.Data.{Data, null, number, string, object, unsigned, no_members, member}
@@ -10,23 +10,23 @@ use Rattle.pn_tablet.specs.Ranges.{Ends, are_ends}
 use Rattle.pn_tablet.specs.declared.copy_line.CopyLine.{CopyLine}
 use Rattle.pn_tablet.specs.declared.copy_line.CopyLine.TheVariants.{Mark, Record, End}
 
--- an end of a range: its key, or null where it is open
+-- an end of a range: its key, or null where the range is open
 abbrev pub key_data : Option (List ℕ) → Data
 key_data None = null
 key_data (Some key) = string key
 
--- the head: the form, and the two ends of the range
+-- the head: the number of the format, and the two ends of the range
 abbrev pub head_with : Data → Data → Data
 head_with from to = object (member (codes "copy") (number (unsigned 1)) (member (codes "from") from (member (codes "to") to no_members)))
 
 abbrev pub head_data : Ends → Data
 head_data range = head_with (key_data range.0) (key_data range.1)
 
--- how far one stream was taken
+-- a mark: a stream, and the last position taken from it
 abbrev pub mark_data : List ℕ × ℕ → Data
 mark_data mark = object (member (codes "at") (number (unsigned mark.1)) (member (codes "stream") (string mark.0) no_members))
 
--- the end: how many marks and images came before it
+-- the end: the number of marks and images before it
 abbrev pub end_data : ℕ → Data
 end_data count = object (member (codes "end") (number (unsigned count)) no_members)
 
@@ -54,7 +54,7 @@ IsValue d (Mark name position) = (d ≡ mark_data (name, position)) × IsTrue (i
 IsValue d (Record image) = IsImage d image
 IsValue d (End count) = d ≡ end_data count
 
--- each line is that of what stands at its place, and there are as many
+-- the lines are those of these marks, images and ends, one by one
 abbrev pub AreLines : List (List ℕ) → List CopyLine → Type 0
 AreLines [] [] = Unit {0}
 AreLines (line ∷ lines) (says ∷ more) = IsLine IsValue line says × AreLines lines more

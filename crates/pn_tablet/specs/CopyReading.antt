@@ -1,4 +1,4 @@
--- What a text is read as line by line: the copy that it spells, or its first fault.
+-- A text read line by line: the copy that it spells, or its first fault.
 use Rattle.std.specs.Prelude.{ℕ, ◌+◌, ◌-◌, ◌==◌, Bool, true, false, not, ◌&&◌, if◌then◌else◌, List, [], ◌∷◌, ◌++◌, Some, is_some, Result, Ok, Err}
 use Rattle.std.specs.List.{list_all}
 use Rattle.std.specs.Option.{option_map_or}
@@ -10,7 +10,7 @@ use Rattle.pn_record.specs.declared.image.Image.{Image}
 use Rattle.pn_record.specs.CellMap.{adds}
 use Rattle.pn_tablet.specs.Copies.{TabletCopyValue}
 use Rattle.pn_tablet.specs.CopyLineReading.{head_at, line_at}
-use Rattle.pn_tablet.specs.CopyTexts.{comes_behind}
+use Rattle.pn_tablet.specs.CopyTexts.{comes_after}
 use Rattle.pn_tablet.specs.Drafts.{DraftValue, begun, whole}
 use Rattle.pn_tablet.specs.Ranges.{in_range}
 use Rattle.pn_tablet.specs.declared.copy_line.CopyLine.{CopyLine}
@@ -18,7 +18,7 @@ use Rattle.pn_tablet.specs.declared.copy_line.CopyLine.TheVariants.{Mark, Record
 use Rattle.pn_tablet.specs.declared.copy_fault.CopyTextFault.{CopyTextFault}
 use Rattle.pn_tablet.specs.declared.copy_fault.CopyTextFault.TheVariants.{Truncated, BadLine, OutsideRange, NotRising, BadEnd}
 
--- the pieces of a text between its newlines: its lines, and then what no newline ends
+-- the pieces of a text between its newlines: its lines, and then the rest, which has no newline
 unfoldable pub pieces_of : List ℕ → List (List ℕ)
 pieces_of [] = [] ∷ []
 pieces_of (b ∷ bytes) = if b == 10 then [] ∷ pieces_of bytes else onto_first b (pieces_of bytes)
@@ -28,30 +28,30 @@ abbrev pub is_over : List (List ℕ) → Bool
 is_over ([] ∷ []) = true
 is_over _ = false
 
--- a mark comes before all images, and its name behind those of the marks
+-- a mark comes before all images, and its name after those of the other marks
 abbrev pub with_mark : ℕ → DraftValue → List ℕ × ℕ → Result DraftValue CopyTextFault
 with_mark n draft mark =
     if is_some draft.last then Err (BadLine n) else
     (if list_all (λ other. is_lt (name_cmp other.0 mark.0)) draft.marks then Ok (record draft { marks = draft.marks ++ mark ∷ [] }) else Err (NotRising n))
 
--- an image lies in the range, and comes behind the one before it
+-- an image lies in the range, and comes after the last one
 abbrev pub with_image : ℕ → DraftValue → Image → Result DraftValue CopyTextFault
 with_image n draft image =
     if not (in_range draft.range image.key) then Err (OutsideRange n) else
-    (if option_map_or (λ last. comes_behind last image) draft.last true
+    (if option_map_or (λ last. comes_after last image) draft.last true
     then Ok (record draft { cells = adds draft.cells (image ∷ []); last = Some image }) else Err (NotRising n))
 
 -- the end counts the lines between the head and itself, and nothing follows it
 abbrev pub ended : ℕ → DraftValue → ℕ → Bool → Result TabletCopyValue CopyTextFault
 ended n draft count over = if count == n - 2 && over then Ok (whole draft) else Err BadEnd
 
--- what line n comes to, and then the lines behind it
+-- line n, and then the lines after it
 abbrev pub after : ℕ → DraftValue → (DraftValue → Result TabletCopyValue CopyTextFault) → Bool → CopyLine → Result TabletCopyValue CopyTextFault
 after n draft next over (Mark name position) = with_mark n draft (name, position) >>= next
 after n draft next over (Record image) = with_image n draft image >>= next
 after n draft next over (End count) = ended n draft count over
 
--- the copy that the pieces from line n on make of what was read before them
+-- the copy, from what was read before line n and the pieces from there on
 unfoldable pub read_on : ℕ → DraftValue → List (List ℕ) → Result TabletCopyValue CopyTextFault
 read_on n draft [] = Err Truncated
 read_on n draft (part ∷ []) = Err Truncated

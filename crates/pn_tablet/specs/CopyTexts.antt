@@ -17,24 +17,24 @@ use Rattle.pn_tablet.specs.declared.copy_line.CopyLine.{CopyLine}
 use Rattle.pn_tablet.specs.declared.copy_line.CopyLine.TheVariants.{Mark, Record, End}
 
 -- the next image has a greater key, or the same key and version and a greater content
-abbrev pub comes_behind : Image → Image → Bool
-comes_behind image next =
+abbrev pub comes_after : Image → Image → Bool
+comes_after image next =
     is_lt (bytes_cmp image.key next.key)
     || (eq_by_cmp bytes_cmp image.key next.key && (eq_by_cmp version_cmp image.version next.version && is_lt (content_cmp image.content next.content)))
 
--- each image comes behind the one before it
+-- each image comes after the one before it
 abbrev pub images_rise : List Image → Bool
 images_rise [] = true
 images_rise (image ∷ []) = true
-images_rise (image ∷ next ∷ images) = comes_behind image next && images_rise (next ∷ images)
+images_rise (image ∷ next ∷ images) = comes_after image next && images_rise (next ∷ images)
 
--- what the line of a mark says
+-- the line of a mark
 abbrev pub mark_line : List ℕ × ℕ → CopyLine
 mark_line mark = Mark mark.0 mark.1
 
--- what the lines behind the head say: the marks, the images, and how many both are
-abbrev pub lines_behind_head : Positions → List Image → List CopyLine
-lines_behind_head marks images = map mark_line marks ++ (map Record images ++ End (length marks + length images) ∷ [])
+-- the lines after the head: the marks, the images, and the number of both
+abbrev pub lines_after_head : Positions → List Image → List CopyLine
+lines_after_head marks images = map mark_line marks ++ (map Record images ++ End (length marks + length images) ∷ [])
 
 -- the text spells the copy: a head, marks whose names rise, images that rise and whose keys lie in the range, and an end
 pub record IsCopyText (text : List ℕ) (copy : TabletCopyValue) : Type 0 where
@@ -44,7 +44,7 @@ pub record IsCopyText (text : List ℕ) (copy : TabletCopyValue) : Type 0 where
   pub text_is : text ≡ text_of (head ∷ lines)
   pub unbroken : All IsUnbroken (head ∷ lines)
   pub head_is : IsLine IsHead head copy.range
-  pub lines_are : AreLines lines (lines_behind_head copy.marks images)
+  pub lines_are : AreLines lines (lines_after_head copy.marks images)
   pub names_rise : IsTrue (is_sorted name_cmp copy.marks)
   pub images_rise : IsTrue (images_rise images)
   pub inside : IsTrue (list_all (λ image. in_range copy.range image.key) images)

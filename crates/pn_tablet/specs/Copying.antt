@@ -1,4 +1,4 @@
--- Copies of tablets, and when one is given.
+-- When a tablet gives a copy.
 use Rattle.std.specs.Prelude.{Bool, true, false, Option, None, Some, Result, Ok, Err}
 use Rattle.pn_join.specs.Marks.{Positions}
 use Rattle.pn_tablet.specs.Needs.{first_short}
@@ -14,7 +14,7 @@ abbrev pub unless_behind : Option Short → TabletCopyValue → Result TabletCop
 unless_behind None copy = Ok copy
 unless_behind (Some short) copy = Err (fault.TheVariants.Behind short.stream short.has short.wanted)
 
--- a tablet that serves and whose cover reaches the need gives its range, its cover and its cells
+-- the copy of a tablet that serves and whose cover reaches the need: its range, its cover and its cells
 abbrev pub copy_from : Status → TabletStateValue → Positions → Result TabletCopyValue fault.CopyFault
 copy_from (Recovering _) tablet need = Err fault.TheVariants.Recovering
 copy_from Serving tablet need = unless_behind (first_short tablet.cover need) (record { range = tablet.range; marks = tablet.cover; cells = tablet.cells })

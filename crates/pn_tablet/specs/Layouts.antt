@@ -7,11 +7,11 @@ use Rattle.pn_tablet.specs.Ranges.{Ends, is_below}
 use Rattle.pn_tablet.specs.declared.layout.LayoutFault.{LayoutFault}
 use Rattle.pn_tablet.specs.declared.layout.LayoutFault.TheVariants.{TooMany, NotRising}
 
--- keys that stand between tablets
+-- the keys at which tablets begin, but for the first tablet
 abbrev pub Bounds : Type 0
 Bounds = List (List ℕ)
 
--- not too many bounds, each less than those after it
+-- at most 63 bounds, each less than those after it
 pub record IsLayout (bounds : Bounds) : Type 0 where
   pub few : length bounds ≤ max_bounds
   pub rising : IsStrictlySortedBy bytes_cmp bounds
@@ -31,11 +31,11 @@ rising_layout (Some place) bounds = Err (NotRising place)
 abbrev pub layout_of : Bounds → Result Bounds LayoutFault
 layout_of bounds = if nat_lt max_bounds (length bounds) then Err TooMany else rising_layout (first_fall bounds) bounds
 
--- how many bounds are not greater than the key
+-- the tablet of a key: the number of bounds that are not greater
 abbrev pub tablet_of : Bounds → List ℕ → ℕ
 tablet_of bounds key = count_by (λ bound. not (is_below key bound)) bounds
 
--- the ends of a tablet: the bound before it and the one after it, where they are there
+-- the ends of a tablet: the bounds before and after it
 abbrev pub tablet_ends : Bounds → ℕ → Ends
 tablet_ends bounds zero = (None, slice_get bounds 0)
 tablet_ends bounds (suc tablet) = (slice_get bounds tablet, slice_get bounds (suc tablet))

@@ -1,6 +1,6 @@
--- How many there can be.
+-- The limits of layouts.
 use Rattle.std.specs.Prelude.{ℕ}
 
--- the most bounds of a layout, which has one tablet more
+-- the most bounds of a layout
 abbrev pub max_bounds : ℕ
 max_bounds = 63

@@ -6,15 +6,15 @@ use Rattle.pn_tablet.specs.declared.state.Status.{Status}
 use Rattle.pn_tablet.specs.declared.state.Status.TheVariants.{Serving, Recovering}
 use Rattle.pn_tablet.specs.declared.needs.Short.{Short}
 
--- the first stream, in byte order, at which marks fall short of the need: what they have of it, and what is needed
+-- the first stream, in byte order, at which marks fall short of the need, with both positions
 abbrev pub first_short : Positions → Positions → Option Short
 first_short marks need = option_map (λ wanted. record { stream = wanted.0; has = position_of marks wanted.0; wanted = wanted.1 }) (option_and_then (slice_get need) (shortfall marks need))
 
--- what a tablet needs: nothing where it serves
+-- the need of a tablet; none where it serves
 abbrev pub needed : Status → Positions
 needed Serving = []
 needed (Recovering need) = need
 
--- what marks lack of what a tablet needs
+-- the first stream at which marks fall short of a tablet's need
 abbrev pub lacking : Status → Positions → Option Short
 lacking status marks = first_short marks (needed status)

@@ -1,4 +1,4 @@
--- Operations that can be handed in.
+-- Operations that may be applied.
 use Rattle.std.specs.Prelude.{IsTrue}
 use Rattle.pn_join.specs.Marks.{are_positions}
 use Rattle.pn_tablet.specs.declared.op.TabletOp.{TabletOp}

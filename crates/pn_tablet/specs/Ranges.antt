@@ -1,4 +1,4 @@
--- Ranges of keys: from one end, which is included, to another, which is not. Without an end a range is open there.
+-- Ranges of keys, from one end, inclusive, to another, exclusive. Without an end a range is open there.
 use Rattle.std.specs.Prelude.{ℕ, Bool, true, not, ◌&&◌, List, Option, Some, None}
 use Rattle.std.specs.Ordering.{is_lt}
 use Rattle.pn_record.specs.Order.{bytes_cmp}
@@ -25,7 +25,7 @@ is_before (Some to) key = is_below key to
 abbrev pub in_range : Ends → List ℕ → Bool
 in_range ends key = is_from ends.0 key && is_before ends.1 key
 
--- the first end is less than the other, where both are there
+-- the first end is less than the other, where there are both
 abbrev pub are_ends : Ends → Bool
 are_ends (None, to) = true
 are_ends (Some from, to) = is_before to from

@@ -1,4 +1,4 @@
--- What an operation makes of a tablet.
+-- The state of a tablet after an operation.
 use Rattle.std.specs.Prelude.{Bool, true, false, if◌then◌else◌, List, [], fold, Option, None, Some, Result, Ok, Err}
 use Rattle.pn_join.specs.Marks.{Positions, raised}
 use Rattle.pn_record.specs.Cells.{spell}
@@ -14,15 +14,15 @@ use Rattle.pn_tablet.specs.declared.op.TabletOp.TheVariants.{Join, Lose, Adopt}
 use Rattle.pn_tablet.specs.declared.fault.OpFault.{OpFault}
 use Rattle.pn_tablet.specs.declared.fault.OpFault.TheVariants.{WrongRange, TooOld, Memory}
 
--- the tablet takes the images that the cells spell, and the marks raise its cover
+-- a join adds the images that the cells spell, and its marks raise the cover
 abbrev pub taking : TabletStateValue → Entries → Positions → TabletStateValue
 taking tablet cells marks = record tablet { cells = adds tablet.cells (spell cells); cover = raised tablet.cover marks }
 
--- the cells are gone, the cover stays, and the tablet needs a copy that reaches it
+-- a loss removes the cells and keeps the cover; the tablet needs a copy that reaches it
 abbrev pub lost : TabletStateValue → TabletStateValue
 lost tablet = record tablet { cells = []; status = Recovering tablet.cover }
 
--- a copy is taken and the tablet serves, unless the copy lacks something of what the tablet needs
+-- an adoption adds a copy, and the tablet serves, unless the copy falls short of the tablet's need
 abbrev pub adopting : TabletStateValue → TabletCopyValue → Option Short → Result TabletStateValue OpFault
 adopting tablet copy None = Ok (record (taking tablet copy.cells copy.marks) { status = Serving })
 adopting tablet copy (Some short) = Err (TooOld short.stream short.has short.wanted)
@@ -41,7 +41,7 @@ after_step tablet (Err refusal) = tablet
 abbrev pub stepped : TabletStateValue → TabletOp → TabletStateValue
 stepped tablet op = after_step tablet (step tablet op)
 
--- the state after each operation of a list in turn, from the empty tablet of the range
+-- the state after the operations of a list in turn, from the empty tablet of the range
 abbrev pub state_of : Ends → List TabletOp → TabletStateValue
 state_of range ops = fold stepped (empty_tablet range) ops
 

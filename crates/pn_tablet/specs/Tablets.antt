@@ -11,14 +11,14 @@ use Rattle.pn_tablet.specs.Ranges.{Ends, in_range}
 use Rattle.pn_tablet.specs.declared.state.Status.{Status}
 use Rattle.pn_tablet.specs.declared.state.Status.TheVariants.{Serving, Recovering}
 
--- a range, the cells of its keys, how far streams were taken, and whether it serves
+-- a range, the cells of its keys, the last positions taken from streams, and whether it serves
 pub record TabletStateValue : Type 0 where
   pub range : Ends
   pub cells : Entries
   pub cover : Positions
   pub status : Status
 
--- a tablet that serves and has taken nothing
+-- a tablet that serves and is empty
 abbrev pub empty_tablet : Ends → TabletStateValue
 empty_tablet range = record { range = range; cells = []; cover = []; status = Serving }
 
@@ -30,7 +30,7 @@ lie_in range cells = list_all (λ entry. in_range range entry.0) cells
 abbrev pub same_range : Ends → Ends → Bool
 same_range a b = option_eq bytes_eq a.0 b.0 && option_eq bytes_eq a.1 b.1
 
--- a further loss finds its need: a copy of the cover, or the need that the last loss left
+-- the next loss has its need: a copy of the cover, or the need of the last loss
 abbrev pub HasNeed : Option Positions → Positions → Status → Type 0
 HasNeed (Some spare) cover status = spare ≡ cover
 HasNeed None cover status = status ≡ Recovering cover

@@ -9,7 +9,7 @@ use pn_join::{NoMemory, TableChange};
 use pn_record::{Cell, Key, Version};
 use std::alloc::Global;
 
-/// A key whose cell changed, with its version before, if it was there, and after.
+/// A key whose cell changed, with its versions before and after; none before where the key is new.
 #[derive(Debug, Drop)]
 pub struct Change {
     pub key: Key,
@@ -17,14 +17,14 @@ pub struct Change {
     pub after: Version,
 }
 
-// Room for so many changes.
+// An empty list with room for `count` changes.
 pub fn room_for(alloc: Global, count: usize) -> Result<Vec<Change>, NoMemory>
     ensures { IfOk result (λ changes. (changes.items ≡ []) × (count ≤ vec_capacity changes)) }
 {
     Ok(Vec::with_capacity(alloc, count)?)
 }
 
-// Adds the changes that are told, without those to a cell that is the same as before.
+// Adds the changes that a join reports, without cells that stay the same.
 pub fn add_told(changes: &mut Vec<Change>, told: Vec<TableChange<Key, Cell>>)
     requires none { changes.old.items ≡ [] }
     requires room { length told.items ≤ vec_capacity changes.old }
@@ -46,7 +46,7 @@ fn push_told(changes: &mut Vec<Change>, told: TableChange<Key, Cell>)
     }
 }
 
-// The change that is told, unless the cell is the same as before.
+// The change that a join reports, unless the cell stays the same.
 fn change_of(told: TableChange<Key, Cell>) -> Option<Change>
     ensures { result ≡ change_told told }
 {

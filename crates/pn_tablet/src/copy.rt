@@ -9,8 +9,8 @@ use pn_join::{Dup, Marks};
 use pn_record::Records;
 use std::marker::Model;
 
-/// A copy of a tablet: its range, how far streams were taken into it, and its cells. All keys lie in
-/// the range, and the positions are 1 to 10^15.
+/// A copy of a tablet: its range, the positions that it reached in streams, from 1 to 10^15, and its cells, whose
+/// keys lie in the range.
 #[derive(Drop)]
 pub struct TabletCopy {
     pub range: Range,
@@ -33,11 +33,10 @@ impl Model for TabletCopy {
 }
 
 impl TabletState {
-    /// A copy of a tablet that serves, where its cover reaches the need. Its keys are copied, and its
-    /// contents are shared.
+    /// A copy of a tablet that serves and whose cover reaches the need. It copies keys and shares contents.
     ///
-    /// `Recovering` comes exactly where the tablet is recovering, and else `Behind` exactly where the
-    /// cover does not reach the need, with the first stream that falls short.
+    /// `Recovering` exactly where the tablet recovers; otherwise `Behind`, with the first stream that falls short,
+    /// exactly where the cover does not reach the need.
     pub fn copy(&self, need: &Marks) -> Result<TabletCopy, CopyFault>
         ensures exact { Answers is_memory result (copy_of self.now need.now) }
     {

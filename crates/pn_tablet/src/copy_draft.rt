@@ -9,7 +9,7 @@ ghost use Rattle.pn_join.specs.Marks.{is_position, name_cmp};
 ghost use Rattle.pn_record.specs.Cells.{spell};
 ghost use Rattle.pn_record.specs.CellMap.{table_of};
 ghost use Rattle.pn_tablet.specs.CopyReading.{with_mark, with_image, ended};
-ghost use Rattle.pn_tablet.specs.CopyTexts.{comes_behind};
+ghost use Rattle.pn_tablet.specs.CopyTexts.{comes_after};
 ghost use Rattle.pn_tablet.specs.Drafts.{begun, with_last};
 
 use crate::{CopyTextFault, Range, TabletCopy};
@@ -19,10 +19,9 @@ use std::alloc::Global;
 use std::cmp::Ordering;
 use std::marker::Model;
 
-/// What of a copy was read so far. The last image is kept beside the cells until the next one comes, which
-/// is compared with it.
+/// What was read of a copy so far. The last image stays beside the cells until the next one is compared with it.
 #[derive(Drop)]
-pub(crate) struct Draft {
+pub(crate) struct CopyDraft {
     range: Range,
     marks: Marks,
     cells: Records,
@@ -30,7 +29,7 @@ pub(crate) struct Draft {
     alloc: Global,
 }
 
-impl Model for Draft {
+impl Model for CopyDraft {
     ghost use Rattle.pn_tablet.specs.Drafts.{DraftValue, IsDraft, with_last};
     ghost use Rattle.pn_tablet.specs.Proofs.DraftCoding.{draft_code};
 
@@ -43,12 +42,12 @@ impl Model for Draft {
     ghost invariant = { λ d. IsDraft d.range d.marks d.cells d.last };
 }
 
-impl Draft {
-    /// The head was read, and nothing else.
-    pub(crate) fn new(alloc: Global, range: Range) -> Draft
+impl CopyDraft {
+    /// A copy of which only the head was read.
+    pub(crate) fn new(alloc: Global, range: Range) -> CopyDraft
         ensures { result ≡ begun range }
     {
-        Draft {
+        CopyDraft {
             range,
             marks: Marks::new(alloc),
             cells: Records::new(alloc),
@@ -57,28 +56,32 @@ impl Draft {
         }
     }
 
-    /// A mark of line `number` more, whose position is from 1 to 10^15.
+    /// Adds the mark of line `number`, whose position is from 1 to 10^15.
     pub(crate) fn with_mark(
         mut self,
         number: u64,
         name: StreamName,
         position: u64,
-    ) -> Result<Draft, CopyTextFault>
+    ) -> Result<CopyDraft, CopyTextFault>
         requires { IsTrue (is_position position) }
         ensures { IsUnless CopyTextFault.Memory result (with_mark number self (name, position)) }
     {
         if self.last.is_some() {
             return Err(CopyTextFault::BadLine(number));
         }
-        if !is_behind(&self.marks, &name) {
+        if !is_after_all(&self.marks, &name) {
             return Err(CopyTextFault::NotRising(number));
         }
         raise_at(&mut self.marks, name, position)?;
         Ok(self)
     }
 
-    /// The image of line `number` more.
-    pub(crate) fn with_image(mut self, number: u64, image: Image) -> Result<Draft, CopyTextFault>
+    /// Adds the image of line `number`.
+    pub(crate) fn with_image(
+        mut self,
+        number: u64,
+        image: Image,
+    ) -> Result<CopyDraft, CopyTextFault>
         ensures { IsUnless CopyTextFault.Memory result (with_image number self image) }
     {
         if !self.range.contains(&image.key) {
@@ -92,7 +95,7 @@ impl Draft {
         Ok(self)
     }
 
-    /// The copy, where line `number` is an end of this count and nothing follows it.
+    /// The whole copy, where line `number` is its end with the right count and nothing follows it.
     pub(crate) fn ended(
         mut self,
         number: u64,
@@ -114,16 +117,16 @@ impl Draft {
     }
 }
 
-// Whether the name comes behind those of all marks.
-fn is_behind(marks: &Marks, name: &StreamName) -> bool
+// Whether the name comes after those of all marks.
+fn is_after_all(marks: &Marks, name: &StreamName) -> bool
     ensures { result ≡ list_all (λ other. is_lt (name_cmp other.0 name.now)) marks.now }
 {
     marks.lower_bound(name) == marks.len()
 }
 
-// Whether the image comes behind the last one, if there is one.
+// Whether the image comes after the last one, if there is one.
 fn is_next(last: Option<&Image>, image: &Image) -> bool
-    ensures { result ≡ option_map_or (λ other. comes_behind other image.now) (option_copied last.entry) true }
+    ensures { result ≡ option_map_or (λ other. comes_after other image.now) (option_copied last.entry) true }
 {
     match last {
         None => true,
@@ -136,7 +139,7 @@ fn is_next(last: Option<&Image>, image: &Image) -> bool
     }
 }
 
-// Takes the last image into the cells, if there is one.
+// Joins the last image into the cells, if there is one.
 fn settle(alloc: Global, cells: &mut Records, last: Option<Image>) -> Result<(), NoMemory>
     requires { cells.old ≡ table_of (spell cells.old) }
     ensures { OnOk result (cells.new ≡ with_last cells.old last) }

@@ -9,16 +9,16 @@ use thiserror::Error;
 /// Why a text is no copy: its first fault. Lines are counted from 1.
 #[derive(Clone, Copy, Debug, PartialEq, Eq, Error)]
 pub enum CopyTextFault {
-    /// The text ends before the end line does. What no newline ends is no line.
+    /// The text ends before the newline of its end line.
     #[error("the text of the copy is truncated")]
     Truncated,
-    /// The line is too long, or not one that may stand there.
+    /// The line is too long, or not allowed at its place.
     #[error("line {0} of the copy is bad")]
     BadLine(u64),
     /// The key of the line's image is not in the range of the head.
     #[error("line {0} of the copy is outside of its range")]
     OutsideRange(u64),
-    /// The line's mark or image does not come behind the one before it.
+    /// The line's mark or image does not come after the one before it.
     #[error("line {0} of the copy does not rise")]
     NotRising(u64),
     /// The end line's count is wrong, or something follows it.

@@ -18,7 +18,7 @@ pub fn a_text_spells_one_copy()
     ensures { (text : List ℕ) (one other : TabletCopyValue) → IsCopyText text one → IsCopyText text other → one ≡ other }
 {}
 
-/// Where the end of a copy's text is cut off, what is left is truncated, and spells no copy.
+/// A copy's text without its end is read as truncated, and spells no copy.
 pub fn no_part_of_a_copy_is_a_copy()
     ensures truncated { (front back : List ℕ) (copy : TabletCopyValue) → IsCopyText (front ++ back) copy → 0 < length back
         → copy_at front ≡ Err Truncated }
@@ -26,20 +26,20 @@ pub fn no_part_of_a_copy_is_a_copy()
         → ¬ IsCopyText front other }
 {}
 
-/// All spellings of a copy have as many lines: without one of its lines, or with one of them twice, a text
-/// is no spelling of the same copy.
+/// All spellings of a copy have the same number of lines. Without a line, or with a line twice, a spelling no longer
+/// spells the copy.
 pub fn spellings_of_a_copy_have_as_many_lines()
     ensures count { (one other : List (List ℕ)) (copy : TabletCopyValue) → All IsUnbroken one → All IsUnbroken other
         → IsCopyText (text_of one) copy → IsCopyText (text_of other) copy → length one ≡ length other }
-    ensures dropped { (before behind : List (List ℕ)) (line : List ℕ) (copy : TabletCopyValue) → All IsUnbroken (before ++ line ∷ behind)
-        → IsCopyText (text_of (before ++ line ∷ behind)) copy → ¬ IsCopyText (text_of (before ++ behind)) copy }
-    ensures doubled { (before behind : List (List ℕ)) (line : List ℕ) (copy : TabletCopyValue) → All IsUnbroken (before ++ line ∷ behind)
-        → IsCopyText (text_of (before ++ line ∷ behind)) copy → ¬ IsCopyText (text_of (before ++ line ∷ line ∷ behind)) copy }
+    ensures dropped { (before after : List (List ℕ)) (line : List ℕ) (copy : TabletCopyValue) → All IsUnbroken (before ++ line ∷ after)
+        → IsCopyText (text_of (before ++ line ∷ after)) copy → ¬ IsCopyText (text_of (before ++ after)) copy }
+    ensures doubled { (before after : List (List ℕ)) (line : List ℕ) (copy : TabletCopyValue) → All IsUnbroken (before ++ line ∷ after)
+        → IsCopyText (text_of (before ++ line ∷ after)) copy → ¬ IsCopyText (text_of (before ++ line ∷ line ∷ after)) copy }
 {}
 
-/// Where two lines of a copy's text are exchanged, whichever they are, it spells no copy at all.
+/// With any two of its lines exchanged, a copy's text spells no copy.
 pub fn no_exchanged_lines_are_a_copy()
-    ensures { (before between behind : List (List ℕ)) (one other : List ℕ) (copy another : TabletCopyValue)
-        → All IsUnbroken (before ++ one ∷ (between ++ other ∷ behind)) → IsCopyText (text_of (before ++ one ∷ (between ++ other ∷ behind))) copy
-        → ¬ IsCopyText (text_of (before ++ other ∷ (between ++ one ∷ behind))) another }
+    ensures { (before between after : List (List ℕ)) (one other : List ℕ) (copy another : TabletCopyValue)
+        → All IsUnbroken (before ++ one ∷ (between ++ other ∷ after)) → IsCopyText (text_of (before ++ one ∷ (between ++ other ∷ after))) copy
+        → ¬ IsCopyText (text_of (before ++ other ∷ (between ++ one ∷ after))) another }
 {}

@@ -16,21 +16,21 @@ use pn_record::{Image, ImageFault, Key, KeyFault, image_of, read_value};
 use serde_json::Value;
 use std::alloc::Global;
 
-/// The form of copies, which the head names.
-pub(crate) const FORM: u64 = 1;
+/// The number of the format, which the head of a copy names.
+pub(crate) const FORMAT: u64 = 1;
 
-/// What a line behind the head says.
+/// A line after the head.
 #[derive(Debug, Drop)]
 pub(crate) enum CopyLine {
-    /// How far a stream was taken.
+    /// A stream, and the last position taken from it.
     Mark(StreamName, u64),
     /// One content of a record.
     Record(Image),
-    /// How many marks and images came before.
+    /// The number of marks and images before it.
     End(u64),
 }
 
-/// The range of the head that a line is, or the fault.
+/// The range of the head that the line is, or the fault.
 #[tactic(auto, unfolding(crate::specs::CopyLineReading::head_at))]
 pub(crate) fn read_head(
     alloc: Global,
@@ -43,7 +43,7 @@ pub(crate) fn read_head(
     head_of(alloc, &value, fault)
 }
 
-/// What a line behind the head says, or the fault.
+/// The line after the head that is read, or the fault.
 #[tactic(auto, unfolding(crate::specs::CopyLineReading::line_at))]
 pub(crate) fn read_line(
     alloc: Global,
@@ -72,11 +72,11 @@ fn head_of(alloc: Global, value: &Value, fault: CopyTextFault) -> Result<Range, 
     ensures { IsUnless CopyTextFault.Memory result (head_in fault (view value.now)) }
 {
     let members = value.as_object().ok_or(fault)?;
-    let form = whole_number_of(value.get("copy"), fault)?;
+    let format = whole_number_of(value.get("copy"), fault)?;
     let from = end_of(value.get("from"), fault)?;
     let to = end_of(value.get("to"), fault)?;
     check_names(members, &["copy", "from", "to"], fault)?;
-    if form != FORM {
+    if format != FORMAT {
         return Err(fault);
     }
     range_of(alloc, from, to, fault)

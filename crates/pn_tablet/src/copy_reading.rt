@@ -6,7 +6,7 @@ ghost use Rattle.pn_tablet.specs.Copies.{TabletCopyValue};
 ghost use Rattle.pn_tablet.specs.CopyReading.{pieces_of, read_on, copy_at};
 ghost use Rattle.pn_tablet.specs.CopyTexts.{IsCopyText};
 
-use crate::copy_draft::Draft;
+use crate::copy_draft::CopyDraft;
 use crate::copy_line::{CopyLine, read_head, read_line};
 use crate::{CopyTextFault, TabletCopy};
 use memchr::memchr;
@@ -14,10 +14,8 @@ use std::alloc::Global;
 
 /// The copy that a text spells, read in one pass. It takes the memory of the copy and of one line.
 ///
-/// The first line with a fault decides: `BadLine` where it has more than 65,536 bytes, is not one that may
-/// stand there, or is out of its range; `OutsideRange` where its key is not in the head's range; `NotRising`
-/// where it does not come behind the one before it; `BadEnd` where the end's count is wrong or a byte
-/// follows it; `Truncated` where the text ends before.
+/// The first faulty line decides: `BadLine` above 65,536 bytes, out of place or out of its limits, `OutsideRange`,
+/// `NotRising`, `BadEnd`. `Truncated` where the text ends before.
 pub fn read_copy(alloc: Global, text: &[u8]) -> Result<TabletCopy, CopyTextFault>
     ensures found { IfOk result (λ copy. IsCopyText text.now copy) }
     ensures only { (copy : TabletCopyValue) → IsCopyText text.now copy → IsUnless CopyTextFault.Memory result (Ok copy) }
@@ -36,29 +34,29 @@ fn checked_copy(alloc: Global, text: &[u8]) -> Result<TabletCopy, CopyTextFault>
         return Err(CopyTextFault::Truncated);
     };
     let range = read_head(alloc, head, CopyTextFault::BadLine(1))?;
-    read_lines(alloc, Draft::new(alloc, range), rest)
+    read_lines(alloc, CopyDraft::new(alloc, range), rest)
 }
 
-// Reads the lines behind the head, the first of which is line 2.
-fn read_lines(alloc: Global, begun: Draft, text: &[u8]) -> Result<TabletCopy, CopyTextFault>
+// Reads the lines after the head, from line 2 on.
+fn read_lines(alloc: Global, begun: CopyDraft, text: &[u8]) -> Result<TabletCopy, CopyTextFault>
     ensures { IsUnless CopyTextFault.Memory result (read_on 2 begun (pieces_of text.now)) }
 {
     let mut draft = begun;
     let mut rest = text;
     let mut number = 2;
-    'lines: while let Some((line, behind)) = cut_line(rest) {
+    'lines: while let Some((line, after)) = cut_line(rest) {
         match read_line(alloc, line, CopyTextFault::BadLine(number))? {
             CopyLine::Mark(name, position) => draft = draft.with_mark(number, name, position)?,
             CopyLine::Record(image) => draft = draft.with_image(number, image)?,
-            CopyLine::End(count) => return draft.ended(number, count, behind.is_empty()),
+            CopyLine::End(count) => return draft.ended(number, count, after.is_empty()),
         }
-        rest = behind;
+        rest = after;
         number += 1;
     }
     Err(CopyTextFault::Truncated)
 }
 
-// The first line of a text, and what stands behind its newline. None where the text has no newline.
+// The first line of a text, and the text after its newline. None where there is no newline.
 fn cut_line(text: &[u8]) -> Option<(&[u8], &[u8])>
     ensures { MatchOption result (pieces_of text.now ≡ text.now ∷ [])
         (λ cut. (pieces_of text.now ≡ cut.0.now ∷ pieces_of cut.1.now) × (length cut.1.now < length text.now)) }

@@ -1,4 +1,4 @@
-//! Why an operation was refused, or a copy.
+//! Why an operation or a copy was refused.
 
 ghost use Rattle.std.specs.Prelude.{◌≡◌};
 ghost use Rattle.pn_tablet.specs.declared.fault.OpFault.TheVariants.{Memory as no_memory};
@@ -13,8 +13,8 @@ pub enum OpFault {
     /// A key lies outside the tablet's range, or the copy is of another range.
     #[error("wrong range")]
     WrongRange,
-    /// The copy does not reach what the tablet needs: the first stream at which it falls short, the
-    /// position that the copy has of it (0 for none), and the one that the tablet needs.
+    /// The copy does not reach the tablet's need: the first stream that falls short, the copy's position, 0 for
+    /// none, and the one needed.
     #[error("too old: the copy has {has} of stream {name}, and {needs} are needed", name = .stream.as_str())]
     TooOld {
         stream: StreamName,
@@ -31,8 +31,8 @@ pub enum CopyFault {
     /// The tablet is recovering.
     #[error("recovering")]
     Recovering,
-    /// The tablet's cover does not reach what is wanted: the first stream at which it falls short, the
-    /// position that the tablet has of it (0 for none), and the one that is wanted.
+    /// The tablet's cover does not reach the need: the first stream that falls short, the tablet's position, 0 for
+    /// none, and the one wanted.
     #[error("behind: the tablet has {has} of stream {name}, and {wanted} are wanted", name = .stream.as_str())]
     Behind {
         stream: StreamName,
@@ -41,7 +41,7 @@ pub enum CopyFault {
     },
     #[error("out of memory")]
     Memory,
-    /// No reader could enter. A tablet's own state never answers it.
+    /// No reader could enter. A tablet's own state never returns it.
     #[error("no entry")]
     NoEntry,
 }

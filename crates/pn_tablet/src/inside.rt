@@ -9,8 +9,7 @@ ghost use Rattle.pn_tablet.specs.Tablets.{lie_in as all_lie_in};
 use crate::Range;
 use pn_record::{Key, Records};
 
-/// Whether all keys lie in the range: the keys rise, so that it looks for the ends of the range among
-/// them. It takes no memory.
+/// Whether all keys lie in the range, found by a search for its ends among them.
 pub fn lie_in(range: &Range, cells: &Records) -> bool
     ensures { result ≡ all_lie_in range.now cells.now }
 {

@@ -20,8 +20,7 @@ pub fn cover_never_falls()
     ensures { (tablet : TabletStateValue) (op : TabletOp) → Reaches (stepped tablet op).cover tablet.cover }
 {}
 
-/// No operation but a loss takes a record away or leaves it at an older version. After a loss the tablet
-/// does not serve.
+/// Only a loss removes a record or leaves it at an older version, and after a loss the tablet does not serve.
 pub fn nothing_but_a_loss_goes_back()
     ensures kept { (tablet : TabletStateValue) (op : TabletOp) → IsSpelled tablet.cells → (op ≡ Lose → ⊥)
         → (key : List ℕ) → NotOlder (find bytes_cmp key tablet.cells) (find bytes_cmp key (stepped tablet op).cells) }
@@ -29,7 +28,7 @@ pub fn nothing_but_a_loss_goes_back()
         → (key : List ℕ) → NotOlder (find bytes_cmp key tablet.cells) (find bytes_cmp key (stepped tablet op).cells) }
 {}
 
-/// Two joins give the same tablet in either order, also where one is refused.
+/// Two joins give one tablet in either order, even where one is refused.
 pub fn joins_commute()
     ensures { (tablet : TabletStateValue) (cells others : Entries) (marks positions : Positions)
         → Rise tablet.cover → Rise marks → Rise positions
@@ -37,15 +36,13 @@ pub fn joins_commute()
         ≡ stepped (stepped tablet (Join others positions)) (Join cells marks) }
 {}
 
-/// A join that comes again changes nothing.
+/// A repeated join changes nothing.
 pub fn joins_repeat_without_effect()
     ensures { (tablet : TabletStateValue) (cells : Entries) (marks : Positions) → Rise tablet.cover → Rise marks
         → stepped (stepped tablet (Join cells marks)) (Join cells marks) ≡ stepped tablet (Join cells marks) }
 {}
 
-/// After a loss, joins, and a copy that is adopted then, every record is there again, at the version that it
-/// had before the loss or a later one: wherever the lost cells were those of the images up to the cover, and
-/// the copy's are those of the images up to its marks.
+/// After a loss, joins, and the adoption of a copy, every record is back, at its version before the loss or a later one.
 pub fn an_adoption_brings_back_what_was_lost()
     ensures { (upto : Positions → List Image) → Grows upto
         → (tablet after : TabletStateValue) (joins : List TabletOp) (copy : TabletCopyValue) → AreJoins joins

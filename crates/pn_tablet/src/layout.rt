@@ -13,9 +13,10 @@ use thiserror::Error;
 /// The most bounds of a layout.
 const MAX_BOUNDS: usize = 63;
 
-/// Bounds that divide all keys into tablets, from 1 to 64 of them. A tablet has the keys from the bound
-/// before it, which is in it, to the one after it, which is not. The least key is U+0000, so a first bound
-/// of it leaves a first tablet that can hold no key, which is lawful.
+/// Bounds that divide all keys into 1 to 64 tablets, each from the bound before it, inclusive, to the one after it,
+/// exclusive.
+///
+/// A first bound of U+0000, the least key, leaves the first tablet empty.
 #[derive(Debug, Drop)]
 pub struct Layout {
     bounds: Vec<Key>,
@@ -42,8 +43,8 @@ impl Model for Layout {
 }
 
 impl Layout {
-    /// `TooMany` where there are more than 63 bounds, and else `NotRising` with the place of the first that
-    /// is not greater than the one before it. It takes no memory.
+    /// `TooMany` above 63 bounds; otherwise `NotRising` with the place, from 0, of the first bound that is not
+    /// greater than the one before it.
     pub fn new(bounds: Vec<Key>) -> Result<Layout, LayoutFault>
         ensures { result ≡ layout_of bounds.items }
     {
@@ -56,7 +57,7 @@ impl Layout {
         }
     }
 
-    /// How many tablets there are: one more than bounds. It takes no memory.
+    /// The number of tablets: one more than bounds.
     pub fn count(&self) -> usize
         ensures count { result ≡ length self.now + 1 }
         ensures lawful { IsLayout self.now }
@@ -64,7 +65,7 @@ impl Layout {
         self.bounds.len() + 1
     }
 
-    /// The tablet in whose range the key is: how many bounds are not greater. It takes no memory.
+    /// The tablet of the key: the number of bounds that are not greater.
     pub fn tablet_of(&self, key: &Key) -> usize
         ensures tablet { result ≡ tablet_of self.now key.now }
         ensures within { result ≤ length self.now }
@@ -72,8 +73,7 @@ impl Layout {
         self.bounds.partition_point(|bound| bound <= key)
     }
 
-    /// The ends of a tablet below the count: its first key, and the first past it, where it has them. It
-    /// takes no memory.
+    /// The ends of a tablet below the count: the bounds before and after it; none where it is open.
     pub fn range(&self, tablet: usize) -> (Option<&Key>, Option<&Key>)
         requires { tablet ≤ length self.now }
         ensures ends { (option_copied result.0, option_copied result.1) ≡ tablet_ends self.now tablet }

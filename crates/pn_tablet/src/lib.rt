@@ -1,5 +1,5 @@
-//! Tablets: ranges of keys and the layouts that divide all keys into them, the state of one tablet, and what operations
-//! make of it.
+//! Tablets: ranges of keys, the layouts that divide all keys into them, and the state of one tablet under operations.
+//! What returns no `Result` takes no memory.
 #![tactic(auto)]
 
 mod change;
@@ -8,6 +8,7 @@ mod copy_draft;
 mod copy_fault;
 pub mod copy_laws;
 mod copy_line;
+mod copy_line_writing;
 mod copy_reading;
 mod copy_writing;
 mod fault;

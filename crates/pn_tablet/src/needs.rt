@@ -5,8 +5,7 @@ ghost use Rattle.pn_tablet.specs.Needs.{first_short as the_first_short};
 
 use pn_join::{Dup, Marks, StreamName};
 
-/// A stream at which marks fall short of a need: the position that they have of it, 0 for none, and the
-/// one that is wanted.
+/// A stream at which marks fall short of a need: the position that they have, 0 for none, and the one wanted.
 #[derive(Drop)]
 pub struct Short {
     pub stream: StreamName,
@@ -14,7 +13,7 @@ pub struct Short {
     pub wanted: u64,
 }
 
-/// The first stream, in byte order, at which marks fall short of a need. It takes no memory.
+/// The first stream, in byte order, at which marks fall short of a need.
 pub fn first_short(marks: &Marks, need: &Marks) -> Option<Short>
     ensures { result ≡ the_first_short marks.now need.now }
 {

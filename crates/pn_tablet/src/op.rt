@@ -7,10 +7,10 @@ use pn_record::Records;
 /// One event of a tablet.
 #[derive(Drop)]
 pub enum TabletOp {
-    /// Cells are joined into the tablet's, and the marks raise its cover, also while it is recovering.
+    /// Cells are joined into the tablet's, and the marks raise its cover, even while it recovers.
     Join { cells: Records, marks: Marks },
-    /// The tablet's records are lost. It recovers from then on, and needs a copy that reaches its cover.
+    /// The tablet loses its records. It then recovers, and needs a copy that reaches its cover.
     Lose,
-    /// A copy of the tablet is joined in. The tablet serves from then on.
+    /// A copy of the tablet is joined in, and the tablet serves again.
     Adopt(TabletCopy),
 }

@@ -13,8 +13,8 @@ use pn_join::{Dup, NoMemory};
 use pn_record::Key;
 use std::marker::Model;
 
-/// The keys from one, which is in it, to another, which is not. Without an end it is open there; where
-/// both are there, the first is less.
+/// The keys from `from`, inclusive, to `to`, exclusive. Without an end it is open there; of two ends the first is
+/// less.
 #[derive(Debug, Drop)]
 pub struct Range {
     from: Option<Key>,
@@ -33,7 +33,7 @@ impl Model for Range {
 }
 
 impl Range {
-    /// None where both ends are there and the first is not less. It takes no memory.
+    /// None where there are two ends and the first is not less.
     pub fn new(from: Option<Key>, to: Option<Key>) -> Option<Range>
         ensures made { IfSome result (λ range. range ≡ (from, to)) }
         ensures exactly { IsSome result ↔ IsTrue (are_ends (from, to)) }
@@ -46,18 +46,18 @@ impl Range {
         Some(Range { from, to })
     }
 
-    /// The range of these ends, which are in order and are copied.
-    pub fn copied(from: Option<&Key>, to: Option<&Key>) -> Result<Range, NoMemory>
+    /// The range of copies of these ends, which are in order.
+    pub fn from_ends(from: Option<&Key>, to: Option<&Key>) -> Result<Range, NoMemory>
         requires { IsTrue (are_ends (option_copied from, option_copied to)) }
         ensures { IfOk result (λ range. range ≡ (option_copied from.entry, option_copied to.entry)) }
     {
         Ok(Range {
-            from: copied(from)?,
-            to: copied(to)?,
+            from: dup_end(from)?,
+            to: dup_end(to)?,
         })
     }
 
-    /// The least key in it, if it has one. It takes no memory.
+    /// The least key of the range; none where it is open.
     pub fn from(&self) -> Option<&Key>
         ensures from { option_copied result ≡ self.now.0 }
         ensures order { IsTrue (are_ends self.now) }
@@ -65,7 +65,7 @@ impl Range {
         self.from.as_ref()
     }
 
-    /// The least key past it, if it ends. It takes no memory.
+    /// The least key past the range; none where it is open.
     pub fn to(&self) -> Option<&Key>
         ensures to { option_copied result ≡ self.now.1 }
         ensures order { IsTrue (are_ends self.now) }
@@ -73,7 +73,7 @@ impl Range {
         self.to.as_ref()
     }
 
-    /// Whether the key is in it. It takes no memory.
+    /// Whether the key is in the range.
     pub fn contains(&self, key: &Key) -> bool
         ensures { result ≡ in_range self.now key.now }
     {
@@ -104,7 +104,7 @@ impl PartialEq for Range {
 
     ghost laws = { partial_equiv_from_equiv (Prim.search (comparing, rules)) };
 
-    /// Whether both have the same ends. It takes no memory.
+    /// Whether both have the same ends.
     fn eq(&self, other: &Range) -> bool
         ensures compared { result ≡ (option_eq bytes_eq self.now.0 other.now.0 && option_eq bytes_eq self.now.1 other.now.1) }
         ensures same { IsTrue result ↔ (self.now ≡ other.now) }
@@ -121,11 +121,11 @@ impl Dup for Range {
     fn dup(&self) -> Result<Range, NoMemory>
         ensures { IfOk result (λ copy. copy ≡ self.now) }
     {
-        Range::copied(self.from(), self.to())
+        Range::from_ends(self.from(), self.to())
     }
 }
 
-fn copied(key: Option<&Key>) -> Result<Option<Key>, NoMemory>
+fn dup_end(key: Option<&Key>) -> Result<Option<Key>, NoMemory>
     ensures { IfOk result (λ copy. copy ≡ option_copied key.entry) }
 {
     match key {

@@ -28,8 +28,8 @@ pub enum Status {
     Recovering { need: Marks },
 }
 
-/// A tablet: a range of keys, the cells of its records, how far streams were taken into them, and
-/// whether it serves.
+/// A tablet: a range of keys, the cells of its records, the last position taken from each stream, and whether it
+/// serves.
 #[derive(Drop)]
 pub struct TabletState {
     range: Range,
@@ -57,7 +57,7 @@ impl Model for TabletState {
 }
 
 impl TabletState {
-    /// An empty tablet that serves, whose later growth is taken from the allocator. It takes no memory.
+    /// An empty tablet that serves. Later operations take memory from `alloc`.
     pub fn new(alloc: Global, range: Range) -> TabletState
         ensures { result ≡ empty_tablet range }
     {
@@ -71,16 +71,13 @@ impl TabletState {
         }
     }
 
-    /// Takes one operation, whose positions are 1 to 10^15.
+    /// Takes one operation, with positions from 1 to 10^15, and returns the keys whose cells a join changed. A loss
+    /// takes no memory and is never refused.
     ///
-    /// A join is taken also while the tablet recovers, and answers the keys whose cells changed. A loss
-    /// empties the tablet, which then needs a copy that reaches its cover; it takes no memory and is never
-    /// refused. An adoption joins a copy, and the tablet serves from then on. A loss and an adoption answer
-    /// no changes.
+    /// `WrongRange` exactly where a key of a join lies outside the range or a copy has another range.
     ///
-    /// `WrongRange` comes exactly where a key of a join lies outside the range or a copy is of another
-    /// range, and else `TooOld` exactly where the tablet is recovering and the copy does not reach the
-    /// need. An error leaves the tablet as it was.
+    /// Otherwise `TooOld` exactly where the tablet recovers and the copy does not reach the need. An error changes
+    /// nothing.
     pub fn apply(&mut self, op: &TabletOp) -> Result<Vec<Change>, OpFault>
         requires positions { HasPositions op.now }
         ensures ok { OnOk result (step self.old op.now ≡ Ok self.new) }
@@ -155,7 +152,7 @@ impl TabletState {
         Ok(())
     }
 
-    // What the marks lack of what the tablet needs.
+    // The first stream at which the marks fall short of the tablet's need.
     fn lacking(&self, marks: &Marks) -> Option<Short>
         ensures { result ≡ all_lacking self.now.status marks.now }
     {
@@ -166,7 +163,7 @@ impl TabletState {
     }
 }
 
-// The cover raised by the marks, and a copy of it that a later loss takes as the need.
+// The cover raised by the marks, and a copy of it, which a later loss takes as the need.
 fn raised_by(cover: &Marks, marks: &Marks) -> Result<(Marks, Marks), NoMemory>
     ensures { IfOk result (λ covers. (covers.0 ≡ raised cover.now marks.now) × (covers.1 ≡ raised cover.now marks.now)) }
 {

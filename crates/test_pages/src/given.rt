@@ -19,7 +19,7 @@ pub(crate) fn tablets(
     let mut tablets = Vec::new(alloc);
     for number in 0..layout.count() {
         let (from, to) = layout.range(number);
-        tablets.push(tablet(alloc, Range::copied(from, to)?, texts)?)?;
+        tablets.push(tablet(alloc, Range::from_ends(from, to)?, texts)?)?;
     }
     Ok(tablets)
 }

@@ -22,7 +22,7 @@ fn slots_of<'a>(alloc: Global, layout: &Layout, notes: &'a Notes) -> Result<Vec<
     let mut slots = Vec::new(alloc);
     for tablet in 0..layout.count() {
         let (from, to) = layout.range(tablet);
-        let state = TabletState::new(alloc, Range::copied(from, to)?);
+        let state = TabletState::new(alloc, Range::from_ends(from, to)?);
         slots.push(Noted {
             state,
             tablet,

@@ -1,4 +1,4 @@
--- Maps joined key by key keep the laws of what they join.
+-- Joining maps key by key is commutative, associative and idempotent if joining contents is.
 use Rattle.std.proofs.Common.{◌≡◌, Option, Some, None, refl, ap}
 use Rattle.pn_join.specs.Laws.{JoinLaws}
 use Rattle.pn_join.specs.Tables.{optional_joined, key_by_key}

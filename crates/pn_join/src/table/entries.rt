@@ -1,4 +1,4 @@
-//! A walk over the entries of a table, in key order.
+//! The iterator over the entries of a table, in key order.
 
 ghost use Rattle.std.specs.Prelude.{◌≡◌, ◌++◌, length};
 ghost use Rattle.std.specs.Iterator.{at_most};
@@ -11,7 +11,7 @@ use std::iter::FusedIterator;
 use std::marker::Model;
 use std::slice;
 
-/// The entries of a table that are left to walk, in key order. A walk takes no memory.
+/// The entries of a table that are left, in key order.
 #[derive(Drop)]
 pub struct Entries<'t, K, C> {
     left: slice::Iter<'t, (K, C)>,
@@ -31,7 +31,7 @@ impl<'t, K, C> Model for Entries<'t, K, C> {
 }
 
 impl<'t, K, C> Entries<'t, K, C> {
-    /// Walks entries, and then those of leaves.
+    /// These entries, and then those of the leaves.
     pub(crate) fn of(entries: &'t [(K, C)], leaves: &'t [Leaf<K, C>]) -> Self
         ensures { result ≡ entries.now ++ all_entries (leaves_of leaves.now) }
     {

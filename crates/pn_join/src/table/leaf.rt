@@ -1,20 +1,20 @@
-//! Leaves: short lists of entries, which tables share.
+//! Leaves: short lists of entries that copies of a table share.
 
 ghost use Rattle.std.specs.Prelude.{◌≡◌, ◌≤◌, [], length, IfOk, OnOk, OnErr};
 ghost use Rattle.pn_join.specs.Edits.{IsReady};
 ghost use Rattle.pn_join.specs.LeafEntries.{leaf_entries, leaves_of};
 ghost use Rattle.pn_join.specs.Leaves.{begins_below, ends_below, max_leaf_entries};
 
-use crate::table::single::MOST;
+use crate::table::leaf_join::MAX_LEAF_ENTRIES;
 use crate::{Dup, NoMemory};
 use std::alloc::Global;
 use std::mem;
 use std::sync::Arc;
 
-/// Fewer entries than this are copied as fast as they are shared.
+/// Leaves with fewer entries are copied rather than shared: copying is as fast.
 const FEWEST_SHARED: usize = 16;
 
-/// A piece of a table's entries. What is shared is never changed.
+/// Some of a table's entries. A shared leaf is never changed.
 #[derive(Drop)]
 pub enum Leaf<K, C> {
     Own(Vec<(K, C)>),
@@ -33,7 +33,7 @@ impl<K, C> Leaf<K, C> {
 }
 
 impl<K: Ord, C> Leaf<K, C> {
-    /// Whether its last key is less.
+    /// Whether its last key is less than this one.
     pub fn ends_below(&self, key: &K) -> bool
         ensures { result ≡ ends_below K.cmp key.now (leaf_entries self.now) }
     {
@@ -41,7 +41,7 @@ impl<K: Ord, C> Leaf<K, C> {
     }
 }
 
-/// Whether the first key is less.
+/// Whether the first key is less than this one.
 pub fn is_first_below<K: Ord, C>(entries: &[(K, C)], key: &K) -> bool
     ensures { result ≡ begins_below K.cmp key.now entries.now }
 {
@@ -51,7 +51,7 @@ pub fn is_first_below<K: Ord, C>(entries: &[(K, C)], key: &K) -> bool
     }
 }
 
-/// Whether the last key is less.
+/// Whether the last key is less than this one.
 pub fn is_last_below<K: Ord, C>(entries: &[(K, C)], key: &K) -> bool
     ensures { result ≡ ends_below K.cmp key.now entries.now }
 {
@@ -62,8 +62,7 @@ pub fn is_last_below<K: Ord, C>(entries: &[(K, C)], key: &K) -> bool
 }
 
 impl<K: Dup, C: Dup> Leaf<K, C> {
-    /// Takes the entries out: moves them where nobody shares them, and else copies them, with room for
-    /// as many as a leaf may have. An error leaves them in.
+    /// Takes the entries out. Shared ones are copied, with room for a full leaf; an error leaves them in.
     pub fn take(&mut self, alloc: Global) -> Result<Vec<(K, C)>, NoMemory>
         ensures ok { IfOk result (λ entries. entries.items ≡ leaf_entries self.old) }
         ensures err { OnErr result (leaf_entries self.new ≡ leaf_entries self.old) }
@@ -73,7 +72,7 @@ impl<K: Dup, C: Dup> Leaf<K, C> {
             Leaf::Shared(shared) => match Arc::try_unwrap(shared) {
                 Ok(entries) => Ok(entries),
                 Err(shared) => {
-                    let copy = copy_of(alloc, MOST, &shared);
+                    let copy = copy_entries(alloc, MAX_LEAF_ENTRIES, &shared);
                     *self = Leaf::Shared(shared);
                     copy
                 }
@@ -81,20 +80,19 @@ impl<K: Dup, C: Dup> Leaf<K, C> {
         }
     }
 
-    /// Makes it ready: nobody shares it, and it has room for as many entries as a leaf may have. Its
-    /// entries stay, also where that is refused.
+    /// Makes it unshared, with room for a full leaf. Its entries stay the same, also on an error.
     pub fn open(&mut self, alloc: Global) -> Result<(), NoMemory>
         requires { length (leaf_entries self.old) ≤ max_leaf_entries }
         ensures same { leaf_entries self.new ≡ leaf_entries self.old }
         ensures ready { OnOk result (IsReady self.new) }
     {
         let mut entries = self.take(alloc)?;
-        let room = entries.reserve(MOST.saturating_sub(entries.len()));
+        let room = entries.reserve(MAX_LEAF_ENTRIES.saturating_sub(entries.len()));
         *self = Leaf::Own(entries);
         Ok(room?)
     }
 
-    /// Lets others share it, where there is memory for that.
+    /// Makes it shareable, if there is memory for that.
     pub fn close(&mut self, alloc: Global)
         ensures { leaf_entries self.new ≡ leaf_entries self.old }
     {
@@ -104,7 +102,7 @@ impl<K: Dup, C: Dup> Leaf<K, C> {
         }
     }
 
-    /// Makes a leaf of its own that others can share, unless it is short or there is no memory for it.
+    /// A leaf of these entries. It is shareable unless it is short or memory runs out.
     pub fn seal(alloc: Global, entries: Vec<(K, C)>) -> Self
         ensures { leaf_entries result ≡ entries.items }
     {
@@ -117,19 +115,19 @@ impl<K: Dup, C: Dup> Leaf<K, C> {
         }
     }
 
-    /// The same entries: shared, or copied where they are this leaf's own.
+    /// A leaf of the same entries, shared if possible.
     pub fn share(&self, alloc: Global) -> Result<Self, NoMemory>
         ensures { IfOk result (λ copy. leaf_entries copy ≡ leaf_entries self.now) }
     {
         match self {
-            Leaf::Own(entries) => Ok(Leaf::Own(copy_of(alloc, 0, entries)?)),
+            Leaf::Own(entries) => Ok(Leaf::Own(copy_entries(alloc, 0, entries)?)),
             Leaf::Shared(entries) => Ok(Leaf::Shared(Arc::try_clone(entries)?)),
         }
     }
 }
 
-/// Copies entries, with room for so many or for all, whichever is more.
-pub fn copy_of<K: Dup, C: Dup>(
+/// Copies the entries into a vector with room for at least `room` entries.
+pub fn copy_entries<K: Dup, C: Dup>(
     alloc: Global,
     room: usize,
     entries: &[(K, C)],
@@ -144,7 +142,7 @@ pub fn copy_of<K: Dup, C: Dup>(
     Ok(copy)
 }
 
-/// Reads what copies of the entries will count up, each without waiting for the one before.
+/// Brings what copies of the entries will need into the cache.
 fn prefetch<K: Dup, C: Dup>(entries: &[(K, C)]) {
     for (key, content) in entries {
         key.prefetch();
@@ -152,8 +150,8 @@ fn prefetch<K: Dup, C: Dup>(entries: &[(K, C)]) {
     }
 }
 
-/// Shares leaves.
-pub fn shared<K: Dup, C: Dup>(
+/// Leaves of the same entries, shared where possible.
+pub fn share_leaves<K: Dup, C: Dup>(
     alloc: Global,
     leaves: &[Leaf<K, C>],
 ) -> Result<Vec<Leaf<K, C>>, NoMemory>

@@ -4,8 +4,8 @@ use denote.Param.SendFields.{declared_send}
 use denote.Struct.Record.{declared}
 use Rattle.std.proofs.Crossing.{crosses, Vec-send}
 use Rattle.logbook.proofs.tokens.Seen.TheSendSync as seen
-use Rattle.pn_live.specs.contracts.front.Note as note
-use Rattle.pn_live.specs.contracts.front.Note.TheInside as note_inside
+use Rattle.pn_live.specs.contracts.front.TabletNote as note
+use Rattle.pn_live.specs.contracts.front.TabletNote.TheInside as note_inside
 use Rattle.pn_live.specs.contracts.front.Front as front
 use Rattle.pn_live.specs.contracts.front.Front.TheInside as front_inside
 

@@ -10,34 +10,34 @@ use Rattle.atomic_table.proofs.shared.Shared.TheSendSync as shared
 use Rattle.atomic_table.proofs.send_lease.SendLease.TheSendSync as lease
 use Rattle.logbook.proofs.tokens.Seen.TheSendSync as seen
 use Rattle.pn_live.proofs.Crossing.Records.{state_sync, key_send}
-use Rattle.pn_live.specs.contracts.shown.Shown as shown
-use Rattle.pn_live.specs.contracts.seat.Seat as seat
+use Rattle.pn_live.specs.contracts.published_state.PublishedState as shown
+use Rattle.pn_live.specs.contracts.reader_handle.ReaderHandle as handle
 use Rattle.pn_tablet.specs.contracts.layout.Layout as layout
-use Rattle.pn_live.specs.contracts.window.Window as window
-use Rattle.pn_live.specs.contracts.window.Window.TheInside as window_inside
+use Rattle.pn_live.specs.contracts.tablet_reader.TabletReader as tablet_reader
+use Rattle.pn_live.specs.contracts.tablet_reader.TabletReader.TheInside as tablet_reader_inside
 use Rattle.pn_live.specs.contracts.reader.LiveReader as reader
 use Rattle.pn_live.specs.contracts.reader.LiveReader.TheInside as reader_inside
 
 shown_sync : IsSync shown.the_row
 shown_sync = search (sendable, crosses, state_sync, seen.the_sync) depth 40 fits 20000
 
-seat_send : IsSend seat.the_row
-seat_send = search (sendable, crosses, shown_sync, seen.the_send, part.the_send, spot.the_send, shared.the_send, shared.the_sync, lease.the_send, lease.the_sync) depth 40 fits 20000
+handle_send : IsSend handle.the_row
+handle_send = search (sendable, crosses, shown_sync, seen.the_send, part.the_send, spot.the_send, shared.the_send, shared.the_sync, lease.the_send, lease.the_sync) depth 40 fits 20000
 
 layout_send : IsSend layout.the_row
 layout_send = search (sendable, crosses, key_send) depth 40
 
-window_inside_send : IsSend window_inside.the_row
-window_inside_send = declared_send (declared window_inside.struct window_inside.the_propositions) (seat_send, tt)
+tablet_reader_inside_send : IsSend tablet_reader_inside.the_row
+tablet_reader_inside_send = declared_send (declared tablet_reader_inside.struct tablet_reader_inside.the_propositions) (handle_send, tt)
 
-window_send : IsSend window.the_row
-window_send = view_send _ _ _ _ _ window_inside_send
+tablet_reader_send : IsSend tablet_reader.the_row
+tablet_reader_send = view_send _ _ _ _ _ tablet_reader_inside_send
 
 global_send : IsSend global.the_row
 global_send = search (sendable, crosses) depth 40
 
 reader_inside_send : IsSend reader_inside.the_row
-reader_inside_send = declared_send (declared reader_inside.struct reader_inside.the_propositions) (layout_send, (Vec-send _ window_send, (global_send, tt)))
+reader_inside_send = declared_send (declared reader_inside.struct reader_inside.the_propositions) (layout_send, (Vec-send _ tablet_reader_send, (global_send, tt)))
 
 pub reader_send : IsSend reader.the_row
 reader_send = view_send _ _ _ _ _ reader_inside_send

@@ -1,7 +1,7 @@
 -- Records and states of tablets may go to another thread.
 use denote.Param.Send.{IsSend, IsSync, sendable}
 use Rattle.std.proofs.Crossing.{crosses}
-use Rattle.pn_join.specs.contracts.name.Name as name
+use Rattle.pn_join.specs.contracts.marks.name.Name as name
 use Rattle.pn_record.specs.contracts.content.Content as content
 use Rattle.pn_record.specs.contracts.held_contents.HeldContents as held
 use Rattle.pn_record.specs.contracts.cell.Cell as cell

@@ -1,4 +1,4 @@
--- How live tablets, and what readers know of them, are stored in a proof.
+-- How proofs store live tablets, and what readers know of them.
 use Rattle.std.specs.Prelude.{List, refl}
 use Rattle.std.specs.Coded.{Coded, code_by, coded×, coded_ℕ, coded_list}
 use Rattle.logbook.specs.Pages.{Book, book_coded}
@@ -10,39 +10,43 @@ use Rattle.pn_tablet.specs.declared.op.TabletOp.{TabletOp}
 use Rattle.pn_region.specs.Proofs.Coding.{entry_code}
 use Rattle.pn_region.specs.declared.entry.Entry.{Entry}
 use Rattle.pn_live.specs.LiveRegions.{LiveRegionValue}
-use Rattle.pn_live.specs.Places.{PlaceValue, NoteValue}
+use Rattle.pn_live.specs.PublishedTablets.{PublishedTabletValue, TabletNoteValue}
 use Rattle.pn_live.specs.Proofs.OpCoding.{list_code}
 use Rattle.pn_live.specs.Readers.{LiveReaderValue}
-use Rattle.pn_live.specs.Windows.{WindowValue}
+use Rattle.pn_live.specs.TabletReaders.{TabletReaderValue}
 
--- live tablets, notes, windows, readers and live regions as pairs
-abbrev pub place_code : Coded PlaceValue
-place_code =
+-- what is published of a tablet, as pairs
+abbrev pub published_tablet_code : Coded PublishedTabletValue
+published_tablet_code =
     code_by ((Book × Ends) × List TabletOp) (coded× (coded× book_coded ends_code) list_code)
     (λ p. ((p.book, p.range), p.list))
     (λ t. record { book = t.0.0; range = t.0.1; list = t.1 })
     (λ _. refl)
 
-abbrev pub note_code : Coded NoteValue
+-- notes as pairs
+abbrev pub note_code : Coded TabletNoteValue
 note_code = code_by (Book × List TabletOp) (coded× book_coded list_code) (λ n. (n.book, n.list)) (λ t. record { book = t.0; list = t.1 }) (λ _. refl)
 
-abbrev pub window_code : Coded WindowValue
-window_code =
+-- tablet readers as pairs
+abbrev pub tablet_reader_code : Coded TabletReaderValue
+tablet_reader_code =
     code_by ((Book × Ends) × (List TabletOp × List TabletOp)) (coded× (coded× book_coded ends_code) (coded× list_code list_code))
     (λ w. ((w.book, w.range), (w.seen, w.told)))
     (λ t. record { book = t.0.0; range = t.0.1; seen = t.1.0; told = t.1.1 })
     (λ _. refl)
 
+-- readers as pairs
 abbrev pub reader_code : Coded LiveReaderValue
 reader_code =
-    code_by (Bounds × List WindowValue) (coded× (coded_list (coded_list coded_ℕ)) (coded_list window_code))
-    (λ r. (r.layout, r.windows))
-    (λ t. record { layout = t.0; windows = t.1 })
+    code_by (Bounds × List TabletReaderValue) (coded× (coded_list (coded_list coded_ℕ)) (coded_list tablet_reader_code))
+    (λ r. (r.layout, r.tablet_readers))
+    (λ t. record { layout = t.0; tablet_readers = t.1 })
     (λ _. refl)
 
+-- live regions as pairs
 abbrev pub live_code : Coded LiveRegionValue
 live_code =
-    code_by ((Bounds × List PlaceValue) × (Positions × List Entry)) (coded× (coded× (coded_list (coded_list coded_ℕ)) (coded_list place_code)) (coded× positions_code (coded_list entry_code)))
-    (λ l. ((l.layout, l.places), (l.marks, l.log)))
-    (λ t. record { layout = t.0.0; places = t.0.1; marks = t.1.0; log = t.1.1 })
+    code_by ((Bounds × List PublishedTabletValue) × (Positions × List Entry)) (coded× (coded× (coded_list (coded_list coded_ℕ)) (coded_list published_tablet_code)) (coded× positions_code (coded_list entry_code)))
+    (λ l. ((l.layout, l.tablets), (l.marks, l.log)))
+    (λ t. record { layout = t.0.0; tablets = t.0.1; marks = t.1.0; log = t.1.1 })
     (λ _. refl)

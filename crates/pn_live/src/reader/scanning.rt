@@ -12,11 +12,11 @@ use pn_record::{Cell, Key};
 use pn_scan::{Page, Query, ScanFault, get, page};
 
 impl LiveReader {
-    /// The cells of keys, in the order of the keys, repeats included; none where there is no record. Each is read by an
-    /// entry of its own, in the order of the keys, in the state of its tablet that this entry finds.
+    /// The cells of keys in order, repeats included; none where there is no record. Each key is read by an entry of its
+    /// own, in that order.
     ///
-    /// `NoEntry` comes at the first key whose entry is refused, and `Recovering` at the first whose tablet is
-    /// recovering; no further tablet is entered then. `Memory` may come before either.
+    /// `NoEntry`: an entry is refused. `Recovering`: a key's tablet is recovering. The first key with either ends the
+    /// call. `Memory` may come before.
     pub fn get(&mut self, keys: &[Key]) -> Result<Vec<Option<Cell>>, ScanFault>
         ensures get { (seen : List Look) × IsGet LooksLive self.old.layout keys.now self.old self.new (λ cells. cells.items) result seen }
         ensures same { tablets_of self.new ≡ tablets_of self.old }
@@ -25,12 +25,11 @@ impl LiveReader {
         get(alloc, self, keys)
     }
 
-    /// The first rows that a query shows, at most as many as its limit, and the query for what stands behind them
-    /// exactly where there is more. Each tablet that may have rows is entered once, in rising number, until they show
-    /// more than a page has.
+    /// The first rows that a query shows, up to its limit, and the query for the rest, if any. Tablets that may have rows
+    /// are entered in order, once each.
     ///
-    /// `NoEntry` comes at the first tablet whose entry is refused, and `Recovering` at the first that is recovering; no
-    /// further tablet is entered then. `Memory` may come before either.
+    /// `NoEntry`: an entry is refused. `Recovering`: a tablet is recovering. The first tablet with either ends the
+    /// call. `Memory` may come before.
     pub fn scan(&mut self, query: &Query) -> Result<Page, ScanFault>
         ensures scan { (seen : List Look) × IsScan LooksLive self.old.layout query.now self.old self.new (λ page. (page.rows.items, page.next)) result
             (first_page query.now) seen }

@@ -2,15 +2,15 @@
 
 ghost use Rattle.std.specs.Prelude.{◌≡◌, map, IfOk, IsTrue};
 ghost use Rattle.std.specs.List.{AllByRecursion};
-ghost use Rattle.pn_live.specs.Behind.{AreBehind, AreOfPlaces};
+ghost use Rattle.pn_live.specs.Closing.{AllKnowPublished, AreOfTablets};
 ghost use Rattle.pn_live.specs.LiveRegions.{core, IsReaderIn};
-ghost use Rattle.pn_live.specs.Places.{state_at};
+ghost use Rattle.pn_live.specs.PublishedTablets.{state_at};
 ghost use Rattle.pn_live.specs.Readers.{ReadsFrom};
 
 use super::LiveRegion;
-use crate::place::Place;
+use crate::published_tablet::PublishedTablet;
 use crate::reader::LiveReader;
-use crate::window::Window;
+use crate::tablet_reader::TabletReader;
 use pn_join::NoMemory;
 use pn_region::Region;
 use pn_tablet::TabletState;
@@ -18,26 +18,25 @@ use std::alloc::Global;
 use std::sync::Wait;
 
 impl LiveRegion {
-    /// Ends the live region, whose readers are handed back: the region whose tablets are at the states of all that
-    /// was published, with its marks and its log. What any of the readers saw or was told of begins what was
-    /// published. It waits for readers that are reading.
+    /// Ends the live region, given its readers back: answers the region of all that was published. No reader saw or
+    /// learnt more. It waits for readers that are reading.
     ///
-    /// After an error nothing is handed back.
+    /// After an error the region is gone.
     pub fn close<R: Wait>(self, rt: &R, readers: Vec<LiveReader>) -> Result<Region, NoMemory>
         requires { AllByRecursion (IsReaderIn self) readers.items }
         ensures state { IfOk result (λ region. region.state ≡ core self) }
         ensures log { IfOk result (λ region. region.log ≡ self.log) }
-        ensures readers { IfOk result (λ _. AllByRecursion (λ reader. AreBehind self.places reader.windows) readers.items) }
+        ensures readers { IfOk result (λ _. AllByRecursion (λ reader. AllKnowPublished self.tablets reader.tablet_readers) readers.items) }
     {
         let LiveRegion {
             layout,
-            places,
+            tablets,
             marks,
             log,
             alloc,
         } = self;
-        let all_seen = was_all_seen(&places, readers);
-        let states = states_of(rt, alloc, places)?;
+        let all_seen = was_all_seen(&tablets, readers);
+        let states = states_of(rt, alloc, tablets)?;
         if !all_seen {
             return Err(NoMemory);
         }
@@ -45,59 +44,59 @@ impl LiveRegion {
     }
 }
 
-// Whether one more entry of each reader into each tablet finds what is published.
-fn was_all_seen(places: &[Place], readers: Vec<LiveReader>) -> bool
-    requires { AllByRecursion (ReadsFrom places.now) readers.items }
-    ensures { IsTrue result → AllByRecursion (λ reader. AreBehind places.now reader.windows) readers.items }
+// Enters each tablet once more with each reader; true where all found the latest state.
+fn was_all_seen(tablets: &[PublishedTablet], readers: Vec<LiveReader>) -> bool
+    requires { AllByRecursion (ReadsFrom tablets.now) readers.items }
+    ensures { IsTrue result → AllByRecursion (λ reader. AllKnowPublished tablets.now reader.tablet_readers) readers.items }
 {
     for reader in readers {
-        if !was_seen(places, reader.into_windows()) {
+        if !was_seen(tablets, reader.into_tablet_readers()) {
             return false;
         }
     }
     true
 }
 
-// The same of one reader.
-fn was_seen(places: &[Place], windows: Vec<Window>) -> bool
-    requires { AreOfPlaces places.now windows.items }
-    ensures { IsTrue result → AreBehind places.now windows.items }
+// Enters each tablet once more with one reader; true where it found the latest state in all.
+fn was_seen(tablets: &[PublishedTablet], tablet_readers: Vec<TabletReader>) -> bool
+    requires { AreOfTablets tablets.now tablet_readers.items }
+    ensures { IsTrue result → AllKnowPublished tablets.now tablet_readers.items }
 {
-    let mut tablet = 0;
-    for window in windows {
-        if !places[tablet].was_all_seen(window) {
+    let mut number = 0;
+    for reader in tablet_readers {
+        if !tablets[number].was_all_seen(reader) {
             return false;
         }
-        tablet += 1;
+        number += 1;
     }
     true
 }
 
-// The states of the tablets, which all end, also where memory runs out.
+// Ends the tablets, and answers their states. They all end, also when memory runs out.
 fn states_of<R: Wait>(
     rt: &R,
     alloc: Global,
-    places: Vec<Place>,
+    tablets: Vec<PublishedTablet>,
 ) -> Result<Vec<TabletState>, NoMemory>
-    ensures { IfOk result (λ states. states.items ≡ map state_at places.items) }
+    ensures { IfOk result (λ states. states.items ≡ map state_at tablets.items) }
 {
-    let Ok(mut states) = Vec::with_capacity(alloc, places.len()) else {
-        end_all(rt, places);
+    let Ok(mut states) = Vec::with_capacity(alloc, tablets.len()) else {
+        end_all(rt, tablets);
         return Err(NoMemory);
     };
-    let mut rest = places.into_iter();
-    while let Some(place) = rest.next() {
-        states.push_reserved(place.close(rt));
+    let mut rest = tablets.into_iter();
+    while let Some(tablet) = rest.next() {
+        states.push_reserved(tablet.close(rt));
     }
     rest.destroy_empty();
     Ok(states)
 }
 
-/// Ends live tablets that are not needed any more.
-pub(super) fn end_all<R: Wait>(rt: &R, places: Vec<Place>) {
-    let mut rest = places.into_iter();
-    while let Some(place) = rest.next() {
-        place.close(rt);
+/// Ends live tablets whose states are not needed.
+pub(super) fn end_all<R: Wait>(rt: &R, tablets: Vec<PublishedTablet>) {
+    let mut rest = tablets.into_iter();
+    while let Some(tablet) = rest.next() {
+        tablet.close(rt);
     }
     rest.destroy_empty();
 }

@@ -4,16 +4,16 @@ ghost use Rattle.std.specs.Prelude.{◌≡◌, ◌≤◌, ◌<◌, ◌^◌, leng
 ghost use Rattle.std.specs.List.{AllByRecursion};
 ghost use Rattle.pn_live.specs.Limits.{max_readers};
 ghost use Rattle.pn_live.specs.LiveRegions.{tablets_in, IsNewLive};
-ghost use Rattle.pn_live.specs.Places.{AreNewPlaces};
+ghost use Rattle.pn_live.specs.PublishedTablets.{AreNewTablets};
 ghost use Rattle.pn_live.specs.Readers.{opening, IsNewReader};
 ghost use Rattle.pn_apply.specs.Reducing.{ranges};
 
 use super::LiveRegion;
 use super::closing::end_all;
 use crate::fault::OpenFault;
-use crate::place::Place;
+use crate::published_tablet::PublishedTablet;
 use crate::reader::LiveReader;
-use crate::window::Window;
+use crate::tablet_reader::TabletReader;
 use pn_join::{Dup, Marks, NoMemory};
 use pn_region::Log;
 use pn_tablet::Layout;
@@ -21,10 +21,10 @@ use std::alloc::Global;
 use std::sync::Wait;
 
 impl LiveRegion {
-    /// Opens a live region of empty tablets that serve, with between 1 and 16 readers. It waits for nobody, though it
-    /// publishes the empty state of each tablet.
+    /// Opens a live region of empty tablets that serve, with 1 to 16 readers. It does not wait, since no
+    /// reader is there yet.
     ///
-    /// `NoReader` comes where a tablet gives no place to one of the readers.
+    /// `NoReader`: a tablet has no place for one of the readers.
     pub fn open<R: Wait>(
         rt: &R,
         alloc: Global,
@@ -37,12 +37,12 @@ impl LiveRegion {
         ensures readers { IfOk result (λ opened. AllByRecursion (IsNewReader (tablets_in opened.0)) opened.1.items) }
     {
         let log = Log::new(alloc)?;
-        let mut places = open_all(rt, alloc, &layout, readers)?;
-        match readers_of(alloc, &layout, places.as_mut_slice(), readers) {
+        let mut tablets = open_all(rt, alloc, &layout, readers)?;
+        match readers_of(alloc, &layout, tablets.as_mut_slice(), readers) {
             Ok(readers) => {
                 let live = LiveRegion {
                     layout,
-                    places,
+                    tablets,
                     marks: Marks::new(alloc),
                     log,
                     alloc,
@@ -50,7 +50,7 @@ impl LiveRegion {
                 Ok((live, readers))
             }
             Err(fault) => {
-                end_all(rt, places);
+                end_all(rt, tablets);
                 Err(fault)
             }
         }
@@ -63,54 +63,57 @@ fn open_all<R: Wait>(
     alloc: Global,
     layout: &Layout,
     readers: usize,
-) -> Result<Vec<Place>, NoMemory>
+) -> Result<Vec<PublishedTablet>, NoMemory>
     requires { (0 < readers) × (readers < 2 ^ 32) }
-    ensures { IfOk result (λ places. AreNewPlaces (ranges layout.now) places.items) }
+    ensures { IfOk result (λ tablets. AreNewTablets (ranges layout.now) tablets.items) }
 {
-    let mut places = Vec::with_capacity(alloc, layout.count())?;
-    for tablet in 0..layout.count() {
-        match Place::open(rt, alloc, layout, tablet, readers) {
-            Ok(place) => places.push_reserved(place),
+    let mut tablets = Vec::with_capacity(alloc, layout.count())?;
+    for number in 0..layout.count() {
+        match PublishedTablet::open(rt, alloc, layout, number, readers) {
+            Ok(tablet) => tablets.push_reserved(tablet),
             Err(fault) => {
-                end_all(rt, places);
+                end_all(rt, tablets);
                 return Err(fault);
             }
         }
     }
-    Ok(places)
+    Ok(tablets)
 }
 
-// So many readers, each with a window of every tablet.
+// `count` readers of all tablets.
 fn readers_of(
     alloc: Global,
     layout: &Layout,
-    places: &mut [Place],
+    tablets: &mut [PublishedTablet],
     count: usize,
 ) -> Result<Vec<LiveReader>, OpenFault>
-    requires { map (λ place. place.range) places.old ≡ ranges layout.now }
-    ensures readers { IfOk result (λ readers. AllByRecursion (λ reader. (reader.layout ≡ layout.now) × (reader.windows ≡ map opening places.old)) readers.items) }
+    requires { map (λ tablet. tablet.range) tablets.old ≡ ranges layout.now }
+    ensures readers { IfOk result (λ readers. AllByRecursion (λ reader. (reader.layout ≡ layout.now) × (reader.tablet_readers ≡ map opening tablets.old)) readers.items) }
     ensures count { IfOk result (λ readers. length readers.items ≡ count) }
-    ensures same { places.new ≡ places.old }
+    ensures same { tablets.new ≡ tablets.old }
 {
     let mut readers = Vec::with_capacity(alloc, count)?;
     for _ in 0..count {
-        let windows = windows_of(alloc, places)?;
-        readers.push_reserved(LiveReader::of(alloc, layout.dup()?, windows));
+        let tablet_readers = tablet_readers_of(alloc, tablets)?;
+        readers.push_reserved(LiveReader::of(alloc, layout.dup()?, tablet_readers));
     }
     Ok(readers)
 }
 
-// A new window of every tablet.
-fn windows_of(alloc: Global, places: &mut [Place]) -> Result<Vec<Window>, OpenFault>
-    ensures windows { IfOk result (λ windows. windows.items ≡ map opening places.old) }
-    ensures same { places.new ≡ places.old }
+// A new reader of each tablet.
+fn tablet_readers_of(
+    alloc: Global,
+    tablets: &mut [PublishedTablet],
+) -> Result<Vec<TabletReader>, OpenFault>
+    ensures tablet_readers { IfOk result (λ tablet_readers. tablet_readers.items ≡ map opening tablets.old) }
+    ensures same { tablets.new ≡ tablets.old }
 {
-    let mut windows = Vec::with_capacity(alloc, places.len())?;
-    for tablet in 0..places.len() {
-        let Some(window) = places[tablet].window() else {
+    let mut tablet_readers = Vec::with_capacity(alloc, tablets.len())?;
+    for number in 0..tablets.len() {
+        let Some(reader) = tablets[number].new_reader() else {
             return Err(OpenFault::NoReader);
         };
-        windows.push_reserved(window);
+        tablet_readers.push_reserved(reader);
     }
-    Ok(windows)
+    Ok(tablet_readers)
 }

@@ -4,11 +4,11 @@ ghost use Rattle.std.specs.Prelude.{◌≡◌, ◌≤◌, [], length, map, vec_c
 ghost use Rattle.std.specs.List.{flat_map};
 ghost use Rattle.pn_apply.specs.Applying.{AreJoinsIn, HavePositions, all_stepped, all_changes};
 ghost use Rattle.pn_apply.specs.Limits.{max_workers};
-ghost use Rattle.pn_live.specs.Places.{state_at};
+ghost use Rattle.pn_live.specs.PublishedTablets.{state_at};
 
-use crate::front::Note;
-use crate::place::Place;
-use crate::tablet::Draft;
+use crate::front::TabletNote;
+use crate::live_tablet::StateDraft;
+use crate::published_tablet::PublishedTablet;
 use pn_apply::{Gate, Open, apply_all};
 use pn_join::{Dup, NoMemory};
 use pn_tablet::{Change, TabletOp, TabletState};
@@ -16,86 +16,86 @@ use std::alloc::Global;
 use std::sync::Wait;
 use std::thread::Threads;
 
-/// The next states with what changed in each, how many records that are, and room for the notes of a front.
+/// The next states with what changed in each, how many records changed, and room for the notes of a front.
 #[derive(Drop)]
-pub(super) struct Plan {
+pub(super) struct RoundPlan {
     pub(super) nexts: Vec<TabletState>,
     pub(super) lists: Vec<Vec<Change>>,
     pub(super) changed: u64,
-    pub(super) notes: Vec<Note>,
+    pub(super) notes: Vec<TabletNote>,
 }
 
-/// What each tablet's operation makes of its state. All memory that publishing takes here is taken.
+/// What the operations make of the tablets. Publishing it takes no memory.
 pub(super) fn planned<R: Threads + Wait + Sync, G: Gate + Sync>(
     rt: &R,
     alloc: Global,
-    places: &mut [Place],
+    tablets: &mut [PublishedTablet],
     operations: &[TabletOp],
     workers: usize,
     gate: &G,
-) -> Result<Plan, NoMemory>
-    requires joins { AreJoinsIn (map state_at places.old) operations.now }
+) -> Result<RoundPlan, NoMemory>
+    requires joins { AreJoinsIn (map state_at tablets.old) operations.now }
     requires positions { HavePositions operations.now }
     requires workers { (1 ≤ workers) × (workers ≤ max_workers) }
-    ensures nexts { IfOk result (λ plan. plan.nexts.items ≡ all_stepped (map state_at places.old) operations.now) }
-    ensures changes { IfOk result (λ plan. flat_map (λ list. list.items) plan.lists.items ≡ flat_map (λ list. list) (all_changes (map state_at places.old) operations.now)) }
+    ensures nexts { IfOk result (λ plan. plan.nexts.items ≡ all_stepped (map state_at tablets.old) operations.now) }
+    ensures changes { IfOk result (λ plan. flat_map (λ list. list.items) plan.lists.items ≡ flat_map (λ list. list) (all_changes (map state_at tablets.old) operations.now)) }
     ensures changed { IfOk result (λ plan. plan.changed ≡ length (flat_map (λ list. list.items) plan.lists.items)) }
-    ensures same { places.new ≡ places.old }
-    ensures notes { IfOk result (λ plan. (plan.notes.items ≡ []) × (vec_capacity plan.notes ≡ length places.old)) }
+    ensures same { tablets.new ≡ tablets.old }
+    ensures notes { IfOk result (λ plan. (plan.notes.items ≡ []) × (vec_capacity plan.notes ≡ length tablets.old)) }
 {
-    let mut states = caught_up(rt, alloc, places, workers)?;
-    let slots = states.as_mut_slice();
+    let mut nexts = caught_up(rt, alloc, tablets, workers)?;
+    let slots = nexts.as_mut_slice();
     let lists = apply_all(rt, alloc, slots, operations, workers, gate)?;
     let Some(changed) = count_of(&lists) else {
         return Err(NoMemory);
     };
-    let notes = Vec::with_capacity(alloc, places.len())?;
-    Ok(Plan {
-        nexts: states,
+    let notes = Vec::with_capacity(alloc, tablets.len())?;
+    Ok(RoundPlan {
+        nexts,
         lists,
         changed,
         notes,
     })
 }
 
-// A draft of each tablet's next state, which the workers bring up to the state that is shown.
+// A state to change for each tablet: its draft, which the workers bring up to the published state.
 fn caught_up<R: Threads + Wait + Sync>(
     rt: &R,
     alloc: Global,
-    places: &mut [Place],
+    tablets: &mut [PublishedTablet],
     workers: usize,
 ) -> Result<Vec<TabletState>, NoMemory>
     requires { (1 ≤ workers) × (workers ≤ max_workers) }
-    ensures states { IfOk result (λ states. states.items ≡ map state_at places.old) }
-    ensures same { places.new ≡ places.old }
+    ensures states { IfOk result (λ states. states.items ≡ map state_at tablets.old) }
+    ensures same { tablets.new ≡ tablets.old }
 {
-    let (mut states, joins) = drafts(rt, alloc, places)?;
+    let (mut states, joins) = drafts(rt, alloc, tablets)?;
     let slots = states.as_mut_slice();
     apply_all(rt, alloc, slots, &joins, workers, &Open)?;
     Ok(states)
 }
 
-// A draft of each tablet's next state: a state, and the join that it lacks.
+// A draft of each tablet: its state, and the join that it lacks.
 fn drafts<R: Wait>(
     rt: &R,
     alloc: Global,
-    places: &mut [Place],
+    tablets: &mut [PublishedTablet],
 ) -> Result<(Vec<TabletState>, Vec<TabletOp>), NoMemory>
     ensures joins { IfOk result (λ drafts. AreJoinsIn drafts.0.items drafts.1.items × HavePositions drafts.1.items) }
-    ensures states { IfOk result (λ drafts. all_stepped drafts.0.items drafts.1.items ≡ map state_at places.old) }
-    ensures same { places.new ≡ places.old }
+    ensures states { IfOk result (λ drafts. all_stepped drafts.0.items drafts.1.items ≡ map state_at tablets.old) }
+    ensures same { tablets.new ≡ tablets.old }
 {
-    let mut states = Vec::with_capacity(alloc, places.len())?;
-    let mut joins = Vec::with_capacity(alloc, places.len())?;
-    for tablet in 0..places.len() {
-        let Draft { state, lacks } = places[tablet].draft(rt, alloc)?;
+    let mut states = Vec::with_capacity(alloc, tablets.len())?;
+    let mut joins = Vec::with_capacity(alloc, tablets.len())?;
+    for number in 0..tablets.len() {
+        let StateDraft { state, lacks } = tablets[number].draft(rt, alloc)?;
         states.push_reserved(state);
         joins.push_reserved(lacks);
     }
     Ok((states, joins))
 }
 
-// How many changes the lists have together, where a number of 64 bits counts them. It does where memory holds them.
+// How many changes the lists have together. `None` past 64 bits, where memory would not hold them.
 fn count_of(lists: &[Vec<Change>]) -> Option<u64>
     ensures { IfSome result (λ count. count ≡ length (flat_map (λ list. list.items) lists.now)) }
 {

@@ -4,14 +4,14 @@ ghost use Rattle.std.specs.Prelude.{◌≡◌, ◌≤◌, length, slice_get, Ok,
 ghost use Rattle.std.specs.List.{position};
 ghost use Rattle.pn_tablet.specs.Operations.{HasPositions};
 ghost use Rattle.pn_tablet.specs.Refusals.{Refuses};
-ghost use Rattle.pn_tablet.specs.Steps.{step};
+ghost use Rattle.pn_tablet.specs.Steps.{step, is_memory};
 ghost use Rattle.pn_tablet.specs.Tablets.{same_range};
 ghost use Rattle.pn_tablet.specs.declared.op.TabletOp.TheVariants.{Lose};
-ghost use Rattle.pn_region.specs.Recovery.{losing, stepping, adopting, is_memory};
+ghost use Rattle.pn_region.specs.Recovery.{losing, stepping, adopting};
 ghost use Rattle.pn_region.specs.Regions.{IsRegion};
 ghost use Rattle.pn_region.specs.Since.{IsSince};
 ghost use Rattle.pn_live.specs.LiveRegions.{core, tablets_in};
-ghost use Rattle.pn_live.specs.Places.{state_at, notes_of};
+ghost use Rattle.pn_live.specs.PublishedTablets.{state_at, notes_of};
 ghost use Rattle.pn_live.specs.Readers.{AreNotesOf};
 ghost use Rattle.pn_live.specs.Recovery.{publishing_at, Adopts};
 
@@ -24,54 +24,54 @@ use pn_tablet::{Range, TabletCopy, TabletOp, TabletState};
 use std::sync::Wait;
 
 impl LiveRegion {
-    /// The records of a tablet, whose number is below the layout's count, are lost, as in a region's loss. The front
-    /// tells what is published of all tablets then. It waits for readers that still read the state before last.
+    /// A tablet, whose number is below the layout's count, loses its records, as in a region's loss. Answers the
+    /// front. It waits for readers of the state before last.
     ///
-    /// An error leaves everything as it was: nothing is published, and the log has no break.
+    /// An error changes nothing: nothing is published, and the log has no break.
     pub fn lose<R: Wait>(&mut self, rt: &R, tablet: usize) -> Result<Front, NoMemory>
         requires { tablet ≤ length self.old.layout }
         ensures ok { OnOk result (self.new ≡ publishing_at self.old tablet Lose) }
         ensures state { OnOk result (core self.new ≡ losing (core self.old) tablet) }
-        ensures front { IfOk result (λ front. front ≡ notes_of self.new.places) }
+        ensures front { IfOk result (λ front. front ≡ notes_of self.new.tablets) }
         ensures err { OnErr result (self.new ≡ self.old) }
         ensures fits { IfOk result (λ front. AreNotesOf (tablets_in self.old) front) }
         ensures same { tablets_in self.new ≡ tablets_in self.old }
     {
-        let next = self.places[tablet].after(&TabletOp::Lose)?;
+        let next = self.tablets[tablet].after(&TabletOp::Lose)?;
         self.publish_one(rt, tablet, next, TabletOp::Lose)
     }
 
-    /// The tablet whose range is the copy's takes the copy, as in a region's adoption. The front tells what is published
-    /// of all tablets then. It waits for readers that still read the state before last.
+    /// The tablet whose range is the copy's takes the copy, as in a region's adoption. Answers the front.
+    /// It waits for readers of the state before last.
     ///
-    /// `WrongRange` and `TooOld` come exactly where a region's adoption is refused so, and `Memory` only where it is not.
-    /// An error leaves everything as it was: nothing is published, and the log has no break.
+    /// `WrongRange` and `TooOld` come exactly where a region's adoption is refused so, and `Memory` only elsewhere.
+    /// An error changes nothing: nothing is published, and the log has no break.
     pub fn adopt<R: Wait>(&mut self, rt: &R, copy: TabletCopy) -> Result<Front, AdoptFault>
         ensures ok { OnOk result (Adopts copy self.old self.new) }
-        ensures front { IfOk result (λ front. front ≡ notes_of self.new.places) }
+        ensures front { IfOk result (λ front. front ≡ notes_of self.new.tablets) }
         ensures refused { IfErr result (λ fault. Refuses is_memory fault (adopting (core self.old) copy)) }
         ensures err { OnErr result (self.new ≡ self.old) }
         ensures fits { IfOk result (λ front. AreNotesOf (tablets_in self.old) front) }
         ensures same { tablets_in self.new ≡ tablets_in self.old }
     {
-        let Some(tablet) = self.tablet_for(&copy.range) else {
+        let Some(number) = self.tablet_for(&copy.range) else {
             return Err(AdoptFault::WrongRange);
         };
-        let place = &self.places[tablet];
-        if let Some(fault) = place.refusal(&copy.marks) {
+        let tablet = &self.tablets[number];
+        if let Some(fault) = tablet.refusal(&copy.marks) {
             return Err(fault);
         }
         let adoption = TabletOp::Adopt(copy);
-        let Ok(next) = place.after(&adoption) else {
+        let Ok(next) = tablet.after(&adoption) else {
             return Err(AdoptFault::Memory);
         };
-        let Ok(front) = self.publish_one(rt, tablet, next, adoption) else {
+        let Ok(front) = self.publish_one(rt, number, next, adoption) else {
             return Err(AdoptFault::Memory);
         };
         Ok(front)
     }
 
-    /// The notices behind the number, where the log knows all of them. It waits for nobody.
+    /// The notices after the number, where the log still has all of them.
     pub fn notices_since(&self, number: u64) -> Result<Since, NoMemory>
         ensures { IfOk result (λ since. IsSince self.now.log number since) }
     {
@@ -80,32 +80,34 @@ impl LiveRegion {
 
     // The number of the tablet that has the range.
     fn tablet_for(&self, range: &Range) -> Option<usize>
-        ensures { result ≡ position (λ place. same_range place.range range.now) self.now.places }
+        ensures { result ≡ position (λ tablet. same_range tablet.range range.now) self.now.tablets }
     {
-        self.places.iter().position(|place| place.range() == range)
+        self.tablets
+            .iter()
+            .position(|tablet| tablet.range() == range)
     }
 
-    // Publishes the state that an operation makes of a tablet. The log has a break.
+    // Publishes the state that an operation makes of one tablet. The log has a break.
     fn publish_one<R: Wait>(
         &mut self,
         rt: &R,
-        tablet: usize,
+        number: usize,
         next: TabletState,
         operation: TabletOp,
     ) -> Result<Front, NoMemory>
         requires positions { HasPositions operation }
-        requires next { IsSomeAnd (slice_get self.old.places tablet) (λ place. step (state_at place) operation ≡ Ok next) }
-        requires region { IsRegion (stepping (core self.old) tablet operation) }
-        ensures ok { OnOk result (self.new ≡ publishing_at self.old tablet operation) }
-        ensures state { OnOk result (core self.new ≡ stepping (core self.old) tablet operation) }
-        ensures front { IfOk result (λ front. front ≡ notes_of self.new.places) }
+        requires next { IsSomeAnd (slice_get self.old.tablets number) (λ tablet. step (state_at tablet) operation ≡ Ok next) }
+        requires region { IsRegion (stepping (core self.old) number operation) }
+        ensures ok { OnOk result (self.new ≡ publishing_at self.old number operation) }
+        ensures state { OnOk result (core self.new ≡ stepping (core self.old) number operation) }
+        ensures front { IfOk result (λ front. front ≡ notes_of self.new.tablets) }
         ensures err { OnErr result (self.new ≡ self.old) }
         ensures fits { IfOk result (λ front. AreNotesOf (tablets_in self.old) front) }
         ensures same { tablets_in self.new ≡ tablets_in self.old }
     {
-        let notes = Vec::with_capacity(self.alloc, self.places.len())?;
-        self.places[tablet].publish(rt, next, operation);
+        let notes = Vec::with_capacity(self.alloc, self.tablets.len())?;
+        self.tablets[number].publish(rt, next, operation);
         self.log.cut();
-        Ok(front_of(notes, &self.places))
+        Ok(front_of(notes, &self.tablets))
     }
 }

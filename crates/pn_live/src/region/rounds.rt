@@ -11,11 +11,11 @@ ghost use Rattle.pn_region.specs.Marking.{is_memory, new_marks};
 ghost use Rattle.pn_region.specs.Regions.{AreRegionMarks, IsRegion, all_cells};
 ghost use Rattle.pn_region.specs.Rounds.{joins, round, changed, Leaves};
 ghost use Rattle.pn_live.specs.LiveRegions.{core, publishing, LeavesLive, tablets_in};
-ghost use Rattle.pn_live.specs.Places.{notes_of, state_at};
+ghost use Rattle.pn_live.specs.PublishedTablets.{notes_of, state_at};
 ghost use Rattle.pn_live.specs.Readers.{AreNotesOf};
 
 use super::LiveRegion;
-use super::planning::{Plan, planned};
+use super::planning::{RoundPlan, planned};
 use super::publishing::{front_of, publish_all};
 use crate::front::Front;
 use pn_apply::{Gate, reduce_owned};
@@ -26,29 +26,12 @@ use pn_tablet::{Change, TabletOp};
 use std::sync::Wait;
 use std::thread::Threads;
 
-// The new marks, what is brought to each tablet, and what is to be published.
-#[derive(Drop)]
-struct Ready {
-    marks: Marks,
-    operations: Vec<TabletOp>,
-    plan: Plan,
-}
-
-// What changed in each tablet, how many records that are, and what is published then.
-#[derive(Drop)]
-struct Taken {
-    lists: Vec<Vec<Change>>,
-    changed: u64,
-    front: Front,
-}
-
 impl LiveRegion {
-    /// Takes deliveries, as a region's round does: the workers make the next states, and then this thread publishes
-    /// them, in the order of the tablets. The front tells what is published of all tablets then. It waits for readers
-    /// that still read the state before last.
+    /// Takes deliveries as a region's round does: workers make the next states, this thread publishes them, tablet
+    /// by tablet. Answers the front. It waits for readers of states before last.
     ///
-    /// The faults, the marks and the log are those of a region's round. `Gap` and `TooManyStreams` change nothing.
-    /// After `Memory` the join of each tablet is published, or nothing.
+    /// Faults, marks and log are those of a region's round. `Gap` and `TooManyStreams` change nothing. After
+    /// `Memory` each tablet's join is published or not.
     pub fn round<R: Threads + Wait + Sync, G: Gate + Sync>(
         &mut self,
         rt: &R,
@@ -58,8 +41,8 @@ impl LiveRegion {
     ) -> Result<(Round, Front), RoundFault>
         requires workers { (1 ≤ workers) × (workers ≤ max_workers) }
         ensures ok { OnOk result (round (core self.old) deliveries.items ≡ Ok (core self.new)) }
-        ensures published { OnOk result (self.new.places ≡ publishing self.old deliveries.items self.new.marks) }
-        ensures front { IfOk result (λ done. done.1 ≡ notes_of self.new.places) }
+        ensures published { OnOk result (self.new.tablets ≡ publishing self.old deliveries.items self.new.marks) }
+        ensures front { IfOk result (λ done. done.1 ≡ notes_of self.new.tablets) }
         ensures changed { IfOk result (λ done. done.0.changed ≡ changed (core self.old) (core self.new)) }
         ensures noted { OnOk result (self.new.log ≡ noting self.old.log (core self.old) (core self.new)) }
         ensures refused { IfErr result (λ fault. Refuses is_memory fault (round (core self.old) deliveries.items)) }
@@ -71,13 +54,9 @@ impl LiveRegion {
     {
         match self.take(rt, deliveries, workers, gate) {
             Ok(taken) => {
-                let Taken {
-                    lists,
-                    changed,
-                    front,
-                } = taken;
+                let (lists, done, front) = taken;
                 self.log.add(lists);
-                Ok((Round { changed }, front))
+                Ok((done, front))
             }
             Err(RoundFault::Memory) => {
                 self.log.cut();
@@ -87,67 +66,60 @@ impl LiveRegion {
         }
     }
 
-    // The same, but for the log.
+    // Takes deliveries, and leaves the log. Answers what changed in each tablet, too.
     fn take<R: Threads + Wait + Sync, G: Gate + Sync>(
         &mut self,
         rt: &R,
         deliveries: Vec<Delivery>,
         workers: usize,
         gate: &G,
-    ) -> Result<Taken, RoundFault>
+    ) -> Result<(Vec<Vec<Change>>, Round, Front), RoundFault>
         requires workers { (1 ≤ workers) × (workers ≤ max_workers) }
         ensures ok { OnOk result (round (core self.old) deliveries.items ≡ Ok (core self.new)) }
-        ensures published { OnOk result (self.new.places ≡ publishing self.old deliveries.items self.new.marks) }
-        ensures front { IfOk result (λ taken. taken.front ≡ notes_of self.new.places) }
-        ensures changed { IfOk result (λ taken. taken.changed ≡ length (flat_map (λ list. list.items) taken.lists.items)) }
-        ensures changes { IfOk result (λ taken. flat_map (λ list. list.items) taken.lists.items ≡ changes (all_cells (core self.old)) (all_cells (core self.new))) }
+        ensures published { OnOk result (self.new.tablets ≡ publishing self.old deliveries.items self.new.marks) }
+        ensures front { IfOk result (λ taken. taken.2 ≡ notes_of self.new.tablets) }
+        ensures changed { IfOk result (λ taken. taken.1.changed ≡ length (flat_map (λ list. list.items) taken.0.items)) }
+        ensures changes { IfOk result (λ taken. flat_map (λ list. list.items) taken.0.items ≡ changes (all_cells (core self.old)) (all_cells (core self.new))) }
         ensures refused { IfErr result (λ fault. Refuses is_memory fault (round (core self.old) deliveries.items)) }
         ensures err { IfErr result (λ fault. LeavesLive fault self.old deliveries.items self.new) }
         ensures left { IfErr result (λ fault. Leaves fault (core self.old) deliveries.items (core self.new)) }
-        ensures fits { IfOk result (λ taken. AreNotesOf (tablets_in self.old) taken.front) }
+        ensures fits { IfOk result (λ taken. AreNotesOf (tablets_in self.old) taken.2) }
         ensures log { self.new.log ≡ self.old.log }
         ensures same { tablets_in self.new ≡ tablets_in self.old }
     {
         let ready = self.prepared(rt, deliveries, workers, gate)?;
-        let Ready {
-            marks,
-            operations,
-            plan,
-        } = ready;
-        let Plan {
+        let (marks, operations, plan) = ready;
+        let RoundPlan {
             nexts,
             lists,
             changed,
             notes,
         } = plan;
-        let places = self.places.as_mut_slice();
-        publish_all(rt, places, nexts, operations);
+        let tablets = self.tablets.as_mut_slice();
+        publish_all(rt, tablets, nexts, operations);
         self.marks = marks;
-        let front = front_of(notes, &self.places);
-        Ok(Taken {
-            lists,
-            changed,
-            front,
-        })
+        let front = front_of(notes, &self.tablets);
+        Ok((lists, Round { changed }, front))
     }
 
-    // What the deliveries bring to each tablet, and all that is to be published.
+    // The new marks, what the deliveries bring to each tablet, and what that makes of the tablets. Nothing is
+    // published yet.
     fn prepared<R: Threads + Wait + Sync, G: Gate + Sync>(
         &mut self,
         rt: &R,
         deliveries: Vec<Delivery>,
         workers: usize,
         gate: &G,
-    ) -> Result<Ready, RoundFault>
+    ) -> Result<(Marks, Vec<TabletOp>, RoundPlan), RoundFault>
         requires workers { (1 ≤ workers) × (workers ≤ max_workers) }
-        ensures marks { IfOk result (λ ready. new_marks self.old.marks deliveries.items ≡ Ok ready.marks) }
-        ensures are_marks { IfOk result (λ ready. AreRegionMarks ready.marks) }
-        ensures joins { IfOk result (λ ready. AreJoinsIn (map state_at self.old.places) ready.operations.items × HavePositions ready.operations.items) }
-        ensures operations { IfOk result (λ ready. ready.operations.items ≡ joins (core self.old) deliveries.items ready.marks) }
-        ensures nexts { IfOk result (λ ready. ready.plan.nexts.items ≡ all_stepped (map state_at self.old.places) ready.operations.items) }
-        ensures changes { IfOk result (λ ready. flat_map (λ list. list.items) ready.plan.lists.items ≡ flat_map (λ list. list) (all_changes (map state_at self.old.places) ready.operations.items)) }
-        ensures changed { IfOk result (λ ready. ready.plan.changed ≡ length (flat_map (λ list. list.items) ready.plan.lists.items)) }
-        ensures notes { IfOk result (λ ready. (ready.plan.notes.items ≡ []) × (vec_capacity ready.plan.notes ≡ length self.old.places)) }
+        ensures marks { IfOk result (λ ready. new_marks self.old.marks deliveries.items ≡ Ok ready.0) }
+        ensures are_marks { IfOk result (λ ready. AreRegionMarks ready.0) }
+        ensures joins { IfOk result (λ ready. AreJoinsIn (map state_at self.old.tablets) ready.1.items × HavePositions ready.1.items) }
+        ensures operations { IfOk result (λ ready. ready.1.items ≡ joins (core self.old) deliveries.items ready.0) }
+        ensures nexts { IfOk result (λ ready. ready.2.nexts.items ≡ all_stepped (map state_at self.old.tablets) ready.1.items) }
+        ensures changes { IfOk result (λ ready. flat_map (λ list. list.items) ready.2.lists.items ≡ flat_map (λ list. list) (all_changes (map state_at self.old.tablets) ready.1.items)) }
+        ensures changed { IfOk result (λ ready. ready.2.changed ≡ length (flat_map (λ list. list.items) ready.2.lists.items)) }
+        ensures notes { IfOk result (λ ready. (ready.2.notes.items ≡ []) × (vec_capacity ready.2.notes ≡ length self.old.tablets)) }
         ensures is_region { IsRegion (core self.old) }
         ensures same { self.new ≡ self.old }
         ensures refused { IfErr result (λ fault. Refuses is_memory fault (round (core self.old) deliveries.items)) }
@@ -165,15 +137,11 @@ impl LiveRegion {
         let plan = planned(
             rt,
             self.alloc,
-            self.places.as_mut_slice(),
+            self.tablets.as_mut_slice(),
             &operations,
             workers,
             gate,
         )?;
-        Ok(Ready {
-            marks,
-            operations,
-            plan,
-        })
+        Ok((marks, operations, plan))
     }
 }

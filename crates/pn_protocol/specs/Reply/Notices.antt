@@ -3,7 +3,7 @@ use Rattle.std.specs.Prelude.{ℕ, true, List, map, codes, Option, Some, None, o
 use Rattle.serde_json.specs.Data.{Data, boolean, number, string, array, object, unsigned, no_members, member}
 use Rattle.serde_json.specs.View.{items_of}
 use Rattle.pn_record.specs.Writing.{version_data}
-use Rattle.pn_region.specs.Log.{numbered, changes_behind, last_of}
+use Rattle.pn_region.specs.Log.{numbered, changes_after, last_of}
 use Rattle.pn_region.specs.declared.entry.Entry.{Entry}
 use Rattle.pn_region.specs.declared.since.Notice.{Notice}
 use Rattle.pn_region.specs.declared.since.Since.{Since}
@@ -39,4 +39,4 @@ since_as next None = missed_data next
 
 -- the reply that a log of these entries gives after a number
 abbrev pub since_data : List Entry → ℕ → Data
-since_data entries n = since_as (last_of entries) (option_map (numbered n) (changes_behind entries n))
+since_data entries n = since_as (last_of entries) (option_map (numbered n) (changes_after entries n))

@@ -12,8 +12,8 @@ use Rattle.pn_tablet.specs.declared.copy_fault.CopyTextFault.{CopyTextFault}
 use Rattle.pn_tablet.specs.declared.copy_fault.CopyTextFault.TheVariants as text
 use Rattle.pn_tablet.specs.declared.fault.CopyFault.{CopyFault}
 use Rattle.pn_tablet.specs.declared.fault.CopyFault.TheVariants as copy
-use Rattle.pn_region.specs.declared.fault.AdoptFault.{AdoptFault}
-use Rattle.pn_region.specs.declared.fault.AdoptFault.TheVariants as adoption
+use Rattle.pn_tablet.specs.declared.fault.OpFault.{OpFault as AdoptFault}
+use Rattle.pn_tablet.specs.declared.fault.OpFault.TheVariants as adoption
 use Rattle.pn_protocol.specs.Reply.Recovery.{no_copy_data, bad_text_data, not_adopted_data}
 
 -- the reply to a lookup with this fault: what it says, or that memory ran out

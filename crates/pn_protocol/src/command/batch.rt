@@ -1,13 +1,13 @@
 //! Batches of the right shape, borrowed from the parsed value.
 
-use pn_record::Shape;
+use pn_record::UncheckedImage;
 use std::marker::Model;
 
 /// The parts of a batch of the right shape. Their ranges are not checked yet.
 #[derive(Drop)]
 pub(crate) struct BatchShape<'v> {
     pub(crate) first: u64,
-    pub(crate) images: Vec<Shape<'v>>,
+    pub(crate) images: Vec<UncheckedImage<'v>>,
     pub(crate) stream: &'v str,
 }
 

@@ -8,7 +8,7 @@ ghost use Rattle.pn_protocol.specs.Command.RangeChecks.{fits, each_fits, image_f
 use crate::command::batch::BatchShape;
 use crate::{Part, Refusal};
 use pn_join::Name;
-use pn_record::Shape;
+use pn_record::UncheckedImage;
 use pn_record::limits::MAX_KEY_BYTES;
 use pn_stream::positions_fit;
 
@@ -46,7 +46,7 @@ fn check_batch(batch: &BatchShape<'_>) -> Result<(), Refusal>
     Ok(())
 }
 
-fn check_images(images: &[Shape<'_>]) -> Result<(), Refusal>
+fn check_images(images: &[UncheckedImage<'_>]) -> Result<(), Refusal>
     ensures { result ≡ each_fits image_fits images.now }
 {
     for image in images {
@@ -55,7 +55,7 @@ fn check_images(images: &[Shape<'_>]) -> Result<(), Refusal>
     Ok(())
 }
 
-fn check_image(image: &Shape<'_>) -> Result<(), Refusal>
+fn check_image(image: &UncheckedImage<'_>) -> Result<(), Refusal>
     ensures { result ≡ image_fits image.now }
 {
     match image.check_ranges() {

@@ -10,7 +10,7 @@ use crate::command::batch::BatchShape;
 use crate::{Part, Refusal};
 use pn_join::NoMemory;
 use pn_json::{check_names, items_of, text_of, whole_number_of};
-use pn_record::{Shape, numbers_of, shape_of};
+use pn_record::{UncheckedImage, numbers_of, unchecked_image};
 use serde_json::{Map, Value};
 use std::alloc::Global;
 
@@ -22,16 +22,16 @@ pub(crate) fn check_members(members: &Map<String, Value>, names: &[&str]) -> Res
     check_names(members, names, Refusal::BadShape(Part::Other))
 }
 
-fn image_of(value: &Value) -> Result<Shape<'_>, Refusal>
+fn image_of(value: &Value) -> Result<UncheckedImage<'_>, Refusal>
     ensures { result ≡ image_shape (view value.now) }
 {
-    match shape_of(value) {
+    match unchecked_image(value) {
         Ok(shape) => Ok(shape),
         Err(member) => Err(Refusal::BadShape(Part::Image(member))),
     }
 }
 
-fn images_of(alloc: Global, items: &[Value]) -> Result<Vec<Shape<'_>>, Refusal>
+fn images_of(alloc: Global, items: &[Value]) -> Result<Vec<UncheckedImage<'_>>, Refusal>
     ensures { ShowsUnless Refusal.Memory (λ images. images.items) result (each_in image_shape (items_view items.now)) }
 {
     let mut images = room(alloc, items.len())?;

@@ -32,7 +32,7 @@ turned-greater v w e = version_cmp_total.antisymm w v ∙ ap ordering_reverse e
 pub greater-trans : (u v w : Stamp) → version_cmp u v ≡ Greater → version_cmp v w ≡ Greater → version_cmp u w ≡ Greater
 greater-trans u v w p q = turned-less w u (version_cmp_total.trans w v u (turned-greater v w q) (turned-greater u v p))
 
--- split on how two versions compare
+-- by cases of how two versions compare
 pub by_versions : {G : Type 0} (v w : Stamp) → (version_cmp v w ≡ Less → G) → (version_cmp v w ≡ Equal → G) → (version_cmp v w ≡ Greater → G) → G
 by_versions {G} v w less equal greater = elim (version_cmp v w) as (λ r. version_cmp v w ≡ r → G) [ Less ↦ less | Equal ↦ equal | Greater ↦ greater ] refl
 

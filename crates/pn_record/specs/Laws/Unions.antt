@@ -12,7 +12,7 @@ use Rattle.pn_record.specs.Order.{content_cmp}
 use Rattle.pn_record.specs.Laws.Totals.{content_cmp_total, content_cmp-exact}
 use Rattle.pn_record.specs.Sets.{CellValue, Contents, IsContents, as_entries, set_of, union}
 
--- the first of two answers, where there is one
+-- the first of two optional values that is present
 abbrev pub either : Option (Unit {0}) → Option (Unit {0}) → Option (Unit {0})
 either None b = b
 either (Some a) b = Some a
@@ -25,7 +25,7 @@ pub find-append : (q : ContentValue) (es fs : List (ContentValue × Unit {0})) �
 find-append q [] fs = refl
 find-append q (e ∷ es) fs = ap (cond (eq_by_cmp content_cmp q e.0) (Some tt)) (find-append q es fs) ∙ either-cond (eq_by_cmp content_cmp q e.0) _ _
 
--- a union has what one of the two has
+-- an element is in a union exactly if it is in one of the two
 pub get-union : (a b : Contents) (q : ContentValue) → get (union a b) q ≡ either (get a q) (get b q)
 get-union a b q = get-from_entries content_cmp_total _ q ∙ find-append q (entries a) (entries b) ∙ sym (λ i. either (get-entries a q i) (get-entries b q i))
 
@@ -63,7 +63,7 @@ union-empty a = same _ _ (λ q. get-union empty a q ∙ ap (λ x. either x (get 
 pub get-set_of : (xs : List ContentValue) (q : ContentValue) → get (set_of xs) q ≡ find content_cmp q (map (λ shown. (shown, tt)) xs)
 get-set_of xs q = get-from_entries content_cmp_total _ q
 
--- the set of two lists, one after the other, is the union of their sets
+-- the set of two lists appended is the union of their sets
 pub set_of-append : (xs ys : List ContentValue) → set_of (xs ++ ys) ≡ union (set_of xs) (set_of ys)
 set_of-append xs ys = same _ _ (λ q.
     get-set_of (xs ++ ys) q
@@ -90,14 +90,14 @@ keys-set_of xs rising =
     let sorted : set_of xs ≡ from_sorted (as_entries xs) = same _ _ (λ q. get-set_of xs q ∙ sym (get-from_sorted content_cmp (as_entries xs) q is)) in
     ap keys sorted ∙ ap (map (λ (e : ContentValue × Unit {0}). e.0)) (entries-from_sorted content_cmp (as_entries xs) is) ∙ paired xs
 
--- it has contents where the list has
+-- the set is not empty if the list is not
 pub some-set_of : (xs : List ContentValue) → IsContents xs → 0 < length (keys (set_of xs))
 some-set_of xs is = subst (λ (l : List ContentValue). 0 < length l) (sym (keys-set_of xs is.rising)) is.some
 
 pub set_of-one : (x : ContentValue) → IsContents (x ∷ [])
 set_of-one x = record { rising = refl; some = lit< tt }
 
--- lists whose contents tie one by one are one list
+-- lists whose contents are pairwise equal are equal
 pub tied_lists : (xs ys : List ContentValue) → pointwise (eq_by_cmp content_cmp) xs ys ≡ true → xs ≡ ys
 tied_lists [] [] tied = refl
 tied_lists [] (y ∷ ys) tied = cc
@@ -118,7 +118,7 @@ tied_lists (x ∷ xs) (y ∷ ys) tied =
     is_equal Equal p = refl
     is_equal Greater p = cc
 
--- a cell whose contents are those of the other has gathered them
+-- a union with the same contents changes nothing
 pub same_contents : (cell other : CellValue) → keys cell.1 ≡ keys other.1 → cell ≡ (cell.0, union cell.1 other.1)
 same_contents cell other same_keys =
     let is : cell.1 ≡ other.1 = sym (set_of-keys cell.1) ∙ ap set_of same_keys ∙ set_of-keys other.1 in

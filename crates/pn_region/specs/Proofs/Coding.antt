@@ -1,4 +1,4 @@
--- How a region and its log are stored in a proof.
+-- Regions and logs as pairs and lists.
 use Rattle.std.specs.Prelude.{◌≡◌, ℕ, List, Option, None, Some, refl}
 use Rattle.std.specs.Coded.{Coded, code_by, coded×, coded_ℕ, coded_list, coded_option}
 use Rattle.pn_join.specs.Marks.{Positions}

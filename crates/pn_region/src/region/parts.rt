@@ -1,4 +1,4 @@
-//! Regions of parts that are known to fit.
+//! A region made of parts that fit together.
 
 ghost use Rattle.std.specs.Prelude.{◌≡◌, ◌≤◌, length, IsTrue};
 ghost use Rattle.std.specs.List.{AllByRecursion};
@@ -15,9 +15,10 @@ use pn_tablet::{Layout, TabletState};
 use std::alloc::Global;
 
 impl Region {
-    /// The region of these parts, whose later growth is taken from the allocator. There is one tablet for each
-    /// range of the layout, in their order, the cover of each reaches the marks, and the marks name at most 16
-    /// streams, at positions of 1 to 10^15. It takes no memory.
+    /// The region of these parts. There is one tablet for each range of the layout, in order, whose cover
+    /// reaches the marks.
+    ///
+    /// The marks name at most 16 streams, at positions of 1 to 10^15.
     pub fn of_parts(
         alloc: Global,
         layout: Layout,
@@ -44,7 +45,7 @@ impl Region {
     }
 }
 
-// What every layout and every tablet keeps is known behind this call, which does nothing.
+// Does nothing: its clauses are what every layout and every tablet keeps.
 fn are_sound(layout: &Layout, tablets: &[TabletState])
     ensures lawful { IsLayout layout.now }
     ensures sound { AllByRecursion IsSound tablets.now }

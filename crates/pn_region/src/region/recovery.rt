@@ -4,10 +4,11 @@ ghost use Rattle.std.specs.Prelude.{◌≡◌, ◌≤◌, length, slice_get, Ok,
 ghost use Rattle.std.specs.List.{position};
 ghost use Rattle.pn_tablet.specs.Copying.{copy_of, is_memory as is_no_copy_memory};
 ghost use Rattle.pn_tablet.specs.Refusals.{Answers, Refuses};
+ghost use Rattle.pn_tablet.specs.Steps.{is_memory};
 ghost use Rattle.pn_tablet.specs.Tablets.{same_range};
 ghost use Rattle.pn_tablet.specs.declared.fault.CopyFault.TheVariants.{NoEntry};
 ghost use Rattle.pn_region.specs.Logged.{breaking};
-ghost use Rattle.pn_region.specs.Recovery.{losing, adopting, is_memory};
+ghost use Rattle.pn_region.specs.Recovery.{losing, adopting};
 
 use super::Region;
 use crate::AdoptFault;
@@ -15,9 +16,10 @@ use pn_join::Marks;
 use pn_tablet::{CopyFault, Range, TabletCopy, TabletOp};
 
 impl Region {
-    /// The records of a tablet, whose number is below the layout's count, are lost. It recovers from then on, and
-    /// needs a copy that reaches its cover, which stays, as the marks do. The log has a break. It takes no memory,
-    /// and is never refused.
+    /// Loses the records of a tablet, whose number is below the layout's count. The tablet then recovers: it
+    /// needs a copy that reaches its cover.
+    ///
+    /// Cover and marks stay, and the log has a break.
     pub fn lose(&mut self, tablet: usize)
         requires { tablet ≤ length self.old.state.layout }
         ensures state { self.new.state ≡ losing self.old.state tablet }
@@ -27,11 +29,13 @@ impl Region {
         self.log.cut();
     }
 
-    /// The tablet whose range is the copy's takes the copy beside what it has, and serves from then on. Answers its
-    /// number. The region's marks stay, and the log has a break.
+    /// Joins the copy into the tablet of its range, which then serves, and returns the tablet's number. The marks
+    /// stay, and the log has a break.
     ///
-    /// `WrongRange` comes exactly where no tablet has the copy's range, and else `TooOld` exactly where the tablet
-    /// is recovering and the copy does not reach what it needs. An error leaves the region as it was.
+    /// `WrongRange` comes exactly where no tablet has the copy's range, and else `TooOld` exactly where the
+    /// tablet is recovering and the copy does not reach what it needs.
+    ///
+    /// An error leaves the region as it was.
     pub fn adopt(&mut self, copy: TabletCopy) -> Result<usize, AdoptFault>
         ensures ok { IfOk result (λ tablet. adopting self.old.state copy ≡ Ok (tablet, self.new.state)) }
         ensures log { OnOk result (self.new.log ≡ breaking self.old.log) }
@@ -46,10 +50,10 @@ impl Region {
         Ok(tablet)
     }
 
-    /// A copy of a tablet, whose number is below the layout's count, where it serves and its cover reaches the need:
-    /// its range, its cover as the marks, and its cells. Its keys are copied, and its contents are shared.
+    /// A copy of a tablet, whose number is below the layout's count: its range, its cover as the marks, and its
+    /// cells. Keys are copied, contents are shared.
     ///
-    /// `Recovering` comes exactly where the tablet is recovering, and else `Behind` exactly where its cover does not
+    /// `Recovering` comes exactly where the tablet is recovering; else `Behind` exactly where its cover does not
     /// reach the need, with the first stream that falls short. `NoEntry` never comes.
     pub fn copy(&self, tablet: usize, need: &Marks) -> Result<TabletCopy, CopyFault>
         requires { tablet ≤ length self.now.state.layout }

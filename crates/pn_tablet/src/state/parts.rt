@@ -1,4 +1,4 @@
-//! What a tablet shows of itself.
+//! The parts of a tablet.
 
 ghost use Rattle.std.specs.Prelude.{◌≡◌, IsTrue};
 ghost use Rattle.pn_record.specs.Cells.{spell};
@@ -13,7 +13,7 @@ use pn_join::Marks;
 use pn_record::Records;
 
 impl TabletState {
-    /// The range that its keys lie in. It takes no memory, nor do the three below.
+    /// The range of its keys.
     pub fn range(&self) -> &Range
         ensures range { result.now ≡ self.now.range }
         ensures inside { IsTrue (lie_in self.now.range self.now.cells) }
@@ -29,7 +29,7 @@ impl TabletState {
         &self.cells
     }
 
-    /// How far each stream was taken into it.
+    /// The last position taken from each stream.
     pub fn cover(&self) -> &Marks
         ensures cover { result.now ≡ self.now.cover }
         ensures positions { IsTrue (are_positions self.now.cover) }

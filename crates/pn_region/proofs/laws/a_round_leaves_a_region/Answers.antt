@@ -1,7 +1,6 @@
 -- The laws are lemmas.
 use Rattle.std.proofs.Common.{refl}
-use Rattle.pn_apply.specs.Applying.{all_stepped}
-use Rattle.pn_region.specs.Rounds.{joins}
+use Rattle.pn_region.proofs.Common.{all_stepped, joins}
 use Rattle.pn_region.proofs.HalfRounds.{half_taken_is}
 use Rattle.pn_region.proofs.RoundEnds.{new_region_is}
 use Rattle.pn_region.proofs.laws.a_round_leaves_a_region.Goals as goal

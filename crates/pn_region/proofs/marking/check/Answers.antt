@@ -1,13 +1,9 @@
 -- One delivery more is followed, or the first gap is met.
 use Rattle.std.proofs.Common.{◌≡◌, ◌+◌, true, [], ◌∷◌, length, take, get_or, sym, ap, ◌∙◌, subst}
-use Rattle.std.specs.Prelude.{Ok, Err}
-use Rattle.std.specs.FinMap.{is_sorted}
-use Rattle.pn_join.specs.Marks.{Positions, name_cmp, are_positions}
-use Rattle.pn_stream.specs.Positions.{DeliveryValue}
-use Rattle.pn_region.specs.Marking.{bringing, all_marked, marks_after}
+use Rattle.pn_region.proofs.Common.{Ok, Err, is_sorted, Positions, name_cmp, are_positions, DeliveryValue, bringing, all_marked, marks_after}
 use Rattle.pn_region.proofs.MarkSteps.{marks_more, gap_met}
 use Rattle.pn_region.proofs.Following.{marked_more, marked_rising, streams_more}
-use Rattle.pn_region.proofs.RoundEnds.{handed_on}
+use Rattle.pn_stream.proofs.Runs.{handed_on}
 use Rattle.pn_region.proofs.marking.check.Goals as goal
 
 pub returns-in_err-is_new-clause-refused : goal.returns-in_err-is_new-clause-refused

@@ -1,9 +1,6 @@
 -- The deliveries so far are followed, and the streams are counted.
 use Rattle.std.proofs.Common.{◌≡◌, ◌-◌, ◌^◌, min, take, length, IsTrue}
-use Rattle.std.specs.Prelude.{Ok}
-use Rattle.std.specs.FinMap.{is_sorted}
-use Rattle.pn_join.specs.Marks.{name_cmp, are_positions}
-use Rattle.pn_region.specs.Marking.{bringing, all_marked, marks_after}
+use Rattle.pn_region.proofs.Common.{Ok, is_sorted, name_cmp, are_positions, bringing, all_marked, marks_after}
 use Rattle.pn_region.proofs.marking.check.Given as goal
 
 abbrev pub invariant-loop-place : goal.invariant-loop-place

@@ -1,7 +1,6 @@
 -- The marks are those after the deliveries so far.
 use Rattle.std.proofs.Common.{◌≡◌, take, IsTrue}
-use Rattle.pn_join.specs.Marks.{are_positions}
-use Rattle.pn_region.specs.Marking.{all_marked}
+use Rattle.pn_region.proofs.Common.{are_positions, all_marked}
 use Rattle.pn_region.proofs.marking.followed.Given as goal
 
 abbrev pub invariant-loop-delivery : goal.invariant-loop-delivery

@@ -1,8 +1,7 @@
 -- The stream is new where its mark is still 0.
 use Rattle.std.proofs.Common.{◌≡◌, ◌+◌, not, false, eqb, length, sym, ap, ◌∙◌}
 use Rattle.std.specs.Int.{from_bool}
-use Rattle.pn_join.specs.Marks.{position_of}
-use Rattle.pn_region.specs.Marking.{all_marked}
+use Rattle.pn_region.proofs.Common.{position_of, all_marked}
 use Rattle.pn_region.proofs.Following.{taken_count, marked_positions}
 use Rattle.pn_region.proofs.marking.is_new_stream.Goals as goal
 

@@ -1,8 +1,7 @@
 -- One delivery more may take the stream on.
 use Rattle.std.proofs.Common.{max, unwrap_or, get_or, take, sym, ap, ◌∙◌}
-use Rattle.pn_join.specs.Marks.{Positions, position_of}
-use Rattle.pn_stream.specs.Positions.{DeliveryValue}
-use Rattle.pn_region.specs.Marking.{last_of_stream, all_marked}
+use Rattle.pn_region.specs.Marking.{last_of_stream}
+use Rattle.pn_region.proofs.Common.{Positions, position_of, DeliveryValue, all_marked}
 use Rattle.pn_region.proofs.Following.{marked_more, mark_more}
 use Rattle.pn_region.proofs.marking.mark_after.Goals as goal
 

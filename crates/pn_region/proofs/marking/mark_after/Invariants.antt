@@ -1,7 +1,6 @@
 -- The mark is that after the deliveries so far.
 use Rattle.std.proofs.Common.{◌≡◌, take}
-use Rattle.pn_join.specs.Marks.{position_of}
-use Rattle.pn_region.specs.Marking.{all_marked}
+use Rattle.pn_region.proofs.Common.{position_of, all_marked}
 use Rattle.pn_region.proofs.marking.mark_after.Given as goal
 
 abbrev pub invariant-loop-delivery : goal.invariant-loop-delivery

@@ -1,5 +1,5 @@
 -- A fault that is met is the right one.
-use Rattle.pn_region.proofs.RoundEnds.{handed_on}
+use Rattle.pn_stream.proofs.Runs.{handed_on}
 use Rattle.pn_region.proofs.StreamCount.{refused_right}
 use Rattle.pn_region.proofs.marking.next_marks.Goals as goal
 

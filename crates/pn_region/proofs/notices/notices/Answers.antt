@@ -10,13 +10,13 @@ pub loop-place-preserved : goal.loop-place-preserved
 loop-place-preserved c =
     let was = c.loop-place in
     let kept = c.args.kept.now.items in
-    let copied = c.in_ok-copied.field-0 in
-    let got : slice_get kept was.place ≡ Some copied = sym c.in-Some.ensures ∙ ap Some (sym c.in_ok-copied.ensures) in
-    let count = ap length c.push_reserved.ensures.items ∙ length_push was.list.items (record { number = was.number + 1; change = copied }) in
+    let copy = c.in_ok-copy_of.field-0 in
+    let got : slice_get kept was.place ≡ Some copy = sym c.in-Some.ensures ∙ ap Some (sym c.in_ok-copy_of.ensures) in
+    let count = ap length c.push_reserved.ensures.items ∙ length_push was.list.items (record { number = was.number + 1; change = copy }) in
     record {
       told =
           ap (λ (l : List Notice). l ++ numbered (was.number + 1) (drop (was.place + 1) kept)) c.push_reserved.ensures.items
-          ∙ told_more kept was.place was.number copied was.list.items (numbered c.args.behind (drop c.args.first kept)) got was.invariant.told;
+          ∙ told_more kept was.place was.number copy was.list.items (numbered c.args.before (drop c.args.first kept)) got was.invariant.told;
       number = omega (arith, was.invariant.number);
       room = omega (arith, c.push_reserved.ensures.capacity, was.invariant.room);
       count = omega (arith, count, was.invariant.count);

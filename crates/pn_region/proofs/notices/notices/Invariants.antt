@@ -5,8 +5,8 @@ use Rattle.pn_region.proofs.notices.notices.Given as goal
 
 abbrev pub invariant-loop-place : goal.invariant-loop-place
 invariant-loop-place l = record {
-  told : l.list.items ++ numbered l.number (drop l.place l.kept.items) ≡ numbered l.behind (drop l.first l.kept.items);
-  number : l.number + l.first ≡ l.behind + l.place;
+  told : l.list.items ++ numbered l.number (drop l.place l.kept.items) ≡ numbered l.before (drop l.first l.kept.items);
+  number : l.number + l.first ≡ l.before + l.place;
   room : l.first + vec_capacity l.list ≡ length l.kept.items;
   count : l.first + length l.list.items ≡ l.place;
 }

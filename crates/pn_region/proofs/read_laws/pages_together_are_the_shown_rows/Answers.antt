@@ -1,4 +1,4 @@
--- The cells of all tablets rise, and each continuation asks for what stands behind its page.
+-- The cells of all tablets rise, and each continuation asks for the rows after its page.
 use Rattle.pn_region.proofs.PageWalks.{pages_walked, pages_end}
 use Rattle.pn_region.proofs.read_laws.pages_together_are_the_shown_rows.Goals as goal
 

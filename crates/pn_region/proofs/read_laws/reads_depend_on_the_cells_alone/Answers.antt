@@ -1,4 +1,4 @@
--- Each tablet is read as it stands, and has what all have at its keys.
+-- Each tablet is read in its present state, and has the cells of all tablets at its keys.
 use Rattle.pn_region.proofs.ReadLaws.{read_of_all, get_of_all, page_of_all}
 use Rattle.pn_region.proofs.read_laws.reads_depend_on_the_cells_alone.Goals as goal
 

@@ -1,9 +1,7 @@
 -- All joins are counted.
 use Rattle.std.proofs.Common.{ℕ, ◌<◌, ◌^◌, List, length, ap, ◌∙◌, subst}
-use Rattle.std.specs.List.{flat_map}
 use Rattle.std.proofs.lemmas.List.{take_all}
-use Rattle.pn_tablet.specs.declared.op.TabletOp.{TabletOp}
-use Rattle.pn_apply.specs.Reducing.{joined_cells}
+use Rattle.pn_region.proofs.Common.{flat_map, TabletOp, joined_cells}
 use Rattle.pn_region.proofs.region.can_be_counted.Goals as goal
 
 pub returns : goal.returns

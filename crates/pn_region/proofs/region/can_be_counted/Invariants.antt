@@ -1,7 +1,6 @@
 -- The records of the joins so far are counted.
 use Rattle.std.proofs.Common.{◌≡◌, ◌<◌, ◌^◌, length, take}
-use Rattle.std.specs.List.{flat_map}
-use Rattle.pn_apply.specs.Reducing.{joined_cells}
+use Rattle.pn_region.proofs.Common.{flat_map, joined_cells}
 use Rattle.pn_region.proofs.region.can_be_counted.Given as goal
 
 abbrev pub invariant-loop-join : goal.invariant-loop-join

@@ -2,9 +2,8 @@
 use Rattle.std.proofs.Common.{◌≡◌, length, take, ap, arith}
 use Rattle.std.specs.Prelude.{Vec}
 use Rattle.std.specs.declared.alloc.Global.{Global}
-use Rattle.std.specs.List.{flat_map}
 use Rattle.std.proofs.lemmas.List.Folds.{length-flat_map-take}
-use Rattle.pn_tablet.specs.declared.change.Change.{Change}
+use Rattle.pn_region.proofs.Common.{flat_map, Change}
 use Rattle.pn_region.proofs.region.count_of.Goals as goal
 
 pub overflow_add-count : goal.overflow_add-count

@@ -1,8 +1,6 @@
 -- The tablets so far are empty.
 use Rattle.std.proofs.Common.{◌≡◌, ◌+◌, map, length, vec_capacity}
-use Rattle.std.specs.List.{range_with_len}
-use Rattle.pn_tablet.specs.Layouts.{tablet_ends}
-use Rattle.pn_tablet.specs.Tablets.{empty_tablet}
+use Rattle.pn_region.proofs.Common.{range_with_len, tablet_ends, empty_tablet}
 use Rattle.pn_region.proofs.region.empty_tablets.Given as goal
 
 abbrev pub invariant-loop-tablet : goal.invariant-loop-tablet

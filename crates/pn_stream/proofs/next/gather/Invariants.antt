@@ -1,4 +1,4 @@
--- The images so far are a run, and the line holds the part of the next one that was taken: none behind an image.
+-- The images so far are a run; the line holds what was read of the next one, which is nothing after an image.
 use Rattle.std.proofs.Common.{◌≡◌, ◌-◌, ◌+◌, ◌≤◌, ◌^◌, [], ◌++◌, length, IfSome, OnSome}
 use Rattle.pn_line.specs.Reads.{HasShown}
 use Rattle.pn_stream.specs.Batches.{SoFar, IsPart}

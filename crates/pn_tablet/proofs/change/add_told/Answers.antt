@@ -1,4 +1,4 @@
--- One more change is told, or none is left.
+-- One more change is added, or none is left.
 use Rattle.std.proofs.Common.{◌≡◌, List, [], ◌++◌, length, sym, ap, ◌∙◌, append-nil, arith, rules}
 use Rattle.std.specs.List.{filter_map}
 use Rattle.std.specs.Vec.Iter.{into_iter_items, into_iter_len}

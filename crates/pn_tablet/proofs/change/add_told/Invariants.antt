@@ -1,4 +1,4 @@
--- The changes so far and those of what is left to tell are all changes.
+-- The changes so far and those that are left are all changes.
 use Rattle.std.proofs.Common.{◌≡◌, ◌+◌, ◌≤◌, ◌++◌, length, vec_len, vec_capacity}
 use Rattle.std.specs.List.{filter_map}
 use Rattle.std.specs.Vec.Iter.{into_iter_items, into_iter_len}

@@ -1,4 +1,4 @@
--- The head comes first, and then the lines behind it.
+-- The head comes first, and then the lines after it.
 use Rattle.std.proofs.Common.{sym, ap, ◌∙◌}
 use Rattle.pn_tablet.specs.CopyReading.{pieces_of, read_on}
 use Rattle.pn_tablet.specs.Drafts.{DraftValue}

@@ -1,4 +1,4 @@
--- What is left of the text, behind what was read, makes what the whole text makes.
+-- The rest of the text, after what was read, is read as the whole text.
 use Rattle.std.proofs.Common.{◌≡◌, ◌+◌, ◌≤◌, length}
 use Rattle.pn_tablet.specs.CopyReading.{pieces_of, read_on}
 use Rattle.pn_tablet.proofs.copy_reading.read_lines.Given as goal

@@ -1,5 +1,5 @@
 -- What was written, and the cells that are left, are all cells.
-use Rattle.std.proofs.Common.{◌≡◌, ◌+◌, ◌≤◌, ◌++◌, map, length, string_bytes}
+use Rattle.std.proofs.Common.{◌≡◌, ◌+◌, ◌≤◌, ◌++◌, map, length}
 use Rattle.std.specs.List.{AllByRecursion}
 use Rattle.pn_record.specs.Cells.{spell}
 use Rattle.pn_tablet.specs.CopyWriting.{lines_text, IsWrittenLine}
@@ -8,8 +8,8 @@ use Rattle.pn_tablet.proofs.copy_writing.write_cells.Given as goal
 
 abbrev pub invariant-loop-key : goal.invariant-loop-key
 invariant-loop-key l = record {
-  text : string_bytes l.text ++ lines_text (map Record (spell l.key-iterator)) ≡ string_bytes l.initial.text ++ lines_text (map Record (spell l.cells));
+  text : l.text.items ++ lines_text (map Record (spell l.key-iterator)) ≡ l.initial.text.items ++ lines_text (map Record (spell l.cells));
   lines : AllByRecursion IsWrittenLine (map Record (spell l.key-iterator)) → AllByRecursion IsWrittenLine (map Record (spell l.cells));
   count : l.count + length (spell l.key-iterator) ≡ length (spell l.cells);
-  room : length (string_bytes l.initial.text) + l.count ≤ length (string_bytes l.text);
+  room : length l.initial.text.items + l.count ≤ length l.text.items;
 }

@@ -1,4 +1,4 @@
--- All keys are below the end where as many are as there are keys.
+-- All keys are below the end where the number of lesser keys is that of all.
 use Rattle.std.proofs.Common.{eqb, ◌∙◌, ap, sym}
 use Rattle.std.specs.Option.{option_copied}
 use Rattle.std.specs.Ordering.{is_lt}

@@ -1,7 +1,7 @@
 -- Each bound is compared with the one before it.
 use Rattle.std.proofs.Common.{◌≡◌, ◌+◌, ◌-◌, ◌<◌, ◌≤◌, true, false, suc, length, get_or, Some, sym, ap, ◌∙◌, arith}
 use Rattle.pn_tablet.specs.Ranges.{is_below}
-use Rattle.pn_tablet.proofs.BoundSteps.{fall_from, fall_from-zero, falls_here, rises_here, no_fall_behind, not_less, is_less_from}
+use Rattle.pn_tablet.proofs.BoundSteps.{fall_from, fall_from-zero, falls_here, rises_here, no_fall_after, not_less, is_less_from}
 use Rattle.pn_tablet.proofs.layout.first_fall.Goals as goal
 
 pub loop-place-init : goal.loop-place-init
@@ -33,4 +33,4 @@ loop-place-preserved c =
 pub returns : goal.returns
 returns c =
     let past : length c.args.bounds.now ≤ suc (c.loop-place.place - 1) = omega arith in
-    sym (c.loop-place.invariant ∙ no_fall_behind c.args.bounds.now (c.loop-place.place - 1) past)
+    sym (c.loop-place.invariant ∙ no_fall_after c.args.bounds.now (c.loop-place.place - 1) past)

@@ -1,4 +1,4 @@
--- What is left falls short somewhere exactly where the whole need does.
+-- The rest of the need falls short exactly if the whole need does.
 use Rattle.std.proofs.Common.{◌≡◌}
 use Rattle.std.specs.List.{list_any}
 use Rattle.pn_join.specs.Marks.{falls_short}

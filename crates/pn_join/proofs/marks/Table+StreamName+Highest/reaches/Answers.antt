@@ -1,4 +1,4 @@
--- All is reached exactly where no entry of the need falls short.
+-- The need is reached exactly if no entry of it falls short.
 use Rattle.std.proofs.Common.{◌≡◌, Bool, true, false, not, IsTrue, sym, ap, ◌∙◌}
 use Rattle.pn_join.specs.Marks.{name_cmp}
 use Rattle.pn_join.proofs.MarksFacts.{reached, none_short}

@@ -1,4 +1,4 @@
--- The first shortfall of what is left is as far on as what is done.
+-- The index of the first shortfall is counted from the entries already passed.
 use Rattle.std.proofs.Common.{◌≡◌, ◌+◌, ◌-◌, ◌≤◌, length, option_map, position}
 use Rattle.pn_join.specs.Marks.{falls_short}
 use Rattle.pn_join.proofs.marks.Table+StreamName+Highest.shortfall.Given as goal

@@ -1,5 +1,5 @@
 use Rattle.std.proofs.Common.{is_lt, ap, ◌∙◌, sym}
-use Rattle.pn_join.proofs.RowSearch.{last_tells}
+use Rattle.pn_join.proofs.LeafListSearch.{last_tells}
 use Rattle.pn_join.proofs.table.leaf.is_last_below.Goals as goal
 
 pub returns-in-Some : goal.returns-in-Some

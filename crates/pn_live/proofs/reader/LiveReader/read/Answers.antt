@@ -1,4 +1,4 @@
--- The reader reads the same tablets.
+-- The reader still reads the same tablets.
 use Rattle.pn_live.proofs.Knowing.{looks_same}
 use Rattle.pn_live.proofs.reader.LiveReader.read.Goals as goal
 

@@ -4,16 +4,16 @@ use Rattle.pn_apply.specs.Applying.{AreJoinsIn, HavePositions}
 use Rattle.pn_apply.specs.Reducing.{all_images}
 use Rattle.pn_apply.proofs.ReduceLaws.{joins_have_positions}
 use Rattle.pn_live.specs.LiveRegions.{LiveRegionValue}
-use Rattle.pn_live.specs.Places.{PlaceValue, state_at}
+use Rattle.pn_live.specs.PublishedTablets.{PublishedTabletValue, state_at}
 use Rattle.pn_live.proofs.Rounds.{fit_live}
 use Rattle.pn_live.proofs.region.LiveRegion.prepared.Goals as goal
 
 pub planned-requires-clause-joins : goal.planned-requires-clause-joins
 planned-requires-clause-joins g c κs within =
     let inside = c.self.inside in
-    let old : LiveRegionValue = record { layout = inside.layout; places = inside.places.items; marks = inside.marks; log = inside.log } in
+    let old : LiveRegionValue = record { layout = inside.layout; tablets = inside.tablets.items; marks = inside.marks; log = inside.log } in
     let found = c.deref-2.ensures.value ∙ c.in_ok-operations.ensures in
-    subst (λ (ps : List PlaceValue). AreJoinsIn (map state_at ps) c.deref-2.result.now) (sym c.as_mut_slice.ensures.value)
+    subst (λ (ps : List PublishedTabletValue). AreJoinsIn (map state_at ps) c.deref-2.result.now) (sym c.as_mut_slice.ensures.value)
     (fit_live old c.args.deliveries.items c.self.invariant.is_region c.in_ok-marks.marks c.deref-2.result.now found)
 
 pub planned-requires-clause-positions : goal.planned-requires-clause-positions
@@ -24,9 +24,9 @@ planned-requires-clause-positions g c κs within =
 pub returns-clause-joins : goal.returns-clause-joins
 returns-clause-joins g c =
     let inside = c.self.inside in
-    let old : LiveRegionValue = record { layout = inside.layout; places = inside.places.items; marks = inside.marks; log = inside.log } in
+    let old : LiveRegionValue = record { layout = inside.layout; tablets = inside.tablets.items; marks = inside.marks; log = inside.log } in
     let ops = c.in_ok-operations.operations.items in (
-      subst (λ (l : LiveRegionValue). AreJoinsIn (map state_at l.places) ops) c.self.view_is
+      subst (λ (l : LiveRegionValue). AreJoinsIn (map state_at l.tablets) ops) c.self.view_is
           (fit_live old c.args.deliveries.items c.self.invariant.is_region c.in_ok-marks.marks ops c.in_ok-operations.ensures),
       subst HavePositions (sym c.in_ok-operations.ensures) (joins_have_positions inside.layout c.in_ok-marks.marks (all_images c.args.deliveries.items) c.in_ok-marks.ensures.positions),
     )

@@ -1,5 +1,5 @@
 -- What a round leaves of a live region.
-use Rattle.std.proofs.Common.{◌≡◌, List, map, refl, sym, ap, ◌∙◌, subst, arith}
+use Rattle.std.proofs.Common.{◌≡◌, List, map, sym, ap, ◌∙◌, subst, arith}
 use Rattle.std.specs.Vec.{with_items}
 use Rattle.std.proofs.lemmas.List.{with_items_is}
 use Rattle.std.specs.List.{flat_map}
@@ -8,10 +8,10 @@ use Rattle.pn_region.specs.Rounds.{Leaves}
 use Rattle.pn_region.specs.declared.fault.RoundFault.{RoundFault}
 use Rattle.pn_region.proofs.RoundEnds.{same_left, whatever}
 use Rattle.pn_live.specs.LiveRegions.{LiveRegionValue, core, tablets_in, LeavesLive}
-use Rattle.pn_live.specs.Places.{PlaceValue, NoteValue, state_at, notes_of, all_appended}
+use Rattle.pn_live.specs.PublishedTablets.{PublishedTabletValue, TabletNoteValue, state_at, notes_of, all_appended}
 use Rattle.pn_live.specs.Readers.{AreNotesOf}
 use Rattle.pn_live.proofs.Rounds.{same_live}
-use Rattle.pn_live.proofs.Taken.{taken_ok, taken_places, taken_changes, taken_lawful, taken_same, taken_fits}
+use Rattle.pn_live.proofs.Taken.{taken_lawful, takes}
 use Rattle.pn_live.proofs.region.LiveRegion.take.Goals as goal
 
 pub returns-in_err-ready-clause-err : goal.returns-in_err-ready-clause-err
@@ -26,96 +26,52 @@ returns-in_err-ready-clause-left g c =
 
 pub publish_all-requires-clause-joins : goal.publish_all-requires-clause-joins
 publish_all-requires-clause-joins g c =
-    let ready = c.in_ok-ready.ready in
-    let here : c.as_mut_slice-places.result.now ≡ c.args.self.now.places = c.as_mut_slice-places.ensures.value ∙ ap (λ (l : LiveRegionValue). l.places) (c.self.view_is ∙ c.in_ok-ready.ensures.same) in
-    subst (λ (ps : List PlaceValue). AreJoinsIn (map state_at ps) ready.operations.items) (sym here) c.in_ok-ready.ensures.joins.0
+    let here : c.as_mut_slice-tablets.result.now ≡ c.args.self.now.tablets = c.as_mut_slice-tablets.ensures.value ∙ ap (λ (l : LiveRegionValue). l.tablets) (c.self.view_is ∙ c.in_ok-ready.ensures.same) in
+    subst (λ (ts : List PublishedTabletValue). AreJoinsIn (map state_at ts) c.in_ok-ready.ready.1.items) (sym here) c.in_ok-ready.ensures.joins.0
 
 pub publish_all-requires-clause-nexts : goal.publish_all-requires-clause-nexts
 publish_all-requires-clause-nexts g c =
-    let ready = c.in_ok-ready.ready in
-    let here : c.as_mut_slice-places.result.now ≡ c.args.self.now.places = c.as_mut_slice-places.ensures.value ∙ ap (λ (l : LiveRegionValue). l.places) (c.self.view_is ∙ c.in_ok-ready.ensures.same) in
-    c.in_ok-ready.ensures.nexts ∙ ap (λ (ps : List PlaceValue). all_stepped (map state_at ps) ready.operations.items) (sym here)
+    let here : c.as_mut_slice-tablets.result.now ≡ c.args.self.now.tablets = c.as_mut_slice-tablets.ensures.value ∙ ap (λ (l : LiveRegionValue). l.tablets) (c.self.view_is ∙ c.in_ok-ready.ensures.same) in
+    c.in_ok-ready.ensures.nexts ∙ ap (λ (ts : List PublishedTabletValue). all_stepped (map state_at ts) c.in_ok-ready.ready.1.items) (sym here)
 
 pub invariant_of-self : goal.invariant_of-self
 invariant_of-self g c =
     let was = c.args.self.now in
     let inside = c.self.inside in
-    let ready = c.in_ok-ready.ready in
-    let us = c.publish_all.new.places in
-    let same = with_items_is inside.places us (omega (arith, c.publish_all.auto.places, c.as_mut_slice-places.ensures.len)) in
-    let now : LiveRegionValue = record { layout = inside.layout; places = (with_items inside.places us).items; marks = ready.marks; log = inside.log } in
-    let here : c.as_mut_slice-places.result.now ≡ was.places = c.as_mut_slice-places.ensures.value ∙ ap (λ (l : LiveRegionValue). l.places) (c.self.view_is ∙ c.in_ok-ready.ensures.same) in
-    let layout : now.layout ≡ was.layout = ap (λ (l : LiveRegionValue). l.layout) (c.self.view_is ∙ c.in_ok-ready.ensures.same) in
-    let all : now.places ≡ all_appended was.places ready.operations.items =
-    same ∙ (c.publish_all.ensures ∙ ap (λ (ps : List PlaceValue). all_appended ps ready.operations.items) here) in
-    taken_lawful was now c.args.deliveries.items c.in_ok-ready.ensures.is_region ready.marks ready.operations.items c.in_ok-ready.ensures.operations c.in_ok-ready.ensures.marks layout all refl c.in_ok-ready.ensures.are_marks
+    let ops = c.in_ok-ready.ready.1.items in
+    let said = c.in_ok-ready.ensures in
+    let us = c.publish_all.new.tablets in
+    let same = with_items_is inside.tablets us (omega (arith, c.publish_all.auto.tablets, c.as_mut_slice-tablets.ensures.len)) in
+    let now : LiveRegionValue = record { layout = inside.layout; tablets = (with_items inside.tablets us).items; marks = c.in_ok-ready.ready.0; log = inside.log } in
+    let here : c.as_mut_slice-tablets.result.now ≡ was.tablets = c.as_mut_slice-tablets.ensures.value ∙ ap (λ (l : LiveRegionValue). l.tablets) (c.self.view_is ∙ said.same) in
+    let layout : now.layout ≡ was.layout = ap (λ (l : LiveRegionValue). l.layout) (c.self.view_is ∙ said.same) in
+    let all : now.tablets ≡ all_appended was.tablets ops = same ∙ (c.publish_all.ensures ∙ ap (λ (ts : List PublishedTabletValue). all_appended ts ops) here) in
+    taken_lawful was now c.args.deliveries.items said.is_region ops said.operations layout all said.are_marks
 
-pub returns-clause-ok : goal.returns-clause-ok
-returns-clause-ok g c =
+pub returns : goal.returns
+returns g c =
     let was = c.args.self.now in
     let inside = c.self.inside in
-    let ready = c.in_ok-ready.ready in
-    let us = c.publish_all.new.places in
-    let same = with_items_is inside.places us (omega (arith, c.publish_all.auto.places, c.as_mut_slice-places.ensures.len)) in
-    let now : LiveRegionValue = record { layout = inside.layout; places = (with_items inside.places us).items; marks = ready.marks; log = inside.log } in
-    let here : c.as_mut_slice-places.result.now ≡ was.places = c.as_mut_slice-places.ensures.value ∙ ap (λ (l : LiveRegionValue). l.places) (c.self.view_is ∙ c.in_ok-ready.ensures.same) in
-    let layout : now.layout ≡ was.layout = ap (λ (l : LiveRegionValue). l.layout) (c.self.view_is ∙ c.in_ok-ready.ensures.same) in
-    let all : now.places ≡ all_appended was.places ready.operations.items =
-    same ∙ (c.publish_all.ensures ∙ ap (λ (ps : List PlaceValue). all_appended ps ready.operations.items) here) in
-    taken_ok was now c.args.deliveries.items c.in_ok-ready.ensures.is_region ready.marks ready.operations.items c.in_ok-ready.ensures.operations c.in_ok-ready.ensures.marks layout all refl
-
-pub returns-clause-published : goal.returns-clause-published
-returns-clause-published g c =
-    let was = c.args.self.now in
-    let inside = c.self.inside in
-    let ready = c.in_ok-ready.ready in
-    let us = c.publish_all.new.places in
-    let same = with_items_is inside.places us (omega (arith, c.publish_all.auto.places, c.as_mut_slice-places.ensures.len)) in
-    let now : LiveRegionValue = record { layout = inside.layout; places = (with_items inside.places us).items; marks = ready.marks; log = inside.log } in
-    let here : c.as_mut_slice-places.result.now ≡ was.places = c.as_mut_slice-places.ensures.value ∙ ap (λ (l : LiveRegionValue). l.places) (c.self.view_is ∙ c.in_ok-ready.ensures.same) in
-    let layout : now.layout ≡ was.layout = ap (λ (l : LiveRegionValue). l.layout) (c.self.view_is ∙ c.in_ok-ready.ensures.same) in
-    let all : now.places ≡ all_appended was.places ready.operations.items =
-    same ∙ (c.publish_all.ensures ∙ ap (λ (ps : List PlaceValue). all_appended ps ready.operations.items) here) in
-    taken_places was now c.args.deliveries.items c.in_ok-ready.ensures.is_region ready.marks ready.operations.items c.in_ok-ready.ensures.operations c.in_ok-ready.ensures.marks layout all refl
-
-pub returns-clause-changes : goal.returns-clause-changes
-returns-clause-changes g c =
-    let was = c.args.self.now in
-    let inside = c.self.inside in
-    let ready = c.in_ok-ready.ready in
-    let us = c.publish_all.new.places in
-    let same = with_items_is inside.places us (omega (arith, c.publish_all.auto.places, c.as_mut_slice-places.ensures.len)) in
-    let now : LiveRegionValue = record { layout = inside.layout; places = (with_items inside.places us).items; marks = ready.marks; log = inside.log } in
-    let here : c.as_mut_slice-places.result.now ≡ was.places = c.as_mut_slice-places.ensures.value ∙ ap (λ (l : LiveRegionValue). l.places) (c.self.view_is ∙ c.in_ok-ready.ensures.same) in
-    let layout : now.layout ≡ was.layout = ap (λ (l : LiveRegionValue). l.layout) (c.self.view_is ∙ c.in_ok-ready.ensures.same) in
-    let all : now.places ≡ all_appended was.places ready.operations.items =
-    same ∙ (c.publish_all.ensures ∙ ap (λ (ps : List PlaceValue). all_appended ps ready.operations.items) here) in
-    taken_changes was now c.args.deliveries.items c.in_ok-ready.ensures.is_region ready.marks ready.operations.items c.in_ok-ready.ensures.operations c.in_ok-ready.ensures.marks layout all refl (flat_map (λ list. list.items) ready.plan.lists.items) c.in_ok-ready.ensures.changes
-
-pub returns-clause-fits : goal.returns-clause-fits
-returns-clause-fits g c =
-    let was = c.args.self.now in
-    let inside = c.self.inside in
-    let ready = c.in_ok-ready.ready in
-    let us = c.publish_all.new.places in
-    let same = with_items_is inside.places us (omega (arith, c.publish_all.auto.places, c.as_mut_slice-places.ensures.len)) in
-    let now : LiveRegionValue = record { layout = inside.layout; places = (with_items inside.places us).items; marks = ready.marks; log = inside.log } in
-    let here : c.as_mut_slice-places.result.now ≡ was.places = c.as_mut_slice-places.ensures.value ∙ ap (λ (l : LiveRegionValue). l.places) (c.self.view_is ∙ c.in_ok-ready.ensures.same) in
-    let layout : now.layout ≡ was.layout = ap (λ (l : LiveRegionValue). l.layout) (c.self.view_is ∙ c.in_ok-ready.ensures.same) in
-    let all : now.places ≡ all_appended was.places ready.operations.items =
-    same ∙ (c.publish_all.ensures ∙ ap (λ (ps : List PlaceValue). all_appended ps ready.operations.items) here) in
-    subst (λ (ns : List NoteValue). AreNotesOf (tablets_in was) ns) (sym (c.front_of-front.ensures ∙ ap notes_of c.deref.ensures.value)) (taken_fits was now c.args.deliveries.items c.in_ok-ready.ensures.is_region ready.marks ready.operations.items c.in_ok-ready.ensures.operations c.in_ok-ready.ensures.marks layout all refl)
-
-pub returns-clause-same : goal.returns-clause-same
-returns-clause-same g c =
-    let was = c.args.self.now in
-    let inside = c.self.inside in
-    let ready = c.in_ok-ready.ready in
-    let us = c.publish_all.new.places in
-    let same = with_items_is inside.places us (omega (arith, c.publish_all.auto.places, c.as_mut_slice-places.ensures.len)) in
-    let now : LiveRegionValue = record { layout = inside.layout; places = (with_items inside.places us).items; marks = ready.marks; log = inside.log } in
-    let here : c.as_mut_slice-places.result.now ≡ was.places = c.as_mut_slice-places.ensures.value ∙ ap (λ (l : LiveRegionValue). l.places) (c.self.view_is ∙ c.in_ok-ready.ensures.same) in
-    let layout : now.layout ≡ was.layout = ap (λ (l : LiveRegionValue). l.layout) (c.self.view_is ∙ c.in_ok-ready.ensures.same) in
-    let all : now.places ≡ all_appended was.places ready.operations.items =
-    same ∙ (c.publish_all.ensures ∙ ap (λ (ps : List PlaceValue). all_appended ps ready.operations.items) here) in
-    taken_same was now c.args.deliveries.items c.in_ok-ready.ensures.is_region ready.marks ready.operations.items c.in_ok-ready.ensures.operations c.in_ok-ready.ensures.marks layout all refl
+    let ops = c.in_ok-ready.ready.1.items in
+    let said = c.in_ok-ready.ensures in
+    let us = c.publish_all.new.tablets in
+    let same = with_items_is inside.tablets us (omega (arith, c.publish_all.auto.tablets, c.as_mut_slice-tablets.ensures.len)) in
+    let now : LiveRegionValue = record { layout = inside.layout; tablets = (with_items inside.tablets us).items; marks = c.in_ok-ready.ready.0; log = inside.log } in
+    let here : c.as_mut_slice-tablets.result.now ≡ was.tablets = c.as_mut_slice-tablets.ensures.value ∙ ap (λ (l : LiveRegionValue). l.tablets) (c.self.view_is ∙ said.same) in
+    let layout : now.layout ≡ was.layout = ap (λ (l : LiveRegionValue). l.layout) (c.self.view_is ∙ said.same) in
+    let all : now.tablets ≡ all_appended was.tablets ops = same ∙ (c.publish_all.ensures ∙ ap (λ (ts : List PublishedTabletValue). all_appended ts ops) here) in
+    let taken = takes was now c.args.deliveries.items said.is_region ops said.operations layout all said.marks (flat_map (λ list. list.items) c.in_ok-ready.ready.2.lists.items) said.changes in
+    let front = c.front_of-front.ensures ∙ ap notes_of c.deref.ensures.value in
+    record {
+      ok = taken.ok;
+      published = taken.published;
+      front = front;
+      changed = said.changed;
+      changes = taken.tells;
+      refused = tt;
+      err = tt;
+      left = tt;
+      fits = subst (λ (ns : List TabletNoteValue). AreNotesOf (tablets_in was) ns) (sym front) taken.fits;
+      log = ap (λ (l : LiveRegionValue). l.log) (c.self.view_is ∙ said.same);
+      same = taken.same;
+    }

@@ -3,18 +3,18 @@ use Rattle.std.proofs.Common.{List, map, length, sym, ap, subst, ◌∙◌, ◌+
 use Rattle.std.specs.List.{range_with_len}
 use Rattle.std.proofs.lemmas.List.{length_push}
 use Rattle.pn_tablet.specs.Layouts.{tablet_ends}
-use Rattle.pn_live.specs.Places.{PlaceValue, AreNewPlaces}
+use Rattle.pn_live.specs.PublishedTablets.{PublishedTabletValue, AreNewTablets}
 use Rattle.pn_live.proofs.Opening.{opened_more}
 use Rattle.pn_live.proofs.region.opening.open_all.Goals as goal
 
-pub loop-tablet-preserved : goal.loop-tablet-preserved
-loop-tablet-preserved g c =
-    let was = c.loop-tablet in
+pub loop-number-preserved : goal.loop-number-preserved
+loop-number-preserved g c =
+    let was = c.loop-number in
     let grown = c.push_reserved.ensures.items in
     let layout = c.args.layout.now in
     record {
-      new = subst (λ (ps : List PlaceValue). AreNewPlaces (map (tablet_ends layout) (range_with_len 0 (was.tablet + 1))) ps) (sym grown)
-          (opened_more layout was.tablet was.places.items c.in-Ok.place was.invariant.new c.in-Ok.ensures);
-      count = ap length grown ∙ (length_push was.places.items c.in-Ok.place ∙ ap (λ n. n + 1) was.invariant.count);
+      new = subst (λ (ps : List PublishedTabletValue). AreNewTablets (map (tablet_ends layout) (range_with_len 0 (was.number + 1))) ps) (sym grown)
+          (opened_more layout was.number was.tablets.items c.in-Ok.tablet was.invariant.new c.in-Ok.ensures);
+      count = ap length grown ∙ (length_push was.tablets.items c.in-Ok.tablet ∙ ap (λ n. n + 1) was.invariant.count);
       room = c.push_reserved.ensures.capacity ∙ was.invariant.room;
     }

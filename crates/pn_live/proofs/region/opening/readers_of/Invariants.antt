@@ -6,8 +6,8 @@ use Rattle.pn_live.proofs.region.opening.readers_of.Given as goal
 
 abbrev pub invariant-loop : goal.invariant-loop
 invariant-loop l = record {
-  readers : AllByRecursion (λ reader. (reader.layout ≡ l.layout) × (reader.windows ≡ map opening l.fn.places)) l.readers.items;
-  same : l.places ≡ l.fn.places;
+  readers : AllByRecursion (λ reader. (reader.layout ≡ l.layout) × (reader.tablet_readers ≡ map opening l.fn.tablets)) l.readers.items;
+  same : l.tablets ≡ l.fn.tablets;
   count : length l.readers.items ≡ l.counter;
   room : vec_capacity l.readers ≡ l.fn.count;
 }

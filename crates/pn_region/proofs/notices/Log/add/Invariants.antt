@@ -1,8 +1,7 @@
 -- The lists so far are added.
 use Rattle.std.proofs.Common.{◌≡◌, ◌++◌}
-use Rattle.std.specs.List.{flat_map}
 use Rattle.std.specs.Vec.Iter.{into_iter_items}
-use Rattle.pn_region.specs.Log.{entries_of}
+use Rattle.pn_region.proofs.Common.{flat_map, entries_of}
 use Rattle.pn_region.proofs.notices.Log.add.Given as goal
 
 abbrev pub invariant-loop-list : goal.invariant-loop-list

@@ -1,4 +1,4 @@
--- What is kept behind the number is told, or was missed.
+-- The changes kept after the number are the notices, or some were missed.
 use Rattle.std.proofs.Common.{List, refl, subst}
 use Rattle.pn_region.specs.declared.entry.Entry.{Entry}
 use Rattle.pn_region.specs.declared.since.Since.TheVariants.{Notices, Missed}

@@ -1,8 +1,7 @@
--- The key's own tablet was found as it stands.
+-- The key's own tablet was found in its present state.
 use Rattle.std.proofs.Common.{◌≡◌, ℕ, Some, refl, ap, ◌∙◌, subst}
-use Rattle.std.specs.Prelude.{slice_get}
-use Rattle.pn_tablet.specs.Layouts.{Bounds, tablet_of}
 use Rattle.pn_scan.specs.Views.{IsStateOf, Answers, cell_at}
+use Rattle.pn_region.proofs.Common.{slice_get, Bounds, tablet_of}
 use Rattle.pn_region.proofs.reads.RefRegionView.cell.Goals as goal
 
 pub returns-clause-look : goal.returns-clause-look

@@ -1,4 +1,4 @@
--- The tablet was found as it stands.
+-- The tablet was found in its present state.
 use Rattle.std.proofs.Common.{Some, refl}
 use Rattle.pn_region.proofs.reads.RefRegionView.part.Goals as goal
 

@@ -1,16 +1,11 @@
 -- The copy's tablet takes it.
 use Rattle.std.proofs.Common.{◌≡◌, true, sym, ap, ◌∙◌, subst}
-use Rattle.std.specs.Prelude.{Some}
-use Rattle.pn_tablet.specs.Copies.{TabletCopyValue}
 use Rattle.pn_tablet.specs.Refusals.{Refuses}
-use Rattle.pn_tablet.specs.Tablets.{lie_in}
-use Rattle.pn_tablet.specs.declared.op.TabletOp.TheVariants.{Adopt}
-use Rattle.pn_region.specs.Faults.{refusal_of}
-use Rattle.pn_region.specs.Recovery.{tablet_for, adopting_by, adopting, is_memory}
-use Rattle.pn_region.specs.Logged.{LoggedRegion}
-use Rattle.pn_region.specs.Regions.{RegionValue}
+use Rattle.pn_tablet.specs.Steps.{is_memory}
+use Rattle.pn_region.specs.Recovery.{adopting}
+use Rattle.pn_region.proofs.Common.{Some, TabletCopyValue, lie_in, Adopt, tablet_for, adopting_by, LoggedRegion, RegionValue}
 use Rattle.pn_region.proofs.OneTablet.{stands_at, now_lawful, adopted_at, refused_at}
-use Rattle.pn_region.proofs.RoundEnds.{handed_on}
+use Rattle.pn_stream.proofs.Runs.{handed_on}
 use Rattle.pn_region.proofs.region.Region.adopt.Goals as goal
 
 pub returns-in_default-clause-refused : goal.returns-in_default-clause-refused
@@ -26,8 +21,8 @@ returns-in_err-apply-clause-refused c =
     let found = subst (λ (r : RegionValue). tablet_for r c.args.copy ≡ Some c.in-Some.tablet) (sym (ap (λ (r : LoggedRegion). r.state) c.self.view_is)) (ap (tablet_for c.args.self.now.state) (sym c.copy.view_is) ∙ sym c.in-Some.ensures) in
     let t = c.index_mut.result.now in
     let refusal = c.in_err-apply.field-0.0 in
-    handed_on c.from_residual.result (refusal_of refusal) (λ fault. Refuses is_memory fault (adopting c.args.self.now.state c.args.copy)) c.from_residual.ensures.1
-    (subst (λ (r : RegionValue). Refuses is_memory (refusal_of refusal) (adopting r c.args.copy)) (ap (λ (r : LoggedRegion). r.state) c.self.view_is)
+    handed_on c.from_residual.result refusal (λ fault. Refuses is_memory fault (adopting c.args.self.now.state c.args.copy)) c.from_residual.ensures.1
+    (subst (λ (r : RegionValue). Refuses is_memory refusal (adopting r c.args.copy)) (ap (λ (r : LoggedRegion). r.state) c.self.view_is)
     (refused_at old c.args.copy c.in-Some.tablet t found (stands_at old c.args.copy c.in-Some.tablet t found c.index_mut.ensures.value) refusal c.in_err-apply.ensures.refused))
 
 pub invariant_of-self-2 : goal.invariant_of-self-2

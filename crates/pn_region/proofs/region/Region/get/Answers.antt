@@ -1,11 +1,9 @@
--- The tablets of the keys were found as they stand, and they are there.
+-- The tablets of the keys exist and were found in their present states.
 use Rattle.std.proofs.Common.{ap, subst}
 use Rattle.std.specs.Borrow.{Bor}
 use Rattle.pn_json.specs.Answers.{ShowsUnless}
 use Rattle.pn_scan.specs.declared.fault.ScanFault.TheVariants as fault
-use Rattle.pn_region.specs.Logged.{LoggedRegion}
-use Rattle.pn_region.specs.Regions.{IsRegion}
-use Rattle.pn_region.specs.Reads.{get_in}
+use Rattle.pn_region.proofs.Common.{LoggedRegion, IsRegion, get_in}
 use Rattle.pn_region.proofs.ReadLaws.{get_entered}
 use Rattle.pn_region.proofs.Reading.{get_tells}
 use Rattle.pn_region.proofs.region.Region.get.Goals as goal

@@ -1,11 +1,7 @@
 -- The tablet loses its records, and is never refused.
 use Rattle.std.proofs.Common.{◌≡◌, length, refl, ap, ◌∙◌, arith}
-use Rattle.pn_tablet.specs.Steps.{step}
-use Rattle.pn_tablet.specs.declared.op.TabletOp.TheVariants.{Lose}
-use Rattle.std.specs.Prelude.{Ok}
 use Rattle.pn_region.specs.Recovery.{losing}
-use Rattle.pn_region.specs.Logged.{LoggedRegion}
-use Rattle.pn_region.specs.Regions.{RegionValue}
+use Rattle.pn_region.proofs.Common.{step, Lose, Ok, LoggedRegion, RegionValue}
 use Rattle.pn_region.proofs.NewRegion.{tablet_count, tablet_at}
 use Rattle.pn_region.proofs.OneTablet.{now_is, now_lawful, where_ok}
 use Rattle.pn_region.proofs.region.Region.lose.Goals as goal

@@ -1,9 +1,6 @@
 -- Parts that fit are a region.
 use Rattle.std.proofs.Common.{List, subst}
-use Rattle.std.specs.List.{AllByRecursion}
-use Rattle.pn_tablet.specs.Tablets.{TabletStateValue}
-use Rattle.pn_apply.specs.Reducing.{ranges}
-use Rattle.pn_region.specs.Regions.{IsSound}
+use Rattle.pn_region.proofs.Common.{AllByRecursion, TabletStateValue, ranges, IsSound}
 use Rattle.pn_region.proofs.Sound.{parts_are_tablets}
 use Rattle.pn_region.proofs.region.Region.of_parts.Goals as goal
 

@@ -1,11 +1,9 @@
--- The tablets that may have rows were found as they stand, and they are there.
+-- The tablets that may have rows exist and were found in their present states.
 use Rattle.std.proofs.Common.{ap, subst}
 use Rattle.std.specs.Borrow.{Bor}
 use Rattle.pn_json.specs.Answers.{ShowsUnless}
 use Rattle.pn_scan.specs.declared.fault.ScanFault.TheVariants as fault
-use Rattle.pn_region.specs.Logged.{LoggedRegion}
-use Rattle.pn_region.specs.Regions.{IsRegion}
-use Rattle.pn_region.specs.Reads.{page_in}
+use Rattle.pn_region.proofs.Common.{LoggedRegion, IsRegion, page_in}
 use Rattle.pn_region.proofs.ReadLaws.{scan_entered}
 use Rattle.pn_region.proofs.Reading.{page_tells}
 use Rattle.pn_region.proofs.region.Region.scan.Goals as goal

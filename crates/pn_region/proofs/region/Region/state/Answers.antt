@@ -1,8 +1,6 @@
 -- There is a tablet of each number, and it is that of the number.
 use Rattle.std.proofs.Common.{◌≡◌, length, ap, subst, arith}
-use Rattle.std.specs.Prelude.{slice_get, Some}
-use Rattle.pn_region.specs.Logged.{LoggedRegion}
-use Rattle.pn_region.specs.Regions.{RegionValue, IsRegion}
+use Rattle.pn_region.proofs.Common.{slice_get, Some, LoggedRegion, RegionValue, IsRegion}
 use Rattle.pn_region.proofs.NewRegion.{tablet_count, tablet_at}
 use Rattle.pn_region.proofs.Standing.{state_at}
 use Rattle.pn_region.proofs.region.Region.state.Goals as goal

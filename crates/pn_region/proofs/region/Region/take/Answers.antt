@@ -1,22 +1,16 @@
 -- What a round leaves.
 use Rattle.std.proofs.Common.{List, [], length, refl, sym, ap, ◌∙◌, subst, arith}
-use Rattle.std.specs.List.{flat_map}
 use Rattle.std.specs.Vec.{with_items}
 use Rattle.std.proofs.lemmas.List.{with_items_is}
-use Rattle.pn_tablet.specs.Tablets.{TabletStateValue}
-use Rattle.pn_tablet.specs.Changes.{changes}
-use Rattle.pn_tablet.specs.declared.change.Change.{Change}
-use Rattle.pn_apply.specs.Applying.{HavePositions, all_changes, IsSomeOld}
-use Rattle.pn_apply.specs.Reducing.{all_images}
+use Rattle.pn_stream.proofs.Runs.{handed_on}
+use Rattle.pn_apply.specs.Applying.{HavePositions, IsSomeOld}
 use Rattle.pn_apply.proofs.Prefixes.{on_err}
 use Rattle.pn_apply.proofs.ReduceLaws.{joins_have_positions}
-use Rattle.pn_region.specs.Marking.{new_marks}
-use Rattle.pn_region.specs.Logged.{LoggedRegion}
-use Rattle.pn_region.specs.Regions.{RegionValue, IsRegion, IsLawfulRegion, all_cells}
+use Rattle.pn_region.specs.Regions.{IsLawfulRegion}
 use Rattle.pn_region.specs.Rounds.{round, Leaves}
-use Rattle.pn_region.specs.declared.fault.RoundFault.TheVariants.{Memory}
+use Rattle.pn_region.proofs.Common.{flat_map, TabletStateValue, changes, Change, all_changes, all_images, new_marks, LoggedRegion, RegionValue, IsRegion, all_cells, Memory}
 use Rattle.pn_region.proofs.NewRegion.{tablet_count}
-use Rattle.pn_region.proofs.RoundEnds.{few_found, one_left, same_left, half_left, half_region, new_region_is, round_ok, told_changes, fit_found, half_found, all_found, told_found, err_as, whatever, handed_on}
+use Rattle.pn_region.proofs.RoundEnds.{few_found, one_left, same_left, half_left, half_region, new_region_is, round_ok, told_changes, fit_found, half_found, all_found, told_found, err_as, whatever}
 use Rattle.pn_region.proofs.region.Region.take.Goals as goal
 
 pub returns-in_err-marks-clause-err : goal.returns-in_err-marks-clause-err
@@ -27,10 +21,8 @@ returns-in_err-operations-clause-err g c = whatever c.from_residual-in_err-opera
 
 pub take_joins-requires-clause-joins : goal.take_joins-requires-clause-joins
 take_joins-requires-clause-joins g c κs within =
-    let inside = c.self.inside in
-    let old : RegionValue = record { layout = inside.layout; tablets = inside.tablets.items; marks = inside.marks } in
     let found = c.deref-2.ensures.value ∙ c.in_ok-operations.ensures in
-    fit_found old c.args.deliveries.items c.self.invariant.is_region c.in_ok-marks.marks c.as_mut_slice-tablets.result.now [] c.deref-2.result.now c.as_mut_slice-tablets.ensures.value found
+    fit_found _ c.args.deliveries.items c.self.invariant.is_region c.in_ok-marks.marks c.as_mut_slice-tablets.result.now [] c.deref-2.result.now c.as_mut_slice-tablets.ensures.value found
 
 pub take_joins-requires-clause-positions : goal.take_joins-requires-clause-positions
 take_joins-requires-clause-positions g c κs within =
@@ -46,10 +38,8 @@ take_joins-requires-clause-some g c =
 
 pub take_joins-requires-clause-few : goal.take_joins-requires-clause-few
 take_joins-requires-clause-few g c κs within =
-    let inside = c.self.inside in
-    let old : RegionValue = record { layout = inside.layout; tablets = inside.tablets.items; marks = inside.marks } in
     let found = c.deref-2.ensures.value ∙ c.in_ok-operations.ensures in
-    few_found old c.args.deliveries.items c.self.invariant.is_region c.in_ok-marks.marks c.as_mut_slice-tablets.result.now [] c.deref-2.result.now c.as_mut_slice-tablets.ensures.value found
+    few_found _ c.args.deliveries.items c.self.invariant.is_region c.in_ok-marks.marks c.as_mut_slice-tablets.result.now [] c.deref-2.result.now c.as_mut_slice-tablets.ensures.value found
 
 pub returns-in_err-marks-clause-left : goal.returns-in_err-marks-clause-left
 returns-in_err-marks-clause-left g c = on_err c.from_residual.result (one_left c.args.self.now.state (subst IsRegion (ap (λ (r : LoggedRegion). r.state) c.self.view_is) c.self.invariant.is_region))
@@ -69,15 +59,14 @@ returns-in_err-lists-clause-left g c =
 pub invariant_of-self : goal.invariant_of-self
 invariant_of-self g c =
     let inside = c.self.inside in
-    let old : RegionValue = record { layout = inside.layout; tablets = inside.tablets.items; marks = inside.marks } in
     let us = c.take_joins.new.tablets in
     let marks = c.in_ok-marks.marks in
     let found = c.deref-2.ensures.value ∙ c.in_ok-operations.ensures in
     let same = with_items_is inside.tablets us (omega (arith, c.take_joins.auto.tablets, c.as_mut_slice-tablets.ensures.len)) in
     subst (λ (ts : List TabletStateValue). IsLawfulRegion (record { layout = inside.layout; tablets = ts; marks = inside.marks })) (sym same)
     (record {
-      is_region = half_region old c.args.deliveries.items c.self.invariant.is_region marks us
-          (half_found old c.args.deliveries.items c.self.invariant.is_region marks c.as_mut_slice-tablets.result.now us c.deref-2.result.now c.as_mut_slice-tablets.ensures.value found c.in_err-lists.ensures.err);
+      is_region = half_region _ c.args.deliveries.items c.self.invariant.is_region marks us
+          (half_found _ c.args.deliveries.items c.self.invariant.is_region marks c.as_mut_slice-tablets.result.now us c.deref-2.result.now c.as_mut_slice-tablets.ensures.value found c.in_err-lists.ensures.err);
       are_marks = c.self.invariant.are_marks;
     })
 
@@ -100,44 +89,41 @@ returns-in_err-lists-clause-err g c =
 pub invariant_of-self-2 : goal.invariant_of-self-2
 invariant_of-self-2 g c =
     let inside = c.self.inside in
-    let old : RegionValue = record { layout = inside.layout; tablets = inside.tablets.items; marks = inside.marks } in
     let us = c.take_joins.new.tablets in
     let marks = c.in_ok-marks.marks in
     let found = c.deref-2.ensures.value ∙ c.in_ok-operations.ensures in
     let same = with_items_is inside.tablets us (omega (arith, c.take_joins.auto.tablets, c.as_mut_slice-tablets.ensures.len)) in
     subst (λ (ts : List TabletStateValue). IsLawfulRegion (record { layout = inside.layout; tablets = ts; marks = marks })) (sym same)
     (record {
-      is_region = new_region_is old c.args.deliveries.items c.self.invariant.is_region marks us
-          (all_found old c.args.deliveries.items c.self.invariant.is_region marks c.as_mut_slice-tablets.result.now us c.deref-2.result.now c.as_mut_slice-tablets.ensures.value found c.in_ok-lists.ensures.ok);
+      is_region = new_region_is _ c.args.deliveries.items c.self.invariant.is_region marks us
+          (all_found _ c.args.deliveries.items c.self.invariant.is_region marks c.as_mut_slice-tablets.result.now us c.deref-2.result.now c.as_mut_slice-tablets.ensures.value found c.in_ok-lists.ensures.ok);
       are_marks = record { few = c.in_ok-marks.ensures.few; positions = c.in_ok-marks.ensures.positions };
     })
 
 pub returns-clause-ok : goal.returns-clause-ok
 returns-clause-ok g c =
     let inside = c.self.inside in
-    let old : RegionValue = record { layout = inside.layout; tablets = inside.tablets.items; marks = inside.marks } in
     let deliveries = c.args.deliveries.items in
     let us = c.take_joins.new.tablets in
     let marks = c.in_ok-marks.marks in
     let found = c.deref-2.ensures.value ∙ c.in_ok-operations.ensures in
     let accepted = ap (new_marks inside.marks) (sym c.deref.ensures.value) ∙ c.in_ok-marks.ensures.ok in
     let same = with_items_is inside.tablets us (omega (arith, c.take_joins.auto.tablets, c.as_mut_slice-tablets.ensures.len)) in
-    let taken = same ∙ all_found old deliveries c.self.invariant.is_region marks c.as_mut_slice-tablets.result.now us c.deref-2.result.now c.as_mut_slice-tablets.ensures.value found c.in_ok-lists.ensures.ok in
+    let taken = same ∙ all_found _ deliveries c.self.invariant.is_region marks c.as_mut_slice-tablets.result.now us c.deref-2.result.now c.as_mut_slice-tablets.ensures.value found c.in_ok-lists.ensures.ok in
     ap (λ (r : RegionValue). round r deliveries) (sym (ap (λ (r : LoggedRegion). r.state) c.self.view_is))
-    ∙ round_ok old deliveries c.self.invariant.is_region marks (with_items inside.tablets us).items accepted taken
+    ∙ round_ok _ deliveries c.self.invariant.is_region marks (with_items inside.tablets us).items accepted taken
 
 pub returns-clause-changes : goal.returns-clause-changes
 returns-clause-changes g c =
     let inside = c.self.inside in
-    let old : RegionValue = record { layout = inside.layout; tablets = inside.tablets.items; marks = inside.marks } in
     let deliveries = c.args.deliveries.items in
     let us = c.take_joins.new.tablets in
     let marks = c.in_ok-marks.marks in
     let found = c.deref-2.ensures.value ∙ c.in_ok-operations.ensures in
     let same = with_items_is inside.tablets us (omega (arith, c.take_joins.auto.tablets, c.as_mut_slice-tablets.ensures.len)) in
-    let taken = same ∙ all_found old deliveries c.self.invariant.is_region marks c.as_mut_slice-tablets.result.now us c.deref-2.result.now c.as_mut_slice-tablets.ensures.value found c.in_ok-lists.ensures.ok in
+    let taken = same ∙ all_found _ deliveries c.self.invariant.is_region marks c.as_mut_slice-tablets.result.now us c.deref-2.result.now c.as_mut_slice-tablets.ensures.value found c.in_ok-lists.ensures.ok in
     let all = flat_map (λ (list : List Change). list) (all_changes c.as_mut_slice-tablets.result.now c.deref-2.result.now) in
-    let told = told_found old deliveries c.self.invariant.is_region marks c.as_mut_slice-tablets.result.now us c.deref-2.result.now c.as_mut_slice-tablets.ensures.value found all refl in
+    let told = told_found _ deliveries c.self.invariant.is_region marks c.as_mut_slice-tablets.result.now us c.deref-2.result.now c.as_mut_slice-tablets.ensures.value found all refl in
     c.in_ok-lists.ensures.changes
-    ∙ told_changes old deliveries c.self.invariant.is_region marks (with_items inside.tablets us).items all taken told
+    ∙ told_changes _ deliveries c.self.invariant.is_region marks (with_items inside.tablets us).items all taken told
     ∙ ap (λ (r : RegionValue). changes (all_cells r) (all_cells (record { layout = inside.layout; tablets = (with_items inside.tablets us).items; marks = marks }))) (ap (λ (r : LoggedRegion). r.state) c.self.view_is)

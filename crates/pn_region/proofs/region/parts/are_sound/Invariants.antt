@@ -1,7 +1,6 @@
 -- The tablets so far are sound.
 use Rattle.std.proofs.Common.{take}
-use Rattle.std.specs.List.{AllByRecursion}
-use Rattle.pn_region.specs.Regions.{IsSound}
+use Rattle.pn_region.proofs.Common.{AllByRecursion, IsSound}
 use Rattle.pn_region.proofs.region.parts.are_sound.Given as goal
 
 abbrev pub invariant-loop-tablet : goal.invariant-loop-tablet

@@ -1,4 +1,4 @@
--- What is left stays the same as the walk goes on to the next leaf.
+-- Going on to the next leaf leaves the remaining entries the same.
 use Rattle.std.proofs.Common.{◌≡◌, ◌++◌, length}
 use Rattle.std.specs.Slice.Iter.{iter_rest}
 use Rattle.pn_join.specs.LeafEntries.{leaves_of}

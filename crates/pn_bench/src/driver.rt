@@ -1,0 +1,180 @@
+//! Loads a region, reads it and brings rounds to it, by the clock.
+
+use crate::plan::{Plan, Way};
+use crate::readers::{READERS, Runner, found_all, read_all, runners_of};
+use crate::store::Store;
+use pn_join::Dup;
+use pn_line::Source;
+use pn_live::{LiveReader, LiveRegion};
+use pn_record::Key;
+use pn_region::Region;
+use pn_stream::{Delivery, StreamReader};
+use pn_tablet::Layout;
+use std::alloc::Global;
+use std::rt::Clock;
+use std::sync::Wait;
+use std::thread::{Threads, join_mut};
+use std::time::{Duration, Instant};
+
+/// How many messages are read at a time.
+const IN_BATCH: usize = 1_000;
+
+/// How often the readers read every key while rounds are measured.
+const PASSES: usize = 8;
+
+/// How long it took to read each key once, and how long the rounds took.
+#[derive(Drop)]
+pub struct Took {
+    pub reads: Duration,
+    pub rounds: Duration,
+}
+
+/// Measures a plan, where the stream has enough messages and each key is found.
+pub fn time<R: Clock + Threads + Wait + Sync, S: Source + Drop>(
+    rt: &R,
+    alloc: Global,
+    stream: StreamReader<S>,
+    plan: Plan,
+) -> Option<Took> {
+    let (mut store, readers) = opened(rt, alloc, plan.way)?;
+    let took = time_store(rt, alloc, &mut store, readers, stream, plan);
+    store.close(rt, alloc).ok()?;
+    took
+}
+
+// A region of one tablet, and the readers of a live one.
+fn opened<R: Wait>(rt: &R, alloc: Global, way: Way) -> Option<(Store, Vec<LiveReader>)> {
+    let layout = Layout::new(Vec::new(alloc)).ok()?;
+    if way == Way::Plain {
+        let region = Region::new(alloc, layout).ok()?;
+        return Some((Store::Plain(region), Vec::new(alloc)));
+    }
+    let (live, readers) = LiveRegion::open(rt, alloc, layout, READERS).ok()?;
+    Some((Store::Live(live), readers))
+}
+
+fn time_store<R: Clock + Threads + Wait + Sync, S: Source + Drop>(
+    rt: &R,
+    alloc: Global,
+    store: &mut Store,
+    readers: Vec<LiveReader>,
+    mut stream: StreamReader<S>,
+    plan: Plan,
+) -> Option<Took> {
+    let keys = load(rt, alloc, store, &mut stream, plan.records)?;
+    let mut runners = runners_of(alloc, readers, &keys)?;
+    let reads = time_reads(rt, store, &mut runners, &keys)?;
+    let mut last = last_rounds(alloc, &mut stream, plan)?;
+    let rounds = if plan.way == Way::Busy {
+        // On four processors the writer then has one of its own.
+        let _idle = runners.pop();
+        time_busy(rt, store, &mut runners, &mut last)?
+    } else {
+        time_rounds(rt, store, &mut last)?
+    };
+    if !found_all(&runners) {
+        return None;
+    }
+    Some(Took { reads, rounds })
+}
+
+// Takes so many records, and answers their keys.
+fn load<R: Threads + Wait + Sync, S: Source + Drop>(
+    rt: &R,
+    alloc: Global,
+    store: &mut Store,
+    stream: &mut StreamReader<S>,
+    records: usize,
+) -> Option<Vec<Key>> {
+    let mut keys = Vec::new(alloc);
+    for delivery in next_deliveries(alloc, stream, records)? {
+        for image in delivery.images() {
+            keys.push(image.key.dup().ok()?).ok()?;
+        }
+        let mut deliveries = Vec::with_capacity(alloc, 1).ok()?;
+        deliveries.push(delivery).ok()?;
+        store.take(rt, deliveries)?;
+    }
+    Some(keys)
+}
+
+// The last rounds of a plan, of which the first is to be popped first.
+fn last_rounds<S: Source + Drop>(
+    alloc: Global,
+    stream: &mut StreamReader<S>,
+    plan: Plan,
+) -> Option<Vec<Vec<Delivery>>> {
+    let mut rounds = Vec::new(alloc);
+    for _ in 0..plan.rounds {
+        let round = next_deliveries(alloc, stream, plan.in_round)?;
+        rounds.push(round).ok()?;
+    }
+    rounds.reverse();
+    Some(rounds)
+}
+
+// The next messages of a stream, in deliveries of equal counts: so many, or the next multiple of a batch.
+fn next_deliveries<S: Source + Drop>(
+    alloc: Global,
+    stream: &mut StreamReader<S>,
+    count: usize,
+) -> Option<Vec<Delivery>> {
+    let mut deliveries = Vec::new(alloc);
+    for _ in 0..count.div_ceil(IN_BATCH) {
+        let delivery = stream.next_batch(count.min(IN_BATCH)).ok()?;
+        deliveries.push(delivery).ok()?;
+    }
+    Some(deliveries)
+}
+
+// How long the readers take to read each key once, or this thread where there are none.
+fn time_reads<R: Clock + Threads + Sync>(
+    rt: &R,
+    store: &Store,
+    runners: &mut [Runner],
+    keys: &[Key],
+) -> Option<Duration> {
+    let start = Instant::now(rt).ok()?;
+    match store {
+        Store::Plain(region) => {
+            for key in keys {
+                let _cell = region.read(key, None).ok()?;
+            }
+        }
+        Store::Live(_) => read_all(rt, runners),
+    }
+    start.elapsed(rt).ok()
+}
+
+fn time_rounds<R: Clock + Threads + Wait + Sync>(
+    rt: &R,
+    store: &mut Store,
+    rounds: &mut Vec<Vec<Delivery>>,
+) -> Option<Duration> {
+    let start = Instant::now(rt).ok()?;
+    for _ in 0..rounds.len() {
+        store.take(rt, rounds.pop()?)?;
+    }
+    start.elapsed(rt).ok()
+}
+
+// How long the rounds take while the readers read on.
+fn time_busy<R: Clock + Threads + Wait + Sync>(
+    rt: &R,
+    store: &mut Store,
+    runners: &mut [Runner],
+    rounds: &mut Vec<Vec<Delivery>>,
+) -> Option<Duration> {
+    let (_, took) = join_mut(
+        rt,
+        &mut || read_on(rt, runners),
+        &mut || time_rounds(rt, store, rounds),
+    );
+    took
+}
+
+fn read_on<R: Threads + Sync>(rt: &R, runners: &mut [Runner]) {
+    for _ in 0..PASSES {
+        read_all(rt, runners);
+    }
+}

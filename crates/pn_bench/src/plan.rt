@@ -1,0 +1,51 @@
+//! What is measured.
+
+use std::alloc::Global;
+use std::env::Args;
+
+/// Which region takes the rounds, and who reads it meanwhile.
+#[derive(Clone, Copy, PartialEq, Eq)]
+pub enum Way {
+    /// A plain region, which nobody reads.
+    Plain,
+    /// A live region, which nobody reads.
+    Live,
+    /// A live region, which three threads read.
+    Busy,
+}
+
+impl Way {
+    fn read(word: &str) -> Option<Way> {
+        match word {
+            "plain" => Some(Way::Plain),
+            "live" => Some(Way::Live),
+            "busy" => Some(Way::Busy),
+            _ => None,
+        }
+    }
+}
+
+/// How many records there are at first, and how many rounds of how many new keys come then.
+#[derive(Clone, Copy)]
+pub struct Plan {
+    pub way: Way,
+    pub records: usize,
+    pub in_round: usize,
+    pub rounds: usize,
+}
+
+impl Plan {
+    /// The plan of the program's arguments.
+    pub fn read(mut words: Args<Global>) -> Option<Plan> {
+        Some(Plan {
+            way: Way::read(words.nth(1)?.as_str())?,
+            records: number_of(&mut words)?,
+            in_round: number_of(&mut words)?,
+            rounds: number_of(&mut words)?,
+        })
+    }
+}
+
+fn number_of(words: &mut Args<Global>) -> Option<usize> {
+    words.next()?.as_str().parse::<usize>().ok()
+}

@@ -1,0 +1,109 @@
+-- What searches in a list's leaves and entry counts return.
+use Rattle.std.proofs.Common.{◌≡◌, ℕ, zero, suc, ◌+◌, ◌-◌, ◌<◌, ◌≤◌, Bool, leb, List, [], ◌∷◌, length, get_or, take, min, Ordering, refl, sym, ap, ◌∙◌, arith}
+use Rattle.std.specs.List.{AllByRecursion, prefix_len}
+use Rattle.std.specs.List.Sorted.{IsPartitionedBy}
+use Rattle.std.specs.Cmp.{IsTotalOrder}
+use Rattle.std.specs.FinMap.{find}
+use Rattle.pn_join.specs.declared.table.leaf.Leaf.{Leaf}
+use Rattle.pn_join.specs.LeafEntries.{leaf_entries, leaves_of}
+use Rattle.pn_join.specs.Leaves.{all_entries, counts_after, ends_below, leaf_for, IsLeaf, IsLeafList}
+use Rattle.pn_join.specs.Tables.{IsTable}
+use Rattle.pn_join.proofs.Each.{each_weaker, each_prefix, each_back}
+use Rattle.pn_join.proofs.Partitions.{get_or-leaves, prefix_len-map}
+use Rattle.pn_join.proofs.Rising.{Rising, Rising-from_sorted, sorted_from_Rising}
+use Rattle.pn_join.proofs.LeafListPlaces.{end_at}
+use Rattle.pn_join.proofs.LeafListSearch.{parted, leaf_for-search, leaf_for-within, find_in_list, Rising-leaf}
+
+pub length-leaves : {K X : Type 0} (leaves : List (Leaf K X)) → length (leaves_of leaves) ≡ length leaves
+length-leaves [] = refl
+length-leaves (l ∷ ls) = ap suc (length-leaves ls)
+
+-- within a list the default is not read
+pub same_at : {A : Type 0} (xs : List A) (i : ℕ) (d e : A) → i < length xs → get_or xs i d ≡ get_or xs i e
+same_at [] i d e lt = absurd (omega (arith, lt))
+same_at (x ∷ xs) zero d e lt = refl
+same_at (x ∷ xs) (suc i) d e lt = same_at xs i d e (omega (arith, lt))
+
+-- the leaf's last key is less than this one
+abbrev pub leaf_ends_below : {K X : Type 0} → (K → K → Ordering) → K → Leaf K X → Bool
+leaf_ends_below cmp key leaf = ends_below cmp key (leaf_entries leaf)
+
+-- the count is not above the index
+abbrev pub counts_by : ℕ → ℕ → Bool
+counts_by place end = leb end place
+
+module _ {K X : Type 0} (cmp : K → K → Ordering) (valid : X → Type 0) where
+  pub list_some : (list : List (List (K × X))) → IsLeafList cmp valid list → AllByRecursion (λ leaf. 0 < length leaf) list
+  list_some list leaf_list = each_weaker (λ leaf. IsLeaf leaf) (λ leaf. 0 < length leaf) (λ leaf is. is.0) list leaf_list.sizes
+
+  pub list_rising : (list : List (List (K × X))) → IsLeafList cmp valid list → Rising cmp (all_entries list)
+  list_rising list leaf_list = Rising-from_sorted cmp (all_entries list) leaf_list.table.rising
+
+  -- a key's leaf is one of the list, or the list has none
+  pub leaf_for-inside : (key : K) (o : IsTotalOrder cmp) (list : List (List (K × X))) → leaf_for cmp key list ≤ length list
+  leaf_for-inside key o list = omega (arith, leaf_for-search cmp key o list)
+
+  pub inside_list : (key : K) (o : IsTotalOrder cmp) (list now : List (List (K × X))) (i : ℕ) → list ≡ now → 0 < length now → i ≡ leaf_for cmp key now → i < length list
+  inside_list key o list now i same some at = omega (arith, leaf_for-within cmp key o now some, ap length same, at)
+
+  -- the content at a key in its leaf is that in the list
+  pub found_in_leaf : (key : K) (o : IsTotalOrder cmp) (list : List (List (K × X))) → IsLeafList cmp valid list → (i : ℕ) (es : List (K × X)) → i ≡ leaf_for cmp key list → es ≡ get_or list i [] → find cmp key (all_entries list) ≡ find cmp key es
+  found_in_leaf key o list leaf_list i es at is =
+      find_in_list cmp key o list (list_some list leaf_list) (list_rising list leaf_list)
+      ∙ ap (λ j. find cmp key (get_or list j [])) (sym at) ∙ ap (find cmp key) (sym is)
+
+  -- the entries of the leaf at a place
+  pub leaf_is : (leaves same : List (Leaf K X)) (i : ℕ) (leaf : Leaf K X) → same ≡ leaves → i < length (leaves_of leaves) → leaf ≡ get_or same i leaf → leaf_entries leaf ≡ get_or (leaves_of leaves) i []
+  leaf_is leaves same i leaf is within at =
+      let inside : i < length leaves = omega (arith, within, length-leaves leaves) in
+      ap leaf_entries (at ∙ ap (λ ls. get_or ls i leaf) is) ∙ get_or-leaves leaf_entries leaves i leaf [] inside
+
+  pub IsTable-leaf : (key : K) (o : IsTotalOrder cmp) (list : List (List (K × X))) → IsLeafList cmp valid list → (i : ℕ) → IsTable cmp valid (get_or list i [])
+  IsTable-leaf key o list leaf_list i = record {
+    rising = sorted_from_Rising cmp _ (Rising-leaf cmp key o list (list_rising list leaf_list) i);
+    contents = leaf_valid list i leaf_list.table.contents;
+  } where
+    leaf_valid : (list : List (List (K × X))) (i : ℕ) → AllByRecursion (λ e. valid e.1) (all_entries list) → AllByRecursion (λ e. valid e.1) (get_or list i [])
+    leaf_valid [] i h = tt
+    leaf_valid (l ∷ ls) zero h = each_prefix (λ e. valid e.1) l (all_entries ls) h
+    leaf_valid (l ∷ ls) (suc i) h = leaf_valid ls i (each_back (λ e. valid e.1) l (all_entries ls) h)
+
+  -- the leaf's entries are a table
+  pub IsTable-entries : (key : K) (o : IsTotalOrder cmp) (list : List (List (K × X))) → IsLeafList cmp valid list → (i : ℕ) (es : List (K × X)) → es ≡ get_or list i [] → IsTable cmp valid es
+  IsTable-entries key o list leaf_list i es is = rw is (IsTable-leaf key o list leaf_list i)
+
+  pub IsLeaf-at : (list : List (List (K × X))) (i : ℕ) → AllByRecursion (λ leaf. IsLeaf leaf) list → i < length list → IsLeaf (get_or list i [])
+  IsLeaf-at [] i h lt = absurd (omega (arith, lt))
+  IsLeaf-at (l ∷ ls) zero h lt = h.0
+  IsLeaf-at (l ∷ ls) (suc i) h lt = IsLeaf-at ls i h.1 (omega (arith, lt))
+
+  module _ (key : K) (o : IsTotalOrder cmp) (leaves : List (Leaf K X)) (leaf_list : IsLeafList cmp valid (leaves_of leaves)) where
+    pub leaves_parted : IsPartitionedBy (leaf_ends_below cmp key) leaves
+    leaves_parted i j d le lt p =
+        let list = leaves_of leaves in
+        let long : length list ≡ length leaves = length-leaves leaves in
+        let within : j < length list = omega (arith, lt, long) in
+        let first : i < length leaves = omega (arith, le, lt) in
+        ap (ends_below cmp key) (get_or-leaves leaf_entries leaves i d [] first)
+        ∙ parted cmp key o list (list_some list leaf_list) (list_rising list leaf_list) i j le within
+        (ap (ends_below cmp key) (sym (get_or-leaves leaf_entries leaves j d [] lt)) ∙ p)
+
+    pub leaf_searched : (n last : ℕ) → n ≡ prefix_len (leaf_ends_below cmp key) leaves → last ≡ length leaves - 1 → min n last ≡ leaf_for cmp key (leaves_of leaves)
+    leaf_searched n last is at =
+        let list = leaves_of leaves in
+        let long : length list ≡ length leaves = length-leaves leaves in
+        let same : last ≡ length list - 1 = omega (arith, at, long) in
+        ap (λ k. min k last) (is ∙ sym (prefix_len-map (ends_below cmp key) leaf_entries leaves))
+        ∙ ap (min (prefix_len (λ leaf. ends_below cmp key leaf) list)) same
+        ∙ sym (leaf_for-search cmp key o list)
+
+module _ {A : Type 0} where
+  -- the count before a leaf is where it starts
+  pub start_at : (list : List (List A)) (place d : ℕ) → (place ≡ 0 → ⊥) → place ≤ length list → get_or (counts_after 0 list) (place - 1) d ≡ length (all_entries (take place list))
+  start_at list zero d some le = absurd (some refl)
+  start_at list (suc i) d some le =
+      let at : suc i - 1 ≡ i = omega arith in
+      let within : i < length list = omega (arith, le) in
+      ap (λ k. get_or (counts_after 0 list) k d) at ∙ end_at 0 list i within d ∙ none_more (length (all_entries (take (suc i) list))) where
+        none_more : (n : ℕ) → 0 + n ≡ n
+        none_more n = omega arith

@@ -1,0 +1,15 @@
+use Rattle.std.proofs.Common.{suc, ◌≡◌, ◌+◌, ◌<◌, length, insert, ap, ◌∙◌, arith, rules}
+use Rattle.pn_join.specs.LeafEntries.{leaves_of}
+use Rattle.pn_join.proofs.LeafListGrowth.{leaves_of-insert, with_some_back}
+use Rattle.pn_join.proofs.table.leaf_list.add_back.Goals as goal
+
+pub returns-then-not-is_empty : goal.returns-then-not-is_empty
+returns-then-not-is_empty g c =
+    let place = c.args.place in
+    let list = leaves_of c.args.leaves.now.items in
+    let items : c.insert.new.self.items ≡ insert c.args.leaves.now.items (place + 1) c.seal.result = search rules in
+    let at : place + 1 ≡ suc place = omega arith in
+    let some : 0 < length c.args.back.items = search (rules, arith) in
+    ap leaves_of items ∙ leaves_of-insert c.args.leaves.now.items (place + 1) c.seal.result
+    ∙ ap (λ back. insert list (place + 1) back) c.seal.ensures
+    ∙ with_some_back place (place + 1) c.args.back.items list some at

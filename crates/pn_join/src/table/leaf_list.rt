@@ -1,0 +1,288 @@
+//! Lists of leaves: the entries of a table, where a search looks into one leaf.
+
+ghost use Rattle.std.specs.Prelude.{◌≡◌, ℕ, ◌+◌, ◌^◌, ◌<◌, ◌≤◌, leb, [], ◌∷◌, ◌++◌, length, vec_len, vec_capacity, take, drop, get_or, option_map, slice_get, IfOk, IfSome, OnOk, OnErr};
+ghost use Rattle.std.specs.FinMap.{find};
+ghost use Rattle.std.specs.List.{prefix_len};
+ghost use Rattle.std.specs.Option.{option_copied};
+ghost use Rattle.pn_join.specs.LeafEntries.{leaf_entries, leaves_of};
+ghost use Rattle.pn_join.specs.Leaves.{all_entries, counts_after, leaf_for, IsLeaf, IsLeafList};
+ghost use Rattle.pn_join.specs.Places.{place_of};
+ghost use Rattle.pn_join.specs.PutInLeaves.{IsPutOf, ChangesOneLeaf};
+ghost use Rattle.pn_join.specs.LeafListChanges.{with_back};
+ghost use Rattle.pn_join.specs.Tables.{IsTable};
+
+mod bulk_join;
+mod search;
+mod splits;
+
+use crate::table::entries::Entries;
+use crate::table::entry_counts::{add_to_counts, copy_counts};
+use crate::table::leaf::{Leaf, share_leaves};
+use crate::table::leaf_join::{join_in_leaf, place_in};
+use crate::table::leaf_list::search::{copy_keys, insert_last_key};
+use crate::{Dup, Join, NoMemory};
+use std::alloc::Global;
+use std::marker::Model;
+
+/// The first capacity of a table's first leaf, in entries.
+const FIRST_ROOM: usize = 4;
+
+/// The leaves of a table, with cumulative entry counts and fence keys.
+#[derive(Drop)]
+pub struct LeafList<K: Ord + Dup, C: Join> {
+    leaves: Vec<Leaf<K, C>>,
+    entry_counts: Vec<usize>,
+    // The last keys of all leaves but the last, where a search looks first. They are hints: a wrong or missing
+    // one only costs time.
+    last_keys: Vec<K>,
+}
+
+impl<K: Ord + Dup, C: Join> Model for LeafList<K, C> {
+    ghost use Rattle.std.specs.Prelude.{List};
+
+    ghost Value = { List (List (K × C)) };
+
+    ghost use Rattle.pn_join.specs.Leaves.{IsLeafList, AreEntryCounts};
+    ghost use Rattle.pn_join.specs.LeafEntries.{leaves_of};
+
+    ghost view = { λ leaf_list. leaves_of leaf_list.leaves.items };
+
+    ghost invariant = { λ leaf_list. IsLeafList K.cmp C.valid (leaves_of leaf_list.leaves.items)
+        × AreEntryCounts (leaves_of leaf_list.leaves.items) leaf_list.entry_counts.items };
+}
+
+impl<K: Ord + Dup, C: Join> LeafList<K, C> {
+    pub fn new(alloc: Global) -> Self
+        ensures { result ≡ [] }
+    {
+        LeafList {
+            leaves: Vec::new(alloc),
+            entry_counts: Vec::new(alloc),
+            last_keys: Vec::new(alloc),
+        }
+    }
+
+    pub fn alloc(&self) -> Global {
+        *self.leaves.allocator()
+    }
+
+    /// How many entries there are.
+    pub fn len(&self) -> usize
+        ensures count { result ≡ length (all_entries self.now) }
+        ensures leaf_list { IsLeafList K.cmp C.valid self.now }
+    {
+        self.start(self.leaves.len())
+    }
+
+    /// How many leaves there are.
+    pub fn count(&self) -> usize
+        ensures count { result ≡ length self.now }
+        ensures leaf_list { IsLeafList K.cmp C.valid self.now }
+    {
+        self.leaves.len()
+    }
+
+    /// The entries of the leaf at an index. `None` past the last.
+    pub fn leaf(&self, place: usize) -> Option<&[(K, C)]>
+        ensures leaf { option_map (λ leaf. leaf.now) result ≡ slice_get self.now place }
+        ensures leaf_list { IsLeafList K.cmp C.valid self.now }
+    {
+        let leaf = self.leaves.get(place)?;
+        Some(leaf.entries())
+    }
+
+    /// The entries of the leaf at an index, none past the last.
+    fn entries_of(&self, place: usize) -> &[(K, C)]
+        ensures entries { result.now ≡ get_or self.now place [] }
+        ensures leaf_list { IsLeafList K.cmp C.valid self.now }
+    {
+        match self.leaves.get(place) {
+            Some(leaf) => leaf.entries(),
+            None => &[],
+        }
+    }
+
+    /// How many entries come before a leaf.
+    fn start(&self, place: usize) -> usize
+        requires { place ≤ length self.now }
+        ensures start { result ≡ length (all_entries (take place self.now)) }
+        ensures fits { length (all_entries self.now) < 2 ^ 64 }
+        ensures leaf_list { IsLeafList K.cmp C.valid self.now }
+    {
+        if place == 0 {
+            0
+        } else {
+            self.entry_counts[place - 1]
+        }
+    }
+
+    /// The leaf with the entry at an index among all entries.
+    fn leaf_at(&self, place: usize) -> usize
+        ensures leaf { result ≡ prefix_len (λ end. leb end place) (counts_after 0 self.now) }
+        ensures within { result ≤ length self.now }
+        ensures leaf_list { IsLeafList K.cmp C.valid self.now }
+    {
+        self.entry_counts.partition_point(|end| *end <= place)
+    }
+
+    /// The index of a key among all entries.
+    pub fn place_of(&self, key: &K) -> Result<usize, usize>
+        ensures place { result ≡ place_of K.cmp key.now (all_entries self.now) }
+        ensures leaf_list { IsLeafList K.cmp C.valid self.now }
+    {
+        let leaf = self.leaf_for(key);
+        let start = self.start(leaf);
+        match place_in(self.entries_of(leaf), key) {
+            Ok(place) => Ok(start + place),
+            Err(place) => Err(start + place),
+        }
+    }
+
+    /// All entries.
+    pub fn iter(&self) -> Entries<'_, K, C>
+        ensures all { result ≡ all_entries self.now }
+        ensures leaf_list { IsLeafList K.cmp C.valid self.now }
+    {
+        Entries::of(&[], &self.leaves)
+    }
+
+    /// The entries from an index on.
+    pub fn iter_from(&self, place: usize) -> Entries<'_, K, C>
+        ensures rest { result ≡ drop place (all_entries self.now) }
+        ensures leaf_list { IsLeafList K.cmp C.valid self.now }
+    {
+        let leaf = self.leaf_at(place);
+        let first = self.entries_of(leaf);
+        let before = self.start(leaf);
+        Entries::of(
+            from_on(first, place.saturating_sub(before)),
+            from_on(from_on(&self.leaves, leaf), 1),
+        )
+    }
+
+    /// An equal list. Leaves are shared where possible.
+    pub fn share(&self) -> Result<Self, NoMemory>
+        ensures { IfOk result (λ copy. copy ≡ self.now) }
+    {
+        let alloc = self.alloc();
+        Ok(LeafList {
+            leaves: share_leaves(alloc, &self.leaves)?,
+            entry_counts: copy_counts(alloc, &self.entry_counts)?,
+            last_keys: copy_keys(alloc, &self.last_keys)?,
+        })
+    }
+
+    /// The entry at an index among all entries.
+    pub fn entry_at(&self, place: usize) -> Option<&(K, C)>
+        ensures entry { option_map (λ e. e.now) result ≡ slice_get (all_entries self.now) place }
+        ensures leaf_list { IsLeafList K.cmp C.valid self.now }
+    {
+        let leaf = self.leaf_at(place);
+        entry_of(
+            self.entries_of(leaf),
+            place.saturating_sub(self.start(leaf)),
+        )
+    }
+
+    /// Adds a leaf after all others. An error leaves the list as it was.
+    pub fn push(&mut self, leaf: Leaf<K, C>) -> Result<(), NoMemory>
+        requires table { IsTable K.cmp C.valid (all_entries self.old ++ leaf_entries leaf) }
+        requires size { IsLeaf (leaf_entries leaf) }
+        ensures ok { OnOk result (self.new ≡ self.old ++ leaf_entries leaf ∷ []) }
+        ensures err { OnErr result (self.new ≡ self.old) }
+    {
+        let Some(end) = self.len().checked_add(leaf.entries().len()) else {
+            return Err(NoMemory);
+        };
+        self.leaves.reserve(1)?;
+        self.entry_counts.reserve(1)?;
+        self.leaves.push_reserved(leaf);
+        self.entry_counts.push_reserved(end);
+        Ok(())
+    }
+
+    /// Joins a content into that at the key. At most one leaf is changed, split or added. An error leaves the
+    /// list as it was.
+    pub fn join_entry(&mut self, key: K, content: C) -> Result<(), NoMemory>
+        requires { C.valid content }
+        ensures ok { OnOk result (IsPutOf K.cmp C.meaning C.joined C.valid key content
+            (all_entries self.old) (all_entries self.new)) }
+        ensures one { OnOk result (ChangesOneLeaf self.old self.new) }
+        ensures err { OnErr result (self.new ≡ self.old) }
+        ensures leaf_list { IsLeafList K.cmp C.valid self.old × IsLeafList K.cmp C.valid self.new }
+    {
+        if self.leaves.is_empty() {
+            return self.push_first(key, content);
+        }
+        self.join_in_list(key, content)
+    }
+
+    fn push_first(&mut self, key: K, content: C) -> Result<(), NoMemory>
+        requires valid { C.valid content }
+        requires none { self.old ≡ [] }
+        ensures ok { OnOk result (self.new ≡ ((key, content) ∷ []) ∷ []) }
+        ensures err { OnErr result (self.new ≡ self.old) }
+        ensures leaf_list { IsLeafList K.cmp C.valid self.new }
+    {
+        let mut entries = Vec::with_capacity(self.alloc(), FIRST_ROOM)?;
+        entries.push_reserved((key, content));
+        self.push(Leaf::Own(entries))
+    }
+
+    fn join_in_list(&mut self, key: K, content: C) -> Result<(), NoMemory>
+        requires valid { C.valid content }
+        requires some { 0 < length self.old }
+        ensures ok { OnOk result (IsPutOf K.cmp C.meaning C.joined C.valid key content
+            (all_entries self.old) (all_entries self.new)) }
+        ensures one { OnOk result (ChangesOneLeaf self.old self.new) }
+        ensures err { OnErr result (self.new ≡ self.old) }
+        ensures leaf_list { IsLeafList K.cmp C.valid self.new }
+    {
+        let alloc = self.alloc();
+        let place = self.leaf_for(&key);
+        let start = self.start(place);
+        let before = self.entries_of(place).len();
+        if self.len() == usize::MAX {
+            return Err(NoMemory);
+        }
+        self.leaves.reserve(1)?;
+        self.entry_counts.reserve(1)?;
+        let leaf = &mut self.leaves[place];
+        let back = join_in_leaf(alloc, leaf, key, content)?;
+        let front = leaf.entries().len();
+        let more = front + back.len() - before;
+        add_to_counts(&mut self.entry_counts, place, more, start + front, &back);
+        add_back(alloc, &mut self.leaves, place, back);
+        insert_last_key(&mut self.last_keys, &self.leaves, place);
+        Ok(())
+    }
+}
+
+/// The items from an index on.
+fn from_on<T>(items: &[T], place: usize) -> &[T]
+    ensures { result.now ≡ drop place items.now }
+{
+    items.get(place..).unwrap_or_default()
+}
+
+/// Adds the entries that were split off a leaf as a leaf after it.
+fn add_back<K: Dup, C: Dup>(
+    alloc: Global,
+    leaves: &mut Vec<Leaf<K, C>>,
+    place: usize,
+    back: Vec<(K, C)>,
+)
+    requires within { place < vec_len leaves.old }
+    requires room { vec_len leaves.old < vec_capacity leaves.old }
+    ensures { leaves_of leaves.new.items ≡ with_back place back.items (leaves_of leaves.old.items) }
+{
+    if !back.is_empty() {
+        leaves.insert(place + 1, Leaf::seal(alloc, back)).unwrap();
+    }
+}
+
+fn entry_of<T>(entries: &[T], place: usize) -> Option<&T>
+    ensures { option_map (λ e. e.now) result ≡ slice_get entries.now place }
+{
+    entries.get(place)
+}

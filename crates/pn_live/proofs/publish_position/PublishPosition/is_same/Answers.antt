@@ -1,0 +1,14 @@
+-- Two positions with as many attempts of one book are the same.
+use Rattle.std.proofs.Common.{length, ◌≤◌, arith}
+use Rattle.std.proofs.lemmas.Bool.{eqb-true}
+use Rattle.pn_live.proofs.Prefixes.{shorter_begins, begins_no_more}
+use Rattle.pn_live.proofs.publish_position.PublishPosition.is_same.Goals as goal
+
+pub returns : goal.returns
+returns g c same =
+    let mine = c.args.self.now in
+    let theirs = c.args.other.now in
+    let alike = eqb-true mine.count theirs.count same in
+    let less : length mine.seen.log ≤ length theirs.seen.log = omega (arith, alike, mine.counted, theirs.counted) in
+    let more : length theirs.seen.log ≤ length mine.seen.log = omega (arith, alike, mine.counted, theirs.counted) in
+    begins_no_more mine.seen.log theirs.seen.log (shorter_begins mine.seen.log theirs.seen.log c.joined.result.log c.joined.ensures.this c.joined.ensures.that less) more

@@ -1,0 +1,18 @@
+-- What is settled at the earlier position begins what is settled at the later.
+use Rattle.std.proofs.Common.{length, ◌≤◌, arith}
+use Rattle.pn_live.proofs.Chains.{settled_in_longer}
+use Rattle.pn_live.proofs.publish_position.PublishPosition.later.Goals as goal
+
+pub returns-then-self-other-clause-this : goal.returns-then-self-other-clause-this
+returns-then-self-other-clause-this g c =
+    let mine = c.args.self.now in
+    let theirs = c.args.other.now in
+    let less : length mine.seen.log ≤ length theirs.seen.log = omega (arith, mine.counted, theirs.counted) in
+    rw (c.again.ensures) (settled_in_longer mine.seen.log theirs.seen.log c.joined.result.log c.joined.ensures.lawful c.joined.ensures.this c.joined.ensures.that less)
+
+pub returns-clause-that : goal.returns-clause-that
+returns-clause-that g c =
+    let mine = c.args.self.now in
+    let theirs = c.args.other.now in
+    let less : length theirs.seen.log ≤ length mine.seen.log = omega (arith, mine.counted, theirs.counted) in
+    rw (c.again-else-self-other.ensures) (settled_in_longer theirs.seen.log mine.seen.log c.joined.result.log c.joined.ensures.lawful c.joined.ensures.that c.joined.ensures.this less)

@@ -1,0 +1,56 @@
+-- What is published of each live tablet of a region.
+use Rattle.std.specs.Prelude.{◌≡◌, ◌⊎◌, List, [], ◌∷◌, ◌++◌, map}
+use Rattle.logbook.specs.Pages.{Book}
+use Rattle.pn_tablet.specs.Ranges.{Ends}
+use Rattle.pn_tablet.specs.Steps.{state_of}
+use Rattle.pn_tablet.specs.Tablets.{TabletStateValue}
+use Rattle.pn_tablet.specs.declared.op.TabletOp.{TabletOp}
+
+-- a live tablet: which one it is, its range, and the operations that are published
+pub record PublishedTabletValue : Type 0 where
+  pub book : Book
+  pub range : Ends
+  pub list : List TabletOp
+
+-- its state is that of what is published
+abbrev pub state_at : PublishedTabletValue → TabletStateValue
+state_at tablet = state_of tablet.range tablet.list
+
+-- nothing is published yet
+abbrev pub IsNewTablet : Ends → PublishedTabletValue → Type 0
+IsNewTablet range tablet = (tablet.range ≡ range) × (tablet.list ≡ [])
+
+-- nothing is published yet of the tablets of these ranges
+abbrev pub AreNewTablets : List Ends → List PublishedTabletValue → Type 0
+AreNewTablets [] [] = Unit {0}
+AreNewTablets (range ∷ ranges) (tablet ∷ tablets) = IsNewTablet range tablet × AreNewTablets ranges tablets
+AreNewTablets _ _ = ⊥
+
+-- the tablet with one operation more
+abbrev pub appended : PublishedTabletValue → TabletOp → PublishedTabletValue
+appended tablet op = record tablet { list = tablet.list ++ op ∷ [] }
+
+-- the tablets with one operation more each
+abbrev pub all_appended : List PublishedTabletValue → List TabletOp → List PublishedTabletValue
+all_appended (tablet ∷ tablets) (op ∷ ops) = appended tablet op ∷ all_appended tablets ops
+all_appended tablets _ = tablets
+
+-- each tablet has its operation, or is as it was
+abbrev pub AreOldOrAppended : List PublishedTabletValue → List TabletOp → List PublishedTabletValue → Type 0
+AreOldOrAppended [] ops nows = nows ≡ []
+AreOldOrAppended tablets [] nows = nows ≡ tablets
+AreOldOrAppended (tablet ∷ tablets) (op ∷ ops) [] = ⊥
+AreOldOrAppended (tablet ∷ tablets) (op ∷ ops) (now ∷ nows) = ((now ≡ tablet) ⊎ (now ≡ appended tablet op)) × AreOldOrAppended tablets ops nows
+
+-- a note of a tablet: which one it is, and the operations that were published
+pub record TabletNoteValue : Type 0 where
+  pub book : Book
+  pub list : List TabletOp
+
+-- the note of what is published
+abbrev pub note_of : PublishedTabletValue → TabletNoteValue
+note_of tablet = record { book = tablet.book; list = tablet.list }
+
+-- the notes of all tablets
+abbrev pub notes_of : List PublishedTabletValue → List TabletNoteValue
+notes_of tablets = map note_of tablets

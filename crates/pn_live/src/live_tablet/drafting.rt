@@ -1,0 +1,70 @@
+//! Drafts of a live tablet's next state.
+
+ghost use Rattle.std.specs.Prelude.{◌≡◌, IfOk};
+ghost use Rattle.left_right.specs.Sides.{view};
+ghost use Rattle.pn_live.specs.Drafts.{Lacks};
+ghost use Rattle.pn_live.specs.Published.{state_in};
+
+use super::LiveTablet;
+use crate::publish_order::PairWriter;
+use crate::publish_position::{AttemptCounter, PublishPosition, open_book};
+use crate::published_state::PublishedState;
+use core::mem::{replace, replace_with};
+use pn_join::{Dup, Marks, NoMemory};
+use pn_record::Records;
+use pn_tablet::{Range, TabletOp, TabletState};
+use std::alloc::Global;
+use std::sync::Wait;
+
+/// A state that no reader has, and the join that makes the published state of it.
+#[derive(Drop)]
+pub struct StateDraft {
+    pub state: TabletState,
+    pub lacks: TabletOp,
+}
+
+impl LiveTablet {
+    /// A draft of the next state. It waits for readers that still read the spare state.
+    pub fn draft<R: Wait>(&mut self, rt: &R, alloc: Global) -> Result<StateDraft, NoMemory>
+        ensures lacks { IfOk result (λ draft. Lacks draft.state draft.lacks (state_in self.old)) }
+        ensures kept { (state_in self.new ≡ state_in self.old) × (self.new.settled ≡ self.old.settled) }
+    {
+        let range = self.state().range().dup()?;
+        match self.lacks.take() {
+            Some(lacks) => {
+                let PublishedState {
+                    state,
+                    position: _position,
+                } = take_spare(rt, &mut self.writer, blank(alloc, range));
+                Ok(StateDraft { state, lacks })
+            }
+            None => {
+                let state = self.state().dup()?;
+                let lacks = TabletOp::Join {
+                    cells: Records::new(alloc),
+                    marks: Marks::new(alloc),
+                };
+                Ok(StateDraft { state, lacks })
+            }
+        }
+    }
+}
+
+// An empty state with a book of its own, to stand in for a spare state that was taken.
+fn blank(alloc: Global, range: Range) -> PublishedState {
+    let (_counter, position): (AttemptCounter<TabletOp>, PublishPosition<TabletOp>) = open_book();
+    let state = TabletState::new(alloc, range);
+    PublishedState { state, position }
+}
+
+// Takes the spare state out, and puts another one in its place.
+fn take_spare<R: Wait>(rt: &R, writer: &mut PairWriter, other: PublishedState) -> PublishedState
+    ensures spare { result ≡ writer.old.desk.spare.value }
+    ensures shown { (writer.new.desk.shown.value ≡ writer.old.desk.shown.value) × (view writer.new.desk.place ≡ view writer.old.desk.place) }
+{
+    replace_with(&mut writer.desk, rt, |desk, rt| {
+        let (open, mut place) = desk.open(rt);
+        let spare = replace(&mut *place, other);
+        (open.shelve(place), spare)
+    })
+}

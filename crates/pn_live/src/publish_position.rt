@@ -1,0 +1,149 @@
+//! Publish positions: how far the attempts to publish a tablet's states had come.
+
+ghost use Rattle.std.specs.Prelude.{◌≡◌, ◌++◌, ◌∷◌, [], length, IsTrue, MatchBool, ◌⊎◌};
+ghost use mathlib.Core.List.{IsPrefix};
+ghost use Rattle.pn_live.specs.Attempts.{AreLawful, settled_of, tried_of, MayFollow};
+ghost use Rattle.pn_live.specs.Books.{counter_of};
+
+use crate::attempt::{AddAttempt, Attempt, AttemptRule, NoGain};
+use logbook::{Offer, Plain, Seen, Start, Word};
+use std::sync::Wait;
+
+/// The word that counts the attempts of a tablet.
+pub type AttemptCounter<O> = Word<Attempt<O>, u64, AttemptRule<O>>;
+
+/// The first attempts to publish a tablet's states, and how many they are.
+#[derive(Drop)]
+pub struct PublishPosition<O> {
+    count: u64,
+    pub seen: Seen<Attempt<O>, u64, AttemptRule<O>>,
+    ghost counted: { count ≡ length seen.log },
+}
+
+/// A new book without an attempt.
+pub fn open_book<O>() -> (AttemptCounter<O>, PublishPosition<O>)
+    ensures counter { result.0 ≡ counter_of result.1.seen.book }
+    ensures empty { result.1.seen.log ≡ [] }
+{
+    let (seen, mut first, _second) = Seen::open(Start::alone(), 0, 0);
+    (
+        Word::tracked(0, &mut first),
+        PublishPosition { count: 0, seen },
+    )
+}
+
+impl<O> PublishPosition<O> {
+    /// The same position, for another owner.
+    pub fn again(&self) -> PublishPosition<O>
+        ensures { result ≡ self.now }
+    {
+        PublishPosition {
+            count: self.count,
+            seen: self.seen.again(),
+        }
+    }
+
+    /// Adds an attempt, and answers whether it did: not where the book already has more than this position.
+    fn try_append<X, M: Plain<X, Attempt<O>, u64>>(
+        &mut self,
+        counter: &AttemptCounter<O>,
+        about: &X,
+    ) -> bool
+        requires counter { counter.now ≡ counter_of self.old.seen.book }
+        requires lawful { MayFollow self.old.seen.log (M.ask about.now) }
+        ensures book { self.new.seen.book ≡ self.old.seen.book }
+        ensures log { MatchBool result (self.new.seen.log ≡ self.old.seen.log ++ M.ask about.now ∷ []) (self.new ≡ self.old) }
+    {
+        let count = self.count;
+        if count == u64::MAX {
+            return false;
+        }
+        let mut seen = self.seen.again();
+        let mut offer: Offer<Attempt<O>, u64, AttemptRule<O>, NoGain> = seen.plain::<NoGain, X, M>(
+            about,
+        );
+        let mut pen = seen.no_pen();
+        let found = counter.compare_exchange::<AddAttempt, NoGain>(
+            count,
+            count + 1,
+            &mut seen,
+            &mut offer,
+            &mut pen,
+        );
+        if found != count {
+            return false;
+        }
+        *self = PublishPosition {
+            count: count + 1,
+            seen,
+        };
+        true
+    }
+
+    /// Adds an attempt. It waits while the book has more than this position, which takes another writer.
+    pub fn append<X, M: Plain<X, Attempt<O>, u64>, R: Wait>(
+        &mut self,
+        rt: &R,
+        counter: &AttemptCounter<O>,
+        about: &X,
+    )
+        requires counter { counter.now ≡ counter_of self.old.seen.book }
+        requires lawful { MayFollow self.old.seen.log (M.ask about.now) }
+        ensures book { self.new.seen.book ≡ self.old.seen.book }
+        ensures log { self.new.seen.log ≡ self.old.seen.log ++ M.ask about.now ∷ [] }
+    {
+        for _ in rt.forever() {
+            if self.try_append::<X, M>(counter, about) {
+                return;
+            }
+        }
+        unreachable!()
+    }
+
+    /// Whether this position is at most one attempt after the other. What is settled here then begins what the
+    /// other's last attempt tries.
+    pub fn is_within(&self, shown: &PublishPosition<O>) -> bool
+        requires { shown.now.seen.book ≡ self.now.seen.book }
+        ensures { IsTrue result → IsPrefix (settled_of self.now.seen.log) (tried_of shown.now.seen.log) }
+    {
+        self.joined(shown);
+        self.count <= shown.count.saturating_add(1)
+    }
+
+    /// Whether both are the same position.
+    pub fn is_same(&self, other: &PublishPosition<O>) -> bool
+        requires { other.now.seen.book ≡ self.now.seen.book }
+        ensures { IsTrue result → self.now.seen.log ≡ other.now.seen.log }
+    {
+        self.joined(other);
+        self.count == other.count
+    }
+
+    /// The later of both.
+    pub fn later(&self, other: &PublishPosition<O>) -> PublishPosition<O>
+        requires { other.now.seen.book ≡ self.now.seen.book }
+        ensures one { (result ≡ self.now) ⊎ (result ≡ other.now) }
+        ensures book { result.seen.book ≡ self.now.seen.book }
+        ensures this { IsPrefix (settled_of self.now.seen.log) (settled_of result.seen.log) }
+        ensures that { IsPrefix (settled_of other.now.seen.log) (settled_of result.seen.log) }
+    {
+        self.joined(other);
+        if self.count < other.count {
+            other.again()
+        } else {
+            self.again()
+        }
+    }
+
+    // Attempts of the book that both positions begin.
+    fn joined(&self, other: &PublishPosition<O>) -> Seen<Attempt<O>, u64, AttemptRule<O>>
+        requires { other.now.seen.book ≡ self.now.seen.book }
+        ensures this { IsPrefix self.now.seen.log result.log }
+        ensures that { IsPrefix other.now.seen.log result.log }
+        ensures lawful { AreLawful result.log }
+    {
+        let mut both = self.seen.again();
+        both.learn(&other.seen);
+        both
+    }
+}

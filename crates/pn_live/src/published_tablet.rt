@@ -1,0 +1,114 @@
+//! The live tablets of a region, as what is published of each.
+
+ghost use Rattle.std.specs.Prelude.{◌≡◌, ◌≤◌, ◌<◌, ◌^◌, length, Ok, IfOk, IfSome, IsTrue};
+ghost use Rattle.pn_tablet.specs.Layouts.{tablet_ends};
+ghost use Rattle.pn_tablet.specs.Operations.{HasPositions};
+ghost use Rattle.pn_tablet.specs.Steps.{step};
+ghost use Rattle.pn_live.specs.Closing.{IsOfTablet, KnowsPublished};
+ghost use Rattle.pn_live.specs.Drafts.{Lacks};
+ghost use Rattle.pn_live.specs.PublishedTablets.{IsNewTablet, state_at, appended, note_of};
+ghost use Rattle.pn_live.specs.Readers.{opening};
+
+mod next_state;
+
+use crate::front::TabletNote;
+use crate::live_tablet::{LiveTablet, StateDraft};
+use crate::tablet_reader::TabletReader;
+use pn_join::NoMemory;
+use pn_tablet::{Layout, Range, TabletOp, TabletState};
+use std::alloc::Global;
+use std::marker::Model;
+use std::sync::Wait;
+
+/// A live tablet of a region. It is not `Drop`: end it by `close`.
+pub struct PublishedTablet {
+    live: LiveTablet,
+}
+
+impl Model for PublishedTablet {
+    ghost use Rattle.std.specs.Prelude.{◌≡◌};
+    ghost use Rattle.pn_tablet.specs.Steps.{state_of};
+    ghost use Rattle.pn_live.specs.PublishedTablets.{PublishedTabletValue};
+    ghost use Rattle.pn_live.specs.Published.{published, state_in};
+
+    ghost Value = { PublishedTabletValue };
+
+    ghost use Rattle.pn_live.specs.Proofs.Coding.{published_tablet_code};
+
+    ghost coded = { published_tablet_code };
+
+    ghost view = { λ tablet. record { book = tablet.live.settled.seen.book; range = (state_in tablet.live).range; list = published tablet.live } };
+
+    ghost invariant = { λ tablet. state_in tablet.live ≡ state_of (state_in tablet.live).range (published tablet.live) };
+}
+
+impl PublishedTablet {
+    /// An empty tablet of the layout's range of this number, with room for `readers` readers.
+    pub fn open<R: Wait>(
+        rt: &R,
+        alloc: Global,
+        layout: &Layout,
+        number: usize,
+        readers: usize,
+    ) -> Result<PublishedTablet, NoMemory>
+        requires number { number ≤ length layout.now }
+        requires readers { (0 < readers) × (readers < 2 ^ 32) }
+        ensures { IfOk result (λ tablet. IsNewTablet (tablet_ends layout.now number) tablet) }
+    {
+        let (from, to) = layout.range(number);
+        let range = Range::from_ends(from, to)?;
+        let live = LiveTablet::open(rt, alloc, range, readers)?;
+        Ok(PublishedTablet { live })
+    }
+
+    /// A draft of the next state. It waits for readers that still read the spare state.
+    pub fn draft<R: Wait>(&mut self, rt: &R, alloc: Global) -> Result<StateDraft, NoMemory>
+        ensures draft { IfOk result (λ draft. Lacks draft.state draft.lacks (state_at self.old)) }
+        ensures same { self.new ≡ self.old }
+    {
+        self.live.draft(rt, alloc)
+    }
+
+    /// Publishes the state that the operation makes of this one.
+    pub fn publish<R: Wait>(&mut self, rt: &R, next: TabletState, operation: TabletOp)
+        requires positions { HasPositions operation }
+        requires next { step (state_at self.old) operation ≡ Ok next }
+        ensures { self.new ≡ appended self.old operation }
+    {
+        self.live.publish(rt, next, operation)
+    }
+
+    /// A note of what is published.
+    pub fn note(&self) -> TabletNote
+        ensures { result ≡ note_of self.now }
+    {
+        TabletNote::of(self.live.position())
+    }
+
+    /// A new reader, which has seen and learnt what is published. `None` when all readers' places are in use.
+    pub fn new_reader(&mut self) -> Option<TabletReader>
+        ensures reader { IfSome result (λ reader. reader ≡ opening self.old) }
+        ensures same { self.new ≡ self.old }
+    {
+        let handle = self.live.new_reader()?;
+        Some(TabletReader::of(handle))
+    }
+
+    /// Enters once more; true where it found the latest state, which extends all that the reader saw and
+    /// learnt.
+    pub fn was_all_seen(&self, reader: TabletReader) -> bool
+        requires { IsOfTablet self.now reader }
+        ensures { IsTrue result → KnowsPublished self.now reader }
+    {
+        let (_handle, is_last) = self.live.last_look(reader.into_handle());
+        is_last
+    }
+
+    /// Takes the state out. It waits for readers that are reading.
+    pub fn close<R: Wait>(self, rt: &R) -> TabletState
+        ensures { result ≡ state_at self }
+    {
+        let PublishedTablet { live } = self;
+        live.close(rt)
+    }
+}

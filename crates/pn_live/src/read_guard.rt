@@ -1,0 +1,113 @@
+//! Read guards: a reader inside a live tablet.
+
+ghost use Rattle.std.specs.Prelude.{◌≡◌, Some, MatchResult, take, length};
+ghost use mathlib.Core.List.{IsPrefix};
+ghost use Rattle.left_right.specs.Sides.{view};
+ghost use Rattle.pn_region.specs.Regions.{IsSound};
+ghost use Rattle.pn_live.specs.Attempts.{settled_of};
+ghost use Rattle.pn_live.specs.Orders.{list_of};
+
+use crate::publish_order::PublishOrder;
+use crate::publish_position::PublishPosition;
+use crate::published_state::PublishedState;
+use crate::reader_handle::ReaderHandle;
+use left_right::reader::Reading;
+use pn_tablet::{TabletOp, TabletState};
+use std::snapshot::Snapshot;
+
+/// A reader with the state that it found. It is not `Drop`: end it by `leave`.
+pub struct ReadGuard {
+    reading: Reading<PublishedState, Option<PublishedState>, PublishOrder>,
+    pub told: PublishPosition<TabletOp>,
+    pub found: Snapshot<PublishedState>,
+    ghost viewed: { view reading.place ≡ Some found.value },
+    ghost held: { reading.part.value ≡ found.value },
+    ghost book: { found.value.position.seen.book ≡ told.seen.book },
+}
+
+impl ReadGuard {
+    ghost use Rattle.pn_live.specs.Published.{seen_by, range_of, found_by};
+
+    /// Stays inside where the state found extends all that the reader learnt, as in every run. Leaves
+    /// otherwise.
+    pub fn stay(
+        reading: Reading<PublishedState, Option<PublishedState>, PublishOrder>,
+        found: Snapshot<PublishedState>,
+        told: PublishPosition<TabletOp>,
+        seen: Snapshot<PublishedState>,
+    ) -> Result<ReadGuard, ReaderHandle>
+        requires viewed { view reading.place ≡ Some found.value }
+        requires held { reading.part.value ≡ found.value }
+        requires book { found.value.position.seen.book ≡ told.seen.book }
+        requires range { found.value.state.range ≡ seen.value.state.range }
+        requires goes_on { take (length (list_of seen.value)) (list_of found.value) ≡ list_of seen.value }
+        requires begins { IsPrefix (list_of seen.value) (list_of found.value) }
+        ensures { MatchResult result
+            (λ guard. IsPrefix (list_of seen.value) (list_of guard.found.value) × IsPrefix (settled_of told.seen.log) (list_of guard.found.value)
+            × (guard.told ≡ told) × (guard.found.value.state.range ≡ seen.value.state.range))
+            (λ handle. (seen_by handle ≡ list_of seen.value) × (handle.told ≡ told) × (range_of handle ≡ seen.value.state.range)) }
+    {
+        let shown = reading.get();
+        let near = told.is_within(&shown.position);
+        if near {
+            return Ok(ReadGuard {
+                reading,
+                told,
+                found,
+            });
+        }
+        let reader = reading.leave();
+        Err(ReaderHandle {
+            reader,
+            told,
+            seen,
+            found,
+        })
+    }
+
+    /// The state that was found.
+    pub fn state(&self) -> &TabletState
+        ensures found { result.now ≡ found_by self.now }
+        ensures sound { IsSound result.now }
+    {
+        let state = &self.reading.get().state;
+        is_sound(state);
+        state
+    }
+
+    /// The position of the attempt that published the state.
+    pub fn position(&self) -> &PublishPosition<TabletOp>
+        ensures { result.now ≡ self.now.found.value.position }
+    {
+        &self.reading.get().position
+    }
+
+    /// Leaves the tablet. The state found counts as seen.
+    pub fn leave(self) -> ReaderHandle
+        ensures seen { seen_by result ≡ list_of self.found.value }
+        ensures told { result.told ≡ self.told }
+        ensures range { range_of result ≡ self.found.value.state.range }
+    {
+        let ReadGuard {
+            reading,
+            told,
+            found,
+        } = self;
+        let seen = Snapshot::of(reading.get());
+        let reader = reading.leave();
+        ReaderHandle {
+            reader,
+            told,
+            seen,
+            found,
+        }
+    }
+}
+
+// Reads what every tablet's type keeps, so that it is known after this call.
+fn is_sound(state: &TabletState)
+    ensures { IsSound state.now }
+{
+    let _ = state.range();
+    let _ = state.cells();
+}

@@ -1,0 +1,139 @@
+//! Tablet readers: what a reader of a live region has of each tablet.
+
+ghost use Rattle.std.specs.Prelude.{◌≡◌, MatchResult, Option};
+ghost use Rattle.pn_tablet.specs.Tablets.{TabletStateValue};
+ghost use Rattle.pn_scan.specs.Views.{rows_at, cell_at};
+ghost use Rattle.pn_live.specs.Looks.{IsOneLook, left_by};
+ghost use Rattle.pn_live.specs.Published.{seen_by, told_to, range_of, found_by};
+ghost use Rattle.pn_live.specs.TabletReaders.{Finds, Learns};
+
+mod copying;
+
+use crate::front::TabletNote;
+use crate::read_guard::ReadGuard;
+use crate::reader_handle::ReaderHandle;
+use core::mem::replace_with;
+use pn_record::{Cell, Key};
+use pn_scan::{Query, Row, ScanFault, cell_of, part_of};
+use std::alloc::Global;
+use std::marker::Model;
+
+/// A reader of one tablet.
+#[derive(Drop)]
+pub struct TabletReader {
+    handle: ReaderHandle,
+}
+
+impl Model for TabletReader {
+    ghost use Rattle.pn_live.specs.Published.{seen_by, told_to, range_of};
+    ghost use Rattle.pn_live.specs.TabletReaders.{TabletReaderValue};
+
+    ghost Value = { TabletReaderValue };
+
+    ghost use Rattle.pn_live.specs.Proofs.Coding.{tablet_reader_code};
+
+    ghost coded = { tablet_reader_code };
+
+    ghost view = { λ reader. record { book = reader.handle.told.seen.book; range = range_of reader.handle; seen = seen_by reader.handle; told = told_to reader.handle } };
+}
+
+impl TabletReader {
+    pub fn of(handle: ReaderHandle) -> TabletReader
+        ensures book { result.book ≡ handle.told.seen.book }
+        ensures range { result.range ≡ range_of handle }
+        ensures seen { result.seen ≡ seen_by handle }
+        ensures told { result.told ≡ told_to handle }
+    {
+        TabletReader { handle }
+    }
+
+    pub fn into_handle(self) -> ReaderHandle
+        ensures book { result.told.seen.book ≡ self.book }
+        ensures range { range_of result ≡ self.range }
+        ensures seen { seen_by result ≡ self.seen }
+        ensures told { told_to result ≡ self.told }
+    {
+        let TabletReader { handle } = self;
+        handle
+    }
+
+    /// Learns a note of its tablet.
+    pub fn learn(&mut self, note: TabletNote)
+        requires { note.book ≡ self.old.book }
+        ensures { Learns self.old note self.new }
+    {
+        self.handle.learn(note.into_position());
+    }
+
+    // One entry into the tablet.
+    fn enter(self) -> Result<ReadGuard, TabletReader>
+        ensures { MatchResult result (λ guard. Finds self (found_by guard) (left_by guard)) (λ back. back ≡ self) }
+    {
+        match self.into_handle().enter() {
+            Ok(guard) => Ok(guard),
+            Err(handle) => Err(TabletReader::of(handle)),
+        }
+    }
+
+    // The reader once it has left the tablet.
+    fn left(guard: ReadGuard) -> TabletReader
+        ensures { result ≡ left_by guard }
+    {
+        TabletReader::of(guard.leave())
+    }
+
+    /// The cell of a key in the state that one entry finds, as `cell_of`; `NoEntry` where the entry is refused.
+    pub fn cell(&mut self, tablet: usize, key: &Key) -> Result<Option<Cell>, ScanFault>
+        ensures { (found : Option TabletStateValue) × IsOneLook self.old self.new (λ cell. cell) result (cell_at key.now) tablet found }
+    {
+        replace_with(self, key, |reader, key| reader.cell_seen(tablet, key))
+    }
+
+    fn cell_seen(self, tablet: usize, key: &Key) -> (TabletReader, Result<Option<Cell>, ScanFault>)
+        ensures { (found : Option TabletStateValue) × IsOneLook self result.0 (λ cell. cell) result.1 (cell_at key.now) tablet found }
+    {
+        match self.enter() {
+            Ok(guard) => {
+                let answer = cell_of(guard.state(), tablet, key);
+                (TabletReader::left(guard), answer)
+            }
+            Err(reader) => (reader, Err(ScanFault::NoEntry)),
+        }
+    }
+
+    /// The first `room` rows that a query shows in the state that one entry finds, as `part_of`; `NoEntry` where
+    /// the entry is refused.
+    pub fn part(
+        &mut self,
+        alloc: Global,
+        tablet: usize,
+        query: &Query,
+        room: usize,
+    ) -> Result<(Vec<Row>, bool), ScanFault>
+        ensures { (found : Option TabletStateValue) × IsOneLook self.old self.new (λ part. (part.0.items, part.1)) result (rows_at query.now room) tablet found }
+    {
+        replace_with(
+            self,
+            query,
+            |reader, query| reader.part_seen(alloc, tablet, query, room),
+        )
+    }
+
+    fn part_seen(
+        self,
+        alloc: Global,
+        tablet: usize,
+        query: &Query,
+        room: usize,
+    ) -> (TabletReader, Result<(Vec<Row>, bool), ScanFault>)
+        ensures { (found : Option TabletStateValue) × IsOneLook self result.0 (λ part. (part.0.items, part.1)) result.1 (rows_at query.now room) tablet found }
+    {
+        match self.enter() {
+            Ok(guard) => {
+                let answer = part_of(alloc, guard.state(), tablet, query, room);
+                (TabletReader::left(guard), answer)
+            }
+            Err(reader) => (reader, Err(ScanFault::NoEntry)),
+        }
+    }
+}

@@ -1,0 +1,18 @@
+//! Records as JSON: images, versions, contents and marks, read from values and lines and written as such.
+
+mod content_writer;
+mod marks;
+mod marks_writer;
+mod moved;
+mod ranges;
+mod read;
+mod unchecked;
+mod write;
+
+pub use content_writer::{write_content, write_contents, write_version};
+pub use marks::{marks_of, marks_value};
+pub use marks_writer::write_marks;
+pub use moved::image_from;
+pub use read::{image_of, read_image, read_value, version_of};
+pub use unchecked::{UncheckedImage, numbers_of, unchecked_image};
+pub use write::{content_value, image_value, record_value, version_value, write_image};

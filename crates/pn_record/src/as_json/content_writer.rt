@@ -1,0 +1,84 @@
+//! Writes versions and contents into a line of JSON.
+
+ghost use Rattle.std.specs.Prelude.{◌≡◌, map, OnOk};
+ghost use Rattle.serde_json.specs.Data.{array, object};
+ghost use Rattle.serde_json.specs.View.{items_of};
+ghost use Rattle.pn_json.specs.Tokens.{Appends, value_tokens};
+ghost use Rattle.pn_record.specs.Showing.{shown_field, shown_body};
+ghost use Rattle.pn_record.specs.Tokens.{body_tokens, field_tokens};
+ghost use Rattle.pn_record.specs.Writing.{version_data, content_data, fields_data};
+
+use crate::{Body, Content, Value, Version};
+use json::Writer;
+use pn_join::NoMemory;
+use pn_json::write_text_member;
+
+/// Writes a version: `[generation,number]`.
+pub fn write_version(writer: &mut Writer, version: Version) -> Result<(), NoMemory>
+    ensures { OnOk result (Appends writer.old writer.new (value_tokens (version_data version))) }
+{
+    writer.begin_array()?;
+    writer.u64(version.generation)?;
+    writer.u64(version.number)?;
+    writer.end_array()?;
+    Ok(())
+}
+
+/// Writes contents as an array.
+pub fn write_contents(writer: &mut Writer, contents: &[Content]) -> Result<(), NoMemory>
+    ensures { OnOk result (Appends writer.old writer.new
+        (value_tokens (array (items_of (map content_data contents.now))))) }
+{
+    writer.begin_array()?;
+    for content in contents {
+        write_content(writer, content)?;
+    }
+    writer.end_array()?;
+    Ok(())
+}
+
+/// Writes a content: `{"fields":{..},"master":N}` or `{"deleted":true,"master":N}`.
+pub fn write_content(writer: &mut Writer, content: &Content) -> Result<(), NoMemory>
+    ensures { OnOk result (Appends writer.old writer.new (value_tokens (content_data content.now))) }
+{
+    writer.begin_object()?;
+    write_body(writer, &content.body)?;
+    write_text_member(writer, "master", content.master.as_str())?;
+    writer.end_object()?;
+    Ok(())
+}
+
+fn write_body(writer: &mut Writer, body: &Body) -> Result<(), NoMemory>
+    ensures { OnOk result (Appends writer.old writer.new (body_tokens (shown_body body.now))) }
+{
+    match body {
+        Body::Deleted => {
+            writer.key("deleted")?;
+            writer.boolean(true)?;
+        }
+        Body::Fields(fields) => {
+            writer.key("fields")?;
+            write_fields(writer, fields)?;
+        }
+    }
+    Ok(())
+}
+
+fn write_fields(writer: &mut Writer, fields: &[(String, Value)]) -> Result<(), NoMemory>
+    ensures { OnOk result (Appends writer.old writer.new (value_tokens (object (fields_data (map shown_field fields.now))))) }
+{
+    writer.begin_object()?;
+    for field in fields {
+        write_field(writer, field)?;
+    }
+    writer.end_object()?;
+    Ok(())
+}
+
+fn write_field(writer: &mut Writer, field: &(String, Value)) -> Result<(), NoMemory>
+    ensures { OnOk result (Appends writer.old writer.new (field_tokens (shown_field field.now))) }
+{
+    match &field.1 {
+        Value::Text(text) => write_text_member(writer, field.0.as_str(), text.as_str()),
+    }
+}

@@ -1,0 +1,123 @@
+//! Images as read: the members of a parsed value have the right kinds, and their limits are not checked yet.
+
+ghost use Rattle.std.specs.Prelude.{◌≡◌, string_cmp, IsTrue, IfOk};
+ghost use Rattle.std.specs.BTreeMap.{IsOrdered};
+ghost use Rattle.serde_json.specs.View.{view, items_view, members_view};
+ghost use Rattle.pn_json.specs.Members.{seen, member_as};
+ghost use Rattle.pn_json.specs.Answers.{Shows};
+ghost use Rattle.pn_record.specs.BodyGrammar.{all_texts, deleted_in, fields_in};
+ghost use Rattle.pn_record.specs.Grammar.{numbers_in, two_numbers, shape_in};
+ghost use Rattle.pn_record.specs.Seen.{seen_fields, body_rises};
+ghost use Rattle.pn_record.specs.Writing.{image_data};
+
+use crate::Member;
+use pn_json::{check_names, text_of};
+use serde_json::{Map, Value};
+use std::marker::Model;
+
+/// The two whole numbers of an array of two, as a version is written. `None` for any other value.
+pub fn numbers_of(value: &Value) -> Option<(u64, u64)>
+    ensures { result ≡ numbers_in (view value.now) }
+{
+    let items = value.as_array()?;
+    pair_of(items)
+}
+
+fn pair_of(items: &[Value]) -> Option<(u64, u64)>
+    ensures { result ≡ two_numbers (items_view items.now) }
+{
+    let [generation, number] = items else {
+        return None;
+    };
+    Some((generation.as_u64()?, number.as_u64()?))
+}
+
+fn deleted_of(value: Option<&Value>) -> Result<bool, Member>
+    ensures { result ≡ deleted_in (seen value.entry) }
+{
+    match value {
+        None => Ok(false),
+        Some(value) => match value.as_bool() {
+            Some(true) => Ok(true),
+            _ => Err(Member::Deleted),
+        },
+    }
+}
+
+/// An image as read, borrowed from its parsed value. Its limits are not checked yet. A deletion has no
+/// fields.
+#[derive(Drop)]
+pub struct UncheckedImage<'v> {
+    pub(crate) fields: Option<&'v Map<String, Value>>,
+    pub(crate) key: &'v str,
+    pub(crate) master: &'v str,
+    pub(crate) version: (u64, u64),
+}
+
+impl<'v> Model for UncheckedImage<'v> {
+    ghost use Rattle.pn_record.specs.declared.image.Image.{Image};
+
+    ghost Value = { Image };
+
+    ghost use Rattle.pn_record.specs.Seen.{seen_fields};
+
+    ghost view = { λ s. record { key = s.key.now; version = s.version; content = (seen_fields s.fields, s.master.now) } };
+}
+
+/// The image that a value has the shape of, borrowed from the value, or the first member of another shape.
+#[tactic(auto, unfolding(crate::specs::Grammar::shape_in))]
+pub fn unchecked_image(value: &Value) -> Result<UncheckedImage<'_>, Member>
+    ensures exact { result ≡ shape_in (view value.now) }
+    ensures found { IfOk result (λ shape. view value.now ≡ image_data shape) }
+    ensures rising { IfOk result (λ shape. IsTrue (body_rises shape.content.0)) }
+{
+    let members = value.as_object().ok_or(Member::Whole)?;
+    let is_deleted = deleted_of(value.get("deleted"))?;
+    let fields = fields_of(is_deleted, value.get("fields"))?;
+    let key = text_of(value.get("key"), Member::Key)?;
+    let master = text_of(value.get("master"), Member::Master)?;
+    let version = version_numbers(value.get("version"))?;
+    let names = ["deleted", "fields", "key", "master", "version"];
+    check_names(members, &names, Member::Other)?;
+    Ok(UncheckedImage {
+        fields,
+        key,
+        master,
+        version,
+    })
+}
+
+fn fields_of<'v>(
+    is_deleted: bool,
+    value: Option<&'v Value>,
+) -> Result<Option<&'v Map<String, Value>>, Member>
+    ensures texts { Shows seen_fields result (fields_in is_deleted (seen value.entry)) }
+    ensures rising { IfOk result (λ fields. IsTrue (body_rises (seen_fields fields))) }
+{
+    match (is_deleted, value) {
+        (true, None) => Ok(None),
+        (false, Some(value)) => match value.as_object() {
+            Some(members) if has_texts_alone(members) => Ok(Some(members)),
+            _ => Err(Member::Fields),
+        },
+        _ => Err(Member::Fields),
+    }
+}
+
+fn version_numbers(value: Option<&Value>) -> Result<(u64, u64), Member>
+    ensures { result ≡ member_as numbers_in Member.Version (seen value.entry) }
+{
+    value.and_then(numbers_of).ok_or(Member::Version)
+}
+
+fn has_texts_alone(members: &Map<String, Value>) -> bool
+    ensures texts { result ≡ all_texts (members_view members.now.entries) }
+    ensures ordered { IsOrdered string_cmp members.now }
+{
+    for (_, value) in members.iter() {
+        if !value.is_string() {
+            return false;
+        }
+    }
+    true
+}

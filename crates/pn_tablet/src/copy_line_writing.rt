@@ -1,0 +1,177 @@
+//! The lines of a copy, each written straight into the text.
+
+ghost use Rattle.std.specs.Prelude.{◌≡◌, ◌∷◌, [], ◌++◌, map, codes, IfOk, OnOk, IsTrue};
+ghost use Rattle.std.specs.Option.{option_copied};
+ghost use Rattle.serde_json.specs.Data.{Data, object};
+ghost use Rattle.pn_join.specs.Marks.{is_position};
+ghost use Rattle.pn_json.specs.Tokens.{Appends, member_tokens, value_tokens};
+ghost use Rattle.pn_record.specs.Canonical.{is_image};
+ghost use Rattle.pn_record.specs.Showing.{shown_field, shown_body};
+ghost use Rattle.pn_record.specs.Tokens.{body_tokens, field_tokens};
+ghost use Rattle.pn_record.specs.Writing.{fields_data, image_data};
+ghost use Rattle.pn_tablet.specs.CopyLines.{key_data, is_end, head_data, mark_data, end_data, IsHead};
+ghost use Rattle.pn_tablet.specs.CopyWriting.{line_text, IsWritten, WritesValue, WritesLines};
+ghost use Rattle.pn_tablet.specs.Ranges.{are_ends};
+ghost use Rattle.pn_tablet.specs.declared.copy_line.CopyLine.TheVariants.{Mark, Record, End};
+
+use crate::Range;
+use crate::copy_line::FORMAT;
+use json::Writer;
+use pn_join::{NoMemory, StreamName};
+use pn_json::{write_null_member, write_number_member, write_text_member};
+use pn_record::{Body, Content, Key, Value, Version, write_version};
+
+/// Writes the line of a copy's head.
+pub(crate) fn write_head(text: Vec<u8>, range: &Range) -> Result<Vec<u8>, NoMemory>
+    ensures written { IfOk result (λ new. new.items ≡ text.items ++ line_text (head_data range.now)) }
+    ensures line { OnOk result (IsWritten IsHead (head_data range.now) range.now) }
+{
+    let mut line = Writer::new(text);
+    put_head(&mut line, range)?;
+    end_line(line)
+}
+
+/// Writes the line of a mark.
+pub(crate) fn write_mark(
+    text: Vec<u8>,
+    name: &StreamName,
+    position: u64,
+) -> Result<Vec<u8>, NoMemory>
+    requires { IsTrue (is_position position) }
+    ensures { IfOk result (λ new. WritesLines text.items new.items (Mark name.now position ∷ [])) }
+{
+    let mut line = Writer::new(text);
+    put_mark(&mut line, name.as_str(), position)?;
+    end_line(line)
+}
+
+/// Writes the line of an image.
+pub(crate) fn write_image(
+    text: Vec<u8>,
+    key: &Key,
+    version: Version,
+    content: &Content,
+) -> Result<Vec<u8>, NoMemory>
+    ensures { IfOk result (λ new. WritesLines text.items new.items
+        (Record (record { key = key.now; version = version; content = content.now }) ∷ [])) }
+{
+    let mut line = Writer::new(text);
+    put_image(&mut line, key, version, content)?;
+    end_line(line)
+}
+
+/// Writes the line of an end.
+pub(crate) fn write_end(text: Vec<u8>, count: u64) -> Result<Vec<u8>, NoMemory>
+    ensures { IfOk result (λ new. WritesLines text.items new.items (End count ∷ [])) }
+{
+    let mut line = Writer::new(text);
+    put_end(&mut line, count)?;
+    end_line(line)
+}
+
+// The text with the line of the value that was written, and its newline.
+fn end_line(line: Writer) -> Result<Vec<u8>, NoMemory>
+    ensures { IfOk result (λ text. (value : Data) → line.tokens ≡ value_tokens value → WritesValue line.before text.items value) }
+{
+    let mut text = line.into_inner();
+    text.push(b'\n')?;
+    Ok(text)
+}
+
+fn put_head(line: &mut Writer, range: &Range) -> Result<(), NoMemory>
+    ensures value { OnOk result (Appends line.old line.new (value_tokens (head_data range.now))) }
+    ensures from { OnOk result (IsTrue (is_end range.now.0)) }
+    ensures to { OnOk result (IsTrue (is_end range.now.1)) }
+    ensures order { OnOk result (IsTrue (are_ends range.now)) }
+{
+    line.begin_object()?;
+    write_number_member(line, "copy", FORMAT)?;
+    put_key(line, "from", range.from())?;
+    put_key(line, "to", range.to())?;
+    line.end_object()?;
+    Ok(())
+}
+
+// A member that is an end of a range.
+fn put_key(line: &mut Writer, name: &str, key: Option<&Key>) -> Result<(), NoMemory>
+    ensures value { OnOk result (Appends line.old line.new (member_tokens name.now (key_data (option_copied key.entry)))) }
+    ensures limits { OnOk result (IsTrue (is_end (option_copied key.entry))) }
+{
+    match key {
+        None => write_null_member(line, name),
+        Some(key) => write_text_member(line, name, key.as_str()),
+    }
+}
+
+fn put_mark(line: &mut Writer, name: &str, position: u64) -> Result<(), NoMemory>
+    ensures { OnOk result (Appends line.old line.new (value_tokens (mark_data (name.now, position)))) }
+{
+    line.begin_object()?;
+    write_number_member(line, "at", position)?;
+    write_text_member(line, "stream", name)?;
+    line.end_object()?;
+    Ok(())
+}
+
+fn put_image(
+    line: &mut Writer,
+    key: &Key,
+    version: Version,
+    content: &Content,
+) -> Result<(), NoMemory>
+    ensures value { OnOk result (Appends line.old line.new
+        (value_tokens (image_data (record { key = key.now; version = version; content = content.now })))) }
+    ensures limits { OnOk result (IsTrue (is_image (record { key = key.now; version = version; content = content.now }))) }
+{
+    line.begin_object()?;
+    put_body(line, &content.body)?;
+    write_text_member(line, "key", key.as_str())?;
+    write_text_member(line, "master", content.master.as_str())?;
+    line.key("version")?;
+    write_version(line, version)?;
+    line.end_object()?;
+    Ok(())
+}
+
+fn put_body(line: &mut Writer, body: &Body) -> Result<(), NoMemory>
+    ensures { OnOk result (Appends line.old line.new (body_tokens (shown_body body.now))) }
+{
+    match body {
+        Body::Fields(fields) => put_fields(line, fields),
+        Body::Deleted => {
+            line.key("deleted")?;
+            line.boolean(true)?;
+            Ok(())
+        }
+    }
+}
+
+fn put_fields(line: &mut Writer, fields: &[(String, Value)]) -> Result<(), NoMemory>
+    ensures { OnOk result (Appends line.old line.new
+        (member_tokens (codes "fields") (object (fields_data (map shown_field fields.now))))) }
+{
+    line.key("fields")?;
+    line.begin_object()?;
+    for field in fields {
+        put_field(line, field)?;
+    }
+    line.end_object()?;
+    Ok(())
+}
+
+fn put_field(line: &mut Writer, field: &(String, Value)) -> Result<(), NoMemory>
+    ensures { OnOk result (Appends line.old line.new (field_tokens (shown_field field.now))) }
+{
+    match &field.1 {
+        Value::Text(text) => write_text_member(line, field.0.as_str(), text.as_str()),
+    }
+}
+
+fn put_end(line: &mut Writer, count: u64) -> Result<(), NoMemory>
+    ensures { OnOk result (Appends line.old line.new (value_tokens (end_data count))) }
+{
+    line.begin_object()?;
+    write_number_member(line, "end", count)?;
+    line.end_object()?;
+    Ok(())
+}
