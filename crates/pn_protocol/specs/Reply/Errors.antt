@@ -37,7 +37,7 @@ abbrev pub details_members : ErrorDetails → Members
 details_members Nothing = no_members
 details_members (Line place) = with_number (codes "line") place no_members
 details_members (Tablet place) = with_number (codes "tablet") place no_members
-details_members (Has version) = has_details version
+details_members (Has version) = has_details version.now
 details_members (Gap stream got wanted) = short_details (codes "got") got stream.now wanted
 details_members (Behind stream has wanted) = short_details (codes "has") has stream.now wanted
 details_members (TooOld stream has needs) = too_old_details stream.now has needs
@@ -56,7 +56,7 @@ abbrev pub details_tokens : ErrorDetails → List Token
 details_tokens Nothing = []
 details_tokens (Line place) = member_tokens (codes "line") (number (unsigned place))
 details_tokens (Tablet place) = member_tokens (codes "tablet") (number (unsigned place))
-details_tokens (Has version) = member_tokens (codes "has") (version_or_null version)
+details_tokens (Has version) = member_tokens (codes "has") (version_or_null version.now)
 details_tokens (Gap stream got wanted) = short_tokens (codes "got") got stream.now wanted
 details_tokens (Behind stream has wanted) = short_tokens (codes "has") has stream.now wanted
 details_tokens (TooOld stream has needs) = too_old_tokens stream.now has needs

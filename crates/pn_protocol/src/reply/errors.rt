@@ -21,7 +21,7 @@ pub(crate) enum ErrorDetails<'f> {
     /// A tablet's number.
     Tablet(u64),
     /// The version of a record, if there is one.
-    Has(Option<Version>),
+    Has(&'f Option<Version>),
     /// The position of a stream that came, and the one that was wanted.
     Gap {
         stream: &'f StreamName,
@@ -78,7 +78,7 @@ fn write_details(writer: &mut Writer, details: ErrorDetails<'_>) -> Result<(), N
         ErrorDetails::Tablet(tablet) => write_number_member(writer, "tablet", tablet),
         ErrorDetails::Has(version) => {
             writer.key("has")?;
-            write_version_or_null(writer, version)
+            write_version_or_null(writer, *version)
         }
         ErrorDetails::Gap {
             stream,

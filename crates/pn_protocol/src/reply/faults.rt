@@ -48,7 +48,7 @@ pub fn refused_reply(alloc: Global, fault: &ScanFault) -> Result<Vec<u8>, NoMemo
         ScanFault::Recovering(tablet) => {
             error_reply(alloc, "recovering", ErrorDetails::Tablet(*tablet as u64))
         }
-        ScanFault::Behind { has } => error_reply(alloc, "behind", ErrorDetails::Has(*has)),
+        ScanFault::Behind { has } => error_reply(alloc, "behind", ErrorDetails::Has(has)),
         ScanFault::Memory => error_reply(alloc, "memory", ErrorDetails::Nothing),
         ScanFault::NoEntry => error_reply(alloc, "no-entry", ErrorDetails::Nothing),
     }

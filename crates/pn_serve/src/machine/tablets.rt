@@ -26,6 +26,5 @@ pub(crate) fn copy(alloc: Global, region: &Region, need: &Marks, tablet: u64) ->
     if tablet >= region.layout().count() as u64 {
         return Reply::Refused(Refusal::OutOfRange(Part::Tablet));
     }
-    let tablet = tablet as usize;
-    answer_copy(alloc, tablet, region.copy(tablet, need))
+    answer_copy(alloc, tablet as usize, region.copy(tablet as usize, need))
 }

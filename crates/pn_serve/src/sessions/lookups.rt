@@ -67,6 +67,5 @@ fn copy(alloc: Global, reader: &mut LiveReader, need: &Marks, tablet: u64) -> Re
     if tablet >= reader.layout().count() as u64 {
         return Reply::Refused(Refusal::OutOfRange(Part::Tablet));
     }
-    let tablet = tablet as usize;
-    answer_copy(alloc, tablet, reader.copy(tablet, need))
+    answer_copy(alloc, tablet as usize, reader.copy(tablet as usize, need))
 }

@@ -1,8 +1,11 @@
 -- What the region found is shown.
 use Rattle.std.proofs.Common.{refl}
+use Rattle.pn_region.specs.Reads.{get_in}
+use Rattle.pn_protocol.specs.Command.Meaning.{get}
 use Rattle.pn_protocol.specs.Reply.Record.{get_data}
 use Rattle.pn_serve.proofs.Turns.{turned_shown}
 use Rattle.pn_serve.proofs.machine.lookups.get.Goals as goal
 
 pub returns : goal.returns
-returns c = turned_shown c.args.region.now _ (get_data c.args.keys.now) _ refl refl (λ cells. cells.items) c.get.result c.answer_get.result c.get.ensures.get c.answer_get.ensures
+returns c =
+    turned_shown c.args.region.now (get c.args.keys.now) (get_data c.args.keys.now) (get_in c.args.region.now.state c.args.keys.now) refl refl (λ cells. cells.items) c.get.result c.answer_get.result c.get.ensures.get c.answer_get.ensures
