@@ -1,17 +1,16 @@
-//! Queries of the right shape, borrowed from the parsed value.
+//! A query of the right shape, with keys borrowed from the parsed value. Its limits are not checked yet.
 
 ghost use Rattle.std.specs.Prelude.{◌≡◌, IfOk, IfErr, IsTrue};
 ghost use Rattle.serde_json.specs.View.{view};
 ghost use Rattle.pn_json.specs.Members.{seen};
 ghost use Rattle.pn_json.specs.Answers.{Shows};
 ghost use Rattle.pn_record.specs.Limits.{is_key as in_key};
-ghost use Rattle.pn_scan.specs.Queries.{is_limit};
-ghost use Rattle.pn_scan.specs.QueryGrammar.{is_end as in_end, is_query};
+ghost use Rattle.pn_scan.specs.Queries.{is_end as in_end, is_limit, is_query};
 ghost use Rattle.pn_scan.specs.QueryReading.{key_of as key_spelled, key_in, limit_in, shape_in};
-ghost use Rattle.pn_scan.specs.QueryShapes.{seen_text};
+ghost use Rattle.pn_scan.specs.UncheckedQueries.{seen_text};
 
-use crate::condition_shape::{ConditionShapes, conditions_of};
 use crate::query::MAX_PAGE_ROWS;
+use crate::unchecked_conditions::{UncheckedConditions, conditions_of};
 use crate::{Query, QueryFault};
 use pn_join::NoMemory;
 use pn_json::{check_names, whole_number_of};
@@ -21,31 +20,34 @@ use serde_json::Value;
 use std::alloc::Global;
 use std::marker::Model;
 
-/// The limit of a query that names none.
+/// The most rows of a page where a query names no limit.
 const USUAL_PAGE: u64 = 100;
 
-/// The members of a query, borrowed from the value. Their ranges are still to be looked at.
+/// The members of a query, whose limits are not checked yet.
 #[derive(Drop)]
-pub(crate) struct QueryShape<'v> {
+pub(crate) struct UncheckedQuery<'v> {
     after: Option<&'v str>,
     from: Option<&'v str>,
     limit: u64,
     to: Option<&'v str>,
-    conditions: ConditionShapes<'v>,
+    conditions: UncheckedConditions<'v>,
 }
 
-impl<'v> Model for QueryShape<'v> {
+impl<'v> Model for UncheckedQuery<'v> {
     ghost use Rattle.pn_scan.specs.Queries.{QueryValue};
-    ghost use Rattle.pn_scan.specs.QueryShapes.{seen_text};
+    ghost use Rattle.pn_scan.specs.UncheckedQueries.{seen_text};
 
     ghost Value = { QueryValue };
 
     ghost view = { λ q. record { from = seen_text q.from; to = seen_text q.to; after = seen_text q.after; conditions = q.conditions; limit = q.limit } };
 }
 
-/// The members of the query that a value has the shape of. It takes no memory.
+/// The query that a value has the shape of.
 #[tactic(auto, unfolding(crate::specs::QueryReading::shape_in))]
-pub(crate) fn shape_of(value: &Value) -> Result<QueryShape<'_>, QueryFault>
+pub(crate) fn unchecked_query(
+    alloc: Global,
+    value: &Value,
+) -> Result<UncheckedQuery<'_>, QueryFault>
     ensures exact { result ≡ shape_in (view value.now) }
     ensures faults { IfErr result (λ fault. fault ≡ QueryFault.BadShape) }
 {
@@ -54,10 +56,10 @@ pub(crate) fn shape_of(value: &Value) -> Result<QueryShape<'_>, QueryFault>
     let from = key_in(value.get("from"))?;
     let limit = limit_in(value.get("limit"))?;
     let to = key_in(value.get("to"))?;
-    let conditions = conditions_of(value.get("where"))?;
+    let conditions = conditions_of(alloc, value.get("where"))?;
     let names = ["after", "from", "limit", "to", "where"];
     check_names(members, &names, QueryFault::BadShape)?;
-    Ok(QueryShape {
+    Ok(UncheckedQuery {
         after,
         from,
         limit,
@@ -94,8 +96,8 @@ fn limit_in(value: Option<&Value>) -> Result<u64, QueryFault>
     }
 }
 
-impl QueryShape<'_> {
-    /// Whether no limit is broken. It takes no memory.
+impl UncheckedQuery<'_> {
+    /// Whether no limit is broken.
     pub(crate) fn fits(&self) -> bool
         ensures { result ≡ is_query self.now }
     {
@@ -106,16 +108,16 @@ impl QueryShape<'_> {
             && self.conditions.fit()
     }
 
-    /// The query, with each text copied once.
-    pub(crate) fn query(&self, alloc: Global) -> Result<Query, NoMemory>
-        requires { IsTrue (is_query self.now) }
-        ensures { IfOk result (λ query. query ≡ self.now) }
+    /// The query, with its keys copied.
+    pub(crate) fn query(self, alloc: Global) -> Result<Query, NoMemory>
+        requires { IsTrue (is_query self) }
+        ensures { IfOk result (λ query. query ≡ self.entry) }
     {
         Ok(Query {
-            from: copied_end(alloc, self.from)?,
-            to: copied_end(alloc, self.to)?,
-            after: copied_end(alloc, self.after)?,
-            conditions: self.conditions.conditions(alloc)?,
+            from: end_of(alloc, self.from)?,
+            to: end_of(alloc, self.to)?,
+            after: end_of(alloc, self.after)?,
+            conditions: self.conditions.conditions()?,
             limit: self.limit as usize,
         })
     }
@@ -142,7 +144,7 @@ fn is_page(limit: u64) -> bool
     1 <= limit && limit <= MAX_PAGE_ROWS as u64
 }
 
-fn copied_end(alloc: Global, text: Option<&str>) -> Result<Option<Key>, NoMemory>
+fn end_of(alloc: Global, text: Option<&str>) -> Result<Option<Key>, NoMemory>
     requires { IsTrue (in_end (seen_text text)) }
     ensures { IfOk result (λ key. key ≡ seen_text text.entry) }
 {
