@@ -12,6 +12,12 @@ SECONDS = 60
 Json = dict[str, object]
 
 
+def same(what: str, found: object, wanted: object) -> None:
+    """Fails where something is not as it should be."""
+    if found != wanted:
+        raise AssertionError(f"{what}: {str(found)[:300]}, not {str(wanted)[:300]}")
+
+
 def image(key: str, number: int, text: str, master: str = "w", generation: int = 1) -> Json:
     return {"fields": {"v": text}, "key": key, "master": master, "version": [generation, number]}
 
