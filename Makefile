@@ -9,7 +9,7 @@ SCRIPT ?= crates/pnuts/stdin
 
 # The proved, optimised program that `make build` leaves, and the one that measures live regions.
 PROGRAM := crates/pnuts/out/pnuts
-STEPS := crates/pn_bench/out/pn_bench
+BENCH := crates/pn_bench/out/pn_bench
 
 # The tests of live regions, of which one is run with each of its allocations refused.
 LIVE := crates/test_live/out/test_live_tests
@@ -47,11 +47,11 @@ build: toolchain
 # Measures the built program, and prints tables.
 bench: build
 	@cd crates/pn_bench && rt run -- $$(< args) < stdin > /dev/null
-	@bench/run "$(PROGRAM)"
-	@bench/rounds "$(PROGRAM)"
-	@bench/sessions "$(PROGRAM)"
-	@bench/live "$(STEPS)"
-	@bench/instructions "$(PROGRAM)"
+	@status=0; \
+	for it in run rounds sessions; do "bench/$$it" "$(PROGRAM)" || status=1; done; \
+	bench/live "$(BENCH)" || status=1; \
+	bench/instructions "$(PROGRAM)"; \
+	exit $$status
 
 # Measures the built program beside a plain Rust program and a server that does nothing.
 bench-beside: build
