@@ -1,6 +1,6 @@
 //! Cases of `pn_join`, a line each: `join` of two tables, `least` for an entry below all others, and `name` for a name.
 //!
-//! A table is its first key, its step and its count; each key is its own content. What must be answered stands in `stdout`.
+//! A table is its first key, its step and its count; each key is its own content. `stdout` has what must be answered.
 #![tactic(auto)]
 
 mod tables;

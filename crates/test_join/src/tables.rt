@@ -33,7 +33,7 @@ fn key_at(table: &Counts, place: usize) -> Option<u64> {
 }
 
 // The first key, the step and the count of a table, or that it has no such form.
-fn told(alloc: Global, table: &Counts) -> Result<String, Fail> {
+fn form(alloc: Global, table: &Counts) -> Result<String, Fail> {
     let first = key_at(table, 0).unwrap_or(0);
     let step = key_at(table, 1).unwrap_or(first).saturating_sub(first);
     let mut wanted = first;
@@ -54,7 +54,7 @@ pub(crate) fn join(alloc: Global, tables: &str) -> Result<String, Fail> {
     if own.join_from(&other).is_err() {
         own.join_from(&other)?;
     }
-    told(alloc, &own)
+    form(alloc, &own)
 }
 
 // The entries of the last leaf.

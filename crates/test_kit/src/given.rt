@@ -1,48 +1,49 @@
-//! Keys, layouts, images and deliveries.
+//! Keys, layouts, images and deliveries; none where memory runs out, or where a word may not stand there.
 
 use pn_join::Name;
 use pn_record::{Image, Key, read_image};
 use pn_stream::Delivery;
 use pn_tablet::Layout;
 use std::alloc::Global;
-use std::test::Fail;
 
 /// A key for each word.
-pub fn keys(alloc: Global, words: &str) -> Result<Vec<Key>, Fail> {
+pub fn keys(alloc: Global, words: &str) -> Option<Vec<Key>> {
     let mut keys = Vec::new(alloc);
     for word in words.split_whitespace() {
-        keys.push(Key::of(alloc, word)?)?;
+        keys.push(Key::of(alloc, word).ok()?).ok()?;
     }
-    Ok(keys)
+    Some(keys)
 }
 
 /// The layout whose bounds are these words.
-pub fn layout(alloc: Global, bounds: &str) -> Result<Layout, Fail> {
-    Ok(Layout::new(keys(alloc, bounds)?)?)
+pub fn layout(alloc: Global, bounds: &str) -> Option<Layout> {
+    Layout::new(keys(alloc, bounds)?).ok()
 }
 
 /// An image at a key, of a version of generation 1, whose one field has the version's number as its text.
-pub fn image(alloc: Global, key: &str, number: u64) -> Result<Image, Fail> {
+pub fn image(alloc: Global, key: &str, number: u64) -> Option<Image> {
     let line = format!(in alloc;
         "{{\"fields\":{{\"v\":\"{number}\"}},\"key\":\"{key}\",\"master\":\"w\",\"version\":[1,{number}]}}"
-    )?;
-    Ok(read_image(alloc, line.as_bytes())?)
+    );
+    read_image(alloc, line.ok()?.as_bytes()).ok()
 }
 
-/// One delivery of the stream `east` from a position on, with an image at each of the words, all of one number.
-pub fn deliveries(
-    alloc: Global,
-    first: u64,
-    words: &str,
-    number: u64,
-) -> Result<Vec<Delivery>, Fail> {
+/// One delivery of the stream `east` from a position on, with an image at each of the words. A word is a key, or a key, `@` and the
+/// number of its version; of the others it is the number that is given.
+pub fn deliveries(alloc: Global, first: u64, words: &str, number: u64) -> Option<Vec<Delivery>> {
     let mut images = Vec::new(alloc);
     for word in words.split_whitespace() {
-        images.push(image(alloc, word, number)?)?;
+        images.push(image_of(alloc, word, number)?).ok()?;
     }
-    let mut given = Vec::with_capacity(alloc, 1)?;
-    if let Some(delivery) = Delivery::new(Name::read(b"east")?, first, images) {
-        given.push(delivery)?;
+    let delivery = Delivery::new(Name::read(b"east").ok()?, first, images)?;
+    let mut given = Vec::with_capacity(alloc, 1).ok()?;
+    given.push(delivery).ok()?;
+    Some(given)
+}
+
+fn image_of(alloc: Global, word: &str, number: u64) -> Option<Image> {
+    match word.split_once('@') {
+        Some((key, own)) => image(alloc, key, own.parse::<u64>().ok()?),
+        None => image(alloc, word, number),
     }
-    Ok(given)
 }
