@@ -10,29 +10,12 @@ ghost use Rattle.pn_live.specs.Readers.{tablets_of};
 
 use pn_join::NoMemory;
 use pn_live::{LiveReader, LiveRegion, OpenFault};
-use pn_record::{Body, Cell, Key, Value, Version};
+use pn_record::{Key, Version};
 use pn_region::Region;
 use pn_scan::ScanFault;
 use pn_tablet::Layout;
 use std::alloc::Global;
 use std::sync::Wait;
-
-/// Whether a cell has the one content that a delivery gave its version.
-pub fn is_given(cell: &Cell) -> bool {
-    let [content] = cell.contents() else {
-        return false;
-    };
-    let Body::Fields(fields) = &content.body else {
-        return false;
-    };
-    let Some((_name, Value::Text(text))) = fields.first() else {
-        return false;
-    };
-    let number = cell.version().number;
-    text.as_str()
-        .parse::<u64>()
-        .is_ok_and(|written| written == number)
-}
 
 /// Opens a live region, whose readers read its tablets.
 pub fn opened<R: Wait>(

@@ -46,8 +46,9 @@ fn meeting() -> Meeting {
 // How many records a round of two tablets changes, with a worker for each.
 fn plain<R: Threads + Sync>(rt: &R, alloc: Global, gate: &Meeting) -> Option<u64> {
     let mut region = Region::new(alloc, layout(alloc, "m")?).ok()?;
-    let round = region.round(rt, deliveries(alloc, 1, "l m", 0)?, 2, gate);
-    Some(round.ok()?.changed)
+    let given = deliveries(alloc, 1, "l m", 0)?;
+    let round = region.round(rt, given, 2, gate).ok()?;
+    Some(round.changed)
 }
 
 fn live<R: Threads + Wait + Sync>(
@@ -56,8 +57,9 @@ fn live<R: Threads + Wait + Sync>(
     live: &mut LiveRegion,
     gate: &Meeting,
 ) -> Option<u64> {
-    let round = live.round(rt, deliveries(alloc, 1, "l m", 0)?, 2, gate);
-    Some(round.ok()?.0.changed)
+    let given = deliveries(alloc, 1, "l m", 0)?;
+    let (round, _front) = live.round(rt, given, 2, gate).ok()?;
+    Some(round.changed)
 }
 
 #[test]

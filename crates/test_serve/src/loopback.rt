@@ -106,6 +106,7 @@ where
     let theirs = *rt;
     let listener = TcpListener::bind(rt, "127.0.0.1:0")?;
     let at = listener.local_addr()?;
+    let settings = settings(alloc)?;
     let streams = streams(alloc, if is_first { FIRST } else { SECOND })?;
     let client = thread::spawn(rt, move || talk(&theirs, alloc, at, most))?;
     let mut written = Vec::new(alloc);
@@ -113,7 +114,7 @@ where
         rt,
         alloc,
         &listener,
-        settings(alloc)?,
+        settings,
         1,
         streams,
         &mut written,

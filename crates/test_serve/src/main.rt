@@ -1,8 +1,8 @@
 //! Cases of `pn_serve`, a line each, of what the stored scripts of `test_rows` cannot say.
 //!
-//! `plan` shows what words plan, and `says` whether a refusal has a text; `run` runs a script over readers and writers that fail or take
-//! their time; `blocks` counts the writes of some replies; `session` answers lines after one image was taken; and `serve` serves one
-//! session over loopback. A bar is a newline. `stdout` has what must be answered.
+//! `plan` shows what words plan, and `says` whether a refusal has a text. `run` runs a script over readers and writers that fail or
+//! take their time, `blocks` counts the writes of some replies, and `writes` shows faults of writers. `session` answers lines after one
+//! image was taken, and `serve` serves one session over loopback. A bar is a newline. `stdout` has what must be answered.
 #![tactic(auto)]
 
 mod loopback;
@@ -13,7 +13,7 @@ mod talk;
 
 use loopback::served;
 use plans::{plan_reply, says};
-use scripts::{blocks, ran};
+use scripts::{blocks, ran, writes};
 use sessions::answered;
 use std::alloc::Global;
 use std::net::{Net, TcpListener, TcpStream};
@@ -46,6 +46,6 @@ where
         Some(("blocks", lines)) => blocks(rt, alloc, lines),
         Some(("session", lines)) => answered(rt, alloc, lines),
         Some(("serve", position)) => served(rt, alloc, position),
-        _ => Ok(String::from_str(alloc, "no case")?),
+        _ => writes(alloc),
     }
 }

@@ -3,7 +3,7 @@
 
 use crate::talk::talk;
 use pn_join::NoMemory;
-use pn_line::{FailingSource, InMemory, Source};
+use pn_line::{FailingSource, InMemory, Source, write_all_of};
 use pn_serve::{Counts, RunFault, Settings, run};
 use std::alloc::Global;
 use std::test::Fail;
@@ -116,6 +116,20 @@ fn stopping_writers<R: Threads + Sync>(rt: &R, alloc: Global, stop: Stop) -> Res
         }
     }
     Ok(format!(in alloc; "{stopped} of {}", REPLIES.len())?)
+}
+
+/// How a write of three bytes ends, by a writer that fails at the third byte, and by one that takes none.
+pub(crate) fn writes(alloc: Global) -> Result<String, Fail> {
+    let fails = write_text(alloc, Stopping::new(alloc, 1, 3, Stop::Fails))?;
+    let stops = write_text(alloc, Stopping::never(alloc, 0))?;
+    Ok(format!(in alloc; "{fails}; {stops}")?)
+}
+
+fn write_text(alloc: Global, mut writer: Stopping) -> Result<String, Fail> {
+    match write_all_of(&mut writer, b"abc") {
+        Ok(()) => Ok(String::from_str(alloc, "whole")?),
+        Err(fault) => Ok(format!(in alloc; "{fault} after {}", writer.taken.len())?),
+    }
 }
 
 /// How many bytes the replies to some empty lines have, and in how many writes they go out.
