@@ -28,8 +28,8 @@ pub fn image(alloc: Global, key: &str, number: u64) -> Option<Image> {
     read_image(alloc, line.ok()?.as_bytes()).ok()
 }
 
-/// One delivery of the stream `east` from a position on, with an image at each of the words. A word is a key, or a key, `@` and the
-/// number of its version; of the others it is the number that is given.
+/// One delivery of the stream `east` from a position on, with an image for each word: a key, or `KEY@NUMBER` for another version than
+/// the one given.
 pub fn deliveries(alloc: Global, first: u64, words: &str, number: u64) -> Option<Vec<Delivery>> {
     let mut images = Vec::new(alloc);
     for word in words.split_whitespace() {

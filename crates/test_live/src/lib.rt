@@ -1,5 +1,5 @@
-//! Tests of live regions: the worked rows, two workers that meet, a reader that is served while a round is held, a reader beside a
-//! writer, and calls that run out of memory.
+//! Tests of live regions: worked rows, workers that meet, a reader beside a held round and beside a writer, and calls that run out
+//! of memory.
 #![tactic(auto)]
 
 #[cfg(test)]

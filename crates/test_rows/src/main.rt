@@ -1,7 +1,8 @@
 //! Scripts, each answered over a region of its own.
 //!
-//! A head begins each: `## NAME WORKERS BOUND ..`, with the number of workers and the bounds of the tablets. The
-//! head comes out again, and then the replies. `stdout` has what they must be.
+//! A head begins each: `## NAME WORKERS BOUND ..`, with the number of workers and the bounds of the tablets.
+//!
+//! The head comes out again, and then the replies. `stdout` has what they must be.
 #![tactic(auto)]
 
 use pn_line::{InMemory, LineBuffer, LineEnd, read_line};

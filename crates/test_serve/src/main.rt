@@ -1,8 +1,7 @@
-//! Cases of `pn_serve`, a line each, of what the stored scripts of `test_rows` cannot say.
+//! Cases of `pn_serve`, a line each, of what the stored scripts of `test_rows` cannot say; `stdout` has what must be answered.
 //!
-//! `plan` shows what words plan, and `says` whether a refusal has a text. `run` runs a script over readers and writers that fail or
-//! take their time, `blocks` counts the writes of some replies, and `writes` shows faults of writers. `session` answers lines after one
-//! image was taken, and `serve` serves one session over loopback. A bar is a newline. `stdout` has what must be answered.
+//! `plan` and `says` read words; `run`, `blocks` and `writes` meet slow and failing readers and writers; `session` and `serve` answer
+//! sessions. A bar is a newline.
 #![tactic(auto)]
 
 mod loopback;

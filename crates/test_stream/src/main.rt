@@ -1,8 +1,9 @@
-//! Cases of `pn_stream`, a line each. `message` reads one line; the others say what a reader of a stream gives.
+//! Cases of `pn_stream`, a line each; `stdout` has what must be answered.
 //!
-//! These are `whole`, in memory; `pieces` of each size; `cuts`, in two at each byte; `looks` that fail, one after another; and
-//! `lines`, each written once the one before was given. After that come `batch` or `ready`, the position, the calls, the most
-//! messages of a call, the first and the last message, and further text. `stdout` has what must be answered.
+//! `message` reads one line. `whole`, `pieces`, `cuts`, `looks` and `lines` name ways in which a stream comes to its reader.
+//!
+//! After these come `batch` or `ready`, the position, the calls, the most messages of a call, the first and the last message, and
+//! further text.
 #![tactic(auto)]
 
 mod case;

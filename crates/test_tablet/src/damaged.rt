@@ -23,7 +23,7 @@ pub(crate) fn prefixes(alloc: Global, bars: &str) -> Result<String, Fail> {
     Ok(format!(in alloc; "{truncated} of {}", bytes.len())?)
 }
 
-// What an `x` in the place of a byte of the line of this number makes of the text.
+// `-` is a bad line, `=` another copy, `k` a key that the next line's does not rise above, `t` a truncated text.
 fn mark(fault: Option<CopyTextFault>, line: u64) -> char {
     match fault {
         None => '=',
@@ -34,8 +34,7 @@ fn mark(fault: Option<CopyTextFault>, line: u64) -> char {
     }
 }
 
-/// Under each byte what an `x` in its place makes of the text: `-` a bad line, `=` another copy, `k` a key that the next line's does
-/// not rise above, `t` a text that is truncated.
+/// A mark for each byte: what an `x` in its place makes of the text.
 pub(crate) fn crossed(alloc: Global, bars: &str) -> Result<String, Fail> {
     let mut text = lines(alloc, bars)?.into_bytes();
     let mut marks = String::new(alloc);

@@ -1,7 +1,6 @@
-//! Cases of `pn_tablet`, a line each: `layout` of some bounds, `copy` of some lines, and `faults`, which shows fault texts.
+//! Cases of `pn_tablet`, a line each: `layout`, `copy` and `faults`, and damaged copies by `prefixes` and `crossed`.
 //!
-//! A newline of a copy is written `|`, and `~3~ab~` is `ababab`. `prefixes` counts the truncated ones, and `crossed` puts an
-//! `x` in the place of each byte. `stdout` has what must be answered.
+//! A newline of a copy is written `|`, and `~3~ab~` is `ababab`. `stdout` has what must be answered.
 #![tactic(auto)]
 
 mod copies;
