@@ -18,9 +18,9 @@ use test_kit::{deliveries, layout};
 use test_kit_live::{closed, found, hand_back, opened, take_out};
 
 /// How often the reader reads, and how many rounds the writer takes before it looks up, twice.
-const READS: u64 = 20_000;
+const READS: u64 = 5_000;
 
-const ROUNDS: u64 = 200;
+const ROUNDS: u64 = 100;
 
 /// What the writer does: rounds from a number on; and first the loss of the tablet, which adopts the copy between them.
 #[derive(Drop)]
@@ -145,11 +145,11 @@ fn race<R: Threads + Wait + Sync>(
     let is_steady = beside(rt, live, reader, &mut rounds, &key);
     let mut recovery = Work {
         alloc,
-        first: 401,
+        first: 201,
         copy: reader.copy(0, &Marks::new(alloc)).ok(),
     };
     let recovers = beside(rt, live, reader, &mut recovery, &key);
-    reader.learn(take_round(rt, alloc, live, 801)?);
+    reader.learn(take_round(rt, alloc, live, 401)?);
     match found(reader, &key) {
         Ok(Some((version, 1))) if is_steady && recovers => Some(version.number),
         _ => None,
@@ -166,6 +166,6 @@ fn no_version_falls_and_no_front_is_missed(rt: HostRuntime) -> Result<(), Fail> 
         hand_back(&live, &mut readers, reader);
     }
     closed(&rt, live, readers)?;
-    assert_eq!(rt; last, Some(801));
+    assert_eq!(rt; last, Some(401));
     Ok(())
 }

@@ -20,7 +20,8 @@ pub(crate) fn page_reply(
         Ok(page) => keys_text(alloc, &page)?,
         Err(fault) => format!(in alloc; "{fault}")?,
     };
-    write!(text, ", rooms {} {}", view.rooms[0], view.rooms[1])?;
+    let (first, second) = (view.rooms[0], view.rooms[1]);
+    write!(text, ", rooms {first} {second}")?;
     Ok(text)
 }
 
