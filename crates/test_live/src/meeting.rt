@@ -36,7 +36,7 @@ impl Gate for Meeting {
     }
 }
 
-fn meeting() -> Meeting {
+fn new_meeting() -> Meeting {
     Meeting {
         entered: [AtomicU64::new(0), AtomicU64::new(0)],
         missed: AtomicBool::new(false),
@@ -64,7 +64,7 @@ fn live<R: Threads + Wait + Sync>(
 
 #[test]
 fn two_workers_meet(rt: HostRuntime) {
-    let gate = meeting();
+    let gate = new_meeting();
     assert_eq!(rt; plain(&rt, rt.alloc(), &gate), Some(2));
     assert!(rt; !gate.missed.load(Ordering::SeqCst));
 }
@@ -74,7 +74,7 @@ fn two_workers_meet_in_a_live_region(rt: HostRuntime) -> Result<(), Fail> {
     let alloc = rt.alloc();
     let layout = layout(alloc, "m").ok_or(NoMemory)?;
     let (mut region, _readers) = opened(&rt, alloc, layout, 1)?;
-    let gate = meeting();
+    let gate = new_meeting();
     let changed = live(&rt, alloc, &mut region, &gate);
     closed(&rt, region, Vec::new(alloc))?;
     assert_eq!(rt; changed, Some(2));
