@@ -29,7 +29,7 @@ fn tablets(
     let mut tablets = Vec::new(alloc);
     for number in 0..layout.count() {
         let (from, to) = layout.range(number);
-        tablets.push(tablet(alloc, Range::copied(from, to)?, words)?)?;
+        tablets.push(tablet(alloc, Range::from_ends(from, to)?, words)?)?;
     }
     if is_lost {
         lose_last(&mut tablets)?;
