@@ -57,13 +57,14 @@ bench: build
 bench-beside: build
 	@bench/beside "$(PROGRAM)"
 
-# Brings the built program to each of its ends, talks to its sessions, refuses each of its allocations in turn, and compares its
-# replies to random scripts with those of a plain, slow program.
+# Brings the built program to each of its ends, talks to its sessions, compares what they are shown with scripts, refuses each of its
+# allocations in turn, and compares its replies to random scripts with those of a plain, slow program.
 checks: build
 	@cd crates/test_rows && rt run < stdin > /dev/null
 	@cd crates/test_live && rt test > /dev/null
 	@checks/exit-statuses "$(PROGRAM)"
 	@checks/sessions "$(PROGRAM)"
+	@checks/live-copies "$(PROGRAM)"
 	@checks/out-of-memory "$(PROGRAM)" "$(LIVE)"
 	@checks/random-scripts "$(SCRIPTS)" --scripts 3000
 
