@@ -193,4 +193,6 @@ version_required (Some d) required is = value_required d required (ok_or_ok (req
 
 pub query_there : (o : Option Data) (query : QueryValue) → query_at o ≡ Ok query → (d : Data) × (o ≡ Some d) × (query_shape_in d ≡ Ok query) × IsTrue (is_query query)
 query_there None query is = absurd (cc)
-query_there (Some d) query is = (d, refl, query_found d query is)
+query_there (Some d) query is =
+    let found = query_found d query is in
+    (d, refl, found.0, found.1)
