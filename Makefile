@@ -9,7 +9,7 @@ SCRIPT ?= crates/pnuts/stdin
 
 # The proved, optimised program that `make build` leaves, and the one that measures live regions.
 PROGRAM := crates/pnuts/out/pnuts
-STEPS := crates/pn_bench/out/pn_bench
+BENCH := crates/pn_bench/out/pn_bench
 
 # The tests of live regions, of which one is run with each of its allocations refused.
 LIVE := crates/test_live/out/test_live_tests
@@ -47,23 +47,24 @@ build: toolchain
 # Measures the built program, and prints tables.
 bench: build
 	@cd crates/pn_bench && rt run -- $$(< args) < stdin > /dev/null
-	@bench/run "$(PROGRAM)"
-	@bench/rounds "$(PROGRAM)"
-	@bench/sessions "$(PROGRAM)"
-	@bench/live "$(STEPS)"
-	@bench/instructions "$(PROGRAM)"
+	@status=0; \
+	for it in run rounds sessions; do "bench/$$it" "$(PROGRAM)" || status=1; done; \
+	bench/live "$(BENCH)" || status=1; \
+	bench/instructions "$(PROGRAM)"; \
+	exit $$status
 
 # Measures the built program beside a plain Rust program and a server that does nothing.
 bench-beside: build
 	@bench/beside "$(PROGRAM)"
 
-# Brings the built program to each of its ends, talks to its sessions, refuses each of its allocations in turn, and compares its
-# replies to random scripts with those of a plain, slow program.
+# Brings the built program to each of its ends, talks to its sessions, compares what they are shown with scripts, refuses each of its
+# allocations in turn, and compares its replies to random scripts with those of a plain, slow program.
 checks: build
 	@cd crates/test_rows && rt run < stdin > /dev/null
 	@cd crates/test_live && rt test > /dev/null
 	@checks/exit-statuses "$(PROGRAM)"
 	@checks/sessions "$(PROGRAM)"
+	@checks/live-copies "$(PROGRAM)"
 	@checks/out-of-memory "$(PROGRAM)" "$(LIVE)"
 	@checks/random-scripts "$(SCRIPTS)" --scripts 3000
 

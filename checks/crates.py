@@ -5,7 +5,7 @@ TOP = pathlib.Path(__file__).resolve().parent.parent
 
 
 def crates_below(crate: str) -> dict[str, str]:
-    """A crate and those that it stands on, each with its line of crates.txt."""
+    """A crate and those below it, each with its line of crates.txt."""
     lines = [line for line in (TOP / "crates.txt").read_text().splitlines() if ":" in line and not line.startswith("#")]
     known = {line.partition(":")[0].split()[0]: line for line in lines}
     found: dict[str, str] = {}

@@ -5,7 +5,7 @@ import random
 from random_values import (BATCH, KEYS, MANY_KEYS, bent, bounds_of, damaged, image, line_of, no_json, query)
 from slow import Region, greater, text_of
 from slow_copies import read_copy
-from slow_lines import Refused, command_of
+from slow_lines import Json, Refused, command_of
 
 TABLETS = [1, 1, 2, 3, 3, 64]
 WORKERS = [1, 2, 3, 5, 16]
@@ -14,36 +14,37 @@ LONG = 0.005
 
 
 class Talk:
-    """What is said to one region, with the slow program's replies."""
+    """The lines for one region, with the slow program's replies."""
 
-    def __init__(self, rng, name, bounds):
+    def __init__(self, rng: random.Random, name: str, bounds: list[str]) -> None:
         self.rng, self.name, self.bounds = rng, name, bounds
         self.region = Region(bounds)
-        self.lines, self.told = [], []
+        self.lines: list[bytes] = []
+        self.answers: list[str] = []
         self.workers = rng.choice(WORKERS)
 
-    def head(self):
+    def head(self) -> bytes:
         return " ".join(["##", self.name, str(self.workers), *self.bounds]).encode() + b"\n"
 
-    def script(self):
+    def script(self) -> bytes:
         return self.head() + b"".join(line + b"\n" for line in self.lines)
 
-    def replies(self):
-        return self.head() + "".join([*self.told, self.region.end()]).encode()
+    def replies(self) -> bytes:
+        return self.head() + "".join([*self.answers, self.region.end()]).encode()
 
-    def say(self, line):
+    def say(self, line: bytes) -> str:
         self.lines.append(line)
-        self.told.append(self.region.feed(line))
-        return self.told[-1]
+        self.answers.append(self.region.feed(line))
+        return self.answers[-1]
 
-    def ask(self, **command):
+    def ask(self, **command: Json) -> str:
         return self.say(line_of(self.rng, command))
 
 
 class Meeting:
     """The talks of one seed. Those that are to be stored have no long line, and do not show 64 tablets."""
 
-    def __init__(self, seed, events, is_stored=False):
+    def __init__(self, seed: int, events: int, is_stored: bool = False) -> None:
         self.rng = rng = random.Random(seed)
         tablets = rng.choice(TABLETS)
         self.keys = MANY_KEYS if tablets == 64 else KEYS
@@ -54,7 +55,8 @@ class Meeting:
         self.first = Talk(rng, f"random-{seed}-first", bounds)
         self.second = Talk(rng, f"random-{seed}-second", bounds)
         self.again = Talk(rng, f"random-{seed}-again", bounds_of(rng, 64 if self.keys is MANY_KEYS else rng.randrange(1, 4)))
-        self.accepted, self.copies = [], []
+        self.accepted: list[Json] = []
+        self.copies: list[list[bytes]] = []
         self.closing = 0
         for _ in range(events):
             self.go_on()
@@ -62,21 +64,21 @@ class Meeting:
         self.take_again()
         self.close()
 
-    def talks(self):
+    def talks(self) -> list[Talk]:
         return [self.first, self.second, self.again]
 
-    def batch(self, name, mark, is_gap):
-        behind = mark + self.rng.randrange(1, 4) if is_gap else max(mark - self.rng.choice([0, 0, 1, 3]), 0)
-        images = self.streams[name][behind:behind + self.rng.randrange(5)]
-        return {"first": behind + 1, "images": images, "stream": name}
+    def batch(self, name: str, mark: int, is_gap: bool) -> Json:
+        before = mark + self.rng.randrange(1, 4) if is_gap else max(mark - self.rng.choice([0, 0, 1, 3]), 0)
+        images = self.streams[name][before:before + self.rng.randrange(5)]
+        return {"first": before + 1, "images": images, "stream": name}
 
-    def deliver(self, talk, batches):
+    def deliver(self, talk: Talk, batches: list[Json]) -> None:
         reply = talk.ask(do="deliver", batches=batches)
         if talk is self.first and "changed" in reply:
             self.accepted += [image for batch in batches for image in batch["images"]]
 
-    def take(self, talk):
-        """A round of what stands next, or before, or too far ahead."""
+    def take(self, talk: Talk) -> None:
+        """A round of what comes next, or came before, or is too far ahead."""
         names = list(self.streams)
         if talk is self.second and len(names) > 16:
             names = list(self.first.region.marks)
@@ -88,10 +90,10 @@ class Meeting:
             batches.append(batch)
         self.deliver(talk, batches or [BATCH])
 
-    def tablet(self):
+    def tablet(self) -> int:
         return self.rng.randrange(len(self.first.region.tablets))
 
-    def copied(self, tablet, need):
+    def copied(self, tablet: int, need: Json) -> list[bytes]:
         """The lines of a copy of the second region, which are kept; none where it is refused."""
         members = {} if need is None and self.rng.random() < 0.5 else {"need": need}
         head, *lines = self.second.ask(do="copy", tablet=tablet, **members).rstrip("\n").split("\n")
@@ -99,7 +101,7 @@ class Meeting:
             self.copies.append([line.encode() for line in lines])
         return [line.encode() for line in lines]
 
-    def adopt(self, lines):
+    def adopt(self, lines: list[bytes]) -> None:
         talk = self.first
         talk.ask(do="adopt", lines=len(lines))
         for line in lines:
@@ -107,8 +109,8 @@ class Meeting:
         if "adopted" in reply:
             self.accepted += read_copy(b"".join(line + b"\n" for line in lines))["images"]
 
-    def recover(self):
-        """The first region adopts what the second copies, or an older copy, or is given one with a fault."""
+    def recover(self) -> None:
+        """The first region adopts what the second copies, or an older copy, or one with a fault."""
         tablet, rng = self.tablet(), self.rng
         lost = [number for number, other in enumerate(self.first.region.tablets) if other.need is not None]
         tablet = rng.choice(lost) if lost and rng.random() < 0.7 else tablet
@@ -123,7 +125,7 @@ class Meeting:
         if rng.random() < 0.7:
             self.adopt(lines)
 
-    def adopt_damaged(self, lines):
+    def adopt_damaged(self, lines: list[bytes]) -> None:
         """Adopts lines where these are no copy, or one of another range: a false copy would part the regions."""
         try:
             ends = read_copy(b"".join(line + b"\n" for line in lines))["ends"]
@@ -132,18 +134,19 @@ class Meeting:
         if lines and ends not in [tablet.ends for tablet in self.first.region.tablets]:
             self.adopt(lines)
 
-    def walk(self, talk, asked, most=6):
+    def walk(self, talk: Talk, asked: Json, most: int = 6) -> list[bytes]:
+        """Scans page after page."""
         lines = []
         while asked is not None and len(lines) < most:
             lines.append(line_of(self.rng, {"do": "scan", "query": asked}))
             asked = json.loads(talk.say(lines[-1])).get("next")
         return lines
 
-    def read(self, talk):
+    def read(self, talk: Talk) -> str:
         members = self.rng.choice([{}, {"version": None}, {"version": [1, self.rng.randrange(6)]}])
         return talk.ask(do="read", key=self.rng.choice(self.keys), **members)
 
-    def question(self, talk):
+    def question(self, talk: Talk) -> Json:
         """A command that changes nothing."""
         rng, last = self.rng, len(talk.region.log)
         return rng.choice([
@@ -155,8 +158,8 @@ class Meeting:
             lambda: {"do": "scan", "query": query(rng, self.keys)},
         ])()
 
-    def fault(self, talk):
-        """A line that is refused as it stands, or one that only asks."""
+    def fault(self, talk: Talk) -> str | None:
+        """A line that is refused, or one that only asks."""
         rng = self.rng
         if rng.random() < 0.2:
             return talk.say(no_json(rng, {"do": "marks"}, rng.random() < 10 * self.long))
@@ -171,7 +174,8 @@ class Meeting:
         if word not in ("adopt", "deliver", "lose"):
             talk.say(line)
 
-    def ask(self, talk):
+    def ask(self, talk: Talk) -> None:
+        """Something that changes nothing."""
         way = self.rng.randrange(7)
         if way == 0:
             self.read(talk)
@@ -182,7 +186,8 @@ class Meeting:
         else:
             talk.ask(**self.question(talk))
 
-    def go_on(self):
+    def go_on(self) -> None:
+        """One event: a round, a loss or a recovery, and some questions."""
         way = self.rng.randrange(8)
         if way <= 2:
             self.take(self.first)
@@ -195,7 +200,7 @@ class Meeting:
         for talk in (self.first, self.first, self.second):
             self.ask(talk)
 
-    def settle(self):
+    def settle(self) -> None:
         """Brings all that the first region took into the second, and the copies of this into what the first has lost."""
         last = self.first.region.marks
         for tablet in self.first.region.tablets:
@@ -210,7 +215,7 @@ class Meeting:
         if self.long:
             self.first.ask(do="tablets")
 
-    def take_again(self):
+    def take_again(self) -> None:
         """The third region takes all images that the first accepted: in another order, in other batches, and some twice."""
         rng, marks = self.rng, {"x": 0, "y": 0}
         images = rng.sample(self.accepted, len(self.accepted))
@@ -224,7 +229,7 @@ class Meeting:
                 images = images[some:]
             self.deliver(self.again, batches)
 
-    def close(self):
+    def close(self) -> None:
         """Asks the first and the third region the same, which they have to answer alike."""
         lines = [text_of({"do": "get", "keys": self.keys[at:at + 100]}).encode() for at in range(0, len(self.keys), 100)]
         for line in lines:

@@ -1,7 +1,9 @@
 """Random keys, images, queries and faults, from small pools so that they often meet."""
 import json
+import random
 
 from slow import text_of
+from slow_lines import Json
 
 KEYS = ["a", "a ", "aa", "b", "c", "ca", "d", "\u00e9", "\uffff", "\U0001f600"]
 MANY_KEYS = [f"{number:03}" for number in range(128)]
@@ -26,26 +28,27 @@ NO_JSON = [b"", b" ", b"\r", b"nul", b"NaN", b"-Infinity", b"{'do':'marks'}", b'
            b"\xff", b"\xef\xbb\xbf{}", b'"\\ud800"', b"[01]", b'"a\tb"', b'{"do":"marks"}\0', b"[" * 200 + b"]" * 200, b"+1", b".5", b'"\\x"']
 
 
-def bounds_of(rng, tablets):
-    """Bounds that divide the keys into so many tablets."""
+def bounds_of(rng: random.Random, tablets: int) -> list[str]:
+    """Bounds that divide the keys into a count of tablets."""
     if tablets == 64:
         return MANY_KEYS[2::2]
     return sorted(rng.sample([key for key in [*KEYS, "bb", "cb"] if " " not in key], tablets - 1))
 
 
-def image(rng, keys, place):
+def image(rng: random.Random, keys: list[str], place: int) -> Json:
+    """An image at a place of a stream: later ones have later versions, mostly."""
     number = place // 8 + rng.randrange(3)
     generation = rng.choice([1, 1, 1, 1, 1, 1, 2, 10**15])
     body = {"deleted": True} if rng.random() < 0.2 else {"fields": rng.choice(FIELDS)}
     return {**body, "key": rng.choice(keys), "master": rng.choice(MASTERS), "version": [generation, number]}
 
 
-def condition(rng):
+def condition(rng: random.Random) -> list[str]:
     word, field = rng.choice(["has", "eq", "lt", "gt", "prefix"]), rng.choice(["u", "v", "v", "w"])
     return [word, field] if word == "has" else [word, field, rng.choice(["", "x", "xy", "y", "\u00e9"])]
 
 
-def query(rng, keys):
+def query(rng: random.Random, keys: list[str]) -> Json:
     asked = {}
     for name in ("from", "to", "after"):
         if rng.random() < 0.3:
@@ -57,7 +60,7 @@ def query(rng, keys):
     return asked
 
 
-def places_of(value):
+def places_of(value: Json) -> list[tuple[Json, str | int]]:
     """Each place within a value: what holds it, and by which name or number."""
     names = list(value) if isinstance(value, dict) else range(len(value)) if isinstance(value, list) else []
     places = []
@@ -66,7 +69,7 @@ def places_of(value):
     return places
 
 
-def bent(rng, value):
+def bent(rng: random.Random, value: Json) -> Json:
     """A value in which one part is another, is missing, or is one too many."""
     value = json.loads(json.dumps(value))
     holder, name = rng.choice(places_of(value))
@@ -84,15 +87,16 @@ def bent(rng, value):
     return value
 
 
-def no_json(rng, value, is_long):
-    """Bytes that are no JSON, or too long a line."""
+def no_json(rng: random.Random, value: Json, is_long: bool) -> bytes:
+    """Bytes that are no JSON, or a line that is too long."""
     text = text_of(value).encode()
     if is_long:
         return text.ljust(rng.choice(LENGTHS))
     return rng.choice([text[:rng.randrange(len(text))], text + b"x", *NO_JSON])
 
 
-def shuffled(rng, value):
+def shuffled(rng: random.Random, value: Json) -> Json:
+    """The same value, with members in another order."""
     if isinstance(value, list):
         return [shuffled(rng, item) for item in value]
     if not isinstance(value, dict):
@@ -101,7 +105,7 @@ def shuffled(rng, value):
     return {name: shuffled(rng, value[name]) for name in names}
 
 
-def line_of(rng, value):
+def line_of(rng: random.Random, value: Json) -> bytes:
     """A value as a line: mostly compact, and otherwise with white space, escapes and members in another order."""
     if rng.random() < 0.85:
         return text_of(value).encode()
@@ -109,7 +113,7 @@ def line_of(rng, value):
     return f" {text}\r".encode()
 
 
-def damaged(rng, lines, is_long):
+def damaged(rng: random.Random, lines: list[bytes], is_long: bool) -> list[bytes]:
     """The lines of a copy with one fault, or with one that is none."""
     lines = list(lines)
     place, other = rng.randrange(len(lines)), rng.randrange(len(lines))

@@ -1,8 +1,8 @@
-"""A library that is loaded before a program, and refuses one of its allocations."""
+"""A library that is loaded with a program, and refuses one of its allocations."""
 import os
 import subprocess
 
-# Loaded before the program: the allocation of the given number answers that there is no memory.
+# The allocation of the number REFUSED answers that there is no memory, and leaves a file at REFUSED_MARK.
 SHIM = r"""
 #define _GNU_SOURCE
 #include <dlfcn.h>
@@ -33,8 +33,8 @@ void *realloc(void *old, size_t size) {
 """
 
 
-def refusing_library(folder):
-    """The path of the library, which is built in a folder (needs a C compiler)."""
+def refusing_library(folder: str) -> str:
+    """Builds the library in a folder by the C compiler, and answers its path."""
     source, library = os.path.join(folder, "shim.c"), os.path.join(folder, "shim.so")
     with open(source, "w") as file:
         file.write(SHIM)
@@ -42,6 +42,6 @@ def refusing_library(folder):
     return library
 
 
-def environment(library, number, mark):
-    """In which the allocation of the given number is refused, which leaves a file at the mark."""
+def environment(library: str, number: int, mark: str) -> dict[str, str]:
+    """An environment in which the allocation of a number is refused, which leaves a file at the mark."""
     return {**os.environ, "LD_PRELOAD": library, "REFUSED": str(number), "REFUSED_MARK": mark}

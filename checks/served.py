@@ -4,24 +4,34 @@ import os
 import socket
 import subprocess
 import time
+from collections.abc import Sequence
+from typing import IO
 
 SECONDS = 60
 
+Json = dict[str, object]
 
-def image(key, number, text, master="w", generation=1):
+
+def same(what: str, found: object, wanted: object) -> None:
+    """Fails where something is not as it should be."""
+    if found != wanted:
+        raise AssertionError(f"{what}: {str(found)[:300]}, not {str(wanted)[:300]}")
+
+
+def image(key: str, number: int, text: str, master: str = "w", generation: int = 1) -> Json:
     return {"fields": {"v": text}, "key": key, "master": master, "version": [generation, number]}
 
 
-def message(at, key, number, text):
+def message(at: int, key: str, number: int, text: str) -> bytes:
     return json.dumps({"at": at, "image": image(key, number, text)}).encode() + b"\n"
 
 
-def row_of(key, number, text):
+def row_of(key: str, number: int, text: str) -> Json:
     contents = [{"fields": {"v": text}, "master": "w"}]
     return {"contents": contents, "key": key, "state": "one", "version": [1, number]}
 
 
-def free_port():
+def free_port() -> int:
     with socket.socket() as probe:
         probe.bind(("127.0.0.1", 0))
         return probe.getsockname()[1]
@@ -30,26 +40,34 @@ def free_port():
 class Served:
     """A program that serves sessions; its streams are pairs of a name and a path."""
 
-    def __init__(self, program, streams, sessions=1, words=(), environment=None, port=None):
+    def __init__(
+        self,
+        program: str,
+        streams: Sequence[tuple[str, str | os.PathLike[str]]],
+        sessions: int = 1,
+        words: Sequence[str] = (),
+        environment: dict[str, str] | None = None,
+        port: int | None = None,
+    ) -> None:
         self.port = port or free_port()
         named = [f"{name}={path}" for name, path in streams]
         line = [program, "serve", "--sessions", str(sessions), "--port", str(self.port), *words, *named]
         pipe = subprocess.PIPE
         self.process = subprocess.Popen(line, stdin=subprocess.DEVNULL, stdout=pipe, stderr=pipe, env=environment)
 
-    def __enter__(self):
+    def __enter__(self) -> "Served":
         self.first = self.process.stdout.readline()
         return self
 
-    def __exit__(self, *_):
+    def __exit__(self, *_: object) -> None:
         if self.process.poll() is None:
             self.process.kill()
         self.process.wait()
         self.process.stdout.close()
         self.process.stderr.close()
 
-    def end(self):
-        """Its status, and what it wrote behind its first line on both outputs."""
+    def end(self) -> tuple[int, bytes, bytes]:
+        """Its status, and what it wrote after its first line on both outputs."""
         shown, said = self.process.communicate(timeout=SECONDS)
         return self.process.returncode, shown, said
 
@@ -57,34 +75,35 @@ class Served:
 class Client:
     """A session over loopback, one JSON value a line."""
 
-    def __init__(self, port):
+    def __init__(self, port: int) -> None:
         self.socket = socket.create_connection(("127.0.0.1", port), timeout=SECONDS)
         self.socket.setsockopt(socket.IPPROTO_TCP, socket.TCP_NODELAY, 1)
         self.replies = self.socket.makefile("rb")
 
-    def __enter__(self):
+    def __enter__(self) -> "Client":
         return self
 
-    def __exit__(self, *_):
+    def __exit__(self, *_: object) -> None:
         self.replies.close()
         self.socket.close()
 
-    def send(self, text):
+    def send(self, text: bytes) -> None:
         self.socket.sendall(text)
 
-    def reply(self):
+    def reply(self) -> bytes:
         return self.replies.readline()
 
-    def ask(self, command):
+    def ask(self, command: Json) -> Json:
         self.send(json.dumps(command).encode() + b"\n")
         return json.loads(self.reply())
 
-    def read(self, key):
+    def read(self, key: str) -> Json:
         return self.ask({"do": "read", "key": key})
 
-    def wait_for(self, key, row):
-        """Asks until the row is there; what was shown before it, each once."""
-        shown, last = [], time.monotonic() + SECONDS
+    def wait_for(self, key: str, row: Json) -> list[Json | None]:
+        """Asks until the row is there. What was shown before it, each once."""
+        last = time.monotonic() + SECONDS
+        shown: list[Json | None] = []
         while time.monotonic() < last:
             got = self.read(key)["row"]
             if got == row:
@@ -93,13 +112,13 @@ class Client:
                 shown.append(got)
         raise TimeoutError(f"{key} was not served: {shown}")
 
-    def end(self):
-        """Sends no more, and gives what is still replied."""
+    def end(self) -> bytes:
+        """Sends no more, and answers what is still replied."""
         self.socket.shutdown(socket.SHUT_WR)
         return self.replies.read()
 
 
-def written(folder, name, messages):
+def written(folder: str, name: str, messages: bytes) -> str:
     """A file of messages in a folder."""
     path = os.path.join(folder, name)
     with open(path, "wb") as file:
@@ -107,7 +126,7 @@ def written(folder, name, messages):
     return path
 
 
-def fifo(folder, name):
+def fifo(folder: str, name: str) -> tuple[str, IO[bytes]]:
     """A named pipe in a folder, open for writing: a program that opens it to read does not wait for a writer."""
     path = os.path.join(folder, name)
     os.mkfifo(path)

@@ -1,43 +1,50 @@
-"""A plain, slow region: each tablet keeps all images that it was given in one list, and finds each record by going through it.
+"""A plain, slow region: each tablet keeps all images in one list, and finds each record by going through it.
 
 docs/formats.md says what it has to reply.
 """
 import json
+from collections.abc import Callable
 
-from slow_copies import content_of, is_in, read_copy
-from slow_lines import MAX_LINE_BYTES, Refused, command_of
+from slow_copies import Content, Ends, content_of, is_in, read_copy
+from slow_lines import MAX_LINE_BYTES, Json, Refused, command_of
 
 MAX_STREAMS = 16
-MAX_TOLD = 1_024
+MAX_NOTICES = 1_024
 
 
-def text_of(value):
+Marks = dict[str, int]
+Record = tuple[list[int], list[Content]]
+Change = tuple[str, list[int] | None, list[int]]
+
+
+def text_of(value: Json) -> str:
     return json.dumps(value, ensure_ascii=False, separators=(",", ":"), sort_keys=True)
 
 
-def greater(one, other):
-    return {name: max(one.get(name, 0), other.get(name, 0)) for name in {*one, *other}}
+def greater(one: Marks, other: Marks) -> Marks:
+    """Of each stream the greater position."""
+    return {name: max(one.get(name, 0), other.get(name, 0)) for name in sorted({*one, *other})}
 
 
-def shortfall(has, wanted):
+def shortfall(has: Marks, wanted: Marks) -> tuple[str, int, int] | None:
     """The first stream that falls short, with both positions."""
     short = [(name, has.get(name, 0), at) for name, at in sorted(wanted.items()) if has.get(name, 0) < at]
     return short[0] if short else None
 
 
-def shown_content(content):
+def shown_content(content: Content) -> Json:
     kind, fields, master = content
     return {"deleted": True, "master": master} if kind == 0 else {"fields": dict(fields), "master": master}
 
 
-def row_of(key, record):
+def row_of(key: str, record: Record) -> Json:
     version, contents = record
     kinds = {kind for kind, _, _ in contents}
     state = "deleted" if kinds == {0} else "one" if len(contents) == 1 else "conflict"
     return {"contents": list(map(shown_content, contents)), "key": key, "state": state, "version": version}
 
 
-def is_met(condition, fields):
+def is_met(condition: list[str], fields: dict[str, str]) -> bool:
     word, field, *text = condition
     if field not in fields:
         return False
@@ -46,16 +53,21 @@ def is_met(condition, fields):
             "gt": lambda: has > text[0], "prefix": lambda: has.startswith(text[0])}[word]()
 
 
-def is_shown(record, conditions):
+def is_shown(record: Record, conditions: list[list[str]]) -> bool:
     return any(kind == 1 and all(is_met(condition, dict(fields)) for condition in conditions)
                for kind, fields, _ in record[1])
 
 
 class Tablet:
-    def __init__(self, ends):
-        self.ends, self.images, self.cover, self.need = ends, [], {}, None
+    """The images of a range of keys. What it needs is None where it serves."""
 
-    def records(self):
+    def __init__(self, ends: Ends) -> None:
+        self.ends = ends
+        self.images: list[Json] = []
+        self.cover: Marks = {}
+        self.need: Marks | None = None
+
+    def records(self) -> dict[str, Record]:
         """Each key with the greatest version that came, and the contents that came with it."""
         records = {}
         for key in sorted({image["key"] for image in self.images}):
@@ -68,8 +80,8 @@ class Tablet:
             records[key] = version, sorted(contents)
         return records
 
-    def take(self, images, marks):
-        """Joins the images of its range, and answers which records are others than before."""
+    def take(self, images: list[Json], marks: Marks) -> list[Change]:
+        """Joins the images of its range, and answers which records changed."""
         before = self.records()
         self.images += [image for image in images if is_in(self.ends, image["key"])]
         self.cover = greater(self.cover, marks)
@@ -77,7 +89,7 @@ class Tablet:
         return [(key, before[key][0] if key in before else None, after[key][0])
                 for key in after if before.get(key) != after[key]]
 
-    def copy_lines(self):
+    def copy_lines(self) -> list[str]:
         images = [{"key": key, "version": record[0], **shown_content(content)}
                   for key, record in self.records().items() for content in record[1]]
         marks = [{"at": at, "stream": name} for name, at in sorted(self.cover.items())]
@@ -86,25 +98,26 @@ class Tablet:
 
 
 class Region:
-    """A region that is given line after line, and answers each by its replies."""
+    """Answers line after line."""
 
-    def __init__(self, bounds):
+    def __init__(self, bounds: list[str]) -> None:
         self.tablets = [Tablet(ends) for ends in zip([None, *bounds], [*bounds, None])]
-        self.marks, self.log = {}, []
+        self.marks: Marks = {}
+        self.log: list[Change | None] = []
         self.announced, self.text = 0, b""
 
-    def tablet_of(self, key):
+    def tablet_of(self, key: str) -> int:
         return next(number for number, tablet in enumerate(self.tablets) if is_in(tablet.ends, key))
 
-    def serving(self, number):
+    def serving(self, number: int) -> Tablet:
         if self.tablets[number].need is not None:
             raise Refused("recovering", tablet=number)
         return self.tablets[number]
 
-    def record(self, key):
+    def record(self, key: str) -> Record | None:
         return self.serving(self.tablet_of(key)).records().get(key)
 
-    def deliver(self, batches):
+    def deliver(self, batches: list[Json]) -> Json:
         marks, images = dict(self.marks), []
         for batch in batches:
             first, stream, last = batch["first"], batch["stream"], batch["first"] + len(batch["images"]) - 1
@@ -122,18 +135,18 @@ class Region:
         self.log += changes
         return {"changed": len(changes)}
 
-    def read(self, key, version=None):
+    def read(self, key: str, version: list[int] | None = None) -> Json:
         record = self.record(key)
         has = None if record is None else record[0]
         if version is not None and (has is None or has < version):
             raise Refused("behind", has=has)
         return {"row": None if record is None else row_of(key, record)}
 
-    def get(self, keys):
+    def get(self, keys: list[str]) -> Json:
         records = [(key, self.record(key)) for key in keys]
         return {"rows": [None if record is None else row_of(key, record) for key, record in records]}
 
-    def scan(self, query):
+    def scan(self, query: Json) -> Json:
         start, end, after = query.get("from"), query.get("to"), query.get("after")
         limit, conditions = query.get("limit", 100), query.get("where", [])
         first = max(self.tablet_of(key) for key in (start or "\0", after or "\0"))
@@ -150,20 +163,20 @@ class Region:
         ends = {"after": rows[-1]["key"], "from": start, "to": end}
         return {"next": {**ends, "limit": limit, "where": conditions}, "rows": rows}
 
-    def lose(self, number):
+    def lose(self, number: int) -> Json:
         tablet = self.tablets[number]
         tablet.images, tablet.need = [], dict(tablet.cover)
         self.log.append(None)
         return {"lost": number}
 
-    def copy(self, number, need):
+    def copy(self, number: int, need: Marks) -> list[str]:
         tablet = self.serving(number)
         short = shortfall(tablet.cover, need)
         if short:
             raise Refused("behind", stream=short[0], has=short[1], wanted=short[2])
         return tablet.copy_lines()
 
-    def adopt(self, text):
+    def adopt(self, text: bytes) -> Json:
         copy = read_copy(text)
         numbers = [number for number, tablet in enumerate(self.tablets) if tablet.ends == copy["ends"]]
         if not numbers:
@@ -177,20 +190,20 @@ class Region:
         self.log.append(None)
         return {"adopted": numbers[0]}
 
-    def notices(self, since):
+    def notices(self, since: int) -> Json:
         last = len(self.log)
-        told = self.log[since:]
-        if since > last or len(told) > MAX_TOLD or None in told:
+        new = self.log[since:]
+        if since > last or len(new) > MAX_NOTICES or None in new:
             return {"missed": True, "next": last}
         notices = [{"after": after, "before": before, "key": key, "number": number}
-                   for number, (key, before, after) in enumerate(told, since + 1)]
+                   for number, (key, before, after) in enumerate(new, since + 1)]
         return {"next": last, "notices": notices}
 
-    def shown_tablets(self):
+    def shown_tablets(self) -> Json:
         return {"tablets": [{"cover": tablet.cover, "from": tablet.ends[0], "need": tablet.need, "to": tablet.ends[1]}
                             for tablet in self.tablets]}
 
-    def reply_to(self, line):
+    def reply_to(self, line: bytes) -> str | None:
         command = command_of(line, len(self.tablets))
         word = command["do"]
         if word == "adopt":
@@ -206,35 +219,25 @@ class Region:
             "read": lambda: self.read(command["key"], command.get("version")), "tablets": self.shown_tablets,
         }[word]())
 
-    def end_text(self):
+    def end_text(self) -> str:
         self.announced = 0
         return text_of(self.adopt(self.text))
 
-    def answered(self, answer, *given):
+    def answered(self, answer: Callable[..., str | None], *given: bytes) -> str:
         try:
             reply = answer(*given)
         except Refused as refused:
             reply = text_of(refused.reply)
         return "" if reply is None else reply + "\n"
 
-    def feed(self, line, newline=b"\n"):
-        """The reply to a line, with its newline; nothing where a command goes on."""
+    def feed(self, line: bytes, newline: bytes = b"\n") -> str:
+        """The reply to a line, with its newline, or nothing where a command goes on."""
         if not self.announced:
             return self.answered(self.reply_to, line)
         self.text += line[:MAX_LINE_BYTES + 1] + newline
         self.announced -= 1
         return "" if self.announced else self.answered(self.end_text)
 
-    def end(self):
+    def end(self) -> str:
         """The reply that is left at the end of the input."""
         return self.answered(self.end_text) if self.announced else ""
-
-
-def replies(bounds, script):
-    """All replies to a script, as bytes."""
-    region = Region(bounds)
-    *lines, rest = script.split(b"\n")
-    told = [region.feed(line) for line in lines]
-    if rest:
-        told.append(region.feed(rest, b""))
-    return "".join([*told, region.end()]).encode()

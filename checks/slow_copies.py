@@ -1,20 +1,25 @@
 """Copies of tablets, read line by line from their text."""
-from slow_lines import (MAX_LINE_BYTES, Refused, check_image_range, check_image_shape, is_key, is_name, is_position,
+from slow_lines import (MAX_LINE_BYTES, Json, Refused, check_image_range, check_image_shape, is_key, is_name, is_position,
                         is_whole, json_of)
 
 
-def content_of(image):
-    """What an image says beside key and version. Contents compare in content order."""
+# Whether it has fields, then these and the master: contents compare in content order.
+Content = tuple[int, list[tuple[str, str]], str]
+Ends = tuple[str | None, str | None]
+
+
+def content_of(image: Json) -> Content:
+    """What an image says beside key and version."""
     if "deleted" in image:
         return (0, [], image["master"])
     return (1, sorted(image["fields"].items()), image["master"])
 
 
-def is_end(value):
+def is_end(value: Json) -> bool:
     return value is None or isinstance(value, str) and is_key(value)
 
 
-def range_of(value):
+def range_of(value: Json) -> Ends | None:
     """The two ends that a head names. None: it is no head."""
     if not isinstance(value, dict) or set(value) != {"copy", "from", "to"}:
         return None
@@ -26,17 +31,17 @@ def range_of(value):
     return start, end
 
 
-def is_mark(value):
+def is_mark(value: Json) -> bool:
     if not isinstance(value, dict) or set(value) != {"at", "stream"} or not isinstance(value["stream"], str):
         return False
     return is_whole(value["at"]) and is_position(value["at"]) and is_name(value["stream"])
 
 
-def is_last(value):
+def is_last(value: Json) -> bool:
     return isinstance(value, dict) and set(value) == {"end"} and is_whole(value["end"])
 
 
-def is_image(value):
+def is_image(value: Json) -> bool:
     try:
         check_image_shape(value)
         check_image_range(value)
@@ -45,18 +50,18 @@ def is_image(value):
     return True
 
 
-def is_in(ends, key):
+def is_in(ends: Ends, key: str) -> bool:
     start, end = ends
     return (start is None or start <= key) and (end is None or key < end)
 
 
-def is_behind(image, last):
+def is_after(image: Json, last: Json) -> bool:
     if image["key"] == last["key"]:
         return image["version"] == last["version"] and content_of(last) < content_of(image)
     return last["key"] < image["key"]
 
 
-def value_of(line, number):
+def value_of(line: bytes, number: int) -> Json:
     if len(line) <= MAX_LINE_BYTES:
         try:
             return json_of(line)
@@ -65,8 +70,8 @@ def value_of(line, number):
     raise Refused("bad-line", line=number)
 
 
-def check_line(value, number, copy):
-    """Refuses a line that is neither a mark nor an image, or may not stand here."""
+def check_line(value: Json, number: int, copy: Json) -> None:
+    """Refuses a line that is neither a mark nor an image, or comes at a wrong place."""
     if not (is_mark(value) and not copy["images"]) and not is_image(value):
         raise Refused("bad-line", line=number)
     if "at" in value:
@@ -74,11 +79,11 @@ def check_line(value, number, copy):
             raise Refused("not-rising", line=number)
     elif not is_in(copy["ends"], value["key"]):
         raise Refused("outside-range", line=number)
-    elif copy["images"] and not is_behind(value, copy["images"][-1]):
+    elif copy["images"] and not is_after(value, copy["images"][-1]):
         raise Refused("not-rising", line=number)
 
 
-def read_copy(text):
+def read_copy(text: bytes) -> Json:
     """The range, the marks and the images of a copy."""
     *lines, rest = text.split(b"\n")
     if not lines:

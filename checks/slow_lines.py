@@ -1,6 +1,8 @@
 """Lines as commands, images and queries, or as refusals, in the order of the tables of docs/formats.md."""
 import json
 import re
+from collections.abc import Iterable
+from typing import Any
 
 MAX_LINE_BYTES = 65_536
 LAST = 10**15
@@ -15,38 +17,42 @@ MEMBERS = {
 }
 
 
+# A value as `json` reads it.
+Json = Any
+
+
 class Refused(Exception):
     """The reply to a line that is refused."""
 
-    def __init__(self, error, **members):
+    def __init__(self, error: str, **members: Json) -> None:
         super().__init__(error)
         self.reply = {"error": error, **members}
 
 
-def shaped(is_right, member):
+def shaped(is_right: bool, member: str) -> None:
     if not is_right:
         raise Refused("bad-shape", member=member)
 
 
-def ranged(is_right, member):
+def ranged(is_right: bool, member: str) -> None:
     if not is_right:
         raise Refused("out-of-range", member=member)
 
 
-def whole_or_other(digits):
+def whole_or_other(digits: str) -> int | float:
     return int(digits) if digits.isdigit() and int(digits) < 2**64 else float(digits)
 
 
-def no_constant(word):
+def no_constant(word: str) -> None:
     raise ValueError(word)
 
 
-def depth_of(value):
+def depth_of(value: Json) -> int:
     inner = value.values() if isinstance(value, dict) else value if isinstance(value, list) else None
     return 0 if inner is None else 1 + max(map(depth_of, inner), default=0)
 
 
-def json_of(line):
+def json_of(line: bytes) -> Json:
     """The JSON value of a line, in which a number that is no whole number is a float."""
     try:
         value = json.loads(line.decode(), parse_int=whole_or_other, parse_constant=no_constant)
@@ -58,39 +64,39 @@ def json_of(line):
     return value
 
 
-def size(text):
+def size(text: str) -> int:
     return len(text.encode())
 
 
-def is_whole(value):
+def is_whole(value: Json) -> bool:
     return type(value) is int
 
 
-def is_key(text):
+def is_key(text: str) -> bool:
     return 1 <= size(text) <= 256
 
 
-def is_name(text):
+def is_name(text: str) -> bool:
     return NAME.match(text) is not None
 
 
-def is_position(number):
+def is_position(number: int) -> bool:
     return 1 <= number <= LAST
 
 
-def is_pair(value):
+def is_pair(value: Json) -> bool:
     return isinstance(value, list) and len(value) == 2 and all(map(is_whole, value))
 
 
-def is_version(pair):
+def is_version(pair: list[int]) -> bool:
     return 1 <= pair[0] <= LAST and pair[1] <= LAST
 
 
-def are_texts(values):
+def are_texts(values: Iterable[Json]) -> bool:
     return all(isinstance(value, str) for value in values)
 
 
-def check_image_shape(value):
+def check_image_shape(value: Json) -> None:
     shaped(isinstance(value, dict), "whole")
     shaped(value.get("deleted", True) is True, "deleted")
     shaped(("deleted" in value) != ("fields" in value), "fields")
@@ -102,20 +108,20 @@ def check_image_shape(value):
     shaped(set(value) <= IMAGE_NAMES, "other")
 
 
-def are_fields(fields):
+def are_fields(fields: dict[str, str]) -> bool:
     total = sum(size(name) + size(text) for name, text in fields.items())
     names = all(1 <= size(name) <= 64 for name in fields)
     return len(fields) <= 64 and total <= 8_192 and names and all(size(text) <= 4_096 for text in fields.values())
 
 
-def check_image_range(image):
+def check_image_range(image: Json) -> None:
     ranged(are_fields(image.get("fields", {})), "fields")
     ranged(is_key(image["key"]), "key")
     ranged(is_name(image["master"]), "master")
     ranged(is_version(image["version"]), "version")
 
 
-def check_batch_shape(batch):
+def check_batch_shape(batch: Json) -> None:
     shaped(isinstance(batch, dict), "batches")
     shaped(is_whole(batch.get("first")), "first")
     shaped(isinstance(batch.get("images"), list), "images")
@@ -125,7 +131,7 @@ def check_batch_shape(batch):
     shaped(set(batch) <= {"first", "images", "stream"}, "other")
 
 
-def check_batch_range(batch):
+def check_batch_range(batch: Json) -> None:
     last = batch["first"] + max(len(batch["images"]) - 1, 0)
     ranged(is_position(batch["first"]) and is_position(last), "first")
     for image in batch["images"]:
@@ -133,13 +139,13 @@ def check_batch_range(batch):
     ranged(is_name(batch["stream"]), "stream")
 
 
-def is_condition(value):
+def is_condition(value: Json) -> bool:
     if not isinstance(value, list) or not value or not are_texts(value):
         return False
     return len(value) == (2 if value[0] == "has" else 3) and value[0] in ("has", "eq", "lt", "gt", "prefix")
 
 
-def is_query_shape(value):
+def is_query_shape(value: Json) -> bool:
     if not isinstance(value, dict) or not set(value) <= QUERY_NAMES:
         return False
     ends = all(value.get(name) is None or isinstance(value[name], str) for name in ("after", "from", "to"))
@@ -148,7 +154,7 @@ def is_query_shape(value):
             and all(map(is_condition, conditions)))
 
 
-def is_query(value):
+def is_query(value: Json) -> bool:
     conditions = value.get("where", [])
     ends = all(value.get(name) is None or is_key(value[name]) for name in ("after", "from", "to"))
     fields = all(1 <= size(condition[1]) <= 64 for condition in conditions)
@@ -156,15 +162,15 @@ def is_query(value):
     return ends and 1 <= value.get("limit", 100) <= 1_000 and len(conditions) <= 16 and fields and texts
 
 
-def is_need_shape(value):
+def is_need_shape(value: Json) -> bool:
     return value is None or isinstance(value, dict) and all(map(is_whole, value.values()))
 
 
-def is_need(value):
+def is_need(value: Json) -> bool:
     return all(is_name(name) and is_position(at) for name, at in (value or {}).items())
 
 
-def check_shape(member, value):
+def check_shape(member: str, value: Json) -> None:
     if member == "batches":
         shaped(isinstance(value, list), member)
         for batch in value:
@@ -183,7 +189,7 @@ def check_shape(member, value):
         shaped(is_whole(value), member)
 
 
-def check_range(member, value, tablets):
+def check_range(member: str, value: Json, tablets: int) -> None:
     if member == "batches":
         ranged(1 <= len(value) <= 64, member)
         for batch in value:
@@ -206,8 +212,8 @@ def check_range(member, value, tablets):
         ranged(1 <= value <= 1_000_000, member)
 
 
-def command_of(line, tablets):
-    """The members of the command that a line is, in a region of so many tablets."""
+def command_of(line: bytes, tablets: int) -> Json:
+    """The members of the command of a line, for a region with a count of tablets."""
     if len(line) > MAX_LINE_BYTES:
         raise Refused("too-long")
     value = json_of(line)

@@ -201,7 +201,7 @@ def copied(tablet: int, lines: list[str]) -> Step:
     return Step([f'{{"do":"copy","tablet":{tablet}}}'], [f'{{"lines":{len(lines)}}}', *lines])
 
 
-def told(line: str, reply: str) -> Step:
+def answered(line: str, reply: str) -> Step:
     return Step([line], [reply])
 
 
@@ -212,7 +212,7 @@ def read(key: str) -> str:
 NOTICES_MISSED = [
     round_of(deliver(1, image("k")), change("k")),
     round_of(deliver(1, image("k"))),
-    told(SCAN, page(row("k"))),
+    answered(SCAN, page(row("k"))),
     *notices(0),
     lose(0),
     *notices(1, 2, 3),
@@ -233,23 +233,23 @@ LOWER, UPPER = copy_of("null", '"m"', 3, image("l")), copy_of('"m"', "null", 3, 
 BOTH_LOST = [
     round_of(deliver(1, image("l"), image("m"), image("n")), change("l"), change("m"), change("n")),
     *notices(0),
-    told(SCAN, page(*map(row, "lmn"))),
+    answered(SCAN, page(*map(row, "lmn"))),
     copied(0, LOWER),
     copied(1, UPPER),
     lose(1),
-    told(read("m"), '{"error":"recovering","tablet":1}'),
-    told(read("l"), f'{{"row":{row("l")}}}'),
+    answered(read("m"), '{"error":"recovering","tablet":1}'),
+    answered(read("l"), f'{{"row":{row("l")}}}'),
     lose(0),
-    told(SCAN, '{"error":"recovering","tablet":0}'),
-    told(TABLETS, halves((3, '{"east":3}'), (3, '{"east":3}'))),
+    answered(SCAN, '{"error":"recovering","tablet":0}'),
+    answered(TABLETS, halves((3, '{"east":3}'), (3, '{"east":3}'))),
     *notices(3, 5),
     round_of(deliver(4, image("a"), image("n", 1, "y")), change("a"), change("n", 1)),
     *notices(3, 5),
     adopt(0, LOWER),
-    told('{"do":"get","keys":["l","a"]}', f'{{"rows":[{row("l")},{row("a")}]}}'),
-    told(SCAN, '{"error":"recovering","tablet":1}'),
+    answered('{"do":"get","keys":["l","a"]}', f'{{"rows":[{row("l")},{row("a")}]}}'),
+    answered(SCAN, '{"error":"recovering","tablet":1}'),
     adopt(1, UPPER),
-    told(SCAN, page(*map(row, "alm"), row("n", 1, "y"))),
-    told(TABLETS, halves((5, "null"), (5, "null"))),
+    answered(SCAN, page(*map(row, "alm"), row("n", 1, "y"))),
+    answered(TABLETS, halves((5, "null"), (5, "null"))),
     *notices(7, 9),
 ]

@@ -19,7 +19,7 @@ MOST_OF_REASON = 160
 
 
 class Place(NamedTuple):
-    """A function: its module, its name, and the type of the impl that it stands in, or nothing."""
+    """A function: its module, its name, and the type of its impl, or nothing."""
 
     module: str
     name: str
@@ -81,7 +81,7 @@ class Edit:
     def files(self) -> set[str]:
         return {it.path for it in self.changes}
 
-    def stands_alone(self) -> bool:
+    def is_alone(self) -> bool:
         """Whether it changes more than bodies of functions."""
         return None in self.places
 
@@ -142,9 +142,9 @@ def edits_of(crate: str) -> list[Edit]:
 
 def in_bundles(edits: list[Edit], most: int) -> list[list[Edit]]:
     """Puts edits together that change bodies of different functions, each into the first bundle that it fits."""
-    alone = [[it] for it in edits if it.stands_alone()]
+    alone = [[it] for it in edits if it.is_alone()]
     shared: list[list[Edit]] = []
-    for edit in (it for it in edits if not it.stands_alone()):
+    for edit in (it for it in edits if not it.is_alone()):
         fits = lambda bundle: len(bundle) < most and not any(edit.places & other.places for other in bundle)
         bundle = next(filter(fits, shared), None)
         if bundle is None:

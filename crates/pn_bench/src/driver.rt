@@ -120,8 +120,9 @@ fn next_deliveries<S: Source + Drop>(
     count: usize,
 ) -> Option<Vec<Delivery>> {
     let mut deliveries = Vec::new(alloc);
+    let in_each = count.min(IN_BATCH).max(1);
     for _ in 0..count.div_ceil(IN_BATCH) {
-        let delivery = stream.next_batch(count.min(IN_BATCH)).ok()?;
+        let delivery = stream.next_batch(in_each).ok()?;
         deliveries.push(delivery).ok()?;
     }
     Some(deliveries)

@@ -35,9 +35,10 @@ impl Store {
 
     /// Ends the region.
     pub fn close<R: Wait>(self, rt: &R, alloc: Global) -> Result<(), NoMemory> {
-        if let Store::Live(live) = self {
-            let _region = live.close(rt, Vec::new(alloc))?;
-        }
+        let _region = match self {
+            Store::Plain(region) => region,
+            Store::Live(live) => live.close(rt, Vec::new(alloc))?,
+        };
         Ok(())
     }
 }

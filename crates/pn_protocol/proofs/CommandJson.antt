@@ -173,7 +173,7 @@ module _ (ms : Members) (order : InOrder (object ms)) where
       let same : scan query.0 ≡ command = cc in
       let there = query_there (get_member (codes "query") ms) query.0 (as_ok _ _ query.0 query.1) in
       let whole = named_object (names_of Scan) (member (codes "do") (string (codes "scan")) (member (codes "query") there.0 no_members)) named.1 tt refl (says, (there.1, tt)) in
-      subst (λ c. IsCommand (object ms) c) same (record { value = (there.0, there.2.shape, whole); limits = there.2.limits })
+      subst (λ c. IsCommand (object ms) c) same (record { value = (there.0, there.2, whole); limits = there.3 })
 
   tablets_found : Found Tablets
   unfolding alone_in
@@ -242,7 +242,7 @@ says_again d (read key required) (others, about, says) keeps =
     let parts = and_parts (is_key key) (may_be_required required) keeps in
     ap command_in says ∙ read_again key required others about parts.0 (version_again required parts.1)
 says_again d (scan query) (asked, shape, says) keeps =
-    ap command_in says ∙ scan_again asked query (query_again asked query (record { shape = shape; limits = keeps }))
+    ap command_in says ∙ scan_again asked query (query_again asked query (shape, keeps))
 says_again d tablets says keeps = ap command_in says
 
 pub command_again : (d : Data) (command : CommandValue) → IsCommand d command → command_in d ≡ Ok command

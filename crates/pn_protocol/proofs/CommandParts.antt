@@ -1,5 +1,5 @@
 -- What the parts of a command are read of, and what is read of them.
-use Rattle.std.proofs.Common.{◌≡◌, inl, inr, ℕ, List, [], ◌∷◌, map, codes, Bool, true, false, cond, Option, Some, None, option_map, Result, Ok, bytes_eq, refl, sym, ap, ◌∙◌, subst}
+use Rattle.std.proofs.Common.{◌≡◌, inl, inr, ℕ, List, [], ◌∷◌, map, codes, Bool, true, false, cond, Option, Some, None, option_map, Result, Ok, IsTrue, bytes_eq, refl, sym, ap, ◌∙◌, subst}
 use Rattle.std.proofs.lemmas.Slice.Eq.{bytes_eq-Decides}
 use Rattle.std.specs.Option.{ok_or}
 use Rattle.serde_json.specs.Data.{Data, null, boolean, number, string, array, object, unsigned, Items, no_items, item, Members, no_members, member}
@@ -12,8 +12,8 @@ use Rattle.pn_record.specs.declared.image.Image.{Image}
 use Rattle.pn_json.proofs.Inverses.{bind_ok, guard_ok, map_some, ok_or_ok, and_then_some, string_from_as_str, array_from_as_array, object_from_as_object, number_from_whole}
 use Rattle.pn_record.proofs.Inverses.{version_from_numbers}
 use Rattle.pn_scan.proofs.SameQuery.{query_found}
-use Rattle.pn_scan.specs.Queries.{QueryValue}
-use Rattle.pn_scan.specs.QueryGrammar.{IsQuery}
+use Rattle.pn_scan.specs.Queries.{QueryValue, is_query}
+use Rattle.pn_scan.specs.QueryReading.{shape_in as query_shape_in}
 use Rattle.pn_record.specs.Sets.{Stamp}
 use Rattle.pn_json.proofs.LookUps.{Rise}
 use Rattle.pn_record.proofs.ReadImages.{shape_in_order}
@@ -191,6 +191,8 @@ version_required None None is = inl refl
 version_required None (Some version) is = absurd (cc)
 version_required (Some d) required is = value_required d required (ok_or_ok (required_in d) (BadShape Version) required is)
 
-pub query_there : (o : Option Data) (query : QueryValue) → query_at o ≡ Ok query → (d : Data) × (o ≡ Some d) × IsQuery d query
+pub query_there : (o : Option Data) (query : QueryValue) → query_at o ≡ Ok query → (d : Data) × (o ≡ Some d) × (query_shape_in d ≡ Ok query) × IsTrue (is_query query)
 query_there None query is = absurd (cc)
-query_there (Some d) query is = (d, refl, query_found d query is)
+query_there (Some d) query is =
+    let found = query_found d query is in
+    (d, refl, found.0, found.1)

@@ -1,10 +1,10 @@
 -- What an event does to each tablet.
-use Rattle.std.proofs.Common.{◌≡◌, ℕ, zero, suc, List, [], ◌∷◌, map, slice_get, Option, None, Some, Result, Ok, Err, refl, sym, ap, ◌∙◌, subst, arith, ◌⊎◌, inl, inr}
+use Rattle.std.proofs.Common.{◌≡◌, ℕ, zero, suc, List, [], ◌∷◌, slice_get, Option, None, Some, Result, Ok, Err, refl, sym, ap, ◌∙◌, subst, arith, ◌⊎◌, inl, inr}
 use Rattle.std.specs.Result.{result_map_both}
 use Rattle.pn_region.specs.Events.{RegionEvent, round, half_round, loss, adoption, LeadsTo, AllLeadTo}
 use Rattle.pn_region.specs.Recovery.{stepping, lacks, adopting_unless, adopting}
 use Rattle.pn_region.specs.Rounds as rounds
-use Rattle.pn_region.proofs.Common.{Positions, Reaches, Image, DeliveryValue, TabletCopyValue, Ends, stepped, TabletStateValue, Short, TabletOp, Lose, Adopt, all_stepped, AreOldOrStepped, all_images, join_in, ranges, new_marks, stepped_at, tablet_for, adopting_by, RegionValue, AreTabletsOf, IsRegion, RoundFault}
+use Rattle.pn_region.proofs.Common.{Positions, Reaches, DeliveryValue, TabletCopyValue, stepped, TabletStateValue, Short, TabletOp, Lose, Adopt, AreOldOrStepped, all_images, ranges, new_marks, stepped_at, tablet_for, adopting_by, RegionValue, IsRegion, RoundFault}
 use Rattle.pn_region.proofs.HalfRounds.{half_so, half_taken_is}
 use Rattle.pn_region.proofs.OneTablet.{stepping_is}
 use Rattle.pn_region.proofs.RoundEnds.{taken_half}

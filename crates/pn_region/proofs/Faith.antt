@@ -10,7 +10,7 @@ use Rattle.pn_tablet.specs.Steps.{taking}
 use Rattle.pn_apply.proofs.ReduceLaws.{range_joins, same_in}
 use Rattle.pn_tablet.specs.Needs.{needed}
 use Rattle.pn_region.specs.Rounds as rounds
-use Rattle.pn_region.proofs.Common.{Ok, Err, MatchResult, Positions, Reaches, position_of, raised, Image, spell, SameImages, Entries, table_of, DeliveryValue, BrokerRecord, up_to, AreHonest, Bounds, Ends, stepped, TabletStateValue, empty_tablet, all_stepped, AreOldOrStepped, all_images, images_in, join_in, ranges, IsFaithful, AreFaithful, HasImages, new_marks, last_position, RegionValue, IsTabletOf, AreTabletsOf, IsRegion, new_region, joins, IsHalfTaken}
+use Rattle.pn_region.proofs.Common.{Ok, Err, MatchResult, Positions, Reaches, position_of, raised, Image, spell, SameImages, Entries, table_of, DeliveryValue, BrokerRecord, up_to, AreHonest, Bounds, Ends, stepped, TabletStateValue, empty_tablet, AreOldOrStepped, all_images, images_in, join_in, ranges, IsFaithful, AreFaithful, HasImages, new_marks, last_position, RegionValue, IsTabletOf, AreTabletsOf, IsRegion, new_region, joins, IsHalfTaken}
 use Rattle.pn_region.proofs.MarkLaws.{not_skipped, next_has_last, next_reaches}
 use Rattle.pn_region.proofs.RoundEnds.{taken_half}
 use Rattle.pn_region.proofs.RoundSteps.{is_taken}

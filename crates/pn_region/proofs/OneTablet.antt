@@ -16,7 +16,7 @@ use Rattle.pn_tablet.proofs.TabletLaws.{adopted}
 use Rattle.pn_apply.proofs.ReduceLaws.{cells_inside}
 use Rattle.pn_region.specs.Recovery.{stepping, lacks, adopting_unless, adopting}
 use Rattle.pn_region.specs.Regions.{IsLawfulRegion}
-use Rattle.pn_region.proofs.Common.{Positions, Image, spell, Entries, table_of, TabletCopyValue, lacking, Ends, in_range, lost, step, after_step, stepped, TabletStateValue, empty_tablet, lie_in, same_range, Short, TabletOp, Join, Lose, Adopt, stepped_at, tablet_for, adopting_by, RegionValue, IsTabletOf, AreTabletsOf, IsRegion}
+use Rattle.pn_region.proofs.Common.{Positions, Image, spell, Entries, table_of, TabletCopyValue, lacking, Ends, in_range, step, after_step, stepped, TabletStateValue, empty_tablet, lie_in, same_range, Short, TabletOp, Join, Lose, Adopt, stepped_at, tablet_for, adopting_by, RegionValue, IsTabletOf, AreTabletsOf, IsRegion}
 use Rattle.pn_region.proofs.NewRegion.{tablet_at}
 use Rattle.pn_region.proofs.RoundSteps.{old_reached}
 use Rattle.pn_region.proofs.Spelled.{spelled_inside}

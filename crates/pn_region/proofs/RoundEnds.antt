@@ -1,6 +1,6 @@
 -- What a round leaves, by how it ended.
 use Rattle.std.proofs.Common.{◌≡◌, ◌≤◌, List, length, refl, sym, ap, ◌∙◌, subst, arith}
-use Rattle.std.specs.Prelude.{IfErr, IsErrAnd}
+use Rattle.std.specs.Prelude.{IfErr}
 use Rattle.std.specs.Result.{result_map_both}
 use Rattle.pn_apply.specs.Applying.{AreJoinsIn, IsSomeOld}
 use Rattle.pn_apply.proofs.Prefixes.{all_old, old_or_stepped, stepped_whole}

@@ -1,8 +1,8 @@
 -- Parts that fit are a region.
 use Rattle.std.proofs.Common.{List, [], ◌∷◌, ◌++◌, subst}
 use Rattle.std.specs.Prelude.{IsTrue}
-use Rattle.pn_region.specs.Regions.{IsPartOf, ArePartsOf}
-use Rattle.pn_region.proofs.Common.{AllByRecursion, Positions, Ends, TabletStateValue, lie_in, IsSound, IsTabletOf, AreTabletsOf}
+use Rattle.pn_region.specs.Regions.{ArePartsOf}
+use Rattle.pn_region.proofs.Common.{AllByRecursion, Positions, Ends, TabletStateValue, lie_in, IsSound, AreTabletsOf}
 
 pub all_more : {A : Type 0} (P : A → Type 0) (xs : List A) (x : A) → AllByRecursion P xs → P x → AllByRecursion P (xs ++ x ∷ [])
 all_more P [] x all one = (one, tt)

@@ -16,7 +16,7 @@ use Rattle.pn_tablet.proofs.LayoutFacts.{tablet_of-cons, first_tablet as none_na
 use Rattle.pn_scan.specs.Queries.{QueryValue}
 use Rattle.pn_scan.specs.Candidates.{first_tablet, begins_before, is_candidate, candidates}
 
--- the numbers of a range that stand between two others
+-- the numbers of a range between two others
 abbrev Between : (ℕ → Bool) → ℕ → ℕ → ℕ → ℕ → Type 0
 Between p first end a n = (t : ℕ) → a ≤ t → t < a + n → p t ≡ (nat_le first t && nat_lt t end)
 
@@ -83,15 +83,15 @@ below_other bound next key rises above =
       | Greater ↦ λ p low. ap is_lt (nat_list_cmp_total.trans bound next key rises (nat_list_cmp_total.antisymm next key ∙ ap ordering_reverse p))
     ] refl above
 
-behind : (bounds : Bounds) (m : ℕ) (bound key : List ℕ) → IsStrictlySortedBy bytes_cmp bounds → slice_get bounds m ≡ Some bound → suc m < tablet_of bounds key → is_below bound key ≡ true
+bound_before : (bounds : Bounds) (m : ℕ) (bound key : List ℕ) → IsStrictlySortedBy bytes_cmp bounds → slice_get bounds m ≡ Some bound → suc m < tablet_of bounds key → is_below bound key ≡ true
 unfolding IsStrictlySortedBy
-behind [] m bound key rising there before = absurd (omega (arith, before))
-behind (first ∷ []) zero bound key rising there before =
+bound_before [] m bound key rising there before = absurd (omega (arith, before))
+bound_before (first ∷ []) zero bound key rising there before =
     elim (is_below key first) as (λ b. is_below key first ≡ b → is_below bound key ≡ true) [
       | true ↦ λ p. absurd (omega (arith, before, zero_named first [] key rising p))
       | false ↦ λ p. absurd (omega (arith, before, one_named first [] key p))
     ] refl
-behind (first ∷ next ∷ bounds) zero bound key rising there before =
+bound_before (first ∷ next ∷ bounds) zero bound key rising there before =
     elim (is_below key first) as (λ b. is_below key first ≡ b → is_below bound key ≡ true) [
       | true ↦ λ p. absurd (omega (arith, before, zero_named first (next ∷ bounds) key rising p))
       | false ↦ λ p. elim (is_below key next) as (λ b. is_below key next ≡ b → is_below bound key ≡ true) [
@@ -99,10 +99,10 @@ behind (first ∷ next ∷ bounds) zero bound key rising there before =
         | false ↦ λ q. let same : first ≡ bound = cc in ap (λ k. is_below k key) (sym same) ∙ below_other first next key rising.0.0 q
       ] refl
     ] refl
-behind (first ∷ bounds) (suc m) bound key rising there before =
+bound_before (first ∷ bounds) (suc m) bound key rising there before =
     elim (is_below key first) as (λ b. is_below key first ≡ b → is_below bound key ≡ true) [
       | true ↦ λ p. absurd (omega (arith, before, zero_named first bounds key rising p))
-      | false ↦ λ p. behind bounds m bound key rising.1 there (omega (arith, before, one_named first bounds key p))
+      | false ↦ λ p. bound_before bounds m bound key rising.1 there (omega (arith, before, one_named first bounds key p))
     ] refl
 
 ahead : (bounds : Bounds) (m : ℕ) (bound key : List ℕ) → IsStrictlySortedBy bytes_cmp bounds → slice_get bounds m ≡ Some bound → tablet_of bounds key < suc m → is_below bound key ≡ false
@@ -144,7 +144,7 @@ by_bound (first ∷ bounds) (suc m) key b inside each = by_bound bounds m key b 
 
 begins_lower : (bounds : Bounds) (key : List ℕ) (t : ℕ) → IsStrictlySortedBy bytes_cmp bounds → t ≤ length bounds → t < tablet_of bounds key → begins_before (tablet_ends bounds t).0 (Some key) ≡ true
 begins_lower bounds key zero rising within lower = refl
-begins_lower bounds key (suc m) rising within lower = by_bound bounds m key true (omega arith) (λ bound there. behind bounds m bound key rising there lower)
+begins_lower bounds key (suc m) rising within lower = by_bound bounds m key true (omega arith) (λ bound there. bound_before bounds m bound key rising there lower)
 
 begins_above : (bounds : Bounds) (key : List ℕ) (t : ℕ) → IsStrictlySortedBy bytes_cmp bounds → t ≤ length bounds → tablet_of bounds key < t → begins_before (tablet_ends bounds t).0 (Some key) ≡ false
 begins_above bounds key zero rising within above = absurd (omega arith)

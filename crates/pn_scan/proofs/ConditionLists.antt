@@ -1,16 +1,20 @@
 -- The conditions among values, where all values are conditions.
-use Rattle.std.proofs.Common.{◌≡◌, ℕ, ◌+◌, ◌<◌, ◌≤◌, Bool, true, false, ◌&&◌, nat_le, IsTrue, List, [], ◌∷◌, ◌++◌, length, Option, Some, None, is_some, Result, Ok, Err, refl, sym, ap, ◌∙◌, arith}
+use Rattle.std.proofs.Common.{◌≡◌, ℕ, zero, suc, ◌+◌, ◌<◌, ◌≤◌, get_or, take, Bool, true, false, ◌&&◌, nat_le, IsTrue, List, [], ◌∷◌, ◌++◌, length, Option, Some, None, is_some, option_map, IfSome, map, Result, Ok, Err, refl, sym, ap, ◌∙◌, arith}
 use Rattle.std.specs.List.{list_all}
 use Rattle.std.specs.Option.{ok_or, option_to_list}
+use Rattle.std.proofs.Math.Bool.{and_assoc, and-true}
 use Rattle.std.proofs.lemmas.Bool.{and_parts}
-use Rattle.std.proofs.lemmas.Bool.Decides.{nat_tests}
+use Rattle.std.proofs.lemmas.Grind.{flat_map-append}
+use Rattle.std.proofs.lemmas.List.{take_all, take_more}
 use Rattle.serde_json.specs.View.{view, items_view}
 use Rattle.serde_json.specs.declared.value.Value.{Value}
 use Rattle.pn_json.specs.Answers.{◌>>=◌}
 use Rattle.pn_json.specs.Members.{each_in}
-use Rattle.pn_scan.specs.Queries.{ConditionValue, is_condition, max_conditions}
+use Rattle.pn_scan.specs.Queries.{ConditionValue, is_condition, max_conditions, shown_condition}
+use Rattle.pn_scan.specs.declared.condition.Condition.{Condition}
+use Rattle.std.specs.Option.{MatchOption}
 use Rattle.pn_scan.specs.ConditionReading.{condition_in, condition_at}
-use Rattle.pn_scan.specs.QueryShapes.{conditions_among, are_conditions, may_fit}
+use Rattle.pn_scan.specs.UncheckedQueries.{conditions_among, are_conditions, may_fit, all_fit, AreParsed}
 use Rattle.pn_scan.specs.declared.query_fault.QueryFault.{QueryFault}
 use Rattle.pn_scan.specs.declared.query_fault.QueryFault.TheVariants.{BadShape}
 
@@ -48,7 +52,7 @@ count_step : (o : Option ConditionValue) (cs : List ConditionValue) (n : ℕ) �
 count_step None cs n some is = absurd (cc)
 count_step (Some c) cs n some is = omega (arith, is)
 
--- there are as many conditions as values
+-- the number of conditions is that of values
 pub all_counted : (values : List Value) → are_conditions values ≡ true → length (conditions_among values) ≡ length values
 all_counted [] all = refl
 all_counted (value ∷ values) all =
@@ -60,27 +64,77 @@ fit_step None cs = refl
 fit_step (Some c) cs = refl
 
 -- the conditions fit where each value does, if it is one
-pub all_fitting : (values : List Value) → list_all (λ value. may_fit (condition_in (view value))) values ≡ list_all is_condition (conditions_among values)
+all_fitting : (values : List Value) → all_fit values ≡ list_all is_condition (conditions_among values)
 all_fitting [] = refl
 all_fitting (value ∷ values) = ap (λ b. may_fit (spelled value) && b) (all_fitting values) ∙ fit_step (spelled value) (conditions_among values)
 
-le_true : (m n : ℕ) → m ≤ n → nat_le m n ≡ true
-le_true m n few = grind (arith, nat_tests)
+-- values that are all conditions keep the limits where the conditions do
+pub fit_all : (values : List Value) (among : List ConditionValue) → among ≡ conditions_among values → IsTrue (are_conditions values)
+    → (nat_le (length values) max_conditions && all_fit values) ≡ (nat_le (length among) max_conditions && list_all is_condition among)
+fit_all values among is all =
+    let count : length values ≡ length among = sym (ap length is ∙ all_counted values all) in
+    let fit : all_fit values ≡ list_all is_condition among = all_fitting values ∙ ap (list_all is_condition) (sym is) in
+    λ i. nat_le (count i) max_conditions && fit i
 
-le_false : (m n : ℕ) → n < m → nat_le m n ≡ false
-le_false m n many = grind (arith, nat_tests)
+-- ---- one value after another
 
--- at most so many values, which all fit
-pub fit_all : (values : List Value) (among : List ConditionValue) (fit : Bool) → among ≡ conditions_among values → IsTrue (are_conditions values) → length values ≤ max_conditions
-    → fit ≡ list_all (λ value. may_fit (condition_in (view value))) values → fit ≡ (nat_le (length among) max_conditions && list_all is_condition among)
-fit_all values among fit is all few fitting =
-    let few_among : nat_le (length among) max_conditions ≡ true = ap (λ cs. nat_le (length cs) max_conditions) is ∙ ap (λ n. nat_le n max_conditions) (all_counted values all) ∙ le_true (length values) max_conditions few in
-    fitting ∙ all_fitting values ∙ ap (list_all is_condition) (sym is) ∙ ap (λ b. b && list_all is_condition among) (sym few_among)
+none_after : (b : Bool) → (b && false) ≡ false
+none_after true = refl
+none_after false = refl
 
--- too many values
-pub too_many : (values : List Value) (among : List ConditionValue) → among ≡ conditions_among values → IsTrue (are_conditions values) → max_conditions < length values
-    → nat_le (length values) max_conditions ≡ (nat_le (length among) max_conditions && list_all is_condition among)
-too_many values among is all many =
-    let none : nat_le (length values) max_conditions ≡ false = le_false (length values) max_conditions many in
-    let none_among : nat_le (length among) max_conditions ≡ false = ap (λ cs. nat_le (length cs) max_conditions) is ∙ ap (λ n. nat_le n max_conditions) (all_counted values all) ∙ none in
-    none ∙ ap (λ b. b && list_all is_condition among) (sym none_among)
+-- where one value is no condition, not all are
+pub bad_at : (values : List Value) (i : ℕ) (value : Value) → value ≡ get_or values i value → i < length values → spelled value ≡ None → are_conditions values ≡ false
+bad_at [] i value is within none = absurd (omega (arith, within))
+bad_at (first ∷ values) zero value is within none = ap (λ o. is_some o && are_conditions values) (ap spelled (sym is) ∙ none)
+bad_at (first ∷ values) (suc i) value is within none = ap (λ b. is_some (spelled first) && b) (bad_at values i value is (omega (arith, within)) none) ∙ none_after (is_some (spelled first))
+
+all_push : (test : Value → Bool) (values : List Value) (value : Value) → list_all test (values ++ value ∷ []) ≡ (list_all test values && test value)
+all_push test [] value = and-true (test value)
+all_push test (first ∷ values) value = ap (λ b. test first && b) (all_push test values value) ∙ sym (and_assoc (test first) (list_all test values) (test value))
+
+module _ (values : List Value) (i : ℕ) (value : Value) (c : ConditionValue) (here : value ≡ get_or values i value) (within : i < length values) (is : spelled value ≡ Some c) where
+  more : take (i + 1) values ≡ take i values ++ value ∷ []
+  more = take_more values i value within ∙ ap (λ v. take i values ++ v ∷ []) (sym here)
+
+  -- one value more is a condition
+  pub one_more_is : are_conditions (take i values) ≡ true → are_conditions (take (i + 1) values) ≡ true
+  one_more_is all =
+      ap are_conditions more ∙ all_push (λ v. is_some (spelled v)) (take i values) value
+      ∙ (λ j. all j && is_some (is j))
+
+  -- which keeps its limits, or not
+  pub one_more_fits : (few fit : Bool) → fit ≡ (few && all_fit (take i values)) → (fit && is_condition c) ≡ (few && all_fit (take (i + 1) values))
+  one_more_fits few fit so_far =
+      ap (λ b. b && is_condition c) so_far ∙ and_assoc few (all_fit (take i values)) (is_condition c)
+      ∙ ap (λ o. few && (all_fit (take i values) && may_fit o)) (sym is)
+      ∙ ap (λ b. few && b) (sym (ap all_fit more ∙ all_push (λ v. may_fit (spelled v)) (take i values) value))
+
+  -- and comes after the others
+  pub one_more_among : conditions_among (take (i + 1) values) ≡ conditions_among (take i values) ++ c ∷ []
+  one_more_among =
+      ap conditions_among more ∙ flat_map-append (λ v. option_to_list (spelled v)) (take i values) (value ∷ [])
+      ∙ ap (λ o. conditions_among (take i values) ++ (option_to_list o ++ [])) is
+
+  -- those that were made so far, and then this one
+  pub one_more_shown : {V : Type 0} (items : V → List Condition) (made more : Option V) → IfSome made (λ some. map shown_condition (items some) ≡ conditions_among (take i values))
+      → IfSome more (λ all. MatchOption made ⊥ (λ some. map shown_condition (items all) ≡ map shown_condition (items some) ++ c ∷ []))
+      → IfSome more (λ all. map shown_condition (items all) ≡ conditions_among (take (i + 1) values))
+  one_more_shown items made None so_far one = tt
+  one_more_shown items None (Some all) so_far one = absurd one
+  one_more_shown items (Some some) (Some all) so_far one = one ∙ ap (λ cs. cs ++ c ∷ []) so_far ∙ sym one_more_among
+
+-- at the end
+pub same_parsed : {V : Type 0} (items : V → List Condition) (values : List Value) (i : ℕ) (fit : Bool) (made : Option V) → length values ≤ i → are_conditions (take i values) ≡ true
+    → fit ≡ (nat_le (length values) max_conditions && all_fit (take i values)) → IfSome made (λ some. map shown_condition (items some) ≡ conditions_among (take i values))
+    → AreParsed values fit (option_map items made)
+same_parsed {V = V} items values i fit made past all fits shown =
+    let whole = take_all i values past in
+    record {
+      all = ap are_conditions (sym whole) ∙ all;
+      fits = fits ∙ ap (λ vs. nat_le (length values) max_conditions && all_fit vs) whole;
+      shown = shown_all made shown whole;
+    } where
+      shown_all : (made : Option V) → IfSome made (λ some. map shown_condition (items some) ≡ conditions_among (take i values)) → take i values ≡ values
+          → IfSome (option_map items made) (λ cs. map shown_condition cs ≡ conditions_among values)
+      shown_all None shown whole = tt
+      shown_all (Some some) shown whole = shown ∙ ap conditions_among whole

@@ -1,4 +1,4 @@
--- What a continuation asks for is what stands behind the page.
+-- A continuation asks for the rows after the page.
 use Rattle.std.proofs.Common.{◌≡◌, ℕ, zero, suc, Bool, true, false, ◌&&◌, cond, List, [], ◌∷◌, ◌++◌, take, drop, Option, Some, None, Ordering, Less, Equal, Greater, is_lt, refl, sym, ap, ◌∙◌, subst}
 use Rattle.std.specs.Prelude.{filter}
 use Rattle.std.specs.List.{list_all, last_or}
@@ -46,19 +46,19 @@ last_above key first (next ∷ rows) row rises is = last_above key next rows row
 kept_none : (key : List ℕ) (first : Row) (rows : Entries) → is_below key first.0 ≡ false → filter (above key) (first ∷ rows) ≡ filter (above key) rows
 kept_none key first rows low = ap (λ b. cond b (first ∷ filter (above key) rows) (filter (above key) rows)) low
 
-behind_from : (first : Row) (rows back : Entries) (row : Row) → Rising bytes_cmp (first ∷ rows ++ back) → last_or (Some first) rows ≡ Some row → filter (above row.0) (first ∷ rows ++ back) ≡ back
-behind_from first [] back row rises is =
+after_from : (first : Row) (rows back : Entries) (row : Row) → Rising bytes_cmp (first ∷ rows ++ back) → last_or (Some first) rows ≡ Some row → filter (above row.0) (first ∷ rows ++ back) ≡ back
+after_from first [] back row rises is =
     let same : first ≡ row = cc in
     subst (λ (r : Row). filter (above r.0) (first ∷ back) ≡ back) same
     (kept_none first.0 first back (not_itself first.0) ∙ keeps_all (above first.0) back (all_above first.0 back rises.0))
-behind_from first (next ∷ rows) back row rises is =
+after_from first (next ∷ rows) back row rises is =
     kept_none row.0 first (next ∷ rows ++ back) (not_above first.0 row.0 (last_above first.0 next rows row (Below-prefix bytes_cmp first.0 (next ∷ rows) back rises.0) is))
-    ∙ behind_from next rows back row rises.1 is
+    ∙ after_from next rows back row rises.1 is
 
--- the rows above the last of the first rows are those behind it
-pub behind_last : (front back : Entries) (row : Row) → Rising bytes_cmp (front ++ back) → last_or None front ≡ Some row → filter (above row.0) (front ++ back) ≡ back
-behind_last [] back row rises is = cc
-behind_last (first ∷ rows) back row rises is = behind_from first rows back row rises is
+-- the rows above the last of the first rows are those after it
+pub after_last : (front back : Entries) (row : Row) → Rising bytes_cmp (front ++ back) → last_or None front ≡ Some row → filter (above row.0) (front ++ back) ≡ back
+after_last [] back row rises is = cc
+after_last (first ∷ rows) back row rises is = after_from first rows back row rises is
 
 -- rows that a test keeps rise
 below_kept : (p : Row → Bool) (key : List ℕ) (rows : Entries) → Below bytes_cmp key rows → Below bytes_cmp key (filter p rows)
@@ -127,10 +127,10 @@ both_kept p q (row ∷ rows) =
       ]
     ]
 
--- the continuation behind the first rows shows the others
-pub shown_behind : (query : QueryValue) (cells : Entries) (n : ℕ) (row : Row) → Rising bytes_cmp cells → last_or None (take n (shown_rows query cells)) ≡ Some row
+-- the continuation after the first rows shows the others
+pub shown_after : (query : QueryValue) (cells : Entries) (n : ℕ) (row : Row) → Rising bytes_cmp cells → last_or None (take n (shown_rows query cells)) ≡ Some row
     → shown_rows (continued query row.0) cells ≡ drop n (shown_rows query cells)
-shown_behind query cells n row rises is =
+shown_after query cells n row rises is =
     let rows = shown_rows query cells in
     let shown = last_shown query (take n rows) row (all_front (is_shown query) n rows (kept_pass (is_shown query) cells)) is in
     let asked : is_after query.after row.0 ≡ true = third_true (is_from query.from row.0) (is_before query.to row.0) (is_after query.after row.0) (has_shown query.conditions row.1) shown in
@@ -138,4 +138,4 @@ shown_behind query cells n row rises is =
     filter_agree (is_shown (continued query row.0)) (λ other. above row.0 other && is_shown query other) (λ other. continued_shown query row.0 other asked) cells
     ∙ both_kept (above row.0) (is_shown query) cells
     ∙ ap (filter (above row.0)) (sym parts)
-    ∙ behind_last (take n rows) (drop n rows) row (subst (Rising bytes_cmp) (sym parts) (rising_kept (is_shown query) cells rises)) is
+    ∙ after_last (take n rows) (drop n rows) row (subst (Rising bytes_cmp) (sym parts) (rising_kept (is_shown query) cells rises)) is

@@ -19,7 +19,7 @@ use Rattle.pn_tablet.proofs.LayoutFacts.{tablet_of-cons, tablet_of_key}
 use Rattle.pn_scan.specs.Candidates.{Look, cells_in}
 use Rattle.pn_scan.specs.Views.{IsStateOf, IsFoundIn}
 
--- each number is less than those behind it
+-- each number is less than those after it
 abbrev pub Ascending : List ℕ → Type 0
 Ascending [] = Unit {0}
 Ascending (n ∷ ns) = AllByRecursion (λ m. n < m) ns × Ascending ns
@@ -75,7 +75,7 @@ below_cells bounds key s t (e ∷ es) lawful later within lies inside = (
 abbrev pub all_cells_in : List Look → Entries
 all_cells_in looks = flat_map (λ look. cells_in look.1) looks
 
--- looks into tablets that are there
+-- looks that entered their tablets
 abbrev pub AreThere : Bounds → List Look → Type 0
 AreThere bounds looks = AllByRecursion (λ look. look.0 ≤ length bounds) looks
 

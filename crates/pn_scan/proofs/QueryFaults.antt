@@ -5,13 +5,11 @@ use Rattle.serde_json.specs.Data.{Data, null, boolean, number, string, array, ob
 use Rattle.serde_json.specs.Find.{get, as_array, as_object}
 use Rattle.pn_json.specs.Answers.{◌>>=◌}
 use Rattle.pn_json.specs.Members.{whole_number, each_in, only_named, no_others}
-use Rattle.pn_scan.specs.Queries.{QueryValue}
-use Rattle.pn_scan.specs.QueryGrammar.{query_members, HasShape, is_query}
+use Rattle.pn_scan.specs.Queries.{QueryValue, is_query}
 use Rattle.pn_scan.specs.ConditionReading.{condition_in, condition_at, conditions_in}
-use Rattle.pn_scan.specs.QueryReading.{key_of, key_in, limit_in, shape_in, query_in}
+use Rattle.pn_scan.specs.QueryReading.{query_members, key_of, key_in, limit_in, shape_in, query_in}
 use Rattle.pn_scan.specs.declared.query_fault.QueryFault.{QueryFault}
 use Rattle.pn_scan.specs.declared.query_fault.QueryFault.TheVariants.{BadShape, OutOfRange}
-use Rattle.pn_scan.proofs.SameQuery.{shape_found, shape_again}
 
 -- a fault, if there is one, is of the shape
 abbrev OfShape : {A : Type 0} → Result A QueryFault → Type 0
@@ -80,15 +78,15 @@ bad_alone : (shape : Result QueryValue QueryFault) (query : QueryValue) → shap
 bad_alone (Ok other) query is bad = no_bad (is_query other) other bad
 bad_alone (Err fault) query is bad = cc
 
-bad_where_none : (d : Data) (shape : Result QueryValue QueryFault) → shape_in d ≡ shape → OfShape shape → ¬ ((query : QueryValue) × HasShape d query) → after_shape shape ≡ Err BadShape
-bad_where_none d (Ok query) is fault none = absurd (none (query, shape_found d query is))
+bad_where_none : (d : Data) (shape : Result QueryValue QueryFault) → shape_in d ≡ shape → OfShape shape → ¬ ((query : QueryValue) × (shape_in d ≡ Ok query)) → after_shape shape ≡ Err BadShape
+bad_where_none d (Ok query) is fault none = absurd (none (query, is))
 bad_where_none d (Err fault) is of_shape none = ap Err of_shape
 
 -- of a bad shape is what has the shape of no query
-pub bad_shape : (d : Data) → query_in d ≡ Err BadShape ↔ ¬ ((query : QueryValue) × HasShape d query)
+pub bad_shape : (d : Data) → query_in d ≡ Err BadShape ↔ ¬ ((query : QueryValue) × (shape_in d ≡ Ok query))
 unfolding query_in
 bad_shape d = (
-  (λ bad found. bad_alone (shape_in d) found.0 (shape_again d found.0 found.1) bad),
+  (λ bad found. bad_alone (shape_in d) found.0 found.1 bad),
   bad_where_none d (shape_in d) refl (shape_faults d),
 )
 
@@ -96,17 +94,17 @@ unfit : (b : Bool) (query : QueryValue) → cond b (Ok query) (Err OutOfRange) �
 unfit true query out = absurd (cc)
 unfit false query out = refl
 
-out_by_limits : (d : Data) (shape : Result QueryValue QueryFault) → shape_in d ≡ shape → OfShape shape → after_shape shape ≡ Err OutOfRange → (query : QueryValue) × HasShape d query × (is_query query ≡ false)
-out_by_limits d (Ok query) is of_shape out = (query, shape_found d query is, unfit (is_query query) query out)
+out_by_limits : (d : Data) (shape : Result QueryValue QueryFault) → shape_in d ≡ shape → OfShape shape → after_shape shape ≡ Err OutOfRange → (query : QueryValue) × (shape_in d ≡ Ok query) × (is_query query ≡ false)
+out_by_limits d (Ok query) is of_shape out = (query, is, unfit (is_query query) query out)
 out_by_limits d (Err fault) is of_shape out = absurd (cc)
 
 out_again : (d : Data) (shape : Result QueryValue QueryFault) (query : QueryValue) → shape ≡ Ok query → is_query query ≡ false → after_shape shape ≡ Err OutOfRange
 out_again d shape query is limits = rw (is, limits) refl
 
 -- out of range is what has the shape of a query that breaks a limit
-pub out_of_range : (d : Data) → query_in d ≡ Err OutOfRange ↔ ((query : QueryValue) × HasShape d query × (is_query query ≡ false))
+pub out_of_range : (d : Data) → query_in d ≡ Err OutOfRange ↔ ((query : QueryValue) × (shape_in d ≡ Ok query) × (is_query query ≡ false))
 unfolding query_in
 out_of_range d = (
   out_by_limits d (shape_in d) refl (shape_faults d),
-  (λ found. out_again d (shape_in d) found.0 (shape_again d found.0 found.1) found.2),
+  (λ found. out_again d (shape_in d) found.0 found.1 found.2),
 )

@@ -63,7 +63,7 @@ join_from first (next ∷ rows) later row rises is after rises_too = (
   join_from next rows later row rises.1 is after rises_too,
 )
 
--- rows behind the last of others rise with them
+-- rows after the last of others rise with them
 rising_join : (front later : Entries) (row : Row) → Rising bytes_cmp front → last_or None front ≡ Some row → AllAfter (Some row.0) later → Rising bytes_cmp later → Rising bytes_cmp (front ++ later)
 rising_join [] later row rises is after rises_too = rises_too
 rising_join (first ∷ rows) later row rises is after rises_too = join_from first rows later row rises is after rises_too
@@ -94,22 +94,22 @@ abbrev after_of : Option QueryValue → Option (List ℕ)
 after_of None = None
 after_of (Some query) = query.after
 
-abbrev RiseBehind : Option QueryValue → Entries → Type 0
-RiseBehind asked rows = Rising bytes_cmp rows × AllAfter (after_of asked) rows
+abbrev RiseAfter : Option QueryValue → Entries → Type 0
+RiseAfter asked rows = Rising bytes_cmp rows × AllAfter (after_of asked) rows
 
 none_more : (is_page : QueryValue → PageValue → Type 0) (asked : Option QueryValue) (pages : List PageValue) → asked ≡ None → ArePages is_page asked pages → rows_of pages ≡ []
 none_more is_page asked [] none are = refl
 none_more is_page None (page ∷ pages) none are = absurd are
 none_more is_page (Some query) (page ∷ pages) none are = cc
 
-page_rises : (query : QueryValue) (cells : Entries) → Rising bytes_cmp cells → (page : PageValue) (later : Entries) → (page.1 ≡ None → later ≡ []) → Ending query (shown_rows query cells) page → RiseBehind page.1 later → RiseBehind (Some query) (page.0 ++ later)
-page_rises query cells rises page later none (whole last all few) behind =
-    subst (RiseBehind (Some query)) (sym ((λ i. all i ++ none last i) ∙ append-nil (shown_rows query cells))) (rising_kept (is_shown query) cells rises, shown_after query cells)
-page_rises query cells rises page later none (goes_on row at next front within) behind =
+page_rises : (query : QueryValue) (cells : Entries) → Rising bytes_cmp cells → (page : PageValue) (later : Entries) → (page.1 ≡ None → later ≡ []) → Ending query (shown_rows query cells) page → RiseAfter page.1 later → RiseAfter (Some query) (page.0 ++ later)
+page_rises query cells rises page later none (whole last all few) last_is =
+    subst (RiseAfter (Some query)) (sym ((λ i. all i ++ none last i) ∙ append-nil (shown_rows query cells))) (rising_kept (is_shown query) cells rises, shown_after query cells)
+page_rises query cells rises page later none (goes_on row at next front within) last_is =
     let rows = take query.limit (shown_rows query cells) in
-    let after : AllAfter (Some row.0) later = subst (λ (o : Option QueryValue). AllAfter (after_of o) later) next behind.1 in
-    subst (λ (es : Entries). RiseBehind (Some query) (es ++ later)) (sym front) (
-      rising_join rows later row (rising_front query.limit (shown_rows query cells) (rising_kept (is_shown query) cells rises)) at after behind.0,
+    let after : AllAfter (Some row.0) later = subst (λ (o : Option QueryValue). AllAfter (after_of o) later) next last_is.1 in
+    subst (λ (es : Entries). RiseAfter (Some query) (es ++ later)) (sym front) (
+      rising_join rows later row (rising_front query.limit (shown_rows query cells) (rising_kept (is_shown query) cells rises)) at after last_is.0,
       after_join query.after rows later row (after_front query.after query.limit (shown_rows query cells) (shown_after query cells)) at after,
     )
 

@@ -1,37 +1,36 @@
--- A value that has the shape of a query is the JSON of that query, and that JSON has its shape.
-use Rattle.std.proofs.Common.{◌≡◌, ◌⊎◌, inl, inr, ℕ, Bool, true, false, cond, List, [], ◌∷◌, map, codes, Option, Some, None, option_map, option_and_then, Ok, Err, refl, sym, ap, ◌∙◌}
+-- A value has the shape of a query exactly where its members are those of the query.
+use Rattle.std.proofs.Common.{◌≡◌, ◌↔◌, ◌⊎◌, inl, inr, ℕ, Bool, true, false, cond, List, [], ◌∷◌, map, codes, Option, Some, None, option_map, option_and_then, Ok, Err, IsTrue, refl, sym, ap, ◌∙◌}
 use Rattle.std.specs.Option.{ok_or, option_or}
 use Rattle.std.specs.Str.{bytes_eq}
 use Rattle.std.proofs.lemmas.Slice.Eq.{bytes_eq-Decides}
-use Rattle.serde_json.specs.Data.{Data, null, boolean, number, string, array, object, Items, no_items, item}
-use Rattle.serde_json.specs.Find.{get, as_str, as_array, as_object}
+use Rattle.serde_json.specs.Data.{Data, null, boolean, number, string, array, object, unsigned, Items, no_items, item, Members}
+use Rattle.serde_json.specs.Find.{get, get_member, as_str, as_array, as_object}
 use Rattle.serde_json.specs.View.{items_of}
 use Rattle.pn_json.specs.Answers.{◌>>=◌}
 use Rattle.pn_json.specs.Members.{whole_number, each_in, only_named, no_others}
 use Rattle.pn_json.proofs.Inverses.{bind_ok, guard_ok, ok_or_ok, and_then_some, map_some, string_from_as_str, array_from_as_array, object_from_as_object, number_from_whole}
-use Rattle.pn_scan.specs.Queries.{ConditionValue, has, eq, lt, gt, prefix, QueryValue}
-use Rattle.pn_scan.specs.QueryGrammar.{query_members, IsKeyMember, IsLimitMember, IsWhereMember, HasShape, IsQuery, is_query}
-use Rattle.pn_scan.specs.QueryJson.{condition_texts, condition_data, key_data, query_data}
+use Rattle.pn_scan.specs.Queries.{ConditionValue, has, eq, lt, gt, prefix, QueryValue, is_query}
+use Rattle.pn_scan.specs.QueryJson.{condition_texts, condition_data, conditions_data, key_data, query_data}
 use Rattle.pn_scan.specs.ConditionWords.{condition_as, lone_word, comparing_word}
-use Rattle.pn_scan.specs.ConditionReading.{lone_in, comparing_in, condition_in, condition_at, conditions_in}
-use Rattle.pn_scan.specs.QueryReading.{key_of, key_in, limit_in, shape_in, query_in}
-use Rattle.pn_scan.specs.declared.condition_shape.Word.{Word}
-use Rattle.pn_scan.specs.declared.condition_shape.Word.TheVariants.{Has, Eq, Lt, Gt, Prefix}
+use Rattle.pn_scan.specs.ConditionReading.{lone_in, comparing_in, condition_in, condition_at, conditions_at, conditions_in}
+use Rattle.pn_scan.specs.QueryReading.{query_members, usual_page, key_of, key_in, limit_in, shape_in, query_in, IsGiven}
+use Rattle.pn_scan.specs.declared.unchecked_condition.ConditionWord.{ConditionWord}
+use Rattle.pn_scan.specs.declared.unchecked_condition.ConditionWord.TheVariants.{Has, Eq, Lt, Gt, Prefix}
 use Rattle.pn_scan.specs.declared.query_fault.QueryFault.TheVariants.{BadShape, OutOfRange}
 
 -- ---- conditions
 
-word_by : (text name : List ℕ) (b : Bool) (hit : Word) (other : Option Word) (word : Word) → bytes_eq text name ≡ b → cond b (Some hit) other ≡ Some word → ((text ≡ name) × (word ≡ hit)) ⊎ (other ≡ Some word)
+word_by : (text name : List ℕ) (b : Bool) (hit : ConditionWord) (other : Option ConditionWord) (word : ConditionWord) → bytes_eq text name ≡ b → cond b (Some hit) other ≡ Some word → ((text ≡ name) × (word ≡ hit)) ⊎ (other ≡ Some word)
 word_by text name true hit other word same is = inl ((bytes_eq-Decides text name).0 same, cc)
 word_by text name false hit other word same is = inr is
 
-lone_texts : (text field : List ℕ) (word : Word) → lone_word text ≡ Some word → condition_texts (condition_as word field []) ≡ text ∷ field ∷ []
+lone_texts : (text field : List ℕ) (word : ConditionWord) → lone_word text ≡ Some word → condition_texts (condition_as word field []) ≡ text ∷ field ∷ []
 lone_texts text field word is = elim (word_by text (codes "has") _ Has None word refl is) [
   | inl found ↦ rw (found.1, found.0) refl
   | inr none ↦ absurd (cc)
 ]
 
-comparing_texts : (text field value : List ℕ) (word : Word) → comparing_word text ≡ Some word → condition_texts (condition_as word field value) ≡ text ∷ field ∷ value ∷ []
+comparing_texts : (text field value : List ℕ) (word : ConditionWord) → comparing_word text ≡ Some word → condition_texts (condition_as word field value) ≡ text ∷ field ∷ value ∷ []
 comparing_texts text field value word is = elim (word_by text (codes "eq") _ Eq _ word refl is) [
   | inl found ↦ rw (found.1, found.0) refl
   | inr not_eq ↦ elim (word_by text (codes "lt") _ Lt _ word refl not_eq) [
@@ -108,18 +107,25 @@ each_again (c ∷ cs) = rw (condition_again c, each_again cs) refl
 
 -- ---- members
 
-where_found : (o : Option Data) (cs : List ConditionValue) → conditions_in o ≡ Ok cs → IsWhereMember o cs
-where_found None cs is = inr (refl, cc)
-where_found (Some d) cs is =
+-- a value is read as conditions exactly where it is their JSON
+conditions_found : (d : Data) (cs : List ConditionValue) → conditions_at d ≡ Ok cs → d ≡ conditions_data cs
+conditions_found d cs is =
     let items = bind_ok (ok_or (as_array d) BadShape) (each_in condition_at) cs is in
-    inl (ap Some (array_from_as_array d items.0 (ok_or_ok (as_array d) BadShape items.0 items.1) ∙ ap array (each_found items.0 cs items.2)))
+    array_from_as_array d items.0 (ok_or_ok (as_array d) BadShape items.0 items.1) ∙ ap array (each_found items.0 cs items.2)
 
-where_again : (o : Option Data) (cs : List ConditionValue) → IsWhereMember o cs → conditions_in o ≡ Ok cs
+pub conditions_alone : (d : Data) (cs : List ConditionValue) → conditions_at d ≡ Ok cs ↔ (d ≡ conditions_data cs)
+conditions_alone d cs = (conditions_found d cs, (λ is. rw is (each_again cs)))
+
+where_found : (o : Option Data) (cs : List ConditionValue) → conditions_in o ≡ Ok cs → IsGiven o (conditions_data cs) (cs ≡ [])
+where_found None cs is = inr (refl, cc)
+where_found (Some d) cs is = inl (ap Some (conditions_found d cs is))
+
+where_again : (o : Option Data) (cs : List ConditionValue) → IsGiven o (conditions_data cs) (cs ≡ []) → conditions_in o ≡ Ok cs
 where_again o cs (inl is) = rw is (each_again cs)
 where_again o cs (inr is) = rw (is.0, is.1) refl
 
-key_at_found : (d : Data) (key : Option (List ℕ)) → key_of d ≡ Ok key → IsKeyMember (Some d) key
-key_at_found null None is = inr refl
+key_at_found : (d : Data) (key : Option (List ℕ)) → key_of d ≡ Ok key → d ≡ key_data key
+key_at_found null None is = refl
 key_at_found null (Some key) is = absurd (cc)
 key_at_found (boolean b) key is = absurd (cc)
 key_at_found (number n) key is = absurd (cc)
@@ -128,28 +134,36 @@ key_at_found (string s) (Some key) is = cc
 key_at_found (array ds) key is = absurd (cc)
 key_at_found (object ms) key is = absurd (cc)
 
-key_found : (o : Option Data) (key : Option (List ℕ)) → key_in o ≡ Ok key → IsKeyMember o key
-key_found None None is = inl refl
+key_found : (o : Option Data) (key : Option (List ℕ)) → key_in o ≡ Ok key → IsGiven o (key_data key) (key ≡ None)
+key_found None None is = inr (refl, refl)
 key_found None (Some key) is = absurd (cc)
-key_found (Some d) key is = key_at_found d key is
+key_found (Some d) key is = inl (ap Some (key_at_found d key is))
 
-key_again : (o : Option Data) (key : Option (List ℕ)) → IsKeyMember o key → key_in o ≡ Ok key
+key_again : (o : Option Data) (key : Option (List ℕ)) → IsGiven o (key_data key) (key ≡ None) → key_in o ≡ Ok key
 key_again o None (inl is) = rw is refl
-key_again o None (inr is) = rw is refl
-key_again o (Some key) is = rw is refl
+key_again o (Some key) (inl is) = rw is refl
+key_again o key (inr is) = rw (is.0, is.1) refl
 
-limit_found : (o : Option Data) (limit : ℕ) → limit_in o ≡ Ok limit → IsLimitMember o limit
+limit_found : (o : Option Data) (limit : ℕ) → limit_in o ≡ Ok limit → IsGiven o (number (unsigned limit)) (limit ≡ usual_page)
 limit_found None limit is = inr (refl, cc)
 limit_found (Some d) limit is = inl (ap Some (number_from_whole d limit (ok_or_ok (whole_number d) BadShape limit is)))
 
-limit_again : (o : Option Data) (limit : ℕ) → IsLimitMember o limit → limit_in o ≡ Ok limit
+limit_again : (o : Option Data) (limit : ℕ) → IsGiven o (number (unsigned limit)) (limit ≡ usual_page) → limit_in o ≡ Ok limit
 limit_again o limit (inl is) = rw is refl
 limit_again o limit (inr is) = rw (is.0, is.1) refl
 
 -- ---- queries
 
--- a value of the shape of a query
-pub shape_found : (d : Data) (query : QueryValue) → shape_in d ≡ Ok query → HasShape d query
+-- an object of the members of a query, each given, or absent where that is usual
+abbrev IsObjectOf : Data → QueryValue → Type 0
+IsObjectOf d query = (ms : Members) × (d ≡ object ms) × IsTrue (only_named query_members ms)
+    × IsGiven (get_member (codes "after") ms) (key_data query.after) (query.after ≡ None)
+    × IsGiven (get_member (codes "from") ms) (key_data query.from) (query.from ≡ None)
+    × IsGiven (get_member (codes "limit") ms) (number (unsigned query.limit)) (query.limit ≡ usual_page)
+    × IsGiven (get_member (codes "to") ms) (key_data query.to) (query.to ≡ None)
+    × IsGiven (get_member (codes "where") ms) (conditions_data query.conditions) (query.conditions ≡ [])
+
+shape_found : (d : Data) (query : QueryValue) → shape_in d ≡ Ok query → IsObjectOf d query
 unfolding shape_in
 shape_found d query is =
     let members = bind_ok (ok_or (as_object d) BadShape) _ query is in
@@ -161,62 +175,44 @@ shape_found d query is =
     let named = bind_ok (no_others query_members BadShape members.0) _ query conditions.2 in
     let made : record { from = from.0; to = to.0; after = after.0; conditions = conditions.0; limit = limit.0 } ≡ query = cc named.2 in
     let whole : d ≡ object members.0 = object_from_as_object d members.0 (ok_or_ok (as_object d) BadShape members.0 members.1) in
-    rw (← made) (record {
-      members = members.0;
-      whole = whole;
-      named = (guard_ok (only_named query_members members.0) tt named.0 BadShape named.1).0;
-      after = key_found _ after.0 (ap (λ d. key_in (get (codes "after") d)) (sym whole) ∙ after.1);
-      from = key_found _ from.0 (ap (λ d. key_in (get (codes "from") d)) (sym whole) ∙ from.1);
-      limit = limit_found _ limit.0 (ap (λ d. limit_in (get (codes "limit") d)) (sym whole) ∙ limit.1);
-      to = key_found _ to.0 (ap (λ d. key_in (get (codes "to") d)) (sym whole) ∙ to.1);
-      conditions = where_found _ conditions.0 (ap (λ d. conditions_in (get (codes "where") d)) (sym whole) ∙ conditions.1);
-    })
+    rw (← made) (
+      members.0,
+      whole,
+      (guard_ok (only_named query_members members.0) tt named.0 BadShape named.1).0,
+      key_found _ after.0 (ap (λ d. key_in (get (codes "after") d)) (sym whole) ∙ after.1),
+      key_found _ from.0 (ap (λ d. key_in (get (codes "from") d)) (sym whole) ∙ from.1),
+      limit_found _ limit.0 (ap (λ d. limit_in (get (codes "limit") d)) (sym whole) ∙ limit.1),
+      key_found _ to.0 (ap (λ d. key_in (get (codes "to") d)) (sym whole) ∙ to.1),
+      where_found _ conditions.0 (ap (λ d. conditions_in (get (codes "where") d)) (sym whole) ∙ conditions.1),
+    )
 
--- and the other way round
-pub shape_again : (d : Data) (query : QueryValue) → HasShape d query → shape_in d ≡ Ok query
+shape_again : (d : Data) (query : QueryValue) → IsObjectOf d query → shape_in d ≡ Ok query
 unfolding shape_in
-shape_again d query is =
-    rw (is.whole, key_again _ query.after is.after, key_again _ query.from is.from, limit_again _ query.limit is.limit, key_again _ query.to is.to, where_again _ query.conditions is.conditions, is.named) refl
+shape_again d query (ms, whole, named, after, from, limit, to, conditions) =
+    rw (whole, key_again _ query.after after, key_again _ query.from from, limit_again _ query.limit limit, key_again _ query.to to, where_again _ query.conditions conditions, named) refl
 
--- a value that is read is the JSON of the query
-pub query_found : (d : Data) (query : QueryValue) → query_in d ≡ Ok query → IsQuery d query
+-- a value has the shape of a query exactly where its members are those of the query
+pub shape_alone : (d : Data) (query : QueryValue) → (shape_in d ≡ Ok query) ↔ IsObjectOf d query
+shape_alone d query = (shape_found d query, shape_again d query)
+
+-- a value is read as the query whose shape it has, where that keeps the limits
+pub query_found : (d : Data) (query : QueryValue) → query_in d ≡ Ok query → (shape_in d ≡ Ok query) × IsTrue (is_query query)
 unfolding query_in
 query_found d query is =
     let shape = bind_ok (shape_in d) (λ q. cond (is_query q) (Ok q) (Err OutOfRange)) query is in
     let fits = guard_ok (is_query shape.0) shape.0 query OutOfRange shape.2 in
-    rw (← fits.1) (record { shape = shape_found d shape.0 shape.1; limits = fits.0 })
+    rw (← fits.1) (shape.1, fits.0)
 
--- the JSON of a query is read as the query
-pub query_again : (d : Data) (query : QueryValue) → IsQuery d query → query_in d ≡ Ok query
+pub query_again : (d : Data) (query : QueryValue) → (shape_in d ≡ Ok query) × IsTrue (is_query query) → query_in d ≡ Ok query
 unfolding query_in
-query_again d query is = rw (shape_again d query is.shape, is.limits) refl
-
--- no value is the JSON of two queries
-pub query_unique : (d : Data) (one other : QueryValue) → IsQuery d one → IsQuery d other → one ≡ other
-query_unique d one other is also = cc (sym (query_again d one is) ∙ query_again d other also)
+query_again d query is = rw (is.0, is.1) refl
 
 -- ---- what is written
 
-no_key_or_key : (key : Option (List ℕ)) → IsKeyMember (Some (key_data key)) key
-no_key_or_key None = inr refl
-no_key_or_key (Some key) = refl
-
--- the JSON of a query is the JSON of that query
-pub query_written : (query : QueryValue) → is_query query ≡ true → IsQuery (query_data query) query
-query_written query limits = record {
-  shape = record {
-    members = _;
-    whole = refl;
-    named = refl;
-    after = no_key_or_key query.after;
-    from = no_key_or_key query.from;
-    limit = inl refl;
-    to = no_key_or_key query.to;
-    conditions = inl refl;
-  };
-  limits = limits;
-}
-
--- so it is read again
+-- the JSON of a query is read as the query
 pub written_again : (query : QueryValue) → is_query query ≡ true → query_in (query_data query) ≡ Ok query
-written_again query limits = query_again (query_data query) query (query_written query limits)
+written_again query limits =
+    query_again (query_data query) query (shape_again (query_data query) query (_, refl, refl, inl refl, inl refl, inl refl, inl refl, inl refl), limits)
+
+pub query_written : (d : Data) (query : QueryValue) → d ≡ query_data query → is_query query ≡ true → query_in d ≡ Ok query
+query_written d query is limits = ap query_in is ∙ written_again query limits

@@ -15,7 +15,7 @@ use Rattle.pn_scan.specs.Shown.{is_shown, shown_rows}
 use Rattle.pn_scan.specs.Candidates.{Look, cells_in, candidates, rows_in, visited}
 use Rattle.pn_scan.specs.Pages.{refusal, first_refusal, unless}
 use Rattle.pn_scan.specs.Views.{IsFoundIn, Looks, is_memory}
-use Rattle.pn_scan.specs.Visits.{GoesOn, IsVisit, IsScan, rows_behind}
+use Rattle.pn_scan.specs.Visits.{GoesOn, IsVisit, IsScan, rows_after}
 use Rattle.pn_scan.specs.declared.fault.ScanFault.{ScanFault}
 use Rattle.pn_scan.proofs.Numbers.{Numbered, numbered_more, in_order, AllFew, all_visited}
 
@@ -110,8 +110,8 @@ ok_value None a b is = (refl, cc)
 ok_value (Some w) a b is = cc
 
 -- the rows with those of one tablet more are the first of all
-behind_front : (limit : ℕ) (rows shown all : Entries) → length rows ≤ limit → all ≡ rows ++ shown → rows ++ take (limit + 1 - length rows) shown ≡ take (limit + 1) all
-behind_front limit rows shown all few is =
+after_front : (limit : ℕ) (rows shown all : Entries) → length rows ≤ limit → all ≡ rows ++ shown → rows ++ take (limit + 1 - length rows) shown ≡ take (limit + 1) all
+after_front limit rows shown all few is =
     let room : length rows + (limit + 1 - length rows) ≡ limit + 1 = omega arith in
     sym (take-append-add rows shown (limit + 1 - length rows)) ∙ ap (λ n. take n (rows ++ shown)) room ∙ ap (λ (es : Entries). take (limit + 1) es) (sym is)
 
@@ -150,7 +150,7 @@ module _ {V : Type 0} {looks : V → Look → V → Type 0} {bounds : Bounds} {q
     refused = ap first_refusal (all_visited bounds query first count (seen ++ look ∷ []) range short numbered (few_more query seen look walked.on)) ∙ refused_last seen look walked.on.none_refused
 
     -- a look that was refused, or found no memory, ends the page
-    pub scan_fails : {A B : Type 0} (show : A → B) (why : ScanFault) (right : Entries → B) (answer : Result A ScanFault) → answer ≡ Err why → Refuses is_memory why (rows_behind query rows look) → IsScan looks bounds query old new show answer right (seen ++ look ∷ [])
+    pub scan_fails : {A B : Type 0} (show : A → B) (why : ScanFault) (right : Entries → B) (answer : Result A ScanFault) → answer ≡ Err why → Refuses is_memory why (rows_after query rows look) → IsScan looks bounds query old new show answer right (seen ++ look ∷ [])
     scan_fails {A} show why right answer failed refuses = subst (λ (a : Result A ScanFault). IsScan looks bounds query old new show a right (seen ++ look ∷ [])) (sym failed) (record {
       looked = looks_more looks old now new seen look walked.looked looked;
       visit = visit;
@@ -159,7 +159,7 @@ module _ {V : Type 0} {looks : V → Look → V → Type 0} {bounds : Bounds} {q
       whole = tt;
     })
 
-    module _ (more : Entries) (right : rows_behind query rows look ≡ Ok more) where
+    module _ (more : Entries) (right : rows_after query rows look ≡ Ok more) where
       parts : (refusal look ≡ None) × (more ≡ rows ++ take (query.limit + 1 - length rows) (shown_rows query (cells_in look.1)))
       parts = ok_value (refusal look) _ more right
 
@@ -167,7 +167,7 @@ module _ {V : Type 0} {looks : V → Look → V → Type 0} {bounds : Bounds} {q
       all = seen ++ look ∷ []
 
       front : more ≡ take (query.limit + 1) (rows_in query (seen ++ look ∷ []))
-      front = parts.1 ∙ behind_front query.limit rows (shown_rows query (cells_in look.1)) (rows_in query (seen ++ look ∷ [])) few (rows_more query seen look ∙ ap (λ (es : Entries). es ++ shown_rows query (cells_in look.1)) (sym walked.shows))
+      front = parts.1 ∙ after_front query.limit rows (shown_rows query (cells_in look.1)) (rows_in query (seen ++ look ∷ [])) few (rows_more query seen look ∙ ap (λ (es : Entries). es ++ shown_rows query (cells_in look.1)) (sym walked.shows))
 
       -- a look that fills the page ends it
       pub scan_full : {A : Type 0} (show : A → Entries) (answer : A) → show answer ≡ more → query.limit < length more → IsScan looks bounds query old new show (Ok answer) (take (query.limit + 1)) (seen ++ look ∷ [])
@@ -178,7 +178,7 @@ module _ {V : Type 0} {looks : V → Look → V → Type 0} {bounds : Bounds} {q
         whole = inr (more_left query.limit (rows_in query (seen ++ look ∷ [])) (subst (λ (es : Entries). query.limit < length es) front full));
       }
 
-      -- and behind one that does not, it goes on
+      -- and after one that does not, it goes on
       pub walked_more : length more ≤ query.limit → IsWalked looks bounds query first (tablet + 1) old new more (seen ++ look ∷ [])
       walked_more little =
           let same = front ∙ all_taken query.limit (rows_in query (seen ++ look ∷ [])) (subst (λ (es : Entries). length es ≤ query.limit) front little) in

@@ -56,7 +56,7 @@ module _ (tablets : List TabletStateValue) where
   abbrev as_stands : ℕ → Look
   as_stands tablet = (tablet, slice_get tablets tablet)
 
-  -- looks that found the tablets as they stand
+  -- looks that found the tablets as they are
   abbrev pub Stand : List Look → Type 0
   Stand seen = AllByRecursion (λ look. slice_get tablets look.0 ≡ look.1) seen
 
@@ -167,7 +167,7 @@ module _ (tablets : List TabletStateValue) where
   page_settled looks bounds query old new show (Err (fault.Behind has)) seen lawful found stand scan = λ other. settled_fault bounds query lawful seen scan.visit stand (first_page query (rows_in query seen)) (fault.Behind has) scan.answers
   page_settled looks bounds query old new show (Err fault.NoEntry) seen lawful found stand scan = λ other. settled_fault bounds query lawful seen scan.visit stand (first_page query (rows_in query seen)) fault.NoEntry scan.answers
 
--- the looks of a view of tablets that stay find them as they stand
+-- the looks of a view of tablets that stay find them as they are
 pub plain_looks : {V : Type 0} (tablets : V → List TabletStateValue) (old new : V) (seen : List Look) → Looks (LooksAt tablets) old seen new → Stand (tablets old) seen × (new ≡ old)
 plain_looks tablets old new [] looked = (tt, looked)
 plain_looks tablets old new (look ∷ seen) looked =

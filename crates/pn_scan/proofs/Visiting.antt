@@ -75,7 +75,7 @@ visited_in query n front (look ∷ back) more numbered few =
     let rest = visited_in query n (front ++ look ∷ []) back more (subst (Numbered n) (sym same) numbered) (subst (AllFew query) (sym same_few) few) in
     both_true _ _ (le_true (length (rows_in query (below look.0 (front ++ look ∷ (back ++ more))))) query.limit here) (subst (λ (all : List Look). list_all (is_visited query all) back ≡ true) same rest)
 
--- and behind a page that is full none is
+-- and after a full page none is
 pub not_visited : (query : QueryValue) (n : ℕ) (seen front back : List Look) → Numbered n (seen ++ (front ++ back)) → query.limit < length (rows_in query seen) → filter (is_visited query (seen ++ (front ++ back))) back ≡ []
 not_visited query n seen front [] numbered full = refl
 not_visited query n seen front (look ∷ back) numbered full =

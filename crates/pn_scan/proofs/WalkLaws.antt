@@ -15,10 +15,10 @@ use Rattle.pn_scan.specs.Candidates.{Look, cells_in, rows_in, is_candidate, is_v
 use Rattle.pn_scan.specs.Pages.{PageValue, refusal, first_refusal, next_of, first_page, page_of, unless}
 use Rattle.pn_scan.specs.Walks.{IsPageOf, ArePages, left_by, rows_of, rows_left}
 use Rattle.pn_scan.specs.declared.fault.ScanFault.{ScanFault}
-use Rattle.pn_scan.proofs.Continuing.{Row, shown_behind}
+use Rattle.pn_scan.proofs.Continuing.{Row, shown_after}
 use Rattle.pn_scan.proofs.Scans.{or_none, ok_value}
 
--- how a page ends: with all rows, or with a continuation behind the last of its own
+-- how a page ends: with all rows, or with a continuation after the last of its own
 pub data Ending (query : QueryValue) (rows : Entries) (page : PageValue) : Type 0 where
   whole : page.1 ≡ None → page.0 ≡ rows → length rows ≤ query.limit → Ending query rows page
   goes_on : (row : Row) → last_or None (take query.limit rows) ≡ Some row → page.1 ≡ Some (continued query row.0) → page.0 ≡ take query.limit rows → query.limit < length rows → Ending query rows page
@@ -61,7 +61,7 @@ module _ (looks : List Look) (rises : Rising bytes_cmp (flat_map (λ look. cells
   page_and_rest query page (whole last all few) = (λ i. all i ++ rows_left looks (last i)) ∙ append-nil (rows_in query looks)
   page_and_rest query page (goes_on row at next front within) =
       (λ i. front i ++ rows_left looks (next i))
-      ∙ ap (λ (es : Entries). take query.limit (rows_in query looks) ++ es) (shown_behind query (flat_map (λ (look : Look). cells_in look.1) looks) query.limit row rises at)
+      ∙ ap (λ (es : Entries). take query.limit (rows_in query looks) ++ es) (shown_after query (flat_map (λ (look : Look). cells_in look.1) looks) query.limit row rises at)
       ∙ take-append-drop query.limit (rows_in query looks)
 
   pub room_left : (query : QueryValue) (page : PageValue) → 0 < query.limit → Ending query (rows_in query looks) page → HasRoom page.1
@@ -125,7 +125,7 @@ module _ (bounds : Bounds) (looks : List Look) (rises : Rising bytes_cmp (flat_m
       elim (ending_of query (rows_in query looks) (first_page query (rows_in query looks)) some refl) [
         | whole last all short ↦ last_page query last
         | goes_on row at next front within ↦
-            let rest = shown_behind query (flat_map (λ (look : Look). cells_in look.1) looks) query.limit row rises at in
+            let rest = shown_after query (flat_map (λ (look : Look). cells_in look.1) looks) query.limit row rises at in
             let size = ap (λ (es : Entries). length es) rest ∙ length-drop query.limit (rows_in query looks) in
             page_before query (continued query row.0) next (by_count n (continued query row.0) some (omega (arith, size)))
       ]

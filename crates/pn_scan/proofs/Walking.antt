@@ -63,7 +63,7 @@ none_later q key (e ∷ es) past below =
     hidden_first q e es (not_asked q e (and_mid (is_from q.from e.0) _ (is_after q.after e.0) (past_end q.to key e.0 below.0 past)))
     ∙ none_later q key es past below.1
 
--- behind the end none is shown
+-- past the end none is shown
 pub none_past : (q : QueryValue) (e : List ℕ × CellValue) (es : Entries) → is_before q.to e.0 ≡ false → Rising bytes_cmp (e ∷ es) → shown_rows q (e ∷ es) ≡ []
 none_past q e es past rising =
     hidden_first q e es (not_asked q e (and_mid (is_from q.from e.0) _ (is_after q.after e.0) past)) ∙ none_later q e.0 es past rising.0
@@ -81,25 +81,25 @@ none_lesser key low (e ∷ es) above below =
     let above_too : is_below e.0 key ≡ false = past_end (Some key) low e.0 below.0 above in
     omega (arith, lesser-cons key e es false above_too, none_lesser key low es above below.1)
 
--- where what is less than a key is not shown, the walk may begin behind it
-begin_behind : (q : QueryValue) (key : List ℕ) (es : Entries) (n : ℕ) → ((e : List ℕ × CellValue) → is_below e.0 key ≡ true → is_shown q e ≡ false)
+-- where no key less than this one is shown, the walk may begin at it
+begin_past : (q : QueryValue) (key : List ℕ) (es : Entries) (n : ℕ) → ((e : List ℕ × CellValue) → is_below e.0 key ≡ true → is_shown q e ≡ false)
     → Rising bytes_cmp es → n ≤ lesser key es → shown_rows q (drop n es) ≡ shown_rows q es
-begin_behind q key es zero hidden rising few = refl
-begin_behind q key [] (suc n) hidden rising few = refl
-begin_behind q key (e ∷ es) (suc n) hidden rising few =
+begin_past q key es zero hidden rising few = refl
+begin_past q key [] (suc n) hidden rising few = refl
+begin_past q key (e ∷ es) (suc n) hidden rising few =
     elim (is_below e.0 key) as (λ b. is_below e.0 key ≡ b → shown_rows q (drop n es) ≡ shown_rows q (e ∷ es)) [
-      | true ↦ λ p. begin_behind q key es n hidden rising.1 (omega (arith, lesser-cons key e es true p)) ∙ sym (hidden_first q e es (hidden e p))
+      | true ↦ λ p. begin_past q key es n hidden rising.1 (omega (arith, lesser-cons key e es true p)) ∙ sym (hidden_first q e es (hidden e p))
       | false ↦ λ p. absurd (omega (arith, few, lesser-cons key e es false p, none_lesser key e.0 es p rising.0))
     ] refl
 
--- how many keys are less than a key, none where there is no key
+-- the number of keys that are less than a key, 0 where there is no key
 abbrev pub lesser_at : Option (List ℕ) → Entries → ℕ
 lesser_at end es = option_map_or (λ key. lesser key es) end 0
 
 begin_from : (q : QueryValue) (es : Entries) → Rising bytes_cmp es → (end : Option (List ℕ)) → q.from ≡ end → shown_rows q (drop (lesser_at end es) es) ≡ shown_rows q es
 begin_from q es rising None is = refl
 begin_from q es rising (Some from) is =
-    begin_behind q from es (lesser from es) (λ e p. not_asked q e (and_first _ (is_before q.to e.0) (is_after q.after e.0) (ap (λ o. is_from o e.0) is ∙ ap not p))) rising (omega arith)
+    begin_past q from es (lesser from es) (λ e p. not_asked q e (and_first _ (is_before q.to e.0) (is_after q.after e.0) (ap (λ o. is_from o e.0) is ∙ ap not p))) rising (omega arith)
 
 pub below_not : (a b : List ℕ) → is_below a b ≡ true → is_below b a ≡ false
 below_not a b p = ap is_lt (nat_list_cmp_total.antisymm b a ∙ ap ordering_reverse (is_less (bytes_cmp a b) p))
@@ -107,7 +107,7 @@ below_not a b p = ap is_lt (nat_list_cmp_total.antisymm b a ∙ ap ordering_reve
 begin_after : (q : QueryValue) (es : Entries) → Rising bytes_cmp es → (end : Option (List ℕ)) → q.after ≡ end → shown_rows q (drop (lesser_at end es) es) ≡ shown_rows q es
 begin_after q es rising None is = refl
 begin_after q es rising (Some after) is =
-    begin_behind q after es (lesser after es) (λ e p. not_asked q e (and_last (is_from q.from e.0) (is_before q.to e.0) _ (ap (λ o. is_after o e.0) is ∙ below_not e.0 after p))) rising (omega arith)
+    begin_past q after es (lesser after es) (λ e p. not_asked q e (and_last (is_from q.from e.0) (is_before q.to e.0) _ (ap (λ o. is_after o e.0) is ∙ below_not e.0 after p))) rising (omega arith)
 
 greater_of : (m n : ℕ) (P : ℕ → Type 0) → P m → P n → P (max m n)
 greater_of m n P at_m at_n =
@@ -145,7 +145,7 @@ from_place key (e ∷ es) (suc n) rising past =
       | false ↦ λ p. from_place key es n rising.1 (omega (arith, none_lesser key e.0 es p rising.0))
     ] refl
 
--- at the place of an end, or behind it, no key is below the end
+-- at the place of an end, or after it, no key is below the end
 pub from_there : (end : Option (List ℕ)) (es : Entries) (n : ℕ) → Rising bytes_cmp es → lesser_at end es ≤ n → NoneBelow end (drop n es)
 from_there None es n rising past = open_below (drop n es)
 from_there (Some key) es n rising past = from_place key es n rising past

@@ -1,4 +1,4 @@
--- The conditions that JSON values are.
+-- The conditions of JSON values.
 use Rattle.std.specs.Prelude.{List, [], Option, Some, None, option_map, option_and_then, Result, Ok}
 use Rattle.std.specs.Option.{ok_or, option_or}
 use Rattle.serde_json.specs.Data.{Data, Items, no_items, item}
@@ -31,11 +31,11 @@ comparing_in (item a (item b (item c (item d ds)))) = None
 abbrev pub condition_in : Data → Option ConditionValue
 condition_in d = option_and_then (λ parts. option_or (lone_in parts) (comparing_in parts)) (as_array d)
 
--- the condition that a value has to spell
+-- the condition of a value, or the fault
 abbrev pub condition_at : Data → Result ConditionValue QueryFault
 condition_at d = ok_or (condition_in d) BadShape
 
--- the conditions that an array has to spell
+-- the conditions of an array, or the fault
 abbrev pub conditions_at : Data → Result (List ConditionValue) QueryFault
 conditions_at d = do
   items ← ok_or (as_array d) BadShape

@@ -8,7 +8,7 @@ use Rattle.pn_record.specs.Order.{bytes_cmp}
 use Rattle.pn_tablet.specs.Ranges.{is_below}
 use Rattle.pn_scan.specs.Queries.{ConditionValue, has, eq, lt, gt, prefix}
 
--- the name of the field that a condition looks at
+-- the name of a condition's field
 abbrev pub field_of : ConditionValue → List ℕ
 field_of (has name) = name
 field_of (eq name value) = name
@@ -24,12 +24,12 @@ is_met (lt name value) text = is_below text value
 is_met (gt name value) text = is_below value text
 is_met (prefix name value) text = starts_with ◌==◌ text value
 
--- the text of a field, if the field is there, is as the condition asks
+-- there is a text of the field, and it is as the condition asks
 abbrev pub is_met_by : ConditionValue → Option (List ℕ) → Bool
 is_met_by condition None = false
 is_met_by condition (Some text) = is_met condition text
 
--- fields meet a condition: the one that it names is there and is as it asks
+-- the fields have the one that a condition names, and its text is as the condition asks
 abbrev pub meets : List Field → ConditionValue → Bool
 meets fields condition = is_met_by condition (find bytes_cmp (field_of condition) fields)
 

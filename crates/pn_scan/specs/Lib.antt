@@ -4,12 +4,11 @@ pub mod ConditionWords
 pub mod Conditions
 pub mod Pages
 pub mod Queries
-pub mod QueryGrammar
 pub mod QueryJson
 pub mod QueryReading
-pub mod QueryShapes
 pub mod Reads
 pub mod Shown
+pub mod UncheckedQueries
 pub mod Views
 pub mod Visits
 pub mod Walks

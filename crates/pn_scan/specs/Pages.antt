@@ -1,4 +1,4 @@
--- Pages: what a query shows of the tablets of a layout.
+-- Pages of the rows that a query shows of the tablets of a layout.
 use Rattle.std.specs.Prelude.{ℕ, if◌then◌else◌, nat_lt, List, [], ◌∷◌, length, take, Option, Some, None, option_map, Result, Ok, Err}
 use Rattle.std.specs.List.{last_or}
 use Rattle.std.specs.Option.{option_or}
@@ -30,15 +30,15 @@ abbrev pub unless : {A : Type 0} → Option ScanFault → A → Result A ScanFau
 unless None value = Ok value
 unless (Some why) value = Err why
 
--- a page: its rows, and the query for what is still to come, if there is more
+-- a page: its rows, and the query for the next page, if there is more
 abbrev pub PageValue : Type 0
 PageValue = Entries × Option QueryValue
 
--- the query for what stands after the rows, which are not all
+-- the query for the records after the rows of a page
 abbrev pub next_of : QueryValue → Entries → Option QueryValue
 next_of query rows = option_map (λ row. continued query row.0) (last_or None (take query.limit rows))
 
--- at most as many rows as the limit, and the query for more exactly where there are more
+-- the first rows up to the limit, and the query for the next page exactly where there are more
 abbrev pub first_page : QueryValue → Entries → PageValue
 first_page query rows = (take query.limit rows, if nat_lt query.limit (length rows) then next_of query rows else None)
 

@@ -1,7 +1,7 @@
 -- Queries, their conditions and their limits.
-use Rattle.std.specs.Prelude.{ℕ, Bool, ◌&&◌, nat_le, List, [], length, Option, Some, string_bytes}
+use Rattle.std.specs.Prelude.{ℕ, Bool, true, ◌&&◌, nat_le, List, [], length, Option, Some, None, string_bytes}
 use Rattle.std.specs.List.{list_all}
-use Rattle.pn_record.specs.Limits.{is_field}
+use Rattle.pn_record.specs.Limits.{is_field, is_key}
 use Rattle.pn_record.specs.Showing.{shown_value}
 use Rattle.pn_scan.specs.declared.condition.Condition.{Condition}
 use Rattle.pn_scan.specs.declared.condition.Condition.TheVariants.{Has, Eq, Lt, Gt, Prefix}
@@ -13,7 +13,7 @@ max_page_rows = 1000
 abbrev pub max_conditions : ℕ
 max_conditions = 16
 
--- what is asked of a field, by its name: that it is there; that its value is this one, less, greater, or begins with it
+-- a condition on the field of a name: it is there, or its value is equal, less, greater, or begins with this one
 pub data ConditionValue : Type 0 where
   has : List ℕ → ConditionValue
   eq : List ℕ → List ℕ → ConditionValue
@@ -21,7 +21,7 @@ pub data ConditionValue : Type 0 where
   gt : List ℕ → List ℕ → ConditionValue
   prefix : List ℕ → List ℕ → ConditionValue
 
--- the keys asked for are not below `from`, below `to` and above `after`; their records meet all conditions
+-- keys at least `from`, below `to` and above `after`, whose records meet all conditions
 pub record QueryValue : Type 0 where
   pub from : Option (List ℕ)
   pub to : Option (List ℕ)
@@ -29,7 +29,7 @@ pub record QueryValue : Type 0 where
   pub conditions : List ConditionValue
   pub limit : ℕ
 
--- what a condition of the program asks
+-- the value of a condition of the program
 abbrev pub shown_condition : Condition → ConditionValue
 shown_condition (Has field) = has (string_bytes field)
 shown_condition (Eq field value) = eq (string_bytes field) (shown_value value)
@@ -45,14 +45,23 @@ is_condition (lt field value) = is_field (field, value)
 is_condition (gt field value) = is_field (field, value)
 is_condition (prefix field value) = is_field (field, value)
 
--- a page of at least one row, and not too many
+-- a limit of 1 to 1,000 rows
 abbrev pub is_limit : ℕ → Bool
 is_limit limit = nat_le 1 limit && nat_le limit max_page_rows
 
--- not too many conditions, each within its limits, and a limit of a page
+-- a limit of a page, and at most 16 conditions, each within its limits
 abbrev pub query_fits : List ConditionValue → ℕ → Bool
 query_fits conditions limit = is_limit limit && nat_le (length conditions) max_conditions && list_all is_condition conditions
 
--- the same query for what stands after a key
+-- a key within its limits, or none
+abbrev pub is_end : Option (List ℕ) → Bool
+is_end None = true
+is_end (Some key) = is_key key
+
+-- the keys, the conditions and the limit keep the limits
+abbrev pub is_query : QueryValue → Bool
+is_query query = is_end query.after && is_end query.from && is_end query.to && query_fits query.conditions query.limit
+
+-- the query for the records after a key
 abbrev pub continued : QueryValue → List ℕ → QueryValue
 continued query last = record { from = query.from; to = query.to; after = Some last; conditions = query.conditions; limit = query.limit }

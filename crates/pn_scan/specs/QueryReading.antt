@@ -1,15 +1,22 @@
--- The query that a JSON value is: the shapes of its members, and then their ranges.
-use Rattle.std.specs.Prelude.{ℕ, if◌then◌else◌, List, codes, Option, Some, None, Result, Ok, Err}
+-- The query of a JSON value: first the shapes of its members, then their limits.
+use Rattle.std.specs.Prelude.{◌≡◌, ◌⊎◌, ℕ, if◌then◌else◌, List, [], ◌∷◌, codes, Option, Some, None, Result, Ok, Err}
 use Rattle.std.specs.Option.{ok_or}
 use Rattle.serde_json.specs.Data.{Data, null, boolean, number, string, array, object}
 use Rattle.serde_json.specs.Find.{get, as_object}
 use Rattle.pn_json.specs.Answers.{◌>>=◌}
 use Rattle.pn_json.specs.Members.{whole_number, no_others}
 use Rattle.pn_scan.specs.ConditionReading.{conditions_in}
-use Rattle.pn_scan.specs.Queries.{QueryValue}
-use Rattle.pn_scan.specs.QueryGrammar.{query_members, usual_page, is_query}
+use Rattle.pn_scan.specs.Queries.{QueryValue, is_query}
 use Rattle.pn_scan.specs.declared.query_fault.QueryFault.{QueryFault}
 use Rattle.pn_scan.specs.declared.query_fault.QueryFault.TheVariants.{BadShape, OutOfRange}
+
+-- the names of a query's members
+abbrev pub query_members : List (List ℕ)
+query_members = codes "after" ∷ codes "from" ∷ codes "limit" ∷ codes "to" ∷ codes "where" ∷ []
+
+-- the limit where none is given
+abbrev pub usual_page : ℕ
+usual_page = 100
 
 -- a key, or none where the value is null
 abbrev pub key_of : Data → Result (Option (List ℕ)) QueryFault
@@ -30,7 +37,7 @@ abbrev pub limit_in : Option Data → Result ℕ QueryFault
 limit_in None = Ok usual_page
 limit_in (Some d) = ok_or (whole_number d) BadShape
 
--- the query of which the value has the shape
+-- the query that the value has the shape of; no limit is checked
 unfoldable pub shape_in : Data → Result QueryValue QueryFault
 shape_in d = do
   members ← ok_or (as_object d) BadShape
@@ -42,8 +49,12 @@ shape_in d = do
   named ← no_others query_members BadShape members
   Ok (record { from = from; to = to; after = after; conditions = conditions; limit = limit })
 
--- the query that the value is, or its first fault: all shapes come before the ranges
+-- the query of a value, or its first fault; every shape comes before the limits
 unfoldable pub query_in : Data → Result QueryValue QueryFault
 query_in d = do
   query ← shape_in d
   if is_query query then Ok query else Err OutOfRange
+
+-- a member is this value, or absent where that is usual
+abbrev pub IsGiven : Option Data → Data → Type 0 → Type 0
+IsGiven member value usual = (member ≡ Some value) ⊎ ((member ≡ None) × usual)

@@ -27,7 +27,7 @@ pub record IsGet {V A : Type 0} (looks : V → Look → V → Type 0) (bounds : 
   pub answers : Answers show answer (unless (first_refusal seen) (cells_got keys seen))
   pub whole : OnOk answer (length seen ≡ length keys)
 
--- the version that is there, if one is, is not less than the required one, if there is one
+-- the version, if there is one, is not less than the required one, if there is one
 abbrev pub reaches : Option Stamp → Option Stamp → Bool
 reaches None has = true
 reaches (Some wanted) None = false
@@ -41,7 +41,7 @@ unless_behind wanted cell = if reaches wanted (version_at cell) then Ok cell els
 abbrev pub read_of : List ℕ → Option Stamp → Look → Result (Option CellValue) ScanFault
 read_of key wanted look = cell_at key look >>= unless_behind wanted
 
--- the answer is the right one, or memory ran out where nothing was at fault before
+-- the answer is the right one, or out of memory where there was no fault before
 abbrev pub AnswersAfter : {A : Type 0} → Result A ScanFault → Result A ScanFault → Result A ScanFault → Type 0
 AnswersAfter before (Ok value) right = right ≡ Ok value
 AnswersAfter before (Err fault.Memory) right = IsOk before

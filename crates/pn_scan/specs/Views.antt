@@ -26,12 +26,12 @@ abbrev pub IsFoundIn : Bounds → Look → Type 0
 IsFoundIn bounds (tablet, None) = Unit {0}
 IsFoundIn bounds (tablet, Some state) = IsStateOf bounds tablet state
 
--- the fault says that memory ran out
+-- the fault is out of memory
 abbrev pub is_memory : ScanFault → Bool
 is_memory fault.Memory = true
 is_memory _ = false
 
--- the answer, as it shows, is the right one, or memory ran out where nothing else was at fault
+-- the answer, under `show`, is the right one, or out of memory where there is no other fault
 abbrev pub Answers : {A B : Type 0} → (A → B) → Result A ScanFault → Result B ScanFault → Type 0
 Answers show (Ok value) right = right ≡ Ok (show value)
 Answers show (Err why) right = Refuses is_memory why right

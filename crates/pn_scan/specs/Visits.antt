@@ -10,7 +10,7 @@ use Rattle.pn_scan.specs.Pages.{refusal, first_refusal, unless}
 use Rattle.pn_scan.specs.Views.{IsFoundIn, Answers, Looks}
 use Rattle.pn_scan.specs.declared.fault.ScanFault.{ScanFault}
 
--- a page reads on behind these looks: none was refused, and they show at most a page of rows
+-- a page goes on after these looks: none was refused, and they show at most a page of rows
 pub record GoesOn (query : QueryValue) (before : List Look) : Type 0 where
   pub none_refused : first_refusal before ≡ None
   pub few : length (rows_in query before) ≤ query.limit
@@ -21,7 +21,7 @@ pub record IsVisit (bounds : Bounds) (query : QueryValue) (seen : List Look) : T
   pub order : map (λ look. look.0) seen ≡ take (length seen) (candidates bounds query)
   pub only : (n : ℕ) → n < length seen → GoesOn query (take n seen)
 
--- nothing was left to read: no candidate, or no room in the page
+-- nothing is left to read: no candidate, or no room in the page
 abbrev pub IsWhole : Bounds → QueryValue → List Look → Type 0
 IsWhole bounds query seen = (length seen ≡ length (candidates bounds query)) ⊎ (query.limit < length (rows_in query seen))
 
@@ -32,6 +32,6 @@ pub record IsScan {V A B : Type 0} (looks : V → Look → V → Type 0) (bounds
   pub answers : Answers show answer (unless (first_refusal (visited bounds query seen)) (right (rows_in query seen)))
   pub whole : OnOk answer (IsWhole bounds query seen)
 
--- rows, and behind them those of one tablet more that there is room for, with one more than a page has
-abbrev pub rows_behind : QueryValue → Entries → Look → Result Entries ScanFault
-rows_behind query rows look = unless (refusal look) (rows ++ take (query.limit + 1 - length rows) (shown_rows query (cells_in look.1)))
+-- rows, and after them those of one more tablet, up to one more than a page has
+abbrev pub rows_after : QueryValue → Entries → Look → Result Entries ScanFault
+rows_after query rows look = unless (refusal look) (rows ++ take (query.limit + 1 - length rows) (shown_rows query (cells_in look.1)))

@@ -9,7 +9,7 @@ use Rattle.pn_scan.specs.Candidates.{Look, rows_in}
 use Rattle.pn_scan.specs.Pages.{PageValue, page_of}
 use Rattle.pn_scan.specs.Visits.{IsVisit}
 
--- every tablet of a layout, found as it stands
+-- every tablet of a layout, as it is
 abbrev pub looks_of : Bounds → List TabletStateValue → List Look
 looks_of bounds tablets = map (λ tablet. (tablet, slice_get tablets tablet)) (range_with_len 0 (length bounds + 1))
 
@@ -27,7 +27,7 @@ ArePages is_page asked [] = Unit {0}
 ArePages is_page None (page ∷ pages) = ⊥
 ArePages is_page (Some query) (page ∷ pages) = is_page query page × ArePages is_page page.1 pages
 
--- the continuation that is left after pages, if one is
+-- the continuation of the last page, if there is one
 abbrev pub left_by : Option QueryValue → List PageValue → Option QueryValue
 left_by asked [] = asked
 left_by asked (page ∷ pages) = left_by page.1 pages

@@ -6,18 +6,18 @@ ghost use Rattle.pn_record.specs.Limits.{is_field as in_field};
 ghost use Rattle.pn_record.specs.Showing.{shown_value};
 ghost use Rattle.pn_scan.specs.Queries.{is_condition as in_condition, shown_condition};
 ghost use Rattle.pn_scan.specs.QueryJson.{condition_texts};
-ghost use Rattle.pn_scan.specs.QueryShapes.{parts_texts, seen_text};
+ghost use Rattle.pn_scan.specs.UncheckedQueries.{parts_texts, seen_text};
 
 use pn_join::NoMemory;
 use pn_record::Value;
 use pn_record::limits::{MAX_FIELD_NAME_BYTES, MAX_TEXT_BYTES};
 use std::alloc::Global;
 
-/// What a query asks of one field of a record. A record without the field does not meet it. Values are
-/// compared by their bytes.
+/// A condition on one field of a record. A record without the field does not meet it. Values are compared by their
+/// bytes.
 #[derive(Debug, Drop)]
 pub enum Condition {
-    /// The field is there.
+    /// The record has the field.
     Has { field: String },
     /// The field's value is this one.
     Eq { field: String, value: Value },
@@ -47,10 +47,10 @@ fn is_condition(condition: &Condition) -> bool
 {
     match condition {
         Condition::Has { field } => is_field(field.as_str(), ""),
-        Condition::Eq { field, value } => is_field(field.as_str(), text_of(value)),
-        Condition::Lt { field, value } => is_field(field.as_str(), text_of(value)),
-        Condition::Gt { field, value } => is_field(field.as_str(), text_of(value)),
-        Condition::Prefix { field, value } => is_field(field.as_str(), text_of(value)),
+        Condition::Eq { field, value } => is_field(field.as_str(), value_text(value)),
+        Condition::Lt { field, value } => is_field(field.as_str(), value_text(value)),
+        Condition::Gt { field, value } => is_field(field.as_str(), value_text(value)),
+        Condition::Prefix { field, value } => is_field(field.as_str(), value_text(value)),
     }
 }
 
@@ -60,14 +60,15 @@ pub(crate) fn parts_of(condition: &Condition) -> (&str, &str, Option<&str>)
 {
     match condition {
         Condition::Has { field } => ("has", field.as_str(), None),
-        Condition::Eq { field, value } => ("eq", field.as_str(), Some(text_of(value))),
-        Condition::Lt { field, value } => ("lt", field.as_str(), Some(text_of(value))),
-        Condition::Gt { field, value } => ("gt", field.as_str(), Some(text_of(value))),
-        Condition::Prefix { field, value } => ("prefix", field.as_str(), Some(text_of(value))),
+        Condition::Eq { field, value } => ("eq", field.as_str(), Some(value_text(value))),
+        Condition::Lt { field, value } => ("lt", field.as_str(), Some(value_text(value))),
+        Condition::Gt { field, value } => ("gt", field.as_str(), Some(value_text(value))),
+        Condition::Prefix { field, value } => ("prefix", field.as_str(), Some(value_text(value))),
     }
 }
 
-fn text_of(value: &Value) -> &str
+/// The text of a field's value.
+pub(crate) fn value_text(value: &Value) -> &str
     ensures { result.now ≡ shown_value value.now }
 {
     match value {
@@ -75,7 +76,7 @@ fn text_of(value: &Value) -> &str
     }
 }
 
-/// Whether a name and a text are those of a field.
+/// Whether a name and a text keep the limits of a field.
 pub(crate) fn is_field(name: &str, text: &str) -> bool
     ensures { result ≡ in_field (name.now, text.now) }
 {

@@ -5,17 +5,17 @@ ghost use Rattle.std.specs.FinMap.{find};
 ghost use Rattle.std.specs.List.{list_all};
 ghost use Rattle.std.specs.Option.{option_copied};
 ghost use Rattle.pn_record.specs.Order.{bytes_cmp};
-ghost use Rattle.pn_record.specs.Showing.{shown_field, shown_value};
+ghost use Rattle.pn_record.specs.Showing.{shown_field};
 ghost use Rattle.pn_tablet.specs.Ranges.{is_from as from_end, is_before as before_end};
 ghost use Rattle.pn_scan.specs.Queries.{shown_condition};
 ghost use Rattle.pn_scan.specs.Conditions.{field_of as name_of, is_met as text_met, meets as one_met, shows as all_met};
 ghost use Rattle.pn_scan.specs.Shown.{has_shown as some_shown, is_shown as row_shown, is_after as after_end};
 
+use crate::condition::value_text;
 use crate::{Condition, Query};
 use pn_record::{Body, Cell, Content, Key, Value};
 
-/// Whether the query shows the record of a key that is not below its `from` and below its `to`. It takes no
-/// memory.
+/// Whether the query shows the record of a key, which is at least its `from` and below its `to`.
 #[tactic(auto, using(crate::proofs::Walking::within_ends))]
 pub(crate) fn is_shown(query: &Query, key: &Key, cell: &Cell) -> bool
     requires from { from_end query.now.from key.now ≡ true }
@@ -74,31 +74,23 @@ fn meet_all(fields: &[(String, Value)], conditions: &[Condition]) -> bool
 fn meet(fields: &[(String, Value)], condition: &Condition) -> bool
     ensures { result ≡ one_met (map shown_field fields.now) (shown_condition condition.now) }
 {
-    match text_of(fields, field_of(condition)) {
+    match field_text(fields, field_of(condition)) {
         Some(text) => is_met(condition, text),
         None => false,
     }
 }
 
-// The text of a field. Names are short and mostly differ in length, so that a walk that compares lengths first
-// meets fewer distant texts than a search by halves does.
-fn text_of<'f>(fields: &'f [(String, Value)], name: &str) -> Option<&'f str>
+// The text of a field. Names are short and mostly differ in length, so that a walk, which compares lengths first,
+// loads fewer texts than a binary search.
+fn field_text<'f>(fields: &'f [(String, Value)], name: &str) -> Option<&'f str>
     ensures { option_map (λ text. text.now) result ≡ find bytes_cmp name.now (map shown_field fields.now) }
 {
     for (other, value) in fields {
         if name == other.as_str() {
-            return Some(text_in(value));
+            return Some(value_text(value));
         }
     }
     None
-}
-
-fn text_in(value: &Value) -> &str
-    ensures { result.now ≡ shown_value value.now }
-{
-    match value {
-        Value::Text(text) => text.as_str(),
-    }
 }
 
 fn field_of(condition: &Condition) -> &str
@@ -118,9 +110,11 @@ fn is_met(condition: &Condition, text: &str) -> bool
 {
     match condition {
         Condition::Has { .. } => true,
-        Condition::Eq { value, .. } => text == text_in(value),
-        Condition::Lt { value, .. } => text < text_in(value),
-        Condition::Gt { value, .. } => text_in(value) < text,
-        Condition::Prefix { value, .. } => text.as_bytes().starts_with(text_in(value).as_bytes()),
+        Condition::Eq { value, .. } => text == value_text(value),
+        Condition::Lt { value, .. } => text < value_text(value),
+        Condition::Gt { value, .. } => value_text(value) < text,
+        Condition::Prefix { value, .. } => text
+            .as_bytes()
+            .starts_with(value_text(value).as_bytes()),
     }
 }

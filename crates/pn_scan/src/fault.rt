@@ -14,12 +14,12 @@ pub enum ScanFault {
     /// The tablet of this number is recovering.
     #[error("tablet {0} is recovering")]
     Recovering(usize),
-    /// The record has a lesser version than the required one, or is absent. Only `read_at_least` answers it.
+    /// The record is absent or older than the required version. Only `read_at_least` returns it.
     #[error("behind")]
     Behind { has: Option<Version> },
     #[error("out of memory")]
     Memory,
-    /// The view was refused an entry into a tablet. A view of plain states never is.
+    /// The view could not enter a tablet. A view of plain states always can.
     #[error("no entry")]
     NoEntry,
 }

@@ -1,8 +1,7 @@
-//! Queries, and the pages and records that they ask for.
+//! Queries, and reads of pages and of single records. What returns no `Result` takes no memory.
 #![tactic(auto)]
 
 mod condition;
-mod condition_shape;
 mod conditions;
 mod fault;
 pub mod laws;
@@ -12,10 +11,12 @@ mod query;
 mod query_fault;
 pub mod query_laws;
 mod query_reading;
-mod query_shape;
 mod query_writing;
 mod reads;
 mod row;
+mod unchecked_condition;
+mod unchecked_conditions;
+mod unchecked_query;
 mod view;
 
 pub use condition::Condition;

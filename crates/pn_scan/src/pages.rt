@@ -1,4 +1,4 @@
-//! Pages of what a query shows, tablet by tablet.
+//! Pages of the rows of a query, read tablet by tablet.
 
 ghost use Rattle.std.specs.Prelude.{◌≡◌, ℕ, ◌+◌, ◌-◌, ◌≤◌, ◌++◌, List, length, take, max, option_map, nat_lt, Option, Some, None, IfOk};
 ghost use Rattle.std.specs.List.{range_with_len, last_or};
@@ -10,7 +10,7 @@ ghost use Rattle.pn_scan.specs.Queries.{continued};
 ghost use Rattle.pn_scan.specs.Candidates.{Look, candidates as all_candidates, first_tablet as named_tablet, begins_before as bound_before};
 ghost use Rattle.pn_scan.specs.Pages.{first_page};
 ghost use Rattle.pn_scan.specs.Views.{LooksOnce};
-ghost use Rattle.pn_scan.specs.Visits.{IsScan, rows_behind};
+ghost use Rattle.pn_scan.specs.Visits.{IsScan, rows_after};
 
 use crate::{Page, Query, Row, ScanFault, View};
 use pn_join::NoMemory;
@@ -18,12 +18,12 @@ use pn_record::Key;
 use pn_tablet::Layout;
 use std::alloc::Global;
 
-/// The first rows that a query shows, at most as many as its limit, and the query for what stands behind them
-/// exactly where there is more.
+/// The first rows of a query, at most its limit, and the query for the next page exactly where there is more.
 ///
-/// It reads one tablet after another, in rising number and each once: those that may have rows, until they show
-/// more than a page has. `Recovering` names the first that it reads and that is recovering, so a page that is
-/// full may still be refused by the next tablet. After an error the view can be used again.
+/// Tablets are read in rising number until a row comes after the page. `Recovering` names the first that recovers,
+/// even where the page is full.
+///
+/// After an error the view stays usable.
 pub fn page<V: View>(alloc: Global, view: &mut V, query: &Query) -> Result<Page, ScanFault>
     ensures scan { (seen : List Look) × IsScan V.looks (V.bounds view.old) query.now view.old view.new (λ page. (page.rows.items, page.next)) result
         (first_page query.now) seen }
@@ -33,7 +33,7 @@ pub fn page<V: View>(alloc: Global, view: &mut V, query: &Query) -> Result<Page,
     Ok(page_of(alloc, query, rows)?)
 }
 
-// The rows of a page, and one more where there is more.
+// The rows of a page, and the one after them, if there is one.
 fn gathered<V: View>(alloc: Global, view: &mut V, query: &Query) -> Result<Vec<Row>, ScanFault>
     ensures scan { (seen : List Look) × IsScan V.looks (V.bounds view.old) query.now view.old view.new (λ rows. rows.items) result
         (take (query.now.limit + 1)) seen }
@@ -50,7 +50,7 @@ fn gathered<V: View>(alloc: Global, view: &mut V, query: &Query) -> Result<Vec<R
     Ok(rows)
 }
 
-// The rows with those of one tablet more, as long as there is room for a page and one more.
+// The rows with those of one more tablet, up to one more than a page has.
 fn read_on<V: View>(
     alloc: Global,
     view: &mut V,
@@ -61,15 +61,15 @@ fn read_on<V: View>(
     requires tablet { tablet ≤ length (V.bounds view.old) }
     requires few { length rows.items ≤ query.now.limit }
     ensures look { (found : Option TabletStateValue) × LooksOnce V.looks (V.bounds view.old) view.old view.new (λ rows. rows.items) result
-        (rows_behind query.now rows.items) (tablet, found) }
+        (rows_after query.now rows.items) (tablet, found) }
     ensures layout { V.bounds view.new ≡ V.bounds view.old }
 {
     let room = query.limit() + 1 - rows.len();
     let (part, _more) = view.part(alloc, tablet, query, room)?;
-    Ok(put_behind(rows, part)?)
+    Ok(put_after(rows, part)?)
 }
 
-fn put_behind(mut rows: Vec<Row>, mut more: Vec<Row>) -> Result<Vec<Row>, NoMemory>
+fn put_after(mut rows: Vec<Row>, mut more: Vec<Row>) -> Result<Vec<Row>, NoMemory>
     ensures { IfOk result (λ all. all.items ≡ rows.items ++ more.items) }
 {
     if rows.is_empty() {
@@ -124,7 +124,7 @@ fn begins_before(from: Option<&Key>, to: &Key) -> bool
     }
 }
 
-// The page of rows, of which one more than the limit may be there.
+// The page of rows, of which there may be one more than the limit.
 fn page_of(alloc: Global, query: &Query, mut rows: Vec<Row>) -> Result<Page, NoMemory>
     ensures { IfOk result (λ page. (all : Entries) → rows.items ≡ take (query.now.limit + 1) all → (page.rows.items, page.next) ≡ first_page query.now all) }
 {

@@ -1,4 +1,4 @@
-//! What is read of one tablet.
+//! Reads of one tablet.
 
 ghost use Rattle.std.specs.Prelude.{◌≡◌, true, take, drop, length, count_by, nat_lt, Some, IfOk, IsTrue};
 ghost use Rattle.std.specs.FinMap.{is_sorted};
@@ -18,10 +18,9 @@ use pn_record::{Cell, Key, Records};
 use pn_tablet::{Status, TabletState};
 use std::alloc::Global;
 
-/// The first rows that a query shows of a tablet, at most as many as there is room for, and whether it shows
-/// more. Keys are copied, and contents are shared.
+/// The first `room` rows that a query shows of a tablet, and whether it shows more. It copies keys and shares contents.
 ///
-/// `Recovering` comes exactly where the tablet is recovering; it names the tablet by the number given.
+/// `Recovering`, with the number given, exactly where the tablet recovers.
 pub fn part_of(
     alloc: Global,
     state: &TabletState,
@@ -35,9 +34,9 @@ pub fn part_of(
     Ok(first_rows(alloc, state.cells(), query, room)?)
 }
 
-/// The cell of a key in a tablet, if it has one; its contents are shared.
+/// The cell of a key in a tablet, if it has one. It shares contents.
 ///
-/// `Recovering` comes exactly where the tablet is recovering; it names the tablet by the number given.
+/// `Recovering`, with the number given, exactly where the tablet recovers.
 pub fn cell_of(state: &TabletState, tablet: usize, key: &Key) -> Result<Option<Cell>, ScanFault>
     ensures { Answers (λ cell. cell) result (cell_at key.now (tablet, Some state.now)) }
 {
@@ -57,8 +56,7 @@ fn check_serving(state: &TabletState, tablet: usize) -> Result<(), ScanFault>
     }
 }
 
-// The rows begin at the first key that is not below the ends, which is searched; the walk stops at the end, or
-// where one row more than there is room for is shown.
+// A walk from the first key that may be shown, found by a search, to the end of the range or one row past the room.
 fn first_rows(
     alloc: Global,
     cells: &Records,
@@ -85,7 +83,7 @@ fn first_rows(
     Ok((rows, false))
 }
 
-// Reads what copies of the cells will count up, each without waiting for the one before. No promise rests on it.
+// Prefetches the counters that copies of the cells raise. No clause depends on it.
 fn prefetch_cells(cells: &Records, place: usize, query: &Query, room: usize) {
     for (key, cell) in cells.iter_from(place).take(room) {
         if !is_before(query.to(), key) {
@@ -95,7 +93,7 @@ fn prefetch_cells(cells: &Records, place: usize, query: &Query, room: usize) {
     }
 }
 
-// A place before which no record is shown, and from which on no key is below `from`.
+// A place before which no record is shown, and after which no key is below `from`.
 fn first_place(cells: &Records, query: &Query) -> usize
     requires { IsTrue (is_sorted bytes_cmp cells.now) }
     ensures shown { shown_rows query.now (drop result cells.now) ≡ shown_rows query.now cells.now }

@@ -17,9 +17,8 @@ pub const MAX_PAGE_ROWS: usize = 1_000;
 /// The most conditions of a query.
 pub const MAX_CONDITIONS: usize = 16;
 
-/// A query of the records whose keys are not below `from`, below `to` and above `after`, and which meet all
-/// conditions: at most 16, each on a field of 1 to 64 bytes and with a value of at most 4,096. An answer has
-/// at most `limit` rows, from 1 to 1,000.
+/// A query of the records with keys at least `from`, below `to` and above `after` that meet at most 16 conditions, in
+/// pages of 1 to 1,000 rows.
 #[derive(Debug, Drop)]
 pub struct Query {
     pub(crate) from: Option<Key>,
@@ -41,8 +40,8 @@ impl Model for Query {
 }
 
 impl Query {
-    /// None where the limit is not from 1 to 1,000, there are more than 16 conditions, or one breaks its
-    /// limits. Any three keys will do. It takes no memory.
+    /// None above 16 conditions, where one breaks its limits, or where `limit` is not from 1 to 1,000. A field has 1
+    /// to 64 bytes, a value at most 4,096.
     pub fn new(
         from: Option<Key>,
         to: Option<Key>,
@@ -66,35 +65,35 @@ impl Query {
         })
     }
 
-    /// The key that no answer is below. It takes no memory.
+    /// The least key that may be shown; none where open.
     pub fn from(&self) -> Option<&Key>
         ensures { option_copied result ≡ self.now.from }
     {
         self.from.as_ref()
     }
 
-    /// The key that each answer is below. It takes no memory.
+    /// The key that all shown keys are below; none where open.
     pub fn to(&self) -> Option<&Key>
         ensures { option_copied result ≡ self.now.to }
     {
         self.to.as_ref()
     }
 
-    /// The key that each answer is above. It takes no memory.
+    /// The key that all shown keys are above, if there is one.
     pub fn after(&self) -> Option<&Key>
         ensures { option_copied result ≡ self.now.after }
     {
         self.after.as_ref()
     }
 
-    /// The conditions, all of which an answer meets. It takes no memory.
+    /// The conditions, all of which a shown record meets.
     pub fn conditions(&self) -> &[Condition]
         ensures { map shown_condition result.now ≡ self.now.conditions }
     {
         &self.conditions
     }
 
-    /// The most rows of an answer, from 1 to 1,000. It takes no memory.
+    /// The most rows of a page, from 1 to 1,000.
     pub fn limit(&self) -> usize
         ensures limit { result ≡ self.now.limit }
         ensures fits { IsTrue (query_fits self.now.conditions self.now.limit) }
@@ -102,7 +101,7 @@ impl Query {
         self.limit
     }
 
-    /// The same query for what stands after the key.
+    /// The query for the records after the key.
     pub fn continued(&self, alloc: Global, last: &Key) -> Result<Query, NoMemory>
         ensures { IfOk result (λ query. query ≡ continued self.now last.now) }
     {

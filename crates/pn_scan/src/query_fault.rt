@@ -1,4 +1,4 @@
-//! Why a value was not taken as a query.
+//! Why a value is no query.
 
 ghost use Rattle.std.specs.Prelude.{◌≡◌};
 ghost use Rattle.pn_scan.specs.declared.query_fault.QueryFault.TheVariants.{Memory};
@@ -6,13 +6,13 @@ ghost use Rattle.pn_scan.specs.declared.query_fault.QueryFault.TheVariants.{Memo
 use pn_join::NoMemory;
 use thiserror::Error;
 
-/// Why a query was refused.
+/// Why a value is no query.
 #[derive(Clone, Copy, Debug, PartialEq, Eq, Error)]
 pub enum QueryFault {
-    /// The value is no object, a member has no meaning in a query, or one is of another kind than it has to be.
+    /// The value is no object, or has an unknown member or one of a wrong kind.
     #[error("bad shape")]
     BadShape,
-    /// All members are of the right kind, and one breaks a limit.
+    /// Every member has the right kind, and one breaks a limit.
     #[error("out of range")]
     OutOfRange,
     #[error("out of memory")]

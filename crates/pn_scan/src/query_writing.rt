@@ -1,14 +1,14 @@
 //! Queries as JSON: as values, and written straight into a line.
 
-ghost use Rattle.std.specs.Prelude.{◌≡◌, map, IfOk, OnOk, IsTrue};
+ghost use Rattle.std.specs.Prelude.{◌≡◌, map, Ok, IfOk, OnOk, IsTrue};
 ghost use Rattle.std.specs.Option.{option_copied};
 ghost use Rattle.serde_json.specs.Data.{put};
 ghost use Rattle.serde_json.specs.View.{view, members_view};
 ghost use Rattle.pn_json.specs.Tokens.{Appends, member_tokens, value_tokens};
-ghost use Rattle.pn_scan.specs.Queries.{shown_condition};
-ghost use Rattle.pn_scan.specs.QueryGrammar.{is_end, IsQuery};
+ghost use Rattle.pn_scan.specs.Queries.{is_end, is_query, shown_condition};
 ghost use Rattle.pn_scan.specs.QueryJson.{condition_data, conditions_data, key_data, query_data};
-ghost use Rattle.pn_scan.specs.QueryShapes.{seen_text, operand_tokens};
+ghost use Rattle.pn_scan.specs.QueryReading.{query_in};
+ghost use Rattle.pn_scan.specs.UncheckedQueries.{seen_text, operand_tokens};
 
 use crate::condition::parts_of;
 use crate::{Condition, Query};
@@ -19,11 +19,18 @@ use pn_record::Key;
 use serde_json::{Map, Value, json};
 use std::alloc::Global;
 
-/// The query as JSON, with all five members; it is read as the same query.
-#[tactic(auto, using(crate::proofs::SameQuery::query_written))]
+/// The query as JSON, with all five members. It is read as an equal query.
 pub fn query_value(alloc: Global, query: &Query) -> Result<Value, NoMemory>
     ensures value { IfOk result (λ value. view value ≡ query_data query.now) }
-    ensures reads_back { IfOk result (λ value. IsQuery (view value) query.now) }
+    ensures reads_back { IfOk result (λ value. query_in (view value) ≡ Ok query.now) }
+{
+    let value = members_value(alloc, query)?;
+    Ok(value)
+}
+
+fn members_value(alloc: Global, query: &Query) -> Result<Value, NoMemory>
+    ensures value { IfOk result (λ value. view value ≡ query_data query.now) }
+    ensures limits { OnOk result (IsTrue (is_query query.now)) }
 {
     let mut members = Map::new(alloc);
     put_key(&mut members, alloc, "after", query.after())?;

@@ -15,8 +15,7 @@ use std::alloc::Global;
 
 /// The cells of keys, in the order of the keys, each read in its own tablet; none where there is no record.
 ///
-/// `Recovering` names the tablet of the first key whose tablet is recovering. After an error the view can be used
-/// again.
+/// `Recovering` names the tablet of the first key whose tablet recovers. After an error the view stays usable.
 pub fn get<V: View>(
     alloc: Global,
     view: &mut V,
@@ -32,11 +31,10 @@ pub fn get<V: View>(
     Ok(cells)
 }
 
-/// The cell of a key, or none where there is no record. Where a version is required, the record is there, in
-/// that version or a later one.
+/// The cell of a key, or none where there is no record. A required version is reached.
 ///
-/// `Recovering` comes first. `Behind` comes exactly where a version is required and the record is absent or older.
-/// After an error the view can be used again.
+/// `Recovering` comes first; `Behind` exactly where a version is required and the record is absent or older. After an
+/// error the view stays usable.
 pub fn read_at_least<V: View>(
     view: &mut V,
     key: &Key,

@@ -4,7 +4,7 @@ use crate::Query;
 use pn_record::{Cell, Key};
 use std::marker::Model;
 
-/// A record that is shown: its key and its whole cell.
+/// A record of a page: its key and its whole cell.
 #[derive(Debug, Drop)]
 pub struct Row {
     pub key: Key,
@@ -26,7 +26,7 @@ impl Model for Row {
     ghost view = { λ row. (row.key, row.cell) };
 }
 
-/// A page of rows in key order, and the query for what is still to come, if there is more.
+/// A page of rows in key order, and the query for the next page, if there is more.
 #[derive(Debug, Drop)]
 pub struct Page {
     pub rows: Vec<Row>,

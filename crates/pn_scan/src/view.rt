@@ -11,24 +11,24 @@ use pn_record::{Cell, Key};
 use pn_tablet::Layout;
 use std::alloc::Global;
 
-/// What tablets are read through: the tablets of a layout, each read at one moment of its own. The tablets,
-/// and the view itself, may change from one read to the next; the layout stays.
+/// A view of the tablets of a layout, each read at one moment of its own. Between two reads tablets and view may
+/// change; the layout stays.
 pub trait View {
     // The bounds of its layout.
     ghost bounds: { Self → Bounds };
 
-    // It looked into a tablet, found a state there or was refused the entry, and may be another view then.
+    // One look into a tablet: the view before, the state that was found or none where refused, and the view after.
     ghost looks: { Self → Look → Self → Type 0 };
 
-    /// How the keys are divided into tablets. It takes no memory.
+    /// The layout of the tablets.
     fn layout(&self) -> &Layout
         ensures { result.now ≡ bounds self.now };
 
-    /// The first rows that a query shows of a tablet, at most as many as there is room for, and whether it
-    /// shows more. The tablet's number is below the layout's count.
+    /// The first `room` rows that a query shows of a tablet, whose number is below the layout's count, and whether it
+    /// shows more.
     ///
-    /// `Recovering` comes exactly where the tablet is recovering, and `NoEntry` exactly where the entry was
-    /// refused. After an error the view can be used again.
+    /// `Recovering` exactly where the tablet recovers, `NoEntry` exactly where the entry was refused. After an error
+    /// the view stays usable.
     fn part(
         &mut self,
         alloc: Global,
@@ -41,7 +41,7 @@ pub trait View {
             (rows_at query.now room) (tablet, found) }
         ensures layout { bounds self.new ≡ bounds self.old };
 
-    /// The cell of a key, if it has one, read in the key's own tablet. The errors are those of `part`.
+    /// The cell of a key, if it has one, read in the key's own tablet. Errors are those of `part`.
     fn cell(&mut self, key: &Key) -> Result<Option<Cell>, ScanFault>
         ensures look { (found : Option TabletStateValue) × LooksOnce looks (bounds self.old) self.old self.new (λ cell. cell) result
             (cell_at key.now) (tablet_of (bounds self.old) key.now, found) }

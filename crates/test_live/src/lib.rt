@@ -1,5 +1,5 @@
-//! Tests of live regions: the worked row, two workers that meet, a reader that is served while a round is held, and calls
-//! that run out of memory.
+//! Tests of live regions: worked rows, workers that meet, a reader beside a held round and beside a writer, and calls that run out
+//! of memory.
 #![tactic(auto)]
 
 #[cfg(test)]
@@ -7,6 +7,12 @@ mod meeting;
 #[cfg(test)]
 mod memory;
 #[cfg(test)]
+mod race;
+#[cfg(test)]
+mod recovery;
+#[cfg(test)]
 mod rows;
 #[cfg(test)]
 mod served;
+#[cfg(test)]
+mod words;

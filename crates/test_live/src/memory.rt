@@ -17,7 +17,13 @@ use std::alloc::Global;
 use std::sync::Wait;
 use std::test::Fail;
 use std::thread::Threads;
-use test_given_live::{KEYS, closed, deliveries, found, hand_back, opened, take_out};
+use test_kit::{deliveries, keys, layout};
+use test_kit_live::{closed, found, hand_back, opened, take_out};
+
+/// A key of each tablet, and the bounds between them.
+const KEYS: &str = "a n z";
+
+const BOUNDS: &str = "m t";
 
 /// How a life of a live region ended.
 #[derive(Clone, Copy, PartialEq)]
@@ -46,26 +52,15 @@ struct Given {
     later: (Vec<Delivery>, Vec<Delivery>),
 }
 
-// The layout whose tablets have one of the keys each.
-fn tablets_of_keys(alloc: Global) -> Option<Layout> {
-    let mut bounds = Vec::with_capacity(alloc, 2).ok()?;
-    bounds.push(Key::of(alloc, "m").ok()?).ok()?;
-    bounds.push(Key::of(alloc, "t").ok()?).ok()?;
-    Layout::new(bounds).ok()
-}
-
 fn make_wanted(alloc: Global) -> Option<Wanted> {
-    let mut keys = Vec::with_capacity(alloc, KEYS.len()).ok()?;
-    for key in &KEYS {
-        keys.push(Key::of(alloc, key).ok()?).ok()?;
-    }
+    let keys = keys(alloc, KEYS)?;
     let query = Query::new(None, None, None, Vec::new(alloc), 100)?;
     let need = Marks::new(alloc);
     Some(Wanted { keys, query, need })
 }
 
 fn make_given(alloc: Global) -> Option<Given> {
-    let layouts = (tablets_of_keys(alloc)?, tablets_of_keys(alloc)?);
+    let layouts = (layout(alloc, BOUNDS)?, layout(alloc, BOUNDS)?);
     let rounds = twice(alloc, 1, 5)?;
     let later = twice(alloc, 4, 6)?;
     Some(Given {
@@ -76,8 +71,8 @@ fn make_given(alloc: Global) -> Option<Given> {
 }
 
 fn twice(alloc: Global, first: u64, number: u64) -> Option<(Vec<Delivery>, Vec<Delivery>)> {
-    let once = deliveries(alloc, first, &KEYS, number)?;
-    let again = deliveries(alloc, first, &KEYS, number)?;
+    let once = deliveries(alloc, first, KEYS, number)?;
+    let again = deliveries(alloc, first, KEYS, number)?;
     Some((once, again))
 }
 
@@ -171,7 +166,7 @@ fn recover<R: Wait>(rt: &R, live: &mut LiveRegion, copies: (TabletCopy, TabletCo
     is_lost && (live.adopt(rt, first).is_ok() || live.adopt(rt, second).is_ok())
 }
 
-// Takes a round, and finds what it brought behind its front.
+// Takes a round, learns its front, and finds what it brought.
 fn serve<R: Threads + Wait + Sync>(
     rt: &R,
     live: &mut LiveRegion,
@@ -191,7 +186,7 @@ fn serve<R: Threads + Wait + Sync>(
     wanted.is_found(reader, number)
 }
 
-// Two rounds, of which one comes behind a loss and an adoption.
+// A round, a loss, an adoption, and a round after them.
 fn lives<R: Threads + Wait + Sync>(
     rt: &R,
     live: &mut LiveRegion,

@@ -6,29 +6,30 @@ ghost use Rattle.pn_live.specs.LiveRegions.{IsReaderIn, tablets_in};
 ghost use Rattle.pn_live.specs.Readers.{IsFrontFor, tablets_of};
 
 use pn_apply::Open;
+use pn_join::NoMemory;
 use pn_live::{Front, LiveReader, LiveRegion};
-use pn_record::{Key, KeyFault, Version};
+use pn_record::{Key, Version};
 use pn_scan::ScanFault;
 use pn_stream::Delivery;
 use std::sync::Wait;
 use std::test::Fail;
 use std::thread::{Threads, join_mut};
-use test_given::layout;
-use test_given_live::{closed, deliveries, found, hand_back, opened, take_out};
+use test_kit::{deliveries, layout};
+use test_kit_live::{closed, found, hand_back, opened, take_out};
 
 // The version and the number of contents, whether the version 1.5 is there, and whether 1.9 is not.
 type Found = (Option<(Version, usize)>, bool, bool);
 
 // A reader, and a front that it is to learn, where there is one.
 #[derive(Drop)]
-struct Told {
+struct Learner {
     reader: LiveReader,
     front: Option<Front>,
     ghost fits: { ForSome front (IsFrontFor reader) },
 }
 
-impl Told {
-    // What it finds behind its front.
+impl Learner {
+    // Learns its front, and looks.
     fn look(&mut self, key: &Key) -> Result<Found, ScanFault>
         ensures { tablets_of self.new.reader ≡ tablets_of self.old.reader }
     {
@@ -45,13 +46,12 @@ impl Told {
     }
 }
 
-// How many records a round changes, and what two readers find behind it in threads of their own, of which the first
-// learns its front.
+// How many records a round changes, and what two readers then find in threads of their own. The first learns its front.
 fn beside<R: Threads + Wait + Sync>(
     rt: &R,
     live: &mut LiveRegion,
-    first: &mut Told,
-    second: &mut Told,
+    first: &mut Learner,
+    second: &mut Learner,
     given: Vec<Delivery>,
     key: &Key,
 ) -> Option<(u64, Found, Found)>
@@ -66,7 +66,7 @@ fn beside<R: Threads + Wait + Sync>(
     Some((round.changed, one.ok()?, other.ok()?))
 }
 
-// The same, of two of these readers.
+// Takes two of these readers for it.
 fn rounded<R: Threads + Wait + Sync>(
     rt: &R,
     live: &mut LiveRegion,
@@ -77,11 +77,11 @@ fn rounded<R: Threads + Wait + Sync>(
     requires { All (IsReaderIn live.old) readers.old.items }
     ensures { All (IsReaderIn live.new) readers.new.items }
 {
-    let mut first = Told {
+    let mut first = Learner {
         reader: take_out(live, readers)?,
         front: None,
     };
-    let mut second = Told {
+    let mut second = Learner {
         reader: take_out(live, readers)?,
         front: None,
     };
@@ -95,8 +95,8 @@ fn rounded<R: Threads + Wait + Sync>(
 fn a_reader_that_learns_the_front_finds_the_round(rt: HostRuntime) -> Result<(), Fail> {
     let alloc = rt.alloc();
     let key = Key::of(alloc, "k")?;
-    let given = deliveries(alloc, 1, &["k"], 5).ok_or(KeyFault::OutOfRange)?;
-    let (mut live, mut readers) = opened(&rt, alloc, layout(alloc, &[])?, 2)?;
+    let given = deliveries(alloc, 1, "k", 5).ok_or(NoMemory)?;
+    let (mut live, mut readers) = opened(&rt, alloc, layout(alloc, "").ok_or(NoMemory)?, 2)?;
     let answers = rounded(&rt, &mut live, &mut readers, given, &key);
     let region = closed(&rt, live, readers)?;
     let version = Version::new(1, 5).map(|version| (version, 1));

@@ -5,6 +5,7 @@ ghost use Rattle.pn_live.specs.Readers.{AreNotesOf, tablets_of};
 ghost use Rattle.std.specs.Prelude.{◌≡◌, IfSome};
 
 use pn_apply::Gate;
+use pn_join::NoMemory;
 use pn_live::{Front, LiveReader, LiveRegion};
 use pn_record::{Key, Version};
 use std::alloc::Global;
@@ -13,8 +14,8 @@ use std::sync::atomic::{AtomicBool, Ordering};
 use std::test::Fail;
 use std::thread;
 use std::thread::{Threads, join_mut};
-use test_given::layout;
-use test_given_live::{closed, deliveries, found, hand_back, opened, take_out};
+use test_kit::{deliveries, layout};
+use test_kit_live::{closed, found, hand_back, opened, take_out};
 
 /// How often the worker looks whether the reader has answered.
 const MAX_TURNS: u64 = 1_000_000;
@@ -41,7 +42,7 @@ impl Gate for Held {
     }
 }
 
-// Whether a read while the round is held answers that there is no record. The gate is told of the answer.
+// Whether a read while the round is held finds no record. The gate then lets the round go on.
 fn read_once(reader: &mut LiveReader, key: &Key, gate: &Held) -> bool
     ensures { tablets_of reader.new ≡ tablets_of reader.old }
 {
@@ -60,12 +61,12 @@ fn hold_round<R: Threads + Wait + Sync>(
     ensures front { IfSome result (λ done. AreNotesOf (tablets_in live.old) done.1) }
     ensures same { tablets_in live.new ≡ tablets_in live.old }
 {
-    let given = deliveries(alloc, 1, &["n"], 0)?;
+    let given = deliveries(alloc, 1, "n", 0)?;
     let (round, front) = live.round(rt, given, 1, gate).ok()?;
     Some((round.changed, front))
 }
 
-// What a read finds while the round is held, how many records the round changes, and what a read finds behind it.
+// What a read finds while the round is held, how many records the round changes, and what a read finds after it.
 #[derive(Drop)]
 struct Answers {
     was_none: bool,
@@ -103,7 +104,7 @@ fn serve<R: Threads + Wait + Sync>(
 #[test]
 fn a_reader_is_served_while_a_round_is_held(rt: HostRuntime) -> Result<(), Fail> {
     let alloc = rt.alloc();
-    let (mut live, mut readers) = opened(&rt, alloc, layout(alloc, &["m"])?, 1)?;
+    let (mut live, mut readers) = opened(&rt, alloc, layout(alloc, "m").ok_or(NoMemory)?, 1)?;
     let gate = Held {
         answered: AtomicBool::new(false),
         missed: AtomicBool::new(false),

@@ -1,7 +1,8 @@
 //! Scripts, each answered over a region of its own.
 //!
-//! A head begins each: `## NAME WORKERS BOUND ..`, with the number of workers and the bounds of the tablets. The
-//! head comes out again, and behind it the replies. What they must be stands in `stdout`.
+//! A head begins each: `## NAME WORKERS BOUND ..`, with the number of workers and the bounds of the tablets.
+//!
+//! The head comes out again, and then the replies. `stdout` has what they must be.
 #![tactic(auto)]
 
 use pn_line::{InMemory, LineBuffer, LineEnd, read_line};
@@ -40,7 +41,7 @@ fn main(rt: HostRuntime) -> io::Result<()> {
     answer(&rt, &head, &script)
 }
 
-// Writes the head, and behind it the replies to the script.
+// Writes the head, and then the replies to the script.
 fn answer(
     rt: &(impl AllocGlobal + Print + Threads + Sync),
     head: &[u8],
@@ -62,7 +63,7 @@ fn answer(
     }
 }
 
-// The words of a head behind its name: how many workers, and the bounds.
+// The words of a head after its name: the number of workers, and the bounds.
 fn settings_of(alloc: Global, head: &[u8]) -> Option<Settings> {
     let mut words = str::from_utf8(head).ok()?.split(' ').skip(2);
     let workers = words.next()?.parse::<usize>().ok()?;

@@ -1,12 +1,12 @@
 -- Which JSON values are commands, and which lines.
-use Rattle.std.specs.Prelude.{◌≡◌, ◌⊎◌, ℕ, List, [], Option, Some, None, codes, IsTrue}
+use Rattle.std.specs.Prelude.{◌≡◌, ◌⊎◌, ℕ, List, [], Option, Some, None, codes, Ok, IsTrue}
 use Rattle.serde_json.specs.Data.{Data, null, Members, no_members, member}
 use Rattle.pn_join.specs.Marks.{Positions}
 use Rattle.pn_record.specs.Marks.{marks_data}
 use Rattle.pn_record.specs.Reading.{IsLine}
 use Rattle.pn_record.specs.Sets.{Stamp}
 use Rattle.pn_record.specs.Writing.{version_data}
-use Rattle.pn_scan.specs.QueryGrammar.{HasShape}
+use Rattle.pn_scan.specs.QueryReading.{shape_in}
 use Rattle.pn_protocol.specs.Command.Limits.{is_command}
 use Rattle.pn_protocol.specs.Command.Meaning.{CommandValue, adopt, copy, deliver, get, lose, marks, notices, read, scan, tablets}
 use Rattle.pn_protocol.specs.Command.Json.{command_data, adopt_command, copy_command, deliver_command, get_command, lose_command, notices_command, read_command, scan_command}
@@ -31,7 +31,7 @@ Says d (lose tablet) = d ≡ lose_command tablet
 Says d marks = d ≡ command_data (codes "marks") no_members
 Says d (notices since) = d ≡ notices_command since
 Says d (read key version) = (others : Members) × IsRequired others version × (d ≡ read_command key others)
-Says d (scan query) = (asked : Data) × HasShape asked query × (d ≡ scan_command asked)
+Says d (scan query) = (asked : Data) × (shape_in asked ≡ Ok query) × (d ≡ scan_command asked)
 Says d tablets = d ≡ command_data (codes "tablets") no_members
 
 -- the value is the JSON of the command, which keeps the limits

@@ -7,7 +7,7 @@ use Rattle.pn_record.specs.Limits.{is_key, is_version}
 use Rattle.pn_record.specs.Marks.{is_mark}
 use Rattle.pn_record.specs.Sets.{Stamp}
 use Rattle.pn_region.specs.Log.{last_number}
-use Rattle.pn_scan.specs.QueryGrammar.{is_query}
+use Rattle.pn_scan.specs.Queries.{is_query}
 use Rattle.pn_stream.specs.Positions.{DeliveryValue, are_positions}
 use Rattle.pn_protocol.specs.Command.Meaning.{CommandValue, adopt, copy, deliver, get, notices, read, scan}
 

@@ -55,11 +55,7 @@ pub(crate) fn error_reply(
     finish_line(writer)
 }
 
-fn write_error(
-    writer: &mut Writer,
-    name: &str,
-    details: ErrorDetails<'_>,
-) -> Result<(), NoMemory>
+fn write_error(writer: &mut Writer, name: &str, details: ErrorDetails<'_>) -> Result<(), NoMemory>
     ensures { OnOk result (Appends writer.old writer.new (value_tokens (error_data name.now (details_members details.entry)))) }
 {
     writer.begin_object()?;

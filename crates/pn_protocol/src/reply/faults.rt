@@ -59,7 +59,11 @@ pub fn no_copy_reply(alloc: Global, tablet: usize, fault: &CopyFault) -> Result<
     ensures { IfOk result (λ text. text.items ≡ line_of (no_copy_data tablet fault.now)) }
 {
     match fault {
-        CopyFault::Recovering => error_reply(alloc, "recovering", ErrorDetails::Tablet(tablet as u64)),
+        CopyFault::Recovering => error_reply(
+            alloc,
+            "recovering",
+            ErrorDetails::Tablet(tablet as u64),
+        ),
         CopyFault::Behind {
             stream,
             has,
@@ -88,7 +92,11 @@ pub fn bad_text_reply(alloc: Global, fault: &CopyTextFault) -> Result<Vec<u8>, N
         CopyTextFault::OutsideRange(line) => {
             error_reply(alloc, "outside-range", ErrorDetails::Line(*line))
         }
-        CopyTextFault::NotRising(line) => error_reply(alloc, "not-rising", ErrorDetails::Line(*line)),
+        CopyTextFault::NotRising(line) => error_reply(
+            alloc,
+            "not-rising",
+            ErrorDetails::Line(*line),
+        ),
         CopyTextFault::BadEnd => error_reply(alloc, "bad-end", ErrorDetails::Nothing),
         CopyTextFault::Memory => error_reply(alloc, "memory", ErrorDetails::Nothing),
     }

@@ -9,5 +9,5 @@ use Rattle.pn_scan.proofs.laws.keys_rise_from_page_to_page.Goals as goal
 pub returns : goal.returns
 returns c = record {
   rise = λ bounds query pages lawful some are. sorted_from_Rising bytes_cmp (rows_of pages) (pages_rise bounds lawful (Some query) pages some are).0;
-  behind = λ bounds query pages lawful some are. (pages_rise bounds lawful (Some query) pages some are).1;
+  after = λ bounds query pages lawful some are. (pages_rise bounds lawful (Some query) pages some are).1;
 }

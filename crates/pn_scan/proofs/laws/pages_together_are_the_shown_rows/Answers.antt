@@ -1,4 +1,4 @@
--- Each continuation asks for what stands behind its page, which is less each time.
+-- Each continuation asks for the rows after its page, which are fewer each time.
 use Rattle.pn_join.proofs.Rising.{Rising-from_sorted}
 use Rattle.pn_record.specs.Order.{bytes_cmp}
 use Rattle.pn_scan.proofs.WalkLaws.{walked, walk_ends}

@@ -10,8 +10,8 @@ returns-then-self-other-clause-this g c =
     let less : length mine.seen.log ≤ length theirs.seen.log = omega (arith, mine.counted, theirs.counted) in
     rw (c.again.ensures) (settled_in_longer mine.seen.log theirs.seen.log c.joined.result.log c.joined.ensures.lawful c.joined.ensures.this c.joined.ensures.that less)
 
-pub returns-clause-that : goal.returns-clause-that
-returns-clause-that g c =
+pub returns-else-self-other-clause-that : goal.returns-else-self-other-clause-that
+returns-else-self-other-clause-that g c =
     let mine = c.args.self.now in
     let theirs = c.args.other.now in
     let less : length theirs.seen.log ≤ length mine.seen.log = omega (arith, mine.counted, theirs.counted) in

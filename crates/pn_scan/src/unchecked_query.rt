@@ -1,0 +1,166 @@
+//! A query of the right shape, with keys borrowed from the parsed value. Its limits are not checked yet.
+
+ghost use Rattle.std.specs.Prelude.{◌≡◌, IfOk, IfErr, IsTrue};
+ghost use Rattle.serde_json.specs.View.{view};
+ghost use Rattle.pn_json.specs.Members.{seen};
+ghost use Rattle.pn_json.specs.Answers.{Shows};
+ghost use Rattle.pn_record.specs.Limits.{is_key as in_key};
+ghost use Rattle.pn_scan.specs.Queries.{is_end as in_end, is_limit, is_query};
+ghost use Rattle.pn_scan.specs.QueryReading.{key_of as key_spelled, key_in, limit_in, shape_in};
+ghost use Rattle.pn_scan.specs.UncheckedQueries.{seen_text};
+
+use crate::query::MAX_PAGE_ROWS;
+use crate::unchecked_conditions::{UncheckedConditions, conditions_of};
+use crate::{Query, QueryFault};
+use pn_join::NoMemory;
+use pn_json::{check_names, whole_number_of};
+use pn_record::limits::MAX_KEY_BYTES;
+use pn_record::{Key, KeyFault};
+use serde_json::Value;
+use std::alloc::Global;
+use std::marker::Model;
+
+/// The most rows of a page where a query names no limit.
+const USUAL_PAGE: u64 = 100;
+
+/// The members of a query, whose limits are not checked yet.
+#[derive(Drop)]
+pub(crate) struct UncheckedQuery<'v> {
+    after: Option<&'v str>,
+    from: Option<&'v str>,
+    limit: u64,
+    to: Option<&'v str>,
+    conditions: UncheckedConditions<'v>,
+}
+
+impl<'v> Model for UncheckedQuery<'v> {
+    ghost use Rattle.pn_scan.specs.Queries.{QueryValue};
+    ghost use Rattle.pn_scan.specs.UncheckedQueries.{seen_text};
+
+    ghost Value = { QueryValue };
+
+    ghost view = { λ q. record { from = seen_text q.from; to = seen_text q.to; after = seen_text q.after; conditions = q.conditions; limit = q.limit } };
+}
+
+/// The query that a value has the shape of.
+#[tactic(auto, unfolding(crate::specs::QueryReading::shape_in))]
+pub(crate) fn unchecked_query(
+    alloc: Global,
+    value: &Value,
+) -> Result<UncheckedQuery<'_>, QueryFault>
+    ensures exact { result ≡ shape_in (view value.now) }
+    ensures faults { IfErr result (λ fault. fault ≡ QueryFault.BadShape) }
+{
+    let members = value.as_object().ok_or(QueryFault::BadShape)?;
+    let after = key_in(value.get("after"))?;
+    let from = key_in(value.get("from"))?;
+    let limit = limit_in(value.get("limit"))?;
+    let to = key_in(value.get("to"))?;
+    let conditions = conditions_of(alloc, value.get("where"))?;
+    let names = ["after", "from", "limit", "to", "where"];
+    check_names(members, &names, QueryFault::BadShape)?;
+    Ok(UncheckedQuery {
+        after,
+        from,
+        limit,
+        to,
+        conditions,
+    })
+}
+
+fn key_in(value: Option<&Value>) -> Result<Option<&str>, QueryFault>
+    ensures { Shows seen_text result (key_in (seen value.entry)) }
+{
+    match value {
+        None => Ok(None),
+        Some(value) => key_at(value),
+    }
+}
+
+fn key_at(value: &Value) -> Result<Option<&str>, QueryFault>
+    ensures { Shows seen_text result (key_spelled (view value.now)) }
+{
+    match value {
+        Value::Null => Ok(None),
+        Value::String(text) => Ok(Some(text.as_str())),
+        _ => Err(QueryFault::BadShape),
+    }
+}
+
+fn limit_in(value: Option<&Value>) -> Result<u64, QueryFault>
+    ensures { result ≡ limit_in (seen value.entry) }
+{
+    match value {
+        None => Ok(USUAL_PAGE),
+        Some(_) => whole_number_of(value, QueryFault::BadShape),
+    }
+}
+
+impl UncheckedQuery<'_> {
+    /// Whether no limit is broken.
+    pub(crate) fn fits(&self) -> bool
+        ensures { result ≡ is_query self.now }
+    {
+        is_end(self.after)
+            && is_end(self.from)
+            && is_end(self.to)
+            && is_page(self.limit)
+            && self.conditions.fit()
+    }
+
+    /// The query, with its keys copied.
+    pub(crate) fn query(self, alloc: Global) -> Result<Query, NoMemory>
+        requires { IsTrue (is_query self) }
+        ensures { IfOk result (λ query. query ≡ self.entry) }
+    {
+        Ok(Query {
+            from: end_of(alloc, self.from)?,
+            to: end_of(alloc, self.to)?,
+            after: end_of(alloc, self.after)?,
+            conditions: self.conditions.conditions()?,
+            limit: self.limit as usize,
+        })
+    }
+}
+
+fn is_end(text: Option<&str>) -> bool
+    ensures { result ≡ in_end (seen_text text.entry) }
+{
+    match text {
+        None => true,
+        Some(text) => is_key(text),
+    }
+}
+
+fn is_key(text: &str) -> bool
+    ensures { result ≡ in_key text.now }
+{
+    !text.is_empty() && text.len() <= MAX_KEY_BYTES
+}
+
+fn is_page(limit: u64) -> bool
+    ensures { result ≡ is_limit limit }
+{
+    1 <= limit && limit <= MAX_PAGE_ROWS as u64
+}
+
+fn end_of(alloc: Global, text: Option<&str>) -> Result<Option<Key>, NoMemory>
+    requires { IsTrue (in_end (seen_text text)) }
+    ensures { IfOk result (λ key. key ≡ seen_text text.entry) }
+{
+    match text {
+        None => Ok(None),
+        Some(text) => Ok(Some(key_of(alloc, text)?)),
+    }
+}
+
+fn key_of(alloc: Global, text: &str) -> Result<Key, NoMemory>
+    requires { IsTrue (in_key text.now) }
+    ensures { IfOk result (λ key. key ≡ text.now) }
+{
+    match Key::of(alloc, text) {
+        Ok(key) => Ok(key),
+        Err(KeyFault::Memory) => Err(NoMemory),
+        Err(KeyFault::OutOfRange) => unreachable!(),
+    }
+}

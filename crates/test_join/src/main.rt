@@ -1,0 +1,35 @@
+//! Cases of `pn_join`, a line each: `join` of two tables, `least` for an entry below all others, and `name` for a name.
+//!
+//! A table is its first key, its step and its count; each key is its own content. `stdout` has what must be answered.
+#![tactic(auto)]
+
+mod tables;
+
+use pn_join::Name;
+use std::alloc::Global;
+use std::test::Fail;
+use tables::{join, least};
+
+fn main(rt: HostRuntime) -> Result<(), Fail> {
+    for line in rt.lines(rt.alloc()) {
+        let text = answer(rt.alloc(), line?.as_str())?;
+        println!(rt; "{text}")?;
+    }
+    Ok(())
+}
+
+fn answer(alloc: Global, line: &str) -> Result<String, Fail> {
+    match line.split_once(' ') {
+        Some(("join", tables)) => join(alloc, tables),
+        Some(("least", table)) => least(alloc, table),
+        Some(("name", text)) => name(alloc, text),
+        _ => Ok(String::from_str(alloc, "no case")?),
+    }
+}
+
+fn name(alloc: Global, text: &str) -> Result<String, Fail> {
+    match Name::read(text.as_bytes()) {
+        Ok(name) => Ok(String::from_str(alloc, name.as_str())?),
+        Err(fault) => Ok(format!(in alloc; "{fault}")?),
+    }
+}

@@ -1,0 +1,80 @@
+//! Tables of up to some thousand entries: their joins, and an entry below all others.
+
+use pn_join::{Dup, Highest, Join, Table};
+use std::alloc::Global;
+use std::str::Split;
+use std::test::Fail;
+
+type Counts = Table<Highest, Highest>;
+
+fn number(words: &mut Split<'_, char>) -> Result<u64, Fail> {
+    match words.next() {
+        Some(word) => Ok(word.parse::<u64>()?),
+        None => Err(Fail::new("a number is missing")),
+    }
+}
+
+// The table of a first key, a step and a count.
+fn table(alloc: Global, words: &mut Split<'_, char>) -> Result<Counts, Fail> {
+    let (first, step) = (number(words)?, number(words)?);
+    let mut table = Counts::new(alloc);
+    for place in 0..number(words)? {
+        let key = Highest(first.saturating_add(place.saturating_mul(step)));
+        table.join_entry(key, key)?;
+    }
+    Ok(table)
+}
+
+fn key_at(table: &Counts, place: usize) -> Option<u64> {
+    match table.entry_at(place) {
+        Some((key, _content)) => Some(key.0),
+        None => None,
+    }
+}
+
+// The first key, the step and the count of a table, or that it has no such form.
+fn form(alloc: Global, table: &Counts) -> Result<String, Fail> {
+    let first = key_at(table, 0).unwrap_or(0);
+    let step = key_at(table, 1).unwrap_or(first).saturating_sub(first);
+    let mut wanted = first;
+    for (key, content) in table.iter() {
+        if key.0 != wanted || content.0 != wanted {
+            return Ok(format!(in alloc; "{} where {wanted} was due", key.0)?);
+        }
+        wanted = wanted.saturating_add(step);
+    }
+    Ok(format!(in alloc; "{first} {step} {}", table.len())?)
+}
+
+/// The join of two tables. Where memory runs out it is made again.
+pub(crate) fn join(alloc: Global, tables: &str) -> Result<String, Fail> {
+    let mut words = tables.split(' ');
+    let mut own = table(alloc, &mut words)?;
+    let other = table(alloc, &mut words)?;
+    if own.join_from(&other).is_err() {
+        own.join_from(&other)?;
+    }
+    form(alloc, &own)
+}
+
+// The entries of the last leaf.
+fn last_leaf(table: &Counts) -> Option<&[(Highest, Highest)]> {
+    let mut last = None;
+    for place in 0..table.len() {
+        last = table.leaf(place).or(last);
+    }
+    last
+}
+
+/// A table with one entry more, below all others, and whether its last leaf is as it was.
+pub(crate) fn least(alloc: Global, text: &str) -> Result<String, Fail> {
+    let mut words = text.split(' ');
+    let mut table = table(alloc, &mut words)?;
+    let before = table.dup()?;
+    let key = Highest(number(&mut words)?);
+    if table.join_entry(key, key).is_err() {
+        table.join_entry(key, key)?;
+    }
+    let stays = last_leaf(&before) == last_leaf(&table);
+    Ok(format!(in alloc; "{} entries, last leaf stays: {stays}", table.len())?)
+}

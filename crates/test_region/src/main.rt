@@ -1,0 +1,51 @@
+//! Cases of `pn_apply` and `pn_region`, a line each, of what the stored scripts of `test_rows` cannot say.
+//!
+//! `reduce` and `round` work eight tablets by some workers, and show how often the gate was entered with each; `faults` shows fault
+//! texts. `stdout` has what must be answered.
+#![tactic(auto)]
+
+mod counting;
+mod work;
+
+use pn_join::{Name, NoMemory};
+use pn_region::{AdoptFault, RoundFault};
+use std::alloc::Global;
+use std::test::Fail;
+use std::thread::Threads;
+use work::{reduced, round};
+
+fn main(rt: HostRuntime) -> Result<(), Fail> {
+    for line in rt.lines(rt.alloc()) {
+        let text = answer(&rt, rt.alloc(), line?.as_str())?;
+        println!(rt; "{text}")?;
+    }
+    Ok(())
+}
+
+fn answer<R: Threads + Sync>(rt: &R, alloc: Global, line: &str) -> Result<String, Fail> {
+    match line.split_once(' ') {
+        Some(("reduce", workers)) => Ok(reduced(rt, alloc, workers).ok_or(NoMemory)?),
+        Some((_, workers)) => Ok(round(rt, alloc, workers).ok_or(NoMemory)?),
+        None => faults(alloc),
+    }
+}
+
+fn faults(alloc: Global) -> Result<String, Fail> {
+    let gap = RoundFault::Gap {
+        stream: Name::read(b"east")?,
+        wanted: 6,
+        got: 9,
+    };
+    let (many, memory) = (RoundFault::TooManyStreams, RoundFault::Memory);
+    Ok(format!(in alloc; "{gap}; {many}; {memory}; {}", adopt_faults(alloc)?)?)
+}
+
+fn adopt_faults(alloc: Global) -> Result<String, Fail> {
+    let old = AdoptFault::TooOld {
+        stream: Name::read(b"east")?,
+        has: 4,
+        needs: 5,
+    };
+    let (wrong, memory) = (AdoptFault::WrongRange, AdoptFault::Memory);
+    Ok(format!(in alloc; "{old}; {wrong}; {memory}")?)
+}

@@ -1,0 +1,147 @@
+//! Streams in memory, served over loopback to a client in a thread of its own.
+
+use crate::scripts::settings;
+use pn_join::Name;
+use pn_line::InMemory;
+use pn_serve::{ServeFault, serve};
+use pn_stream::StreamReader;
+use std::alloc::Global;
+use std::io::{BufRead, BufReader, Write};
+use std::net::{Net, SocketAddr, TcpListener, TcpStream};
+use std::sync::Wait;
+use std::test::Fail;
+use std::thread::Threads;
+use std::{io, str, thread};
+
+/// The message at position 1, and the one at 2.
+const FIRST: &str =
+    "{\"at\":1,\"image\":{\"fields\":{\"v\":\"x\"},\"key\":\"k\",\"master\":\"w\",\"version\":[1,0]}}\n";
+
+const SECOND: &str =
+    "{\"at\":2,\"image\":{\"fields\":{\"v\":\"x\"},\"key\":\"k\",\"master\":\"w\",\"version\":[1,0]}}\n";
+
+const ROW: &str =
+    "{\"row\":{\"contents\":[{\"fields\":{\"v\":\"x\"},\"master\":\"w\"}],\"key\":\"k\",\"state\":\"one\",\"version\":[1,0]}}\n";
+
+const NO_ROW: &str = "{\"row\":null}\n";
+
+/// How often a client asks at most until its record is there, and how often after it.
+const MAX_TURNS: u64 = 100_000;
+
+const TURNS_AFTER: u64 = 1_000;
+
+/// What a client was told.
+#[derive(Clone, Copy, Debug, PartialEq, Eq)]
+enum Told {
+    /// The record, and it stayed there.
+    Row,
+    /// That there is no record, to the last turn.
+    NoRow,
+    /// Anything else.
+    Other,
+}
+
+// Asks for the record until it is there, at most this often, and then some times more.
+fn talk<R: Net<Listener = TcpListener, Stream = TcpStream>>(
+    rt: &R,
+    alloc: Global,
+    at: SocketAddr,
+    most: u64,
+) -> io::Result<Told> {
+    let stream = TcpStream::connect(rt, at)?;
+    let mut replies = BufReader::new(alloc, &stream)?;
+    for _ in 0..most {
+        let told = ask(alloc, &stream, &mut replies)?;
+        if told == Told::Row {
+            return stays(alloc, &stream, &mut replies);
+        }
+        if told == Told::Other {
+            return Ok(told);
+        }
+    }
+    Ok(Told::NoRow)
+}
+
+fn stays(
+    alloc: Global,
+    stream: &TcpStream,
+    replies: &mut BufReader<&TcpStream>,
+) -> io::Result<Told> {
+    for _ in 0..TURNS_AFTER {
+        if ask(alloc, stream, replies)? != Told::Row {
+            return Ok(Told::Other);
+        }
+    }
+    Ok(Told::Row)
+}
+
+fn ask(alloc: Global, stream: &TcpStream, replies: &mut BufReader<&TcpStream>) -> io::Result<Told> {
+    let mut sender = stream;
+    sender.write_all(b"{\"do\":\"read\",\"key\":\"k\"}\n")?;
+    let mut reply = String::new(alloc);
+    replies.read_line(&mut reply)?;
+    Ok(if reply.as_str() == ROW {
+        Told::Row
+    } else if reply.as_str() == NO_ROW {
+        Told::NoRow
+    } else {
+        Told::Other
+    })
+}
+
+/// Serves one session over a stream whose first message is at this position: how serving ended, what was written, and what the client
+/// was told.
+pub(crate) fn served<R>(rt: &R, alloc: Global, position: &str) -> Result<String, Fail>
+where
+    R: Net<Listener = TcpListener, Stream = TcpStream>
+        + Threads
+        + Wait
+        + Sync
+        + Copy
+        + Send
+        + 'static,
+{
+    let is_first = position == "1";
+    let most = if is_first { MAX_TURNS } else { TURNS_AFTER };
+    let theirs = *rt;
+    let listener = TcpListener::bind(rt, "127.0.0.1:0")?;
+    let at = listener.local_addr()?;
+    let settings = settings(alloc)?;
+    let streams = streams(alloc, if is_first { FIRST } else { SECOND })?;
+    let client = thread::spawn(rt, move || talk(&theirs, alloc, at, most))?;
+    let mut written = Vec::new(alloc);
+    let ended = serve(
+        rt,
+        alloc,
+        &listener,
+        settings,
+        1,
+        streams,
+        &mut written,
+    );
+    let told = client.join(rt)?;
+    outcome(alloc, ended, &written, told)
+}
+
+fn streams(
+    alloc: Global,
+    messages: &'static str,
+) -> Result<Vec<StreamReader<InMemory<'static>>>, Fail> {
+    let mut streams = Vec::with_capacity(alloc, 1)?;
+    let source = InMemory::new(messages.as_bytes());
+    streams.push(StreamReader::new(alloc, Name::read(b"east")?, 0, source))?;
+    Ok(streams)
+}
+
+fn outcome(
+    alloc: Global,
+    ended: Result<(), ServeFault>,
+    written: &[u8],
+    told: Told,
+) -> Result<String, Fail> {
+    let written = str::from_utf8(written)?.replace(alloc, '\n', "|")?;
+    match ended {
+        Ok(()) => Ok(format!(in alloc; "{told:?}, {written}")?),
+        Err(fault) => Ok(format!(in alloc; "{told:?}, {written}{fault}")?),
+    }
+}

@@ -1,0 +1,62 @@
+//! Words, and what they plan.
+
+use pn_serve::{Plan, PlanFault, Settings, plan};
+use std::alloc::{AllocError, Global};
+use std::test::Fail;
+use test_kit::spelled;
+
+// The program's name and the words of a line.
+fn words(alloc: Global, line: &str) -> Result<Vec<String>, Fail> {
+    let line = spelled(alloc, line)?;
+    let mut words = Vec::new(alloc);
+    for word in line.as_str().split_whitespace() {
+        words.push(String::from_str(alloc, word)?)?;
+    }
+    Ok(words)
+}
+
+fn settings_text(alloc: Global, settings: &Settings) -> Result<String, AllocError> {
+    let (tablets, workers) = (settings.layout().count(), settings.workers());
+    format!(in alloc; "{tablets} tablets, {workers} workers")
+}
+
+fn plan_text(alloc: Global, planned: &Plan) -> Result<String, Fail> {
+    match planned {
+        Plan::Replay(settings) => Ok(settings_text(alloc, settings)?),
+        Plan::Help(_) => Ok(String::from_str(alloc, "help")?),
+        Plan::Serve {
+            settings,
+            sessions,
+            port,
+            streams,
+        } => {
+            let mut text = settings_text(alloc, settings)?;
+            write!(text, ", {sessions} sessions at {port}:")?;
+            for (name, path) in streams {
+                write!(text, " {}={path}", name.as_str())?;
+            }
+            Ok(text)
+        }
+    }
+}
+
+/// What is planned by a line of words, or why it is refused.
+pub(crate) fn plan_reply(alloc: Global, line: &str) -> Result<String, Fail> {
+    match plan(alloc, &words(alloc, line)?) {
+        Ok(planned) => plan_text(alloc, &planned),
+        Err(PlanFault::Words(_)) => Ok(String::from_str(alloc, "words")?),
+        Err(fault) => Ok(format!(in alloc; "{fault}")?),
+    }
+}
+
+/// Whether the refusal of the words after the bar has the text before it.
+pub(crate) fn says(alloc: Global, line: &str) -> Result<String, Fail> {
+    let (text, line) = line.split_once('|').unwrap_or((line, ""));
+    match plan(alloc, &words(alloc, line)?) {
+        Err(PlanFault::Words(refusal)) => {
+            let is_said = refusal.as_str().contains(text);
+            Ok(format!(in alloc; "{is_said}")?)
+        }
+        _ => Ok(String::from_str(alloc, "not refused")?),
+    }
+}

@@ -1,0 +1,146 @@
+//! One script over readers and writers that fail or take their time: one image delivered, delivered again, and shown; and a line that
+//! is refused.
+
+use crate::talk::talk;
+use pn_join::NoMemory;
+use pn_line::{FailingSource, InMemory, Source, write_all_of};
+use pn_serve::{Counts, RunFault, Settings, run};
+use std::alloc::Global;
+use std::test::Fail;
+use std::thread::Threads;
+use test_kit::{Pieces, Runs, Stop, Stopping, layout};
+
+/// The script, and its replies.
+pub(crate) const SCRIPT: &str =
+    r#"{"batches":[{"first":1,"images":[{"fields":{"v":"x"},"key":"k","master":"w","version":[1,0]}],"stream":"east"}],"do":"deliver"}
+{"batches":[{"first":1,"images":[{"fields":{"v":"x"},"key":"k","master":"w","version":[1,0]}],"stream":"east"}],"do":"deliver"}
+{"do":"scan","query":{}}
+[]
+"#;
+
+const REPLIES: &str = r#"{"changed":1}
+{"changed":0}
+{"next":null,"rows":[{"contents":[{"fields":{"v":"x"},"master":"w"}],"key":"k","state":"one","version":[1,0]}]}
+{"error":"bad-shape","member":"whole"}
+"#;
+
+/// One tablet for all keys, and one worker.
+pub(crate) fn settings(alloc: Global) -> Result<Settings, NoMemory> {
+    let layout = layout(alloc, "").ok_or(NoMemory)?;
+    Settings::new(layout, 1).ok_or(NoMemory)
+}
+
+/// How runs of the script end.
+pub(crate) fn ran<R: Threads + Sync>(rt: &R, alloc: Global, how: &str) -> Result<String, Fail> {
+    match how {
+        "in pieces" => in_pieces(rt, alloc),
+        "over readers that fail" => failing_readers(rt, alloc),
+        "over sources that fail" => failing_sources(rt, alloc),
+        "into writers that fail" => stopping_writers(rt, alloc, Stop::Fails),
+        "into writers that take nothing" => stopping_writers(rt, alloc, Stop::TakesNothing),
+        "into a writer that fails in flush" => {
+            written(rt, alloc, Stopping::new(alloc, 1, 1, Stop::FailsInFlush))
+        }
+        "as a talk" => talk(rt, alloc),
+        _ => written(rt, alloc, Stopping::never(alloc, 1)),
+    }
+}
+
+// How a run ended, how many bytes it wrote, and whether they are the first of the replies.
+fn outcome(alloc: Global, ended: Result<Counts, RunFault>, written: &[u8]) -> Result<String, Fail> {
+    let is_prefix = REPLIES.as_bytes().starts_with(written);
+    let bytes = written.len();
+    match ended {
+        Ok(counts) => Ok(format!(in alloc;
+            "{} lines, {} refused, {bytes} bytes: {is_prefix}",
+            counts.lines, counts.refused
+        )?),
+        Err(fault) => Ok(format!(in alloc; "{fault}, {bytes} bytes: {is_prefix}")?),
+    }
+}
+
+fn read_from<R: Threads + Sync, S: Source + Drop>(
+    rt: &R,
+    alloc: Global,
+    mut input: S,
+) -> Result<String, Fail> {
+    let mut output = Vec::new(alloc);
+    let ended = run(rt, alloc, &mut input, &mut output, settings(alloc)?);
+    outcome(alloc, ended, &output)
+}
+
+fn in_pieces<R: Threads + Sync>(rt: &R, alloc: Global) -> Result<String, Fail> {
+    let mut runs = Runs::new(alloc);
+    for size in [1, 2, 7, 1_000] {
+        let pieces = Pieces::new(SCRIPT.as_bytes(), size);
+        runs.push(read_from(rt, alloc, pieces)?)?;
+    }
+    runs.text()
+}
+
+// Readers that show a byte at a time, of which each fails at another.
+fn failing_readers<R: Threads + Sync>(rt: &R, alloc: Global) -> Result<String, Fail> {
+    let script = SCRIPT.as_bytes();
+    let mut runs = Runs::new(alloc);
+    for look in 1..=script.len() {
+        runs.push(read_from(rt, alloc, Pieces::failing(script, 1, look))?)?;
+    }
+    runs.text()
+}
+
+// Sources that show a line at a time, of which each fails at another.
+fn failing_sources<R: Threads + Sync>(rt: &R, alloc: Global) -> Result<String, Fail> {
+    let script = SCRIPT.as_bytes();
+    let mut runs = Runs::new(alloc);
+    for look in 1..6 {
+        runs.push(read_from(rt, alloc, FailingSource::new(script, look))?)?;
+    }
+    runs.text()
+}
+
+fn written<R: Threads + Sync>(rt: &R, alloc: Global, mut output: Stopping) -> Result<String, Fail> {
+    let mut input = InMemory::new(SCRIPT.as_bytes());
+    let ended = run(rt, alloc, &mut input, &mut output, settings(alloc)?);
+    outcome(alloc, ended, &output.taken)
+}
+
+// Writers that take a byte at a time, of which each stops at another. Counts those that had just the bytes before it.
+fn stopping_writers<R: Threads + Sync>(rt: &R, alloc: Global, stop: Stop) -> Result<String, Fail> {
+    let mut stopped = 0u64;
+    for count in 0..REPLIES.len() {
+        let output = Stopping::new(alloc, 1, count.saturating_add(1), stop);
+        let text = written(rt, alloc, output)?;
+        let due = format!(in alloc; "{}, {count} bytes: true", RunFault::Write)?;
+        if text.as_str() == due.as_str() {
+            stopped = stopped.saturating_add(1);
+        }
+    }
+    Ok(format!(in alloc; "{stopped} of {}", REPLIES.len())?)
+}
+
+/// How a write of three bytes ends, by a writer that fails at the third byte, and by one that takes none.
+pub(crate) fn writes(alloc: Global) -> Result<String, Fail> {
+    let fails = write_text(alloc, Stopping::new(alloc, 1, 3, Stop::Fails))?;
+    let stops = write_text(alloc, Stopping::never(alloc, 0))?;
+    Ok(format!(in alloc; "{fails}; {stops}")?)
+}
+
+fn write_text(alloc: Global, mut writer: Stopping) -> Result<String, Fail> {
+    match write_all_of(&mut writer, b"abc") {
+        Ok(()) => Ok(String::from_str(alloc, "whole")?),
+        Err(fault) => Ok(format!(in alloc; "{fault} after {}", writer.taken.len())?),
+    }
+}
+
+/// How many bytes the replies to some empty lines have, and in how many writes they go out.
+pub(crate) fn blocks<R: Threads + Sync>(
+    rt: &R,
+    alloc: Global,
+    lines: &str,
+) -> Result<String, Fail> {
+    let script = vec![in alloc; b'\n'; lines.parse::<usize>()?]?;
+    let mut input = InMemory::new(&script);
+    let mut output = Stopping::never(alloc, 1_000_000);
+    run(rt, alloc, &mut input, &mut output, settings(alloc)?)?;
+    Ok(format!(in alloc; "{} bytes in {} writes", output.taken.len(), output.writes)?)
+}

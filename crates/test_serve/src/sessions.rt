@@ -1,0 +1,84 @@
+//! Lines that a session answers by a reader of a live region.
+
+ghost use Rattle.std.specs.Prelude.{◌≡◌, All};
+ghost use Rattle.pn_live.specs.LiveRegions.{IsReaderIn, tablets_in};
+
+use pn_apply::Open;
+use pn_join::{Name, NoMemory};
+use pn_line::InMemory;
+use pn_live::{LiveReader, LiveRegion};
+use pn_record::read_image;
+use pn_serve::{Counts, session};
+use pn_stream::Delivery;
+use std::alloc::Global;
+use std::str;
+use std::sync::Wait;
+use std::test::Fail;
+use std::thread::Threads;
+use test_kit::layout;
+use test_kit_live::{closed, hand_back, opened, take_out};
+
+// One delivery of the image that the first line is.
+fn given(alloc: Global, lines: &str) -> Option<Vec<Delivery>> {
+    let mut images = Vec::with_capacity(alloc, 1).ok()?;
+    images
+        .push(read_image(alloc, lines.lines().next()?.as_bytes()).ok()?)
+        .ok()?;
+    let mut given = Vec::with_capacity(alloc, 1).ok()?;
+    given
+        .push(Delivery::new(Name::read(b"east").ok()?, 1, images)?)
+        .ok()?;
+    Some(given)
+}
+
+// How many records the round of the first line changes.
+fn changed<R: Threads + Wait + Sync>(
+    rt: &R,
+    alloc: Global,
+    live: &mut LiveRegion,
+    lines: &str,
+) -> Option<u64>
+    ensures { tablets_in live.new ≡ tablets_in live.old }
+{
+    let (round, _front) = live.round(rt, given(alloc, lines)?, 1, &Open).ok()?;
+    Some(round.changed)
+}
+
+// Answers the lines by a reader of a live region.
+fn replies(
+    alloc: Global,
+    live: &LiveRegion,
+    readers: &mut Vec<LiveReader>,
+    lines: &str,
+    written: &mut Vec<u8>,
+) -> Option<Counts>
+    requires { All (IsReaderIn live.now) readers.old.items }
+    ensures { All (IsReaderIn live.now) readers.new.items }
+{
+    let mut reader = take_out(live, readers)?;
+    let mut input = InMemory::new(lines.as_bytes());
+    let counts = session(alloc, &mut reader, &mut input, written).ok();
+    hand_back(live, readers, reader);
+    counts
+}
+
+/// The replies of a session, and how many lines it refused. The first line is an image, which was taken before, and no line to the session.
+pub(crate) fn answered<R: Threads + Wait + Sync>(
+    rt: &R,
+    alloc: Global,
+    bars: &str,
+) -> Result<String, Fail> {
+    let lines = bars.replace(alloc, '|', "\n")?;
+    let mut written = Vec::new(alloc);
+    let layout = layout(alloc, "").ok_or(NoMemory)?;
+    let (mut live, mut readers) = opened(rt, alloc, layout, 1)?;
+    let changed = changed(rt, alloc, &mut live, lines.as_str());
+    let counts = replies(alloc, &live, &mut readers, lines.as_str(), &mut written);
+    closed(rt, live, readers)?;
+    let (changed, counts) = (changed.ok_or(NoMemory)?, counts.ok_or(NoMemory)?);
+    let replies = str::from_utf8(&written)?.replace(alloc, '\n', "|")?;
+    Ok(format!(in alloc;
+        "{changed} changed, {} lines, {} refused: {replies}",
+        counts.lines, counts.refused
+    )?)
+}

@@ -1,0 +1,58 @@
+//! A stream, and how it is read.
+
+use std::alloc::Global;
+use std::str::SplitN;
+use std::test::Fail;
+use test_kit::spelled;
+
+/// A stream's text, after which position it is read, and by how many calls of which kind.
+#[derive(Drop)]
+pub(crate) struct Case {
+    pub(crate) is_ready: bool,
+    pub(crate) after: u64,
+    pub(crate) calls: u64,
+    pub(crate) most: u64,
+    pub(crate) text: String,
+}
+
+impl Case {
+    /// Reads the words of a case.
+    pub(crate) fn read(alloc: Global, line: &str) -> Result<Case, Fail> {
+        let mut words = line.splitn(7, ' ');
+        Ok(Case {
+            is_ready: words.next() == Some("ready"),
+            after: number(&mut words)?,
+            calls: number(&mut words)?,
+            most: number(&mut words)?,
+            text: stream(alloc, &mut words)?,
+        })
+    }
+}
+
+fn number(words: &mut SplitN<'_, char>) -> Result<u64, Fail> {
+    match words.next() {
+        Some(word) => Ok(word.parse::<u64>()?),
+        None => Err(Fail::new("a number is missing")),
+    }
+}
+
+// Messages from one position to another, and further text.
+fn stream(alloc: Global, words: &mut SplitN<'_, char>) -> Result<String, Fail> {
+    let (first, last) = (number(words)?, number(words)?);
+    let mut text = String::new(alloc);
+    for at in first..=last {
+        push_message(&mut text, at)?;
+    }
+    let more = spelled(alloc, words.next().unwrap_or(""))?;
+    text.push_str(more.replace(alloc, '|', "\n")?.as_str())?;
+    Ok(text)
+}
+
+// A message of one digit has 78 bytes.
+fn push_message(text: &mut String, at: u64) -> Result<(), Fail> {
+    write!(
+        text,
+        "{{\"at\":{at},\"image\":{{\"fields\":{{\"v\":\"x\"}},\"key\":\"k{at}\",\"master\":\"w\",\"version\":[1,0]}}}}\n"
+    )?;
+    Ok(())
+}

@@ -1,0 +1,52 @@
+//! Cases of `pn_stream`, a line each; `stdout` has what must be answered.
+//!
+//! `message` reads one line. `whole`, `pieces`, `cuts`, `looks` and `lines` name ways in which a stream comes to its reader.
+//!
+//! After these come `batch` or `ready`, the position, the calls, the most messages of a call, the first and the last message, and
+//! further text.
+#![tactic(auto)]
+
+mod case;
+mod pipe;
+mod reading;
+
+use case::Case;
+use pn_stream::{StreamFault, read_message};
+use reading::{cuts, lines, looks, pieces, whole};
+use std::alloc::Global;
+use std::test::Fail;
+
+fn main(rt: HostRuntime) -> Result<(), Fail> {
+    for line in rt.lines(rt.alloc()) {
+        let text = answer(rt.alloc(), line?.as_str())?;
+        println!(rt; "{text}")?;
+    }
+    Ok(())
+}
+
+fn answer(alloc: Global, line: &str) -> Result<String, Fail> {
+    match line.split_once(' ') {
+        Some(("message", text)) => message(alloc, text),
+        Some((how, text)) => given(alloc, how, &Case::read(alloc, text)?),
+        None => Ok(format!(in alloc; "{}", StreamFault::Memory)?),
+    }
+}
+
+// The position and the key of the message that a line is, or why it is none.
+fn message(alloc: Global, line: &str) -> Result<String, Fail> {
+    match read_message(alloc, line.as_bytes()) {
+        Ok((at, image)) => Ok(format!(in alloc; "{at} {}", image.key.as_str())?),
+        Err(fault) => Ok(format!(in alloc; "{fault}")?),
+    }
+}
+
+// What readers of the stream give.
+fn given(alloc: Global, how: &str, case: &Case) -> Result<String, Fail> {
+    match how {
+        "whole" => whole(alloc, case),
+        "pieces" => pieces(alloc, case),
+        "cuts" => cuts(alloc, case),
+        "looks" => looks(alloc, case),
+        _ => lines(alloc, case),
+    }
+}

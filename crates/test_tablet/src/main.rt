@@ -1,0 +1,34 @@
+//! Cases of `pn_tablet`, a line each: `layout`, `copy` and `faults`, and damaged copies by `prefixes` and `crossed`.
+//!
+//! A newline of a copy is written `|`, and `~3~ab~` is `ababab`. `stdout` has what must be answered.
+#![tactic(auto)]
+
+mod copies;
+mod damaged;
+mod fault_texts;
+mod layouts;
+
+use copies::copy;
+use damaged::{crossed, prefixes};
+use fault_texts::faults;
+use layouts::layout;
+use std::alloc::Global;
+use std::test::Fail;
+
+fn main(rt: HostRuntime) -> Result<(), Fail> {
+    for line in rt.lines(rt.alloc()) {
+        let text = answer(rt.alloc(), line?.as_str())?;
+        println!(rt; "{text}")?;
+    }
+    Ok(())
+}
+
+fn answer(alloc: Global, line: &str) -> Result<String, Fail> {
+    match line.split_once(' ') {
+        Some(("layout", bounds)) => layout(alloc, bounds),
+        Some(("copy", text)) => copy(alloc, text),
+        Some(("prefixes", text)) => prefixes(alloc, text),
+        Some(("crossed", text)) => crossed(alloc, text),
+        _ => faults(alloc),
+    }
+}
