@@ -9,7 +9,6 @@ use Rattle.pn_protocol.specs.declared.refusal.Refusal.TheVariants.{TooLong}
 use Rattle.pn_protocol.specs.declared.reply.Reply.{Reply}
 use Rattle.pn_protocol.specs.Command.Lines.{is_too_long, command_at}
 use Rattle.pn_protocol.proofs.CommandLines.{too_long}
-use Rattle.pn_protocol.specs.declared.command.parse.Allowed.TheVariants.{All}
 use Rattle.pn_serve.specs.Machine.Announced.{unless_call, one_came}
 use Rattle.pn_serve.specs.Machine.Outcomes.{Outcome, done, Mode, idle, announced, Machine, logged, Turn, refusing}
 use Rattle.pn_serve.specs.Machine.Recovering.{adopting_text}
@@ -25,12 +24,12 @@ said-long outcome text long =
 -- a line that is too long is refused as such
 pub turn-long : (machine : Machine) (outcome : Outcome) (text : List ℕ) → 65536 < length text → turn_in idle machine outcome text ≡ refusing machine TooLong
 turn-long machine outcome text long =
-    ap (λ (o : Outcome). turn_of machine o (command_at text)) (said-long outcome text long) ∙ ap (turn_of machine done) (too_long All text long)
+    ap (λ (o : Outcome). turn_of machine o (command_at text)) (said-long outcome text long) ∙ ap (turn_of machine done) (too_long _ text long)
 
 end-long : (machine : Machine) (outcome : Outcome) (text : List ℕ) → 65536 < length text → end_in idle machine outcome text ≡ refusing machine TooLong
 end-long machine outcome [] long = absurd (omega (arith, long))
 end-long machine outcome (b ∷ text) long =
-    ap (λ (o : Outcome). last_of machine o (command_at (b ∷ text))) (said-long outcome (b ∷ text) long) ∙ ap (last_of machine done) (too_long All (b ∷ text) long)
+    ap (λ (o : Outcome). last_of machine o (command_at (b ∷ text))) (said-long outcome (b ∷ text) long) ∙ ap (last_of machine done) (too_long _ (b ∷ text) long)
 
 kept-kept : (line : List ℕ) → kept (kept line) ≡ kept line
 kept-kept line = take-take max_kept max_kept line (omega arith)

@@ -20,7 +20,6 @@ use Rattle.pn_protocol.specs.declared.refusal.Refusal.TheVariants.{TooLong, NotJ
 use Rattle.pn_protocol.specs.declared.reply.Reply.{Reply}
 use Rattle.pn_protocol.specs.declared.reply.Reply.TheVariants.{Adopted, Changed, Copied, Lost, Silent, Text, Refused, NotTaken}
 use Rattle.pn_protocol.proofs.CommandLines.{too_long}
-use Rattle.pn_protocol.specs.declared.command.parse.Allowed.TheVariants.{Lookups}
 use Rattle.pn_protocol.specs.Command.Lines.{is_too_long, lookup_at}
 use Rattle.pn_protocol.specs.Command.Meaning.{CommandValue}
 use Rattle.pn_protocol.specs.Reply.Answers.{ShowsFound}
@@ -78,7 +77,7 @@ said_kept line = elim (cases_lt 65536 (length line)) [
       let long_too : 65536 < length (kept line) = omega (arith, length-kept_long line long) in
       let here : is_too_long (kept line) ≡ true = grind (arith, nat_tests) in
       let there : is_too_long line ≡ true = grind (arith, nat_tests) in
-      (too_long Lookups (kept line) long_too ∙ sym (too_long Lookups line long), here ∙ sym there)
+      (too_long _ (kept line) long_too ∙ sym (too_long _ line long), here ∙ sym there)
       )
   | inr short ↦ (ap lookup_at (kept-short line short), ap is_too_long (kept-short line short))
 ]

@@ -25,7 +25,6 @@ use Rattle.pn_protocol.specs.declared.refusal.Refusal.TheVariants.{TooLong, NotJ
 use Rattle.pn_protocol.specs.Command.Meaning.{CommandValue, deliver}
 use Rattle.pn_protocol.specs.Command.Lines.{command_at, is_too_long}
 use Rattle.pn_protocol.proofs.CommandLines.{too_long}
-use Rattle.pn_protocol.specs.declared.command.parse.Allowed.TheVariants.{All}
 use Rattle.pn_serve.specs.Machine.Outcomes.{Outcome, Machine, done, line, call, round, idle, Turn, waiting, refusing, showing}
 use Rattle.pn_serve.specs.Machine.PartRounds.{some_stepped, partly_marked}
 use Rattle.pn_serve.specs.Machine.Doing.{delivering, looking}
@@ -71,7 +70,7 @@ as_obeyed machine (round flags) command = refl
 -- a line that is a command is not too long
 pub within : (text : List ℕ) (command : CommandValue) → command_at text ≡ Ok command → is_too_long text ≡ false
 within text command said = elim (cases_lt 65536 (length text)) [
-  | inl long ↦ absurd (let refused = too_long All text long in cc)
+  | inl long ↦ absurd (let refused : command_at text ≡ Err TooLong = too_long _ text long in cc)
   | inr short ↦ grind (arith, nat_tests)
 ]
 
