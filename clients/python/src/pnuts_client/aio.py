@@ -1,0 +1,178 @@
+"""A client for asyncio, over the same lines and replies as the one for threads."""
+
+from __future__ import annotations
+
+import asyncio
+import os
+from collections.abc import AsyncIterator, Mapping, Sequence
+from contextlib import suppress
+from pathlib import Path
+from types import TracebackType
+from typing import Any, TypeVar
+
+from . import requests
+from .addresses import Address, Unix, address_of
+from .errors import ConnectionFailed, PnutsError, ProtocolError, TimedOut
+from .files import write_whole
+from .pauses import pause
+from .pipeline import Pipeline
+from .queries import Condition, Query
+from .records import Record
+from .requests import Request
+
+Answer = TypeVar("Answer")
+PIECE = 256 * 1024
+
+
+class AsyncClient:
+    """A region, by an address or its text, for the tasks of one event loop.
+
+    At most `connections` are open, each a session of the region, opened when it is needed; a line goes to the one
+    with the fewest in flight. `timeout` is the seconds that a call waits for its reply, None for ever. A connection
+    that breaks is opened anew, and lines that read are asked again, up to `retries` times with a growing pause.
+    """
+
+    def __init__(
+        self, address: Address | str, *, connections: int = 1, timeout: float | None = 10.0, retries: int = 3
+    ) -> None:
+        where = address_of(address) if isinstance(address, str) else address
+        self._connections = [_Connection(where) for _ in range(connections)]
+        self._timeout = timeout
+        self._retries = retries
+
+    async def read(self, key: str, at_least: tuple[int, int] | None = None) -> Record | None:
+        """As `Client.read`."""
+        return await self.ask(requests.read(key, at_least))
+
+    async def get(self, keys: Sequence[str]) -> list[Record | None]:
+        """As `Client.get`; the lines of more than 100 keys are in flight together."""
+        batches = [self.ask(requests.get(batch)) for batch in requests.in_batches(keys)]
+        return [record for records in await asyncio.gather(*batches) for record in records]
+
+    async def scan(
+        self, start: str | None = None, end: str | None = None, *, where: Sequence[Condition] = (), page: int = 100
+    ) -> AsyncIterator[Record]:
+        """As `Client.scan`."""
+        async for rows in self.pages(Query(start, end, where, page)):
+            for record in rows:
+                yield record
+
+    async def pages(self, query: Query | None) -> AsyncIterator[list[Record]]:
+        """The pages of a query, to the last."""
+        while query is not None:
+            page = await self.ask(requests.scan(query))
+            yield page.records
+            query = page.next
+
+    async def copy(self, tablet: int, path: str | os.PathLike[str], need: Mapping[str, int] | None = None) -> None:
+        """As `Client.copy`."""
+        text = await self.ask(requests.copy(tablet, need))
+        await asyncio.to_thread(write_whole, Path(path), text)
+
+    async def ask(self, request: Request[Answer]) -> Answer:
+        """The answer to one request. Any number of tasks may ask at once."""
+        try:
+            async with asyncio.timeout(self._timeout):
+                return request.answer(await self._reply(request))
+        except TimeoutError as fault:
+            raise TimedOut("no reply in time") from fault
+
+    async def _reply(self, request: Request[Any]) -> Any:
+        tries = 0
+        while True:
+            connection = min(self._connections, key=len)
+            try:
+                return await connection.reply(request)
+            except ConnectionFailed:
+                tries += 1
+                if tries > self._retries or not request.reads:
+                    raise
+                await asyncio.sleep(pause(tries))
+
+    async def close(self) -> None:
+        """Ends all sessions. Calls that wait fail."""
+        for connection in self._connections:
+            writer = connection.break_off(ConnectionFailed("the client was closed"))
+            if writer is not None:
+                with suppress(OSError):
+                    await writer.wait_closed()
+
+    async def __aenter__(self) -> AsyncClient:
+        return self
+
+    async def __aexit__(
+        self, kind: type[BaseException] | None, fault: BaseException | None, trace: TracebackType | None
+    ) -> None:
+        await self.close()
+
+
+class _Connection:
+    """One session, with any number of lines in flight, and a task that takes their replies."""
+
+    def __init__(self, address: Address) -> None:
+        self._address = address
+        self._pipeline: Pipeline[asyncio.Future[Any]] = Pipeline()
+        self._writer: asyncio.StreamWriter | None = None
+        self._taking: asyncio.Task[None] | None = None
+        self._opening = asyncio.Lock()
+
+    def __len__(self) -> int:
+        return len(self._pipeline)
+
+    async def reply(self, request: Request[Any]) -> Any:
+        """The reply to a request. A caller that gives up leaves its place, so that later replies find theirs."""
+        writer = await self._opened()
+        answer: asyncio.Future[Any] = asyncio.get_running_loop().create_future()
+        writer.write(self._pipeline.send(request, answer))
+        try:
+            await writer.drain()
+        except OSError as fault:
+            self.break_off(ConnectionFailed(f"the connection broke: {fault}"))
+        return await answer
+
+    async def _opened(self) -> asyncio.StreamWriter:
+        async with self._opening:
+            if self._writer is None:
+                try:
+                    reader, self._writer = await _streams(self._address)
+                except OSError as fault:
+                    raise ConnectionFailed(f"no connection to {self._address}: {fault}") from fault
+                self._pipeline = Pipeline()
+                self._taking = asyncio.create_task(self._take(reader, self._pipeline))
+            return self._writer
+
+    async def _take(self, reader: asyncio.StreamReader, pipeline: Pipeline[asyncio.Future[Any]]) -> None:
+        fault: PnutsError = ConnectionFailed("the region closed the connection")
+        try:
+            while data := await reader.read(PIECE):
+                for _, answer, reply in pipeline.receive(data):
+                    if not answer.done():
+                        answer.set_result(reply)
+        except OSError as broken:
+            fault = ConnectionFailed(f"the connection broke: {broken}")
+        except ProtocolError as wrong:
+            fault = wrong
+        if pipeline is self._pipeline:
+            self.break_off(fault)
+
+    def break_off(self, fault: PnutsError) -> asyncio.StreamWriter | None:
+        """Ends the session: what waits fails, and the next line begins another. Gives what was closed."""
+        writer, self._writer = self._writer, None
+        if writer is not None:
+            writer.close()
+        if self._taking is not None and self._taking is not asyncio.current_task():
+            self._taking.cancel()
+        pipeline, self._pipeline = self._pipeline, Pipeline()
+        for _, answer in pipeline.unanswered():
+            if not answer.done():
+                answer.set_exception(fault)
+        return writer
+
+
+async def _streams(address: Address) -> tuple[asyncio.StreamReader, asyncio.StreamWriter]:
+    if isinstance(address, Unix):
+        return await asyncio.open_unix_connection(address.path, limit=PIECE)
+    name = (address.server_name or address.host) if address.tls else None
+    return await asyncio.open_connection(
+        address.host, address.port, limit=PIECE, ssl=address.tls, server_hostname=name
+    )

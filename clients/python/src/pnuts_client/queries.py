@@ -1,0 +1,78 @@
+"""What a scan asks for: a range of keys, and conditions on fields."""
+
+from __future__ import annotations
+
+from collections.abc import Sequence
+from dataclasses import dataclass, replace
+from typing import Any
+
+from .errors import ProtocolError
+
+Condition = tuple[str, ...]
+MEMBERS = frozenset(("after", "from", "limit", "to", "where"))
+
+
+def has(field: str) -> Condition:
+    """The field is there."""
+    return ("has", field)
+
+
+def eq(field: str, value: str) -> Condition:
+    """The field is this text."""
+    return ("eq", field, value)
+
+
+def lt(field: str, value: str) -> Condition:
+    """The field is less than this text, by bytes."""
+    return ("lt", field, value)
+
+
+def gt(field: str, value: str) -> Condition:
+    """The field is greater than this text, by bytes."""
+    return ("gt", field, value)
+
+
+def prefix(field: str, value: str) -> Condition:
+    """The field begins with this text."""
+    return ("prefix", field, value)
+
+
+@dataclass(frozen=True, slots=True)
+class Query:
+    """The records from `start` on, below `end`, above `after`, that meet all conditions of `where`; `limit` rows a page."""
+
+    start: str | None = None
+    end: str | None = None
+    where: Sequence[Condition] = ()
+    limit: int = 100
+    after: str | None = None
+
+    def as_json(self) -> dict[str, Any]:
+        """The query as a line has it."""
+        where = [list(condition) for condition in self.where]
+        return {"after": self.after, "from": self.start, "limit": self.limit, "to": self.end, "where": where}
+
+    def within(self, low: str | None, high: str | None) -> Query | None:
+        """The part of the query from `low` on and below `high`. None where no key can be there."""
+        start = _greater(self.start, low)
+        end = self.end if high is None else high if self.end is None else min(self.end, high)
+        first = _greater(start, self.after)
+        if end is not None and first is not None and first >= end:
+            return None
+        return replace(self, start=start, end=end)
+
+
+def query_of(member: Any) -> Query | None:
+    """The query that a reply's `next` is, None on the last page."""
+    if member is None:
+        return None
+    if not isinstance(member, dict) or set(member) != MEMBERS:
+        raise ProtocolError(f"no query: {member!r}")
+    where = [tuple(condition) for condition in member["where"]]
+    return Query(member["from"], member["to"], where, member["limit"], member["after"])
+
+
+def _greater(one: str | None, other: str | None) -> str | None:
+    if one is None or other is None:
+        return one if other is None else other
+    return max(one, other)

@@ -1,0 +1,106 @@
+"""Lines that ask a region, and what their replies mean."""
+
+from __future__ import annotations
+
+import json
+from collections.abc import Callable, Iterable, Mapping, Sequence
+from dataclasses import dataclass
+from typing import Any, Generic, NamedTuple, TypeVar
+
+from .errors import ProtocolError, refusal_of
+from .queries import Query, query_of
+from .records import Record
+
+MAX_KEYS = 100
+"""How many keys one `get` may have."""
+
+Answer = TypeVar("Answer")
+_text: Callable[[str], str] = json.JSONEncoder().encode
+
+
+class Request(NamedTuple, Generic[Answer]):
+    """A line with its newline, and how its reply is read.
+
+    `has_lines`: lines of text follow a reply that says how many. `reads`: asking twice changes nothing, so a line
+    whose connection broke before its reply is asked anew.
+    """
+
+    line: bytes
+    meaning: Callable[[Any], Answer]
+    has_lines: bool = False
+    reads: bool = True
+
+    def answer(self, reply: Any) -> Answer:
+        """What the reply says; raises what it refuses."""
+        try:
+            if "error" in reply:
+                raise refusal_of(reply)
+            return self.meaning(reply)
+        except (KeyError, TypeError, IndexError, AttributeError) as fault:
+            raise ProtocolError(f"no reply to {self.line[:80]!r}: {reply!r}") from fault
+
+
+@dataclass(frozen=True, slots=True)
+class Page:
+    """Records in key order, and the query for those that follow, None where these are the last."""
+
+    records: list[Record]
+    next: Query | None
+
+
+def read(key: str, at_least: tuple[int, int] | None = None) -> Request[Record | None]:
+    """One record, a deleted one too; None where there is none. `at_least` is the version that is required."""
+    version = "" if at_least is None else f',"version":[{at_least[0]:d},{at_least[1]:d}]'
+    return Request(f'{{"do":"read","key":{_text(key)}{version}}}\n'.encode(), _row)
+
+
+def get(keys: Sequence[str]) -> Request[list[Record | None]]:
+    """The records of 1 to 100 keys, in their order."""
+    return Request(f'{{"do":"get","keys":[{",".join(map(_text, keys))}]}}\n'.encode(), _rows)
+
+
+def scan(query: Query) -> Request[Page]:
+    """A page of what the query asks for."""
+    return ask({"do": "scan", "query": query.as_json()}, _page)
+
+
+def copy(tablet: int, need: Mapping[str, int] | None = None) -> Request[bytes]:
+    """The text of a copy of a tablet, which reaches the positions of `need`."""
+    request = ask({"do": "copy", "need": need and dict(need), "tablet": tablet}, _copy)
+    return Request(request.line, _copy, has_lines=True)
+
+
+def ask(command: Mapping[str, Any], meaning: Callable[[Any], Answer]) -> Request[Answer]:
+    """Any command that reads and has a reply of one line."""
+    return Request(json.dumps(command, separators=(",", ":")).encode() + b"\n", meaning)
+
+
+def in_batches(keys: Iterable[str]) -> Iterable[list[str]]:
+    """Keys in lists of at most 100, in their order."""
+    batch: list[str] = []
+    for key in keys:
+        batch.append(key)
+        if len(batch) == MAX_KEYS:
+            yield batch
+            batch = []
+    if batch:
+        yield batch
+
+
+def _row(reply: Any) -> Record | None:
+    row = reply["row"]
+    return None if row is None else Record(row)
+
+
+def _rows(reply: Any) -> list[Record | None]:
+    return [None if row is None else Record(row) for row in reply["rows"]]
+
+
+def _page(reply: Any) -> Page:
+    return Page([Record(row) for row in reply["rows"]], query_of(reply["next"]))
+
+
+def _copy(reply: Any) -> bytes:
+    text: bytes = reply["text"]
+    return text
+
