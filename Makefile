@@ -24,7 +24,7 @@ CRATE ?=
 ROWS ?= ../shared/rows
 STAGE ?= notices
 
-.PHONY: run test edits build bench bench-beside checks definitions rows toolchain
+.PHONY: run test edits build bench bench-beside checks checks-client definitions rows toolchain
 
 # Shows the program at work: the replies to the script on standard output. It proves nothing. A program that is current answers
 # at once; otherwise one is built, in about two minutes, and kept.
@@ -67,6 +67,10 @@ checks: build
 	@checks/live-copies "$(PROGRAM)"
 	@checks/out-of-memory "$(PROGRAM)" "$(LIVE)"
 	@checks/random-scripts "$(SCRIPTS)" --scripts 3000
+
+# Tests the client for Python against the built program.
+checks-client: build
+	@PNUTS="$(PROGRAM)" clients/python/test
 
 # Prints the definitions that contracts cite, each with its comment: of all crates, or of one.
 definitions:
