@@ -110,15 +110,7 @@ where
     let streams = streams(alloc, if is_first { FIRST } else { SECOND })?;
     let client = thread::spawn(rt, move || talk(&theirs, alloc, at, most))?;
     let mut written = Vec::new(alloc);
-    let ended = serve(
-        rt,
-        alloc,
-        &listener,
-        settings,
-        1,
-        streams,
-        &mut written,
-    );
+    let ended = serve(rt, alloc, &listener, settings, 1, streams, &mut written);
     let told = client.join(rt)?;
     outcome(alloc, ended, &written, told)
 }
