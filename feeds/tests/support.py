@@ -72,7 +72,7 @@ class Feed:
 
     def ended(self) -> tuple[int, str]:
         """The feed's status, and what it said."""
-        said = self.program.communicate(timeout=30)[1]
+        said = self.program.communicate(timeout=60)[1]
         return self.program.returncode, said
 
     def go(self) -> None:

@@ -6,6 +6,7 @@ import os
 import signal
 import subprocess
 import tempfile
+import time
 import unittest
 from collections.abc import Iterator
 from contextlib import contextmanager
@@ -163,8 +164,8 @@ class RabbitMq(unittest.TestCase):
         self.server.make(plain, {})
         self.server.add(plain, 1, 3)
         with feed(*self.words[:-1], plain) as running:
-            self.assertEqual(running.ended()[0], 1)
-            self.assertEqual(running.lines, [])
+            time.sleep(3)
+            self.assertEqual((running.program.poll(), running.lines), (None, []))
         with self.server.channel() as channel:
             wait_until(lambda: channel.queue_declare(plain, passive=True).method.message_count == 3)
 
