@@ -1,0 +1,1 @@
+"""What all feeds share: bodies to messages, and the way to a region."""

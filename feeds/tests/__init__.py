@@ -1,0 +1,1 @@
+"""Tests of the feeds against real brokers: `feeds/test`."""
