@@ -24,7 +24,7 @@ CRATE ?=
 ROWS ?= ../shared/rows
 STAGE ?= notices
 
-.PHONY: run test edits build bench bench-beside checks checks-client definitions rows toolchain
+.PHONY: run test edits build bench bench-beside checks checks-client checks-feeds definitions rows toolchain
 
 # Shows the program at work: the replies to the script on standard output. It proves nothing. A program that is current answers
 # at once; otherwise one is built, in about two minutes, and kept.
@@ -71,6 +71,10 @@ checks: build
 # Tests the client for Python against the built program.
 checks-client: build
 	@PNUTS="$(PROGRAM)" clients/python/test
+
+# Tests the feeds against brokers that are started for it; those that are missing are skipped.
+checks-feeds:
+	@feeds/test
 
 # Prints the definitions that contracts cite, each with its comment: of all crates, or of one.
 definitions:
