@@ -4,12 +4,14 @@
 #![tactic(auto)]
 
 mod given;
+mod lines;
 mod pieces;
 mod runs;
 mod spelling;
 mod stopping;
 
 pub use given::{deliveries, image, keys, layout};
+pub use lines::answer_lines;
 pub use pieces::Pieces;
 pub use runs::Runs;
 pub use spelling::spelled;

@@ -8,15 +8,11 @@ mod values;
 use pn_record::{ImageFault, KeyFault, Member, read_image, write_image};
 use std::alloc::Global;
 use std::test::Fail;
-use test_kit::spelled;
+use test_kit::{answer_lines, spelled};
 use values::{content, marks, version};
 
 fn main(rt: HostRuntime) -> Result<(), Fail> {
-    for line in rt.lines(rt.alloc()) {
-        let text = answer(rt.alloc(), line?.as_str())?;
-        println!(rt; "{text}")?;
-    }
-    Ok(())
+    answer_lines(&rt, |line| answer(rt.alloc(), line))
 }
 
 fn answer(alloc: Global, line: &str) -> Result<String, Fail> {

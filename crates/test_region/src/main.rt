@@ -12,14 +12,11 @@ use pn_region::{AdoptFault, RoundFault};
 use std::alloc::Global;
 use std::test::Fail;
 use std::thread::Threads;
+use test_kit::answer_lines;
 use work::{reduced, round};
 
 fn main(rt: HostRuntime) -> Result<(), Fail> {
-    for line in rt.lines(rt.alloc()) {
-        let text = answer(&rt, rt.alloc(), line?.as_str())?;
-        println!(rt; "{text}")?;
-    }
-    Ok(())
+    answer_lines(&rt, |line| answer(&rt, rt.alloc(), line))
 }
 
 fn answer<R: Threads + Sync>(rt: &R, alloc: Global, line: &str) -> Result<String, Fail> {

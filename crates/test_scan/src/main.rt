@@ -14,14 +14,10 @@ use serde_json::Value;
 use std::alloc::Global;
 use std::test::Fail;
 use tablets::view_of;
-use test_kit::spelled;
+use test_kit::{answer_lines, spelled};
 
 fn main(rt: HostRuntime) -> Result<(), Fail> {
-    for line in rt.lines(rt.alloc()) {
-        let text = answer(rt.alloc(), line?.as_str())?;
-        println!(rt; "{text}")?;
-    }
-    Ok(())
+    answer_lines(&rt, |line| answer(rt.alloc(), line))
 }
 
 fn answer(alloc: Global, line: &str) -> Result<String, Fail> {

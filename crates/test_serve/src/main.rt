@@ -19,13 +19,10 @@ use std::net::{Net, TcpListener, TcpStream};
 use std::sync::Wait;
 use std::test::Fail;
 use std::thread::Threads;
+use test_kit::answer_lines;
 
 fn main(rt: HostRuntime) -> Result<(), Fail> {
-    for line in rt.lines(rt.alloc()) {
-        let text = answer(&rt, rt.alloc(), line?.as_str())?;
-        println!(rt; "{text}")?;
-    }
-    Ok(())
+    answer_lines(&rt, |line| answer(&rt, rt.alloc(), line))
 }
 
 fn answer<R>(rt: &R, alloc: Global, line: &str) -> Result<String, Fail>

@@ -14,13 +14,10 @@ use fault_texts::faults;
 use layouts::layout;
 use std::alloc::Global;
 use std::test::Fail;
+use test_kit::answer_lines;
 
 fn main(rt: HostRuntime) -> Result<(), Fail> {
-    for line in rt.lines(rt.alloc()) {
-        let text = answer(rt.alloc(), line?.as_str())?;
-        println!(rt; "{text}")?;
-    }
-    Ok(())
+    answer_lines(&rt, |line| answer(rt.alloc(), line))
 }
 
 fn answer(alloc: Global, line: &str) -> Result<String, Fail> {
