@@ -140,6 +140,12 @@ def edits_of(crate: str) -> list[Edit]:
     return [Edit(crate, f"{at}/{name}") for at in folders if os.path.isdir(at) for name in sorted(os.listdir(at)) if name.endswith(".edit")]
 
 
+def control_of(edit: Edit) -> Edit | None:
+    """The right body in the shape of an edit, if one is kept."""
+    path = f"{TOP}/edits/{edit.crate}/{edit.name.removesuffix('.edit')}.control"
+    return Edit(edit.crate, path) if os.path.exists(path) else None
+
+
 def in_bundles(edits: list[Edit], most: int) -> list[list[Edit]]:
     """Puts edits together that change bodies of different functions, each into the first bundle that it fits."""
     alone = [[it] for it in edits if it.is_alone()]
