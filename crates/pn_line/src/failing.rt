@@ -68,6 +68,10 @@ impl Source for FailingSource<'_> {
 
     ghost may_fail = { Unit {0} };
 
+    ghost may_end = { Unit {0} };
+
+    ghost looks = { λ _. 0 };
+
     /// Fails at the chosen look, and at no other.
     fn take_some(&mut self, line: &mut LineBuffer) -> io::Result<Piece>
         requires { line.old.count < ENDLESS }
@@ -80,6 +84,7 @@ impl Source for FailingSource<'_> {
         ensures fault { OnErr result (Unit {0}) }
         ensures kept { OnErr result (Keeps (Some self.old.left) (Some self.new.left)) }
         ensures line_kept { OnErr result (line.new ≡ line.old) }
+        ensures looks { 0 ≤ 1 }
         ensures fails { IsErr result ↔ (self.old.fails_at ≡ 1) }
         ensures counted { self.new.fails_at ≡ self.old.fails_at - 1 }
     {
@@ -93,6 +98,7 @@ impl Source for FailingSource<'_> {
         ensures end { result ≡ Ok false → IfSome (Some self.old.left) (λ rest. rest ≡ []) }
         ensures fault { OnErr result (Unit {0}) }
         ensures kept { Keeps (Some self.old.left) (Some self.new.left) }
+        ensures looks { 0 ≤ 1 }
         ensures fails { IsErr result ↔ (self.old.fails_at ≡ 1) }
         ensures counted { self.new.fails_at ≡ self.old.fails_at - 1 }
     {
