@@ -1,6 +1,6 @@
 //! A source and a sink of which one chosen call fails. A contract sees their bytes, so that it says what a
 //! failed run read and wrote.
-ghost use Rattle.std.specs.Prelude.{◌≡◌, ◌≢◌, ◌-◌, ◌<◌, ◌≤◌, ◌↔◌, [], true, false, Ok, Some, IfOk, IfSome, IsErr, OnErr, OnSome, length, max, min, take};
+ghost use Rattle.std.specs.Prelude.{◌≡◌, ◌≢◌, ◌-◌, ◌<◌, ◌≤◌, ◌↔◌, [], true, false, Ok, Some, IfOk, IfSome, IsErr, OnOk, OnErr, OnSome, length, max, min, take};
 ghost use Rattle.std.specs.Io.KnownBytes.{Appends, Keeps, IsAtEnd};
 ghost use Rattle.pn_line.specs.Reads.{Takes, newline_after, HasMore};
 
@@ -68,6 +68,10 @@ impl Source for FailingSource<'_> {
 
     ghost may_fail = { Unit {0} };
 
+    ghost may_end = { Unit {0} };
+
+    ghost looks = { λ _. 0 };
+
     /// Fails at the chosen look, and at no other.
     fn take_some(&mut self, line: &mut LineBuffer) -> io::Result<Piece>
         requires { line.old.count < ENDLESS }
@@ -80,6 +84,7 @@ impl Source for FailingSource<'_> {
         ensures fault { OnErr result (Unit {0}) }
         ensures kept { OnErr result (Keeps (Some self.old.left) (Some self.new.left)) }
         ensures line_kept { OnErr result (line.new ≡ line.old) }
+        ensures looks { 0 ≤ 1 }
         ensures fails { IsErr result ↔ (self.old.fails_at ≡ 1) }
         ensures counted { self.new.fails_at ≡ self.old.fails_at - 1 }
     {
@@ -93,6 +98,7 @@ impl Source for FailingSource<'_> {
         ensures end { result ≡ Ok false → IfSome (Some self.old.left) (λ rest. rest ≡ []) }
         ensures fault { OnErr result (Unit {0}) }
         ensures kept { Keeps (Some self.old.left) (Some self.new.left) }
+        ensures looks { 0 ≤ 1 }
         ensures fails { IsErr result ↔ (self.old.fails_at ≡ 1) }
         ensures counted { self.new.fails_at ≡ self.old.fails_at - 1 }
     {
@@ -106,6 +112,7 @@ impl Source for FailingSource<'_> {
 #[derive(Debug, Drop)]
 pub struct FailingSink {
     taken: Vec<u8>,
+    handed_on: usize,
     most: usize,
     calls: Countdown,
 }
@@ -115,7 +122,7 @@ impl Model for FailingSink {
 
     ghost Value = { FailingSinkValue };
 
-    ghost view = { λ sink. record { taken = sink.taken.items; most = sink.most; fails_at = sink.calls.fails_at } };
+    ghost view = { λ sink. record { taken = sink.taken.items; handed_on = sink.handed_on; most = sink.most; fails_at = sink.calls.fails_at } };
 }
 
 impl FailingSink {
@@ -123,11 +130,13 @@ impl FailingSink {
     /// from 1; 0 means none.
     pub fn new(alloc: Global, most: usize, fails_at: usize) -> FailingSink
         ensures taken { result.taken ≡ [] }
+        ensures handed_on { result.handed_on ≡ 0 }
         ensures most { result.most ≡ most }
         ensures fails_at { result.fails_at ≡ fails_at }
     {
         FailingSink {
             taken: Vec::new(alloc),
+            handed_on: 0,
             most,
             calls: Countdown { fails_at },
         }
@@ -139,12 +148,21 @@ impl FailingSink {
     {
         &self.taken
     }
+
+    /// How many of these bytes were handed on.
+    pub fn handed_on(&self) -> usize
+        ensures { result ≡ self.now.handed_on }
+    {
+        self.handed_on
+    }
 }
 
 impl Sink for FailingSink {
     ghost contents = { λ sink. Some sink.taken };
 
     ghost may_fail = { Unit {0} };
+
+    ghost is_handed_on = { λ sink. sink.handed_on ≡ length sink.taken };
 
     /// Takes up to `most` bytes. Fails if it is the chosen call, or out of memory.
     fn write_some(&mut self, bytes: &[u8]) -> Result<usize, WriteFault>
@@ -157,6 +175,7 @@ impl Sink for FailingSink {
         ensures fails { self.old.fails_at ≡ 1 → IsErr result }
         ensures counted { self.new.fails_at ≡ self.old.fails_at - 1 }
         ensures most { self.new.most ≡ self.old.most }
+        ensures handed_on { self.new.handed_on ≡ self.old.handed_on }
     {
         self.calls.call().map_err(WriteFault::Failed)?;
         let count = bytes.len().min(self.most.max(1));
@@ -168,11 +187,14 @@ impl Sink for FailingSink {
 
     /// Fails if it is the chosen call, and only then.
     fn hand_on(&mut self) -> Result<(), WriteFault>
+        ensures all { OnOk result (self.new.handed_on ≡ length self.new.taken) }
         ensures kept { Keeps (Some self.old.taken) (Some self.new.taken) }
         ensures fails { IsErr result ↔ (self.old.fails_at ≡ 1) }
         ensures counted { self.new.fails_at ≡ self.old.fails_at - 1 }
         ensures most { self.new.most ≡ self.old.most }
     {
-        self.calls.call().map_err(WriteFault::Failed)
+        self.calls.call().map_err(WriteFault::Failed)?;
+        self.handed_on = self.taken.len();
+        Ok(())
     }
 }

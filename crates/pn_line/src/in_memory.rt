@@ -35,6 +35,10 @@ impl Source for InMemory<'_> {
 
     ghost may_fail = { ⊥ };
 
+    ghost may_end = { Unit {0} };
+
+    ghost looks = { λ _. 0 };
+
     fn take_some(&mut self, line: &mut LineBuffer) -> io::Result<Piece> {
         let (count, piece) = take_piece(line, self.rest);
         self.rest = &self.rest[count..];

@@ -82,6 +82,7 @@ impl Outbox {
             (AppendsPrefix (W.contents writer.old) (W.contents writer.new) self.old) }
         ensures fault { OnErr result W.may_fail }
         ensures empty { self.new ≡ [] }
+        ensures handed_on { OnOk result (W.is_handed_on writer.new) }
     {
         self.send(writer)?;
         writer.hand_on()

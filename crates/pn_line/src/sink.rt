@@ -1,5 +1,5 @@
 //! Where bytes are written to: any writer, or nowhere, where no write fails.
-ghost use Rattle.std.specs.Prelude.{◌<◌, ◌≤◌, ℕ, List, Option, length, take, IfOk, OnErr};
+ghost use Rattle.std.specs.Prelude.{◌<◌, ◌≤◌, ℕ, List, Option, length, take, IfOk, OnOk, OnErr};
 ghost use Rattle.std.specs.Io.KnownBytes.{Appends, Keeps};
 
 use crate::writing::WriteFault;
@@ -13,6 +13,9 @@ pub trait Sink {
     // False for a type whose writes never fail.
     ghost may_fail: { Type 0 };
 
+    // What was written so far was handed on, where the type shows it.
+    ghost is_handed_on: { Self → Type 0 };
+
     /// Writes a prefix of the bytes, at least one if there is one, and returns its length.
     ///
     /// A fault is an error of the writer, `Interrupted` too, or that it accepts no byte. Then nothing is written.
@@ -24,8 +27,9 @@ pub trait Sink {
         ensures fault { OnErr result may_fail }
         ensures kept { OnErr result (Keeps (contents self.old) (contents self.new)) };
 
-    /// Flushes the writer.
+    /// Flushes the writer: what was written so far is handed on.
     fn hand_on(&mut self) -> Result<(), WriteFault>
+        ensures all { OnOk result (is_handed_on self.new) }
         ensures fault { OnErr result may_fail }
         ensures kept { Keeps (contents self.old) (contents self.new) };
 }
@@ -34,6 +38,8 @@ impl<W: Write> Sink for W {
     ghost contents = { λ writer. W.contents writer };
 
     ghost may_fail = { Unit {0} };
+
+    ghost is_handed_on = { λ _. Unit {0} };
 
     fn write_some(&mut self, bytes: &[u8]) -> Result<usize, WriteFault> {
         match self.write(bytes) {
@@ -58,6 +64,8 @@ impl Sink for Discard {
     ghost contents = { λ _. None };
 
     ghost may_fail = { ⊥ };
+
+    ghost is_handed_on = { λ _. Unit {0} };
 
     fn write_some(&mut self, bytes: &[u8]) -> Result<usize, WriteFault> {
         Ok(bytes.len())

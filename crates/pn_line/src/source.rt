@@ -1,5 +1,5 @@
 //! Where lines are read from: any buffered reader, or bytes in memory, whose reads never fail.
-ghost use Rattle.std.specs.Prelude.{◌≡◌, ◌≢◌, ◌<◌, ℕ, List, [], true, false, IfOk, OnErr, IfSome, OnSome, Option};
+ghost use Rattle.std.specs.Prelude.{◌≡◌, ◌≢◌, ◌+◌, ◌<◌, ◌≤◌, ℕ, List, [], true, false, IfOk, OnErr, IfSome, OnSome, Option};
 ghost use Rattle.std.specs.Io.KnownBytes.{Keeps, IsAtEnd};
 ghost use Rattle.pn_line.specs.Reads.{Takes, newline_after, HasMore};
 
@@ -16,6 +16,12 @@ pub trait Source {
     // False for a type whose reads never fail.
     ghost may_fail: { Type 0 };
 
+    // False for a type that is never at its end.
+    ghost may_end: { Type 0 };
+
+    // How many looks at its bytes were made, where the type counts them.
+    ghost looks: { Self → ℕ };
+
     /// Looks at some of the bytes that are left, waiting for them if need be, and moves those of the line
     /// into it.
     ///
@@ -27,7 +33,9 @@ pub trait Source {
         ensures part { result ≡ Ok Piece.Part → line.old.count < line.new.count }
         ensures below { result ≢ Ok Piece.Part → line.new.count < ENDLESS }
         ensures end { result ≡ Ok Piece.NoMore → OnSome (left self.old) (IsAtEnd (left self.new)) }
+        ensures end_comes { result ≡ Ok Piece.NoMore → may_end }
         ensures more { IfOk result (λ piece. OnSome (left self.old) (HasMore piece (left self.new))) }
+        ensures looks { looks self.new ≤ looks self.old + 1 }
         ensures fault { OnErr result may_fail }
         ensures kept { OnErr result (Keeps (left self.old) (left self.new)) }
         ensures line_kept { OnErr result (line.new ≡ line.old) };
@@ -36,6 +44,8 @@ pub trait Source {
     fn has_more(&mut self) -> io::Result<bool>
         ensures more { result ≡ Ok true → IfSome (left self.old) (λ rest. rest ≢ []) }
         ensures end { result ≡ Ok false → IfSome (left self.old) (λ rest. rest ≡ []) }
+        ensures end_comes { result ≡ Ok false → may_end }
+        ensures looks { looks self.new ≤ looks self.old + 1 }
         ensures fault { OnErr result may_fail }
         ensures kept { Keeps (left self.old) (left self.new) };
 }
@@ -44,6 +54,10 @@ impl<R: BufRead> Source for R {
     ghost left = { λ reader. R.remaining reader };
 
     ghost may_fail = { Unit {0} };
+
+    ghost may_end = { Unit {0} };
+
+    ghost looks = { λ _. 0 };
 
     fn take_some(&mut self, line: &mut LineBuffer) -> io::Result<Piece> {
         let shown = self.fill_buf()?;
