@@ -21,7 +21,7 @@ use crate::{Dup, Join, NoMemory};
 pub use change::TableChange;
 use edit::take_changes;
 pub use entries::Entries;
-use leaf_list::LeafList;
+pub use leaf_list::LeafList;
 use std::alloc::Global;
 use std::marker::Model;
 
@@ -77,14 +77,12 @@ impl<K: Ord + Dup, C: Join> Table<K, C> {
         Some((key, content))
     }
 
-    /// The entries of the leaf at an index. `None` past the last leaf.
-    ///
-    /// The leaves in order are the table's entries.
-    pub fn leaf(&self, place: usize) -> Option<&[(K, C)]>
-        ensures { (leaves : List (List (K × C))) × AreLeavesOf self.now leaves
-            × (option_map (λ leaf. leaf.now) result ≡ slice_get leaves place) }
+    /// The leaves in which the entries are held. One after another they are the entries.
+    pub fn leaves(&self) -> &LeafList<K, C>
+        ensures { AreLeavesOf self.now result.now }
     {
-        self.leaf_list.leaf(place)
+        self.leaf_list.count();
+        &self.leaf_list
     }
 
     /// All entries in key order, as keys and contents.
@@ -116,7 +114,7 @@ impl<K: Ord + Dup, C: Join> Table<K, C> {
     /// Joins a content into that at the key. An equal key that is present stays. An error leaves the table
     /// as it was.
     ///
-    /// At most one leaf is changed, split or added; all others stay as they were.
+    /// One leaf is changed or cut in two, or the first is made; all others stay as they were.
     ///
     /// Every content that code can make is `valid`.
     pub fn join_entry(&mut self, key: K, content: C) -> Result<(), NoMemory>

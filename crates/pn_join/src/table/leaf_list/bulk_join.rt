@@ -15,7 +15,7 @@ use crate::{Dup, Join, NoMemory};
 
 impl<K: Ord + Dup, C: Join> LeafList<K, C> {
     /// What the entries of the other change, each with the index of its key's leaf.
-    pub fn edits_from(&self, other: &Self) -> Result<Vec<Edit<K, C>>, NoMemory>
+    pub(crate) fn edits_from(&self, other: &Self) -> Result<Vec<Edit<K, C>>, NoMemory>
         ensures changes { IfOk result (λ edits. AreChanges K.cmp C.meaning C.joined C.valid (all_entries self.now) (all_entries other.now) (changes_in edits.items)) }
         ensures aimed { IfOk result (λ edits. AreAimed K.cmp self.now edits.items) }
     {
@@ -47,7 +47,7 @@ impl<K: Ord + Dup, C: Join> LeafList<K, C> {
 
     /// Puts all new contents at their keys, and returns true. If splitting each leaf once makes no room for
     /// them, it changes nothing and returns false.
-    pub fn put(&mut self, edits: Vec<Edit<K, C>>) -> Result<bool, NoMemory>
+    pub(crate) fn put(&mut self, edits: Vec<Edit<K, C>>) -> Result<bool, NoMemory>
         requires aimed { AreAimed K.cmp self.old edits.items }
         requires valid { AreValid C.valid (changes_in edits.items) }
         ensures done { IfOk result (λ done. IsTrue done → all_entries self.new ≡ puts K.cmp (all_entries self.old) (changes_in edits.items)) }
