@@ -132,10 +132,8 @@ impl<K: Ord + Dup, C: Join> Table<K, C> {
         self.leaf_list.join_entry(key, content)
     }
 
-    /// Joins the other table into this one. Returns each key whose content now means something else, in key
-    /// order. An error leaves the table as it was.
-    ///
-    /// If the content type has no `changed_by` of its own, every key of the other table is returned.
+    /// Joins the other table into this one. Returns exactly the keys whose contents now mean something else, in
+    /// key order. An error leaves the table as it was.
     pub fn join_and_tell(&mut self, other: &Self) -> Result<Vec<TableChange<K, C>>, NoMemory>
         ensures ok { OnOk result (contents_at K.cmp C.meaning self.new
             ≡ key_by_key C.joined (contents_at K.cmp C.meaning self.old) (contents_at K.cmp C.meaning other.now)) }
@@ -186,6 +184,15 @@ impl<K: Ord + Dup, C: Join> Join for Table<K, C> {
             *self = self.joined_with(other)?;
         }
         Ok(())
+    }
+
+    fn changed_by(&self, other: &Self) -> Result<Option<Self>, NoMemory> {
+        let mut joined = self.dup()?;
+        let changes = joined.join_and_tell(other)?;
+        if changes.is_empty() {
+            return Ok(None);
+        }
+        Ok(Some(joined))
     }
 }
 

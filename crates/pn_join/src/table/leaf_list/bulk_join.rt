@@ -1,6 +1,6 @@
 //! Joins all entries of another list at once, if each leaf has room for its new entries.
 
-ghost use Rattle.std.specs.Prelude.{◌≡◌, ◌++◌, false, Some, None, unwrap_or, option_map, IsTrue, IfOk, IfSome, OnOk, OnErr};
+ghost use Rattle.std.specs.Prelude.{◌≡◌, ◌≢◌, ◌++◌, false, Some, None, unwrap_or, option_map, IsTrue, IfOk, IfSome, OnOk, OnErr};
 ghost use Rattle.std.specs.FinMap.{find};
 ghost use Rattle.std.specs.Option.{option_copied, option_to_list};
 ghost use Rattle.pn_join.specs.Edits.{changes_in, AreAimed, HaveRoom, IsAimed};
@@ -110,6 +110,7 @@ fn joined<C: Join>(had: Option<&C>, content: &C) -> Result<Option<C>, NoMemory>
         ≡ optional_joined C.joined (option_map C.meaning (option_copied had.entry)) (Some (C.meaning content.now))) × C.valid v)) }
     ensures none { IfOk result (λ value. value ≡ None → optional_joined C.joined (option_map C.meaning (option_copied had.entry)) (Some (C.meaning content.now))
         ≡ option_map C.meaning (option_copied had.entry)) }
+    ensures differs { IfOk result (λ value. IfSome value (λ v. Some (C.meaning v) ≢ option_map C.meaning (option_copied had.entry))) }
 {
     match had {
         Some(had) => had.changed_by(content),
