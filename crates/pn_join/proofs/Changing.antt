@@ -1,8 +1,9 @@
 -- Putting the changed contents is joining with the other table.
 use Rattle.std.proofs.Common.{◌≡◌, false, cond, List, [], ◌∷◌, ◌++◌, Option, Some, None, option_map, Ordering, Less, Greater, is_eq, refl, sym, ap, ◌∙◌, subst, append-nil}
-use Rattle.std.specs.List.{AllZip}
+use Rattle.std.specs.List.{AllByRecursion, AllZip}
 use Rattle.std.specs.Option.{option_to_list}
 use Rattle.std.specs.Cmp.{IsTotalOrder}
+use Rattle.std.proofs.lemmas.Cmp.{tied_itself}
 use Rattle.std.specs.FinMap.{find, put}
 use Rattle.std.specs.FinMap.Entries.{find-put}
 use Rattle.pn_join.specs.Edits.{changes_in, AreAimed, IsAimed}
@@ -93,6 +94,7 @@ module _ {K C M : Type 0} (cmp : K → K → Ordering) (o : IsTotalOrder cmp) (m
     key = is.key;
     before = is.before ∙ there k e.0 v now lt;
     after = is.after ∙ ap (λ x. optional_joined joined (option_map meaning x) (Some (meaning e.1))) (there k e.0 v now lt);
+    differs = is.differs;
     is_valid = is.is_valid;
   }
 
@@ -127,3 +129,39 @@ module _ {K C M : Type 0} (cmp : K → K → Ordering) (o : IsTotalOrder cmp) (m
       ap (λ cs. contents_at cmp meaning (puts cmp own cs)) are.are
       ∙ all_joined cmp o meaning joined laws valid own other (puts cmp own (those_there are.made))
       (puts_so_far own other others other are.made own (Rising-from_sorted cmp other others.rising) are.each (none_joined cmp o meaning joined laws valid own other))
+
+-- what is told differs from what was there
+module _ {K C M : Type 0} (cmp : K → K → Ordering) (o : IsTotalOrder cmp) (meaning : C → M) (joined : M → M → M) (valid : C → Type 0) where
+  abbrev IsAt : List (K × C) → K × C → Type 0
+  IsAt entries e = find cmp e.0 entries ≡ Some e.1
+
+  found_after : (e : K × C) (entries es : List (K × C)) → Below cmp e.0 es → AllByRecursion (IsAt entries) es → AllByRecursion (IsAt (e ∷ entries)) es
+  found_after e entries [] below at = tt
+  found_after e entries (f ∷ es) below at = (
+    ap (λ r. cond (is_eq r) (Some e.1) (find cmp f.0 entries)) (flipped o e.0 f.0 below.0) ∙ at.0,
+    found_after e entries es below.1 at.1,
+  )
+
+  each_found : (es : List (K × C)) → Rising cmp es → AllByRecursion (IsAt es) es
+  each_found [] rising = tt
+  each_found (e ∷ es) rising = (
+    ap (λ r. cond (is_eq r) (Some e.1) (find cmp e.0 es)) (tied_itself o e.0),
+    found_after e es es rising.0 (each_found es rising.1),
+  )
+
+  module _ (own other : List (K × C)) (same : contents_at cmp meaning own ≡ key_by_key joined (contents_at cmp meaning own) (contents_at cmp meaning other)) where
+    none_made : (es : List (K × C)) (made : List (Option (TableChange K C))) → AllByRecursion (IsAt other) es → AllZip (Changes cmp meaning joined valid own) es made → those_there made ≡ []
+    none_made [] [] at all = refl
+    none_made [] (m ∷ ms) at all = absurd all
+    none_made (e ∷ es) [] at all = absurd all
+    none_made (e ∷ es) (None ∷ ms) at all = none_made es ms at.1 all.1
+    none_made (e ∷ es) (Some change ∷ ms) at all = absurd (all.0.differs
+        (all.0.after
+        ∙ ap (λ c. optional_joined joined (option_map meaning (find cmp e.0 own)) (option_map meaning c)) (sym at.0)
+        ∙ sym (ap (λ contents. contents e.0) same)
+        ∙ ap (option_map meaning) (sym all.0.before)))
+
+  -- a join that changes no content tells of none
+  pub nothing_told : (own other : List (K × C)) (changes : List (TableChange K C)) → IsTable cmp valid other → AreChanges cmp meaning joined valid own other changes → contents_at cmp meaning own ≡ key_by_key joined (contents_at cmp meaning own) (contents_at cmp meaning other) → changes ≡ []
+  nothing_told own other changes others are same =
+      are.are ∙ none_made own other same other are.made (each_found other (Rising-from_sorted cmp other others.rising)) are.each

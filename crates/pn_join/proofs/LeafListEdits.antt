@@ -3,7 +3,7 @@ use Rattle.std.proofs.Common.{◌≡◌, ℕ, zero, suc, ◌+◌, ◌^◌, ◌<�
 use Rattle.std.specs.List.{AllByRecursion}
 use Rattle.std.proofs.lemmas.List.{length-append}
 use Rattle.pn_join.specs.Leaves.{all_entries, counts_after}
-use Rattle.pn_join.specs.PutInLeaves.{ChangesOneLeaf}
+use Rattle.pn_join.specs.PutInLeaves.{ReplacesOneLeaf, ChangesOneLeaf}
 use Rattle.pn_join.specs.LeafListChanges.{raised_from, FitFrom, with_back, counts_with}
 
 pub fit_at : (i by : ℕ) (ns : List ℕ) → FitFrom i by ns → (d : ℕ) → i < length ns → get_or ns i d + by < 2 ^ 64
@@ -123,7 +123,11 @@ module _ {A : Type 0} where
   pieces_of front [] = front ∷ []
   pieces_of front (b ∷ bs) = front ∷ (b ∷ bs) ∷ []
 
-  leaf_between : (list : List (List A)) (i : ℕ) → i < length list → list ≡ take i list ++ ((get_or list i [] ∷ []) ++ drop (suc i) list)
+  few_pieces : (front back : List A) → (0 < length (pieces_of front back)) × (length (pieces_of front back) ≤ 2)
+  few_pieces front [] = (omega arith, omega arith)
+  few_pieces front (b ∷ bs) = (omega arith, omega arith)
+
+  leaf_between : (list : List (List A)) (i : ℕ) → i < length list → list ≡ take i list ++ get_or list i [] ∷ drop (suc i) list
   leaf_between [] i lt = absurd (omega (arith, lt))
   leaf_between (l ∷ ls) zero lt = refl
   leaf_between (l ∷ ls) (suc i) lt = ap (λ es. l ∷ es) (leaf_between ls i (omega (arith, lt)))
@@ -135,12 +139,22 @@ module _ {A : Type 0} where
   pieces_between (l ∷ ls) (suc i) front [] lt = ap (λ es. l ∷ es) (pieces_between ls i front [] (omega (arith, lt)))
   pieces_between (l ∷ ls) (suc i) front (b ∷ bs) lt = ap (λ es. l ∷ es) (pieces_between ls i front (b ∷ bs) (omega (arith, lt)))
 
-  pub one_leaf : (list : List (List A)) (i : ℕ) (front back : List A) → i < length list → ChangesOneLeaf list (with_back i back (set list i front))
-  one_leaf list i front back lt = record {
+  replaced : (list : List (List A)) (i : ℕ) (front back : List A) → i < length list → ReplacesOneLeaf list (with_back i back (set list i front))
+  replaced list i front back lt = record {
     before = take i list;
     after = drop (suc i) list;
-    was = get_or list i [] ∷ [];
+    was = get_or list i [];
     is = pieces_of front back;
+    one_or_two = few_pieces front back;
     old_leaves = leaf_between list i lt;
     new_leaves = pieces_between list i front back lt;
   }
+
+  pub one_leaf : (list : List (List A)) (i : ℕ) (front back : List A) → i < length list → ChangesOneLeaf list (with_back i back (set list i front))
+  one_leaf [] i front back lt = absurd (omega (arith, lt))
+  one_leaf (l ∷ ls) i front back lt = replaced (l ∷ ls) i front back lt
+
+  -- of no leaves the first is made
+  pub first_leaf : (old new : List (List A)) (leaf : List A) → old ≡ [] → new ≡ leaf ∷ [] → ChangesOneLeaf old new
+  first_leaf [] new leaf none is = ap length is
+  first_leaf (l ∷ ls) new leaf none is = cc

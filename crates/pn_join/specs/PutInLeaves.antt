@@ -1,5 +1,5 @@
 -- What joining one entry does to leaves.
-use Rattle.std.specs.Prelude.{◌≡◌, List, ◌++◌, Some, option_map}
+use Rattle.std.specs.Prelude.{◌≡◌, ◌<◌, ◌≤◌, List, [], ◌∷◌, ◌++◌, length, Some, option_map}
 use Rattle.std.specs.declared.cmp.Ordering.{Ordering}
 use Rattle.std.specs.FinMap.{find, put}
 use Rattle.pn_join.specs.Tables.{optional_joined}
@@ -11,11 +11,17 @@ pub record IsPutOf {K C M : Type 0} (cmp : K → K → Ordering) (meaning : C �
   pub means : Some (meaning value) ≡ optional_joined joined (option_map meaning (find cmp key old)) (Some (meaning content))
   pub is_valid : valid value
 
--- one leaf is changed, split or added, and all others are as they were
-pub record ChangesOneLeaf {A : Type 0} (old new : List (List A)) : Type 0 where
+-- one leaf is changed, or cut in two; all others are the same at their places
+pub record ReplacesOneLeaf {A : Type 0} (old new : List (List A)) : Type 0 where
   pub before : List (List A)
   pub after : List (List A)
-  pub was : List (List A)
+  pub was : List A
   pub is : List (List A)
-  pub old_leaves : old ≡ before ++ (was ++ after)
+  pub one_or_two : (0 < length is) × (length is ≤ 2)
+  pub old_leaves : old ≡ before ++ was ∷ after
   pub new_leaves : new ≡ before ++ (is ++ after)
+
+-- one leaf is changed or cut in two, or the first is made; all others are the same at their places
+abbrev pub ChangesOneLeaf : {A : Type 0} → List (List A) → List (List A) → Type 0
+ChangesOneLeaf [] new = length new ≡ 1
+ChangesOneLeaf (leaf ∷ leaves) new = ReplacesOneLeaf (leaf ∷ leaves) new

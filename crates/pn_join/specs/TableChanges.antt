@@ -1,16 +1,17 @@
 -- What joining entries changes in a table.
-use Rattle.std.specs.Prelude.{◌≡◌, List, Option, None, Some, option_map}
+use Rattle.std.specs.Prelude.{◌≡◌, ◌≢◌, List, Option, None, Some, option_map}
 use Rattle.std.specs.declared.cmp.Ordering.{Ordering}
 use Rattle.std.specs.List.{AllByRecursion, AllZip, filter_map, fold}
 use Rattle.std.specs.FinMap.{find, put}
 use Rattle.pn_join.specs.declared.table.change.TableChange.{TableChange}
 use Rattle.pn_join.specs.Tables.{optional_joined}
 
--- the change of an entry: its key, the content before, and one that means the join of both
+-- the change of an entry: its key, the content before, and one that means the join of both and not the same as before
 pub record IsChange {K C M : Type 0} (cmp : K → K → Ordering) (meaning : C → M) (joined : M → M → M) (valid : C → Type 0) (old : List (K × C)) (entry : K × C) (change : TableChange K C) : Type 0 where
   pub key : change.key ≡ entry.0
   pub before : change.before ≡ find cmp entry.0 old
   pub after : Some (meaning change.after) ≡ optional_joined joined (option_map meaning (find cmp entry.0 old)) (Some (meaning entry.1))
+  pub differs : Some (meaning change.after) ≢ option_map meaning change.before
   pub is_valid : valid change.after
 
 -- the change of an entry, or none if the content at its key means the same afterwards

@@ -1,6 +1,6 @@
 //! Values that can be copied, and values that join with others of their type.
 
-ghost use Rattle.std.specs.Prelude.{◌≡◌, unwrap_or, IfOk, OnOk, OnErr};
+ghost use Rattle.std.specs.Prelude.{◌≡◌, ◌≢◌, unwrap_or, IfOk, IfSome, OnOk, OnErr};
 ghost use Rattle.pn_join.specs.Laws.{JoinLaws};
 
 use crate::NoMemory;
@@ -38,12 +38,8 @@ pub trait Join: Dup {
     /// The join of both, or `None` if this value already means the same.
     fn changed_by(&self, other: &Self) -> Result<Option<Self>, NoMemory>
         ensures joined { IfOk result (λ value. meaning (unwrap_or value self.now) ≡ joined (meaning self.now) (meaning other.now)) }
-        ensures are_valid { IfOk result (λ value. valid self.now × valid other.now × valid (unwrap_or value self.now)) }
-    {
-        let mut value = self.dup()?;
-        value.join_from(other)?;
-        Ok(Some(value))
-    }
+        ensures differs { IfOk result (λ value. IfSome value (λ v. meaning v ≢ meaning self.now)) }
+        ensures are_valid { IfOk result (λ value. valid self.now × valid other.now × valid (unwrap_or value self.now)) };
 
     ghost laws: { JoinLaws joined };
 }

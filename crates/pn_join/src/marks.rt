@@ -61,6 +61,14 @@ impl Join for Highest {
         self.0 = self.0.max(other.0);
         Ok(())
     }
+
+    /// The other, if it is greater.
+    fn changed_by(&self, other: &Highest) -> Result<Option<Highest>, NoMemory> {
+        if other.0 <= self.0 {
+            return Ok(None);
+        }
+        Ok(Some(*other))
+    }
 }
 
 /// The last position taken of each stream. An absent name counts as 0.

@@ -21,7 +21,7 @@ use crate::{Dup, Join, NoMemory};
 pub use change::TableChange;
 use edit::take_changes;
 pub use entries::Entries;
-use leaf_list::LeafList;
+pub use leaf_list::LeafList;
 use std::alloc::Global;
 use std::marker::Model;
 
@@ -77,14 +77,12 @@ impl<K: Ord + Dup, C: Join> Table<K, C> {
         Some((key, content))
     }
 
-    /// The entries of the leaf at an index. `None` past the last leaf.
-    ///
-    /// The leaves in order are the table's entries.
-    pub fn leaf(&self, place: usize) -> Option<&[(K, C)]>
-        ensures { (leaves : List (List (K × C))) × AreLeavesOf self.now leaves
-            × (option_map (λ leaf. leaf.now) result ≡ slice_get leaves place) }
+    /// The leaves in which the entries are held. One after another they are the entries.
+    pub fn leaves(&self) -> &LeafList<K, C>
+        ensures { AreLeavesOf self.now result.now }
     {
-        self.leaf_list.leaf(place)
+        self.leaf_list.count();
+        &self.leaf_list
     }
 
     /// All entries in key order, as keys and contents.
@@ -116,7 +114,7 @@ impl<K: Ord + Dup, C: Join> Table<K, C> {
     /// Joins a content into that at the key. An equal key that is present stays. An error leaves the table
     /// as it was.
     ///
-    /// At most one leaf is changed, split or added; all others stay as they were.
+    /// One leaf is changed or cut in two, or the first is made; all others stay as they were.
     ///
     /// Every content that code can make is `valid`.
     pub fn join_entry(&mut self, key: K, content: C) -> Result<(), NoMemory>
@@ -134,10 +132,8 @@ impl<K: Ord + Dup, C: Join> Table<K, C> {
         self.leaf_list.join_entry(key, content)
     }
 
-    /// Joins the other table into this one. Returns each key whose content now means something else, in key
-    /// order. An error leaves the table as it was.
-    ///
-    /// If the content type has no `changed_by` of its own, every key of the other table is returned.
+    /// Joins the other table into this one. Returns exactly the keys whose contents now mean something else, in
+    /// key order. An error leaves the table as it was.
     pub fn join_and_tell(&mut self, other: &Self) -> Result<Vec<TableChange<K, C>>, NoMemory>
         ensures ok { OnOk result (contents_at K.cmp C.meaning self.new
             ≡ key_by_key C.joined (contents_at K.cmp C.meaning self.old) (contents_at K.cmp C.meaning other.now)) }
@@ -188,6 +184,15 @@ impl<K: Ord + Dup, C: Join> Join for Table<K, C> {
             *self = self.joined_with(other)?;
         }
         Ok(())
+    }
+
+    fn changed_by(&self, other: &Self) -> Result<Option<Self>, NoMemory> {
+        let mut joined = self.dup()?;
+        let changes = joined.join_and_tell(other)?;
+        if changes.is_empty() {
+            return Ok(None);
+        }
+        Ok(Some(joined))
     }
 }
 

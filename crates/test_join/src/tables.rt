@@ -32,6 +32,24 @@ fn key_at(table: &Counts, place: usize) -> Option<u64> {
     }
 }
 
+// Whether the leaves, one after another, are the entries, and each has 1 to 64.
+fn is_in_leaves(table: &Counts) -> bool {
+    let leaves = table.leaves();
+    let mut entries = table.iter();
+    for place in 0..leaves.count() {
+        let leaf = leaves.leaf(place).unwrap_or_default();
+        if leaf.is_empty() || leaf.len() > 64 {
+            return false;
+        }
+        for (key, _content) in leaf {
+            if entries.next().is_none_or(|(other, _content)| other != key) {
+                return false;
+            }
+        }
+    }
+    entries.next().is_none() && leaves.leaf(leaves.count()).is_none()
+}
+
 // The first key, the step and the count of a table, or that it has no such form.
 fn form(alloc: Global, table: &Counts) -> Result<String, Fail> {
     let first = key_at(table, 0).unwrap_or(0);
@@ -42,6 +60,9 @@ fn form(alloc: Global, table: &Counts) -> Result<String, Fail> {
             return Ok(format!(in alloc; "{} where {wanted} was due", key.0)?);
         }
         wanted = wanted.saturating_add(step);
+    }
+    if !is_in_leaves(table) {
+        return Ok(String::from_str(alloc, "its leaves are not its entries")?);
     }
     Ok(format!(in alloc; "{first} {step} {}", table.len())?)
 }
@@ -59,11 +80,8 @@ pub(crate) fn join(alloc: Global, tables: &str) -> Result<String, Fail> {
 
 // The entries of the last leaf.
 fn last_leaf(table: &Counts) -> Option<&[(Highest, Highest)]> {
-    let mut last = None;
-    for place in 0..table.len() {
-        last = table.leaf(place).or(last);
-    }
-    last
+    let leaves = table.leaves();
+    leaves.leaf(leaves.count().checked_sub(1)?)
 }
 
 /// A table with one entry more, below all others, and whether its last leaf is as it was.

@@ -27,10 +27,11 @@ use std::marker::Model;
 /// The first capacity of a table's first leaf, in entries.
 const FIRST_ROOM: usize = 4;
 
-/// The leaves of a table, with cumulative entry counts and fence keys.
+/// The leaves of a table, in key order: 1 to 64 entries each, whose keys rise from leaf to leaf.
 #[derive(Drop)]
 pub struct LeafList<K: Ord + Dup, C: Join> {
     leaves: Vec<Leaf<K, C>>,
+    // How many entries there are up to the end of each leaf.
     entry_counts: Vec<usize>,
     // The last keys of all leaves but the last, where a search looks first. They are hints: a wrong or missing
     // one only costs time.
@@ -52,6 +53,7 @@ impl<K: Ord + Dup, C: Join> Model for LeafList<K, C> {
 }
 
 impl<K: Ord + Dup, C: Join> LeafList<K, C> {
+    /// No leaves. Those to come take memory from `alloc`.
     pub fn new(alloc: Global) -> Self
         ensures { result ≡ [] }
     {
@@ -62,12 +64,12 @@ impl<K: Ord + Dup, C: Join> LeafList<K, C> {
         }
     }
 
-    pub fn alloc(&self) -> Global {
+    pub(crate) fn alloc(&self) -> Global {
         *self.leaves.allocator()
     }
 
     /// How many entries there are.
-    pub fn len(&self) -> usize
+    pub(crate) fn len(&self) -> usize
         ensures count { result ≡ length (all_entries self.now) }
         ensures leaf_list { IsLeafList K.cmp C.valid self.now }
     {
@@ -126,7 +128,7 @@ impl<K: Ord + Dup, C: Join> LeafList<K, C> {
     }
 
     /// The index of a key among all entries.
-    pub fn place_of(&self, key: &K) -> Result<usize, usize>
+    pub(crate) fn place_of(&self, key: &K) -> Result<usize, usize>
         ensures place { result ≡ place_of K.cmp key.now (all_entries self.now) }
         ensures leaf_list { IsLeafList K.cmp C.valid self.now }
     {
@@ -139,7 +141,7 @@ impl<K: Ord + Dup, C: Join> LeafList<K, C> {
     }
 
     /// All entries.
-    pub fn iter(&self) -> Entries<'_, K, C>
+    pub(crate) fn iter(&self) -> Entries<'_, K, C>
         ensures all { result ≡ all_entries self.now }
         ensures leaf_list { IsLeafList K.cmp C.valid self.now }
     {
@@ -147,7 +149,7 @@ impl<K: Ord + Dup, C: Join> LeafList<K, C> {
     }
 
     /// The entries from an index on.
-    pub fn iter_from(&self, place: usize) -> Entries<'_, K, C>
+    pub(crate) fn iter_from(&self, place: usize) -> Entries<'_, K, C>
         ensures rest { result ≡ drop place (all_entries self.now) }
         ensures leaf_list { IsLeafList K.cmp C.valid self.now }
     {
@@ -161,7 +163,7 @@ impl<K: Ord + Dup, C: Join> LeafList<K, C> {
     }
 
     /// An equal list. Leaves are shared where possible.
-    pub fn share(&self) -> Result<Self, NoMemory>
+    pub(crate) fn share(&self) -> Result<Self, NoMemory>
         ensures { IfOk result (λ copy. copy ≡ self.now) }
     {
         let alloc = self.alloc();
@@ -173,7 +175,7 @@ impl<K: Ord + Dup, C: Join> LeafList<K, C> {
     }
 
     /// The entry at an index among all entries.
-    pub fn entry_at(&self, place: usize) -> Option<&(K, C)>
+    pub(crate) fn entry_at(&self, place: usize) -> Option<&(K, C)>
         ensures entry { option_map (λ e. e.now) result ≡ slice_get (all_entries self.now) place }
         ensures leaf_list { IsLeafList K.cmp C.valid self.now }
     {
@@ -185,7 +187,7 @@ impl<K: Ord + Dup, C: Join> LeafList<K, C> {
     }
 
     /// Adds a leaf after all others. An error leaves the list as it was.
-    pub fn push(&mut self, leaf: Leaf<K, C>) -> Result<(), NoMemory>
+    fn push(&mut self, leaf: Leaf<K, C>) -> Result<(), NoMemory>
         requires table { IsTable K.cmp C.valid (all_entries self.old ++ leaf_entries leaf) }
         requires size { IsLeaf (leaf_entries leaf) }
         ensures ok { OnOk result (self.new ≡ self.old ++ leaf_entries leaf ∷ []) }
@@ -201,8 +203,8 @@ impl<K: Ord + Dup, C: Join> LeafList<K, C> {
         Ok(())
     }
 
-    /// Joins a content into that at the key. At most one leaf is changed, split or added. An error leaves the
-    /// list as it was.
+    /// Joins a content into that at the key: changes one leaf, cuts one in two, or makes the first. All others
+    /// stay as they were. An error leaves the list as it was.
     pub fn join_entry(&mut self, key: K, content: C) -> Result<(), NoMemory>
         requires { C.valid content }
         ensures ok { OnOk result (IsPutOf K.cmp C.meaning C.joined C.valid key content

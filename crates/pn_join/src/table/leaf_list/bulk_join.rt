@@ -1,6 +1,6 @@
 //! Joins all entries of another list at once, if each leaf has room for its new entries.
 
-ghost use Rattle.std.specs.Prelude.{◌≡◌, ◌++◌, false, Some, None, unwrap_or, option_map, IsTrue, IfOk, IfSome, OnOk, OnErr};
+ghost use Rattle.std.specs.Prelude.{◌≡◌, ◌≢◌, ◌++◌, false, Some, None, unwrap_or, option_map, IsTrue, IfOk, IfSome, OnOk, OnErr};
 ghost use Rattle.std.specs.FinMap.{find};
 ghost use Rattle.std.specs.Option.{option_copied, option_to_list};
 ghost use Rattle.pn_join.specs.Edits.{changes_in, AreAimed, HaveRoom, IsAimed};
@@ -15,7 +15,7 @@ use crate::{Dup, Join, NoMemory};
 
 impl<K: Ord + Dup, C: Join> LeafList<K, C> {
     /// What the entries of the other change, each with the index of its key's leaf.
-    pub fn edits_from(&self, other: &Self) -> Result<Vec<Edit<K, C>>, NoMemory>
+    pub(crate) fn edits_from(&self, other: &Self) -> Result<Vec<Edit<K, C>>, NoMemory>
         ensures changes { IfOk result (λ edits. AreChanges K.cmp C.meaning C.joined C.valid (all_entries self.now) (all_entries other.now) (changes_in edits.items)) }
         ensures aimed { IfOk result (λ edits. AreAimed K.cmp self.now edits.items) }
     {
@@ -47,7 +47,7 @@ impl<K: Ord + Dup, C: Join> LeafList<K, C> {
 
     /// Puts all new contents at their keys, and returns true. If splitting each leaf once makes no room for
     /// them, it changes nothing and returns false.
-    pub fn put(&mut self, edits: Vec<Edit<K, C>>) -> Result<bool, NoMemory>
+    pub(crate) fn put(&mut self, edits: Vec<Edit<K, C>>) -> Result<bool, NoMemory>
         requires aimed { AreAimed K.cmp self.old edits.items }
         requires valid { AreValid C.valid (changes_in edits.items) }
         ensures done { IfOk result (λ done. IsTrue done → all_entries self.new ≡ puts K.cmp (all_entries self.old) (changes_in edits.items)) }
@@ -110,6 +110,7 @@ fn joined<C: Join>(had: Option<&C>, content: &C) -> Result<Option<C>, NoMemory>
         ≡ optional_joined C.joined (option_map C.meaning (option_copied had.entry)) (Some (C.meaning content.now))) × C.valid v)) }
     ensures none { IfOk result (λ value. value ≡ None → optional_joined C.joined (option_map C.meaning (option_copied had.entry)) (Some (C.meaning content.now))
         ≡ option_map C.meaning (option_copied had.entry)) }
+    ensures differs { IfOk result (λ value. IfSome value (λ v. Some (C.meaning v) ≢ option_map C.meaning (option_copied had.entry))) }
 {
     match had {
         Some(had) => had.changed_by(content),

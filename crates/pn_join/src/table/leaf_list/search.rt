@@ -13,7 +13,7 @@ use std::alloc::Global;
 
 impl<K: Ord + Dup, C: Join> LeafList<K, C> {
     /// The content at a key.
-    pub fn get(&self, key: &K) -> Option<&C>
+    pub(crate) fn get(&self, key: &K) -> Option<&C>
         ensures found { option_copied result ≡ find K.cmp key.now (all_entries self.now) }
         ensures is_valid { IfSome result (λ content. C.valid content.now) }
     {

@@ -13,7 +13,7 @@ use crate::{Dup, Join, NoMemory};
 
 impl<K: Ord + Dup, C: Join> LeafList<K, C> {
     /// Splits leaves without room for their edits. No entry changes, also on an error.
-    pub fn split_full_leaves(&mut self, edits: &[Edit<K, C>]) -> Result<(), NoMemory>
+    pub(super) fn split_full_leaves(&mut self, edits: &[Edit<K, C>]) -> Result<(), NoMemory>
         ensures same { all_entries self.new ≡ all_entries self.old }
         ensures leaf_list { IsLeafList K.cmp C.valid self.new }
     {
@@ -50,7 +50,7 @@ impl<K: Ord + Dup, C: Join> LeafList<K, C> {
     }
 
     /// The same edits, each with the present index of its key's leaf.
-    pub fn aimed(&self, edits: Vec<Edit<K, C>>) -> Result<Vec<Edit<K, C>>, NoMemory>
+    pub(super) fn aimed(&self, edits: Vec<Edit<K, C>>) -> Result<Vec<Edit<K, C>>, NoMemory>
         ensures aimed { IfOk result (λ aimed. AreAimed K.cmp self.now aimed.items) }
         ensures same { IfOk result (λ aimed. changes_in aimed.items ≡ changes_in edits.items) }
     {
