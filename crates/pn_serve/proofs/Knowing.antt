@@ -1,11 +1,12 @@
 -- A session's reader never knows less.
-use Rattle.std.proofs.Common.{◌≡◌, List, [], ◌∷◌, refl, ◌∙◌, ap, sym, subst}
+use Rattle.std.proofs.Common.{◌≡◌, ℕ, List, [], ◌∷◌, inl, inr, refl, ◌∙◌, sym, subst}
+use Rattle.std.specs.Prelude.{Result, Ok, Err}
+use Rattle.pn_tablet.specs.Layouts.{tablet_of}
 use Rattle.pn_scan.specs.Candidates.{Look}
 use Rattle.pn_scan.specs.Views.{Looks}
 use Rattle.pn_live.specs.Laws.{AllKnowMore}
 use Rattle.pn_live.specs.Readers.{LiveReaderValue, LooksLive, tablets_of}
 use Rattle.pn_live.proofs.Knowing.{all_know_themselves, all_know_on, looks_know, looks_same}
-use Rattle.std.specs.Prelude.{inl, inr, ℕ, Result, Ok, Err}
 use Rattle.pn_protocol.specs.declared.refusal.Refusal.{Refusal}
 use Rattle.pn_protocol.specs.declared.reply.Reply.{Reply}
 use Rattle.pn_protocol.specs.Command.Lines.{lookup_at}
@@ -34,10 +35,10 @@ looks_all_know old new [] looked = knows_same old new looked
 looks_all_know old new (look ∷ seen) looked = knows_on old looked.0 new (look_knows old looked.0 look looked.1) (looks_all_know looked.0 new seen looked.2)
 
 command_knows : (old new : LiveReaderValue) (command : CommandValue) (reply : Reply) → LooksUp old command new reply → KnowsNoLess old new
-command_knows old new (copy need tablet) reply (inl copied) = look_knows old new _ copied.copied.looked
+command_knows old new (copy need tablet) reply (inl copied) = look_knows old new (tablet, copied.found) copied.copied.looked
 command_knows old new (copy need tablet) reply (inr none) = knows_same old new none.1
 command_knows old new (get keys) reply looks = looks_all_know old new looks.seen looks.got.looked
-command_knows old new (read key wanted) reply looks = look_knows old new _ looks.read.looked
+command_knows old new (read key wanted) reply looks = look_knows old new (tablet_of old.layout key, looks.found) looks.read.looked
 command_knows old new (scan query) reply looks = looks_all_know old new looks.seen looks.scanned.looked
 command_knows old new (adopt lines) reply refuses = knows_same old new refuses.0
 command_knows old new (deliver deliveries) reply refuses = knows_same old new refuses.0

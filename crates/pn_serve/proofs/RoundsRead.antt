@@ -28,10 +28,10 @@ pub takes : {T : Type 0} (gathered : GatheredValue) (old new : LiveRegionValue) 
     → OnOk run (IsRoundTaken old gathered.deliveries new) → OnErr run (IsRoundRefused old gathered.deliveries new)
     → IfSome gathered.fault (λ name. result ≡ Err (Stream name)) → (gathered.fault ≡ None → MatchResult run (λ _. result ≡ Ok gathered.ended) (λ _. result ≡ Err Round))
     → TakesGathered gathered old new result
-takes gathered old new run result taken refused named unnamed = at gathered.fault refl
+takes {T} gathered old new run result taken refused named unnamed = at gathered.fault refl
   where
-    unless : (run : Result _ RoundFault) → gathered.fault ≡ None → OnOk run (IsRoundTaken old gathered.deliveries new) → OnErr run (IsRoundRefused old gathered.deliveries new)
-        → MatchResult run (λ _. result ≡ Ok gathered.ended) (λ _. result ≡ Err Round) → TakesGathered gathered old new result
+    unless : (ran : Result T RoundFault) → gathered.fault ≡ None → OnOk ran (IsRoundTaken old gathered.deliveries new) → OnErr ran (IsRoundRefused old gathered.deliveries new)
+        → MatchResult ran (λ _. result ≡ Ok gathered.ended) (λ _. result ≡ Err Round) → TakesGathered gathered old new result
     unless (Ok done) none taken refused is = subst (TakesGathered gathered old new) (sym is) (none, refl, taken)
     unless (Err fault) none taken refused is = subst (TakesGathered gathered old new) (sym is) (none, refused)
 

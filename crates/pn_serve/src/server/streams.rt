@@ -177,13 +177,13 @@ pub(crate) fn end_reading<R: Threads, S: Source + Drop>(
     ensures named { IfErr result (NamesOne (map (λ thread. thread.promise.0.value.name) threads.items)) }
 {
     for thread in threads {
-        is_taken(thread.join(rt), marks)?;
+        taken_whole(thread.join(rt), marks)?;
     }
     Ok(())
 }
 
 // Whether the marks reach the last message of a stream that was read to its end.
-fn is_taken(ended: Result<StreamEnd, StreamName>, marks: &Marks) -> Result<(), ServeFault>
+fn taken_whole(ended: Result<StreamEnd, StreamName>, marks: &Marks) -> Result<(), ServeFault>
     ensures taken { OnOk result (IfOk ended (λ end. end.last ≤ position_of marks.now end.name)) }
     ensures whole { OnErr ended (IsErr result) }
     ensures named { IfErr result (λ fault. MatchResult ended (λ end. fault ≡ ServeFault.Stream end.name) (λ name. fault ≡ ServeFault.Stream name)) }

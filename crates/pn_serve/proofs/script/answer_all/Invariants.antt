@@ -1,5 +1,6 @@
 -- The replies to the lines so far wait or were written.
-use Rattle.std.proofs.Common.{◌≡◌, [], IsFalse}
+use Rattle.std.proofs.Common.{◌≡◌, []}
+use Rattle.std.specs.Prelude.{IsFalse}
 use Rattle.pn_serve.specs.Lines.States.{Start}
 use Rattle.pn_serve.specs.Lines.Served.{Served}
 use Rattle.pn_serve.specs.Session.Knowing.{KnowsNoLess}
