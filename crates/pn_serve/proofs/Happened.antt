@@ -1,4 +1,4 @@
--- What happens by lines leads from the region before them to the region after them.
+-- What happens by lines, and by the end, leads from the region before them to the region after them.
 use Rattle.std.proofs.Common.{◌≡◌, ℕ, ◌-◌, nat_le, Bool, true, false, if◌then◌else◌, List, [], ◌∷◌, ◌++◌, refl, ap, subst}
 use Rattle.std.specs.Prelude.{Result, Ok, Err, Option, Some, None, slice_get}
 use Rattle.pn_join.specs.Marks.{Positions}
@@ -28,9 +28,12 @@ use Rattle.pn_serve.specs.Machine.Doing.{delivering}
 use Rattle.pn_serve.specs.Machine.Outcomes.{Outcome, done, line, call, round, Mode, idle, announced, Machine, Turn, logged, silent}
 use Rattle.pn_serve.specs.Machine.PartRounds.{partly_marked}
 use Rattle.pn_serve.specs.Machine.Recovering.{at_tablet, showing_copy, copying, losing_it, adopted, adopting_read, adopting_text}
+use Rattle.pn_serve.specs.Machine.LastTurns.{last_of, end_in, end_turn}
 use Rattle.pn_serve.specs.Machine.Turns.{turn_of, outcome_at, turn_in, turn}
 use Rattle.pn_protocol.specs.Reply.Short.{lost_data}
 use Rattle.pn_serve.specs.Script.Events.{unless_refused, some_tablet, half_happened, happened_by, happened_by_copy, happened_by_text, happened_in, happened_from}
+use Rattle.pn_serve.specs.Script.Happened.{happened_last, happened_after, happened_at_end, happened_since}
+use Rattle.pn_serve.specs.Script.Inputs.{InputEnd, Input, ended, after_input}
 use Rattle.pn_serve.specs.Script.Written.{first_outcome, later_outcomes, machine_after}
 use Rattle.pn_serve.proofs.PartRounds.{partly_is, partly_none}
 use Rattle.pn_serve.proofs.ReadCopies.{read_is}
@@ -153,13 +156,63 @@ mode_leads (announced left came) m outcome text is = came_leads m left (unless_c
 pub line_leads : (m : Machine) (outcome : Outcome) (text : List ℕ) → IsRegion m.region → OneLeads (happened_in m.mode m outcome text) m.region (turn m outcome text).machine.region
 line_leads m outcome text is = mode_leads m.mode m outcome text is
 
+-- what happens by a last line leads to the region after it
+last_leads : (m : Machine) (outcome : Outcome) (said : Result CommandValue Refusal) → IsRegion m.region → OneLeads (happened_last m outcome said) m.region (last_of m outcome said).machine.region
+last_leads m line said is = refl
+last_leads m done (Ok (adopt lines)) is = text_leads (logged m) (unless_call done (Some []))
+last_leads m call (Ok (adopt lines)) is = text_leads (logged m) (unless_call call (Some []))
+last_leads m (round flags) (Ok (adopt lines)) is = text_leads (logged m) (unless_call (round flags) (Some []))
+last_leads m done (Ok (copy need tablet)) is = done_leads m (Ok (copy need tablet))
+last_leads m call (Ok (copy need tablet)) is = call_leads m (Ok (copy need tablet))
+last_leads m (round flags) (Ok (copy need tablet)) is = partly_leads m flags (Ok (copy need tablet)) is
+last_leads m done (Ok (deliver deliveries)) is = done_leads m (Ok (deliver deliveries))
+last_leads m call (Ok (deliver deliveries)) is = call_leads m (Ok (deliver deliveries))
+last_leads m (round flags) (Ok (deliver deliveries)) is = partly_leads m flags (Ok (deliver deliveries)) is
+last_leads m done (Ok (get keys)) is = done_leads m (Ok (get keys))
+last_leads m call (Ok (get keys)) is = call_leads m (Ok (get keys))
+last_leads m (round flags) (Ok (get keys)) is = partly_leads m flags (Ok (get keys)) is
+last_leads m done (Ok (lose tablet)) is = done_leads m (Ok (lose tablet))
+last_leads m call (Ok (lose tablet)) is = call_leads m (Ok (lose tablet))
+last_leads m (round flags) (Ok (lose tablet)) is = partly_leads m flags (Ok (lose tablet)) is
+last_leads m done (Ok marks) is = done_leads m (Ok marks)
+last_leads m call (Ok marks) is = call_leads m (Ok marks)
+last_leads m (round flags) (Ok marks) is = partly_leads m flags (Ok marks) is
+last_leads m done (Ok (notices since)) is = done_leads m (Ok (notices since))
+last_leads m call (Ok (notices since)) is = call_leads m (Ok (notices since))
+last_leads m (round flags) (Ok (notices since)) is = partly_leads m flags (Ok (notices since)) is
+last_leads m done (Ok (read key version)) is = done_leads m (Ok (read key version))
+last_leads m call (Ok (read key version)) is = call_leads m (Ok (read key version))
+last_leads m (round flags) (Ok (read key version)) is = partly_leads m flags (Ok (read key version)) is
+last_leads m done (Ok (scan query)) is = done_leads m (Ok (scan query))
+last_leads m call (Ok (scan query)) is = call_leads m (Ok (scan query))
+last_leads m (round flags) (Ok (scan query)) is = partly_leads m flags (Ok (scan query)) is
+last_leads m done (Ok tablets) is = done_leads m (Ok tablets)
+last_leads m call (Ok tablets) is = call_leads m (Ok tablets)
+last_leads m (round flags) (Ok tablets) is = partly_leads m flags (Ok tablets) is
+last_leads m done (Err refusal) is = refl
+last_leads m call (Err refusal) is = refl
+last_leads m (round flags) (Err refusal) is = refl
+
+-- what happens by the end of an input leads to the region after it
+after_leads : (mode : Mode) (m : Machine) (outcome : Outcome) (part : List ℕ) → IsRegion m.region → OneLeads (happened_after mode m outcome part) m.region (end_in mode m outcome part).machine.region
+after_leads idle m outcome [] is = refl
+after_leads idle m outcome (b ∷ part) is = last_leads m (outcome_at outcome (b ∷ part)) (command_at (b ∷ part)) is
+after_leads (announced left came) m outcome part is = text_leads (logged m) (unless_call outcome (with_line came part []))
+
+pub end_leads : (m : Machine) (outcome : Outcome) (part : List ℕ) → IsRegion m.region → OneLeads (happened_after m.mode m outcome part) m.region (end_turn m outcome part).machine.region
+end_leads m outcome part is = after_leads m.mode m outcome part is
+
+ended_lead : (m : Machine) (end : Option InputEnd) → IsRegion m.region → AllLeadTo (happened_at_end m end) m.region (ended m end).region
+ended_lead m None is = refl
+ended_lead m (Some end) is = all_lead (happened_after m.mode m end.outcome end.part) m.region (end_turn m end.outcome end.part).machine.region (end_leads m end.outcome end.part is)
+
 -- some events lead on from where others lead
 lead_on : (first later : List RegionEvent) (old next new : RegionValue) → AllLeadTo first old next → AllLeadTo later next new → AllLeadTo (first ++ later) old new
 lead_on [] later old next new lead more = subst (λ (r : RegionValue). AllLeadTo later r new) lead more
 lead_on (event ∷ first) later old next new lead more = (lead.0, lead.1, lead_on first later lead.0 next new lead.2 more)
 
 -- so do those of lines, one after another
-pub lines_lead : (m : Machine) (lines : List (List ℕ)) (outcomes : List Outcome) → IsRegion m.region → AllLeadTo (happened_from m lines outcomes) m.region (machine_after m lines outcomes).region
+lines_lead : (m : Machine) (lines : List (List ℕ)) (outcomes : List Outcome) → IsRegion m.region → AllLeadTo (happened_from m lines outcomes) m.region (machine_after m lines outcomes).region
 lines_lead m [] outcomes is = refl
 lines_lead m (text ∷ lines) outcomes is =
     let outcome = first_outcome outcomes in
@@ -167,3 +220,11 @@ lines_lead m (text ∷ lines) outcomes is =
     let leads = all_lead (happened_in m.mode m outcome text) m.region next.region (line_leads m outcome text is) in
     lead_on (happened_in m.mode m outcome text) (happened_from next lines (later_outcomes outcomes)) m.region next.region (machine_after next lines (later_outcomes outcomes)).region
     leads (lines_lead next lines (later_outcomes outcomes) (events_are (happened_in m.mode m outcome text) m.region next.region is leads))
+
+-- so do those of an input
+pub input_leads : (m : Machine) (input : Input) → IsRegion m.region → AllLeadTo (happened_since m input) m.region (after_input m input).region
+input_leads m input is =
+    let before = machine_after m input.lines input.outcomes in
+    let leads = lines_lead m input.lines input.outcomes is in
+    lead_on (happened_from m input.lines input.outcomes) (happened_at_end before input.end) m.region before.region (after_input m input).region
+    leads (ended_lead before input.end (events_are (happened_from m input.lines input.outcomes) m.region before.region is leads))

@@ -1,7 +1,8 @@
--- Lines without losses and adoptions.
+-- Inputs without losses and adoptions.
 use Rattle.std.proofs.Common.{◌≡◌, ℕ, Bool, true, false, List, [], ◌∷◌, ◌++◌, refl, sym, subst}
 use Rattle.std.specs.Prelude.{Result, Ok, Err, Option, Some, None, slice_get}
-use Rattle.std.proofs.lemmas.List.Elements.{All-head, All-tail}
+use Rattle.std.proofs.lemmas.List.Elements.{All-head, All-tail, All-nil, All-cons}
+use Rattle.pn_line.specs.Text.{last_line}
 use Rattle.pn_join.specs.Marks.{Positions}
 use Rattle.pn_stream.specs.Brokers.{BrokerRecord}
 use Rattle.pn_stream.specs.Positions.{DeliveryValue}
@@ -23,8 +24,11 @@ use Rattle.pn_protocol.specs.Command.Lines.{command_at}
 use Rattle.pn_serve.specs.Machine.Doing.{delivering}
 use Rattle.pn_serve.specs.Machine.Outcomes.{Outcome, done, line, call, round, Mode, idle, Machine, Turn, serving}
 use Rattle.pn_serve.specs.Machine.Recovering.{at_tablet, showing_copy, copying}
+use Rattle.pn_serve.specs.Machine.LastTurns.{last_of, end_in, end_turn}
 use Rattle.pn_serve.specs.Machine.Turns.{turn_of, outcome_at, turn_in, turn}
-use Rattle.pn_serve.specs.Script.Events.{unless_refused, some_tablet, half_happened, happened, happened_by, happened_in, happened_from}
+use Rattle.pn_serve.specs.Script.Events.{unless_refused, some_tablet, half_happened, happened_by, happened_in, happened_from}
+use Rattle.pn_serve.specs.Script.Happened.{happened, happened_last, happened_after, happened_at_end, happened_since}
+use Rattle.pn_serve.specs.Script.Inputs.{InputEnd, Input, line_at_end, all_lines, ended, after_input}
 use Rattle.pn_serve.specs.Script.Losses.{KeepsTablets, NoLosses}
 use Rattle.pn_serve.specs.Script.Taken.{taken, NothingLost, Waits}
 use Rattle.pn_serve.specs.Script.Written.{first_outcome, later_outcomes, machine_after}
@@ -41,9 +45,9 @@ all_alike : (broker other : BrokerRecord) (happens : List RegionEvent) → AreRo
 all_alike broker other [] rounds = refl
 all_alike broker other (event ∷ happens) rounds = λ i. taken_alike broker other event rounds.0 i ++ all_alike broker other happens rounds.1 i
 
-pub any_record : (bounds : Bounds) (broker other : BrokerRecord) (lines : List (List ℕ)) (outcomes : List Outcome) → NothingLost (new_region bounds) lines outcomes
-    → taken broker (new_region bounds) lines outcomes ≡ taken other (new_region bounds) lines outcomes
-any_record bounds broker other lines outcomes rounds = all_alike broker other (happened (new_region bounds) lines outcomes) rounds
+pub any_record : (bounds : Bounds) (broker other : BrokerRecord) (input : Input) → NothingLost (new_region bounds) input
+    → taken broker (new_region bounds) input ≡ taken other (new_region bounds) input
+any_record bounds broker other input rounds = all_alike broker other (happened (new_region bounds) input) rounds
 
 -- ---- lines that say no loss and no adoption
 
@@ -75,6 +79,10 @@ half_rounds deliveries true (Ok next) = (tt, tt)
 half_rounds deliveries true (Err fault) = tt
 half_rounds deliveries false (Ok next) = tt
 half_rounds deliveries false (Err fault) = tt
+
+-- what no line says
+abbrev Keeping : List ℕ → Type 0
+Keeping text = KeepsTablets (command_at text)
 
 module _ (m : Machine) (waits : m.mode ≡ idle) where
   done_plain : (said : Result CommandValue Refusal) → KeepsTablets said → Plain (happened_by m done said) (turn_of m done said)
@@ -126,13 +134,58 @@ module _ (m : Machine) (waits : m.mode ≡ idle) where
   line_plain outcome text stay =
       subst (λ (mode : Mode). Plain (happened_in mode m outcome text) (turn_in mode m outcome text)) (sym waits) (said_plain (outcome_at outcome text) (command_at text) stay)
 
+  -- without its newline it does the same
+  last_plain : (outcome : Outcome) (said : Result CommandValue Refusal) → KeepsTablets said → Plain (happened_last m outcome said) (last_of m outcome said)
+  last_plain line said stay = quiet _ waits
+  last_plain done (Ok (adopt lines)) stay = absurd stay
+  last_plain call (Ok (adopt lines)) stay = absurd stay
+  last_plain (round flags) (Ok (adopt lines)) stay = absurd stay
+  last_plain done (Ok (copy need tablet)) stay = done_plain (Ok (copy need tablet)) stay
+  last_plain call (Ok (copy need tablet)) stay = call_plain (Ok (copy need tablet)) stay
+  last_plain (round flags) (Ok (copy need tablet)) stay = partly_plain flags (Ok (copy need tablet)) stay
+  last_plain done (Ok (deliver deliveries)) stay = done_plain (Ok (deliver deliveries)) stay
+  last_plain call (Ok (deliver deliveries)) stay = call_plain (Ok (deliver deliveries)) stay
+  last_plain (round flags) (Ok (deliver deliveries)) stay = partly_plain flags (Ok (deliver deliveries)) stay
+  last_plain done (Ok (get keys)) stay = done_plain (Ok (get keys)) stay
+  last_plain call (Ok (get keys)) stay = call_plain (Ok (get keys)) stay
+  last_plain (round flags) (Ok (get keys)) stay = partly_plain flags (Ok (get keys)) stay
+  last_plain done (Ok (lose tablet)) stay = done_plain (Ok (lose tablet)) stay
+  last_plain call (Ok (lose tablet)) stay = call_plain (Ok (lose tablet)) stay
+  last_plain (round flags) (Ok (lose tablet)) stay = partly_plain flags (Ok (lose tablet)) stay
+  last_plain done (Ok marks) stay = done_plain (Ok marks) stay
+  last_plain call (Ok marks) stay = call_plain (Ok marks) stay
+  last_plain (round flags) (Ok marks) stay = partly_plain flags (Ok marks) stay
+  last_plain done (Ok (notices since)) stay = done_plain (Ok (notices since)) stay
+  last_plain call (Ok (notices since)) stay = call_plain (Ok (notices since)) stay
+  last_plain (round flags) (Ok (notices since)) stay = partly_plain flags (Ok (notices since)) stay
+  last_plain done (Ok (read key version)) stay = done_plain (Ok (read key version)) stay
+  last_plain call (Ok (read key version)) stay = call_plain (Ok (read key version)) stay
+  last_plain (round flags) (Ok (read key version)) stay = partly_plain flags (Ok (read key version)) stay
+  last_plain done (Ok (scan query)) stay = done_plain (Ok (scan query)) stay
+  last_plain call (Ok (scan query)) stay = call_plain (Ok (scan query)) stay
+  last_plain (round flags) (Ok (scan query)) stay = partly_plain flags (Ok (scan query)) stay
+  last_plain done (Ok tablets) stay = done_plain (Ok tablets) stay
+  last_plain call (Ok tablets) stay = call_plain (Ok tablets) stay
+  last_plain (round flags) (Ok tablets) stay = partly_plain flags (Ok tablets) stay
+  last_plain done (Err refusal) stay = quiet _ waits
+  last_plain call (Err refusal) stay = quiet _ waits
+  last_plain (round flags) (Err refusal) stay = quiet _ waits
+
+  after_plain : (outcome : Outcome) (part : List ℕ) → NoLosses (last_line part) → Plain (happened_after idle m outcome part) (end_in idle m outcome part)
+  after_plain outcome [] stay = quiet _ waits
+  after_plain outcome (b ∷ part) stay = last_plain (outcome_at outcome (b ∷ part)) (command_at (b ∷ part)) (All-head Keeping (b ∷ part) [] stay)
+
+  end_plain : (outcome : Outcome) (part : List ℕ) → NoLosses (last_line part) → Plain (happened_after m.mode m outcome part) (end_turn m outcome part)
+  end_plain outcome part stay =
+      subst (λ (mode : Mode). Plain (happened_after mode m outcome part) (end_in mode m outcome part)) (sym waits) (after_plain outcome part stay)
+
+  ended_plain : (end : Option InputEnd) → NoLosses (line_at_end end) → AreRounds (happened_at_end m end) × ((ended m end).mode ≡ idle)
+  ended_plain None stay = (tt, waits)
+  ended_plain (Some end) stay = let plain = end_plain end.outcome end.part stay in (plain.rounds, plain.waits)
+
 rounds_too : (first later : List RegionEvent) → AreRounds first → AreRounds later → AreRounds (first ++ later)
 rounds_too [] later rounds more = more
 rounds_too (event ∷ first) later rounds more = (rounds.0, rounds_too first later rounds.1 more)
-
--- what no line says
-abbrev Keeping : List ℕ → Type 0
-Keeping text = KeepsTablets (command_at text)
 
 lines_plain : (m : Machine) (lines : List (List ℕ)) (outcomes : List Outcome) → m.mode ≡ idle → NoLosses lines → AreRounds (happened_from m lines outcomes) × ((machine_after m lines outcomes).mode ≡ idle)
 lines_plain m [] outcomes waits stay = (tt, waits)
@@ -142,5 +195,17 @@ lines_plain m (text ∷ lines) outcomes waits stay =
     let later = lines_plain (turn m outcome text).machine lines (later_outcomes outcomes) first.waits (All-tail Keeping text lines stay) in
     (rounds_too (happened_in m.mode m outcome text) (happened_from (turn m outcome text).machine lines (later_outcomes outcomes)) first.rounds later.0, later.1)
 
-pub nothing_lost : (bounds : Bounds) (lines : List (List ℕ)) (outcomes : List Outcome) → NoLosses lines → NothingLost (new_region bounds) lines outcomes × Waits (new_region bounds) lines outcomes
-nothing_lost bounds lines outcomes stay = lines_plain (serving (new_region bounds)) lines outcomes refl stay
+-- what all lines of two lists keep, those of each keep
+both_keep : (lines more : List (List ℕ)) → NoLosses (lines ++ more) → NoLosses lines × NoLosses more
+both_keep [] more stay = (All-nil Keeping, stay)
+both_keep (text ∷ lines) more stay =
+    let rest = both_keep lines more (All-tail Keeping text (lines ++ more) stay) in
+    (All-cons Keeping text lines (All-head Keeping text (lines ++ more) stay) rest.0, rest.1)
+
+pub nothing_lost : (bounds : Bounds) (input : Input) → NoLosses (all_lines input) → NothingLost (new_region bounds) input × Waits (new_region bounds) input
+nothing_lost bounds input stay =
+    let first = serving (new_region bounds) in
+    let keep = both_keep input.lines (line_at_end input.end) stay in
+    let lines = lines_plain first input.lines input.outcomes refl keep.0 in
+    let last = ended_plain (machine_after first input.lines input.outcomes) lines.1 input.end keep.1 in
+    (rounds_too (happened_from first input.lines input.outcomes) (happened_at_end (machine_after first input.lines input.outcomes) input.end) lines.0 last.0, last.1)

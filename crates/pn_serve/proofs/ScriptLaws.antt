@@ -1,4 +1,4 @@
--- The laws of lines that `src/laws.rt` states.
+-- The laws of inputs that `src/laws.rt` states.
 use Rattle.std.proofs.Common.{◌≡◌, ◌⊎◌, inl, inr, ℕ, List, [], ◌∷◌, map, sym, ap, ◌∙◌, subst, refl}
 use Rattle.std.specs.Prelude.{Result, Ok, Err}
 use Rattle.std.specs.FinMap.{find}
@@ -38,11 +38,12 @@ use Rattle.pn_serve.specs.Machine.LastTurns.{last_of, end_in, end_turn}
 use Rattle.pn_protocol.specs.Reply.Record.{read_data, get_data}
 use Rattle.pn_protocol.specs.Reply.Scan.{scan_data}
 use Rattle.pn_protocol.specs.Reply.Short.{refusal_data}
-use Rattle.pn_serve.specs.Script.Events.{happened, happened_in, happened_from}
+use Rattle.pn_serve.specs.Script.Events.{happened_in}
+use Rattle.pn_serve.specs.Script.Happened.{happened, happened_after, happened_since}
+use Rattle.pn_serve.specs.Script.Inputs.{Input, after_input, region_after}
 use Rattle.pn_serve.specs.Script.Taken.{taken, NothingLost, AllHonest, Settled}
 use Rattle.pn_serve.specs.Script.Told.{Told, machine_of, records_of, images_of, TookTheSame, AwaitsCommand, reply_of, last_reply, AreAlike, IsNoOlder}
-use Rattle.pn_serve.specs.Script.Written.{machine_after, region_after}
-use Rattle.pn_serve.proofs.Happened.{OneLeads, line_leads, lines_lead}
+use Rattle.pn_serve.proofs.Happened.{OneLeads, line_leads, end_leads, input_leads}
 
 -- a new region is one
 pub new_one : (bounds : Bounds) → IsLayout bounds → IsRegion (new_region bounds)
@@ -61,39 +62,39 @@ rounds_serve : (events : List RegionEvent) (old new : RegionValue) → AreRounds
 rounds_serve [] old new rounds lead serve = subst AllServe (sym lead) serve
 rounds_serve (event ∷ events) old new rounds lead serve = rounds_serve events lead.0 new rounds.1 lead.2 (round_serves event old lead.0 rounds.0 lead.1 serve)
 
--- lines of a new region
-module _ (broker : BrokerRecord) (bounds : Bounds) (lawful : IsLayout bounds) (lines : List (List ℕ)) (outcomes : List Outcome) where
+-- an input of a new region
+module _ (broker : BrokerRecord) (bounds : Bounds) (lawful : IsLayout bounds) (input : Input) where
   abbrev after : RegionValue
-  after = region_after (new_region bounds) lines outcomes
+  after = region_after (new_region bounds) input
 
-  pub lead_after : AllLeadTo (happened (new_region bounds) lines outcomes) (new_region bounds) after
-  lead_after = lines_lead (serving (new_region bounds)) lines outcomes (new_one bounds lawful)
+  pub lead_after : AllLeadTo (happened (new_region bounds) input) (new_region bounds) after
+  lead_after = input_leads (serving (new_region bounds)) input (new_one bounds lawful)
 
   pub after_is : IsRegion after
-  after_is = events_are (happened (new_region bounds) lines outcomes) (new_region bounds) after (new_one bounds lawful) lead_after
+  after_is = events_are (happened (new_region bounds) input) (new_region bounds) after (new_one bounds lawful) lead_after
 
-  whole_serves : NothingLost (new_region bounds) lines outcomes ⊎ (AllHonest broker (new_region bounds) lines outcomes × AllServe after) → AllServe after
-  whole_serves (inl rounds) = rounds_serve (happened (new_region bounds) lines outcomes) (new_region bounds) after rounds lead_after (new_serves bounds)
+  whole_serves : NothingLost (new_region bounds) input ⊎ (AllHonest broker (new_region bounds) input × AllServe after) → AllServe after
+  whole_serves (inl rounds) = rounds_serve (happened (new_region bounds) input) (new_region bounds) after rounds lead_after (new_serves bounds)
   whole_serves (inr honest) = honest.1
 
-  pub serves : Settled broker (new_region bounds) lines outcomes → AllServe after
+  pub serves : Settled broker (new_region bounds) input → AllServe after
   serves settled = whole_serves settled.whole
 
-  pub held_records : Settled broker (new_region bounds) lines outcomes → all_cells after ≡ table_of (taken broker (new_region bounds) lines outcomes)
+  pub held_records : Settled broker (new_region bounds) input → all_cells after ≡ table_of (taken broker (new_region bounds) input)
   held_records settled = elim settled.whole [
-    | inl rounds ↦ rounds_together broker bounds (happened (new_region bounds) lines outcomes) after lawful lead_after rounds settled.retried
-    | inr honest ↦ taken_together broker bounds (happened (new_region bounds) lines outcomes) after lawful lead_after honest.0 honest.1 settled.retried
+    | inl rounds ↦ rounds_together broker bounds (happened (new_region bounds) input) after lawful lead_after rounds settled.retried
+    | inr honest ↦ taken_together broker bounds (happened (new_region bounds) input) after lawful lead_after honest.0 honest.1 settled.retried
   ]
 
 -- regions that took the same images
 module _ (broker : BrokerRecord) (one other : Told) (took : TookTheSame broker one other) where
   first_records : records_of one ≡ table_of (images_of broker one)
-  first_records = held_records broker one.layout one.lawful one.lines one.outcomes took.settled
+  first_records = held_records broker one.layout one.lawful one.input took.settled
 
   same_records : records_of one ≡ records_of other
   same_records =
       alike (machine_of one).region (machine_of other).region (images_of broker one) (images_of broker other)
-      first_records (held_records broker other.layout other.lawful other.lines other.outcomes took.settled_too) took.same
+      first_records (held_records broker other.layout other.lawful other.input took.settled_too) took.same
 
   -- both have the records of the images that either took
   pub both_records : (records_of one ≡ table_of (images_of broker one)) × (records_of other ≡ table_of (images_of broker one))
@@ -220,8 +221,8 @@ pub same_replies : (broker : BrokerRecord) (one other : Told) → TookTheSame br
 same_replies broker one other took waits waits_too text went goes asks =
     let m = machine_of one in
     let n = machine_of other in
-    let holds : Holds m.region = (after_is broker one.layout one.lawful one.lines one.outcomes, serves broker one.layout one.lawful one.lines one.outcomes took.settled) in
-    let holds_too : Holds n.region = (after_is broker other.layout other.lawful other.lines other.outcomes, serves broker other.layout other.lawful other.lines other.outcomes took.settled_too) in
+    let holds : Holds m.region = (after_is broker one.layout one.lawful one.input, serves broker one.layout one.lawful one.input took.settled) in
+    let holds_too : Holds n.region = (after_is broker other.layout other.lawful other.input, serves broker other.layout other.lawful other.input took.settled_too) in
     let same : (said : Result CommandValue Refusal) → AsksForRecords said → (turn_of m done said).reply ≡ (turn_of n done said).reply =
     λ said looks. look_alike m n said looks holds holds_too (same_records broker one other took) in
     (turns_alike m n waits waits_too same went goes text asks, ends_alike m n waits waits_too same went goes text asks)
@@ -237,16 +238,22 @@ one_held (event ∷ next ∷ later) old new key is lead serves serves_too = absu
 pub line_held : (told : Told) (outcome : Outcome) (text key : List ℕ) → IsNoOlder (machine_of told).region (turn (machine_of told) outcome text).machine.region key
 line_held told outcome text key serves_before serves_after =
     let before = machine_of told in
-    let is = after_is (λ name. []) told.layout told.lawful told.lines told.outcomes in
+    let is = after_is (λ name. []) told.layout told.lawful told.input in
     one_held (happened_in before.mode before outcome text) before.region (turn before outcome text).machine.region key is (line_leads before outcome text is) serves_before serves_after
 
-pub lines_held : (broker : BrokerRecord) (told : Told) (more : List (List ℕ)) (goes : List Outcome) (key : List ℕ)
-    → AreHonestEvents broker (happened (new_region told.layout) told.lines told.outcomes) → AreHonestEvents broker (happened_from (machine_of told) more goes)
-    → IsNoOlder (machine_of told).region (machine_after (machine_of told) more goes).region key
-lines_held broker told more goes key honest honest_too serves_before serves_after =
+pub end_held : (told : Told) (outcome : Outcome) (part key : List ℕ) → IsNoOlder (machine_of told).region (end_turn (machine_of told) outcome part).machine.region key
+end_held told outcome part key serves_before serves_after =
+    let before = machine_of told in
+    let is = after_is (λ name. []) told.layout told.lawful told.input in
+    one_held (happened_after before.mode before outcome part) before.region (end_turn before outcome part).machine.region key is (end_leads before outcome part is) serves_before serves_after
+
+pub input_held : (broker : BrokerRecord) (told : Told) (more : Input) (key : List ℕ)
+    → AreHonestEvents broker (happened (new_region told.layout) told.input) → AreHonestEvents broker (happened_since (machine_of told) more)
+    → IsNoOlder (machine_of told).region (after_input (machine_of told) more).region key
+input_held broker told more key honest honest_too serves_before serves_after =
     let before = machine_of told in
     let region = new_region told.layout in
-    let is = after_is broker told.layout told.lawful told.lines told.outcomes in
-    events_record broker (happened_from before more goes) before.region (machine_after before more goes).region key is
-    (events_faithful broker (happened region told.lines told.outcomes) region before.region (new_one told.layout told.lawful) (new_faithful broker told.layout) honest (lead_after broker told.layout told.lawful told.lines told.outcomes))
-    honest_too (lines_lead before more goes is) serves_before serves_after
+    let is = after_is broker told.layout told.lawful told.input in
+    events_record broker (happened_since before more) before.region (after_input before more).region key is
+    (events_faithful broker (happened region told.input) region before.region (new_one told.layout told.lawful) (new_faithful broker told.layout) honest (lead_after broker told.layout told.lawful told.input))
+    honest_too (input_leads before more is) serves_before serves_after

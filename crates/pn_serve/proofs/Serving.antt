@@ -165,6 +165,23 @@ module _ {V : Type 0} (makes ends : V → List ℕ → V → Reply → Type 0) w
           };
         }
 
+    -- what is kept is the same
+    pub Stays : (script : List ℕ) (left b : Option (List ℕ)) (machine : V) (run new : LineLoopValue) → Between makes start script left b machine run
+        → new.counts ≡ run.counts → new.waits ≡ run.waits → Between makes start script left b machine new
+    Stays script left b machine run new between counts waits =
+        let is = between.answered in record {
+          lines = between.lines;
+          read = between.read;
+          short = between.short;
+          answered = record {
+            replies = is.replies;
+            made = is.made;
+            sends = subst (λ (w : List ℕ). Sends start.written b [] w (texts_of is.replies)) (sym waits) is.sends;
+            lines_are = ap (λ (n : Counts). n.lines) counts ∙ is.lines_are;
+            refused_are = ap (λ (n : Counts). n.refused) counts ∙ is.refused_are;
+          };
+        }
+
     -- a line was read and answered
     pub Goes_on : (script : List ℕ) (left leaves b c : Option (List ℕ)) (was now : V) (run new : LineLoopValue) (line : LineBufferValue) → Between makes start script left b was run
         → Takes (so_far []) line left leaves (10 ∷ []) → line.count < 1000000000 → Answered makes was now (record run { line = line }) new b c → Between makes start script leaves c now new

@@ -1,5 +1,5 @@
 -- What was written if a script is not answered to its end.
-use Rattle.std.proofs.Common.{◌≡◌, ◌≢◌, ℕ, ◌<◌, ◌≤◌, Option, Some, List, [], ◌∷◌, ◌++◌, length, IfSome, OnSome, inl, inr, refl, sym, ap, ◌∙◌, subst, arith, append-nil}
+use Rattle.std.proofs.Common.{◌≡◌, ◌≢◌, ℕ, ◌<◌, ◌≤◌, Option, None, Some, List, [], ◌∷◌, ◌++◌, length, IfSome, OnSome, inl, inr, refl, sym, ap, ◌∙◌, subst, arith, append-nil}
 use Rattle.std.specs.Prelude.{Result, Err, IsErrAnd}
 use Rattle.std.proofs.lemmas.Result.{err_from_is_err_and}
 use Rattle.std.specs.Io.KnownBytes.{Appends, IsAtEnd, Keeps}
@@ -41,6 +41,11 @@ some_line (b ∷ rest) some = elim (cases_eq b 10) [
     begun : (lines : List (List ℕ)) → lines_of (b ∷ rest) ≡ onto_first b lines → (line : List ℕ) × (more : List (List ℕ)) × (lines_of (b ∷ rest) ≡ line ∷ more)
     begun [] is = (b ∷ [], [], is)
     begun (line ∷ lines) is = (b ∷ line, lines, is)
+
+-- where nothing waits, nothing was written
+pub nothing_sent : (written : Option (List ℕ)) (waits : List ℕ) → waits ≡ [] → Appends written written waits
+nothing_sent None waits none = tt
+nothing_sent (Some bytes) waits none = sym (append-nil bytes) ∙ ap (λ (w : List ℕ). bytes ++ w) (sym none)
 
 -- a line of a billion bytes, and perhaps more
 begun_line : (part rest : List ℕ) → IsUnbroken part → length part ≡ 1000000000 → (line : List ℕ) × (more : List (List ℕ)) × (lines_of (part ++ rest) ≡ line ∷ more) × (1000000000 ≤ length line)

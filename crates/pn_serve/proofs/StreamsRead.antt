@@ -1,5 +1,7 @@
 -- What was read of a stream, one report after another.
 use Rattle.std.proofs.Common.{◌≡◌, ℕ, ◌+◌, ◌≤◌, List, [], ◌∷◌, ◌++◌, length, Option, None, Some, IfSome, inl, inr, refl, sym, ap, ◌∙◌, subst, arith, length-append, append-nil}
+use Rattle.std.specs.Prelude.{Result, Ok, Err, IsErr, IfOk, OnOk, OnErr, MatchResult}
+use Rattle.pn_join.specs.Marks.{Positions, position_of}
 use Rattle.pn_record.specs.declared.image.Image.{Image}
 use Rattle.pn_stream.specs.Batches.{Stream, Batch, SoFar}
 use Rattle.pn_stream.specs.Streams.{Run, NoLine}
@@ -10,7 +12,10 @@ use Rattle.pn_serve.specs.declared.server.reports.Report.{Report}
 use Rattle.pn_serve.specs.declared.server.reports.Report.TheVariants.{Taken, End, Fault}
 use Rattle.pn_serve.specs.Server.Messages.{max_messages}
 use Rattle.pn_serve.specs.Server.Reports.{IsTaken, Leaves}
-use Rattle.pn_serve.specs.Server.Whole.{IsAllMessages, IsReadUpTo, IsWhole, WasRead}
+use Rattle.pn_serve.specs.Server.Whole.{IsAllMessages, IsReadUpTo, IsWholeTo, EndsStream, IsTaken, WasRead}
+use Rattle.pn_serve.specs.declared.server.fault.ServeFault.{ServeFault}
+use Rattle.pn_serve.specs.declared.server.fault.ServeFault.TheVariants.{Stream as of_stream}
+use Rattle.pn_serve.specs.declared.server.streams.StreamEnd.{StreamEnd}
 
 none_yet : (position : ℕ) (part : List ℕ) (left : Option (List ℕ)) → IfSome left (λ text. SoFar position (part ++ text) [] part left) → IfSome left (λ text. IsReadUpTo position (part ++ text) position part left)
 none_yet position part None so = tt
@@ -46,10 +51,10 @@ more_taken left first old new messages read leaves none =
 pub read_on : {S : Type 0} (left : S → Option (List ℕ)) (first old new : Stream S) (report : Report) → WasRead left first old → Leaves left old report new → IsTaken report → WasRead left first new
 read_on left first old new (Taken messages) read leaves taken = more_taken left first old new messages read leaves
 read_on left first old new End read leaves taken = absurd taken
-read_on left first old new (Fault name) read leaves taken = absurd taken
+read_on left first old new Fault read leaves taken = absurd taken
 
 all_messages : (position last : ℕ) (front part now : List ℕ) (first left leaves : Option (List ℕ)) → IfSome first (λ text. IsReadUpTo position (front ++ text) last part left)
-    → IfSome left (λ text. Batch 1 max_messages last (part ++ text) [] None now leaves) → IfSome first (λ text. IsAllMessages position (front ++ text))
+    → IfSome left (λ text. Batch 1 max_messages last (part ++ text) [] None now leaves) → IfSome first (λ text. IsAllMessages position (front ++ text) last)
 all_messages position last front part now None left leaves read batch = tt
 all_messages position last front part now (Some text) left leaves read batch =
     let more = on_rest read.read.rest part left (λ (t : List ℕ). Batch 1 max_messages last t [] None now leaves) read.read.is_left batch in
@@ -58,6 +63,7 @@ all_messages position last front part now (Some text) left leaves read batch =
       images = read.images ++ [];
       rest = more.rest;
       run = Run-append position (front ++ text) read.read.rest more.rest read.images [] read.read.run run;
+      last_is = omega (arith, read.last_is, length-append read.images []);
       no_line = elim more.ends.0 [
         | inl enough ↦ absurd (omega (arith, enough.0))
         | inr few ↦ few.1
@@ -65,8 +71,22 @@ all_messages position last front part now (Some text) left leaves read batch =
     }
 
 -- once the end was found
-pub whole_at_end : {S : Type 0} (left : S → Option (List ℕ)) (first old new : Stream S) (report : Report) → WasRead left first old → Leaves left old report new → report ≡ End → IsWhole left first
+pub whole_at_end : {S : Type 0} (left : S → Option (List ℕ)) (first old new : Stream S) (report : Report) → WasRead left first old → Leaves left old report new → report ≡ End → IsWholeTo left first new.position
 whole_at_end left first old new report read told is =
     let leaves : Leaves left old End new = subst (λ (n : Report). Leaves left old n new) is told in
     let before = read leaves.0 in
-    (before.0, all_messages first.position old.position first.part old.part new.part (left first.source) (left old.source) (left new.source) before.1 leaves.2)
+    let whole = all_messages first.position old.position first.part old.part new.part (left first.source) (left old.source) (left new.source) before.1 leaves.3 in
+    (before.0, subst (λ (n : ℕ). IfSome (left first.source) (λ text. IsAllMessages first.position (first.part ++ text) n)) (sym leaves.2) whole)
+
+-- the stream of a thread was taken to its end
+pub taken_by : {S : Type 0} (left : S → Option (List ℕ)) (marks : Positions) (stream : Stream S) (ended : Result StreamEnd (List ℕ)) (result : Result (Unit {0}) ServeFault) → EndsStream left stream ended
+    → OnOk result (IfOk ended (λ end. end.last ≤ position_of marks end.name)) → OnErr ended (IsErr result) → OnOk result (IsTaken left marks stream)
+taken_by left marks stream ended (Err fault) ends reached whole = tt
+taken_by left marks stream (Err name) (Ok done) ends reached whole = absurd whole
+taken_by left marks stream (Ok end) (Ok done) ends reached whole = record { last = end.last; whole = ends.1; reached = subst (λ (name : List ℕ). end.last ≤ position_of marks name) ends.0 reached }
+
+-- a thread's fault names its stream
+pub named_by : {S : Type 0} (left : S → Option (List ℕ)) (stream : Stream S) (ended : Result StreamEnd (List ℕ)) (fault : ServeFault) → EndsStream left stream ended
+    → MatchResult ended (λ end. fault ≡ of_stream end.name) (λ name. fault ≡ of_stream name) → fault ≡ of_stream stream.name
+named_by left stream (Ok end) fault ends is = is ∙ ap of_stream ends.0
+named_by left stream (Err name) fault ends is = is ∙ ap of_stream ends

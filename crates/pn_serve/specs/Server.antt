@@ -1,6 +1,10 @@
--- Served streams: the reports of their threads, and which fault is answered.
+-- Served streams: the reports of their threads, the rounds, and which fault is answered.
 pub mod Faults
+pub mod Gathering
 pub mod Messages
+pub mod Reading
 pub mod Reports
+pub mod Rounds
+pub mod Served
 pub mod Sessions
 pub mod Whole

@@ -1,3 +1,4 @@
 -- Sessions.
+pub mod Knowing
 pub mod Lines
 pub mod Lookups

@@ -1,7 +1,7 @@
 //! The law of scripts, as a contract. A call does nothing.
 //!
-//! It speaks of lines with their newlines: `parts_of script` has those of a whole script, and a run that stopped
-//! names those that it answered.
+//! It speaks of lines and of the end of an input, after a last line without newline too. `parts_of script` has both,
+//! and a run that stopped names the lines that it answered.
 
 ghost use Rattle.std.specs.Prelude.{◌≡◌, ℕ, max, List};
 ghost use Rattle.pn_join.specs.Laws.{JoinLaws};
@@ -12,13 +12,14 @@ ghost use Rattle.pn_region.specs.Events.{AreHonestEvents};
 ghost use Rattle.pn_region.specs.Regions.{new_region};
 ghost use Rattle.pn_protocol.specs.Command.Lines.{command_at};
 ghost use Rattle.pn_protocol.specs.Command.Lookups.{AsksForRecords};
+ghost use Rattle.pn_serve.specs.Machine.LastTurns.{end_turn};
 ghost use Rattle.pn_serve.specs.Machine.Outcomes.{Outcome};
 ghost use Rattle.pn_serve.specs.Machine.Turns.{turn};
-ghost use Rattle.pn_serve.specs.Script.Events.{happened, happened_from};
+ghost use Rattle.pn_serve.specs.Script.Happened.{happened, happened_since};
+ghost use Rattle.pn_serve.specs.Script.Inputs.{Input, all_lines, after_input};
 ghost use Rattle.pn_serve.specs.Script.Losses.{NoLosses};
 ghost use Rattle.pn_serve.specs.Script.Taken.{NothingLost};
 ghost use Rattle.pn_serve.specs.Script.Told.{Told, machine_of, records_of, images_of, TookTheSame, AwaitsCommand, reply_of, last_reply, AreAlike, IsNoOlder};
-ghost use Rattle.pn_serve.specs.Script.Written.{machine_after};
 ghost use Rattle.pn_stream.specs.Brokers.{BrokerRecord};
 
 /// Two regions that took the same images hold exactly their records, and answer further lookups alike, unless memory
@@ -35,11 +36,12 @@ pub fn regions_converge()
     ensures cells_join { JoinLaws cell_joined }
     ensures tables_join { JoinLaws (key_by_key {K = List ℕ} max) × JoinLaws (key_by_key {K = List ℕ} cell_joined) }
     ensures no_older { (told : Told) (outcome : Outcome) (text key : List ℕ)
-        → IsNoOlder (machine_of told).region (turn (machine_of told) outcome text).machine.region key }
-    ensures nor_later { (broker : BrokerRecord) (told : Told) (more : List (List ℕ)) (goes : List Outcome) (key : List ℕ)
-        → AreHonestEvents broker (happened (new_region told.layout) told.lines told.outcomes) → AreHonestEvents broker (happened_from (machine_of told) more goes)
-        → IsNoOlder (machine_of told).region (machine_after (machine_of told) more goes).region key }
-    ensures any_record { (broker other : BrokerRecord) (told : Told) → NothingLost (new_region told.layout) told.lines told.outcomes
+        → IsNoOlder (machine_of told).region (turn (machine_of told) outcome text).machine.region key
+        × IsNoOlder (machine_of told).region (end_turn (machine_of told) outcome text).machine.region key }
+    ensures nor_later { (broker : BrokerRecord) (told : Told) (more : Input) (key : List ℕ)
+        → AreHonestEvents broker (happened (new_region told.layout) told.input) → AreHonestEvents broker (happened_since (machine_of told) more)
+        → IsNoOlder (machine_of told).region (after_input (machine_of told) more).region key }
+    ensures any_record { (broker other : BrokerRecord) (told : Told) → NothingLost (new_region told.layout) told.input
         → images_of broker told ≡ images_of other told }
-    ensures no_losses { (told : Told) → NoLosses told.lines → NothingLost (new_region told.layout) told.lines told.outcomes × AwaitsCommand told }
+    ensures no_losses { (told : Told) → NoLosses (all_lines told.input) → NothingLost (new_region told.layout) told.input × AwaitsCommand told }
 {}

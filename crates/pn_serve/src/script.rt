@@ -1,12 +1,14 @@
 //! Scripts: each line is read and answered, and its reply is written.
 
-ghost use Rattle.std.specs.Prelude.{◌≡◌, IsErrOf};
+ghost use Rattle.std.specs.Prelude.{◌≡◌, ◌+◌, ◌≤◌, [], IfOk, OnOk, IsErrOf};
 ghost use Rattle.pn_serve.specs.declared.script.RunFault.TheVariants.{Write, Memory};
 ghost use Rattle.pn_serve.specs.Lines.Ends.{EndsBy};
+ghost use Rattle.pn_serve.specs.Lines.Waiting.{HandsOn, looks_of_input};
 ghost use Rattle.pn_serve.specs.Lines.States.{Start};
 ghost use Rattle.pn_serve.specs.Lines.Served.{Served};
 ghost use Rattle.pn_serve.specs.Runs.Ends.{Ends};
 ghost use Rattle.pn_serve.specs.Runs.Starts.{begins};
+ghost use Rattle.pn_serve.specs.Session.Knowing.{KnowsNoLess};
 
 mod blocks;
 pub(crate) mod line_loop;
@@ -78,6 +80,10 @@ pub fn run<R: Threads + Sync, S: Source, W: Sink>(
     ensures ends { Ends (begins settings (S.left input.old) (W.contents output.old)) (S.left input.new) (W.contents output.new) result }
     ensures read { IsErrOf result RunFault.Read → S.may_fail }
     ensures write { IsErrOf result RunFault.Write → W.may_fail }
+    ensures few { IfOk result (λ counts. counts.lines ≤ MAX_LINES) }
+    ensures out { HandsOn result (W.is_handed_on output.new) }
+    ensures looks { S.looks input.new ≤ S.looks input.old + looks_of_input }
+    ensures end { OnOk result S.may_end }
 {
     let mut lines = LineLoop::new(alloc)?;
     let mut machine = ScriptHandler::new(rt, alloc, settings)?;
@@ -95,6 +101,10 @@ pub fn run_to_exit<R: Threads + Sync, S: Source, W: Sink>(
     ensures ends { Ends (begins settings (S.left input.old) (W.contents output.old)) (S.left input.new) (W.contents output.new) result }
     ensures read { IsErrOf result RunFault.Read → S.may_fail }
     ensures write { IsErrOf result RunFault.Write → W.may_fail }
+    ensures few { IfOk result (λ counts. counts.lines ≤ MAX_LINES) }
+    ensures out { HandsOn result (W.is_handed_on output.new) }
+    ensures looks { S.looks input.new ≤ S.looks input.old + looks_of_input }
+    ensures end { OnOk result S.may_end }
 {
     let mut lines = LineLoop::new(alloc)?;
     let mut kept = ScriptHandler::new(rt, alloc, settings)?;
@@ -112,11 +122,16 @@ pub(crate) fn answer_all<M: LineHandler, S: Source, W: Sink>(
 ) -> Result<Counts, RunFault>
     requires ready { M.ready }
     requires none { lines.old.counts.lines ≡ 0 }
+    requires waits { lines.old.waits ≡ [] }
     ensures ends { (start : Start M) → Served M.makes start (S.left input.old) (W.contents output.old) machine.old lines.old
         → EndsBy M.makes M.ends start (S.left input.new) (W.contents output.new) machine.new result }
     ensures read { IsErrOf result RunFault.Read → S.may_fail }
     ensures write { IsErrOf result RunFault.Write → W.may_fail }
-    ensures same { M.tablets machine.new ≡ M.tablets machine.old }
+    ensures knows { KnowsNoLess (M.reader machine.old) (M.reader machine.new) }
+    ensures few { IfOk result (λ counts. counts.lines ≤ MAX_LINES) }
+    ensures out { HandsOn result (W.is_handed_on output.new) }
+    ensures looks { S.looks input.new ≤ S.looks input.old + looks_of_input }
+    ensures end { OnOk result S.may_end }
 {
     'turns: for _turn in 0..MAX_LINES {
         match lines.turn(machine, input, output)? {

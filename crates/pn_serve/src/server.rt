@@ -1,14 +1,15 @@
 //! Reads streams into a live region while sessions over TCP are answered from it.
 
-ghost use Rattle.std.specs.Prelude.{◌≡◌, ◌≢◌, ◌≤◌, vec_len, vec_capacity, Ok, Err, IfOk, IfErr, OnOk, OnErr, IsErrOf, IsTrue};
+ghost use Rattle.std.specs.Prelude.{◌≡◌, ◌≢◌, ◌≤◌, map, vec_len, vec_capacity, Ok, Err, IfOk, IfErr, IsOk, OnOk, OnErr, IsErrOf, IsTrue, IsFalse, MatchResult};
 ghost use Rattle.std.specs.Io.KnownBytes.{Appends, Keeps};
 ghost use Rattle.pn_apply.specs.Limits.{max_workers};
 ghost use Rattle.pn_line.specs.Sent.{AppendsPrefix};
 ghost use Rattle.pn_live.specs.Limits.{max_readers};
-ghost use Rattle.pn_live.specs.LiveRegions.{tablets_in};
-ghost use Rattle.pn_serve.specs.Server.Faults.{of_end};
+ghost use Rattle.pn_live.specs.LiveRegions.{IsNewLive, tablets_in};
+ghost use Rattle.pn_serve.specs.Server.Faults.{IsOfRounds};
+ghost use Rattle.pn_serve.specs.Server.Reading.{ReadsStreams};
+ghost use Rattle.pn_serve.specs.Server.Served.{EndsReading, EndsRegion, EndsServing};
 ghost use Rattle.pn_serve.specs.Server.Sessions.{AllRead};
-ghost use Rattle.pn_serve.specs.Server.Whole.{AreWhole};
 ghost use Rattle.pn_protocol.specs.Reply.Short.{served_line};
 
 mod bell;
@@ -27,7 +28,7 @@ use crate::server::streams::{Feeds, Reading, begin_reading, end_reading};
 pub use fault::ServeFault;
 use pn_join::NoMemory;
 use pn_line::{Sink, Source, WriteFault, write_all_of};
-use pn_live::{LiveReader, LiveRegion, OpenFault};
+use pn_live::{LiveReader, LiveRegion};
 use pn_protocol::served_reply;
 use pn_region::Region;
 use pn_stream::StreamReader;
@@ -62,35 +63,33 @@ where
     S: Source + Drop + Send + 'static,
     W: Sink,
     requires { (1 ≤ sessions) × (sessions ≤ max_readers) }
-    ensures whole { OnOk result (AreWhole S.left streams.items) }
+    ensures ends { EndsServing S.left settings.layout streams.items result }
     ensures served { OnOk result (Appends (W.contents out.old) (W.contents out.new) (served_line sessions)) }
     ensures silent { IfErr result (λ fault. fault ≢ ServeFault.Write → Keeps (W.contents out.old) (W.contents out.new)) }
     ensures part { IsErrOf result ServeFault.Write → AppendsPrefix (W.contents out.old) (W.contents out.new) (served_line sessions) }
     ensures write { IsErrOf result ServeFault.Write → W.may_fail }
+    ensures handed_on { OnOk result (W.is_handed_on out.new) }
 {
     let served = serve_region(rt, alloc, listener, settings, sessions, streams);
-    conclude(served, out, sessions)
+    conclude(served, out)
 }
 
 // Writes `served N`, unless an earlier fault is answered.
-fn conclude<W: Sink>(
-    served: Result<(), ServeFault>,
-    out: &mut W,
-    sessions: usize,
-) -> Result<(), ServeFault>
+fn conclude<W: Sink>(served: Result<usize, ServeFault>, out: &mut W) -> Result<(), ServeFault>
     ensures fault { IfErr served (λ fault. (result ≡ Err fault) × (out.new ≡ out.old)) }
-    ensures all { OnOk result (served ≡ Ok tt) }
-    ensures ok { OnOk result (Appends (W.contents out.old) (W.contents out.new) (served_line sessions)) }
-    ensures err { OnOk served (OnErr result (AppendsPrefix (W.contents out.old) (W.contents out.new) (served_line sessions))) }
+    ensures all { OnOk result (IsOk served) }
+    ensures ok { IfOk served (λ count. OnOk result (Appends (W.contents out.old) (W.contents out.new) (served_line count))) }
+    ensures err { IfOk served (λ count. OnErr result (AppendsPrefix (W.contents out.old) (W.contents out.new) (served_line count))) }
     ensures write { OnOk served (IfErr result (λ fault. (fault ≡ ServeFault.Write) × W.may_fail)) }
+    ensures handed_on { OnOk result (W.is_handed_on out.new) }
 {
     match served {
-        Ok(()) => write_served(out, sessions),
+        Ok(count) => write_served(out, count),
         Err(fault) => Err(fault),
     }
 }
 
-// Serves over a new live region, and closes it.
+// Serves over a new live region, and closes it. Answers how many readers came back.
 fn serve_region<R, S>(
     rt: &R,
     alloc: Global,
@@ -98,23 +97,23 @@ fn serve_region<R, S>(
     settings: Settings,
     sessions: usize,
     streams: Vec<StreamReader<S>>,
-) -> Result<(), ServeFault>
+) -> Result<usize, ServeFault>
 where
     R: Threads + Wait + Sync + Copy + Send + 'static,
     S: Source + Drop + Send + 'static,
     requires { (1 ≤ sessions) × (sessions ≤ max_readers) }
-    ensures whole { OnOk result (AreWhole S.left streams.items) }
-    ensures fault { IfErr result (λ fault. fault ≢ ServeFault.Write) }
+    ensures ends { EndsRegion S.left settings.layout streams.items result }
+    ensures count { IfOk result (λ count. count ≡ sessions) }
 {
     let Settings { layout, workers } = settings;
-    let Ok((live, readers)) = open(rt, alloc, layout, sessions) else {
-        return Err(ServeFault::Start);
-    };
+    let (live, readers) = open(rt, alloc, layout, sessions)?;
     let mut opened = Opened { live, readers };
     let served = serve_all(rt, alloc, listener, &mut opened, workers, streams);
     let Opened { live, readers } = opened;
+    let count = readers.len();
     let closed = close(rt, live, readers);
-    end(served, closed)
+    end(served, closed)?;
+    Ok(count)
 }
 
 // Opens a live region with this many readers.
@@ -123,12 +122,17 @@ fn open<R: Wait>(
     alloc: Global,
     layout: Layout,
     readers: usize,
-) -> Result<(LiveRegion, Vec<LiveReader>), OpenFault>
+) -> Result<(LiveRegion, Vec<LiveReader>), ServeFault>
     requires { (1 ≤ readers) × (readers ≤ max_readers) }
+    ensures is_new { IfOk result (λ opened. IsNewLive layout opened.0) }
+    ensures start { IfErr result (λ fault. fault ≡ ServeFault.Start) }
     ensures own { IfOk result (λ opened. AllRead (tablets_in opened.0) opened.1.items) }
     ensures count { IfOk result (λ opened. vec_len opened.1 ≡ readers) }
 {
-    LiveRegion::open(rt, alloc, layout, readers)
+    match LiveRegion::open(rt, alloc, layout, readers) {
+        Ok(opened) => Ok(opened),
+        Err(_) => Err(ServeFault::Start),
+    }
 }
 
 // Closes a live region, whose readers came back.
@@ -140,9 +144,8 @@ fn close<R: Wait>(rt: &R, live: LiveRegion, readers: Vec<LiveReader>) -> Result<
 
 // An earlier fault outranks out of memory while closing.
 fn end(served: Result<(), ServeFault>, closed: Result<Region, NoMemory>) -> Result<(), ServeFault>
-    ensures first { result ≡ of_end served closed }
-    ensures all { OnOk result (served ≡ Ok tt) }
-    ensures fault { IfErr served (λ fault. fault ≢ ServeFault.Write) → IfErr result (λ fault. fault ≢ ServeFault.Write) }
+    ensures served { IfErr served (λ fault. result ≡ Err fault) }
+    ensures closed { OnOk served (MatchResult closed (λ _. result ≡ Ok tt) (λ _. result ≡ Err ServeFault.Close)) }
 {
     match (served, closed) {
         (Err(fault), _) => Err(fault),
@@ -166,9 +169,8 @@ where
     requires workers { (1 ≤ workers) × (workers ≤ max_workers) }
     requires own { AllRead (tablets_in opened.old.live) opened.old.readers.items }
     ensures own { AllRead (tablets_in opened.new.live) opened.new.readers.items }
-    ensures all { result ≢ Err ServeFault.Start → vec_len opened.new.readers ≡ vec_len opened.old.readers }
-    ensures whole { OnOk result (AreWhole S.left streams.items) }
-    ensures fault { IfErr result (λ fault. fault ≢ ServeFault.Write) }
+    ensures all { OnOk result (vec_len opened.new.readers ≡ vec_len opened.old.readers) }
+    ensures ends { EndsReading S.left streams.items opened.old.live opened.new.live result }
 {
     let Ok(reading) = begin_reading(rt, alloc, streams) else {
         return Err(ServeFault::Start);
@@ -182,7 +184,7 @@ where
     feeds.close(rt);
     end_sessions(rt, &opened.live, running, &mut opened.readers);
     read?;
-    end_reading(rt, threads)
+    end_reading(rt, threads, opened.live.marks())
 }
 
 // Runs the rounds, unless a session was refused.
@@ -196,7 +198,8 @@ fn take_all<R: Threads + Wait + Sync>(
 ) -> Result<(), ServeFault>
     requires workers { (1 ≤ workers) × (workers ≤ max_workers) }
     ensures refused { IsTrue is_refused → result ≡ Err ServeFault.Start }
-    ensures fault { IfErr result (λ fault. fault ≢ ServeFault.Write) }
+    ensures reads { IsFalse is_refused → ReadsStreams (vec_len feeds.now.places) live.old live.new result }
+    ensures named { IsFalse is_refused → IfErr result (IsOfRounds (map (λ place. place.name) feeds.now.places.items)) }
     ensures same { tablets_in live.new ≡ tablets_in live.old }
 {
     if is_refused {
@@ -210,6 +213,7 @@ fn write_served<W: Sink>(out: &mut W, sessions: usize) -> Result<(), ServeFault>
     ensures ok { OnOk result (Appends (W.contents out.old) (W.contents out.new) (served_line sessions)) }
     ensures err { OnErr result (AppendsPrefix (W.contents out.old) (W.contents out.new) (served_line sessions)) }
     ensures fault { IfErr result (λ fault. (fault ≡ ServeFault.Write) × W.may_fail) }
+    ensures handed_on { OnOk result (W.is_handed_on out.new) }
 {
     let line = served_reply(sessions);
     match send_line(out, line.as_bytes()) {
@@ -223,6 +227,7 @@ fn send_line<W: Sink>(out: &mut W, line: &[u8]) -> Result<(), WriteFault>
     ensures ok { OnOk result (Appends (W.contents out.old) (W.contents out.new) line.now) }
     ensures err { OnErr result (AppendsPrefix (W.contents out.old) (W.contents out.new) line.now) }
     ensures fault { OnErr result W.may_fail }
+    ensures handed_on { OnOk result (W.is_handed_on out.new) }
 {
     write_all_of(out, line)?;
     out.hand_on()

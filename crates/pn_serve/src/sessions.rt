@@ -1,14 +1,15 @@
 //! Sessions: lines are answered by a reader of a live region.
 
-ghost use Rattle.std.specs.Prelude.{◌≡◌, IsErrOf};
-ghost use Rattle.pn_live.specs.Readers.{tablets_of};
+ghost use Rattle.std.specs.Prelude.{◌≡◌, ◌+◌, ◌≤◌, IfOk, OnOk, IsErrOf};
 ghost use Rattle.pn_serve.specs.Lines.Ends.{EndsBy};
+ghost use Rattle.pn_serve.specs.Lines.Waiting.{HandsOn, looks_of_input};
+ghost use Rattle.pn_serve.specs.Session.Knowing.{KnowsNoLess};
 ghost use Rattle.pn_serve.specs.Session.Lines.{AnswersLine, EndsLines, starts};
 
 mod lookups;
 
 use crate::machine::line_handler::LineHandler;
-use crate::script::answer_all;
+use crate::script::{MAX_LINES, answer_all};
 use crate::script::line_loop::LineLoop;
 use crate::sessions::lookups::answer;
 use crate::{Counts, RunFault};
@@ -30,15 +31,20 @@ pub fn session<S: Source, W: Sink>(
     ensures ends { EndsBy AnswersLine EndsLines (starts reader.old (S.left input.old) (W.contents output.old)) (S.left input.new) (W.contents output.new) reader.new result }
     ensures read { IsErrOf result RunFault.Read → S.may_fail }
     ensures write { IsErrOf result RunFault.Write → W.may_fail }
-    ensures same { tablets_of reader.new ≡ tablets_of reader.old }
+    ensures knows { KnowsNoLess reader.old reader.new }
+    ensures few { IfOk result (λ counts. counts.lines ≤ MAX_LINES) }
+    ensures out { HandsOn result (W.is_handed_on output.new) }
+    ensures looks { S.looks input.new ≤ S.looks input.old + looks_of_input }
+    ensures end { OnOk result S.may_end }
 {
     let mut lines = LineLoop::new(alloc)?;
     answer_all(reader, &mut lines, input, output)
 }
 
 impl LineHandler for LiveReader {
-    ghost use Rattle.pn_serve.specs.Session.Lines.{AnswersLine, EndsLines};
-    ghost use Rattle.pn_live.specs.Readers.{tablets_of};
+    ghost use Rattle.pn_serve.specs.Lines.Waiting.{HandsOn, looks_of_input};
+ghost use Rattle.pn_serve.specs.Session.Knowing.{KnowsNoLess};
+ghost use Rattle.pn_serve.specs.Session.Lines.{AnswersLine, EndsLines};
     ghost use Rattle.std.specs.Prelude.{⊤};
 
     ghost ready = { ⊤ };
@@ -47,7 +53,7 @@ impl LineHandler for LiveReader {
 
     ghost ends = { EndsLines };
 
-    ghost tablets = { tablets_of };
+    ghost reader = { λ reader. reader };
 
     fn answer(&mut self, alloc: Global, line: &LineBuffer) -> Reply {
         answer(alloc, self, line.bytes())

@@ -12,13 +12,12 @@ use Rattle.pn_region.specs.Events.{RegionEvent}
 use Rattle.pn_region.specs.Logged.{LoggedRegion}
 use Rattle.pn_region.specs.Marking.{new_marks}
 use Rattle.pn_region.specs.Recovery.{adopting}
-use Rattle.pn_region.specs.Regions.{RegionValue}
 use Rattle.pn_region.specs.declared.fault.RoundFault.{RoundFault}
 use Rattle.pn_protocol.specs.declared.refusal.Refusal.{Refusal}
 use Rattle.pn_protocol.specs.Command.Lines.{command_at}
 use Rattle.pn_protocol.specs.Command.Meaning.{CommandValue, deliver, lose}
 use Rattle.pn_serve.specs.Machine.Announced.{unless_call, with_line}
-use Rattle.pn_serve.specs.Machine.Outcomes.{Outcome, line, round, Mode, idle, announced, Machine, Turn, logged, serving}
+use Rattle.pn_serve.specs.Machine.Outcomes.{Outcome, line, round, Mode, idle, announced, Machine, Turn, logged}
 use Rattle.pn_serve.specs.Machine.Recovering.{adopted}
 use Rattle.pn_serve.specs.Machine.Turns.{turn_of, outcome_at, turn}
 use Rattle.pn_serve.specs.Script.Written.{first_outcome, later_outcomes}
@@ -64,6 +63,3 @@ abbrev pub happened_from : Machine → List (List ℕ) → List Outcome → List
 happened_from machine [] outcomes = []
 happened_from machine (text ∷ lines) outcomes =
     happened_in machine.mode machine (first_outcome outcomes) text ++ happened_from (turn machine (first_outcome outcomes) text).machine lines (later_outcomes outcomes)
-
-abbrev pub happened : RegionValue → List (List ℕ) → List Outcome → List RegionEvent
-happened region lines outcomes = happened_from (serving region) lines outcomes

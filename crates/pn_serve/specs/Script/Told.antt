@@ -1,4 +1,4 @@
--- New regions that took lines, and what two of them have in common.
+-- New regions that took an input, and what two of them have in common.
 use Rattle.std.specs.Prelude.{◌≡◌, ◌⊎◌, ℕ, List}
 use Rattle.std.specs.FinMap.{find}
 use Rattle.pn_json.specs.Lines.{line_of}
@@ -17,18 +17,17 @@ use Rattle.pn_serve.specs.Machine.Turns.{turn}
 use Rattle.pn_serve.specs.Machine.LastTurns.{end_turn}
 use Rattle.pn_protocol.specs.Reply.Short.{refusal_data}
 use Rattle.pn_serve.specs.Script.Taken.{taken, Settled, Waits}
-use Rattle.pn_serve.specs.Script.Written.{machine_after}
+use Rattle.pn_serve.specs.Script.Inputs.{Input, after_input}
 
--- a new region of a layout that took lines, each with its outcome
+-- a new region of a layout that took an input
 pub record Told : Type 0 where
   pub layout : Bounds
   pub lawful : IsLayout layout
-  pub lines : List (List ℕ)
-  pub outcomes : List Outcome
+  pub input : Input
 
--- its machine after the lines
+-- its machine after the input
 abbrev pub machine_of : Told → Machine
-machine_of told = machine_after (serving (new_region told.layout)) told.lines told.outcomes
+machine_of told = after_input (serving (new_region told.layout)) told.input
 
 -- the records of all its tablets together
 abbrev pub records_of : Told → Entries
@@ -36,17 +35,17 @@ records_of told = all_cells (machine_of told).region
 
 -- the images that it took, in rounds and by copies
 abbrev pub images_of : BrokerRecord → Told → List Image
-images_of broker told = taken broker (new_region told.layout) told.lines told.outcomes
+images_of broker told = taken broker (new_region told.layout) told.input
 
 -- both are settled, and they took the same images
 pub record TookTheSame (broker : BrokerRecord) (one other : Told) : Type 0 where
-  pub settled : Settled broker (new_region one.layout) one.lines one.outcomes
-  pub settled_too : Settled broker (new_region other.layout) other.lines other.outcomes
+  pub settled : Settled broker (new_region one.layout) one.input
+  pub settled_too : Settled broker (new_region other.layout) other.input
   pub same : SameImages (images_of broker one) (images_of broker other)
 
 -- it waits for a command
 abbrev pub AwaitsCommand : Told → Type 0
-AwaitsCommand told = Waits (new_region told.layout) told.lines told.outcomes
+AwaitsCommand told = Waits (new_region told.layout) told.input
 
 -- its replies to one more line: with a newline, and without at the end of the input
 abbrev pub reply_of : Told → Outcome → List ℕ → List ℕ

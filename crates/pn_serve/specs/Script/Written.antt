@@ -26,10 +26,6 @@ abbrev pub machine_after : Machine → List (List ℕ) → List Outcome → Mach
 machine_after machine [] outcomes = machine
 machine_after machine (text ∷ lines) outcomes = machine_after (turn machine (first_outcome outcomes) text).machine lines (later_outcomes outcomes)
 
--- the region after lines
-abbrev pub region_after : RegionValue → List (List ℕ) → List Outcome → RegionValue
-region_after region lines outcomes = (machine_after (serving region) lines outcomes).region
-
 -- 1 for a refusal, else 0
 abbrev pub one_if : Bool → ℕ
 one_if true = 1

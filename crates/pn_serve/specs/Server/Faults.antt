@@ -1,24 +1,25 @@
--- Which fault is answered.
-use Rattle.std.specs.Prelude.{◌≡◌, ℕ, List, Option, Some, None, Result, Ok, Err}
+-- Which streams faults name.
+use Rattle.std.specs.Prelude.{ℕ, List, map, Contains}
+use Rattle.pn_stream.specs.Batches as batches
 use Rattle.pn_serve.specs.declared.server.fault.ServeFault.{ServeFault}
 use Rattle.pn_serve.specs.declared.server.fault.ServeFault.TheVariants.{Start, Stream, Round, Close, Write}
 
--- the fault of a stream, or of a round
-abbrev pub IsOfReading : ServeFault → Type 0
-IsOfReading (Stream name) = Unit {0}
-IsOfReading Round = Unit {0}
-IsOfReading Start = ⊥
-IsOfReading Close = ⊥
-IsOfReading Write = ⊥
+-- the names of streams
+abbrev pub names_of : {S : Type 0} → List (batches.Stream S) → List (List ℕ)
+names_of streams = map (λ stream. stream.name) streams
 
--- a stream's fault outranks the round's
-abbrev pub of_round : {T E : Type 0} → Option (List ℕ) → Result T E → Result (Unit {0}) ServeFault
-of_round (Some name) round = Err (Stream name)
-of_round None (Err fault) = Err Round
-of_round None (Ok done) = Ok tt
+-- the fault names one of these streams
+abbrev pub NamesOne : List (List ℕ) → ServeFault → Type 0
+NamesOne names (Stream name) = Contains names name
+NamesOne names Start = ⊥
+NamesOne names Round = ⊥
+NamesOne names Close = ⊥
+NamesOne names Write = ⊥
 
--- an earlier fault outranks that of closing
-abbrev pub of_end : {T E : Type 0} → Result (Unit {0}) ServeFault → Result T E → Result (Unit {0}) ServeFault
-of_end (Err fault) closed = Err fault
-of_end (Ok served) (Err fault) = Err Close
-of_end (Ok served) (Ok done) = Ok tt
+-- the fault is of a round, or names one of these streams
+abbrev pub IsOfRounds : List (List ℕ) → ServeFault → Type 0
+IsOfRounds names Round = Unit {0}
+IsOfRounds names (Stream name) = Contains names name
+IsOfRounds names Start = ⊥
+IsOfRounds names Close = ⊥
+IsOfRounds names Write = ⊥

@@ -1,5 +1,5 @@
 -- Reports of the threads of streams.
-use Rattle.std.specs.Prelude.{◌≡◌, ℕ, ◌+◌, List, [], ◌∷◌, ◌++◌, length, min, Option, Some, None, IfSome}
+use Rattle.std.specs.Prelude.{◌≡◌, ℕ, ◌+◌, Bool, true, false, if◌then◌else◌, List, [], ◌∷◌, ◌++◌, length, min, Option, Some, None, IfSome}
 use Rattle.pn_record.specs.Limits.{greatest}
 use Rattle.pn_stream.specs.Batches.{Stream, Batch}
 use Rattle.pn_stream.specs.Faults.{Stands}
@@ -14,38 +14,41 @@ use Rattle.pn_serve.specs.declared.server.reports.Report.TheVariants.{Taken, End
 abbrev pub following : {S : Type 0} → Stream S → DeliveryValue → DeliveryValue
 following stream delivery = record { stream = stream.name; first = min (stream.position + 1) greatest; images = delivery.images }
 
--- the report is right for what the source has left: the next messages; no whole line; or the name, if a fault comes
--- next
+-- the report is right for what the source has left: the next messages; no whole line; or a fault that comes next
 abbrev pub Leaves : {S : Type 0} → (S → Option (List ℕ)) → Stream S → Report → Stream S → Type 0
 Leaves left old (Taken messages) new = (old.fault ≡ None) × (messages.delivery ≡ following old messages.delivery)
     × (new.position ≡ old.position + length messages.delivery.images)
     × IfSome (left old.source) (λ text. Batch 1 max_messages old.position (old.part ++ text) messages.delivery.images new.fault new.part (left new.source))
-Leaves left old End new = (old.fault ≡ None) × (new.fault ≡ None)
+Leaves left old End new = (old.fault ≡ None) × (new.fault ≡ None) × (new.position ≡ old.position)
     × IfSome (left old.source) (λ text. Batch 1 max_messages old.position (old.part ++ text) [] None new.part (left new.source))
-Leaves left old (Fault name) new = (name ≡ old.name) × (new.fault ≡ Some Failed)
+Leaves left old Fault new = (new.fault ≡ Some Failed)
     × ((fault : StreamFault) × (old.fault ≡ None → IfSome (left old.source) (λ text. Stands (old.position + 1) (old.part ++ text) fault)))
 
 -- the report has messages
 abbrev pub IsTaken : Report → Type 0
 IsTaken (Taken messages) = Unit {0}
 IsTaken End = ⊥
-IsTaken (Fault name) = ⊥
+IsTaken Fault = ⊥
 
 -- the messages of a report
 abbrev pub messages_of : Report → List DeliveryValue
 messages_of (Taken messages) = messages.delivery ∷ []
 messages_of End = []
-messages_of (Fault name) = []
+messages_of Fault = []
 
 -- how many streams the report ends
 abbrev pub ends_in : Report → ℕ
 ends_in (Taken messages) = 0
 ends_in End = 1
-ends_in (Fault name) = 0
+ends_in Fault = 0
 
--- the first fault, before or in the report
-abbrev pub first_fault : Option (List ℕ) → Report → Option (List ℕ)
-first_fault (Some name) report = Some name
-first_fault None (Fault name) = Some name
-first_fault None (Taken messages) = None
-first_fault None End = None
+-- whether the report is a fault
+abbrev pub is_fault : Report → Bool
+is_fault Fault = true
+is_fault (Taken messages) = false
+is_fault End = false
+
+-- the name of the first stream with a fault: that of before, or of the stream of this name if its report is one
+abbrev pub first_fault : Option (List ℕ) → List ℕ → Report → Option (List ℕ)
+first_fault (Some before) name report = Some before
+first_fault None name report = if is_fault report then Some name else None

@@ -1,6 +1,6 @@
 -- What a session does with a line: its reply, and the reader afterwards.
 use Rattle.std.specs.Prelude.{◌≡◌, ◌⊎◌, ℕ, false, List, [], ◌∷◌, Option, Result, Ok, Err}
-use Rattle.pn_live.specs.Readers.{LiveReaderValue, Tablets}
+use Rattle.pn_live.specs.Readers.{LiveReaderValue}
 use Rattle.pn_protocol.specs.declared.refusal.Refusal.{Refusal}
 use Rattle.pn_protocol.specs.declared.refusal.Refusal.TheVariants.{ReadOnly, Memory}
 use Rattle.pn_protocol.specs.declared.reply.Reply.{Reply}
@@ -35,10 +35,6 @@ AnswersLine old line new reply = Tells old (lookup_at line) new reply ⊎ ((is_t
 abbrev pub EndsLines : LiveReaderValue → List ℕ → LiveReaderValue → Reply → Type 0
 EndsLines old [] new reply = (new ≡ old) × (reply ≡ Silent)
 EndsLines old (b ∷ part) new reply = AnswersLine old (b ∷ part) new reply
-
--- the tablets of a handler without a live region
-abbrev pub no_tablets : Tablets
-no_tablets = record { layout = []; books = [] }
 
 -- what a session begins with
 abbrev pub starts : LiveReaderValue → Option (List ℕ) → Option (List ℕ) → Start LiveReaderValue

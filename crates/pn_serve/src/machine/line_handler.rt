@@ -2,7 +2,8 @@
 
 ghost use Rattle.std.specs.Prelude.{◌≡◌, ℕ, List};
 ghost use Rattle.pn_line.specs.Line.{so_far};
-ghost use Rattle.pn_live.specs.Readers.{Tablets};
+ghost use Rattle.pn_live.specs.Readers.{LiveReaderValue};
+ghost use Rattle.pn_serve.specs.Session.Knowing.{KnowsNoLess};
 
 use pn_line::LineBuffer;
 use pn_protocol::Reply;
@@ -21,18 +22,18 @@ pub(crate) trait LineHandler {
     // Relates the state before, the last part of a line, the state after and the reply.
     ghost ends: { Self → List ℕ → Self → Reply → Type 0 };
 
-    // The live tablets that it reads, if any.
-    ghost tablets: { Self → Tablets };
+    // The reader that it answers from, if any.
+    ghost reader: { Self → LiveReaderValue };
 
     /// Answers a line.
     fn answer(&mut self, alloc: Global, line: &LineBuffer) -> Reply
         requires { ready }
         ensures makes { (text : List ℕ) → line.now ≡ so_far text → makes self.old text self.new result }
-        ensures same { tablets self.new ≡ tablets self.old };
+        ensures knows { KnowsNoLess (reader self.old) (reader self.new) };
 
     /// Answers the end of the input, after a part of a line.
     fn end(&mut self, alloc: Global, part: &LineBuffer) -> Reply
         requires { ready }
         ensures ends { (text : List ℕ) → part.now ≡ so_far text → ends self.old text self.new result }
-        ensures same { tablets self.new ≡ tablets self.old };
+        ensures knows { KnowsNoLess (reader self.old) (reader self.new) };
 }

@@ -65,7 +65,7 @@ impl<'a, R: Threads + Sync> ScriptHandler<'a, R> {
 
 impl<'a, R: Threads + Sync> LineHandler for ScriptHandler<'a, R> {
     ghost use Rattle.pn_serve.specs.Machine.Answers.{Answers, Concludes};
-    ghost use Rattle.pn_serve.specs.Session.Lines.{no_tablets};
+    ghost use Rattle.pn_serve.specs.Session.Knowing.{no_reader};
     ghost use Rattle.std.specs.Thread.{IsSync};
 
     // Threads can share the runtime.
@@ -75,7 +75,7 @@ impl<'a, R: Threads + Sync> LineHandler for ScriptHandler<'a, R> {
 
     ghost ends = { Concludes };
 
-    ghost tablets = { λ _. no_tablets };
+    ghost reader = { λ _. no_reader };
 
     fn answer(&mut self, alloc: Global, line: &LineBuffer) -> Reply {
         let waiting = self.announced.take();

@@ -69,6 +69,7 @@ impl Blocks {
         ensures err { OnErr result (AppendsPrefix (W.contents writer.old) (W.contents writer.new) self.old) }
         ensures fault { OnErr result W.may_fail }
         ensures empty { self.new ≡ [] }
+        ensures handed_on { OnOk result (W.is_handed_on writer.new) }
     {
         self.waiting = 0;
         self.outbox.flush(writer)

@@ -1,16 +1,18 @@
 //! The line loop: each line is read and answered, and its reply waits or is written.
 
-ghost use Rattle.std.specs.Prelude.{◌≡◌, ◌+◌, ◌<◌, ◌≤◌, ◌++◌, Ok, IfOk, OnOk, OnErr, IsErrOf};
+ghost use Rattle.std.specs.Prelude.{◌≡◌, ◌≢◌, ◌+◌, ◌<◌, ◌≤◌, [], ◌++◌, Ok, IfOk, OnOk, OnErr, IsErrOf};
 ghost use Rattle.pn_line.specs.Sent.{Sends, AppendsPrefix};
 ghost use Rattle.pn_json.specs.Lines.{line_of};
 ghost use Rattle.pn_serve.specs.Lines.Ends.{EndsBy};
 ghost use Rattle.pn_serve.specs.Lines.States.{Start, new_loop};
 ghost use Rattle.pn_serve.specs.Lines.Served.{Served};
 ghost use Rattle.pn_serve.specs.Lines.Answered.{Answered, AnsweredInPart, Closed};
-ghost use Rattle.pn_serve.specs.Lines.Turning.{TurnsTo};
+ghost use Rattle.pn_serve.specs.Lines.Turning.{TurnsTo, EndsWithin};
+ghost use Rattle.pn_serve.specs.Lines.Waiting.{HandsOn, IsAllOut, looks_of_line};
 ghost use Rattle.pn_protocol.specs.Reply.Short.{lines_data};
 ghost use Rattle.pn_protocol.specs.Reply.Texts.{reply_text, is_refusal};
 ghost use Rattle.pn_serve.specs.Script.Written.{one_if};
+ghost use Rattle.pn_serve.specs.Session.Knowing.{KnowsNoLess};
 
 use crate::machine::line_handler::LineHandler;
 use crate::script::MAX_LINES;
@@ -28,6 +30,8 @@ pub(crate) struct LineLoop {
     alloc: Global,
     line: LineBuffer,
     blocks: Blocks,
+    // Whether a further line was seen. If not, reading it may wait for input.
+    more: bool,
     counts: Counts,
 }
 
@@ -41,7 +45,7 @@ impl Model for LineLoop {
 
     ghost coded = { line_loop_code };
 
-    ghost view = { λ run. record { line = run.line; waits = run.blocks; counts = run.counts } };
+    ghost view = { λ run. record { line = run.line; waits = run.blocks; more = run.more; counts = run.counts } };
 
     ghost invariant = { λ run. run.counts.refused ≤ run.counts.lines };
 }
@@ -64,6 +68,7 @@ impl LineLoop {
             alloc,
             line: LineBuffer::new(alloc)?,
             blocks: Blocks::new(alloc)?,
+            more: false,
             counts: Counts {
                 lines: 0,
                 refused: 0,
@@ -71,7 +76,7 @@ impl LineLoop {
         })
     }
 
-    /// Reads a line and answers it. Before it would wait for input, all replies are written.
+    /// Reads a line and answers it. If no further line was seen, all replies are written, since reading it may wait.
     pub(crate) fn turn<M: LineHandler, S: Source, W: Sink>(
         &mut self,
         machine: &mut M,
@@ -80,12 +85,18 @@ impl LineLoop {
     ) -> Result<Next, RunFault>
         requires ready { M.ready }
         requires few { self.old.counts.lines < MAX_LINES }
+        requires out { IsAllOut self.old (W.is_handed_on output.old) }
+        ensures out { result ≡ Ok Next.Line → IsAllOut self.new (W.is_handed_on output.new) }
+        ensures ends_out { result ≢ Ok Next.Line → HandsOn result (W.is_handed_on output.new) }
+        ensures looks { S.looks input.new ≤ S.looks input.old + looks_of_line }
+        ensures ends { IfOk result (λ next. next ≢ Next.Line → S.may_end) }
         ensures turns { (start : Start M) → Served M.makes start (S.left input.old) (W.contents output.old) machine.old self.old
             → TurnsTo M.makes M.ends start (S.left input.new) (W.contents output.new) machine.new self.new result }
         ensures counted { result ≡ Ok Next.Line → self.new.counts.lines ≡ self.old.counts.lines + 1 }
+        ensures few { IfOk result (EndsWithin MAX_LINES) }
         ensures read { IsErrOf result RunFault.Read → S.may_fail }
         ensures write { IsErrOf result RunFault.Write → W.may_fail }
-        ensures same { M.tablets machine.new ≡ M.tablets machine.old }
+        ensures knows { KnowsNoLess (M.reader machine.old) (M.reader machine.new) }
     {
         self.line.start();
         let Ok(end) = read_line(&mut self.line, input) else {
@@ -98,6 +109,7 @@ impl LineLoop {
                 if !more {
                     self.blocks.flush(output)?;
                 }
+                self.more = more;
                 Ok(Next::Line)
             }
             LineEnd::EndOfInput => {
@@ -123,7 +135,7 @@ impl LineLoop {
         ensures ok { OnOk result (Answered M.makes machine.old machine.new self.old self.new (W.contents output.old) (W.contents output.new)) }
         ensures err { OnErr result (AnsweredInPart M.makes machine.old machine.new self.old (W.contents output.old) (W.contents output.new)) }
         ensures fault { OnErr result W.may_fail }
-        ensures same { M.tablets machine.new ≡ M.tablets machine.old }
+        ensures knows { KnowsNoLess (M.reader machine.old) (M.reader machine.new) }
     {
         let reply = machine.answer(self.alloc, &self.line);
         self.counts.lines += 1;
@@ -139,10 +151,12 @@ impl LineLoop {
     ) -> Result<Counts, WriteFault>
         requires ready { M.ready }
         requires few { self.old.counts.lines ≤ MAX_LINES }
+        ensures few { IfOk result (λ counts. counts.lines ≤ self.old.counts.lines + 1) }
+        ensures none { self.old.line.count ≡ 0 → IfOk result (λ counts. counts.lines ≡ self.old.counts.lines) }
         ensures ok { IfOk result (λ counts. Closed M.ends machine.old machine.new self.old self.new (W.contents output.old) (W.contents output.new) counts) }
         ensures err { OnErr result (AnsweredInPart M.ends machine.old machine.new self.old (W.contents output.old) (W.contents output.new)) }
         ensures fault { OnErr result W.may_fail }
-        ensures same { M.tablets machine.new ≡ M.tablets machine.old }
+        ensures knows { KnowsNoLess (M.reader machine.old) (M.reader machine.new) }
     {
         let reply = machine.end(self.alloc, &self.line);
         let mut counts = self.counts;
@@ -167,9 +181,37 @@ impl LineLoop {
             → EndsBy M.makes M.ends start (S.left input.new) (W.contents output.new) machine.new result }
         ensures read { IsErrOf result RunFault.Read → S.may_fail }
         ensures write { IsErrOf result RunFault.Write → W.may_fail }
-        ensures same { M.tablets machine.new ≡ M.tablets machine.old }
+        ensures knows { KnowsNoLess (M.reader machine.old) (M.reader machine.new) }
+        ensures few { IfOk result (λ counts. counts.lines ≤ MAX_LINES) }
+        ensures out { HandsOn result (W.is_handed_on output.new) }
+        ensures looks { S.looks input.new ≤ S.looks input.old + 1 }
+        ensures end { OnOk result S.may_end }
     {
         self.blocks.flush(output)?;
+        self.end_here(machine, input, output)
+    }
+
+    // Looks for more input, which may wait: no reply waits then. More is a fault.
+    fn end_here<M: LineHandler, S: Source, W: Sink>(
+        &mut self,
+        machine: &mut M,
+        input: &mut S,
+        output: &mut W,
+    ) -> Result<Counts, RunFault>
+        requires ready { M.ready }
+        requires all { self.old.counts.lines ≡ MAX_LINES }
+        requires waits { self.old.waits ≡ [] }
+        requires handed_on { W.is_handed_on output.old }
+        ensures ends { (start : Start M) → Served M.makes start (S.left input.old) (W.contents output.old) machine.old self.old
+            → EndsBy M.makes M.ends start (S.left input.new) (W.contents output.new) machine.new result }
+        ensures read { IsErrOf result RunFault.Read → S.may_fail }
+        ensures write { IsErrOf result RunFault.Write → W.may_fail }
+        ensures knows { KnowsNoLess (M.reader machine.old) (M.reader machine.new) }
+        ensures few { IfOk result (λ counts. counts.lines ≤ MAX_LINES) }
+        ensures out { HandsOn result (W.is_handed_on output.new) }
+        ensures looks { S.looks input.new ≤ S.looks input.old + 1 }
+        ensures end { OnOk result S.may_end }
+    {
         let Ok(more) = input.has_more() else {
             return Err(RunFault::Read);
         };

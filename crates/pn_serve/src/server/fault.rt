@@ -9,7 +9,7 @@ pub enum ServeFault {
     /// The live region was not opened, or a thread was refused. Sessions that had started were served.
     #[error("cannot start")]
     Start,
-    /// The stream of this name has a fault. The sessions were served.
+    /// The stream of this name has a fault, or was not taken to its end. The sessions were served.
     #[error("stream {name} failed", name = .0.as_str())]
     Stream(Name),
     /// A round was refused. The sessions were served.

@@ -16,8 +16,8 @@ pub(crate) enum Report {
     Taken(Messages),
     /// The stream is at its end.
     End,
-    /// The stream of this name has a fault.
-    Fault(StreamName),
+    /// The stream has a fault.
+    Fault,
 }
 
 impl Report {
@@ -44,7 +44,7 @@ pub(crate) fn next_report<S: Source + Drop>(stream: &mut StreamReader<S>) -> Rep
     match stream.next_ready(MAX_MESSAGES) {
         Ok(delivery) if delivery.images().is_empty() => Report::End,
         Ok(delivery) => Report::Taken(Messages { delivery }),
-        Err(_) => Report::Fault(name_of(stream)),
+        Err(_) => Report::Fault,
     }
 }
 

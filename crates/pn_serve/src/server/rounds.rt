@@ -1,18 +1,20 @@
 //! Rounds of the messages that streams report.
 
-ghost use Rattle.std.specs.Prelude.{◌≡◌, ◌+◌, ◌<◌, ◌≤◌, [], ◌++◌, length, vec_len, vec_capacity, All, IfOk, IfErr};
+ghost use Rattle.std.specs.Prelude.{◌≡◌, ◌+◌, ◌<◌, ◌≤◌, [], map, vec_len, vec_capacity, All, Contains, None, Some, Ok, Err, IfOk, IfErr, IfSome, OnOk, OnErr, MatchResult};
 ghost use Rattle.pn_apply.specs.Limits.{max_workers};
 ghost use Rattle.pn_live.specs.LiveRegions.{tablets_in};
-ghost use Rattle.pn_serve.specs.Server.Faults.{of_round, IsOfReading};
+ghost use Rattle.pn_serve.specs.Server.Faults.{IsOfRounds};
+ghost use Rattle.pn_serve.specs.Server.Gathering.{IsGathered, nothing_gathered, value_of, with_report};
 ghost use Rattle.pn_serve.specs.Server.Messages.{FitRound};
-ghost use Rattle.pn_serve.specs.Server.Reports.{messages_of, ends_in, first_fault};
+ghost use Rattle.pn_serve.specs.Server.Reading.{ReadsStreams};
+ghost use Rattle.pn_serve.specs.Server.Rounds.{IsRoundRefused, IsRoundTaken, IsSmall, TakesGathered};
 
 use crate::ServeFault;
 use crate::server::messages::Messages;
 use crate::server::reports::Report;
 use crate::server::streams::Feeds;
 use pn_apply::Open;
-use pn_join::StreamName;
+use pn_join::{Dup, StreamName};
 use pn_live::{Front, LiveRegion};
 use pn_region::{Round, RoundFault};
 use pn_stream::Delivery;
@@ -40,7 +42,8 @@ pub(crate) fn take_rounds<R: Threads + Wait + Sync>(
     feeds: &Feeds,
 ) -> Result<(), ServeFault>
     requires workers { (1 ≤ workers) × (workers ≤ max_workers) }
-    ensures fault { IfErr result IsOfReading }
+    ensures reads { ReadsStreams (vec_len feeds.now.places) live.old live.new result }
+    ensures named { IfErr result (IsOfRounds (map (λ place. place.name) feeds.now.places.items)) }
     ensures same { tablets_in live.new ≡ tablets_in live.old }
 {
     let mut reading = feeds.count();
@@ -49,57 +52,34 @@ pub(crate) fn take_rounds<R: Threads + Wait + Sync>(
             break;
         }
         feeds.wait(rt);
-        let ended = take_round(rt, alloc, live, workers, feeds)?;
+        let gathered = gather(rt, alloc, feeds)?;
+        let ended = take_gathered(rt, live, workers, gathered)?;
         reading = reading.saturating_sub(ended);
     }
     Ok(())
 }
 
-// Runs one round. Answers how many streams ended.
-fn take_round<R: Threads + Wait + Sync>(
-    rt: &R,
-    alloc: Global,
-    live: &mut LiveRegion,
-    workers: usize,
-    feeds: &Feeds,
-) -> Result<usize, ServeFault>
-    requires workers { (1 ≤ workers) × (workers ≤ max_workers) }
-    ensures fault { IfErr result IsOfReading }
-    ensures same { tablets_in live.new ≡ tablets_in live.old }
+// Takes one report of each stream that has one. The fault is out of memory, before a report is taken.
+fn gather<R: Wait>(rt: &R, alloc: Global, feeds: &Feeds) -> Result<Gathered, ServeFault>
+    ensures gathered { IfOk result (λ gathered. IsGathered (map (λ place. place.name) feeds.now.places.items) (value_of gathered)) }
+    ensures small { IfOk result (λ gathered. IsSmall (vec_len feeds.now.places) (value_of gathered)) }
+    ensures named { IfOk result (λ gathered. IfSome gathered.fault (Contains (map (λ place. place.name) feeds.now.places.items))) }
+    ensures fault { IfErr result (λ fault. fault ≡ ServeFault.Round) }
 {
-    let Ok(gathered) = gather(rt, alloc, feeds) else {
+    let Ok(mut gathered) = nothing(alloc, feeds.count()) else {
         return Err(ServeFault::Round);
     };
-    let Gathered {
-        deliveries,
-        ended,
-        fault,
-    } = gathered;
-    let round = take(rt, live, workers, deliveries);
-    outcome(fault, round)?;
-    Ok(ended)
-}
-
-// Takes one report of each stream that has one.
-fn gather<R: Wait>(rt: &R, alloc: Global, feeds: &Feeds) -> Result<Gathered, AllocError>
-    ensures fit { IfOk result (λ gathered. All FitRound gathered.deliveries.items) }
-    ensures few { IfOk result (λ gathered. vec_len gathered.deliveries ≤ vec_len feeds.now.mailboxes) }
-{
-    let mut gathered = nothing(alloc, feeds.count())?;
-    for stream in 0..feeds.count() {
-        if let Some(report) = feeds.take(rt, stream) {
-            add_report(&mut gathered, report);
-        }
+    for place in feeds.places.iter() {
+        let report = place.mailbox.take(rt);
+        add_note(&mut gathered, &place.name, report);
     }
     Ok(gathered)
 }
 
 // No reports, with room for those of this many streams.
 fn nothing(alloc: Global, streams: usize) -> Result<Gathered, AllocError>
-    ensures none { IfOk result (λ gathered. gathered.deliveries.items ≡ []) }
+    ensures none { IfOk result (λ gathered. value_of gathered ≡ nothing_gathered) }
     ensures room { IfOk result (λ gathered. vec_capacity gathered.deliveries ≡ streams) }
-    ensures ended { IfOk result (λ gathered. gathered.ended ≡ 0) }
-    ensures fault { IfOk result (λ gathered. gathered.fault ≡ None) }
 {
     Ok(Gathered {
         deliveries: Vec::with_capacity(alloc, streams)?,
@@ -108,25 +88,70 @@ fn nothing(alloc: Global, streams: usize) -> Result<Gathered, AllocError>
     })
 }
 
-// Adds the report of a stream.
-fn add_report(gathered: &mut Gathered, report: Report)
+// Adds what the mailbox of the stream of a name gave.
+fn add_note(gathered: &mut Gathered, name: &StreamName, report: Option<Report>)
     requires room { vec_len gathered.old.deliveries < vec_capacity gathered.old.deliveries }
     requires few { gathered.old.ended < vec_capacity gathered.old.deliveries }
-    ensures deliveries { gathered.new.deliveries.items ≡ gathered.old.deliveries.items ++ messages_of report }
-    ensures ended { gathered.new.ended ≡ gathered.old.ended + ends_in report }
-    ensures fault { gathered.new.fault ≡ first_fault gathered.old.fault report }
+    ensures added { value_of gathered.new ≡ with_report (value_of gathered.old) name.now report }
     ensures fit { All FitRound gathered.old.deliveries.items → All FitRound gathered.new.deliveries.items }
+    ensures one { vec_len gathered.new.deliveries ≤ vec_len gathered.old.deliveries + 1 }
+    ensures end { gathered.new.ended ≤ gathered.old.ended + 1 }
+    ensures capacity { vec_capacity gathered.new.deliveries ≡ vec_capacity gathered.old.deliveries }
+{
+    if let Some(report) = report {
+        add_report(gathered, name, report);
+    }
+}
+
+// Adds the report of the stream of a name.
+fn add_report(gathered: &mut Gathered, name: &StreamName, report: Report)
+    requires room { vec_len gathered.old.deliveries < vec_capacity gathered.old.deliveries }
+    requires few { gathered.old.ended < vec_capacity gathered.old.deliveries }
+    ensures added { value_of gathered.new ≡ with_report (value_of gathered.old) name.now (Some report) }
+    ensures fit { All FitRound gathered.old.deliveries.items → All FitRound gathered.new.deliveries.items }
+    ensures one { vec_len gathered.new.deliveries ≤ vec_len gathered.old.deliveries + 1 }
+    ensures end { gathered.new.ended ≤ gathered.old.ended + 1 }
     ensures capacity { vec_capacity gathered.new.deliveries ≡ vec_capacity gathered.old.deliveries }
 {
     match report {
         Report::Taken(Messages { delivery }) => gathered.deliveries.push_reserved(delivery),
         Report::End => gathered.ended += 1,
-        Report::Fault(name) => {
+        Report::Fault => {
             if gathered.fault.is_none() {
-                gathered.fault = Some(name);
+                gathered.fault = Some(same_name(name));
             }
         }
     }
+}
+
+fn same_name(name: &StreamName) -> StreamName
+    ensures { result ≡ name.now }
+{
+    let Ok(name) = name.dup() else {
+        unreachable!()
+    };
+    name
+}
+
+// Runs one round of what was gathered, also if a stream has a fault. Answers how many streams ended.
+fn take_gathered<R: Threads + Wait + Sync>(
+    rt: &R,
+    live: &mut LiveRegion,
+    workers: usize,
+    gathered: Gathered,
+) -> Result<usize, ServeFault>
+    requires workers { (1 ≤ workers) × (workers ≤ max_workers) }
+    requires fit { All FitRound gathered.deliveries.items }
+    ensures takes { TakesGathered (value_of gathered) live.old live.new result }
+    ensures same { tablets_in live.new ≡ tablets_in live.old }
+{
+    let Gathered {
+        deliveries,
+        ended,
+        fault,
+    } = gathered;
+    let round = take(rt, live, workers, deliveries);
+    outcome(fault, ended, round)
 }
 
 // Runs one round of messages, at most 1,000 of each stream.
@@ -138,22 +163,25 @@ fn take<R: Threads + Wait + Sync>(
 ) -> Result<(Round, Front), RoundFault>
     requires workers { (1 ≤ workers) × (workers ≤ max_workers) }
     requires fit { All FitRound deliveries.items }
+    ensures taken { OnOk result (IsRoundTaken live.old deliveries.items live.new) }
+    ensures refused { OnErr result (IsRoundRefused live.old deliveries.items live.new) }
     ensures same { tablets_in live.new ≡ tablets_in live.old }
 {
     live.round(rt, deliveries, workers, &Open)
 }
 
-// A stream's fault outranks the round's.
+// How many streams ended, unless a stream has a fault, which outranks the round's.
 fn outcome(
     fault: Option<StreamName>,
+    ended: usize,
     round: Result<(Round, Front), RoundFault>,
-) -> Result<(), ServeFault>
-    ensures first { result ≡ of_round fault round }
-    ensures reading { IfErr result IsOfReading }
+) -> Result<usize, ServeFault>
+    ensures stream { IfSome fault (λ name. result ≡ Err (ServeFault.Stream name)) }
+    ensures round { fault ≡ None → MatchResult round (λ _. result ≡ Ok ended) (λ _. result ≡ Err ServeFault.Round) }
 {
     match (fault, round) {
         (Some(name), _) => Err(ServeFault::Stream(name)),
         (None, Err(_)) => Err(ServeFault::Round),
-        (None, Ok(_)) => Ok(()),
+        (None, Ok(_)) => Ok(ended),
     }
 }

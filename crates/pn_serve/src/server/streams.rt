@@ -1,14 +1,15 @@
 //! Reads streams, each in its own thread, which leaves reports in its mailbox.
 
-ghost use Rattle.std.specs.Prelude.{◌≡◌, ◌+◌, ◌<◌, ◌∷◌, [], ◌++◌, length, map, vec_len, IfOk, IfErr, OnOk};
-ghost use Rattle.pn_serve.specs.Server.Faults.{IsOfReading};
-ghost use Rattle.pn_serve.specs.Server.Whole.{IsWhole, AreWhole};
+ghost use Rattle.std.specs.Prelude.{◌≡◌, ◌≤◌, ◌∷◌, [], ◌++◌, map, vec_len, All, IfOk, IfErr, IsErr, OnOk, OnErr, MatchResult};
+ghost use Rattle.pn_join.specs.Marks.{position_of};
+ghost use Rattle.pn_serve.specs.Server.Faults.{NamesOne, names_of};
+ghost use Rattle.pn_serve.specs.Server.Whole.{EndsStream, IsTaken};
 
 use crate::ServeFault;
 use crate::server::bell::Bell;
 use crate::server::mailbox::Mailbox;
-use crate::server::reports::{Report, name_of, next_report};
-use pn_join::StreamName;
+use crate::server::reports::{name_of, next_report};
+use pn_join::{Marks, StreamName};
 use pn_line::Source;
 use pn_stream::StreamReader;
 use std::alloc::{AllocError, Global};
@@ -17,33 +18,46 @@ use std::sync::{Arc, Wait};
 use std::thread;
 use std::thread::{Promise, PromisedHandle, Threads};
 
+/// The end of a stream: its name, and the position of its last message.
+#[derive(Drop)]
+pub(crate) struct StreamEnd {
+    pub(crate) name: StreamName,
+    pub(crate) last: u64,
+}
+
 /// Promises that `Ok` means the whole stream was read. An error is the stream's name.
 #[derive(Drop)]
 pub(crate) struct SaysWhetherWhole<S: Source + Drop>(Snapshot<StreamReader<S>>);
 
-impl<S: Source + Drop> Promise<Result<(), StreamName>> for SaysWhetherWhole<S> {
-    ghost use Rattle.std.specs.Prelude.{OnOk};
-    ghost use Rattle.pn_serve.specs.Server.Whole.{IsWhole};
+impl<S: Source + Drop> Promise<Result<StreamEnd, StreamName>> for SaysWhetherWhole<S> {
+    ghost use Rattle.pn_serve.specs.Server.Whole.{EndsStream};
 
-    ghost kept_by = { λ promise ended. OnOk ended (IsWhole S.left promise.0.value) };
+    ghost kept_by = { λ promise ended. EndsStream S.left promise.0.value ended };
 }
 
 /// The thread of a stream.
-pub(crate) type Feeding<S> = PromisedHandle<Result<(), StreamName>, SaysWhetherWhole<S>>;
+pub(crate) type Feeding<S> = PromisedHandle<Result<StreamEnd, StreamName>, SaysWhetherWhole<S>>;
 
-/// The mailboxes of the streams, and the bell that their threads ring.
+/// The mailbox of the stream of a name.
+#[derive(Drop)]
+pub(crate) struct Place {
+    pub(crate) name: StreamName,
+    pub(crate) mailbox: Arc<Mailbox>,
+}
+
+/// The places of the streams, and the bell that their threads ring.
 #[derive(Drop)]
 pub(crate) struct Feeds {
-    pub(crate) mailboxes: Vec<Arc<Mailbox>>,
+    pub(crate) places: Vec<Place>,
     bell: Arc<Bell>,
 }
 
 impl Feeds {
     /// The number of streams.
     pub(crate) fn count(&self) -> usize
-        ensures { result ≡ vec_len self.now.mailboxes }
+        ensures { result ≡ vec_len self.now.places }
     {
-        self.mailboxes.len()
+        self.places.len()
     }
 
     /// Waits until a report is left, or was left since the last call.
@@ -51,17 +65,10 @@ impl Feeds {
         self.bell.wait(rt);
     }
 
-    /// Takes the report of a stream, if there is one.
-    pub(crate) fn take<R: Wait>(&self, rt: &R, stream: usize) -> Option<Report>
-        requires { stream < vec_len self.now.mailboxes }
-    {
-        self.mailboxes[stream].take(rt)
-    }
-
     /// Ends the reading. Each thread ends after its current wait for messages.
     pub(crate) fn close<R: Wait>(&self, rt: &R) {
-        for mailbox in self.mailboxes.iter() {
-            mailbox.close(rt);
+        for place in self.places.iter() {
+            place.mailbox.close(rt);
         }
     }
 }
@@ -82,11 +89,12 @@ pub(crate) fn begin_reading<R, S>(
 where
     R: Threads + Wait + Copy + Send + 'static,
     S: Source + Drop + Send + 'static,
-    ensures { IfOk result (λ reading. map (λ thread. thread.promise.0.value) reading.threads.items ≡ streams.items) }
+    ensures threads { IfOk result (λ reading. map (λ thread. thread.promise.0.value) reading.threads.items ≡ streams.items) }
+    ensures names { IfOk result (λ reading. map (λ place. place.name) reading.feeds.places.items ≡ names_of streams.items) }
 {
     let mut reading = Reading {
         feeds: Feeds {
-            mailboxes: Vec::with_capacity(alloc, streams.len())?,
+            places: Vec::with_capacity(alloc, streams.len())?,
             bell: Arc::new(alloc, Bell::new())?,
         },
         threads: Vec::with_capacity(alloc, streams.len())?,
@@ -109,12 +117,17 @@ fn begin_one<R, S>(
 where
     R: Threads + Wait + Copy + Send + 'static,
     S: Source + Drop + Send + 'static,
-    ensures { OnOk result (map (λ thread. thread.promise.0.value) reading.new.threads.items
+    ensures threads { OnOk result (map (λ thread. thread.promise.0.value) reading.new.threads.items
         ≡ map (λ thread. thread.promise.0.value) reading.old.threads.items ++ stream ∷ []) }
+    ensures names { OnOk result (map (λ place. place.name) reading.new.feeds.places.items
+        ≡ map (λ place. place.name) reading.old.feeds.places.items ++ stream.name ∷ []) }
 {
     let mailbox = Arc::new(alloc, Mailbox::new())?;
     let bell = Arc::try_clone(&reading.feeds.bell)?;
-    reading.feeds.mailboxes.push(Arc::try_clone(&mailbox)?)?;
+    reading.feeds.places.push(Place {
+        name: name_of(&stream),
+        mailbox: Arc::try_clone(&mailbox)?,
+    })?;
     let host = *rt;
     let promise = SaysWhetherWhole(Snapshot::of(&stream));
     let thread = thread::spawn_with(rt, promise, move || {
@@ -130,8 +143,8 @@ fn leave_all<R: Wait, S: Source + Drop>(
     stream: StreamReader<S>,
     mailbox: &Mailbox,
     bell: &Bell,
-) -> Result<(), StreamName>
-    ensures { OnOk result (IsWhole S.left stream) }
+) -> Result<StreamEnd, StreamName>
+    ensures { EndsStream S.left stream result }
 {
     let mut stream = stream;
     for _ in rt.forever() {
@@ -141,7 +154,10 @@ fn leave_all<R: Wait, S: Source + Drop>(
         let is_wanted = mailbox.leave(rt, report);
         bell.ring(rt);
         if is_end {
-            return Ok(());
+            return Ok(StreamEnd {
+                name: name_of(&stream),
+                last: stream.position(),
+            });
         }
         if !is_taken || !is_wanted {
             break;
@@ -150,18 +166,40 @@ fn leave_all<R: Wait, S: Source + Drop>(
     Err(name_of(&stream))
 }
 
-/// Waits for the threads of streams. The error is the first stream that was not read to its end.
+/// Waits for the threads of streams. The error is the first stream that was not read to its end, or that the marks fall
+/// short of.
 pub(crate) fn end_reading<R: Threads, S: Source + Drop>(
     rt: &R,
     threads: Vec<Feeding<S>>,
+    marks: &Marks,
 ) -> Result<(), ServeFault>
-    ensures whole { OnOk result (AreWhole S.left (map (λ thread. thread.promise.0.value) threads.items)) }
-    ensures fault { IfErr result IsOfReading }
+    ensures taken { OnOk result (All (IsTaken S.left marks.now) (map (λ thread. thread.promise.0.value) threads.items)) }
+    ensures named { IfErr result (NamesOne (map (λ thread. thread.promise.0.value.name) threads.items)) }
 {
     for thread in threads {
-        if let Err(name) = thread.join(rt) {
-            return Err(ServeFault::Stream(name));
-        }
+        taken_whole(thread.join(rt), marks)?;
+    }
+    Ok(())
+}
+
+// Whether the marks reach the last message of a stream that was read to its end.
+fn taken_whole(ended: Result<StreamEnd, StreamName>, marks: &Marks) -> Result<(), ServeFault>
+    ensures taken { OnOk result (IfOk ended (λ end. end.last ≤ position_of marks.now end.name)) }
+    ensures whole { OnErr ended (IsErr result) }
+    ensures named { IfErr result (λ fault. MatchResult ended (λ end. fault ≡ ServeFault.Stream end.name) (λ name. fault ≡ ServeFault.Stream name)) }
+{
+    match ended {
+        Ok(end) => has_reached(end, marks),
+        Err(name) => Err(ServeFault::Stream(name)),
+    }
+}
+
+fn has_reached(end: StreamEnd, marks: &Marks) -> Result<(), ServeFault>
+    ensures taken { OnOk result (end.last ≤ position_of marks.now end.name) }
+    ensures named { IfErr result (λ fault. fault ≡ ServeFault.Stream end.name) }
+{
+    if marks.position(&end.name) < end.last {
+        return Err(ServeFault::Stream(end.name));
     }
     Ok(())
 }

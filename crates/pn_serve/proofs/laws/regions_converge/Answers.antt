@@ -4,7 +4,7 @@ use Rattle.pn_join.specs.Laws.{JoinLaws}
 use Rattle.pn_join.specs.Proofs.TableLaws.{key_by_key-laws}
 use Rattle.pn_record.specs.Laws.JoinedCells.{cell_joined-laws}
 use Rattle.pn_serve.proofs.PlainLines.{any_record, nothing_lost}
-use Rattle.pn_serve.proofs.ScriptLaws.{both_records, same_replies, line_held, lines_held}
+use Rattle.pn_serve.proofs.ScriptLaws.{both_records, same_replies, line_held, end_held, input_held}
 use Rattle.pn_serve.proofs.laws.regions_converge.Goals as goal
 
 pub returns-clause-records : goal.returns-clause-records
@@ -30,13 +30,13 @@ pub returns-clause-tables_join : goal.returns-clause-tables_join
 returns-clause-tables_join c = (key_by_key-laws max-laws, key_by_key-laws cell_joined-laws)
 
 pub returns-clause-no_older : goal.returns-clause-no_older
-returns-clause-no_older c = λ told outcome text key serves serves_too. line_held told outcome text key serves serves_too
+returns-clause-no_older c = λ told outcome text key. (line_held told outcome text key, end_held told outcome text key)
 
 pub returns-clause-nor_later : goal.returns-clause-nor_later
-returns-clause-nor_later c = λ broker told more goes key honest honest_too serves serves_too. lines_held broker told more goes key honest honest_too serves serves_too
+returns-clause-nor_later c = λ broker told more key honest honest_too serves serves_too. input_held broker told more key honest honest_too serves serves_too
 
 pub returns-clause-any_record : goal.returns-clause-any_record
-returns-clause-any_record c = λ broker other told plain. any_record told.layout broker other told.lines told.outcomes plain
+returns-clause-any_record c = λ broker other told plain. any_record told.layout broker other told.input plain
 
 pub returns-clause-no_losses : goal.returns-clause-no_losses
-returns-clause-no_losses c = λ told stay. nothing_lost told.layout told.lines told.outcomes stay
+returns-clause-no_losses c = λ told stay. nothing_lost told.layout told.input stay

@@ -1,9 +1,13 @@
 -- The line was answered by its kept bytes.
 use Rattle.std.proofs.Common.{List, ℕ, subst}
 use Rattle.pn_serve.specs.Session.Lines.{AnswersLine}
+use Rattle.pn_serve.proofs.Knowing.{line_knows}
 use Rattle.pn_serve.proofs.Lookups.{answers_so_far}
 use Rattle.pn_serve.proofs.sessions.LiveReaderLineHandler.answer.Goals as goal
 
 pub returns-clause-makes : goal.returns-clause-makes
 returns-clause-makes c text is =
     answers_so_far _ _ c.args.line.now text _ is (subst (λ (bytes : List ℕ). AnswersLine c.args.self.now bytes c.answer.new.reader c.answer.result) c.bytes.ensures c.answer.ensures.answers)
+
+pub returns-clause-knows : goal.returns-clause-knows
+returns-clause-knows c = line_knows _ _ _ _ c.answer.ensures.answers

@@ -3,6 +3,7 @@ use Rattle.std.proofs.Common.{List, ℕ, ap, ◌∙◌, subst}
 use Rattle.pn_serve.specs.Machine.Modes.{with_mode}
 use Rattle.pn_serve.specs.Machine.Outcomes.{Machine}
 use Rattle.pn_serve.specs.Machine.Answers.{Answers}
+use Rattle.pn_serve.proofs.Knowing.{knows_itself}
 use Rattle.pn_serve.proofs.LongLines.{answers_kept}
 use Rattle.pn_serve.proofs.machine.script_handler.ScriptHandlerLineHandler.answer.Goals as goal
 
@@ -13,3 +14,6 @@ returns-clause-makes g c text is =
     answers_kept c.args.self.now _ c.args.line.now text c.answer-reply.result.0 is
     (subst (λ (m : Machine). Answers m c.args.line.now.bytes (with_mode c.answer-reply.result.1 c.answer-reply.new.region) c.answer-reply.result.0) was
     (subst (λ (bytes : List ℕ). Answers (with_mode c.take-waiting.result inside.region) bytes (with_mode c.answer-reply.result.1 c.answer-reply.new.region) c.answer-reply.result.0) c.bytes-bytes.ensures c.answer-reply.ensures))
+
+pub returns-clause-knows : goal.returns-clause-knows
+returns-clause-knows g c = knows_itself _

@@ -3,6 +3,7 @@ use Rattle.std.proofs.Common.{List, ℕ, sym, ap, ◌∙◌, subst}
 use Rattle.pn_serve.specs.Machine.Modes.{with_mode}
 use Rattle.pn_serve.specs.Machine.Outcomes.{Machine, waiting}
 use Rattle.pn_serve.specs.Machine.Answers.{Concludes}
+use Rattle.pn_serve.proofs.Knowing.{knows_itself}
 use Rattle.pn_serve.proofs.LongLines.{concludes_kept}
 use Rattle.pn_serve.proofs.machine.script_handler.ScriptHandlerLineHandler.end.Goals as goal
 
@@ -15,3 +16,6 @@ returns-clause-ends g c text is =
     (concludes_kept c.args.self.now (waiting c.end.new.region) c.args.part.now text c.end.result is
     (subst (λ (m : Machine). Concludes m c.args.part.now.bytes (waiting c.end.new.region) c.end.result) was
     (subst (λ (bytes : List ℕ). Concludes (with_mode c.take-announced.result inside.region) bytes (waiting c.end.new.region) c.end.result) c.bytes-bytes.ensures c.end.ensures)))
+
+pub returns-clause-knows : goal.returns-clause-knows
+returns-clause-knows g c = knows_itself _

@@ -1,7 +1,8 @@
 -- Each line goes on from those answered before.
 use Rattle.std.proofs.Common.{refl, sym, subst, ap}
 use Rattle.pn_serve.specs.Lines.Served.{Served}
-use Rattle.pn_serve.proofs.Serving.{OnTold, Goes_on, Flushes, Ends_closed}
+use Rattle.pn_serve.proofs.Knowing.{knows_itself}
+use Rattle.pn_serve.proofs.Serving.{OnTold, Goes_on, Stays, Flushes, Ends_closed}
 use Rattle.pn_serve.proofs.Stopping.{Turn_write, Cut_between, Cut_part, Cut_line, Cut_last, Cut_after, Broken_in, Exceeded_bytes}
 use Rattle.pn_serve.proofs.script.line_loop.LineLoop.turn.Goals as goal
 
@@ -54,7 +55,7 @@ returns-else-not-more-clause-turns g c start served =
     let ends = g.M.LineHandler.ends in
     let takes = rw (c.in-Newline.is, c.start.ensures) at c.in-Ok.ensures.takes in
     let below = c.in-Ok.ensures.below (λ endless. let newline = c.in-Newline.is in cc) in
-    OnTold _ _ _ (λ script between. Goes_on makes ends start script _ _ _ _ _ _ _ _ _ between takes below c.in_ok-answer_line-in-Newline.ensures.ok) (subst (Served makes start _ _ _) (sym c.self.view_is) served)
+    OnTold _ _ _ (λ script between. Stays makes ends start script _ _ _ _ _ (Goes_on makes ends start script _ _ _ _ _ _ _ _ _ between takes below c.in_ok-answer_line-in-Newline.ensures.ok) refl refl) (subst (Served makes start _ _ _) (sym c.self.view_is) served)
 
 pub returns-in_err-counts-in-EndOfInput-clause-turns : goal.returns-in_err-counts-in-EndOfInput-clause-turns
 returns-in_err-counts-in-EndOfInput-clause-turns g c start served =
@@ -104,3 +105,15 @@ returns-in_ok-flush-in-Endless-clause-turns g c start served =
     let endless = c.in-Ok.ensures.endless.0 c.in-Endless.is in
     let few = rw (sym c.self.view_is) at c.requires.few in
     OnTold _ _ _ (λ script between. Exceeded_bytes makes ends start script _ _ _ _ _ _ _ between takes endless few c.in_ok-flush-in-Endless.ensures.ok) (subst (Served makes start _ _ _) (sym c.self.view_is) served)
+
+pub returns-in_err-flush-clause-knows : goal.returns-in_err-flush-clause-knows
+returns-in_err-flush-clause-knows g c = knows_itself _
+
+pub returns-in_default-clause-knows : goal.returns-in_default-clause-knows
+returns-in_default-clause-knows g c = knows_itself _
+
+pub returns-in_err-flush-in-Endless-clause-knows : goal.returns-in_err-flush-in-Endless-clause-knows
+returns-in_err-flush-in-Endless-clause-knows g c = knows_itself _
+
+pub returns-in_ok-flush-in-Endless-clause-knows : goal.returns-in_ok-flush-in-Endless-clause-knows
+returns-in_ok-flush-in-Endless-clause-knows g c = knows_itself _

@@ -1,0 +1,85 @@
+-- Rounds of what was gathered, one after another.
+use Rattle.std.proofs.Common.{◌≡◌, ◌⊎◌, ℕ, ◌+◌, ◌-◌, ◌≤◌, List, [], ◌∷◌, ◌++◌, Option, None, Some, IfSome, IfOk, IfErr, OnOk, OnErr, inl, inr, refl, sym, ap, ◌∙◌, subst, arith}
+use Rattle.std.specs.Prelude.{Result, Ok, Err, MatchResult}
+use Rattle.pn_stream.specs.Positions.{DeliveryValue}
+use Rattle.pn_tablet.specs.Refusals.{Refuses}
+use Rattle.pn_region.specs.Marking.{is_memory}
+use Rattle.pn_region.specs.Rounds.{round}
+use Rattle.pn_region.specs.declared.fault.RoundFault.{RoundFault}
+use Rattle.pn_live.specs.LiveRegions.{LiveRegionValue, core, LeavesLive}
+use Rattle.pn_serve.specs.Server.Reading.{AllTaken, ends_of, ReadToEnds, ReadUpTo, StopsAt}
+use Rattle.pn_serve.specs.Server.Rounds.{GatheredValue, IsSmall, IsRoundTaken, IsRoundRefused, TakesGathered}
+use Rattle.pn_serve.specs.declared.server.fault.ServeFault.{ServeFault}
+use Rattle.pn_serve.specs.declared.server.fault.ServeFault.TheVariants.{Start, Stream, Round, Close, Write}
+
+-- the round was refused with a fault
+pub refused_by : {T : Type 0} (result : Result T RoundFault) (old : LiveRegionValue) (deliveries : List DeliveryValue) (new : LiveRegionValue) → IfErr result (λ fault. Refuses is_memory fault (round (core old) deliveries))
+    → IfErr result (λ fault. LeavesLive fault old deliveries new) → OnErr result (IsRoundRefused old deliveries new)
+refused_by (Ok done) old deliveries new refuses left = tt
+refused_by (Err fault) old deliveries new refuses left = record { fault = fault; refused = refuses; left = left }
+
+run_either : {T : Type 0} (result : Result T RoundFault) (old : LiveRegionValue) (deliveries : List DeliveryValue) (new : LiveRegionValue) → OnOk result (IsRoundTaken old deliveries new) → OnErr result (IsRoundRefused old deliveries new)
+    → IsRoundTaken old deliveries new ⊎ IsRoundRefused old deliveries new
+run_either (Ok done) old deliveries new taken refused = inl taken
+run_either (Err fault) old deliveries new taken refused = inr refused
+
+-- what was gathered was taken as a round
+pub takes : {T : Type 0} (gathered : GatheredValue) (old new : LiveRegionValue) (run : Result T RoundFault) (result : Result ℕ ServeFault)
+    → OnOk run (IsRoundTaken old gathered.deliveries new) → OnErr run (IsRoundRefused old gathered.deliveries new)
+    → IfSome gathered.fault (λ name. result ≡ Err (Stream name)) → (gathered.fault ≡ None → MatchResult run (λ _. result ≡ Ok gathered.ended) (λ _. result ≡ Err Round))
+    → TakesGathered gathered old new result
+takes {T} gathered old new run result taken refused named unnamed = at gathered.fault refl
+  where
+    unless : (ran : Result T RoundFault) → gathered.fault ≡ None → OnOk ran (IsRoundTaken old gathered.deliveries new) → OnErr ran (IsRoundRefused old gathered.deliveries new)
+        → MatchResult ran (λ _. result ≡ Ok gathered.ended) (λ _. result ≡ Err Round) → TakesGathered gathered old new result
+    unless (Ok done) none taken refused is = subst (TakesGathered gathered old new) (sym is) (none, refl, taken)
+    unless (Err fault) none taken refused is = subst (TakesGathered gathered old new) (sym is) (none, refused)
+
+    at : (fault : Option (List ℕ)) → gathered.fault ≡ fault → TakesGathered gathered old new result
+    at None none = unless run none taken refused (unnamed none)
+    at (Some name) some =
+        let is : result ≡ Err (Stream name) = subst (λ (f : Option (List ℕ)). IfSome f (λ n. result ≡ Err (Stream n))) some named in
+        subst (TakesGathered gathered old new) (sym is) (some, run_either run old gathered.deliveries new taken refused)
+
+-- one more round went well
+pub taken_push : (streams : ℕ) (old : LiveRegionValue) (rounds : List GatheredValue) (between : LiveRegionValue) (gathered : GatheredValue) (new : LiveRegionValue) (ended : ℕ) → AllTaken streams old rounds between
+    → IsSmall streams gathered → TakesGathered gathered between new (Ok ended) → AllTaken streams old (rounds ++ gathered ∷ []) new
+taken_push streams old [] between gathered new ended all small takes =
+    let is : TakesGathered gathered between new (Ok gathered.ended) = (takes.0, refl, takes.2) in
+    (new, small, subst (λ (was : LiveRegionValue). TakesGathered gathered was new (Ok gathered.ended)) all is, refl)
+taken_push streams old (first ∷ rounds) between gathered new ended all small takes =
+    (all.0, all.1, all.2, taken_push streams all.0 rounds between gathered new ended all.3 small takes)
+
+pub ends_push : (rounds : List GatheredValue) (gathered : GatheredValue) → ends_of (rounds ++ gathered ∷ []) ≡ ends_of rounds + gathered.ended
+ends_push [] gathered = omega arith
+ends_push (first ∷ rounds) gathered = let rest = ends_push rounds gathered in omega (arith, rest)
+
+-- the rounds so far, and how many streams are still read
+pub record SoFar (streams reading : ℕ) (old new : LiveRegionValue) : Type 0 where
+  pub rounds : List GatheredValue
+  pub taken : AllTaken streams old rounds new
+  pub ended : streams ≤ reading + ends_of rounds
+
+pub none_yet : (streams : ℕ) (old : LiveRegionValue) → SoFar streams streams old old
+none_yet streams old = record { rounds = []; taken = refl; ended = omega arith }
+
+pub one_more : (streams reading left ended : ℕ) (old between new : LiveRegionValue) (gathered : GatheredValue) → SoFar streams reading old between → IsSmall streams gathered
+    → TakesGathered gathered between new (Ok ended) → reading ≤ left + ended → SoFar streams left old new
+one_more streams reading left ended old between new gathered so small takes count =
+    let ends = ends_push so.rounds gathered in
+    let is : ended ≡ gathered.ended = takes.1 in record {
+      rounds = so.rounds ++ gathered ∷ [];
+      taken = taken_push streams old so.rounds between gathered new ended so.taken small takes;
+      ended = omega (arith, so.ended, ends, is, count);
+    }
+
+pub all_read : (streams reading : ℕ) (old new : LiveRegionValue) → SoFar streams reading old new → reading ≡ 0 → ReadToEnds streams old new
+all_read streams reading old new so none = record { rounds = so.rounds; taken = so.taken; ended = omega (arith, so.ended, none) }
+
+pub stopped : (streams reading : ℕ) (old between new : LiveRegionValue) (gathered : GatheredValue) (fault : ServeFault) → SoFar streams reading old between → IsSmall streams gathered
+    → TakesGathered gathered between new (Err fault) → ReadUpTo streams old new fault
+stopped streams reading old between new gathered fault so small takes =
+    record { rounds = so.rounds; last = between; taken = so.taken; stops = inl (gathered, small, takes) }
+
+pub not_gathered : (streams reading : ℕ) (old new : LiveRegionValue) (fault : ServeFault) → SoFar streams reading old new → fault ≡ Round → ReadUpTo streams old new fault
+not_gathered streams reading old new fault so is = record { rounds = so.rounds; last = new; taken = so.taken; stops = inr (is, refl) }

@@ -1,0 +1,40 @@
+-- All rounds of a live region that reads streams.
+use Rattle.std.specs.Prelude.{◌≡◌, ◌⊎◌, ℕ, ◌+◌, ◌≤◌, List, [], ◌∷◌, Result, Ok, Err}
+use Rattle.pn_live.specs.LiveRegions.{LiveRegionValue}
+use Rattle.pn_serve.specs.Server.Rounds.{GatheredValue, IsSmall, TakesGathered}
+use Rattle.pn_serve.specs.declared.server.fault.ServeFault.{ServeFault}
+use Rattle.pn_serve.specs.declared.server.fault.ServeFault.TheVariants.{Round}
+
+-- what was gathered from at most so many streams was taken, round by round
+abbrev pub AllTaken : ℕ → LiveRegionValue → List GatheredValue → LiveRegionValue → Type 0
+AllTaken streams old [] new = new ≡ old
+AllTaken streams old (gathered ∷ later) new =
+    (between : LiveRegionValue) × IsSmall streams gathered × TakesGathered gathered old between (Ok gathered.ended) × AllTaken streams between later new
+
+-- how many streams ended
+abbrev pub ends_of : List GatheredValue → ℕ
+ends_of [] = 0
+ends_of (gathered ∷ later) = gathered.ended + ends_of later
+
+-- every round went well, and all streams ended
+pub record ReadToEnds (streams : ℕ) (old new : LiveRegionValue) : Type 0 where
+  pub rounds : List GatheredValue
+  pub taken : AllTaken streams old rounds new
+  pub ended : streams ≤ ends_of rounds
+
+-- the next round has this fault, or there was no memory to gather for it
+abbrev pub StopsAt : ℕ → LiveRegionValue → LiveRegionValue → ServeFault → Type 0
+StopsAt streams old new fault =
+    ((gathered : GatheredValue) × IsSmall streams gathered × TakesGathered gathered old new (Err fault)) ⊎ ((fault ≡ Round) × (new ≡ old))
+
+-- some rounds went well, and the next has this fault
+pub record ReadUpTo (streams : ℕ) (old new : LiveRegionValue) (fault : ServeFault) : Type 0 where
+  pub rounds : List GatheredValue
+  pub last : LiveRegionValue
+  pub taken : AllTaken streams old rounds last
+  pub stops : StopsAt streams last new fault
+
+-- all streams were read, or a fault came
+abbrev pub ReadsStreams : {T : Type 0} → ℕ → LiveRegionValue → LiveRegionValue → Result T ServeFault → Type 0
+ReadsStreams streams old new (Ok done) = ReadToEnds streams old new
+ReadsStreams streams old new (Err fault) = ReadUpTo streams old new fault

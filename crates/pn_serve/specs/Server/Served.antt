@@ -1,0 +1,48 @@
+-- How serving ends.
+use Rattle.std.specs.Prelude.{◌≡◌, ℕ, List, length, All, Contains, Option, Result, Ok, Err}
+use Rattle.pn_stream.specs.Batches.{Stream}
+use Rattle.pn_tablet.specs.Layouts.{Bounds}
+use Rattle.pn_live.specs.LiveRegions.{LiveRegionValue, IsNewLive}
+use Rattle.pn_serve.specs.Server.Faults.{names_of}
+use Rattle.pn_serve.specs.Server.Reading.{ReadToEnds, ReadUpTo}
+use Rattle.pn_serve.specs.Server.Whole.{IsTaken}
+use Rattle.pn_serve.specs.declared.server.fault.ServeFault.{ServeFault}
+use Rattle.pn_serve.specs.declared.server.fault.ServeFault.TheVariants.{Start, Stream as of_stream, Round, Close, Write}
+
+module _ {S : Type 0} (left : S → Option (List ℕ)) where
+  -- a live region read all streams to their ends, and took each up to its last message
+  pub record ReadsAll (streams : List (Stream S)) (old new : LiveRegionValue) : Type 0 where
+    pub read : ReadToEnds (length streams) old new
+    pub taken : All (IsTaken left new.marks) streams
+
+  -- what reading comes to: all streams are taken; or one of them is named; or a round was refused
+  abbrev pub EndsReading : List (Stream S) → LiveRegionValue → LiveRegionValue → Result (Unit {0}) ServeFault → Type 0
+  EndsReading streams old new (Ok done) = ReadsAll streams old new
+  EndsReading streams old new (Err (of_stream name)) = Contains (names_of streams) name
+  EndsReading streams old new (Err Round) = ReadUpTo (length streams) old new Round
+  EndsReading streams old new (Err Start) = Unit {0}
+  EndsReading streams old new (Err Close) = ⊥
+  EndsReading streams old new (Err Write) = ⊥
+
+  -- a new live region of the layout came to this by reading
+  pub record Serves (layout : Bounds) (streams : List (Stream S)) (reading : Result (Unit {0}) ServeFault) : Type 0 where
+    pub opened : LiveRegionValue
+    pub closed : LiveRegionValue
+    pub is_new : IsNewLive layout opened
+    pub ends : EndsReading streams opened closed reading
+
+  -- what serving over a new live region comes to: out of memory while closing it comes only after all streams are taken
+  abbrev pub EndsRegion : Bounds → List (Stream S) → Result ℕ ServeFault → Type 0
+  EndsRegion layout streams (Ok count) = Serves layout streams (Ok tt)
+  EndsRegion layout streams (Err Close) = Serves layout streams (Ok tt)
+  EndsRegion layout streams (Err Start) = Unit {0}
+  EndsRegion layout streams (Err Write) = ⊥
+  EndsRegion layout streams (Err fault) = Serves layout streams (Err fault)
+
+  -- what serving comes to: out of memory while closing, and a write fault, come only after all streams are taken
+  abbrev pub EndsServing : Bounds → List (Stream S) → Result (Unit {0}) ServeFault → Type 0
+  EndsServing layout streams (Ok done) = Serves layout streams (Ok tt)
+  EndsServing layout streams (Err Close) = Serves layout streams (Ok tt)
+  EndsServing layout streams (Err Write) = Serves layout streams (Ok tt)
+  EndsServing layout streams (Err Start) = Unit {0}
+  EndsServing layout streams (Err fault) = Serves layout streams (Err fault)
