@@ -1,6 +1,7 @@
 -- Which keys differ once a table is joined to another: those that differ among what is joined.
-use Rattle.std.proofs.Common.{◌≡◌, ℕ, Bool, true, false, not, ◌&&◌, cond, List, [], ◌∷◌, map, filter, Option, Some, None, refl, sym, ap, ◌∙◌, subst}
-use Rattle.std.specs.declared.cmp.Ordering.TheVariants.{Less}
+use Rattle.std.proofs.Common.{◌≡◌, ◌≢◌, ℕ, Bool, true, false, not, ◌&&◌, cond, List, [], ◌∷◌, map, filter, Option, Some, None, refl, sym, ap, ◌∙◌, subst}
+use Rattle.std.specs.declared.cmp.Ordering.{Ordering}
+use Rattle.std.specs.declared.cmp.Ordering.TheVariants.{Less, Equal, Greater}
 use Rattle.std.specs.Cmp.Lexicographic.{pointwise}
 use Rattle.std.specs.Ordering.{eq_by_cmp, is_eq, is_lt}
 use Rattle.std.specs.Option.{option_map}
@@ -12,8 +13,9 @@ use Rattle.std.proofs.lemmas.Cmp.{nat_list_cmp_total, tied_itself, eq_by_cmp_equ
 use Rattle.std.proofs.lemmas.Map.Lookups.{exact_bytes}
 use Rattle.pn_join.specs.Tables.{optional_joined}
 use Rattle.pn_record.specs.Order.{bytes_cmp, version_cmp, content_cmp}
-use Rattle.pn_record.specs.Laws.Totals.{version_cmp_total, content_cmp_total}
-use Rattle.pn_record.specs.Sets.{CellValue, cell_joined}
+use Rattle.pn_record.specs.Laws.Totals.{version_cmp_total, version_cmp-exact, content_cmp_total}
+use Rattle.pn_record.specs.Laws.Unions.{tied_lists, set_of-keys}
+use Rattle.pn_record.specs.Sets.{CellValue, set_of, cell_joined}
 use Rattle.pn_record.specs.CellMap.{Entries}
 use Rattle.pn_record.specs.SameCells.{same_cell, same_at}
 use Rattle.pn_record.proofs.Sorted.{both_true, first_true, second_true, is_less}
@@ -26,6 +28,27 @@ same_cell-itself a =
 pub same_at-itself : (o : Option CellValue) → same_at o o ≡ true
 same_at-itself None = refl
 same_at-itself (Some a) = same_cell-itself a
+
+is_tie : (r : Ordering) → is_eq r ≡ true → r ≡ Equal
+is_tie Less tied = cc
+is_tie Equal tied = refl
+is_tie Greater tied = cc
+
+same_cell-equal : (a b : CellValue) → same_cell a b ≡ true → a ≡ b
+same_cell-equal a b is =
+    let version : a.0 ≡ b.0 = version_cmp-exact a.0 b.0 (is_tie (version_cmp a.0 b.0) (first_true (eq_by_cmp version_cmp a.0 b.0) (pointwise (eq_by_cmp content_cmp) (keys a.1) (keys b.1)) is)) in
+    let listed : keys a.1 ≡ keys b.1 = tied_lists (keys a.1) (keys b.1) (second_true (eq_by_cmp version_cmp a.0 b.0) (pointwise (eq_by_cmp content_cmp) (keys a.1) (keys b.1)) is) in
+    let contents : a.1 ≡ b.1 = sym (set_of-keys a.1) ∙ ap set_of listed ∙ set_of-keys b.1 in
+    λ i. (version i, contents i)
+
+unless_true : (t : Bool) → (t ≡ true → ⊥) → t ≡ false
+unless_true true never = absurd (never refl)
+unless_true false never = refl
+
+-- a cell that is another than before
+pub same_at-another : (before : Option CellValue) (after : CellValue) → Some after ≢ before → same_at before (Some after) ≡ false
+same_at-another None after another = refl
+same_at-another (Some cell) after another = unless_true (same_cell cell after) (λ is. another (ap Some (sym (same_cell-equal cell after is))))
 
 -- the entry is what the table has at its key
 abbrev pub IsAt : Entries → List ℕ × CellValue → Type 0

@@ -6,10 +6,10 @@ use Rattle.std.specs.Option.{ok_or}
 use Rattle.std.specs.Ordering.{is_lt}
 use Rattle.serde_json.specs.Data.{Data, object, Members}
 use Rattle.serde_json.specs.Find.{as_object}
-use Rattle.pn_json.specs.Answers.{◌>>=◌, fault_as}
+use Rattle.pn_json.specs.Answers.{fault_as}
 use Rattle.pn_json.proofs.Inverses.{bind_ok, ok_or_ok, object_from_as_object}
 use Rattle.pn_json.proofs.LookUps.{entries_of, Rise}
-use Rattle.pn_record.specs.Canonical.{IsImage, is_image}
+use Rattle.pn_record.specs.Canonical.{IsImage}
 use Rattle.pn_record.specs.Grammar.{shape_in, ranges_in, image_in}
 use Rattle.pn_record.specs.Limits.{Field}
 use Rattle.pn_record.specs.Seen.{body_rises}

@@ -1,6 +1,6 @@
 //! Cells: what a replica keeps of each record.
 
-ghost use Rattle.std.specs.Prelude.{◌≡◌, ◌∷◌, [], ◌<◌, length, unwrap_or, IsTrue, IfOk, OnOk, OnErr};
+ghost use Rattle.std.specs.Prelude.{◌≡◌, ◌≢◌, ◌↔◌, ◌∷◌, [], ◌<◌, length, unwrap_or, IsTrue, IfOk, IfSome, OnOk, OnErr};
 ghost use Rattle.std.specs.FinMap.{keys};
 ghost use Rattle.std.specs.List.{list_all};
 ghost use Rattle.pn_record.specs.Sets.{CellValue, set_of, union, cell_joined, HasContents};
@@ -98,7 +98,7 @@ impl Cell {
 }
 
 fn are_same(contents: &[Content], others: &[Content]) -> bool
-    ensures { IsTrue result → contents.now ≡ others.now }
+    ensures { IsTrue result ↔ (contents.now ≡ others.now) }
 {
     contents == others
 }
@@ -161,6 +161,7 @@ impl Join for Cell {
     /// `None` if the other is older, or brings no new content.
     fn changed_by(&self, other: &Cell) -> Result<Option<Cell>, NoMemory>
         ensures joined { IfOk result (λ cell. unwrap_or cell self.now ≡ cell_joined self.now other.now) }
+        ensures differs { IfOk result (λ cell. IfSome cell (λ c. c ≢ self.now)) }
         ensures are_valid { IfOk result (λ cell. HasContents self.now × HasContents other.now × HasContents (unwrap_or cell self.now)) }
     {
         let order = self.version().cmp(&other.version());
@@ -176,6 +177,7 @@ impl Cell {
     // This cell with the contents of another of the same version added. `None` if that adds none.
     fn gathered_with(&self, other: &Cell) -> Result<Option<Cell>, NoMemory>
         ensures gathered { IfOk result (λ cell. unwrap_or cell self.now ≡ (self.now.0, union self.now.1 other.now.1)) }
+        ensures differs { IfOk result (λ cell. IfSome cell (λ c. c ≢ self.now)) }
         ensures some { IfOk result (λ cell. HasContents self.now × HasContents other.now × HasContents (unwrap_or cell self.now)) }
     {
         if are_same(self.contents(), other.contents()) {
@@ -191,6 +193,7 @@ impl Cell {
         requires version { other.0 ≡ self.now.0 }
         requires some { HasContents other }
         ensures cell { unwrap_or result self.now ≡ other }
+        ensures differs { IfSome result (λ cell. cell ≢ self.now) }
         ensures some { HasContents (unwrap_or result self.now) }
     {
         if are_same(self.contents(), other.contents()) {

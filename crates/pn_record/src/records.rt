@@ -1,6 +1,6 @@
 //! Records by key: a table of cells.
 
-ghost use Rattle.std.specs.Prelude.{◌≡◌, ℕ, IsTrue, ◌∷◌, [], ◌++◌, List, IfOk, OnOk, OnErr};
+ghost use Rattle.std.specs.Prelude.{◌≡◌, ◌≢◌, ℕ, Some, IsTrue, ◌∷◌, [], ◌++◌, List, IfOk, OnOk, OnErr};
 ghost use Rattle.pn_record.specs.declared.image.Image.{Image};
 ghost use Rattle.pn_record.specs.Cells.{Holds, spell};
 ghost use Rattle.pn_record.specs.CellMap.{adds};
@@ -9,6 +9,7 @@ ghost use Rattle.pn_record.specs.Sets.{cell_joined, HasContents};
 ghost use Rattle.pn_join.specs.TableChanges.{AreChanges};
 ghost use Rattle.pn_join.specs.Tables.{optional_joined};
 ghost use Rattle.std.specs.FinMap.{find, is_sorted};
+ghost use Rattle.std.specs.List.{AllByRecursion};
 
 use crate::{Cell, Image, Key};
 use pn_join::{Join, NoMemory, Table, TableChange};
@@ -44,12 +45,14 @@ pub fn join_records(records: &mut Records, other: &Records) -> Result<(), NoMemo
     records.join_from(other)
 }
 
-/// Joins other records into these, and returns the changes in key order. An error leaves them as they were.
+/// Joins other records into these, and returns the keys whose cells changed, in key order. An error leaves them as
+/// they were.
 pub fn join_and_tell(
     records: &mut Records,
     other: &Records,
 ) -> Result<Vec<TableChange<Key, Cell>>, NoMemory>
     ensures changes { IfOk result (λ changes. AreChanges bytes_cmp (λ cell. cell) cell_joined HasContents records.old other.now changes.items) }
+    ensures differ { IfOk result (λ changes. AllByRecursion (λ change. change.before ≢ Some change.after) changes.items) }
     ensures spelled { OnOk result (Holds records.new (spell records.old ++ spell other.now)) }
     ensures joined { OnOk result ((key : List ℕ) → find bytes_cmp key records.new
         ≡ optional_joined cell_joined (find bytes_cmp key records.old) (find bytes_cmp key other.now)) }

@@ -16,4 +16,4 @@ returns-in_ok-self-inside-clause-some c = (
 pub returns-else-not-are_same-clause-ok : goal.returns-else-not-are_same-clause-ok
 returns-else-not-are_same-clause-ok c =
     same_contents c.args.self.now c.args.other.now
-    (sym c.contents.ensures.contents ∙ c.are_same.ensures c.if-not-are_same.false ∙ c.contents-2.ensures.contents)
+    (sym c.contents.ensures.contents ∙ c.are_same.ensures.0 c.if-not-are_same.false ∙ c.contents-2.ensures.contents)

@@ -6,4 +6,4 @@ use Rattle.pn_record.proofs.cell.Cell.gathered_with.Goals as goal
 pub returns-then-are_same-clause-gathered : goal.returns-then-are_same-clause-gathered
 returns-then-are_same-clause-gathered c =
     same_contents c.args.self.now c.args.other.now
-    (sym c.contents.ensures.contents ∙ c.are_same.ensures c.if-are_same.true ∙ c.contents-2.ensures.contents)
+    (sym c.contents.ensures.contents ∙ c.are_same.ensures.0 c.if-are_same.true ∙ c.contents-2.ensures.contents)
