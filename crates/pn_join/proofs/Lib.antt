@@ -5,6 +5,7 @@ pub mod EditPuts
 pub mod EditSteps
 pub mod JoinAll
 pub mod JoinSteps
+pub mod LeastFacts
 pub mod MarksFacts
 pub mod NameText
 pub mod Partitions
@@ -22,4 +23,5 @@ pub mod LeafListPlaces
 pub mod LeafListSearch
 pub mod LeafListSplits
 pub mod Singles
+pub mod SliceFacts
 pub mod TableFacts

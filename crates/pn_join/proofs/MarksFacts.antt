@@ -69,7 +69,8 @@ is_sorted-raised a [] rising = rising
 is_sorted-raised a (e ∷ es) rising =
     is_so _ (is_sorted-put name_cmp nat_list_cmp_total e.0 (max (position_of a e.0) e.1) (raised a es) (subst T (sym (is_sorted-raised a es rising)) tt))
 
-within_most : (marks : Positions) (name : List ℕ) → IsTrue (are_positions marks) → position_of marks name ≤ last_position
+-- no position is greater than the last
+pub within_most : (marks : Positions) (name : List ℕ) → IsTrue (are_positions marks) → position_of marks name ≤ last_position
 within_most [] name are = zero-le
 within_most (e ∷ es) name are =
     let parts = and_parts (is_position e.1) (are_positions es) are in

@@ -1,9 +1,9 @@
 -- Marks: positions of streams by name. An absent name counts as 0.
-use Rattle.std.specs.Prelude.{ℕ, ◌≤◌, ◌^◌, max, Bool, ◌&&◌, nat_lt, nat_le, List, [], ◌∷◌, Option, unwrap_or}
+use Rattle.std.specs.Prelude.{ℕ, zero, suc, ◌≤◌, ◌^◌, max, min, Bool, ◌&&◌, nat_lt, nat_le, List, [], ◌∷◌, Option, None, Some, unwrap_or}
 use Rattle.std.specs.declared.cmp.Ordering.{Ordering}
 use Rattle.std.specs.Ordering.{nat_cmp}
 use Rattle.std.specs.Cmp.Lexicographic.{slice_cmp}
-use Rattle.std.specs.List.{list_all, position}
+use Rattle.std.specs.List.{filter_map, list_all, position}
 use Rattle.std.specs.FinMap.{find, put}
 
 -- names and their positions, in byte order of names
@@ -34,6 +34,19 @@ shortfall marks need = position (falls_short marks) need
 abbrev pub raised : Positions → Positions → Positions
 raised marks [] = marks
 raised marks (other ∷ others) = put name_cmp other.0 (max (position_of marks other.0) other.1) (raised marks others)
+
+-- the mark of a name at a position, if that is not 0
+abbrev pub if_position : List ℕ → ℕ → Option (List ℕ × ℕ)
+if_position name zero = None
+if_position name (suc n) = Some (name, suc n)
+
+-- the lesser of the two positions at the name of a mark, if that is not 0
+abbrev pub least_at : Positions → Positions → List ℕ × ℕ → Option (List ℕ × ℕ)
+least_at marks others mark = if_position mark.0 (min (position_of marks mark.0) (position_of others mark.0))
+
+-- at each name of both the lesser position
+abbrev pub least : Positions → Positions → Positions
+least marks others = filter_map (least_at marks others) marks
 
 -- the last position that a stream can have
 abbrev pub last_position : ℕ

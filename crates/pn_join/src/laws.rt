@@ -1,8 +1,8 @@
 //! The laws of marks, as contracts of functions that do nothing.
 
-ghost use Rattle.std.specs.Prelude.{◌≡◌, ℕ, max, List, IsTrue};
+ghost use Rattle.std.specs.Prelude.{◌≡◌, ℕ, max, min, List, IsTrue};
 ghost use Rattle.std.specs.FinMap.{is_sorted};
-ghost use Rattle.pn_join.specs.Marks.{Positions, are_positions, name_cmp, position_of, raised};
+ghost use Rattle.pn_join.specs.Marks.{Positions, are_positions, name_cmp, position_of, least, raised};
 
 /// Raised marks have the greater of both positions at each name.
 pub fn raised_positions_are_the_greater()
@@ -18,4 +18,17 @@ pub fn raising_is_a_join()
     ensures repeats { (a : Positions) → IsTrue (is_sorted name_cmp a) → raised a a ≡ a }
     ensures rising { (a b : Positions) → IsTrue (is_sorted name_cmp a) → IsTrue (is_sorted name_cmp (raised a b)) }
     ensures positions { (a b : Positions) → IsTrue (are_positions a) → IsTrue (are_positions b) → IsTrue (are_positions (raised a b)) }
+{}
+
+/// The least of two marks has the lesser of both positions at each name.
+pub fn least_positions_are_the_lesser()
+    ensures { (marks others : Positions) (name : List ℕ)
+        → position_of (least marks others) name ≡ min (position_of marks name) (position_of others name) }
+{}
+
+/// Where the names of marks rise, so do those of their least with any others. Positions stay within 1 to
+/// `LAST_POSITION`.
+pub fn least_marks_stay_in_order()
+    ensures rising { (a b : Positions) → IsTrue (is_sorted name_cmp a) → IsTrue (is_sorted name_cmp (least a b)) }
+    ensures positions { (a b : Positions) → IsTrue (are_positions a) → IsTrue (are_positions (least a b)) }
 {}

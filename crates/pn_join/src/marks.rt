@@ -6,6 +6,7 @@ ghost use Rattle.std.specs.FinMap.{is_sorted};
 ghost use Rattle.std.proofs.Common.{arith};
 ghost use Rattle.pn_join.specs.Marks.{name_cmp, position_of, Reaches, falls_short, shortfall, raised};
 
+mod least;
 mod name;
 
 use crate::{Dup, Join, NoMemory, Table};

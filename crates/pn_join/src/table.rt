@@ -16,6 +16,7 @@ mod entry_counts;
 mod leaf;
 mod leaf_join;
 mod leaf_list;
+mod slices;
 
 use crate::{Dup, Join, NoMemory};
 pub use change::TableChange;

@@ -13,6 +13,7 @@ ghost use Rattle.pn_join.specs.Tables.{IsTable};
 
 mod bulk_join;
 mod search;
+mod slices;
 mod splits;
 
 use crate::table::entries::Entries;

@@ -151,7 +151,10 @@ pub(super) fn insert_last_key<K: Dup, C>(
     }
 }
 
-fn last_key<K: Dup, C>(leaves: &[Leaf<K, C>], place: usize) -> Option<Result<K, NoMemory>> {
+pub(super) fn last_key<K: Dup, C>(
+    leaves: &[Leaf<K, C>],
+    place: usize,
+) -> Option<Result<K, NoMemory>> {
     let (last, _) = leaves.get(place)?.entries().last()?;
     Some(last.dup())
 }
