@@ -2,14 +2,11 @@
 
 ghost use Rattle.std.specs.Prelude.{◌≡◌, List, ◌++◌, map, IsTrue};
 ghost use Rattle.std.specs.List.{flat_map};
-ghost use Rattle.pn_join.specs.Marks.{Positions, are_positions};
+ghost use Rattle.pn_join.specs.Prelude.{Positions, are_positions};
 ghost use Rattle.pn_record.specs.declared.image.Image.{Image};
-ghost use Rattle.pn_record.specs.Cells.{SameImages, spell};
-ghost use Rattle.pn_record.specs.CellMap.{table_of, adds};
-ghost use Rattle.pn_stream.specs.Positions.{DeliveryValue};
-ghost use Rattle.pn_tablet.specs.Layouts.{Bounds, IsLayout};
-ghost use Rattle.pn_tablet.specs.Ranges.{Ends};
-ghost use Rattle.pn_tablet.specs.Tablets.{TabletStateValue};
+ghost use Rattle.pn_record.specs.Prelude.{SameImages, spell, table_of, adds};
+ghost use Rattle.pn_stream.specs.Prelude.{DeliveryValue};
+ghost use Rattle.pn_tablet.specs.Prelude.{Bounds, IsLayout, Ends, TabletStateValue};
 ghost use Rattle.pn_apply.specs.Applying.{AreJoinsIn, HavePositions};
 ghost use Rattle.pn_apply.specs.Reducing.{all_images, images_in, ranges, joins_of, joined_cells};
 

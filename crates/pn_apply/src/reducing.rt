@@ -2,8 +2,8 @@
 
 ghost use Rattle.std.specs.Prelude.{◌≡◌, ◌≤◌, length, map, IsTrue, IfOk};
 ghost use Rattle.std.specs.Thread.{IsSync};
-ghost use Rattle.pn_join.specs.Marks.{are_positions};
-ghost use Rattle.pn_record.specs.CellMap.{table_of};
+ghost use Rattle.pn_join.specs.Prelude.{are_positions};
+ghost use Rattle.pn_record.specs.Prelude.{table_of};
 ghost use Rattle.pn_tablet.specs.declared.op.TabletOp.TheVariants.{Join};
 ghost use Rattle.pn_apply.specs.Limits.{max_workers};
 ghost use Rattle.pn_apply.specs.Reducing.{all_images, joins_of};

@@ -2,7 +2,7 @@
 
 ghost use Rattle.std.specs.Prelude.{◌≡◌, ◌+◌, ◌++◌, [], List, length, map, IfOk, OnOk};
 ghost use Rattle.pn_record.specs.declared.image.Image.{Image};
-ghost use Rattle.pn_tablet.specs.Layouts.{IsLayout};
+ghost use Rattle.pn_tablet.specs.Prelude.{IsLayout};
 ghost use Rattle.pn_apply.specs.Reducing.{all_images, images_in, ranges};
 ghost use Rattle.pn_apply.specs.Shares.{lists, by_tablet};
 

@@ -1,11 +1,8 @@
 //! Slots, each of which takes the operations of one tablet.
 
 ghost use Rattle.std.specs.Prelude.{◌≡◌, Ok, IfOk, IfErr, OnOk, OnErr};
-ghost use Rattle.pn_tablet.specs.Tablets.{TabletStateValue};
-ghost use Rattle.pn_tablet.specs.Operations.{HasPositions};
-ghost use Rattle.pn_tablet.specs.Refusals.{Refuses};
-ghost use Rattle.pn_tablet.specs.Steps.{step, is_memory};
-ghost use Rattle.pn_tablet.specs.Changes.{answer};
+ghost use Rattle.pn_tablet.specs.Prelude.{TabletStateValue, HasPositions, Refuses, step, answer};
+ghost use Rattle.pn_tablet.specs.Steps.{is_memory};
 
 use pn_tablet::{Change, OpFault, TabletOp, TabletState};
 

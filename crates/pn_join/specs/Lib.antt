@@ -6,6 +6,7 @@ pub mod Leaves
 pub mod Marks
 pub mod Naming
 pub mod Places
+pub mod Prelude
 pub mod Proofs
 pub mod PutInLeaves
 pub mod LeafListChanges

@@ -1,4 +1,5 @@
 pub mod Answers
 pub mod Lines
 pub mod Members
+pub mod Prelude
 pub mod Tokens

@@ -9,6 +9,7 @@ pub mod Limits
 pub mod LiveRegions
 pub mod Looks
 pub mod Orders
+pub mod Prelude
 pub mod PublishedTablets
 pub mod Proofs
 pub mod Published

@@ -2,22 +2,15 @@
 
 ghost use Rattle.std.specs.Prelude.{◌≡◌, ℕ, List, Ok, IsTrue, Contains};
 ghost use Rattle.std.specs.FinMap.{find};
-ghost use Rattle.pn_join.specs.Marks.{Positions};
-ghost use Rattle.pn_record.specs.Order.{bytes_cmp};
+ghost use Rattle.pn_join.specs.Prelude.{Positions};
+ghost use Rattle.pn_record.specs.Prelude.{bytes_cmp};
 ghost use Rattle.pn_record.specs.declared.image.Image.{Image};
-ghost use Rattle.pn_stream.specs.Brokers.{BrokerRecord, AreHonest};
-ghost use Rattle.pn_stream.specs.Positions.{DeliveryValue};
-ghost use Rattle.pn_tablet.specs.Copies.{TabletCopyValue, IsCopy};
-ghost use Rattle.pn_tablet.specs.Ranges.{Ends, in_range};
-ghost use Rattle.pn_tablet.specs.Tablets.{TabletStateValue};
+ghost use Rattle.pn_stream.specs.Prelude.{BrokerRecord, AreHonest, DeliveryValue};
+ghost use Rattle.pn_tablet.specs.Prelude.{TabletCopyValue, IsCopy, Ends, in_range, TabletStateValue};
 ghost use Rattle.pn_tablet.specs.declared.op.TabletOp.TheVariants.{Lose};
 ghost use Rattle.pn_tablet.specs.declared.state.Status.TheVariants.{Serving};
-ghost use Rattle.pn_apply.specs.Reducing.{all_images, join_in};
-ghost use Rattle.pn_region.specs.Held.{HoldsStill};
-ghost use Rattle.pn_region.specs.Honest.{IsHonestCopy};
-ghost use Rattle.pn_region.specs.Marking.{new_marks};
-ghost use Rattle.pn_region.specs.Regions.{IsRegion};
-ghost use Rattle.pn_region.specs.Rounds.{round, IsHalfTaken};
+ghost use Rattle.pn_apply.specs.Prelude.{all_images, join_in};
+ghost use Rattle.pn_region.specs.Prelude.{HoldsStill, IsHonestCopy, new_marks, IsRegion, round, IsHalfTaken};
 ghost use Rattle.pn_live.specs.Honest.{IsHonestList, AreHonestTablets};
 ghost use Rattle.pn_live.specs.Laws.{HasImage};
 ghost use Rattle.pn_live.specs.LiveRegions.{LiveRegionValue, core, publishing, IsHalfPublished};

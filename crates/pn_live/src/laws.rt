@@ -2,20 +2,15 @@
 
 ghost use Rattle.std.specs.Prelude.{◌≡◌, ◌+◌, ◌++◌, ◌∷◌, ℕ, List, length, IsTrue, Contains};
 ghost use Rattle.std.specs.FinMap.{find};
-ghost use Rattle.pn_join.specs.Marks.{Positions};
-ghost use Rattle.pn_record.specs.CellMap.{Entries};
-ghost use Rattle.pn_record.specs.Order.{bytes_cmp};
-ghost use Rattle.pn_tablet.specs.Laws.{IsSpelled};
-ghost use Rattle.pn_tablet.specs.Ranges.{Ends, in_range};
-ghost use Rattle.pn_tablet.specs.Steps.{state_of};
-ghost use Rattle.pn_tablet.specs.Tablets.{TabletStateValue, lie_in};
+ghost use Rattle.pn_join.specs.Prelude.{Positions};
+ghost use Rattle.pn_record.specs.Prelude.{Entries, bytes_cmp};
+ghost use Rattle.pn_tablet.specs.Prelude.{IsSpelled, Ends, in_range, state_of, TabletStateValue, lie_in};
 ghost use Rattle.pn_tablet.specs.declared.op.TabletOp.{TabletOp};
 ghost use Rattle.pn_tablet.specs.declared.op.TabletOp.TheVariants.{Join};
-ghost use Rattle.pn_region.specs.Held.{HoldsStill};
-ghost use Rattle.pn_apply.specs.Reducing.{join_in};
+ghost use Rattle.pn_region.specs.Prelude.{HoldsStill};
+ghost use Rattle.pn_apply.specs.Prelude.{join_in};
 ghost use Rattle.pn_record.specs.declared.image.Image.{Image};
-ghost use Rattle.pn_scan.specs.Candidates.{Look};
-ghost use Rattle.pn_scan.specs.Views.{Looks};
+ghost use Rattle.pn_scan.specs.Prelude.{Look, Looks};
 ghost use Rattle.pn_live.specs.Laws.{AreNoLosses, HasImage, HasNoLossAfter, AllKnowMore};
 ghost use Rattle.pn_live.specs.PublishedTablets.{PublishedTabletValue, TabletNoteValue, note_of, appended};
 ghost use Rattle.pn_live.specs.Readers.{LiveReaderValue, LooksLive};

@@ -2,9 +2,7 @@
 
 ghost use Rattle.std.specs.Prelude.{◌≡◌, ◌++◌, ◌∷◌, [], ◌^◌, ◌<◌, Ok, IfOk, IfSome, Some, take, length};
 ghost use Rattle.left_right.specs.Sides.{view};
-ghost use Rattle.pn_tablet.specs.Operations.{HasPositions};
-ghost use Rattle.pn_tablet.specs.Steps.{step};
-ghost use Rattle.pn_tablet.specs.Tablets.{TabletStateValue, empty_tablet};
+ghost use Rattle.pn_tablet.specs.Prelude.{HasPositions, step, TabletStateValue, empty_tablet};
 ghost use Rattle.pn_live.specs.Attempts.{settled_of, tried_of};
 ghost use Rattle.pn_live.specs.Books.{counter_of};
 ghost use Rattle.pn_live.specs.Drafts.{Lacks};

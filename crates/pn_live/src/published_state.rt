@@ -1,7 +1,7 @@
 //! What readers of a live tablet find.
 
 ghost use Rattle.std.specs.Prelude.{◌≡◌, IfOk};
-ghost use Rattle.pn_tablet.specs.Steps.{state_of};
+ghost use Rattle.pn_tablet.specs.Prelude.{state_of};
 ghost use Rattle.pn_live.specs.Attempts.{tried_of};
 
 use crate::publish_position::PublishPosition;

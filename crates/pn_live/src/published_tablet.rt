@@ -1,9 +1,7 @@
 //! The live tablets of a region, as what is published of each.
 
 ghost use Rattle.std.specs.Prelude.{◌≡◌, ◌≤◌, ◌<◌, ◌^◌, length, Ok, IfOk, IfSome, IsTrue};
-ghost use Rattle.pn_tablet.specs.Layouts.{tablet_ends};
-ghost use Rattle.pn_tablet.specs.Operations.{HasPositions};
-ghost use Rattle.pn_tablet.specs.Steps.{step};
+ghost use Rattle.pn_tablet.specs.Prelude.{tablet_ends, HasPositions, step};
 ghost use Rattle.pn_live.specs.Closing.{IsOfTablet, KnowsPublished};
 ghost use Rattle.pn_live.specs.Drafts.{Lacks};
 ghost use Rattle.pn_live.specs.PublishedTablets.{IsNewTablet, state_at, appended, note_of};
@@ -27,7 +25,7 @@ pub struct PublishedTablet {
 
 impl Model for PublishedTablet {
     ghost use Rattle.std.specs.Prelude.{◌≡◌};
-    ghost use Rattle.pn_tablet.specs.Steps.{state_of};
+    ghost use Rattle.pn_tablet.specs.Prelude.{state_of};
     ghost use Rattle.pn_live.specs.PublishedTablets.{PublishedTabletValue};
     ghost use Rattle.pn_live.specs.Published.{published, state_in};
 

@@ -3,7 +3,7 @@
 ghost use Rattle.std.specs.Prelude.{◌≡◌, Some, MatchResult, take, length};
 ghost use mathlib.Core.List.{IsPrefix};
 ghost use Rattle.left_right.specs.Sides.{view};
-ghost use Rattle.pn_region.specs.Regions.{IsSound};
+ghost use Rattle.pn_region.specs.Prelude.{IsSound};
 ghost use Rattle.pn_live.specs.Attempts.{settled_of};
 ghost use Rattle.pn_live.specs.Orders.{list_of};
 

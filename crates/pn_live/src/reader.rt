@@ -1,9 +1,8 @@
 //! Readers of a live region.
 
 ghost use Rattle.std.specs.Prelude.{◌≡◌, map, Option};
-ghost use Rattle.pn_tablet.specs.Layouts.{tablet_of};
-ghost use Rattle.pn_tablet.specs.Tablets.{TabletStateValue};
-ghost use Rattle.pn_scan.specs.Reads.{IsRead};
+ghost use Rattle.pn_tablet.specs.Prelude.{tablet_of, TabletStateValue};
+ghost use Rattle.pn_scan.specs.Prelude.{IsRead};
 ghost use Rattle.pn_live.specs.Readers.{LooksLive, IsFrontFor, AreTabletReadersOf, tablets_of};
 ghost use Rattle.pn_live.specs.TabletReaders.{AllLearn};
 

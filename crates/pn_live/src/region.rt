@@ -1,8 +1,8 @@
 //! Live regions.
 
 ghost use Rattle.std.specs.Prelude.{◌≡◌, ◌≤◌, length, IsTrue};
-ghost use Rattle.pn_join.specs.Marks.{are_positions};
-ghost use Rattle.pn_region.specs.Limits.{max_streams};
+ghost use Rattle.pn_join.specs.Prelude.{are_positions};
+ghost use Rattle.pn_region.specs.Prelude.{max_streams};
 
 mod closing;
 mod opening;
@@ -29,7 +29,7 @@ pub struct LiveRegion {
 }
 
 impl Model for LiveRegion {
-    ghost use Rattle.pn_region.specs.Regions.{IsLawfulRegion};
+    ghost use Rattle.pn_region.specs.Prelude.{IsLawfulRegion};
     ghost use Rattle.pn_live.specs.LiveRegions.{LiveRegionValue, core};
 
     ghost Value = { LiveRegionValue };

@@ -1,8 +1,8 @@
 //! Tablet readers: what a reader of a live region has of each tablet.
 
 ghost use Rattle.std.specs.Prelude.{◌≡◌, MatchResult, Option};
-ghost use Rattle.pn_tablet.specs.Tablets.{TabletStateValue};
-ghost use Rattle.pn_scan.specs.Views.{rows_at, cell_at};
+ghost use Rattle.pn_tablet.specs.Prelude.{TabletStateValue};
+ghost use Rattle.pn_scan.specs.Prelude.{rows_at, cell_at};
 ghost use Rattle.pn_live.specs.Looks.{IsOneLook, left_by};
 ghost use Rattle.pn_live.specs.Published.{seen_by, told_to, range_of, found_by};
 ghost use Rattle.pn_live.specs.TabletReaders.{Finds, Learns};

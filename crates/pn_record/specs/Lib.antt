@@ -13,6 +13,7 @@ pub mod Marks
 pub mod Older
 pub mod Order
 pub mod Parts
+pub mod Prelude
 pub mod Reading
 pub mod Reordered
 pub mod SameCells

@@ -3,8 +3,7 @@
 ghost use Rattle.std.specs.Prelude.{◌≡◌, ℕ, false, List, [], ◌++◌, MatchOption, IsTrue};
 ghost use Rattle.std.specs.Ordering.{is_gt};
 ghost use Rattle.std.specs.FinMap.{is_sorted};
-ghost use Rattle.pn_join.specs.Laws.{JoinLaws};
-ghost use Rattle.pn_join.specs.Tables.{optional_joined};
+ghost use Rattle.pn_join.specs.Prelude.{JoinLaws, optional_joined};
 ghost use Rattle.pn_record.specs.declared.image.Image.{Image};
 ghost use Rattle.pn_record.specs.Order.{bytes_cmp, version_cmp};
 ghost use Rattle.pn_record.specs.Sets.{CellValue, cell_joined};

@@ -6,8 +6,7 @@ ghost use Rattle.pn_record.specs.Cells.{Holds, spell};
 ghost use Rattle.pn_record.specs.CellMap.{adds};
 ghost use Rattle.pn_record.specs.Order.{bytes_cmp};
 ghost use Rattle.pn_record.specs.Sets.{cell_joined, HasContents};
-ghost use Rattle.pn_join.specs.TableChanges.{AreChanges};
-ghost use Rattle.pn_join.specs.Tables.{optional_joined};
+ghost use Rattle.pn_join.specs.Prelude.{AreChanges, optional_joined};
 ghost use Rattle.std.specs.FinMap.{find, is_sorted};
 ghost use Rattle.std.specs.List.{AllByRecursion};
 

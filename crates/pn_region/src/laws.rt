@@ -2,22 +2,14 @@
 
 ghost use Rattle.std.specs.Prelude.{◌≡◌, ℕ, ◌≤◌, ◌<◌, List, [], ◌++◌, length, Contains, Ok, Err, Some, IsSome, IsTrue, slice_get};
 ghost use Rattle.std.specs.FinMap.{find, is_sorted};
-ghost use Rattle.pn_join.specs.Marks.{Positions, Reaches, name_cmp, position_of};
+ghost use Rattle.pn_join.specs.Prelude.{Positions, Reaches, name_cmp, position_of};
 ghost use Rattle.pn_record.specs.declared.image.Image.{Image};
-ghost use Rattle.pn_record.specs.Order.{bytes_cmp};
-ghost use Rattle.pn_record.specs.CellMap.{table_of};
-ghost use Rattle.pn_record.specs.Older.{NotOlder};
-ghost use Rattle.pn_stream.specs.Brokers.{BrokerRecord, AreHonest, up_to};
-ghost use Rattle.pn_stream.specs.Positions.{DeliveryValue};
-ghost use Rattle.pn_tablet.specs.Layouts.{Bounds, IsLayout, tablet_of};
-ghost use Rattle.pn_tablet.specs.Copies.{TabletCopyValue};
-ghost use Rattle.pn_tablet.specs.Copying.{copy_of};
-ghost use Rattle.pn_tablet.specs.Laws.{IsSpelled};
-ghost use Rattle.pn_tablet.specs.Steps.{lost, step};
-ghost use Rattle.pn_tablet.specs.Tablets.{TabletStateValue};
+ghost use Rattle.pn_record.specs.Prelude.{bytes_cmp, table_of, NotOlder};
+ghost use Rattle.pn_stream.specs.Prelude.{BrokerRecord, AreHonest, up_to, DeliveryValue};
+ghost use Rattle.pn_tablet.specs.Prelude.{Bounds, IsLayout, tablet_of, TabletCopyValue, copy_of, IsSpelled, lost, step, TabletStateValue};
 ghost use Rattle.pn_tablet.specs.declared.op.TabletOp.TheVariants.{Adopt};
 ghost use Rattle.pn_tablet.specs.declared.state.Status.TheVariants.{Serving};
-ghost use Rattle.pn_apply.specs.Reducing.{all_images, images_in};
+ghost use Rattle.pn_apply.specs.Prelude.{all_images, images_in};
 ghost use Rattle.pn_region.specs.Faith.{IsFaithful, AreFaithful};
 ghost use Rattle.pn_region.specs.Honest.{IsHonestCopy};
 ghost use Rattle.pn_region.specs.Laws.{AreIn, HasImages, HasBetween, HasNoGap, HasPosition, IsGap, stream_count};

@@ -2,16 +2,11 @@
 
 ghost use Rattle.std.specs.Prelude.{◌≡◌, ◌≢◌, ℕ, ◌<◌, List, map, Option, Some, None, Ok, Err};
 ghost use Rattle.std.specs.FinMap.{find};
-ghost use Rattle.pn_join.specs.Marks.{Positions};
-ghost use Rattle.pn_record.specs.Order.{bytes_cmp};
-ghost use Rattle.pn_record.specs.Sets.{Stamp};
-ghost use Rattle.pn_stream.specs.Positions.{DeliveryValue};
-ghost use Rattle.pn_tablet.specs.Layouts.{Bounds};
-ghost use Rattle.pn_scan.specs.Queries.{QueryValue};
-ghost use Rattle.pn_scan.specs.Shown.{shown_rows};
-ghost use Rattle.pn_scan.specs.Pages.{PageValue, first_page};
-ghost use Rattle.pn_scan.specs.Reads.{unless_behind};
-ghost use Rattle.pn_scan.specs.Walks.{left_by, rows_of};
+ghost use Rattle.pn_join.specs.Prelude.{Positions};
+ghost use Rattle.pn_record.specs.Prelude.{bytes_cmp, Stamp};
+ghost use Rattle.pn_stream.specs.Prelude.{DeliveryValue};
+ghost use Rattle.pn_tablet.specs.Prelude.{Bounds};
+ghost use Rattle.pn_scan.specs.Prelude.{QueryValue, shown_rows, PageValue, first_page, unless_behind, left_by, rows_of};
 ghost use Rattle.pn_scan.specs.declared.fault.ScanFault.TheVariants.{NoEntry};
 ghost use Rattle.pn_region.specs.Reads.{read_in, get_in, page_in};
 ghost use Rattle.pn_region.specs.Regions.{RegionValue, IsRegion, new_region, all_cells};

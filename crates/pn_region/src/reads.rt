@@ -1,9 +1,8 @@
 //! Reads of a region.
 
 ghost use Rattle.std.specs.Prelude.{◌≡◌, Err};
-ghost use Rattle.pn_json.specs.Answers.{ShowsUnless};
-ghost use Rattle.pn_scan.specs.Reads.{AnswersAfter};
-ghost use Rattle.pn_scan.specs.Views.{cell_at};
+ghost use Rattle.pn_json.specs.Prelude.{ShowsUnless};
+ghost use Rattle.pn_scan.specs.Prelude.{AnswersAfter, cell_at};
 ghost use Rattle.pn_scan.specs.declared.fault.ScanFault.TheVariants.{Memory, NoEntry};
 ghost use Rattle.pn_region.specs.Reads.{IsThere, look_for, read_in, get_in, page_in};
 

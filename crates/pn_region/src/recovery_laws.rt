@@ -2,20 +2,11 @@
 
 ghost use Rattle.std.specs.Prelude.{◌≡◌, ℕ, List, [], ◌++◌, fold, slice_get, Ok, Option, Some};
 ghost use Rattle.std.specs.FinMap.{find};
-ghost use Rattle.pn_join.specs.Marks.{Positions, Reaches};
+ghost use Rattle.pn_join.specs.Prelude.{Positions, Reaches};
 ghost use Rattle.pn_record.specs.declared.image.Image.{Image};
-ghost use Rattle.pn_record.specs.Cells.{SameImages};
-ghost use Rattle.pn_record.specs.CellMap.{table_of};
-ghost use Rattle.pn_record.specs.Older.{NotOlder};
-ghost use Rattle.pn_record.specs.Order.{bytes_cmp};
-ghost use Rattle.pn_record.specs.Sets.{CellValue};
-ghost use Rattle.pn_stream.specs.Brokers.{BrokerRecord};
-ghost use Rattle.pn_tablet.specs.Copies.{TabletCopyValue};
-ghost use Rattle.pn_tablet.specs.Copying.{copy_of};
-ghost use Rattle.pn_tablet.specs.Laws.{AreJoins};
-ghost use Rattle.pn_tablet.specs.Layouts.{Bounds, IsLayout};
-ghost use Rattle.pn_tablet.specs.Steps.{lost, step, stepped};
-ghost use Rattle.pn_tablet.specs.Tablets.{TabletStateValue};
+ghost use Rattle.pn_record.specs.Prelude.{SameImages, table_of, NotOlder, bytes_cmp, CellValue};
+ghost use Rattle.pn_stream.specs.Prelude.{BrokerRecord};
+ghost use Rattle.pn_tablet.specs.Prelude.{TabletCopyValue, copy_of, AreJoins, Bounds, IsLayout, lost, step, stepped, TabletStateValue};
 ghost use Rattle.pn_tablet.specs.declared.op.TabletOp.{TabletOp};
 ghost use Rattle.pn_tablet.specs.declared.op.TabletOp.TheVariants.{Adopt};
 ghost use Rattle.pn_tablet.specs.declared.state.Status.TheVariants.{Serving};

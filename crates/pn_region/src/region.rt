@@ -2,15 +2,10 @@
 
 ghost use Rattle.std.specs.Prelude.{◌≡◌, ◌≤◌, ◌<◌, ◌^◌, length, slice_get, map, Some, Ok, IsTrue, IfOk, IfErr, OnOk, OnErr};
 ghost use Rattle.std.specs.List.{flat_map};
-ghost use Rattle.pn_join.specs.Marks.{are_positions};
-ghost use Rattle.pn_tablet.specs.Layouts.{tablet_ends};
-ghost use Rattle.pn_tablet.specs.Refusals.{Refuses};
-ghost use Rattle.pn_tablet.specs.Tablets.{empty_tablet};
-ghost use Rattle.pn_tablet.specs.Changes.{changes};
-ghost use Rattle.pn_apply.specs.Applying.{AreJoinsIn, HavePositions, all_stepped, all_changes, AreOldOrStepped, IsSomeOld};
-ghost use Rattle.pn_apply.specs.Limits.{max_workers};
-ghost use Rattle.pn_apply.specs.Reducing.{joined_cells, ranges};
-ghost use Rattle.pn_scan.specs.Views.{IsStateOf};
+ghost use Rattle.pn_join.specs.Prelude.{are_positions};
+ghost use Rattle.pn_tablet.specs.Prelude.{tablet_ends, Refuses, empty_tablet, changes};
+ghost use Rattle.pn_apply.specs.Prelude.{AreJoinsIn, HavePositions, all_stepped, all_changes, AreOldOrStepped, IsSomeOld, max_workers, joined_cells, ranges};
+ghost use Rattle.pn_scan.specs.Prelude.{IsStateOf};
 ghost use Rattle.pn_region.specs.Limits.{max_streams};
 ghost use Rattle.pn_region.specs.Logged.{new_logged, noting, refused_log};
 ghost use Rattle.pn_region.specs.Marking.{is_memory};

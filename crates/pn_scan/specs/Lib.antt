@@ -3,6 +3,7 @@ pub mod ConditionReading
 pub mod ConditionWords
 pub mod Conditions
 pub mod Pages
+pub mod Prelude
 pub mod Queries
 pub mod QueryJson
 pub mod QueryReading

@@ -2,8 +2,7 @@
 
 ghost use Rattle.std.specs.Prelude.{◌≡◌, map, IfOk};
 ghost use Rattle.std.specs.List.{list_all};
-ghost use Rattle.pn_record.specs.Limits.{is_field as in_field};
-ghost use Rattle.pn_record.specs.Showing.{shown_value};
+ghost use Rattle.pn_record.specs.Prelude.{is_field as in_field, shown_value};
 ghost use Rattle.pn_scan.specs.Queries.{is_condition as in_condition, shown_condition};
 ghost use Rattle.pn_scan.specs.QueryJson.{condition_texts};
 ghost use Rattle.pn_scan.specs.UncheckedQueries.{parts_texts, seen_text};

@@ -3,8 +3,8 @@
 ghost use Rattle.std.specs.Prelude.{◌≡◌, ℕ, ◌<◌, ◌++◌, List, Option, None, Some, IsTrue};
 ghost use Rattle.std.specs.FinMap.{is_sorted};
 ghost use Rattle.std.specs.List.{AllByRecursion, flat_map};
-ghost use Rattle.pn_record.specs.Order.{bytes_cmp};
-ghost use Rattle.pn_tablet.specs.Layouts.{Bounds, IsLayout};
+ghost use Rattle.pn_record.specs.Prelude.{bytes_cmp};
+ghost use Rattle.pn_tablet.specs.Prelude.{Bounds, IsLayout};
 ghost use Rattle.pn_scan.specs.Queries.{QueryValue};
 ghost use Rattle.pn_scan.specs.Shown.{is_after};
 ghost use Rattle.pn_scan.specs.Candidates.{Look, cells_in, rows_in};

@@ -3,9 +3,8 @@
 ghost use Rattle.std.specs.Prelude.{◌≡◌, ℕ, ◌+◌, ◌-◌, ◌≤◌, ◌++◌, List, length, take, max, option_map, nat_lt, Option, Some, None, IfOk};
 ghost use Rattle.std.specs.List.{range_with_len, last_or};
 ghost use Rattle.std.specs.Option.{option_copied};
-ghost use Rattle.pn_record.specs.CellMap.{Entries};
-ghost use Rattle.pn_tablet.specs.Layouts.{tablet_ends};
-ghost use Rattle.pn_tablet.specs.Tablets.{TabletStateValue};
+ghost use Rattle.pn_record.specs.Prelude.{Entries};
+ghost use Rattle.pn_tablet.specs.Prelude.{tablet_ends, TabletStateValue};
 ghost use Rattle.pn_scan.specs.Queries.{continued};
 ghost use Rattle.pn_scan.specs.Candidates.{Look, candidates as all_candidates, first_tablet as named_tablet, begins_before as bound_before};
 ghost use Rattle.pn_scan.specs.Pages.{first_page};

@@ -3,7 +3,7 @@
 ghost use Rattle.std.specs.Prelude.{◌≡◌, ◌↔◌, false, List, [], None, codes, Ok, Err, IsTrue};
 ghost use Rattle.serde_json.specs.Data.{Data, Members, number, object, unsigned};
 ghost use Rattle.serde_json.specs.Find.{get_member};
-ghost use Rattle.pn_json.specs.Members.{only_named};
+ghost use Rattle.pn_json.specs.Prelude.{only_named};
 ghost use Rattle.pn_scan.specs.ConditionReading.{conditions_at};
 ghost use Rattle.pn_scan.specs.Queries.{ConditionValue, QueryValue, is_query};
 ghost use Rattle.pn_scan.specs.QueryJson.{conditions_data, key_data, query_data};

@@ -2,7 +2,7 @@
 
 ghost use Rattle.std.specs.Prelude.{IsOk, IsErrOf};
 ghost use Rattle.serde_json.specs.View.{view};
-ghost use Rattle.pn_json.specs.Answers.{IsUnless};
+ghost use Rattle.pn_json.specs.Prelude.{IsUnless};
 ghost use Rattle.pn_scan.specs.QueryReading.{query_in};
 
 use crate::unchecked_query::unchecked_query;

@@ -2,9 +2,7 @@
 
 ghost use Rattle.std.specs.Prelude.{◌≡◌, List, Option, Ok, Err, Result, if◌then◌else◌};
 ghost use Rattle.std.specs.Option.{option_copied};
-ghost use Rattle.pn_tablet.specs.Changes.{version_at};
-ghost use Rattle.pn_tablet.specs.Layouts.{tablet_of};
-ghost use Rattle.pn_tablet.specs.Tablets.{TabletStateValue};
+ghost use Rattle.pn_tablet.specs.Prelude.{version_at, tablet_of, TabletStateValue};
 ghost use Rattle.pn_scan.specs.Candidates.{Look};
 ghost use Rattle.pn_scan.specs.Reads.{IsGet, IsRead, reaches as version_reaches};
 ghost use Rattle.pn_scan.specs.declared.fault.ScanFault.TheVariants.{Behind};

@@ -16,8 +16,7 @@ impl Model for Row {
     ghost use Rattle.std.specs.Coded.{coded_ℕ, coded_list, coded×};
     ghost use Rattle.std.specs.FinMap as map;
     ghost use base.Stored.{coded_unit};
-    ghost use Rattle.pn_record.specs.Coding.{shown_code};
-    ghost use Rattle.pn_record.specs.Sets.{CellValue};
+    ghost use Rattle.pn_record.specs.Prelude.{shown_code, CellValue};
 
     ghost Value = { List ℕ × CellValue };
 

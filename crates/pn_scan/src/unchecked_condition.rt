@@ -2,7 +2,7 @@
 
 ghost use Rattle.std.specs.Prelude.{◌≡◌, IfOk};
 ghost use Rattle.serde_json.specs.View.{view, items_view};
-ghost use Rattle.pn_record.specs.Showing.{shown_value};
+ghost use Rattle.pn_record.specs.Prelude.{shown_value};
 ghost use Rattle.pn_scan.specs.Queries.{shown_condition, is_condition};
 ghost use Rattle.pn_scan.specs.ConditionWords.{lone_word as lone_word_of, comparing_word as comparing_word_of};
 ghost use Rattle.pn_scan.specs.ConditionReading.{condition_in, lone_in, comparing_in};

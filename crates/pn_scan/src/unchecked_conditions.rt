@@ -3,7 +3,7 @@
 ghost use Rattle.std.specs.Prelude.{◌≡◌, false, map, IfOk, IfErr, IfSome, MatchOption, IsTrue, [], ◌∷◌, ◌++◌, ◌&&◌, nat_le, length, option_map, None};
 ghost use Rattle.std.specs.List.{list_all};
 ghost use Rattle.serde_json.specs.View.{view, items_view};
-ghost use Rattle.pn_json.specs.Members.{seen, each_in};
+ghost use Rattle.pn_json.specs.Prelude.{seen, each_in};
 ghost use Rattle.pn_scan.specs.Queries.{shown_condition, is_condition, max_conditions};
 ghost use Rattle.pn_scan.specs.ConditionReading.{conditions_in, conditions_at as conditions_spelled, condition_at};
 ghost use Rattle.pn_scan.specs.UncheckedQueries.{AreParsed, are_conditions};

@@ -2,9 +2,8 @@
 
 ghost use Rattle.std.specs.Prelude.{◌≡◌, IfOk, IfErr, IsTrue};
 ghost use Rattle.serde_json.specs.View.{view};
-ghost use Rattle.pn_json.specs.Members.{seen};
-ghost use Rattle.pn_json.specs.Answers.{Shows};
-ghost use Rattle.pn_record.specs.Limits.{is_key as in_key};
+ghost use Rattle.pn_json.specs.Prelude.{seen, Shows};
+ghost use Rattle.pn_record.specs.Prelude.{is_key as in_key};
 ghost use Rattle.pn_scan.specs.Queries.{is_end as in_end, is_limit, is_query};
 ghost use Rattle.pn_scan.specs.QueryReading.{key_of as key_spelled, key_in, limit_in, shape_in};
 ghost use Rattle.pn_scan.specs.UncheckedQueries.{seen_text};

@@ -1,8 +1,7 @@
 //! Views, through which tablets are read.
 
 ghost use Rattle.std.specs.Prelude.{◌≡◌, ◌≤◌, Option, length};
-ghost use Rattle.pn_tablet.specs.Layouts.{Bounds, tablet_of};
-ghost use Rattle.pn_tablet.specs.Tablets.{TabletStateValue};
+ghost use Rattle.pn_tablet.specs.Prelude.{Bounds, tablet_of, TabletStateValue};
 ghost use Rattle.pn_scan.specs.Candidates.{Look};
 ghost use Rattle.pn_scan.specs.Views.{LooksOnce, rows_at, cell_at};
 

@@ -2,7 +2,7 @@
 
 ghost use Rattle.std.specs.Prelude.{◌≡◌, map, string_bytes, IfOk, IsSome, Some};
 ghost use Rattle.clap.specs.Words.{found_of, kind_of, rows_of, subcommand_rows_of};
-ghost use Rattle.pn_json.specs.Answers.{IsUnless, ShowsUnless};
+ghost use Rattle.pn_json.specs.Prelude.{IsUnless, ShowsUnless};
 ghost use Rattle.pn_serve.specs.Arguments.Plans.{Answers, HasSessions, Plans};
 ghost use Rattle.pn_serve.specs.Arguments.Commands.{plan_in, replay_in, serve_in, settings_in};
 ghost use Rattle.pn_serve.specs.Arguments.PlanValues.{plan_value};

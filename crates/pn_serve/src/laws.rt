@@ -4,14 +4,10 @@
 //! and a run that stopped names the lines that it answered.
 
 ghost use Rattle.std.specs.Prelude.{◌≡◌, ℕ, max, List};
-ghost use Rattle.pn_join.specs.Laws.{JoinLaws};
-ghost use Rattle.pn_join.specs.Tables.{key_by_key};
-ghost use Rattle.pn_record.specs.CellMap.{table_of};
-ghost use Rattle.pn_record.specs.Sets.{cell_joined};
-ghost use Rattle.pn_region.specs.Events.{AreHonestEvents};
-ghost use Rattle.pn_region.specs.Regions.{new_region};
-ghost use Rattle.pn_protocol.specs.Command.Lines.{command_at};
-ghost use Rattle.pn_protocol.specs.Command.Lookups.{AsksForRecords};
+ghost use Rattle.pn_join.specs.Prelude.{JoinLaws, key_by_key};
+ghost use Rattle.pn_record.specs.Prelude.{table_of, cell_joined};
+ghost use Rattle.pn_region.specs.Prelude.{AreHonestEvents, new_region};
+ghost use Rattle.pn_protocol.specs.Prelude.{command_at, AsksForRecords};
 ghost use Rattle.pn_serve.specs.Machine.LastTurns.{end_turn};
 ghost use Rattle.pn_serve.specs.Machine.Outcomes.{Outcome};
 ghost use Rattle.pn_serve.specs.Machine.Turns.{turn};
@@ -20,7 +16,7 @@ ghost use Rattle.pn_serve.specs.Script.Inputs.{Input, all_lines, after_input};
 ghost use Rattle.pn_serve.specs.Script.Losses.{NoLosses};
 ghost use Rattle.pn_serve.specs.Script.Taken.{NothingLost};
 ghost use Rattle.pn_serve.specs.Script.Told.{Told, machine_of, records_of, images_of, TookTheSame, AwaitsCommand, reply_of, last_reply, AreAlike, IsNoOlder};
-ghost use Rattle.pn_stream.specs.Brokers.{BrokerRecord};
+ghost use Rattle.pn_stream.specs.Prelude.{BrokerRecord};
 
 /// Two regions that took the same images hold exactly their records, and answer further lookups alike, unless memory
 /// runs out. Honest lines make no record of a serving tablet older.

@@ -1,8 +1,8 @@
 //! Runs the commands of lines over a region.
 
 ghost use Rattle.std.specs.Prelude.{◌≡◌, ◌≤◌};
-ghost use Rattle.pn_apply.specs.Limits.{max_workers};
-ghost use Rattle.pn_protocol.specs.Command.Meaning.{command_value, deliver as asking};
+ghost use Rattle.pn_apply.specs.Prelude.{max_workers};
+ghost use Rattle.pn_protocol.specs.Prelude.{command_value, deliver as asking};
 ghost use Rattle.pn_serve.specs.Machine.Modes.{IsDone, with_mode};
 ghost use Rattle.pn_serve.specs.Machine.Outcomes.{waiting};
 ghost use Rattle.pn_serve.specs.Machine.Answers.{AnswersBy, ConcludesBy, Obeys};

@@ -2,15 +2,14 @@
 
 ghost use Rattle.std.specs.Prelude.{◌≡◌, ◌≢◌, ◌≤◌, map, vec_len, vec_capacity, Ok, Err, IfOk, IfErr, IsOk, OnOk, OnErr, IsErrOf, IsTrue, IsFalse, MatchResult};
 ghost use Rattle.std.specs.Io.KnownBytes.{Appends, Keeps};
-ghost use Rattle.pn_apply.specs.Limits.{max_workers};
-ghost use Rattle.pn_line.specs.Sent.{AppendsPrefix};
-ghost use Rattle.pn_live.specs.Limits.{max_readers};
-ghost use Rattle.pn_live.specs.LiveRegions.{IsNewLive, tablets_in};
+ghost use Rattle.pn_apply.specs.Prelude.{max_workers};
+ghost use Rattle.pn_line.specs.Prelude.{AppendsPrefix};
+ghost use Rattle.pn_live.specs.Prelude.{max_readers, IsNewLive, tablets_in};
 ghost use Rattle.pn_serve.specs.Server.Faults.{IsOfRounds};
 ghost use Rattle.pn_serve.specs.Server.Reading.{ReadsStreams};
 ghost use Rattle.pn_serve.specs.Server.Served.{EndsReading, EndsRegion, EndsServing};
 ghost use Rattle.pn_serve.specs.Server.Sessions.{AllRead};
-ghost use Rattle.pn_protocol.specs.Reply.Short.{served_line};
+ghost use Rattle.pn_protocol.specs.Prelude.{served_line};
 
 mod bell;
 mod connections;

@@ -1,8 +1,8 @@
 //! Settings of a region.
 
 ghost use Rattle.std.specs.Prelude.{◌≡◌, ◌≤◌, ◌↔◌, IfSome, IsSome};
-ghost use Rattle.pn_tablet.specs.Layouts.{IsLayout};
-ghost use Rattle.pn_apply.specs.Limits.{max_workers};
+ghost use Rattle.pn_tablet.specs.Prelude.{IsLayout};
+ghost use Rattle.pn_apply.specs.Prelude.{max_workers};
 
 use pn_apply::MAX_WORKERS;
 use pn_tablet::Layout;
@@ -17,8 +17,8 @@ pub struct Settings {
 
 impl Model for Settings {
     ghost use Rattle.std.specs.Prelude.{◌≤◌};
-    ghost use Rattle.pn_tablet.specs.Layouts.{IsLayout};
-    ghost use Rattle.pn_apply.specs.Limits.{max_workers};
+    ghost use Rattle.pn_tablet.specs.Prelude.{IsLayout};
+    ghost use Rattle.pn_apply.specs.Prelude.{max_workers};
     ghost use Rattle.pn_serve.specs.Settings.{SettingsValue};
 
     ghost Value = { SettingsValue };

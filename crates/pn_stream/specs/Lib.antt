@@ -5,5 +5,6 @@ pub mod Faults
 pub mod MessageLines
 pub mod Messages
 pub mod Positions
+pub mod Prelude
 pub mod Steps
 pub mod Streams

@@ -2,11 +2,9 @@
 
 ghost use Rattle.std.specs.Prelude.{◌≡◌, ◌<◌, ◌↔◌, length, IfOk, IfErr, IsOk, IsErrOf, IsTrue};
 ghost use Rattle.serde_json.specs.View.{view};
-ghost use Rattle.pn_json.specs.Answers.{IsUnless};
-ghost use Rattle.pn_record.specs.Faults.{IsOfValue};
-ghost use Rattle.pn_record.specs.Seen.{body_rises};
-ghost use Rattle.pn_join.specs.Marks.{is_position as position_of};
-ghost use Rattle.pn_record.specs.Limits.{max_line_bytes};
+ghost use Rattle.pn_json.specs.Prelude.{IsUnless};
+ghost use Rattle.pn_record.specs.Prelude.{IsOfValue, body_rises, max_line_bytes};
+ghost use Rattle.pn_join.specs.Prelude.{is_position as position_of};
 ghost use Rattle.pn_stream.specs.Messages.{Message, shape_in, ranges_in, message_in, message_at};
 ghost use Rattle.pn_stream.specs.MessageLines.{IsMessage, IsMessageLine, message_data};
 

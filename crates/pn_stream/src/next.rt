@@ -1,9 +1,8 @@
 //! The next messages of a stream, read from the lines of its source.
 
 ghost use Rattle.std.specs.Prelude.{◌≡◌, ◌+◌, ◌<◌, ◌≤◌, false, [], ◌∷◌, ◌++◌, length, IfOk, IfErr, IfSome, OnOk, OnSome, OnErr, IsErrOf, IsSome, IsTrue};
-ghost use Rattle.pn_line.specs.Line.{so_far};
-ghost use Rattle.pn_line.specs.Reads.{HasShown};
-ghost use Rattle.pn_record.specs.Limits.{greatest};
+ghost use Rattle.pn_line.specs.Prelude.{so_far, HasShown};
+ghost use Rattle.pn_record.specs.Prelude.{greatest};
 ghost use Rattle.pn_stream.specs.Steps.{line_ended, image_in_step};
 ghost use Rattle.pn_stream.specs.MessageLines.{IsMessageLine};
 ghost use Rattle.pn_stream.specs.Faults.{Refuses, Stands};

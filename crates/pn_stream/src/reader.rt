@@ -1,7 +1,7 @@
 //! Readers of streams: the next messages of a stream in the order of their positions, however its bytes arrive.
 
 ghost use Rattle.std.specs.Prelude.{◌≡◌, ◌≢◌, ◌+◌, ◌≤◌, [], ◌++◌, length, min, IfErr, IfSome, OnOk, IsTrue};
-ghost use Rattle.pn_record.specs.Limits.{greatest, max_line_bytes};
+ghost use Rattle.pn_record.specs.Prelude.{greatest, max_line_bytes};
 ghost use Rattle.pn_stream.specs.Batches.{Batch};
 ghost use Rattle.pn_stream.specs.Calls.{IsCall};
 
@@ -29,7 +29,7 @@ pub struct StreamReader<S: Drop> {
 
 impl<S: Drop> Model for StreamReader<S> {
     ghost use Rattle.std.specs.Prelude.{◌≤◌, IfSome};
-    ghost use Rattle.pn_record.specs.Limits.{greatest};
+    ghost use Rattle.pn_record.specs.Prelude.{greatest};
     ghost use Rattle.pn_stream.specs.Batches.{Stream, IsPart, part_of};
 
     ghost Value = { Stream S };

@@ -1,8 +1,7 @@
 //! The laws of the texts of copies, as contracts. A call does nothing.
 
 ghost use Rattle.std.specs.Prelude.{◌≡◌, ◌<◌, ◌↔◌, ◌∷◌, ◌++◌, ℕ, List, length, All, Ok, Err};
-ghost use Rattle.pn_line.specs.Reads.{IsUnbroken};
-ghost use Rattle.pn_line.specs.Text.{text_of};
+ghost use Rattle.pn_line.specs.Prelude.{IsUnbroken, text_of};
 ghost use Rattle.pn_tablet.specs.Copies.{TabletCopyValue};
 ghost use Rattle.pn_tablet.specs.CopyReading.{copy_at};
 ghost use Rattle.pn_tablet.specs.CopyTexts.{IsCopyText};

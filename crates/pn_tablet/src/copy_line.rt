@@ -2,9 +2,8 @@
 
 ghost use Rattle.std.specs.Prelude.{◌≡◌, IfOk, IsTrue};
 ghost use Rattle.serde_json.specs.View.{view};
-ghost use Rattle.pn_json.specs.Answers.{IsUnless, Shows, ShowsUnless};
-ghost use Rattle.pn_json.specs.Members.{seen, member_as};
-ghost use Rattle.pn_record.specs.Reading.{value_at};
+ghost use Rattle.pn_json.specs.Prelude.{IsUnless, Shows, ShowsUnless, seen, member_as};
+ghost use Rattle.pn_record.specs.Prelude.{value_at};
 ghost use Rattle.pn_tablet.specs.CopyLines.{is_end as in_end, is_range, seen_text};
 ghost use Rattle.pn_tablet.specs.CopyLineReading.{end_of as end_spelled, or_as, if_fits, head_in, mark_in, end_in, record_in, line_in, head_at, line_at};
 

@@ -3,12 +3,9 @@
 ghost use Rattle.std.specs.Prelude.{◌≡◌, ◌∷◌, [], ◌++◌, map, codes, IfOk, OnOk, IsTrue};
 ghost use Rattle.std.specs.Option.{option_copied};
 ghost use Rattle.serde_json.specs.Data.{Data, object};
-ghost use Rattle.pn_join.specs.Marks.{is_position};
-ghost use Rattle.pn_json.specs.Tokens.{Appends, member_tokens, value_tokens};
-ghost use Rattle.pn_record.specs.Canonical.{is_image};
-ghost use Rattle.pn_record.specs.Showing.{shown_field, shown_body};
-ghost use Rattle.pn_record.specs.Tokens.{body_tokens, field_tokens};
-ghost use Rattle.pn_record.specs.Writing.{fields_data, image_data};
+ghost use Rattle.pn_join.specs.Prelude.{is_position};
+ghost use Rattle.pn_json.specs.Prelude.{Appends, member_tokens, value_tokens};
+ghost use Rattle.pn_record.specs.Prelude.{is_image, shown_field, shown_body, body_tokens, field_tokens, fields_data, image_data};
 ghost use Rattle.pn_tablet.specs.CopyLines.{key_data, is_end, head_data, mark_data, end_data, IsHead};
 ghost use Rattle.pn_tablet.specs.CopyWriting.{line_text, IsWritten, WritesValue, WritesLines};
 ghost use Rattle.pn_tablet.specs.Ranges.{are_ends};

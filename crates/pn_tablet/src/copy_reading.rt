@@ -1,7 +1,7 @@
 //! Copies, read from their text.
 
 ghost use Rattle.std.specs.Prelude.{◌≡◌, ◌≤◌, ◌<◌, ◌∷◌, [], length, Ok, IfOk, MatchOption};
-ghost use Rattle.pn_json.specs.Answers.{IsUnless};
+ghost use Rattle.pn_json.specs.Prelude.{IsUnless};
 ghost use Rattle.pn_tablet.specs.Copies.{TabletCopyValue};
 ghost use Rattle.pn_tablet.specs.CopyReading.{pieces_of, read_on, copy_at};
 ghost use Rattle.pn_tablet.specs.CopyTexts.{IsCopyText};

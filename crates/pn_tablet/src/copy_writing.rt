@@ -1,11 +1,8 @@
 //! Copies, written as text.
 
 ghost use Rattle.std.specs.Prelude.{◌≡◌, ◌+◌, ◌≤◌, Ok, IfOk, IsTrue, length, map, string_bytes, IsUtf8};
-ghost use Rattle.pn_join.specs.Marks.{are_positions};
-ghost use Rattle.pn_join.specs.Tables.{IsTable};
-ghost use Rattle.pn_record.specs.Cells.{spell, spell_cell};
-ghost use Rattle.pn_record.specs.Order.{bytes_cmp};
-ghost use Rattle.pn_record.specs.Sets.{HasContents};
+ghost use Rattle.pn_join.specs.Prelude.{are_positions, IsTable};
+ghost use Rattle.pn_record.specs.Prelude.{spell, spell_cell, bytes_cmp, HasContents};
 ghost use Rattle.pn_tablet.specs.CopyReading.{copy_at};
 ghost use Rattle.pn_tablet.specs.CopyTexts.{mark_line, IsCopyText};
 ghost use Rattle.pn_tablet.specs.CopyWriting.{copy_text, WritesLines};

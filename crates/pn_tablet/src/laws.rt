@@ -2,11 +2,9 @@
 
 ghost use Rattle.std.specs.Prelude.{◌≡◌, ℕ, List, Ok, fold};
 ghost use Rattle.std.specs.FinMap.{find};
-ghost use Rattle.pn_join.specs.Marks.{Positions, Reaches};
+ghost use Rattle.pn_join.specs.Prelude.{Positions, Reaches};
 ghost use Rattle.pn_record.specs.declared.image.Image.{Image};
-ghost use Rattle.pn_record.specs.Order.{bytes_cmp};
-ghost use Rattle.pn_record.specs.CellMap.{Entries, table_of};
-ghost use Rattle.pn_record.specs.Older.{NotOlder};
+ghost use Rattle.pn_record.specs.Prelude.{bytes_cmp, Entries, table_of, NotOlder};
 ghost use Rattle.pn_tablet.specs.Copies.{TabletCopyValue};
 ghost use Rattle.pn_tablet.specs.Laws.{IsSpelled, Rise, AreJoins, Grows};
 ghost use Rattle.pn_tablet.specs.Steps.{step, stepped};

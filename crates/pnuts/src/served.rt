@@ -1,7 +1,7 @@
 //! Streams from files, served to sessions over TCP.
 
 ghost use Rattle.std.specs.Prelude.{◌≡◌, ◌≤◌, vec_len, IfOk};
-ghost use Rattle.pn_live.specs.Limits.{max_readers};
+ghost use Rattle.pn_live.specs.Prelude.{max_readers};
 
 use crate::{fail, fail_about};
 use pn_join::Name;

@@ -2,7 +2,7 @@
 
 ghost use Rattle.std.specs.Prelude.{◌≡◌, IsTrue};
 ghost use mathlib.Core.List.{IsPrefix};
-ghost use Rattle.pn_tablet.specs.Steps.{state_of};
+ghost use Rattle.pn_tablet.specs.Prelude.{state_of};
 ghost use Rattle.pn_live.specs.Published.{published, state_in, seen_by, told_to, IsReaderOf};
 
 use super::LiveTablet;

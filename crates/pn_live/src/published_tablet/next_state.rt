@@ -1,9 +1,7 @@
 //! The next state of a live tablet, before it is published.
 
 ghost use Rattle.std.specs.Prelude.{◌≡◌, Ok, IsOk, IfOk, option_map};
-ghost use Rattle.pn_tablet.specs.Needs.{lacking};
-ghost use Rattle.pn_tablet.specs.Operations.{HasPositions};
-ghost use Rattle.pn_tablet.specs.Steps.{step};
+ghost use Rattle.pn_tablet.specs.Prelude.{lacking, HasPositions, step};
 ghost use Rattle.pn_live.specs.PublishedTablets.{state_at};
 ghost use Rattle.pn_live.specs.Recovery.{too_old};
 

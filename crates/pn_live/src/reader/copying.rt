@@ -1,7 +1,7 @@
 //! Copies of tablets through a reader.
 
 ghost use Rattle.std.specs.Prelude.{◌≡◌, ◌≤◌, length, Option};
-ghost use Rattle.pn_tablet.specs.Tablets.{TabletStateValue};
+ghost use Rattle.pn_tablet.specs.Prelude.{TabletStateValue};
 ghost use Rattle.pn_live.specs.Copying.{IsCopied};
 ghost use Rattle.pn_live.specs.Readers.{tablets_of};
 

@@ -1,10 +1,7 @@
 //! Reads of many records through a reader.
 
 ghost use Rattle.std.specs.Prelude.{◌≡◌, List};
-ghost use Rattle.pn_scan.specs.Candidates.{Look};
-ghost use Rattle.pn_scan.specs.Pages.{first_page};
-ghost use Rattle.pn_scan.specs.Reads.{IsGet};
-ghost use Rattle.pn_scan.specs.Visits.{IsScan};
+ghost use Rattle.pn_scan.specs.Prelude.{Look, first_page, IsGet, IsScan};
 ghost use Rattle.pn_live.specs.Readers.{LooksLive, tablets_of};
 
 use super::LiveReader;

@@ -1,7 +1,7 @@
 //! How the next states of all tablets are published, one tablet after another.
 
 ghost use Rattle.std.specs.Prelude.{◌≡◌, [], length, map, vec_capacity};
-ghost use Rattle.pn_apply.specs.Applying.{AreJoinsIn, HavePositions, all_stepped};
+ghost use Rattle.pn_apply.specs.Prelude.{AreJoinsIn, HavePositions, all_stepped};
 ghost use Rattle.pn_live.specs.PublishedTablets.{state_at, all_appended, notes_of};
 
 use crate::front::{Front, TabletNote};

@@ -2,14 +2,10 @@
 
 ghost use Rattle.std.specs.Prelude.{◌≡◌, ◌≤◌, length, slice_get, Ok, IfOk, IfErr, OnOk, OnErr, IsSomeAnd};
 ghost use Rattle.std.specs.List.{position};
-ghost use Rattle.pn_tablet.specs.Operations.{HasPositions};
-ghost use Rattle.pn_tablet.specs.Refusals.{Refuses};
-ghost use Rattle.pn_tablet.specs.Steps.{step, is_memory};
-ghost use Rattle.pn_tablet.specs.Tablets.{same_range};
+ghost use Rattle.pn_tablet.specs.Prelude.{HasPositions, Refuses, step, same_range};
+ghost use Rattle.pn_tablet.specs.Steps.{is_memory};
 ghost use Rattle.pn_tablet.specs.declared.op.TabletOp.TheVariants.{Lose};
-ghost use Rattle.pn_region.specs.Recovery.{losing, stepping, adopting};
-ghost use Rattle.pn_region.specs.Regions.{IsRegion};
-ghost use Rattle.pn_region.specs.Since.{IsSince};
+ghost use Rattle.pn_region.specs.Prelude.{losing, stepping, adopting, IsRegion, IsSince};
 ghost use Rattle.pn_live.specs.LiveRegions.{core, tablets_in};
 ghost use Rattle.pn_live.specs.PublishedTablets.{state_at, notes_of};
 ghost use Rattle.pn_live.specs.Readers.{AreNotesOf};

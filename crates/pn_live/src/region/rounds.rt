@@ -2,14 +2,9 @@
 
 ghost use Rattle.std.specs.Prelude.{◌≡◌, ◌≤◌, [], length, map, vec_capacity, Ok, IfOk, IfErr, OnOk};
 ghost use Rattle.std.specs.List.{flat_map};
-ghost use Rattle.pn_tablet.specs.Changes.{changes};
-ghost use Rattle.pn_tablet.specs.Refusals.{Refuses};
-ghost use Rattle.pn_apply.specs.Applying.{AreJoinsIn, HavePositions, all_stepped, all_changes};
-ghost use Rattle.pn_apply.specs.Limits.{max_workers};
-ghost use Rattle.pn_region.specs.Logged.{noting, refused_log};
-ghost use Rattle.pn_region.specs.Marking.{is_memory, new_marks};
-ghost use Rattle.pn_region.specs.Regions.{AreRegionMarks, IsRegion, all_cells};
-ghost use Rattle.pn_region.specs.Rounds.{joins, round, changed, Leaves};
+ghost use Rattle.pn_tablet.specs.Prelude.{changes, Refuses};
+ghost use Rattle.pn_apply.specs.Prelude.{AreJoinsIn, HavePositions, all_stepped, all_changes, max_workers};
+ghost use Rattle.pn_region.specs.Prelude.{noting, refused_log, is_memory, new_marks, AreRegionMarks, IsRegion, all_cells, joins, round, changed, Leaves};
 ghost use Rattle.pn_live.specs.LiveRegions.{core, publishing, LeavesLive, tablets_in};
 ghost use Rattle.pn_live.specs.PublishedTablets.{notes_of, state_at};
 ghost use Rattle.pn_live.specs.Readers.{AreNotesOf};

@@ -1,7 +1,7 @@
 //! Copies of a tablet through its reader.
 
 ghost use Rattle.std.specs.Prelude.{Option};
-ghost use Rattle.pn_tablet.specs.Tablets.{TabletStateValue};
+ghost use Rattle.pn_tablet.specs.Prelude.{TabletStateValue};
 ghost use Rattle.pn_live.specs.Copying.{IsOneCopy};
 
 use super::TabletReader;

@@ -12,7 +12,7 @@ pub(crate) struct BatchShape<'v> {
 }
 
 impl<'v> Model for BatchShape<'v> {
-    ghost use Rattle.pn_stream.specs.Positions.{DeliveryValue};
+    ghost use Rattle.pn_stream.specs.Prelude.{DeliveryValue};
 
     ghost Value = { DeliveryValue };
 

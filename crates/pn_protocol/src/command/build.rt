@@ -2,10 +2,8 @@
 
 ghost use Rattle.std.specs.Prelude.{◌≡◌, option_map, IfOk, IsOk, IsTrue, Ok};
 ghost use Rattle.serde_json.specs.View.{view, items_view};
-ghost use Rattle.pn_json.specs.Members.{seen, texts, each_in};
-ghost use Rattle.pn_record.specs.Grammar.{image_in};
-ghost use Rattle.pn_record.specs.Limits.{is_key};
-ghost use Rattle.pn_record.specs.Parts.{text_at};
+ghost use Rattle.pn_json.specs.Prelude.{seen, texts, each_in};
+ghost use Rattle.pn_record.specs.Prelude.{image_in, is_key, text_at};
 ghost use Rattle.pn_protocol.specs.Command.BatchParts.{batch_in, number_at, items_at as items_there};
 ghost use Rattle.pn_protocol.specs.Command.RangeChecks.{keys_fit};
 

@@ -2,7 +2,7 @@
 
 ghost use Rattle.std.specs.Prelude.{◌≡◌, IsErrOf};
 ghost use Rattle.serde_json.specs.View.{view, members_view};
-ghost use Rattle.pn_json.specs.Answers.{Shows};
+ghost use Rattle.pn_json.specs.Prelude.{Shows};
 ghost use Rattle.pn_protocol.specs.Command.Limits.{may_be_asked};
 ghost use Rattle.pn_protocol.specs.Command.Meaning.{command_value};
 ghost use Rattle.pn_protocol.specs.Command.Notices.{notices_in};

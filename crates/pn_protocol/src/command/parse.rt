@@ -2,8 +2,8 @@
 
 ghost use Rattle.std.specs.Prelude.{◌≡◌, ◌<◌, false, Ok, length, IfOk, IsOk, IsErrOf, IsTrue};
 ghost use Rattle.serde_json.specs.View.{view, members_view};
-ghost use Rattle.pn_json.specs.Answers.{Shows, ShowsUnless};
-ghost use Rattle.pn_record.specs.Limits.{max_line_bytes};
+ghost use Rattle.pn_json.specs.Prelude.{Shows, ShowsUnless};
+ghost use Rattle.pn_record.specs.Prelude.{max_line_bytes};
 ghost use Rattle.pn_protocol.specs.Command.BatchParts.{deliver_at};
 ghost use Rattle.pn_protocol.specs.Command.Grammar.{IsCommandLine};
 ghost use Rattle.pn_protocol.specs.Command.Meaning.{CommandValue, deliver, command_value};

@@ -1,8 +1,8 @@
 //! Checks the ranges of a line's parts.
 
 ghost use Rattle.std.specs.Prelude.{◌≡◌, IsErrOf};
-ghost use Rattle.pn_json.specs.Members.{texts};
-ghost use Rattle.pn_record.specs.Limits.{is_key};
+ghost use Rattle.pn_json.specs.Prelude.{texts};
+ghost use Rattle.pn_record.specs.Prelude.{is_key};
 ghost use Rattle.pn_protocol.specs.Command.RangeChecks.{fits, each_fits, image_fits, batch_fits, batches_fit, keys_fit};
 
 use crate::command::batch::BatchShape;

@@ -2,8 +2,7 @@
 
 ghost use Rattle.std.specs.Prelude.{◌≡◌, [], vec_capacity, IfOk, IsErrOf};
 ghost use Rattle.serde_json.specs.View.{view, items_view, members_view};
-ghost use Rattle.pn_json.specs.Answers.{Shows, ShowsUnless, IsUnless};
-ghost use Rattle.pn_json.specs.Members.{seen, texts, each_in};
+ghost use Rattle.pn_json.specs.Prelude.{Shows, ShowsUnless, IsUnless, seen, texts, each_in};
 ghost use Rattle.pn_protocol.specs.Command.ShapeChecks.{named_alone, image_shape, batch_shape, key_shape, required_in, version_shape};
 
 use crate::command::batch::BatchShape;

@@ -1,7 +1,7 @@
 //! The words of commands.
 
 ghost use Rattle.std.specs.Prelude.{◌≡◌};
-ghost use Rattle.pn_json.specs.Members.{seen, member_as};
+ghost use Rattle.pn_json.specs.Prelude.{seen, member_as};
 ghost use Rattle.pn_protocol.specs.Command.Words.{word_of as word_named, word_in};
 ghost use Rattle.pn_protocol.specs.declared.refusal.Part.TheVariants.{Do};
 

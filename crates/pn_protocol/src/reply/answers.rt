@@ -2,7 +2,7 @@
 
 ghost use Rattle.std.specs.Prelude.{◌≡◌, MatchResult, IfOk};
 ghost use Rattle.std.specs.List.{count_by};
-ghost use Rattle.pn_json.specs.Lines.{line_of};
+ghost use Rattle.pn_json.specs.Prelude.{line_of};
 ghost use Rattle.pn_protocol.specs.declared.reply.Reply.TheVariants.{NotTaken, Text, Refused};
 ghost use Rattle.pn_protocol.specs.declared.refusal.Refusal.TheVariants.{Memory as no_memory};
 ghost use Rattle.pn_protocol.specs.Reply.Answers.{ShowsFound, ShowsCopy, ShowsCopyOf};

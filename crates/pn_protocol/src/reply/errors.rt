@@ -1,8 +1,7 @@
 //! Errors as replies: their names and their details.
 
 ghost use Rattle.std.specs.Prelude.{◌≡◌, IfOk, OnOk};
-ghost use Rattle.pn_json.specs.Lines.{line_of};
-ghost use Rattle.pn_json.specs.Tokens.{Appends, value_tokens};
+ghost use Rattle.pn_json.specs.Prelude.{line_of, Appends, value_tokens};
 ghost use Rattle.pn_protocol.specs.Reply.Errors.{details_members, details_tokens, error_data, short_tokens, too_old_tokens};
 
 use crate::reply::rows::write_version_or_null;

@@ -1,7 +1,7 @@
 //! Replies to commands that were refused, by their faults.
 
 ghost use Rattle.std.specs.Prelude.{◌≡◌, IfOk};
-ghost use Rattle.pn_json.specs.Lines.{line_of};
+ghost use Rattle.pn_json.specs.Prelude.{line_of};
 ghost use Rattle.pn_protocol.specs.Reply.Faults.{fault_data};
 ghost use Rattle.pn_protocol.specs.Reply.Lookups.{refused_data};
 ghost use Rattle.pn_protocol.specs.Reply.Recovery.{bad_text_data, no_copy_data, not_adopted_data};

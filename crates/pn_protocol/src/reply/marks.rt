@@ -1,8 +1,7 @@
 //! The reply that shows how far streams were taken.
 
 ghost use Rattle.std.specs.Prelude.{◌≡◌, IfOk, OnOk};
-ghost use Rattle.pn_json.specs.Lines.{line_of};
-ghost use Rattle.pn_json.specs.Tokens.{Appends, value_tokens};
+ghost use Rattle.pn_json.specs.Prelude.{line_of, Appends, value_tokens};
 ghost use Rattle.pn_protocol.specs.Reply.Marks.{shown_marks};
 
 use json::Writer;

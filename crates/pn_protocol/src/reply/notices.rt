@@ -3,8 +3,7 @@
 ghost use Rattle.std.specs.Prelude.{◌≡◌, map, IfOk, OnOk};
 ghost use Rattle.serde_json.specs.Data.{array};
 ghost use Rattle.serde_json.specs.View.{items_of};
-ghost use Rattle.pn_json.specs.Lines.{line_of};
-ghost use Rattle.pn_json.specs.Tokens.{Appends, value_tokens};
+ghost use Rattle.pn_json.specs.Prelude.{line_of, Appends, value_tokens};
 ghost use Rattle.pn_protocol.specs.Reply.Notices.{notice_data, notices_data, missed_data, found_since};
 
 use crate::reply::rows::write_version_or_null;

@@ -4,8 +4,7 @@ ghost use Rattle.std.specs.Prelude.{◌≡◌, IfOk, OnOk};
 ghost use Rattle.std.specs.Option.{option_copied};
 ghost use Rattle.serde_json.specs.Data.{array};
 ghost use Rattle.serde_json.specs.View.{items_of};
-ghost use Rattle.pn_json.specs.Lines.{line_of};
-ghost use Rattle.pn_json.specs.Tokens.{Appends, value_tokens, values_tokens};
+ghost use Rattle.pn_json.specs.Prelude.{line_of, Appends, value_tokens, values_tokens};
 ghost use Rattle.pn_protocol.specs.Reply.Record.{row_or_null, read_data, rows_or_nulls, get_data};
 
 use crate::reply::room::{room_of_found, room_of_row_or_null};

@@ -1,7 +1,7 @@
 //! Rows of records, written straight into the line of a reply.
 
 ghost use Rattle.std.specs.Prelude.{◌≡◌, IfOk, OnOk};
-ghost use Rattle.pn_json.specs.Tokens.{Appends, IsBegun, value_tokens};
+ghost use Rattle.pn_json.specs.Prelude.{Appends, IsBegun, value_tokens};
 ghost use Rattle.pn_protocol.specs.Reply.Versions.{version_or_null};
 ghost use Rattle.pn_protocol.specs.Reply.Rows.{row_data, state_word as word_of_state};
 

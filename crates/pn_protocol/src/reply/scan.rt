@@ -4,8 +4,7 @@ ghost use Rattle.std.specs.Prelude.{◌≡◌, map, IfOk, OnOk};
 ghost use Rattle.std.specs.Option.{option_copied};
 ghost use Rattle.serde_json.specs.Data.{array};
 ghost use Rattle.serde_json.specs.View.{items_of};
-ghost use Rattle.pn_json.specs.Lines.{line_of};
-ghost use Rattle.pn_json.specs.Tokens.{Appends, value_tokens, values_tokens};
+ghost use Rattle.pn_json.specs.Prelude.{line_of, Appends, value_tokens, values_tokens};
 ghost use Rattle.pn_protocol.specs.Reply.Rows.{row_data};
 ghost use Rattle.pn_protocol.specs.Reply.Scan.{next_data, scan_data};
 

@@ -1,7 +1,7 @@
 //! Replies of fixed texts, names and numbers, held in place.
 
 ghost use Rattle.std.specs.Prelude.{◌≡◌, ◌+◌, ◌≤◌, [], ◌++◌, codes, decimal, length};
-ghost use Rattle.pn_json.specs.Lines.{line_of};
+ghost use Rattle.pn_json.specs.Prelude.{line_of};
 ghost use Rattle.pn_protocol.specs.Reply.Short.{refusal_data, adopted_data, changed_data, lines_data, lost_data, served_line};
 
 use crate::Refusal;

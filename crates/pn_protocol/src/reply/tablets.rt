@@ -4,9 +4,8 @@ ghost use Rattle.std.specs.Prelude.{◌≡◌, ◌≤◌, length, map, Some, IfO
 ghost use Rattle.std.specs.Option.{option_copied};
 ghost use Rattle.serde_json.specs.Data.{array};
 ghost use Rattle.serde_json.specs.View.{items_of};
-ghost use Rattle.pn_json.specs.Lines.{line_of};
-ghost use Rattle.pn_json.specs.Tokens.{Appends, value_tokens};
-ghost use Rattle.pn_tablet.specs.Tablets.{TabletStateValue};
+ghost use Rattle.pn_json.specs.Prelude.{line_of, Appends, value_tokens};
+ghost use Rattle.pn_tablet.specs.Prelude.{TabletStateValue};
 ghost use Rattle.pn_protocol.specs.Reply.Tablets.{end_data, need_data, tablet_data, tablets_data};
 
 use json::Writer;

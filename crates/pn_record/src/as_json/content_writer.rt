@@ -3,7 +3,7 @@
 ghost use Rattle.std.specs.Prelude.{◌≡◌, map, OnOk};
 ghost use Rattle.serde_json.specs.Data.{array, object};
 ghost use Rattle.serde_json.specs.View.{items_of};
-ghost use Rattle.pn_json.specs.Tokens.{Appends, value_tokens};
+ghost use Rattle.pn_json.specs.Prelude.{Appends, value_tokens};
 ghost use Rattle.pn_record.specs.Showing.{shown_field, shown_body};
 ghost use Rattle.pn_record.specs.Tokens.{body_tokens, field_tokens};
 ghost use Rattle.pn_record.specs.Writing.{version_data, content_data, fields_data};

@@ -4,11 +4,9 @@ ghost use Rattle.std.specs.Prelude.{◌≡◌, unwrap_or, string_cmp, IfOk, IfEr
 ghost use Rattle.std.specs.List.{list_all};
 ghost use Rattle.std.specs.BTreeMap.{IsOrdered};
 ghost use Rattle.serde_json.specs.View.{view, members_view};
-ghost use Rattle.pn_join.specs.Marks.{Positions, are_positions};
-ghost use Rattle.pn_join.specs.Naming.{is_name};
-ghost use Rattle.pn_json.specs.Answers.{IsUnless};
+ghost use Rattle.pn_join.specs.Prelude.{Positions, are_positions, is_name};
+ghost use Rattle.pn_json.specs.Prelude.{IsUnless, whole_number};
 ghost use Rattle.pn_record.specs.Faults.{IsOfValue};
-ghost use Rattle.pn_json.specs.Members.{whole_number};
 ghost use Rattle.pn_record.specs.Marks.{IsMarks, is_mark as is_mark_of, all_whole, positions_of, positions_data, marks_data, marks_in};
 
 use crate::{ImageFault, Member};

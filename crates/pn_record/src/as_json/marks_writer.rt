@@ -1,7 +1,7 @@
 //! Writes marks into a line of JSON.
 
 ghost use Rattle.std.specs.Prelude.{OnOk};
-ghost use Rattle.pn_json.specs.Tokens.{Appends, value_tokens};
+ghost use Rattle.pn_json.specs.Prelude.{Appends, value_tokens};
 ghost use Rattle.pn_record.specs.Marks.{marks_data};
 
 use json::Writer;

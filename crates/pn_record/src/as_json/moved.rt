@@ -2,7 +2,7 @@
 
 ghost use Rattle.std.specs.Prelude.{◌≡◌, map, option_map, string_bytes, Some, Ok, IfOk, IsOk, IsTrue};
 ghost use Rattle.serde_json.specs.View.{view, members_view};
-ghost use Rattle.pn_json.specs.Members.{seen};
+ghost use Rattle.pn_json.specs.Prelude.{seen};
 ghost use Rattle.pn_record.specs.Bodies.{names_rise as all_rise};
 ghost use Rattle.pn_record.specs.BodyGrammar.{fields_of};
 ghost use Rattle.pn_record.specs.Grammar.{image_in};

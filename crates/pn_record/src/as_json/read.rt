@@ -7,7 +7,7 @@ ghost use Rattle.pn_record.specs.Bodies.{names_rise as all_rise};
 ghost use Rattle.pn_record.specs.Limits.{max_line_bytes};
 ghost use Rattle.pn_record.specs.Seen.{body_rises, seen_fields};
 ghost use Rattle.pn_record.specs.Showing.{shown_field, shown_body};
-ghost use Rattle.pn_json.specs.Answers.{IsUnless, ShowsUnless};
+ghost use Rattle.pn_json.specs.Prelude.{IsUnless, ShowsUnless};
 ghost use Rattle.pn_record.specs.Faults.{IsOfValue};
 ghost use Rattle.pn_record.specs.BodyGrammar.{fields_of};
 ghost use Rattle.pn_record.specs.Grammar.{ranges_in, image_in};

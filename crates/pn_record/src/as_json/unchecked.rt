@@ -3,8 +3,7 @@
 ghost use Rattle.std.specs.Prelude.{◌≡◌, string_cmp, IsTrue, IfOk};
 ghost use Rattle.std.specs.BTreeMap.{IsOrdered};
 ghost use Rattle.serde_json.specs.View.{view, items_view, members_view};
-ghost use Rattle.pn_json.specs.Members.{seen, member_as};
-ghost use Rattle.pn_json.specs.Answers.{Shows};
+ghost use Rattle.pn_json.specs.Prelude.{seen, member_as, Shows};
 ghost use Rattle.pn_record.specs.BodyGrammar.{all_texts, deleted_in, fields_in};
 ghost use Rattle.pn_record.specs.Grammar.{numbers_in, two_numbers, shape_in};
 ghost use Rattle.pn_record.specs.Seen.{seen_fields, body_rises};

@@ -2,9 +2,9 @@
 
 ghost use Rattle.std.specs.Prelude.{◌≡◌, ◌≤◌, length, IsTrue};
 ghost use Rattle.std.specs.List.{AllByRecursion};
-ghost use Rattle.pn_join.specs.Marks.{are_positions};
-ghost use Rattle.pn_tablet.specs.Layouts.{IsLayout};
-ghost use Rattle.pn_apply.specs.Reducing.{ranges};
+ghost use Rattle.pn_join.specs.Prelude.{are_positions};
+ghost use Rattle.pn_tablet.specs.Prelude.{IsLayout};
+ghost use Rattle.pn_apply.specs.Prelude.{ranges};
 ghost use Rattle.pn_region.specs.Limits.{max_streams};
 ghost use Rattle.pn_region.specs.Regions.{ArePartsOf, IsSound};
 

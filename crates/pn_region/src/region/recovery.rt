@@ -2,10 +2,9 @@
 
 ghost use Rattle.std.specs.Prelude.{◌≡◌, ◌≤◌, length, slice_get, Ok, Err, IfOk, IfErr, OnOk, OnErr, IsSomeAnd};
 ghost use Rattle.std.specs.List.{position};
-ghost use Rattle.pn_tablet.specs.Copying.{copy_of, is_memory as is_no_copy_memory};
-ghost use Rattle.pn_tablet.specs.Refusals.{Answers, Refuses};
+ghost use Rattle.pn_tablet.specs.Copying.{is_memory as is_no_copy_memory};
+ghost use Rattle.pn_tablet.specs.Prelude.{copy_of, Answers, Refuses, same_range};
 ghost use Rattle.pn_tablet.specs.Steps.{is_memory};
-ghost use Rattle.pn_tablet.specs.Tablets.{same_range};
 ghost use Rattle.pn_tablet.specs.declared.fault.CopyFault.TheVariants.{NoEntry};
 ghost use Rattle.pn_region.specs.Logged.{breaking};
 ghost use Rattle.pn_region.specs.Recovery.{losing, adopting};

@@ -2,9 +2,8 @@
 
 ghost use Rattle.std.specs.Option.{ok_or};
 ghost use Rattle.serde_json.specs.View.{view, items_view};
-ghost use Rattle.pn_json.specs.Answers.{IsUnless, ShowsUnless};
-ghost use Rattle.pn_json.specs.Members.{each_in};
-ghost use Rattle.pn_record.specs.Reading.{reading};
+ghost use Rattle.pn_json.specs.Prelude.{IsUnless, ShowsUnless, each_in};
+ghost use Rattle.pn_record.specs.Prelude.{reading};
 ghost use Rattle.pn_serve.specs.Arguments.Bounds.{bounds_in, key_in};
 
 use crate::PlanFault;

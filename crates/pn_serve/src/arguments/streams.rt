@@ -3,8 +3,7 @@
 ghost use Rattle.std.specs.Prelude.{◌≡◌, [], codes, map, unwrap_or};
 ghost use Rattle.clap.specs.Words.{all_of, found_of, rows_of};
 ghost use Rattle.std.specs.Str.{bytes_eq};
-ghost use Rattle.pn_json.specs.Answers.{ShowsUnless};
-ghost use Rattle.pn_json.specs.Members.{texts};
+ghost use Rattle.pn_json.specs.Prelude.{ShowsUnless, texts};
 ghost use Rattle.pn_serve.specs.Arguments.Streams.{each_stream, has_name as name_among, names_differ as all_differ, stream_in, stream_value, streams_in};
 
 use crate::PlanFault;

@@ -1,10 +1,10 @@
 //! Adoption: the lines that `adopt` announces are gathered, and their copy is adopted.
 
 ghost use Rattle.std.specs.Prelude.{◌≡◌, ◌++◌, [], Some, IfOk};
-ghost use Rattle.pn_line.specs.Line.{kept};
-ghost use Rattle.pn_json.specs.Answers.{IsUnless};
-ghost use Rattle.pn_region.specs.Recovery.{adopting};
-ghost use Rattle.pn_tablet.specs.CopyReading.{copy_at};
+ghost use Rattle.pn_line.specs.Prelude.{kept};
+ghost use Rattle.pn_json.specs.Prelude.{IsUnless};
+ghost use Rattle.pn_region.specs.Prelude.{adopting};
+ghost use Rattle.pn_tablet.specs.Prelude.{copy_at};
 ghost use Rattle.pn_serve.specs.Machine.Modes.{bytes_of, mode_of, with_mode};
 ghost use Rattle.pn_serve.specs.Machine.Outcomes.{announced as announced_mode, waiting};
 ghost use Rattle.pn_serve.specs.Machine.Recovering.{adopted, adopting_text};

@@ -1,9 +1,8 @@
 //! Readers of commands.
 
 ghost use Rattle.std.specs.Prelude.{◌≡◌, false, IsErrOf};
-ghost use Rattle.pn_json.specs.Answers.{ShowsUnless};
-ghost use Rattle.pn_protocol.specs.Command.Lines.{command_at, is_too_long};
-ghost use Rattle.pn_protocol.specs.Command.Meaning.{command_value};
+ghost use Rattle.pn_json.specs.Prelude.{ShowsUnless};
+ghost use Rattle.pn_protocol.specs.Prelude.{command_at, is_too_long, command_value};
 
 use pn_protocol::{Command, Refusal};
 use std::alloc::Global;

@@ -1,8 +1,8 @@
 //! Handlers of lines: the region of a script, or a reader of a live region.
 
 ghost use Rattle.std.specs.Prelude.{◌≡◌, ℕ, List};
-ghost use Rattle.pn_line.specs.Line.{so_far};
-ghost use Rattle.pn_live.specs.Readers.{LiveReaderValue};
+ghost use Rattle.pn_line.specs.Prelude.{so_far};
+ghost use Rattle.pn_live.specs.Prelude.{LiveReaderValue};
 ghost use Rattle.pn_serve.specs.Session.Knowing.{KnowsNoLess};
 
 use pn_line::LineBuffer;

@@ -1,9 +1,8 @@
 //! Answers to reads, gets, scans and notices of a script.
 
 ghost use Rattle.std.specs.Prelude.{◌≡◌, IfOk};
-ghost use Rattle.pn_json.specs.Lines.{line_of};
-ghost use Rattle.pn_protocol.specs.Command.Meaning.{get as get_asked, notices as notices_asked, read as read_asked, scan as scan_asked};
-ghost use Rattle.pn_protocol.specs.Reply.Notices.{found_since};
+ghost use Rattle.pn_json.specs.Prelude.{line_of};
+ghost use Rattle.pn_protocol.specs.Prelude.{get as get_asked, notices as notices_asked, read as read_asked, scan as scan_asked, found_since};
 ghost use Rattle.pn_serve.specs.Machine.Outcomes.{waiting};
 ghost use Rattle.pn_serve.specs.Machine.Answers.{Obeys};
 

@@ -1,7 +1,7 @@
 //! The handler of a script's lines.
 
 ghost use Rattle.std.specs.Prelude.{◌≡◌, IfOk};
-ghost use Rattle.pn_region.specs.Regions.{new_region};
+ghost use Rattle.pn_region.specs.Prelude.{new_region};
 ghost use Rattle.pn_serve.specs.Machine.Outcomes.{serving};
 
 use crate::Settings;
@@ -29,7 +29,7 @@ pub(crate) struct ScriptHandler<'a, R> {
 
 impl<'a, R> Model for ScriptHandler<'a, R> {
     ghost use Rattle.std.specs.Prelude.{◌≤◌};
-    ghost use Rattle.pn_apply.specs.Limits.{max_workers};
+    ghost use Rattle.pn_apply.specs.Prelude.{max_workers};
     ghost use Rattle.pn_serve.specs.Machine.Modes.{with_mode};
     ghost use Rattle.pn_serve.specs.Machine.Outcomes.{Machine};
 

@@ -1,7 +1,7 @@
 //! Answers to losses and copies of tablets.
 
 ghost use Rattle.std.specs.Prelude.{◌≡◌};
-ghost use Rattle.pn_protocol.specs.Command.Meaning.{copy as copy_asked, lose as lose_asked};
+ghost use Rattle.pn_protocol.specs.Prelude.{copy as copy_asked, lose as lose_asked};
 ghost use Rattle.pn_serve.specs.Machine.Outcomes.{waiting};
 ghost use Rattle.pn_serve.specs.Machine.Answers.{Obeys};
 

@@ -2,7 +2,7 @@
 
 ghost use Rattle.std.specs.Prelude.{◌≡◌, ◌++◌, [], IfOk, OnOk, OnErr};
 ghost use Rattle.std.specs.Io.KnownBytes.{Appends};
-ghost use Rattle.pn_line.specs.Sent.{Sends, AppendsPrefix};
+ghost use Rattle.pn_line.specs.Prelude.{Sends, AppendsPrefix};
 
 use pn_line::{OUTBOX_ROOM, Outbox, Sink, WriteFault};
 use std::alloc::{AllocError, Global};

@@ -1,16 +1,15 @@
 //! The line loop: each line is read and answered, and its reply waits or is written.
 
 ghost use Rattle.std.specs.Prelude.{◌≡◌, ◌≢◌, ◌+◌, ◌<◌, ◌≤◌, [], ◌++◌, Ok, IfOk, OnOk, OnErr, IsErrOf};
-ghost use Rattle.pn_line.specs.Sent.{Sends, AppendsPrefix};
-ghost use Rattle.pn_json.specs.Lines.{line_of};
+ghost use Rattle.pn_line.specs.Prelude.{Sends, AppendsPrefix};
+ghost use Rattle.pn_json.specs.Prelude.{line_of};
 ghost use Rattle.pn_serve.specs.Lines.Ends.{EndsBy};
 ghost use Rattle.pn_serve.specs.Lines.States.{Start, new_loop};
 ghost use Rattle.pn_serve.specs.Lines.Served.{Served};
 ghost use Rattle.pn_serve.specs.Lines.Answered.{Answered, AnsweredInPart, Closed};
 ghost use Rattle.pn_serve.specs.Lines.Turning.{TurnsTo, EndsWithin};
 ghost use Rattle.pn_serve.specs.Lines.Waiting.{HandsOn, IsAllOut, looks_of_line};
-ghost use Rattle.pn_protocol.specs.Reply.Short.{lines_data};
-ghost use Rattle.pn_protocol.specs.Reply.Texts.{reply_text, is_refusal};
+ghost use Rattle.pn_protocol.specs.Prelude.{lines_data, reply_text, is_refusal};
 ghost use Rattle.pn_serve.specs.Script.Written.{one_if};
 ghost use Rattle.pn_serve.specs.Session.Knowing.{KnowsNoLess};
 

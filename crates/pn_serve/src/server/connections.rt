@@ -1,8 +1,7 @@
 //! Sessions over TCP, each in its own thread, which gives its reader back.
 
 ghost use Rattle.std.specs.Prelude.{◌≡◌, ◌+◌, ◌≤◌, [], length, vec_len, vec_capacity, All, IfOk, IsFalse};
-ghost use Rattle.pn_live.specs.LiveRegions.{tablets_in};
-ghost use Rattle.pn_live.specs.Readers.{tablets_of};
+ghost use Rattle.pn_live.specs.Prelude.{tablets_in, tablets_of};
 ghost use Rattle.pn_serve.specs.Server.Sessions.{AllRead};
 
 use crate::session;
@@ -23,7 +22,7 @@ pub(crate) struct ComesBack(Snapshot<LiveReader>);
 
 impl Promise<LiveReader> for ComesBack {
     ghost use Rattle.std.specs.Prelude.{◌≡◌};
-    ghost use Rattle.pn_live.specs.Readers.{tablets_of};
+    ghost use Rattle.pn_live.specs.Prelude.{tablets_of};
 
     ghost kept_by = { λ promise reader. tablets_of reader ≡ tablets_of promise.0.value };
 }

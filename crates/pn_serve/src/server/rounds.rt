@@ -1,8 +1,8 @@
 //! Rounds of the messages that streams report.
 
 ghost use Rattle.std.specs.Prelude.{◌≡◌, ◌+◌, ◌<◌, ◌≤◌, [], map, vec_len, vec_capacity, All, Contains, None, Some, Ok, Err, IfOk, IfErr, IfSome, OnOk, OnErr, MatchResult};
-ghost use Rattle.pn_apply.specs.Limits.{max_workers};
-ghost use Rattle.pn_live.specs.LiveRegions.{tablets_in};
+ghost use Rattle.pn_apply.specs.Prelude.{max_workers};
+ghost use Rattle.pn_live.specs.Prelude.{tablets_in};
 ghost use Rattle.pn_serve.specs.Server.Faults.{IsOfRounds};
 ghost use Rattle.pn_serve.specs.Server.Gathering.{IsGathered, nothing_gathered, value_of, with_report};
 ghost use Rattle.pn_serve.specs.Server.Messages.{FitRound};
@@ -127,9 +127,7 @@ fn add_report(gathered: &mut Gathered, name: &StreamName, report: Report)
 fn same_name(name: &StreamName) -> StreamName
     ensures { result ≡ name.now }
 {
-    let Ok(name) = name.dup() else {
-        unreachable!()
-    };
+    let Ok(name) = name.dup() else { unreachable!() };
     name
 }
 

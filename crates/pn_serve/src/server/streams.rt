@@ -1,7 +1,7 @@
 //! Reads streams, each in its own thread, which leaves reports in its mailbox.
 
 ghost use Rattle.std.specs.Prelude.{◌≡◌, ◌≤◌, ◌∷◌, [], ◌++◌, map, vec_len, All, IfOk, IfErr, IsErr, OnOk, OnErr, MatchResult};
-ghost use Rattle.pn_join.specs.Marks.{position_of};
+ghost use Rattle.pn_join.specs.Prelude.{position_of};
 ghost use Rattle.pn_serve.specs.Server.Faults.{NamesOne, names_of};
 ghost use Rattle.pn_serve.specs.Server.Whole.{EndsStream, IsTaken};
 

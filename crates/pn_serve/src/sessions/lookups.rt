@@ -1,8 +1,8 @@
 //! Answers to the lookups of a session.
 
 ghost use Rattle.std.specs.Prelude.{◌≡◌};
-ghost use Rattle.pn_live.specs.Readers.{tablets_of};
-ghost use Rattle.pn_protocol.specs.Command.Meaning.{command_value};
+ghost use Rattle.pn_live.specs.Prelude.{tablets_of};
+ghost use Rattle.pn_protocol.specs.Prelude.{command_value};
 ghost use Rattle.pn_serve.specs.Session.Lines.{AnswersLine, LooksUp};
 ghost use Rattle.pn_serve.specs.Session.Lookups.{LooksUpKey, LooksUpKeys, LooksUpPage, LooksUpCopy};
 

@@ -1,9 +1,8 @@
 //! The parts of a tablet.
 
 ghost use Rattle.std.specs.Prelude.{◌≡◌, IsTrue};
-ghost use Rattle.pn_record.specs.Cells.{spell};
-ghost use Rattle.pn_record.specs.CellMap.{table_of};
-ghost use Rattle.pn_join.specs.Marks.{are_positions};
+ghost use Rattle.pn_record.specs.Prelude.{spell, table_of};
+ghost use Rattle.pn_join.specs.Prelude.{are_positions};
 ghost use Rattle.pn_tablet.specs.Needs.{needed};
 ghost use Rattle.pn_tablet.specs.Tablets.{lie_in};
 

@@ -1,0 +1,11 @@
+-- The names that contracts of the crates above cite, passed on from one place. Declares nothing.
+pub use Rattle.pn_region.specs.Events.{AreHonestEvents}
+pub use Rattle.pn_region.specs.Held.{HoldsStill}
+pub use Rattle.pn_region.specs.Honest.{IsHonestCopy}
+pub use Rattle.pn_region.specs.Limits.{max_streams}
+pub use Rattle.pn_region.specs.Logged.{noting, refused_log}
+pub use Rattle.pn_region.specs.Marking.{is_memory, new_marks}
+pub use Rattle.pn_region.specs.Recovery.{adopting, losing, stepping}
+pub use Rattle.pn_region.specs.Regions.{AreRegionMarks, IsLawfulRegion, IsRegion, IsSound, all_cells, new_region}
+pub use Rattle.pn_region.specs.Rounds.{IsHalfTaken, Leaves, changed, joins, round}
+pub use Rattle.pn_region.specs.Since.{IsSince}
