@@ -47,8 +47,7 @@ pub fn cell_of(state: &TabletState, tablet: usize, key: &Key) -> Result<Option<C
     }
 }
 
-/// Ok where the tablet serves, and otherwise `Recovering` with the number given.
-pub fn check_serving(state: &TabletState, tablet: usize) -> Result<(), ScanFault>
+fn check_serving(state: &TabletState, tablet: usize) -> Result<(), ScanFault>
     ensures { result ≡ unless (refusal (tablet, Some state.now)) tt }
 {
     match state.status() {
