@@ -3,7 +3,7 @@
 ghost use Rattle.std.specs.Prelude.{◌≡◌, ◌≤◌, ◌+◌, ◌∷◌, [], length, Ok, Err, IsTrue, IfOk, IfErr, IfSome, OnOk};
 ghost use Rattle.std.specs.FinMap.{is_sorted};
 ghost use Rattle.std.specs.Int.{from_bool};
-ghost use Rattle.pn_join.specs.Prelude.{name_cmp, position_of, are_positions, is_position};
+ghost use Rattle.pn_join.specs.Prelude.{name_cmp, is_position, position_of, are_positions};
 ghost use Rattle.pn_tablet.specs.Prelude.{Refuses};
 ghost use Rattle.pn_region.specs.Limits.{max_streams};
 ghost use Rattle.pn_region.specs.Marking.{bringing, last_of as the_last_of, last_of_stream as the_last_of_stream, all_marked, marks_after, new_marks, is_memory};

@@ -4,7 +4,7 @@ ghost use Rattle.std.specs.Prelude.{◌≡◌, ℕ, List, [], ◌++◌, fold, sl
 ghost use Rattle.std.specs.FinMap.{find};
 ghost use Rattle.pn_join.specs.Prelude.{Positions, Reaches};
 ghost use Rattle.pn_record.specs.declared.image.Image.{Image};
-ghost use Rattle.pn_record.specs.Prelude.{SameImages, table_of, NotOlder, bytes_cmp, CellValue};
+ghost use Rattle.pn_record.specs.Prelude.{table_of, NotOlder, bytes_cmp, SameImages, CellValue};
 ghost use Rattle.pn_stream.specs.Prelude.{BrokerRecord};
 ghost use Rattle.pn_tablet.specs.Prelude.{TabletCopyValue, copy_of, AreJoins, Bounds, IsLayout, lost, step, stepped, TabletStateValue};
 ghost use Rattle.pn_tablet.specs.declared.op.TabletOp.{TabletOp};

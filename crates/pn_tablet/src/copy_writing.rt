@@ -2,7 +2,7 @@
 
 ghost use Rattle.std.specs.Prelude.{◌≡◌, ◌+◌, ◌≤◌, Ok, IfOk, IsTrue, length, map, string_bytes, IsUtf8};
 ghost use Rattle.pn_join.specs.Prelude.{are_positions, IsTable};
-ghost use Rattle.pn_record.specs.Prelude.{spell, spell_cell, bytes_cmp, HasContents};
+ghost use Rattle.pn_record.specs.Prelude.{spell, bytes_cmp, spell_cell, HasContents};
 ghost use Rattle.pn_tablet.specs.CopyReading.{copy_at};
 ghost use Rattle.pn_tablet.specs.CopyTexts.{mark_line, IsCopyText};
 ghost use Rattle.pn_tablet.specs.CopyWriting.{copy_text, WritesLines};

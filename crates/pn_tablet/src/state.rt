@@ -1,7 +1,7 @@
 //! The state of a tablet, and the operations on it.
 
 ghost use Rattle.std.specs.Prelude.{◌≡◌, Ok, IsOk, IsTrue, IfOk, IfErr, OnOk, OnErr};
-ghost use Rattle.pn_join.specs.Prelude.{are_positions, raised};
+ghost use Rattle.pn_join.specs.Prelude.{raised, are_positions};
 ghost use Rattle.pn_tablet.specs.Operations.{HasPositions};
 ghost use Rattle.pn_tablet.specs.Tablets.{empty_tablet};
 ghost use Rattle.pn_tablet.specs.Needs.{lacking as all_lacking};

@@ -2,7 +2,7 @@
 
 ghost use Rattle.std.specs.Prelude.{◌≡◌, IsOk, IsErrOf};
 ghost use Rattle.serde_json.specs.View.{view, members_view};
-ghost use Rattle.pn_json.specs.Prelude.{ShowsUnless, IsUnless, seen};
+ghost use Rattle.pn_json.specs.Prelude.{IsUnless, ShowsUnless, seen};
 ghost use Rattle.pn_protocol.specs.Command.Lookups.{get_in, read_in, scan_in};
 ghost use Rattle.pn_protocol.specs.Command.Meaning.{command_value};
 ghost use Rattle.pn_protocol.specs.Command.Queries.{query_at, query_refusal, query_shape};

@@ -2,7 +2,7 @@
 
 ghost use Rattle.std.specs.Prelude.{◌≡◌, IsOk, IsErrOf};
 ghost use Rattle.serde_json.specs.View.{view, members_view};
-ghost use Rattle.pn_json.specs.Prelude.{Shows, ShowsUnless, IsUnless, seen};
+ghost use Rattle.pn_json.specs.Prelude.{IsUnless, Shows, ShowsUnless, seen};
 ghost use Rattle.pn_protocol.specs.Command.Limits.{may_announce};
 ghost use Rattle.pn_protocol.specs.Command.Meaning.{command_value};
 ghost use Rattle.pn_protocol.specs.Command.Needs.{need_refusal, need_in, need_at, need_shape};

@@ -2,7 +2,7 @@
 
 ghost use Rattle.std.specs.Prelude.{◌≡◌, [], vec_capacity, IfOk, IsErrOf};
 ghost use Rattle.serde_json.specs.View.{view, items_view, members_view};
-ghost use Rattle.pn_json.specs.Prelude.{Shows, ShowsUnless, IsUnless, seen, texts, each_in};
+ghost use Rattle.pn_json.specs.Prelude.{IsUnless, Shows, ShowsUnless, seen, texts, each_in};
 ghost use Rattle.pn_protocol.specs.Command.ShapeChecks.{named_alone, image_shape, batch_shape, key_shape, required_in, version_shape};
 
 use crate::command::batch::BatchShape;
