@@ -12,7 +12,7 @@ mod scanning;
 use crate::front::{Front, TabletNote};
 use crate::tablet_reader::TabletReader;
 use pn_record::{Cell, Key, Version};
-use pn_scan::{Query, Row, ScanFault, View, read_at_least};
+use pn_scan::{PartResult, Query, ScanFault, View, read_at_least};
 use pn_tablet::Layout;
 use std::alloc::Global;
 use std::marker::Model;
@@ -110,13 +110,7 @@ impl View for LiveReader {
         &self.layout
     }
 
-    fn part(
-        &mut self,
-        alloc: Global,
-        tablet: usize,
-        query: &Query,
-        room: usize,
-    ) -> Result<(Vec<Row>, bool), ScanFault> {
+    fn part(&mut self, alloc: Global, tablet: usize, query: &Query, room: usize) -> PartResult {
         self.tablet_readers[tablet].part(alloc, tablet, query, room)
     }
 

@@ -14,7 +14,7 @@ use crate::read_guard::ReadGuard;
 use crate::reader_handle::ReaderHandle;
 use core::mem::replace_with;
 use pn_record::{Cell, Key};
-use pn_scan::{Query, Row, ScanFault, cell_of, part_of};
+use pn_scan::{PartResult, Query, ScanFault, cell_of, part_of};
 use std::alloc::Global;
 use std::marker::Model;
 
@@ -103,13 +103,7 @@ impl TabletReader {
 
     /// The first `room` rows that a query shows in the state that one entry finds, as `part_of`; `NoEntry` where
     /// the entry is refused.
-    pub fn part(
-        &mut self,
-        alloc: Global,
-        tablet: usize,
-        query: &Query,
-        room: usize,
-    ) -> Result<(Vec<Row>, bool), ScanFault>
+    pub fn part(&mut self, alloc: Global, tablet: usize, query: &Query, room: usize) -> PartResult
         ensures { (found : Option TabletStateValue) × IsOneLook self.old self.new (λ part. (part.0.items, part.1)) result (rows_at query.now room) tablet found }
     {
         replace_with(
@@ -125,7 +119,7 @@ impl TabletReader {
         tablet: usize,
         query: &Query,
         room: usize,
-    ) -> (TabletReader, Result<(Vec<Row>, bool), ScanFault>)
+    ) -> (TabletReader, PartResult)
         ensures { (found : Option TabletStateValue) × IsOneLook self result.0 (λ part. (part.0.items, part.1)) result.1 (rows_at query.now room) tablet found }
     {
         match self.enter() {

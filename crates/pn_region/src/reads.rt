@@ -8,7 +8,9 @@ ghost use Rattle.pn_region.specs.Reads.{IsThere, look_for, read_in, get_in, page
 
 use crate::Region;
 use pn_record::{Cell, Key, Version};
-use pn_scan::{Page, Query, Row, ScanFault, View, cell_of, get, page, part_of, read_at_least};
+use pn_scan::{
+    Page, PartResult, Query, ScanFault, View, cell_of, get, page, part_of, read_at_least,
+};
 use pn_tablet::Layout;
 use std::alloc::Global;
 
@@ -22,13 +24,7 @@ impl View for &Region {
         Region::layout(self)
     }
 
-    fn part(
-        &mut self,
-        alloc: Global,
-        tablet: usize,
-        query: &Query,
-        room: usize,
-    ) -> Result<(Vec<Row>, bool), ScanFault> {
+    fn part(&mut self, alloc: Global, tablet: usize, query: &Query, room: usize) -> PartResult {
         part_of(alloc, self.state(tablet), tablet, query, room)
     }
 

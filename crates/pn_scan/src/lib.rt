@@ -22,7 +22,7 @@ mod view;
 pub use condition::Condition;
 pub use fault::ScanFault;
 pub use pages::page;
-pub use part::{cell_of, part_of};
+pub use part::{PartResult, cell_of, part_of};
 pub use query::{MAX_CONDITIONS, MAX_PAGE_ROWS, Query};
 pub use query_fault::QueryFault;
 pub use query_reading::read_query;

@@ -18,6 +18,9 @@ use pn_record::{Cell, Key, Records};
 use pn_tablet::{Status, TabletState};
 use std::alloc::Global;
 
+/// The first rows that a query shows of a tablet, and whether it shows more; or why none were read.
+pub type PartResult = Result<(Vec<Row>, bool), ScanFault>;
+
 /// The first `room` rows that a query shows of a tablet, and whether it shows more. It copies keys and shares contents.
 ///
 /// `Recovering`, with the number given, exactly where the tablet recovers.
@@ -27,7 +30,7 @@ pub fn part_of(
     tablet: usize,
     query: &Query,
     room: usize,
-) -> Result<(Vec<Row>, bool), ScanFault>
+) -> PartResult
     ensures { Answers (λ part. (part.0.items, part.1)) result (rows_at query.now room (tablet, Some state.now)) }
 {
     check_serving(state, tablet)?;

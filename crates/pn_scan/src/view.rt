@@ -5,7 +5,7 @@ ghost use Rattle.pn_tablet.specs.Prelude.{Bounds, tablet_of, TabletStateValue};
 ghost use Rattle.pn_scan.specs.Candidates.{Look};
 ghost use Rattle.pn_scan.specs.Views.{LooksOnce, rows_at, cell_at};
 
-use crate::{Query, Row, ScanFault};
+use crate::{PartResult, Query, ScanFault};
 use pn_record::{Cell, Key};
 use pn_tablet::Layout;
 use std::alloc::Global;
@@ -28,13 +28,7 @@ pub trait View {
     ///
     /// `Recovering` exactly where the tablet recovers, `NoEntry` exactly where the entry was refused. After an error
     /// the view stays usable.
-    fn part(
-        &mut self,
-        alloc: Global,
-        tablet: usize,
-        query: &Query,
-        room: usize,
-    ) -> Result<(Vec<Row>, bool), ScanFault>
+    fn part(&mut self, alloc: Global, tablet: usize, query: &Query, room: usize) -> PartResult
         requires { tablet ≤ length (bounds self.old) }
         ensures look { (found : Option TabletStateValue) × LooksOnce looks (bounds self.old) self.old self.new (λ part. (part.0.items, part.1)) result
             (rows_at query.now room) (tablet, found) }

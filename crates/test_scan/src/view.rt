@@ -7,7 +7,7 @@ ghost use Rattle.pn_tablet.specs.Tablets.{TabletStateValue, lie_in};
 ghost use Rattle.pn_scan.specs.Views.{IsStateOf, IsFoundIn, Answers, rows_at, cell_at};
 
 use pn_record::{Cell, Key};
-use pn_scan::{Query, Row, ScanFault, View, cell_of, part_of};
+use pn_scan::{PartResult, Query, ScanFault, View, cell_of, part_of};
 use pn_tablet::{Layout, TabletState};
 use std::alloc::Global;
 use std::mem;
@@ -48,13 +48,7 @@ impl TakesTurns {
         }
     }
 
-    fn part_now(
-        &self,
-        alloc: Global,
-        tablet: usize,
-        query: &Query,
-        room: usize,
-    ) -> Result<(Vec<Row>, bool), ScanFault>
+    fn part_now(&self, alloc: Global, tablet: usize, query: &Query, room: usize) -> PartResult
         ensures { (found : Option TabletStateValue)
             × IsFoundIn self.now.layout (tablet, found)
             × Answers (λ part. (part.0.items, part.1)) result (rows_at query.now room (tablet, found)) }
@@ -108,13 +102,7 @@ impl View for TakesTurns {
         &self.layout
     }
 
-    fn part(
-        &mut self,
-        alloc: Global,
-        tablet: usize,
-        query: &Query,
-        room: usize,
-    ) -> Result<(Vec<Row>, bool), ScanFault> {
+    fn part(&mut self, alloc: Global, tablet: usize, query: &Query, room: usize) -> PartResult {
         self.rooms = [self.rooms[1], room];
         let part = self.part_now(alloc, tablet, query, room);
         mem::swap(&mut self.tablets, &mut self.others);
