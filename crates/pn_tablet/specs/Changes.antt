@@ -29,9 +29,9 @@ abbrev pub answer : TabletOp → TabletStateValue → TabletStateValue → List 
 answer (Join cells marks) before after = changes before.cells after.cells
 answer _ before after = []
 
--- the change that a join reports, unless the cell stays the same
-abbrev pub change_told : TableChange (List ℕ) CellValue → Option Change
-change_told told = change_of told.before (told.key, told.after)
+-- the change that a join reports
+abbrev pub change_told : TableChange (List ℕ) CellValue → Change
+change_told told = record { key = told.key; before = version_at told.before; after = told.after.0 }
 
 -- the change of a key when a cell is joined to the one that it had
 abbrev pub change_by : Option CellValue → List ℕ × CellValue → Option Change
