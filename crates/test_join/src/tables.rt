@@ -32,7 +32,7 @@ fn key_at(table: &Counts, place: usize) -> Option<u64> {
     }
 }
 
-/// The first key, the step and the count of a table, or that it has no such form.
+// The first key, the step and the count of a table, or that it has no such form.
 pub(crate) fn form(alloc: Global, table: &Counts) -> Result<String, Fail> {
     let first = key_at(table, 0).unwrap_or(0);
     let step = key_at(table, 1).unwrap_or(first).saturating_sub(first);
