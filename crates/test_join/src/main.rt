@@ -1,11 +1,14 @@
-//! Cases of `pn_join`, a line each: `join` of two tables, `least` for an entry below all others, and `name` for a name.
+//! Cases of `pn_join`, a line each: `join` of two tables, `least` for an entry below all others, `name` for a name,
+//! `slice` for a part of a table, and `cut` for a table that is cut and put together again.
 //!
 //! A table is its first key, its step and its count; each key is its own content. `stdout` has what must be answered.
 #![tactic(auto)]
 
+mod slices;
 mod tables;
 
 use pn_join::Name;
+use slices::{cut, slice};
 use std::alloc::Global;
 use std::test::Fail;
 use tables::{join, least};
@@ -20,6 +23,8 @@ fn answer(alloc: Global, line: &str) -> Result<String, Fail> {
         Some(("join", tables)) => join(alloc, tables),
         Some(("least", table)) => least(alloc, table),
         Some(("name", text)) => name(alloc, text),
+        Some(("slice", table)) => slice(alloc, table),
+        Some(("cut", table)) => cut(alloc, table),
         _ => Ok(String::from_str(alloc, "no case")?),
     }
 }

@@ -5,7 +5,7 @@ use std::alloc::Global;
 use std::str::Split;
 use std::test::Fail;
 
-type Counts = Table<Highest, Highest>;
+pub(crate) type Counts = Table<Highest, Highest>;
 
 fn number(words: &mut Split<'_, char>) -> Result<u64, Fail> {
     match words.next() {
@@ -14,8 +14,8 @@ fn number(words: &mut Split<'_, char>) -> Result<u64, Fail> {
     }
 }
 
-// The table of a first key, a step and a count.
-fn table(alloc: Global, words: &mut Split<'_, char>) -> Result<Counts, Fail> {
+/// The table of a first key, a step and a count.
+pub(crate) fn table(alloc: Global, words: &mut Split<'_, char>) -> Result<Counts, Fail> {
     let (first, step) = (number(words)?, number(words)?);
     let mut table = Counts::new(alloc);
     for place in 0..number(words)? {
@@ -51,7 +51,7 @@ fn is_in_leaves(table: &Counts) -> bool {
 }
 
 // The first key, the step and the count of a table, or that it has no such form.
-fn form(alloc: Global, table: &Counts) -> Result<String, Fail> {
+pub(crate) fn form(alloc: Global, table: &Counts) -> Result<String, Fail> {
     let first = key_at(table, 0).unwrap_or(0);
     let step = key_at(table, 1).unwrap_or(first).saturating_sub(first);
     let mut wanted = first;

@@ -1,0 +1,65 @@
+//! Slices of a table, and tables that are cut and put together again.
+
+use crate::tables::{Counts, form, table};
+use pn_join::NoMemory;
+use std::alloc::Global;
+use std::str::Split;
+use std::test::Fail;
+
+// The next word as an index.
+fn index(words: &mut Split<'_, char>) -> Result<usize, Fail> {
+    match words.next() {
+        Some(word) => Ok(word.parse::<usize>()?),
+        None => Err(Fail::new("an index is missing")),
+    }
+}
+
+/// The entries of a table from one index to another. Where memory runs out they are taken again.
+pub(crate) fn slice(alloc: Global, text: &str) -> Result<String, Fail> {
+    let mut words = text.split(' ');
+    let table = table(alloc, &mut words)?;
+    let from = index(&mut words)?.min(table.len());
+    let to = index(&mut words)?.min(table.len()).max(from);
+    let part = match table.slice(from, to) {
+        Ok(part) => part,
+        Err(NoMemory) => table.slice(from, to)?,
+    };
+    form(alloc, &part)
+}
+
+// A table cut at an index, and put together again.
+fn cut_at(table: &Counts, place: usize) -> Result<Counts, NoMemory> {
+    let count = table.len();
+    let place = place.min(count);
+    let front = table.slice(0, place)?;
+    front.followed_by(table, place, count)
+}
+
+// How many leaves a table has.
+fn leaves(table: &Counts) -> usize {
+    let mut count = 0;
+    for place in 0..table.len() {
+        if table.leaf(place).is_some() {
+            count = place + 1;
+        }
+    }
+    count
+}
+
+/// A table that is cut at one index after another and put together each time, and whether it has no more leaves than
+/// before. Where memory runs out it is cut again.
+pub(crate) fn cut(alloc: Global, text: &str) -> Result<String, Fail> {
+    let mut words = text.split(' ');
+    let mut table = table(alloc, &mut words)?;
+    let before = leaves(&table);
+    for word in words {
+        let place = word.parse::<usize>()?;
+        table = match cut_at(&table, place) {
+            Ok(table) => table,
+            Err(NoMemory) => cut_at(&table, place)?,
+        };
+    }
+    let few = leaves(&table) <= before;
+    let form = form(alloc, &table)?;
+    Ok(format!(in alloc; "{form}, no more leaves: {few}")?)
+}
