@@ -9,6 +9,7 @@ pub mod Limits
 pub mod Log
 pub mod Logged
 pub mod Marking
+pub mod PageWalks
 pub mod Proofs
 pub mod Reads
 pub mod Recovery
