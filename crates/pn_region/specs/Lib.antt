@@ -14,6 +14,7 @@ pub mod Proofs
 pub mod Reads
 pub mod Recovery
 pub mod Regions
+pub mod Rising
 pub mod Rounds
 pub mod Serving
 pub mod Since
