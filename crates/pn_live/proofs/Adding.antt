@@ -44,7 +44,7 @@ module _ {O : Type 0} where
         tt,
         record { words = ap (λ (k : ℕ). (k, true) ∷ (0, true) ∷ []) n; lawful = subst AreLawful (sym all) lawful },
         inl (refl, refl),
-        rw is tt,
+        rw is (ap length (sym all)),
       )
 
   -- the exchange adds the attempt to those that were seen, or leaves the book as it is

@@ -16,6 +16,7 @@ pub mod OneTablet
 pub mod Adopting
 pub mod Rounds
 pub mod Taken
+pub mod Events
 pub mod TabletReaderLaws
 pub mod HonestLists
 pub mod Joining

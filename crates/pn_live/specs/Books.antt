@@ -13,6 +13,6 @@ pub record IsKept {O : Type 0} (cells : List Cell) (attempts : List (Attempt O))
 abbrev pub counter_of : Book → Named
 counter_of book = record { tracked = true; key = 0; book = book }
 
--- the new attempt was added if the book had no more attempts than were seen
+-- the new attempt was added if the book had no more attempts than were seen; else all that it had are seen
 abbrev pub Adds : {O : Type 0} → Step (Attempt O) → View (Attempt O) ℕ → ℕ → View (Attempt O) ℕ → Type 0
-Adds step seen found now = MatchBool (found == step.old) (now.0 ≡ seen.0 ++ step.ask ∷ []) (Unit {0})
+Adds step seen found now = MatchBool (found == step.old) (now.0 ≡ seen.0 ++ step.ask ∷ []) (found ≡ length now.0)

@@ -3,6 +3,7 @@ pub mod Closing
 pub mod Books
 pub mod Copying
 pub mod Drafts
+pub mod Events
 pub mod Honest
 pub mod Laws
 pub mod Limits

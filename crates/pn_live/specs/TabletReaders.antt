@@ -1,5 +1,5 @@
 -- What a reader knows of each live tablet.
-use Rattle.std.specs.Prelude.{◌≡◌, List, [], ◌∷◌, Option, None, Some}
+use Rattle.std.specs.Prelude.{◌≡◌, nat_lt, if◌then◌else◌, List, [], ◌∷◌, length, Option, None, Some}
 use mathlib.Core.List.{IsPrefix}
 use Rattle.logbook.specs.Pages.{Book}
 use Rattle.pn_tablet.specs.Ranges.{Ends}
@@ -27,9 +27,13 @@ abbrev pub Sees : TabletReaderValue → Option TabletStateValue → TabletReader
 Sees old None new = new ≡ old
 Sees old (Some state) new = Finds old state new
 
--- a note was learnt: the reader then knows at least its own list and the note's
+-- the longer of two lists, or the first where they are as long
+abbrev pub longer : {A : Type 0} → List A → List A → List A
+longer xs ys = if nat_lt (length xs) (length ys) then ys else xs
+
+-- a note was learnt: what the reader was told is then the longer of its own list and the note's, and both begin it
 pub record Learns (old : TabletReaderValue) (heard : TabletNoteValue) (new : TabletReaderValue) : Type 0 where
-  pub same : new ≡ record old { told = new.told }
+  pub same : new ≡ record old { told = longer old.told heard.list }
   pub told : IsPrefix old.told new.told
   pub note : IsPrefix heard.list new.told
 

@@ -4,6 +4,7 @@
 #![tactic(auto)]
 
 mod attempt;
+pub mod event_laws;
 mod fault;
 mod front;
 pub mod honest_laws;

@@ -69,8 +69,7 @@ fn show<R: Wait>(rt: &R, writer: &mut PairWriter, next: PublishedState)
 impl LiveTablet {
     ghost use Rattle.pn_live.specs.Published.{published, state_in, seen_by, told_to, IsReaderOf};
 
-    /// Opens an empty tablet of the range, with room for `readers` readers. It does not wait, since no reader is
-    /// there yet.
+    /// Opens an empty tablet of the range, with room for `readers` readers. It has no reader to wait for.
     pub fn open<R: Wait>(
         rt: &R,
         alloc: Global,

@@ -1,6 +1,6 @@
 //! Publish positions: how far the attempts to publish a tablet's states had come.
 
-ghost use Rattle.std.specs.Prelude.{◌≡◌, ◌++◌, ◌∷◌, [], length, IsTrue, MatchBool, ◌⊎◌};
+ghost use Rattle.std.specs.Prelude.{◌≡◌, ◌+◌, ◌^◌, ◌<◌, ◌≤◌, ◌++◌, ◌∷◌, [], length, ◌↔◌, IsTrue, OnOk, IfErr, ◌⊎◌};
 ghost use mathlib.Core.List.{IsPrefix};
 ghost use Rattle.pn_live.specs.Attempts.{AreLawful, settled_of, tried_of, MayFollow};
 ghost use Rattle.pn_live.specs.Books.{counter_of};
@@ -43,20 +43,23 @@ impl<O> PublishPosition<O> {
         }
     }
 
-    /// Adds an attempt, and answers whether it did: not where the book already has more than this position.
+    /// Adds an attempt. An error adds nothing, and answers how far the book has come: further than this position, or
+    /// as far as attempts can be counted.
     fn try_append<X, M: Plain<X, Attempt<O>, u64>>(
         &mut self,
         counter: &AttemptCounter<O>,
         about: &X,
-    ) -> bool
+    ) -> Result<(), PublishPosition<O>>
         requires counter { counter.now ≡ counter_of self.old.seen.book }
         requires lawful { MayFollow self.old.seen.log (M.ask about.now) }
         ensures book { self.new.seen.book ≡ self.old.seen.book }
-        ensures log { MatchBool result (self.new.seen.log ≡ self.old.seen.log ++ M.ask about.now ∷ []) (self.new ≡ self.old) }
+        ensures ok { OnOk result (self.new.seen.log ≡ self.old.seen.log ++ M.ask about.now ∷ []) }
+        ensures err { IfErr result (λ reached. (self.new ≡ self.old) × (reached.seen.book ≡ self.old.seen.book)) }
+        ensures refused { IfErr result (λ reached. (length self.old.seen.log < length reached.seen.log) ⊎ (length reached.seen.log + 1 ≡ 2 ^ 64)) }
     {
         let count = self.count;
         if count == u64::MAX {
-            return false;
+            return Err(self.again());
         }
         let mut seen = self.seen.again();
         let mut offer: Offer<Attempt<O>, u64, AttemptRule<O>, NoGain> = seen.plain::<NoGain, X, M>(
@@ -71,16 +74,17 @@ impl<O> PublishPosition<O> {
             &mut pen,
         );
         if found != count {
-            return false;
+            return Err(PublishPosition { count: found, seen });
         }
         *self = PublishPosition {
             count: count + 1,
             seen,
         };
-        true
+        Ok(())
     }
 
-    /// Adds an attempt. It waits while the book has more than this position, which takes another writer.
+    /// Adds an attempt. It waits while the book has more than this position, which takes another writer, or 2^64 - 1
+    /// attempts.
     pub fn append<X, M: Plain<X, Attempt<O>, u64>, R: Wait>(
         &mut self,
         rt: &R,
@@ -93,7 +97,7 @@ impl<O> PublishPosition<O> {
         ensures log { self.new.seen.log ≡ self.old.seen.log ++ M.ask about.now ∷ [] }
     {
         for _ in rt.forever() {
-            if self.try_append::<X, M>(counter, about) {
+            if self.try_append::<X, M>(counter, about).is_ok() {
                 return;
             }
         }
@@ -104,7 +108,8 @@ impl<O> PublishPosition<O> {
     /// other's last attempt tries.
     pub fn is_within(&self, shown: &PublishPosition<O>) -> bool
         requires { shown.now.seen.book ≡ self.now.seen.book }
-        ensures { IsTrue result → IsPrefix (settled_of self.now.seen.log) (tried_of shown.now.seen.log) }
+        ensures exact { IsTrue result ↔ (length self.now.seen.log ≤ length shown.now.seen.log + 1) }
+        ensures begins { IsTrue result → IsPrefix (settled_of self.now.seen.log) (tried_of shown.now.seen.log) }
     {
         self.joined(shown);
         self.count <= shown.count.saturating_add(1)
@@ -113,7 +118,7 @@ impl<O> PublishPosition<O> {
     /// Whether both are the same position.
     pub fn is_same(&self, other: &PublishPosition<O>) -> bool
         requires { other.now.seen.book ≡ self.now.seen.book }
-        ensures { IsTrue result → self.now.seen.log ≡ other.now.seen.log }
+        ensures { IsTrue result ↔ (self.now.seen.log ≡ other.now.seen.log) }
     {
         self.joined(other);
         self.count == other.count

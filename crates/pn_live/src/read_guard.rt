@@ -1,6 +1,6 @@
 //! Read guards: a reader inside a live tablet.
 
-ghost use Rattle.std.specs.Prelude.{◌≡◌, Some, MatchResult, take, length};
+ghost use Rattle.std.specs.Prelude.{◌≡◌, ◌+◌, ◌<◌, Some, MatchResult, OnErr, take, length};
 ghost use mathlib.Core.List.{IsPrefix};
 ghost use Rattle.left_right.specs.Sides.{view};
 ghost use Rattle.pn_region.specs.Prelude.{IsSound};
@@ -29,7 +29,7 @@ impl ReadGuard {
     ghost use Rattle.pn_live.specs.Published.{seen_by, range_of, found_by};
 
     /// Stays inside where the state found extends all that the reader learnt, as in every run. Leaves
-    /// otherwise.
+    /// otherwise: exactly where the reader learnt of more than one attempt after the state found.
     pub fn stay(
         reading: Reading<PublishedState, Option<PublishedState>, PublishOrder>,
         found: Snapshot<PublishedState>,
@@ -42,10 +42,11 @@ impl ReadGuard {
         requires range { found.value.state.range ≡ seen.value.state.range }
         requires goes_on { take (length (list_of seen.value)) (list_of found.value) ≡ list_of seen.value }
         requires begins { IsPrefix (list_of seen.value) (list_of found.value) }
-        ensures { MatchResult result
+        ensures answer { MatchResult result
             (λ guard. IsPrefix (list_of seen.value) (list_of guard.found.value) × IsPrefix (settled_of told.seen.log) (list_of guard.found.value)
             × (guard.told ≡ told) × (guard.found.value.state.range ≡ seen.value.state.range))
             (λ handle. (seen_by handle ≡ list_of seen.value) × (handle.told ≡ told) × (range_of handle ≡ seen.value.state.range)) }
+        ensures far { OnErr result (length found.value.position.seen.log + 1 < length told.seen.log) }
     {
         let shown = reading.get();
         let near = told.is_within(&shown.position);

@@ -1,12 +1,13 @@
 //! How a live region is opened.
 
-ghost use Rattle.std.specs.Prelude.{◌≡◌, ◌≤◌, ◌<◌, ◌^◌, length, IfOk, map};
+ghost use Rattle.std.specs.Prelude.{◌≡◌, ◌≤◌, ◌<◌, ◌^◌, [], length, vec_capacity, IfOk, IfErr, map};
 ghost use Rattle.std.specs.List.{AllByRecursion};
 ghost use Rattle.pn_live.specs.Limits.{max_readers};
 ghost use Rattle.pn_live.specs.LiveRegions.{tablets_in, IsNewLive};
 ghost use Rattle.pn_live.specs.PublishedTablets.{AreNewTablets};
 ghost use Rattle.pn_live.specs.Readers.{opening, IsNewReader};
-ghost use Rattle.pn_apply.specs.Prelude.{ranges};
+ghost use Rattle.pn_live.specs.declared.fault.OpenFault.TheVariants.{NoReader as no_reader};
+ghost use Rattle.pn_apply.specs.Reducing.{ranges};
 
 use super::LiveRegion;
 use super::closing::end_all;
@@ -21,8 +22,8 @@ use std::alloc::Global;
 use std::sync::Wait;
 
 impl LiveRegion {
-    /// Opens a live region of empty tablets that serve, with 1 to 16 readers. It does not wait, since no
-    /// reader is there yet.
+    /// Opens a live region of empty tablets that serve, with 1 to 16 readers. It has the right to wait, and no
+    /// reader to wait for.
     ///
     /// `NoReader`: a tablet has no place for one of the readers.
     pub fn open<R: Wait>(
@@ -94,21 +95,25 @@ fn readers_of(
 {
     let mut readers = Vec::with_capacity(alloc, count)?;
     for _ in 0..count {
-        let tablet_readers = tablet_readers_of(alloc, tablets)?;
-        readers.push_reserved(LiveReader::of(alloc, layout.dup()?, tablet_readers));
+        let layout = layout.dup()?;
+        let room = Vec::with_capacity(alloc, tablets.len())?;
+        let tablet_readers = tablet_readers_of(room, tablets)?;
+        readers.push_reserved(LiveReader::of(alloc, layout, tablet_readers));
     }
     Ok(readers)
 }
 
-// A new reader of each tablet.
+// A new reader of each tablet, put into `tablet_readers`, which is empty and has room for all. It takes no memory.
 fn tablet_readers_of(
-    alloc: Global,
+    mut tablet_readers: Vec<TabletReader>,
     tablets: &mut [PublishedTablet],
 ) -> Result<Vec<TabletReader>, OpenFault>
+    requires none { tablet_readers.items ≡ [] }
+    requires room { vec_capacity tablet_readers ≡ length tablets.old }
     ensures tablet_readers { IfOk result (λ tablet_readers. tablet_readers.items ≡ map opening tablets.old) }
+    ensures no_place { IfErr result (λ fault. fault ≡ no_reader) }
     ensures same { tablets.new ≡ tablets.old }
 {
-    let mut tablet_readers = Vec::with_capacity(alloc, tablets.len())?;
     for number in 0..tablets.len() {
         let Some(reader) = tablets[number].new_reader() else {
             return Err(OpenFault::NoReader);

@@ -11,4 +11,4 @@ stay-requires-clause-begins c =
     begins_later handle.seen.value handle.found.value c.in-Ok.now.value handle.goes_on later
 
 pub returns-in-Ok : goal.returns-in-Ok
-returns-in-Ok c = record { answer = c.stay.ensures }
+returns-in-Ok c = record { answer = c.stay.ensures.answer }

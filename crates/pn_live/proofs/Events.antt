@@ -1,0 +1,47 @@
+-- Calls of a live region are events of a region, and what they take is there when it is closed.
+use Rattle.std.proofs.Common.{◌≡◌, List, [], ◌∷◌, refl, sym, ap, ◌∙◌, subst}
+use Rattle.pn_record.specs.CellMap.{table_of}
+use Rattle.pn_stream.specs.Brokers.{BrokerRecord}
+use Rattle.pn_tablet.specs.Layouts.{Bounds, IsLayout}
+use Rattle.pn_tablet.specs.declared.op.TabletOp.TheVariants.{Lose}
+use Rattle.pn_apply.specs.Reducing.{ranges}
+use Rattle.pn_region.specs.Events.{RegionEvent, round, half_round, loss, adoption, LeadsTo, AllLeadTo, AreHonestEvents}
+use Rattle.pn_region.specs.Laws.{AreIn}
+use Rattle.pn_region.specs.Logged.{LoggedRegion, breaking}
+use Rattle.pn_region.specs.Regions.{RegionValue, new_region, all_cells}
+use Rattle.pn_region.specs.Serving.{AllServe}
+use Rattle.pn_region.specs.Taken.{all_taken, all_left, AreRounds}
+use Rattle.pn_region.proofs.EventImages.{taken_together, rounds_together}
+use Rattle.pn_live.specs.Events.{LeadsLive, AllLeadLive}
+use Rattle.pn_live.specs.LiveRegions.{LiveRegionValue, IsNewLive, core}
+use Rattle.pn_live.specs.Recovery.{appended_at}
+use Rattle.pn_live.proofs.OneTablet.{core_after}
+use Rattle.pn_live.proofs.Opening.{new_states}
+
+pub new_core : (bounds : Bounds) (live : LiveRegionValue) → IsNewLive bounds live → core live ≡ new_region bounds
+new_core bounds live new = λ i. record { layout = new.layout i; tablets = new_states (ranges bounds) live.tablets new.tablets i; marks = new.marks i }
+
+-- a call that did an event leads where the event does
+one_leads : (event : RegionEvent) (old new : LiveRegionValue) → LeadsLive event old new → LeadsTo event (core old) (core new)
+one_leads (round deliveries) old new did = did.0
+one_leads (half_round deliveries) old new did = did.1
+one_leads (loss tablet) old new did = ap core did ∙ core_after old tablet Lose (appended_at tablet Lose old.tablets) refl (breaking old.log)
+one_leads (adoption copy) old new did = record { tablet = did.1.tablet; lawful = did.0; adopted = did.1.adopted }
+
+pub all_lead : (events : List RegionEvent) (old new : LiveRegionValue) → AllLeadLive events old new → AllLeadTo events (core old) (core new)
+all_lead [] old new same = same
+all_lead (event ∷ events) old new did =
+    (core did.1, subst (λ (r : RegionValue). LeadsTo event r (core did.1)) did.2 (one_leads event did.0 did.1 did.3), all_lead events did.1 new did.4)
+
+module _ (broker : BrokerRecord) (bounds : Bounds) (events : List RegionEvent) (opened live : LiveRegionValue) (closed : LoggedRegion)
+    (lawful : IsLayout bounds) (new : IsNewLive bounds opened) (led : AllLeadLive events opened live) (is : closed.state ≡ core live) where
+  leads : AllLeadTo events (new_region bounds) closed.state
+  leads =
+      subst (λ (r : RegionValue). AllLeadTo events r closed.state) (new_core bounds opened new)
+      (subst (λ (r : RegionValue). AllLeadTo events (core opened) r) (sym is) (all_lead events opened live led))
+
+  pub honest_calls : AreHonestEvents broker events → AllServe closed.state → AreIn (all_left events) (all_taken broker events) → all_cells closed.state ≡ table_of (all_taken broker events)
+  honest_calls honest serve again = taken_together broker bounds events closed.state lawful leads honest serve again
+
+  pub round_calls : AreRounds events → AreIn (all_left events) (all_taken broker events) → all_cells closed.state ≡ table_of (all_taken broker events)
+  round_calls are again = rounds_together broker bounds events closed.state lawful leads are again

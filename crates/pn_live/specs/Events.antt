@@ -1,0 +1,21 @@
+-- What calls do to a live region, as events of the region that it is.
+use Rattle.std.specs.Prelude.{◌≡◌, List, [], ◌∷◌, Ok}
+use Rattle.pn_tablet.specs.Copies.{IsCopy}
+use Rattle.pn_tablet.specs.declared.op.TabletOp.TheVariants.{Lose}
+use Rattle.pn_region.specs.Events.{RegionEvent, round, half_round, loss, adoption}
+use Rattle.pn_region.specs.Rounds as rounds
+use Rattle.pn_live.specs.LiveRegions.{LiveRegionValue, core, publishing, IsHalfPublished}
+use Rattle.pn_live.specs.Recovery.{publishing_at, Adopts}
+
+-- a call did the event: it took a round, ran out of memory in one, lost a tablet, or adopted a copy
+abbrev pub LeadsLive : RegionEvent → LiveRegionValue → LiveRegionValue → Type 0
+LeadsLive (round deliveries) old new = (rounds.round (core old) deliveries ≡ Ok (core new)) × (new.tablets ≡ publishing old deliveries new.marks)
+LeadsLive (half_round deliveries) old new = IsHalfPublished old deliveries new × rounds.IsHalfTaken (core old) deliveries (core new)
+LeadsLive (loss tablet) old new = new ≡ publishing_at old tablet Lose
+LeadsLive (adoption copy) old new = IsCopy copy.range copy.marks copy.cells × Adopts copy old new
+
+-- calls did the events, one after another; other calls may lie between, which published nothing and kept the marks
+abbrev pub AllLeadLive : List RegionEvent → LiveRegionValue → LiveRegionValue → Type 0
+AllLeadLive [] old new = core new ≡ core old
+AllLeadLive (event ∷ events) old new =
+    (before : LiveRegionValue) × (after : LiveRegionValue) × (core before ≡ core old) × LeadsLive event before after × AllLeadLive events after new
