@@ -3,6 +3,7 @@ use Rattle.std.proofs.Common.{◌≡◌, ◌≢◌, ℕ, Bool, true, false, List
 use Rattle.std.proofs.lemmas.List.{length-map}
 use Rattle.std.specs.Prelude.{Result, Ok, Err, IfErr, IfOk, IsOk, OnOk, OnErr, IsErrOf, MatchResult, All}
 use Rattle.std.specs.List.{Contains}
+use Rattle.pn_join.specs.Marks.{Positions}
 use Rattle.pn_stream.specs.Batches as batches
 use Rattle.pn_tablet.specs.Layouts.{Bounds}
 use Rattle.pn_live.specs.LiveRegions.{LiveRegionValue, IsNewLive}
@@ -36,21 +37,21 @@ module _ {S : Type 0} (left : S → Option (List ℕ)) (streams : List (batches.
   all_read old new (Err fault) read taken named = not_taken old new fault named
 
   -- all threads ended, or sessions were refused
-  pub reading_ends : {P : Type 0} (name : P → List ℕ) (places : List P) (read_by : List (batches.Stream S)) (old new : LiveRegionValue) (is_refused : Bool) (read result : Result (Unit {0}) ServeFault)
+  pub reading_ends : {P : Type 0} (name : P → List ℕ) (places : List P) (read_by : List (batches.Stream S)) (old new : LiveRegionValue) (is_refused : Bool) (marks : Positions) (read result : Result (Unit {0}) ServeFault)
       → map name places ≡ names_of streams → read_by ≡ streams → (is_refused ≡ true → read ≡ Err Start) → (is_refused ≡ false → ReadsStreams (length places) old new read)
       → (is_refused ≡ false → IfErr read (IsOfRounds (map name places))) → IfErr read (λ fault. result ≡ Err fault)
-      → OnOk read (OnOk result (All (IsTakenWhole left new.marks) read_by)) → OnOk read (IfErr result (NamesOne (names_of read_by))) → EndsReading left streams old new result
-  reading_ends name places read_by old new true read result names are refused reads named first taken rest =
+      → marks ≡ new.marks → OnOk read (OnOk result (All (IsTakenWhole left marks) read_by)) → OnOk read (IfErr result (NamesOne (names_of read_by))) → EndsReading left streams old new result
+  reading_ends name places read_by old new true marks read result names are refused reads named first same taken rest =
       let start = subst (λ (r : Result (Unit {0}) ServeFault). IfErr r (λ fault. result ≡ Err fault)) (refused refl) first in
       subst (EndsReading left streams old new) (sym start) tt
-  reading_ends name places read_by old new false (Err fault) result names are refused reads named first taken rest =
+  reading_ends name places read_by old new false marks (Err fault) result names are refused reads named first same taken rest =
       let count : length places ≡ length streams = sym (length-map places name) ∙ ap length names ∙ length-map streams (λ (stream : batches.Stream S). stream.name) in
       let read_up : ReadUpTo (length streams) old new fault = subst (λ (n : ℕ). ReadUpTo n old new fault) count (reads refl) in
       subst (EndsReading left streams old new) (sym first) (rounds_stopped old new fault (subst (λ (ns : List (List ℕ)). IsOfRounds ns fault) names (named refl)) read_up)
-  reading_ends name places read_by old new false (Ok done) result names are refused reads named first taken rest =
+  reading_ends name places read_by old new false marks (Ok done) result names are refused reads named first same taken rest =
       let count : length places ≡ length streams = sym (length-map places name) ∙ ap length names ∙ length-map streams (λ (stream : batches.Stream S). stream.name) in
       all_read old new result (subst (λ (n : ℕ). ReadToEnds n old new) count (reads refl))
-      (subst (λ (ss : List (batches.Stream S)). OnOk result (All (IsTakenWhole left new.marks) ss)) are taken)
+      (subst (λ (ss : List (batches.Stream S)). OnOk result (All (IsTakenWhole left new.marks) ss)) are (subst (λ (m : Positions). OnOk result (All (IsTakenWhole left m) read_by)) same taken))
       (subst (λ (ss : List (batches.Stream S)). IfErr result (NamesOne (names_of ss))) are rest)
 
   module _ (layout : Bounds) (opened closed : LiveRegionValue) (is_new : IsNewLive layout opened) where

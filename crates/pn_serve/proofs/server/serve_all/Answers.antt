@@ -9,6 +9,6 @@ use Rattle.pn_serve.proofs.server.serve_all.Goals as goal
 pub returns-clause-ends : goal.returns-clause-ends
 returns-clause-ends g c =
     let count : vec_len c.in-Ok.reading.feeds.places ≡ length c.in-Ok.reading.feeds.places.items = omega (arith, c.in-Ok.reading.feeds.places.ok.0) in
-    reading_ends g.S.Source.left c.args.streams.items (λ (p : Place). p.name) c.in-Ok.reading.feeds.places.items _ c.args.opened.now.live c.take_all-read.new.live _ c.take_all-read.result c.end_all.result
+    reading_ends g.S.Source.left c.args.streams.items (λ (p : Place). p.name) c.in-Ok.reading.feeds.places.items _ c.args.opened.now.live c.take_all-read.new.live _ c.marks.result.now c.take_all-read.result c.end_all.result
     c.in-Ok.ensures.names c.in-Ok.ensures.threads c.take_all-read.ensures.refused (λ none. subst (λ (n : ℕ). ReadsStreams n c.args.opened.now.live c.take_all-read.new.live c.take_all-read.result) count (c.take_all-read.ensures.reads none)) c.take_all-read.ensures.named
-    c.end_all.ensures.first c.end_all.ensures.taken c.end_all.ensures.named
+    c.end_all.ensures.first c.marks.ensures.marks c.end_all.ensures.taken c.end_all.ensures.named
