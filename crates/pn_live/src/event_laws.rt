@@ -1,13 +1,13 @@
 //! The laws of a live region's calls as events of a region, as contracts of functions that do nothing.
 
 ghost use Rattle.std.specs.Prelude.{◌≡◌, List};
-ghost use Rattle.pn_record.specs.CellMap.{table_of};
-ghost use Rattle.pn_stream.specs.Brokers.{BrokerRecord};
-ghost use Rattle.pn_tablet.specs.Layouts.{Bounds, IsLayout};
-ghost use Rattle.pn_region.specs.Events.{RegionEvent, AllLeadTo, AreHonestEvents};
+ghost use Rattle.pn_record.specs.Prelude.{table_of};
+ghost use Rattle.pn_stream.specs.Prelude.{BrokerRecord};
+ghost use Rattle.pn_tablet.specs.Prelude.{Bounds, IsLayout};
+ghost use Rattle.pn_region.specs.Events.{RegionEvent, AllLeadTo};
+ghost use Rattle.pn_region.specs.Prelude.{AreHonestEvents, new_region, all_cells};
 ghost use Rattle.pn_region.specs.Laws.{AreIn};
 ghost use Rattle.pn_region.specs.Logged.{LoggedRegion};
-ghost use Rattle.pn_region.specs.Regions.{new_region, all_cells};
 ghost use Rattle.pn_region.specs.Serving.{AllServe};
 ghost use Rattle.pn_region.specs.Taken.{all_taken, all_left, AreRounds};
 ghost use Rattle.pn_live.specs.Events.{AllLeadLive};

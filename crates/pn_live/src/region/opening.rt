@@ -7,7 +7,7 @@ ghost use Rattle.pn_live.specs.LiveRegions.{tablets_in, IsNewLive};
 ghost use Rattle.pn_live.specs.PublishedTablets.{AreNewTablets};
 ghost use Rattle.pn_live.specs.Readers.{opening, IsNewReader};
 ghost use Rattle.pn_live.specs.declared.fault.OpenFault.TheVariants.{NoReader as no_reader};
-ghost use Rattle.pn_apply.specs.Reducing.{ranges};
+ghost use Rattle.pn_apply.specs.Prelude.{ranges};
 
 use super::LiveRegion;
 use super::closing::end_all;
