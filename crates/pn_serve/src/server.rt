@@ -2,22 +2,15 @@
 
 ghost use Rattle.std.specs.Prelude.{◌≡◌, ◌≢◌, ◌≤◌, map, vec_len, vec_capacity, All, Ok, Err, IfOk, IfErr, IsOk, OnOk, OnErr, IsErrOf, IsTrue, IsFalse, MatchResult};
 ghost use Rattle.std.specs.Io.KnownBytes.{Appends, Keeps};
-<<<<<<< HEAD
-ghost use Rattle.pn_apply.specs.Prelude.{max_workers, max_workers};
-ghost use Rattle.pn_line.specs.Prelude.{AppendsPrefix, AppendsPrefix};
-ghost use Rattle.pn_live.specs.Prelude.{max_readers, IsNewLive, tablets_in, max_readers, IsNewLive, tablets_in};
-ghost use Rattle.pn_serve.specs.Server.Faults.{IsOfRounds};
-ghost use Rattle.pn_serve.specs.Server.Reading.{ReadsStreams};
-ghost use Rattle.pn_serve.specs.Server.Served.{EndsReading, EndsRegion, EndsServing};
-ghost use Rattle.pn_serve.specs.Server.Sessions.{AllRead};
-ghost use Rattle.pn_protocol.specs.Prelude.{served_line, served_line};
-=======
+ghost use Rattle.pn_apply.specs.Prelude.{max_workers};
+ghost use Rattle.pn_line.specs.Prelude.{AppendsPrefix};
+ghost use Rattle.pn_live.specs.Prelude.{max_readers, IsNewLive, tablets_in};
 ghost use Rattle.pn_serve.specs.Server.Faults.{IsOfRounds, NamesOne, names_of};
 ghost use Rattle.pn_serve.specs.Server.Reading.{ReadsStreams};
 ghost use Rattle.pn_serve.specs.Server.Served.{EndsReading, EndsRegion, EndsServing};
 ghost use Rattle.pn_serve.specs.Server.Sessions.{AllRead};
 ghost use Rattle.pn_serve.specs.Server.Whole.{IsTakenWhole};
->>>>>>> w-sv
+ghost use Rattle.pn_protocol.specs.Prelude.{served_line};
 
 mod bell;
 mod connections;

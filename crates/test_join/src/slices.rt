@@ -37,13 +37,7 @@ fn cut_at(table: &Counts, place: usize) -> Result<Counts, NoMemory> {
 
 // How many leaves a table has.
 fn leaves(table: &Counts) -> usize {
-    let mut count = 0;
-    for place in 0..table.len() {
-        if table.leaf(place).is_some() {
-            count = place + 1;
-        }
-    }
-    count
+    table.leaves().count()
 }
 
 /// A table that is cut at one index after another and put together each time, and whether it has no more leaves than
