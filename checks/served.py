@@ -6,6 +6,7 @@ import os
 import random
 import socket
 import subprocess
+import threading
 import time
 from collections.abc import Callable, Sequence
 from typing import IO
@@ -13,6 +14,8 @@ from typing import IO
 SECONDS = 60
 # Below those that the system gives to clients, from any one on.
 PORTS = itertools.islice(itertools.cycle(range(10_000, 32_768)), random.randrange(22_768), None)
+# A program that starts holds what other threads have open until it has begun, and so a port that is tried.
+STARTING = threading.Lock()
 
 Json = dict[str, object]
 
@@ -58,12 +61,13 @@ class Served:
         port: int | None = None,
         before: Callable[[], None] | None = None,
     ) -> None:
-        self.port = port or free_port()
         named = [f"{name}={path}" for name, path in streams]
-        line = [program, "serve", "--sessions", str(sessions), "--port", str(self.port), *words, *named]
         pipe = subprocess.PIPE
         pipes = {"stdin": subprocess.DEVNULL, "stdout": pipe, "stderr": pipe}
-        self.process = subprocess.Popen(line, **pipes, env=environment, preexec_fn=before)
+        with STARTING:
+            self.port = port or free_port()
+            line = [program, "serve", "--sessions", str(sessions), "--port", str(self.port), *words, *named]
+            self.process = subprocess.Popen(line, **pipes, env=environment, preexec_fn=before)
 
     def __enter__(self) -> "Served":
         self.first = self.process.stdout.readline()
