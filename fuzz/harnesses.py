@@ -1,15 +1,13 @@
 """What is fuzzed: scripts, copies, streams and the lines of sessions, each with its inputs to begin with."""
 import json
 import pathlib
-import sys
 from collections.abc import Iterator
 from typing import NamedTuple
 
-TOP = pathlib.Path(__file__).resolve().parent.parent
-sys.path.insert(0, str(TOP / "checks"))
 from slow_lines import Json
-from stored import Stored, stored_scripts
+from stored import Stored, stored, stored_scripts
 
+TOP = pathlib.Path(__file__).resolve().parent.parent
 CASES = TOP / "fuzz" / "cases"
 ROWS = TOP.parent / "shared" / "rows"
 MOST_BYTES = 8_192
@@ -45,13 +43,24 @@ def values_of(script: Stored) -> Iterator[Json]:
             yield value
 
 
-def stream_of(script: Stored) -> bytes:
-    """The images that a script delivers, as a stream."""
-    images = []
+def images_of(script: Stored) -> Iterator[Json]:
+    """The images that a script delivers."""
     for value in values_of(script):
-        batches = value.get("batches") if isinstance(value.get("batches"), list) else []
-        images += [image for batch in batches if isinstance(batch, dict) for image in batch.get("images") or []]
+        batches = value.get("batches")
+        for batch in batches if isinstance(batches, list) else []:
+            images = batch.get("images") if isinstance(batch, dict) else None
+            yield from images if isinstance(images, list) else []
+
+
+def stream_of(*scripts: Stored) -> bytes:
+    """The images that scripts deliver, as a stream."""
+    images = (image for script in scripts for image in images_of(script))
     return b"".join(json.dumps({"at": at, "image": image}, separators=(",", ":")).encode() + b"\n" for at, image in enumerate(images, 1))
+
+
+def session_stream() -> bytes:
+    """The stream behind the sessions: records, conflicts and deletions."""
+    return stream_of(*map(stored, ["pages-and-continuations", "conditions-on-conflicts", "deletion-hides-and-stays"]))
 
 
 def session_of(script: Stored) -> bytes:
