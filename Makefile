@@ -24,7 +24,11 @@ CRATE ?=
 ROWS ?= ../shared/rows
 STAGE ?= notices
 
-.PHONY: run test edits build bench bench-beside checks checks-client checks-feeds definitions rows toolchain
+# For how many seconds sessions are abused, and for how many the program is fuzzed.
+SOAK ?= 60
+SECONDS ?= 240
+
+.PHONY: run test edits build bench bench-beside checks checks-client checks-feeds fuzz definitions rows toolchain
 
 # Shows the program at work: the replies to the script on standard output. It proves nothing. A program that is current answers
 # at once; otherwise one is built, in about two minutes, and kept.
@@ -57,8 +61,9 @@ bench: build
 bench-beside: build
 	@bench/beside "$(PROGRAM)"
 
-# Brings the built program to each of its ends, talks to its sessions, compares what they are shown with scripts, refuses each of its
-# allocations in turn, and compares its replies to random scripts with those of a plain, slow program.
+# Brings the built program to each of its ends; talks to its sessions, and misbehaves; refuses each of its allocations in turn, and
+# all memory; lets each of its reads and writes fail; cuts and damages what it is given; and compares its replies to random scripts
+# with those of a plain, slow program, and what it reads with what serde_json reads.
 checks: build
 	@cd crates/test_rows && rt run < stdin > /dev/null
 	@cd crates/test_live && rt test > /dev/null
@@ -66,7 +71,17 @@ checks: build
 	@checks/sessions "$(PROGRAM)"
 	@checks/live-copies "$(PROGRAM)"
 	@checks/out-of-memory "$(PROGRAM)" "$(LIVE)"
+	@checks/memory-limit "$(PROGRAM)"
+	@checks/failing-calls "$(PROGRAM)"
+	@checks/damaged-input "$(PROGRAM)"
+	@checks/damaged-streams "$(PROGRAM)"
+	@checks/json-lines "$(PROGRAM)" --lines 100000
+	@checks/abuse "$(PROGRAM)" --seconds $(SOAK)
 	@checks/random-scripts "$(SCRIPTS)" --scripts 3000
+
+# Fuzzes the built program by AFL++, and prints a table. What it finds is kept in fuzz/cases.
+fuzz: build
+	@fuzz/fuzz "$(PROGRAM)" --seconds $(SECONDS)
 
 # Tests the client for Python against the built program.
 checks-client: build

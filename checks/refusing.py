@@ -1,22 +1,33 @@
-"""A library that is loaded with a program, and refuses one of its allocations."""
+"""A library that is loaded with a program, and refuses one of its allocations: each in turn, several programs at a time."""
+import concurrent.futures
 import os
 import subprocess
+from collections.abc import Callable
 
-# The allocation of the number REFUSED answers that there is no memory, and leaves a file at REFUSED_MARK.
+# The allocation of the number REFUSED answers that there is no memory, and leaves a file at REFUSED_MARK. With REFUSED_ON, so do
+# all after it.
 SHIM = r"""
 #define _GNU_SOURCE
 #include <dlfcn.h>
 #include <fcntl.h>
+#include <limits.h>
 #include <stdatomic.h>
 #include <stdlib.h>
 #include <unistd.h>
 
 static atomic_long at = 0;
+static long first = -1, last = -1;
+
+__attribute__((constructor)) static void read_number(void) {
+    first = atol(getenv("REFUSED"));
+    last = getenv("REFUSED_ON") ? LONG_MAX : first;
+}
 
 static int is_refused(void) {
-    if (atomic_fetch_add(&at, 1) + 1 != atol(getenv("REFUSED"))) return 0;
-    close(open(getenv("REFUSED_MARK"), O_CREAT | O_WRONLY, 0600));
-    return 1;
+    if (first < 0) return 0;
+    long number = atomic_fetch_add(&at, 1) + 1;
+    if (number == first) close(open(getenv("REFUSED_MARK"), O_CREAT | O_WRONLY, 0600));
+    return first <= number && number <= last;
 }
 
 void *malloc(size_t size) {
@@ -42,6 +53,44 @@ def refusing_library(folder: str) -> str:
     return library
 
 
-def environment(library: str, number: int, mark: str) -> dict[str, str]:
-    """An environment in which the allocation of a number is refused, which leaves a file at the mark."""
-    return {**os.environ, "LD_PRELOAD": library, "REFUSED": str(number), "REFUSED_MARK": mark}
+def environment(library: str, number: int, mark: str, is_for_good: bool = False) -> dict[str, str]:
+    """An environment in which the allocation of a number is refused, or each from there on, which leaves a file at the mark."""
+    all_after = {"REFUSED_ON": "1"} if is_for_good else {}
+    return {**os.environ, "LD_PRELOAD": library, "REFUSED": str(number), "REFUSED_MARK": mark, **all_after}
+
+
+# What is wrong in this environment, or None.
+FindFault = Callable[[dict[str, str]], str | None]
+PROCESSORS = len(os.sched_getaffinity(0))
+AT_ONCE = 16 * PROCESSORS
+MOST = 1_000_000
+
+
+class Refusals:
+    """Refuses each allocation of a program in turn, alone or with all after it, where nothing may be wrong."""
+
+    def __init__(self, room: str, is_for_good: bool = False) -> None:
+        self.room, self.library, self.is_for_good = room, refusing_library(room), is_for_good
+
+    def attempt(self, number: int, find_fault: FindFault) -> tuple[str | None, bool]:
+        """What is wrong where the allocation of a number is refused, and whether there was such an allocation."""
+        mark = os.path.join(self.room, f"mark-{number}")
+        fault = find_fault(environment(self.library, number, mark, self.is_for_good))
+        is_met = os.path.exists(mark)
+        if is_met:
+            os.remove(mark)
+        return fault, is_met
+
+    def count(self, name: str, find_fault: FindFault) -> int:
+        """How many allocations were refused, until a run met no refusal."""
+        with concurrent.futures.ThreadPoolExecutor(PROCESSORS) as pool:
+            for first in range(1, MOST, AT_ONCE):
+                numbers = range(first, first + AT_ONCE)
+                for number, (fault, is_met) in zip(numbers, pool.map(lambda each: self.attempt(each, find_fault), numbers)):
+                    if fault is not None:
+                        raise SystemExit(f"{name}: allocation {number} refused: {fault}")
+                    if not is_met:
+                        if number == 1:
+                            raise SystemExit(f"{name}: no allocation was refused")
+                        return number - 1
+        raise SystemExit(f"{name}: there is no end to the allocations")

@@ -1,13 +1,21 @@
 """A program that serves sessions, and clients that talk to it: what the checks and benches of sessions share."""
+import contextlib
+import itertools
 import json
 import os
+import random
 import socket
 import subprocess
+import threading
 import time
-from collections.abc import Sequence
+from collections.abc import Callable, Sequence
 from typing import IO
 
 SECONDS = 60
+# Below those that the system gives to clients, from any one on.
+PORTS = itertools.islice(itertools.cycle(range(10_000, 32_768)), random.randrange(22_768), None)
+# A program that starts holds what other threads have open until it has begun, and so a port that is tried.
+STARTING = threading.Lock()
 
 Json = dict[str, object]
 
@@ -32,13 +40,16 @@ def row_of(key: str, number: int, text: str) -> Json:
 
 
 def free_port() -> int:
-    with socket.socket() as probe:
-        probe.bind(("127.0.0.1", 0))
-        return probe.getsockname()[1]
+    """A port that no client is given, and that this process has not used for long."""
+    for port in PORTS:
+        with socket.socket() as probe, contextlib.suppress(OSError):
+            probe.bind(("127.0.0.1", port))
+            return port
+    raise OSError("there is no port left")
 
 
 class Served:
-    """A program that serves sessions; its streams are pairs of a name and a path."""
+    """A program that serves sessions; its streams are pairs of a name and a path. `before` is done in its process first."""
 
     def __init__(
         self,
@@ -48,12 +59,15 @@ class Served:
         words: Sequence[str] = (),
         environment: dict[str, str] | None = None,
         port: int | None = None,
+        before: Callable[[], None] | None = None,
     ) -> None:
-        self.port = port or free_port()
         named = [f"{name}={path}" for name, path in streams]
-        line = [program, "serve", "--sessions", str(sessions), "--port", str(self.port), *words, *named]
         pipe = subprocess.PIPE
-        self.process = subprocess.Popen(line, stdin=subprocess.DEVNULL, stdout=pipe, stderr=pipe, env=environment)
+        pipes = {"stdin": subprocess.DEVNULL, "stdout": pipe, "stderr": pipe}
+        with STARTING:
+            self.port = port or free_port()
+            line = [program, "serve", "--sessions", str(sessions), "--port", str(self.port), *words, *named]
+            self.process = subprocess.Popen(line, **pipes, env=environment, preexec_fn=before)
 
     def __enter__(self) -> "Served":
         self.first = self.process.stdout.readline()
@@ -112,9 +126,13 @@ class Client:
                 shown.append(got)
         raise TimeoutError(f"{key} was not served: {shown}")
 
+    def end_input(self) -> None:
+        """Sends no more."""
+        self.socket.shutdown(socket.SHUT_WR)
+
     def end(self) -> bytes:
         """Sends no more, and answers what is still replied."""
-        self.socket.shutdown(socket.SHUT_WR)
+        self.end_input()
         return self.replies.read()
 
 

@@ -12,17 +12,21 @@ mod refusals;
 mod region;
 mod server;
 
+use crate::refusals::Refusal;
 use crate::region::Region;
+use serde_json::Value;
 use std::io;
 use std::process::ExitCode;
 
 const USAGE: &str = "\
 usage: plain replay                        answers a script on standard input
-       plain serve PORT SESSIONS NAME=PATH..   serves sessions on 127.0.0.1, while it reads streams";
+       plain serve PORT SESSIONS NAME=PATH..   serves sessions on 127.0.0.1, while it reads streams
+       plain json                         says of each line of standard input whether serde_json reads it";
 
 /// What the arguments ask for.
 enum Plan {
     Replay,
+    Json,
     Serve {
         port: u16,
         sessions: usize,
@@ -34,6 +38,7 @@ impl Plan {
     fn read(words: &[String]) -> Option<Plan> {
         match words {
             [word] if word == "replay" => Some(Plan::Replay),
+            [word] if word == "json" => Some(Plan::Json),
             [word, port, sessions, streams @ ..] if word == "serve" => Some(Plan::Serve {
                 port: port.parse().ok()?,
                 sessions: sessions.parse().ok()?,
@@ -53,12 +58,21 @@ impl Plan {
                 let answer = |line: &[u8]| commands::answer(&mut region, line);
                 lines::answer_lines(io::stdin().lock(), io::stdout().lock(), answer)
             }
+            Plan::Json => lines::answer_lines(io::stdin().lock(), io::stdout().lock(), reading_of),
             Plan::Serve {
                 port,
                 sessions,
                 streams,
             } => server::serve(port, sessions, &streams),
         }
+    }
+}
+
+/// Null where a line is JSON, and otherwise its refusal.
+fn reading_of(line: &[u8]) -> Value {
+    match serde_json::from_slice::<Value>(line) {
+        Ok(_) => Value::Null,
+        Err(_) => Refusal::NotJson.reply(),
     }
 }
 

@@ -1,0 +1,73 @@
+"""A library that is loaded with a program: of one kind of call each takes few bytes, and one fails."""
+import os
+import subprocess
+
+# Of the calls named FAILING_CALL, on standard input, standard output or a socket, each takes at most FAILING_BYTES, and the one of
+# the number FAILING_AT fails, as all after it.
+SHIM = r"""
+#define _GNU_SOURCE
+#include <errno.h>
+#include <stdatomic.h>
+#include <stdlib.h>
+#include <string.h>
+#include <sys/syscall.h>
+#include <sys/types.h>
+#include <unistd.h>
+
+static const char *failing;
+static long failing_at;
+static size_t bytes;
+static atomic_long at = 0;
+
+__attribute__((constructor)) static void read_words(void) {
+    failing = getenv("FAILING_CALL");
+    failing_at = atol(getenv("FAILING_AT"));
+    bytes = strtoul(getenv("FAILING_BYTES"), NULL, 10);
+}
+
+// How many bytes a call may take, or none where it fails.
+static size_t taken(const char *call, size_t size) {
+    if (strcmp(call, failing)) return size;
+    if (atomic_fetch_add(&at, 1) + 1 >= failing_at) return 0;
+    return size < bytes ? size : bytes;
+}
+
+static ssize_t failed(void) {
+    errno = EIO;
+    return -1;
+}
+
+ssize_t read(int file, void *room, size_t size) {
+    size_t most = file == STDIN_FILENO ? taken("read", size) : size;
+    return most || !size ? syscall(SYS_read, file, room, most) : failed();
+}
+
+ssize_t write(int file, const void *text, size_t size) {
+    size_t most = file == STDOUT_FILENO ? taken("write", size) : size;
+    return most || !size ? syscall(SYS_write, file, text, most) : failed();
+}
+
+ssize_t recv(int socket, void *room, size_t size, int flags) {
+    size_t most = taken("recv", size);
+    return most ? syscall(SYS_recvfrom, socket, room, most, flags, NULL, NULL) : failed();
+}
+
+ssize_t send(int socket, const void *text, size_t size, int flags) {
+    size_t most = taken("send", size);
+    return most ? syscall(SYS_sendto, socket, text, most, flags, NULL, 0) : failed();
+}
+"""
+
+
+def failing_library(folder: str) -> str:
+    """Builds the library in a folder by the C compiler, and answers its path."""
+    source, library = os.path.join(folder, "failing.c"), os.path.join(folder, "failing.so")
+    with open(source, "w") as file:
+        file.write(SHIM)
+    subprocess.run(["cc", "-O1", "-shared", "-fPIC", "-o", library, source], check=True)
+    return library
+
+
+def environment(library: str, call: str, number: int, size: int) -> dict[str, str]:
+    """An environment in which the call of a number fails, and each before it takes at most a size."""
+    return {**os.environ, "LD_PRELOAD": library, "FAILING_CALL": call, "FAILING_AT": str(number), "FAILING_BYTES": str(size)}

@@ -1,0 +1,34 @@
+// A mutator of AFL++ that changes nothing: it puts a line before each input, so that what is mutated is a copy alone.
+#include <stdlib.h>
+#include <string.h>
+
+static const char LINE[] = "{\"do\":\"adopt\",\"lines\":1000000}\n";
+
+struct room {
+    unsigned char *bytes;
+    size_t size;
+};
+
+void *afl_custom_init(void *fuzzer, unsigned int seed) {
+    (void)fuzzer, (void)seed;
+    return calloc(1, sizeof(struct room));
+}
+
+size_t afl_custom_post_process(void *data, unsigned char *input, size_t size, unsigned char **output) {
+    struct room *room = data;
+    size_t whole = sizeof LINE - 1 + size;
+    if (room->size < whole) {
+        unsigned char *bytes = realloc(room->bytes, whole);
+        if (!bytes) return 0;
+        *room = (struct room){bytes, whole};
+    }
+    memcpy(room->bytes, LINE, sizeof LINE - 1);
+    memcpy(room->bytes + sizeof LINE - 1, input, size);
+    *output = room->bytes;
+    return whole;
+}
+
+void afl_custom_deinit(void *data) {
+    free(((struct room *)data)->bytes);
+    free(data);
+}
