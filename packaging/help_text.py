@@ -82,8 +82,10 @@ def parsed(text: str) -> Help:
         head = re.fullmatch(r"(\w[^:]*):", line)
         if head:
             title = head.group(1)
-        else:
-            parts.setdefault(title, []).append(line)
+            continue
+        if line[:1].strip():
+            title = ""
+        parts.setdefault(title, []).append(line)
     for title, below in parts.items():
         if title in KNOWN:
             said.entries[title] = _entries_of(below)
