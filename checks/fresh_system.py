@@ -18,10 +18,13 @@ PACKAGES = ("lintian", "systemd")
 SPACES = ("--mount", "--pid", "--net", "--uts", "--ipc", "--cgroup")
 CLEAN = {"PATH": "/usr/sbin:/usr/bin:/sbin:/bin", "LC_ALL": "C.UTF-8", "DEBIAN_FRONTEND": "noninteractive", "container": "unshare"}
 
-# What a system needs before systemd starts; the folder that it runs in becomes its root.
+# What a system needs before systemd starts; the folder that it runs in becomes its root. It cannot set what all systems share.
 MOUNTS = """
-mount --bind . . && cd "$PWD"
+mount --bind . .
+cd "$PWD"
 mount -t proc proc proc
+mount --bind proc/sys proc/sys
+mount -o remount,bind,ro proc/sys
 mount -t sysfs -o ro sysfs sys
 mount -t cgroup2 cgroup2 sys/fs/cgroup
 mount -t tmpfs -o mode=755 tmpfs dev
@@ -30,7 +33,7 @@ mkdir dev/pts dev/shm
 mount -t devpts -o newinstance,ptmxmode=0666 devpts dev/pts
 ln -s pts/ptmx dev/ptmx
 ln -s /proc/self/fd dev/fd
-mount -t tmpfs tmpfs run
+mount -t tmpfs -o mode=755 tmpfs run
 mkdir run/before
 pivot_root . run/before
 umount --lazy /run/before
@@ -38,17 +41,21 @@ exec /lib/systemd/systemd --unit=basic.target
 """
 
 
-def missing() -> list[str]:
-    """The packages of Debian that are not there."""
-    return sorted({package for tool, package in TOOLS.items() if shutil.which(tool) is None})
+Line = Sequence[str | Path]
 
 
-def run(line: Sequence[str | Path], env: dict[str, str] | None = None) -> str:
+def ended(line: Line, env: dict[str, str] | None = None, seconds: int | None = None) -> subprocess.CompletedProcess[str]:
+    """Runs a command without input, with all that it prints in one text."""
+    pipe = subprocess.PIPE
+    return subprocess.run(line, env=env, timeout=seconds, stdin=subprocess.DEVNULL, stdout=pipe, stderr=subprocess.STDOUT, text=True)
+
+
+def run(line: Line, env: dict[str, str] | None = None) -> str:
     """Runs a command, and answers what it prints. Fails with that where the command does."""
-    ended = subprocess.run(line, env=env, stdin=subprocess.DEVNULL, stdout=subprocess.PIPE, stderr=subprocess.STDOUT, text=True)
-    if ended.returncode:
-        raise AssertionError(f"{shlex.join(map(str, line))} ended with {ended.returncode}:\n{ended.stdout[-3_000:]}")
-    return ended.stdout
+    found = ended(line, env)
+    if found.returncode:
+        raise AssertionError(f"{shlex.join(map(str, line))} ended with {found.returncode}:\n{found.stdout[-3_000:]}")
+    return found.stdout
 
 
 def make_root(root: Path) -> None:
@@ -60,21 +67,25 @@ def make_root(root: Path) -> None:
     run([*within, "apt-get", "clean"], env=CLEAN)
 
 
-def group() -> Path:
-    """The control group of the system. systemd needs those of version 2."""
+def group() -> Path | None:
+    """The control group of the system, where there are those of version 2, which systemd needs."""
     mounts = (line.split() for line in Path("/proc/mounts").read_text(encoding="utf-8").splitlines())
-    groups = next((Path(it[1]) for it in mounts if it[2] == "cgroup2"), None)
-    if groups is None:
-        raise AssertionError("systemd cannot start, for there are no control groups of version 2")
-    return groups / "pnuts-check"
+    return next((Path(it[1]) / "pnuts-check" for it in mounts if it[2] == "cgroup2"), None)
+
+
+def missing() -> list[str]:
+    """The packages of Debian that are not there, and what else the check cannot do without."""
+    packages = sorted({package for tool, package in TOOLS.items() if shutil.which(tool) is None})
+    return [*packages, *([] if os.geteuid() == 0 else ["root"]), *([] if group() else ["cgroup2"])]
 
 
 def remove_group() -> None:
     """Removes the system's control group, once the processes in it are gone."""
     last = time.monotonic() + SECONDS
-    while group().exists():
+    whole = group()
+    while whole is not None and whole.exists():
         try:
-            for folder, _, _ in os.walk(group(), topdown=False):
+            for folder, _, _ in os.walk(whole, topdown=False):
                 os.rmdir(folder)
         except OSError:
             if time.monotonic() > last:
@@ -89,9 +100,12 @@ class System:
         self.root = root
 
     def __enter__(self) -> System:
+        whole = group()
+        if whole is None:
+            raise AssertionError("systemd cannot start, for there are no control groups of version 2")
         remove_group()
-        group().mkdir()
-        enter = f"echo 0 > {group()}/cgroup.procs; exec "
+        whole.mkdir()
+        enter = f"echo 0 > {whole}/cgroup.procs; exec "
         apart = "unshare --cgroup --mount --pid --net --uts --ipc --fork --kill-child "
         line = ["sh", "-ec", f"{enter}{apart} sh -ec '{MOUNTS}'"]
         self._process = subprocess.Popen(line, cwd=self.root, env=CLEAN, stdin=subprocess.DEVNULL, stdout=subprocess.DEVNULL)
@@ -126,9 +140,8 @@ class System:
     def status(self, *words: str) -> tuple[int, str]:
         """The exit status of a command in there, and what it prints."""
         line = ["nsenter", f"--target={self._first}", *SPACES, "--", *words]
-        pipe = subprocess.PIPE
-        ended = subprocess.run(line, env=CLEAN, stdin=subprocess.DEVNULL, stdout=pipe, stderr=subprocess.STDOUT, text=True, timeout=2 * SECONDS)
-        return ended.returncode, ended.stdout.strip()
+        found = ended(line, CLEAN, 2 * SECONDS)
+        return found.returncode, found.stdout.strip()
 
     def run(self, *words: str) -> str:
         """Runs a command in there. Fails with what it prints and with the journal where it does."""
