@@ -7,29 +7,28 @@ import pty
 import re
 import select
 import signal
-import tempfile
 import time
 from pathlib import Path
 
 SECONDS = 60
 
 # Control-X A inserts all completions of the word before the cursor, and Control-A goes to the line's beginning.
-SETTINGS = 'set bell-style none\nset enable-bracketed-paste off\n"\\C-xa": insert-completions\n"\\C-a": beginning-of-line\n'
-START = "PS1='> '; shown() { printf '<%s>' \"$@\"; echo .; }; "
+START = r"""
+PS1='> '
+bind 'set enable-bracketed-paste off' '"\C-xa": insert-completions' '"\C-a": beginning-of-line'
+shown() { printf '<%s>' "$@"; echo .; }
+"""
 
 
 class Shell:
     """A bash that has read a completion, in a folder."""
 
     def __init__(self, completion: Path, folder: Path) -> None:
-        with tempfile.NamedTemporaryFile("w", delete=False) as settings:
-            settings.write(SETTINGS)
-        self._settings = Path(settings.name)
         self._pid, self._terminal = pty.fork()
         if self._pid == 0:
-            os.environ.update(INPUTRC=settings.name, TERM="dumb", COLUMNS="1000")
+            os.environ.update(INPUTRC="/dev/null", TERM="dumb", COLUMNS="1000")
             os.execvp("bash", ["bash", "--norc", "--noprofile", "-i"])
-        self._ask(f"{START} source {completion}; cd {folder}; echo rea''dy\n".encode(), rb"(ready)\r\n")
+        self._ask(f"{START}source {completion}; cd {folder}; echo rea''dy\n".encode(), rb"(ready)\r\n")
 
     def __enter__(self) -> Shell:
         return self
@@ -38,7 +37,6 @@ class Shell:
         os.kill(self._pid, signal.SIGKILL)
         os.waitpid(self._pid, 0)
         os.close(self._terminal)
-        self._settings.unlink()
 
     def _ask(self, typed: bytes, wanted: bytes) -> bytes:
         """Types, and waits until what is wanted is shown."""
