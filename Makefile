@@ -11,6 +11,15 @@ SCRIPT ?= crates/pnuts/stdin
 PROGRAM := crates/pnuts/out/pnuts
 BENCH := crates/pn_bench/out/pn_bench
 
+# The program that is installed and packaged. Where another one is named, none is proved for it.
+PNUTS ?= $(PROGRAM)
+PROVED = $(if $(filter $(PROGRAM),$(PNUTS)),build)
+
+# Where `make install` puts it, in the system whose root is DESTDIR, and where `make deb` leaves a package.
+PREFIX ?= /usr/local
+DESTDIR ?=
+DEBS ?= out
+
 # The tests of live regions, of which one is run with each of its allocations refused.
 LIVE := crates/test_live/out/test_live_tests
 
@@ -28,7 +37,7 @@ STAGE ?= notices
 SOAK ?= 60
 SECONDS ?= 240
 
-.PHONY: run test edits build bench bench-beside checks checks-client checks-feeds fuzz definitions rows toolchain
+.PHONY: run test edits build install uninstall deb bench bench-beside checks checks-client checks-feeds checks-install fuzz definitions rows toolchain
 
 # Shows the program at work: the replies to the script on standard output. It proves nothing. A program that is current answers
 # at once; otherwise one is built, in about two minutes, and kept.
@@ -47,6 +56,18 @@ edits: build
 build: toolchain
 	@sources=$$(bin/program sum); (cd crates/pnuts && rt run -- replay < /dev/null); bin/program note "$$sources"
 	@echo "the proved, optimised program: $(PROGRAM)"
+
+# Installs the built program with its pages for man, its completion for bash and its service. It needs no toolchain.
+install:
+	@packaging/install "$(PNUTS)" --prefix "$(PREFIX)" --destdir "$(DESTDIR)/"
+
+# Removes what `make install` installed, but for an environment file that was changed.
+uninstall:
+	@packaging/install --remove --prefix "$(PREFIX)" --destdir "$(DESTDIR)/"
+
+# Builds a Debian package of the program.
+deb: $(PROVED)
+	@packaging/deb "$(PNUTS)" "$(DEBS)"
 
 # Measures the built program, and prints tables.
 bench: build
@@ -90,6 +111,10 @@ checks-client: build
 # Tests the feeds against brokers that are started for it; those that are missing are skipped.
 checks-feeds:
 	@feeds/test
+
+# Installs and removes the program, and its Debian package in a system that is made for it. It needs root and the network.
+checks-install: $(PROVED)
+	@checks/install "$(PNUTS)"
 
 # Prints the definitions that contracts cite, each with its comment: of all crates, or of one.
 definitions:
