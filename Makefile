@@ -28,7 +28,7 @@ STAGE ?= notices
 SOAK ?= 60
 SECONDS ?= 240
 
-.PHONY: run test edits build bench bench-beside checks checks-client checks-feeds fuzz definitions rows toolchain
+.PHONY: run test edits build bench bench-beside checks checks-client checks-feeds races fuzz definitions rows toolchain
 
 # Shows the program at work: the replies to the script on standard output. It proves nothing. A program that is current answers
 # at once; otherwise one is built, in about two minutes, and kept.
@@ -78,6 +78,10 @@ checks: build
 	@checks/json-lines "$(PROGRAM)" --lines 100000
 	@checks/abuse "$(PROGRAM)" --seconds $(SOAK)
 	@checks/random-scripts "$(SCRIPTS)" --scripts 3000
+
+# Looks for data races by ThreadSanitizer, in builds without proofs.
+races: toolchain
+	@checks/races
 
 # Fuzzes the built program by AFL++, and prints a table. What it finds is kept in fuzz/cases.
 fuzz: build
