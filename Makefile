@@ -37,7 +37,7 @@ STAGE ?= notices
 SOAK ?= 60
 SECONDS ?= 240
 
-.PHONY: run test edits build install uninstall deb bench bench-beside checks checks-client checks-feeds checks-install fuzz definitions rows toolchain
+.PHONY: run test edits build install uninstall deb bench bench-beside checks checks-client checks-feeds checks-install races fuzz definitions rows toolchain
 
 # Shows the program at work: the replies to the script on standard output. It proves nothing. A program that is current answers
 # at once; otherwise one is built, in about two minutes, and kept.
@@ -99,6 +99,10 @@ checks: build
 	@checks/json-lines "$(PROGRAM)" --lines 100000
 	@checks/abuse "$(PROGRAM)" --seconds $(SOAK)
 	@checks/random-scripts "$(SCRIPTS)" --scripts 3000
+
+# Looks for data races by ThreadSanitizer, in builds without proofs.
+races: toolchain
+	@checks/races
 
 # Fuzzes the built program by AFL++, and prints a table. What it finds is kept in fuzz/cases.
 fuzz: build

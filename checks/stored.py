@@ -1,8 +1,11 @@
 """The scripts of crates/test_rows, each with its tablets, its workers and its replies."""
+import itertools
 import json
 import pathlib
 from collections.abc import Iterator
 from typing import NamedTuple
+
+from slow_lines import Refused, command_of
 
 ROWS = pathlib.Path(__file__).resolve().parent.parent / "crates" / "test_rows"
 
@@ -21,20 +24,19 @@ class Stored(NamedTuple):
         return ["--bounds", json.dumps(self.bounds), "--workers", str(self.workers)]
 
     def commands(self) -> Iterator[list[bytes]]:
-        """Each command with the lines that it announces."""
+        """Each command with the lines that it announces, or as many as there are."""
         lines = iter(self.lines)
         for line in lines:
-            yield [line, *(next(lines) for _ in range(announced(line)))]
+            yield [line, *itertools.islice(lines, announced(line))]
 
 
 def announced(line: bytes) -> int:
-    """How many lines a line announces; the stored adoptions whose own line is refused announce none."""
+    """How many lines a line announces: none where it is refused."""
     try:
-        command = json.loads(line)
-    except ValueError:
+        command = command_of(line, 1)
+    except Refused:
         return 0
-    is_adoption = isinstance(command, dict) and command.get("do") == "adopt" and isinstance(command.get("lines"), int)
-    return command["lines"] if is_adoption else 0
+    return command["lines"] if command["do"] == "adopt" else 0
 
 
 def sections(name: str) -> dict[str, list[bytes]]:

@@ -3,22 +3,28 @@ import hashlib
 import json
 import pathlib
 import re
+import resource
 import subprocess
-import time
 
 from damage import first_fault, slow_replies
 from harnesses import CASES, Harness
 
+# How much processor time an input may take, and how long is waited for an end.
 SECONDS, PATIENCE = 1, 20
 LINES = re.compile(rb"(pnuts: (read|write|too-many-turns|memory|cannot start|stream east failed|round failed|close failed)\n)?\Z")
 # Which of such numbers are read is not fixed.
 EDGE = re.compile(rb"[0-9]{17}|[eE][-+]?[0-9]{3}")
-# What a repeated member means is whatever `serde_json` makes of it.
 CRASHES, HANGS, QUEUE = "crashes", "hangs", "queue"
 
 
 def bounds_of(words: list[str]) -> list[str]:
     return json.loads(words[words.index("--bounds") + 1]) if "--bounds" in words else []
+
+
+def children_seconds() -> float:
+    """How much processor time programs have taken."""
+    used = resource.getrusage(resource.RUSAGE_CHILDREN)
+    return used.ru_utime + used.ru_stime
 
 
 class Findings:
@@ -49,9 +55,9 @@ class Findings:
 
     def end_fault(self, text: bytes) -> str | None:
         """Whether the program ends as the documents do not say, or late."""
-        start = time.process_time(), time.monotonic()
+        before = children_seconds()
         end = self.run(text)
-        if end is None or time.monotonic() - start[1] > SECONDS:
+        if end is None or children_seconds() - before > SECONDS:
             return "hang"
         return None if end[0] in (0, 1) and LINES.match(end[2]) and (end[0] == 1) == (end[2] != b"") else "crash"
 

@@ -1,6 +1,6 @@
 // Loaded with a program that is fuzzed: stands in for the network, and aborts at a status that the documents do not have.
 //
-// A session is accepted once the stream was read to its end. With FUZZ_SESSION it reads standard input; without it, nothing.
+// With FUZZ_SESSION, a session is accepted once the stream was read to its end, and reads standard input; without it, it ends at once.
 #define _GNU_SOURCE
 #include <arpa/inet.h>
 #include <fcntl.h>
@@ -14,6 +14,10 @@
 
 static const useconds_t PAUSE = 100;
 static atomic_bool stream_ended = false;
+
+static bool reads_input(void) {
+    return getenv("FUZZ_SESSION") != NULL;
+}
 
 static int no_file(void) {
     return open("/dev/null", O_RDWR | O_CLOEXEC);
@@ -41,7 +45,7 @@ int setsockopt(int socket, int level, int option, const void *value, socklen_t l
 
 int accept4(int socket, struct sockaddr *address, socklen_t *length, int flags) {
     (void)socket, (void)flags;
-    while (!stream_ended) usleep(PAUSE);
+    while (reads_input() && !stream_ended) usleep(PAUSE);
     struct sockaddr_in peer = {.sin_family = AF_INET, .sin_addr.s_addr = htonl(INADDR_LOOPBACK), .sin_port = htons(1)};
     if (address && length) {
         memcpy(address, &peer, *length < sizeof peer ? *length : sizeof peer);
@@ -58,7 +62,7 @@ ssize_t read(int file, void *bytes, size_t size) {
 
 ssize_t recv(int socket, void *bytes, size_t size, int flags) {
     (void)socket, (void)flags;
-    return getenv("FUZZ_SESSION") ? syscall(SYS_read, STDIN_FILENO, bytes, size) : 0;
+    return reads_input() ? syscall(SYS_read, STDIN_FILENO, bytes, size) : 0;
 }
 
 ssize_t send(int socket, const void *bytes, size_t size, int flags) {
