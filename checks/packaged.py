@@ -43,6 +43,12 @@ def trace(root: Path) -> dict[str, bytes]:
     return found
 
 
+def differing(root: Path, before: dict[str, bytes]) -> set[str]:
+    """What is new, gone or changed in the system."""
+    after = trace(root)
+    return {it for it in before.keys() | after.keys() if before.get(it) != after.get(it)}
+
+
 def check_lintian(root: Path, package: Path) -> None:
     """lintian finds neither an error nor what it warns of."""
     shutil.copy(package, root)
@@ -140,6 +146,5 @@ def check_package(system: System, package: Path) -> Iterator[str]:
     system.run("dpkg", "--purge", "pnuts")
     same("the service", system.status("systemctl", "is-active", "pnuts")[1], "inactive")
     same("its runtime directory and its user", [system.status(*it)[0] for it in (("test", "-e", "/run/pnuts"), ("id", "pnuts"))], [1, 1])
-    after = trace(system.root)
-    same("files that differ", {it for it in before.keys() | after.keys() if before.get(it) != after.get(it)}, set())
+    same("what differs", differing(system.root, before), set())
     yield "purged while it ran: neither a process, a user nor a file is left"
