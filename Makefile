@@ -33,7 +33,8 @@ CRATE ?=
 ROWS ?= ../shared/rows
 STAGE ?= notices
 
-.PHONY: run test edits build install uninstall deb bench bench-beside checks checks-client checks-feeds checks-install definitions rows toolchain
+.PHONY: run test edits build install uninstall deb bench bench-beside checks checks-client checks-feeds checks-install \
+	definitions rows toolchain
 
 # Shows the program at work: the replies to the script on standard output. It proves nothing. A program that is current answers
 # at once; otherwise one is built, in about two minutes, and kept.
