@@ -37,7 +37,8 @@ STAGE ?= notices
 SOAK ?= 60
 SECONDS ?= 240
 
-.PHONY: run test edits build install uninstall deb bench bench-beside checks checks-client checks-feeds checks-install races fuzz definitions rows toolchain
+.PHONY: run test edits build install uninstall deb bench bench-beside checks checks-client checks-feeds checks-install \
+	races fuzz definitions rows toolchain
 
 # Shows the program at work: the replies to the script on standard output. It proves nothing. A program that is current answers
 # at once; otherwise one is built, in about two minutes, and kept.

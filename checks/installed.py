@@ -1,4 +1,4 @@
-"""What `make install` and `make uninstall` do, in a folder that is taken for the root."""
+"""What `make install` and `make uninstall` do: in a folder that is taken for the root, and in a system."""
 
 from __future__ import annotations
 
@@ -7,7 +7,8 @@ from collections.abc import Iterator
 from pathlib import Path
 
 from completing import Shell
-from fresh_system import run
+from fresh_system import System, run
+from packaged import check_serving, differing, trace
 from served import same
 
 TOP = Path(__file__).resolve().parent.parent
@@ -35,6 +36,10 @@ COMPLETIONS = {
     "pnuts serve east=messages --po": ["pnuts", "serve", "east=messages", "--port"],
     "pnuts steal ": ["pnuts", "steal"],
 }
+
+
+# What docs/installing.md tells the administrator to do begins so.
+TOLD = "    sudo "
 
 
 def files_in(folder: Path) -> dict[str, int]:
@@ -92,3 +97,19 @@ def check_make_install(program: Path, folder: Path) -> Iterator[str]:
     make("uninstall", root, program)
     same("files left", files_in(root), {})
     yield "make uninstall: a changed environment file is kept, and all else removed"
+
+
+def check_told(system: System, program: Path) -> Iterator[str]:
+    """Does in a system what the document on installing tells the administrator to do, and looks whether it serves in between."""
+    before = trace(system.root)
+    lines = (TOP / "docs/installing.md").read_text(encoding="utf-8").splitlines()
+    told = [line.removeprefix(TOLD).split() for line in lines if line.startswith(TOLD)]
+    for command, *words in told:
+        if command == "make":
+            make(words[0], system.root, program)
+        else:
+            system.run(command, *words)
+        if "enable" in words:
+            check_serving(system)
+    same("files that differ", {it for it in differing(system.root, before) if not (system.root / it).is_dir()}, set())
+    yield f"did the {len(told)} lines of docs/installing.md: it serves in between, and no file is left"

@@ -23,7 +23,8 @@ EXPOSURE = 15
 UNKNOWN = "[Service]\nExecStart=/bin/true\nProtectEverything=yes\n"
 
 # What a process of the service may do, as /proc says it.
-BOUNDS = {"CapInh": "0" * 16, "CapPrm": "0" * 16, "CapEff": "0" * 16, "CapBnd": "0" * 16, "CapAmb": "0" * 16, "NoNewPrivs": "1", "Seccomp": "2"}
+CAPABILITIES = ("CapInh", "CapPrm", "CapEff", "CapBnd", "CapAmb")
+BOUNDS = {**dict.fromkeys(CAPABILITIES, "0" * 16), "NoNewPrivs": "1", "Seccomp": "2"}
 
 # What is none of the package's: mounts, logs, and what dpkg, man and shadow note for themselves.
 PASSED = ("dev", "proc", "run", "sys", "tmp", "var/cache", "var/lib/dpkg", "var/log", "var/tmp")
@@ -41,6 +42,12 @@ def trace(root: Path) -> dict[str, bytes]:
             if str(path) not in NOTED:
                 found[str(path)] = (root / path).read_bytes() if is_text else b""
     return found
+
+
+def differing(root: Path, before: dict[str, bytes]) -> set[str]:
+    """What is new, gone or changed in the system."""
+    after = trace(root)
+    return {it for it in before.keys() | after.keys() if before.get(it) != after.get(it)}
 
 
 def check_lintian(root: Path, package: Path) -> None:
@@ -139,7 +146,7 @@ def check_package(system: System, package: Path) -> Iterator[str]:
     check_serving(system)
     system.run("dpkg", "--purge", "pnuts")
     same("the service", system.status("systemctl", "is-active", "pnuts")[1], "inactive")
-    same("its runtime directory and its user", [system.status(*it)[0] for it in (("test", "-e", "/run/pnuts"), ("id", "pnuts"))], [1, 1])
-    after = trace(system.root)
-    same("files that differ", {it for it in before.keys() | after.keys() if before.get(it) != after.get(it)}, set())
+    same("whether its runtime directory is there", system.status("test", "-e", "/run/pnuts")[0], 1)
+    same("whether its user is there", system.status("id", "pnuts")[0], 1)
+    same("what differs", differing(system.root, before), set())
     yield "purged while it ran: neither a process, a user nor a file is left"
