@@ -19,8 +19,9 @@ pub fn calls_are_events()
     ensures calls { (events : List RegionEvent) (old new : LiveRegionValue) → AllLeadLive events old new → AllLeadTo events (core old) (core new) }
 {}
 
-/// The region that `close` gives after honest calls has exactly the cells of the images taken, if all its tablets serve
-/// and the images of rounds that ran out of memory were taken too.
+/// The region that `close` gives after honest calls has exactly the cells of the images taken, if all its tablets serve.
+///
+/// The images of rounds that ran out of memory have to be among them.
 ///
 /// Rounds alone need not be honest.
 pub fn a_closed_region_has_what_was_taken()

@@ -28,8 +28,8 @@ pub struct ReadGuard {
 impl ReadGuard {
     ghost use Rattle.pn_live.specs.Published.{seen_by, range_of, found_by};
 
-    /// Stays inside where the state found extends all that the reader learnt, as in every run. Leaves
-    /// otherwise: exactly where the reader learnt of more than one attempt after the state found.
+    /// Stays inside where the state found extends all that the reader learnt, as in every run.
+    /// Leaves exactly where the reader learnt of more than one attempt after that state.
     pub fn stay(
         reading: Reading<PublishedState, Option<PublishedState>, PublishOrder>,
         found: Snapshot<PublishedState>,

@@ -34,8 +34,9 @@ pub fn rounds_leave_tablets_serving()
         → AllServe old → IsHalfTaken old deliveries new → AllServe new }
 {}
 
-/// Where every tablet serves, answers depend only on the cells of all tablets together: a read is the key's
-/// cell, unless it is `Behind`; a get has the keys' cells; a page is the first of the rows shown.
+/// Where every tablet serves, answers depend only on the cells of all tablets together.
+///
+/// A read is the key's cell, unless it is `Behind`. A get has the keys' cells. A page has the first rows shown.
 pub fn reads_depend_on_the_cells_alone()
     ensures read { (region : RegionValue) (key : List ℕ) (wanted : Option Stamp) → IsRegion region → AllServe region
         → read_in region key wanted ≡ unless_behind wanted (find bytes_cmp key (all_cells region)) }
@@ -57,8 +58,10 @@ pub fn regions_of_the_same_cells_answer_alike()
         → AllServe one → AllServe other → all_cells one ≡ all_cells other → page_in one query ≡ page_in other query }
 {}
 
-/// The pages of an unchanged region, each continuing the one before, have together the rows that its cells show,
-/// each once. So do pages between which the cells stay the same.
+/// The pages of an unchanged region, each continuing the one before, have together the rows that its cells show.
+/// Each row comes once.
+///
+/// The same holds of pages between which the cells stay the same.
 ///
 /// Where every tablet serves, such a walk comes to its end.
 pub fn pages_together_are_the_shown_rows()
@@ -72,8 +75,8 @@ pub fn pages_together_are_the_shown_rows()
         → rows_of pages ≡ shown_rows query cells }
 {}
 
-/// Whatever happens to a region between pages, each continuing the one before, keys strictly rise within a page and from
-/// page to page. All are above the key that the first query excludes.
+/// Keys strictly rise within a page and from page to page, whatever happens to the region in between.
+/// All are above the key that the first query excludes.
 pub fn keys_rise_from_page_to_page()
     ensures rise { (query : QueryValue) (pages : List PageValue) → 0 < query.limit
         → ArePages IsAnswered (Some query) pages → IsTrue (is_sorted bytes_cmp (rows_of pages)) }

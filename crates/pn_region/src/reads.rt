@@ -70,8 +70,9 @@ impl Region {
     /// The first rows that a query shows, up to its limit, and the query for the rows after them exactly where
     /// there are more.
     ///
-    /// `Recovering` names the first recovering tablet that may have rows of the page. `Memory` may come before
-    /// such a tablet is found, but only after the first that may have rows was read. `NoEntry` never comes.
+    /// `Recovering` names the first recovering tablet that may have rows of the page. `NoEntry` never comes.
+    ///
+    /// `Memory` comes only after the first tablet that may have rows was read.
     pub fn scan(&self, query: &Query) -> Result<Page, ScanFault>
         ensures page { ShowsUnless Memory (λ page. (page.rows.items, page.next)) result (page_in self.now.state query.now) }
         ensures memory { IsErrOf result ScanFault.Memory → BeginsToRead self.now.state query.now }

@@ -139,8 +139,9 @@ pub fn the_same_images_leave_the_same_records()
         → SameImages (all_taken broker events) (all_taken broker more) → all_cells one ≡ all_cells other }
 {}
 
-/// A round that ran out of memory and is accepted when it is repeated, with only rounds in between, leaves the
-/// tablets and marks that it would have left without the failure.
+/// A round that ran out of memory may be repeated, with only rounds in between.
+///
+/// Where it is accepted then, it leaves the tablets and marks of a run without the failure.
 pub fn a_repeated_round_makes_up_for_a_failed_one()
     ensures makes_up { (start failed later end : RegionValue) (deliveries : List DeliveryValue) (events : List RegionEvent)
         → AllRise start → IsHalfTaken start deliveries failed → AreRounds events → AllLeadTo events failed later

@@ -1,7 +1,8 @@
 //! The law of scripts, as a contract. A call does nothing.
 //!
-//! It speaks of lines and of the end of an input, after a last line without newline too. `parts_of script` has both,
-//! and a run that stopped names the lines that it answered.
+//! It speaks of lines and of the end of an input, also where the last line has no newline.
+//!
+//! `parts_of script` has both. A run that stopped names the lines that it answered.
 
 ghost use Rattle.std.specs.Prelude.{◌≡◌, ℕ, max, List};
 ghost use Rattle.pn_join.specs.Prelude.{JoinLaws, key_by_key};

@@ -1,5 +1,6 @@
-//! Cases of `pn_join`, a line each: `join` of two tables, `least` for an entry below all others, `name` for a name,
-//! `slice` for a part of a table, and `cut` for a table that is cut and put together again.
+//! Cases of `pn_join`, a line each: `join` of two tables, `least` for an entry below all others, `name` for a name.
+//!
+//! `slice` is for a part of a table, and `cut` for a table that is cut and put together again.
 //!
 //! A table is its first key, its step and its count; each key is its own content. `stdout` has what must be answered.
 #![tactic(auto)]

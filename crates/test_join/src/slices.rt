@@ -40,8 +40,8 @@ fn leaves(table: &Counts) -> usize {
     table.leaves().count()
 }
 
-/// A table that is cut at one index after another and put together each time, and whether it has no more leaves than
-/// before. Where memory runs out it is cut again.
+/// A table that is cut at one index after another and put together each time; whether leaves were added.
+/// Where memory runs out it is cut again.
 pub(crate) fn cut(alloc: Global, text: &str) -> Result<String, Fail> {
     let mut words = text.split(' ');
     let mut table = table(alloc, &mut words)?;
