@@ -39,7 +39,7 @@ fn serve<'w>(alloc: Global) -> Result<Command<'w>, AllocError>
     ensures local { IfOk result (λ command. (out-Command command).has_globals ≡ false) }
 {
     Command::new(alloc, "serve")
-        .about("CommandReader streams from files while it serves sessions on 127.0.0.1")
+        .about("Reads streams from files while it serves sessions on 127.0.0.1")
         .arg(bounds(alloc))?
         .arg(workers(alloc))?
         .arg(sessions(alloc))?
