@@ -127,9 +127,7 @@ fn add_report(gathered: &mut Gathered, name: &StreamName, report: Report)
 fn same_name(name: &StreamName) -> StreamName
     ensures { result ≡ name.now }
 {
-    let Ok(name) = name.dup() else {
-        unreachable!()
-    };
+    let Ok(name) = name.dup() else { unreachable!() };
     name
 }
 
