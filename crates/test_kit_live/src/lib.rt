@@ -41,6 +41,23 @@ pub fn closed<R: Wait>(
     live.close(rt, readers)
 }
 
+/// Opens a live region with one reader; none where that is refused.
+pub fn open_one<R: Wait>(rt: &R, alloc: Global, layout: Layout) -> Option<(LiveRegion, LiveReader)>
+    ensures { IfSome result (λ opened. IsReaderIn opened.0 opened.1) }
+{
+    let (live, mut readers) = opened(rt, alloc, layout, 1).ok()?;
+    let Some(reader) = take_out(&live, &mut readers) else {
+        end(rt, alloc, live);
+        return None;
+    };
+    Some((live, reader))
+}
+
+/// Closes a live region whose readers are not looked at. Whether it closed.
+pub fn end<R: Wait>(rt: &R, alloc: Global, live: LiveRegion) -> bool {
+    closed(rt, live, Vec::new(alloc)).is_ok()
+}
+
 /// The version in which a reader finds a key, and how many contents it has; none where there is no record.
 pub fn found(reader: &mut LiveReader, key: &Key) -> Result<Option<(Version, usize)>, ScanFault>
     ensures { tablets_of reader.new ≡ tablets_of reader.old }

@@ -1,4 +1,4 @@
-//! Tests of live regions: worked rows, workers that meet, a reader beside a held round and beside a writer, and calls that run out
+//! Tests of live regions: a recovery, workers that meet, readers beside a held round and beside a writer, and calls that run out
 //! of memory.
 #![tactic(auto)]
 
@@ -14,5 +14,3 @@ mod recovery;
 mod rows;
 #[cfg(test)]
 mod served;
-#[cfg(test)]
-mod words;

@@ -1,17 +1,15 @@
 //! Two workers of a round that meet, in a plain region and in a live one.
 
 use pn_apply::Gate;
-use pn_join::NoMemory;
 use pn_live::LiveRegion;
 use pn_region::Region;
 use std::alloc::Global;
 use std::sync::Wait;
 use std::sync::atomic::{AtomicBool, AtomicU64, Ordering};
-use std::test::Fail;
 use std::thread;
 use std::thread::Threads;
 use test_kit::{deliveries, layout};
-use test_kit_live::{closed, opened};
+use test_kit_live::{end, open_one};
 
 /// How often a worker looks whether the other has come.
 const MAX_TURNS: u64 = 1_000_000;
@@ -36,10 +34,21 @@ impl Gate for Meeting {
     }
 }
 
-fn new_meeting() -> Meeting {
-    Meeting {
-        entered: [AtomicU64::new(0), AtomicU64::new(0)],
-        missed: AtomicBool::new(false),
+impl Meeting {
+    fn new() -> Meeting {
+        Meeting {
+            entered: [AtomicU64::new(0), AtomicU64::new(0)],
+            missed: AtomicBool::new(false),
+        }
+    }
+
+    // Whether the workers met in both steps of a round: where images are joined, and where tablets take them.
+    fn met_twice(&self) -> bool {
+        !self.missed.load(Ordering::SeqCst)
+            && self
+                .entered
+                .iter()
+                .all(|count| count.load(Ordering::SeqCst) == 2)
     }
 }
 
@@ -64,20 +73,21 @@ fn live<R: Threads + Wait + Sync>(
 
 #[test]
 fn two_workers_meet(rt: HostRuntime) {
-    let gate = new_meeting();
+    let gate = Meeting::new();
     assert_eq!(rt; plain(&rt, rt.alloc(), &gate), Some(2));
-    assert!(rt; !gate.missed.load(Ordering::SeqCst));
+    assert!(rt; gate.met_twice());
+}
+
+fn met_live<R: Threads + Wait + Sync>(rt: &R, alloc: Global, gate: &Meeting) -> Option<u64> {
+    let (mut region, _reader) = open_one(rt, alloc, layout(alloc, "m")?)?;
+    let changed = live(rt, alloc, &mut region, gate);
+    end(rt, alloc, region);
+    changed
 }
 
 #[test]
-fn two_workers_meet_in_a_live_region(rt: HostRuntime) -> Result<(), Fail> {
-    let alloc = rt.alloc();
-    let layout = layout(alloc, "m").ok_or(NoMemory)?;
-    let (mut region, _readers) = opened(&rt, alloc, layout, 1)?;
-    let gate = new_meeting();
-    let changed = live(&rt, alloc, &mut region, &gate);
-    closed(&rt, region, Vec::new(alloc))?;
-    assert_eq!(rt; changed, Some(2));
-    assert!(rt; !gate.missed.load(Ordering::SeqCst));
-    Ok(())
+fn two_workers_meet_in_a_live_region(rt: HostRuntime) {
+    let gate = Meeting::new();
+    assert_eq!(rt; met_live(&rt, rt.alloc(), &gate), Some(2));
+    assert!(rt; gate.met_twice());
 }

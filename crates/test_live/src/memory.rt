@@ -2,23 +2,18 @@
 //!
 //! This test holds as it is, and holds too where one allocation of it is refused, whichever it is.
 
-ghost use Rattle.std.specs.Prelude.{◌≡◌, All, IfSome};
-ghost use Rattle.pn_live.specs.LiveRegions.{IsReaderIn, tablets_in};
-ghost use Rattle.pn_live.specs.Readers.{AreNotesOf, tablets_of};
-
 use pn_apply::Open;
 use pn_join::Marks;
-use pn_live::{Front, LiveReader, LiveRegion};
+use pn_live::{LiveReader, LiveRegion};
 use pn_record::Key;
 use pn_scan::{Query, View};
 use pn_stream::Delivery;
-use pn_tablet::{Layout, TabletCopy};
+use pn_tablet::TabletCopy;
 use std::alloc::Global;
 use std::sync::Wait;
-use std::test::Fail;
 use std::thread::Threads;
 use test_kit::{deliveries, keys, layout};
-use test_kit_live::{closed, found, hand_back, opened, take_out};
+use test_kit_live::{end, found, open_one};
 
 /// A key of each tablet, and the bounds between them.
 const KEYS: &str = "a n z";
@@ -30,7 +25,7 @@ const BOUNDS: &str = "m t";
 enum End {
     /// Each call went well, the first time or the second, and found what was brought.
     Well,
-    /// There was no memory for what the calls are given, or none to close.
+    /// There was no memory for what the calls are given, or none to open or to close.
     Again,
     /// A call was refused twice, or found something else.
     Badly,
@@ -44,10 +39,10 @@ struct Wanted {
     need: Marks,
 }
 
-// What the calls are given, each of them twice.
+// What the calls are given, each round twice.
 #[derive(Drop)]
 struct Given {
-    layouts: (Layout, Layout),
+    wanted: Wanted,
     rounds: (Vec<Delivery>, Vec<Delivery>),
     later: (Vec<Delivery>, Vec<Delivery>),
 }
@@ -60,11 +55,11 @@ fn make_wanted(alloc: Global) -> Option<Wanted> {
 }
 
 fn make_given(alloc: Global) -> Option<Given> {
-    let layouts = (layout(alloc, BOUNDS)?, layout(alloc, BOUNDS)?);
+    let wanted = make_wanted(alloc)?;
     let rounds = twice(alloc, 1, 5)?;
     let later = twice(alloc, 4, 6)?;
     Some(Given {
-        layouts,
+        wanted,
         rounds,
         later,
     })
@@ -78,17 +73,13 @@ fn twice(alloc: Global, first: u64, number: u64) -> Option<(Vec<Delivery>, Vec<D
 
 impl Wanted {
     // Whether a reader finds the versions of this number, or where a call was refused by the next one.
-    fn is_found(&self, reader: &mut LiveReader, number: u64) -> bool
-        ensures { tablets_of reader.new ≡ tablets_of reader.old }
-    {
+    fn is_found(&self, reader: &mut LiveReader, number: u64) -> bool {
         (self.is_read(reader, number) || self.is_read(reader, number))
             && (self.is_got(reader, number) || self.is_got(reader, number))
             && (self.is_scanned(reader, number) || self.is_scanned(reader, number))
     }
 
-    fn is_read(&self, reader: &mut LiveReader, number: u64) -> bool
-        ensures { tablets_of reader.new ≡ tablets_of reader.old }
-    {
+    fn is_read(&self, reader: &mut LiveReader, number: u64) -> bool {
         for key in &self.keys {
             match found(reader, key) {
                 Ok(Some((version, 1))) if version.number == number => {}
@@ -98,9 +89,7 @@ impl Wanted {
         true
     }
 
-    fn is_got(&self, reader: &mut LiveReader, number: u64) -> bool
-        ensures { tablets_of reader.new ≡ tablets_of reader.old }
-    {
+    fn is_got(&self, reader: &mut LiveReader, number: u64) -> bool {
         let Ok(cells) = reader.get(&self.keys) else {
             return false;
         };
@@ -112,9 +101,7 @@ impl Wanted {
                 .all(|cell| cell.version().number == number)
     }
 
-    fn is_scanned(&self, reader: &mut LiveReader, number: u64) -> bool
-        ensures { tablets_of reader.new ≡ tablets_of reader.old }
-    {
+    fn is_scanned(&self, reader: &mut LiveReader, number: u64) -> bool {
         let Ok(page) = reader.scan(&self.query) else {
             return false;
         };
@@ -127,9 +114,7 @@ impl Wanted {
     }
 
     // A copy of the last tablet, by the next call where one was refused.
-    fn copy(&self, reader: &mut LiveReader) -> Option<TabletCopy>
-        ensures { tablets_of reader.new ≡ tablets_of reader.old }
-    {
+    fn copy(&self, reader: &mut LiveReader) -> Option<TabletCopy> {
         let last = reader.layout().count() - 1;
         match reader.copy(last, &self.need) {
             Ok(copy) => Some(copy),
@@ -138,35 +123,42 @@ impl Wanted {
     }
 }
 
-// Takes a round, and once more where it was refused. Answers its front.
+// Takes a round, by the next call where one was refused.
 fn round_twice<R: Threads + Wait + Sync>(
     rt: &R,
     live: &mut LiveRegion,
     rounds: (Vec<Delivery>, Vec<Delivery>),
-) -> Option<Front>
-    ensures front { IfSome result (AreNotesOf (tablets_in live.old)) }
-    ensures same { tablets_in live.new ≡ tablets_in live.old }
-{
+) -> bool {
     let (first, second) = rounds;
-    let taken = live.round(rt, first, 2, &Open);
-    if let Ok((_round, front)) = taken {
-        return Some(front);
-    }
-    let (_round, front) = live.round(rt, second, 2, &Open).ok()?;
-    Some(front)
+    live.round(rt, first, 2, &Open).is_ok() || live.round(rt, second, 2, &Open).is_ok()
 }
 
-// Loses the last tablet, by the next call where one was refused, and then adopts a copy of it, or the other.
-fn recover<R: Wait>(rt: &R, live: &mut LiveRegion, copies: (TabletCopy, TabletCopy)) -> bool
-    ensures { tablets_in live.new ≡ tablets_in live.old }
-{
-    let (first, second) = copies;
+// Loses the last tablet, by the next call where one was refused.
+fn lose_twice<R: Wait>(rt: &R, live: &mut LiveRegion) -> bool {
     let last = live.layout().count() - 1;
-    let is_lost = live.lose(rt, last).is_ok() || live.lose(rt, last).is_ok();
-    is_lost && (live.adopt(rt, first).is_ok() || live.adopt(rt, second).is_ok())
+    live.lose(rt, last).is_ok() || live.lose(rt, last).is_ok()
 }
 
-// Takes a round, learns its front, and finds what it brought.
+// Adopts a copy, or the other where that was refused.
+fn adopt_one<R: Wait>(rt: &R, live: &mut LiveRegion, copies: (TabletCopy, TabletCopy)) -> bool {
+    let (first, second) = copies;
+    live.adopt(rt, first).is_ok() || live.adopt(rt, second).is_ok()
+}
+
+// Loses a tablet, and adopts a copy that a reader gave before.
+fn recover<R: Wait>(
+    rt: &R,
+    live: &mut LiveRegion,
+    reader: &mut LiveReader,
+    wanted: &Wanted,
+) -> bool {
+    let (Some(copy), Some(other)) = (wanted.copy(reader), wanted.copy(reader)) else {
+        return false;
+    };
+    lose_twice(rt, live) && adopt_one(rt, live, (copy, other))
+}
+
+// Takes a round, and finds what it brought.
 fn serve<R: Threads + Wait + Sync>(
     rt: &R,
     live: &mut LiveRegion,
@@ -174,16 +166,8 @@ fn serve<R: Threads + Wait + Sync>(
     rounds: (Vec<Delivery>, Vec<Delivery>),
     wanted: &Wanted,
     number: u64,
-) -> bool
-    requires { IsReaderIn live.old reader.old }
-    ensures same { tablets_in live.new ≡ tablets_in live.old }
-    ensures reader { IsReaderIn live.new reader.new }
-{
-    let Some(front) = round_twice(rt, live, rounds) else {
-        return false;
-    };
-    reader.learn(front);
-    wanted.is_found(reader, number)
+) -> bool {
+    round_twice(rt, live, rounds) && wanted.is_found(reader, number)
 }
 
 // A round, a loss, an adoption, and a round after them.
@@ -191,71 +175,43 @@ fn lives<R: Threads + Wait + Sync>(
     rt: &R,
     live: &mut LiveRegion,
     reader: &mut LiveReader,
-    rounds: (Vec<Delivery>, Vec<Delivery>),
-    later: (Vec<Delivery>, Vec<Delivery>),
-    wanted: &Wanted,
-) -> bool
-    requires { IsReaderIn live.old reader.old }
-    ensures same { tablets_in live.new ≡ tablets_in live.old }
-    ensures reader { IsReaderIn live.new reader.new }
-{
-    if !serve(rt, live, reader, rounds, wanted, 5) {
-        return false;
-    }
-    let (Some(copy), Some(other)) = (wanted.copy(reader), wanted.copy(reader)) else {
-        return false;
-    };
-    recover(rt, live, (copy, other)) && serve(rt, live, reader, later, wanted, 6)
+    given: Given,
+) -> bool {
+    let Given {
+        wanted,
+        rounds,
+        later,
+    } = given;
+    serve(rt, live, reader, rounds, &wanted, 5)
+        && recover(rt, live, reader, &wanted)
+        && serve(rt, live, reader, later, &wanted, 6)
 }
 
-// Opens a live region with two readers, and once more where that was refused.
-fn open_twice<R: Wait>(
-    rt: &R,
-    alloc: Global,
-    layouts: (Layout, Layout),
-) -> Option<(LiveRegion, Vec<LiveReader>)>
-    ensures { IfSome result (λ opened. All (IsReaderIn opened.0) opened.1.items) }
-{
-    let (first, second) = layouts;
-    match opened(rt, alloc, first, 2) {
-        Ok(opened) => Some(opened),
-        Err(_) => opened(rt, alloc, second, 2).ok(),
-    }
+fn begin<R: Wait>(rt: &R, alloc: Global) -> Option<(LiveRegion, LiveReader)> {
+    open_one(rt, alloc, layout(alloc, BOUNDS)?)
 }
 
 // Opens a live region, lives, and closes.
 fn life<R: Threads + Wait + Sync>(rt: &R, alloc: Global) -> End {
-    let (Some(given), Some(wanted)) = (make_given(alloc), make_wanted(alloc)) else {
+    let Some(given) = make_given(alloc) else {
         return End::Again;
     };
-    let Given {
-        layouts,
-        rounds,
-        later,
-    } = given;
-    let Some((mut live, mut readers)) = open_twice(rt, alloc, layouts) else {
-        return End::Badly;
+    let Some((mut live, mut reader)) = begin(rt, alloc) else {
+        return End::Again;
     };
-    let mut lived = false;
-    if let Some(mut reader) = take_out(&live, &mut readers) {
-        lived = lives(rt, &mut live, &mut reader, rounds, later, &wanted);
-        hand_back(&live, &mut readers, reader);
-    }
-    match closed(rt, live, readers) {
-        _ if !lived => End::Badly,
-        Ok(region) if region.marks().len() == 1 => End::Well,
-        Ok(_) => End::Badly,
-        Err(_) => End::Again,
+    let lived = lives(rt, &mut live, &mut reader, given);
+    match (lived, end(rt, alloc, live)) {
+        (false, _) => End::Badly,
+        (true, false) => End::Again,
+        (true, true) => End::Well,
     }
 }
 
 #[test]
-fn a_refused_call_goes_well_when_it_comes_again(rt: HostRuntime) -> Result<(), Fail> {
-    let alloc = rt.alloc();
-    let mut end = life(&rt, alloc);
+fn a_refused_call_goes_well_when_it_comes_again(rt: HostRuntime) {
+    let mut end = life(&rt, rt.alloc());
     if end == End::Again {
-        end = life(&rt, alloc);
+        end = life(&rt, rt.alloc());
     }
     assert!(rt; end == End::Well);
-    Ok(())
 }

@@ -1,21 +1,16 @@
-//! A reader in a thread of its own, beside a writer that takes rounds, loses a tablet and adopts a copy.
-
-ghost use Rattle.std.specs.Prelude.{◌≡◌, IfSome};
-ghost use Rattle.pn_live.specs.LiveRegions.{IsReaderIn, tablets_in};
-ghost use Rattle.pn_live.specs.Readers.{AreNotesOf, tablets_of};
+//! A reader in a thread of its own, beside a writer that takes rounds, loses a tablet and adopts a copy. It learns no front.
 
 use pn_apply::Open;
-use pn_join::{Marks, NoMemory};
-use pn_live::{Front, LiveReader, LiveRegion};
+use pn_join::Marks;
+use pn_live::{LiveReader, LiveRegion};
 use pn_record::Key;
 use pn_scan::ScanFault;
 use pn_tablet::TabletCopy;
 use std::alloc::Global;
 use std::sync::Wait;
-use std::test::Fail;
 use std::thread::{Threads, join_mut};
 use test_kit::{deliveries, layout};
-use test_kit_live::{closed, found, hand_back, opened, take_out};
+use test_kit_live::{end, found, open_one};
 
 /// How often the reader reads, and how many rounds the writer takes before it looks up, twice.
 const READS: u64 = 5_000;
@@ -31,9 +26,7 @@ struct Work {
 }
 
 // Whether the versions that a reader finds never fall. The tablet may recover meanwhile.
-fn read_on(reader: &mut LiveReader, key: &Key) -> bool
-    ensures { tablets_of reader.new ≡ tablets_of reader.old }
-{
+fn read_on(reader: &mut LiveReader, key: &Key) -> bool {
     let mut last = 0;
     for pass in 0..READS {
         let number = match found(reader, key) {
@@ -56,9 +49,7 @@ fn take_rounds<R: Threads + Wait + Sync>(
     alloc: Global,
     live: &mut LiveRegion,
     first: u64,
-) -> bool
-    ensures { tablets_in live.new ≡ tablets_in live.old }
-{
+) -> bool {
     for number in first..first.saturating_add(ROUNDS) {
         if take_round(rt, alloc, live, number).is_none() {
             return false;
@@ -67,25 +58,20 @@ fn take_rounds<R: Threads + Wait + Sync>(
     true
 }
 
-// Takes the round of this number, which brings the key the version of it. Answers its front.
+// Takes the round of this number, which brings the key the version of it. Answers how many records changed.
 fn take_round<R: Threads + Wait + Sync>(
     rt: &R,
     alloc: Global,
     live: &mut LiveRegion,
     number: u64,
-) -> Option<Front>
-    ensures front { IfSome result (AreNotesOf (tablets_in live.old)) }
-    ensures same { tablets_in live.new ≡ tablets_in live.old }
-{
+) -> Option<u64> {
     let given = deliveries(alloc, number, "k", number)?;
-    let (_round, front) = live.round(rt, given, 1, &Open).ok()?;
-    Some(front)
+    let (round, _front) = live.round(rt, given, 1, &Open).ok()?;
+    Some(round.changed)
 }
 
 // Whether each call went well.
-fn write<R: Threads + Wait + Sync>(rt: &R, live: &mut LiveRegion, work: &mut Work) -> bool
-    ensures { tablets_in live.new ≡ tablets_in live.old }
-{
+fn write<R: Threads + Wait + Sync>(rt: &R, live: &mut LiveRegion, work: &mut Work) -> bool {
     let (alloc, first) = (work.alloc, work.first);
     let went_well = match work.copy.take() {
         Some(copy) => recover(rt, alloc, live, first, copy),
@@ -100,9 +86,7 @@ fn recover<R: Threads + Wait + Sync>(
     live: &mut LiveRegion,
     first: u64,
     copy: TabletCopy,
-) -> bool
-    ensures { tablets_in live.new ≡ tablets_in live.old }
-{
+) -> bool {
     live.lose(rt, 0).is_ok() && take_rounds(rt, alloc, live, first) && live.adopt(rt, copy).is_ok()
 }
 
@@ -113,10 +97,7 @@ fn beside<R: Threads + Wait + Sync>(
     reader: &mut LiveReader,
     work: &mut Work,
     key: &Key,
-) -> bool
-    ensures same { tablets_in live.new ≡ tablets_in live.old }
-    ensures reader { tablets_of reader.new ≡ tablets_of reader.old }
-{
+) -> bool {
     let (reads, writes) = join_mut(
         rt,
         &mut || read_on(reader, key),
@@ -125,47 +106,55 @@ fn beside<R: Threads + Wait + Sync>(
     reads && writes
 }
 
-// A race without a loss, and one with a loss. Answers the number that the reader finds after the front of a last round.
+// A race without a loss, and one with a loss. Whether each went well.
+fn races<R: Threads + Wait + Sync>(
+    rt: &R,
+    live: &mut LiveRegion,
+    reader: &mut LiveReader,
+    works: (Work, Work),
+    key: &Key,
+) -> bool {
+    let (mut rounds, mut recovery) = works;
+    if !beside(rt, live, reader, &mut rounds, key) {
+        return false;
+    }
+    recovery.copy = reader.copy(0, &Marks::new(recovery.alloc)).ok();
+    recovery.copy.is_some() && beside(rt, live, reader, &mut recovery, key)
+}
+
+fn work_from(alloc: Global, first: u64) -> Work {
+    Work {
+        alloc,
+        first,
+        copy: None,
+    }
+}
+
+// Answers the number that the reader finds after both races and a last round.
 fn race<R: Threads + Wait + Sync>(
     rt: &R,
     alloc: Global,
     live: &mut LiveRegion,
     reader: &mut LiveReader,
-) -> Option<u64>
-    requires { IsReaderIn live.old reader.old }
-    ensures same { tablets_in live.new ≡ tablets_in live.old }
-    ensures reader { tablets_of reader.new ≡ tablets_of reader.old }
-{
+) -> Option<u64> {
     let key = Key::of(alloc, "k").ok()?;
-    let mut rounds = Work {
-        alloc,
-        first: 1,
-        copy: None,
-    };
-    let is_steady = beside(rt, live, reader, &mut rounds, &key);
-    let mut recovery = Work {
-        alloc,
-        first: 201,
-        copy: reader.copy(0, &Marks::new(alloc)).ok(),
-    };
-    let recovers = beside(rt, live, reader, &mut recovery, &key);
-    reader.learn(take_round(rt, alloc, live, 401)?);
-    match found(reader, &key) {
-        Ok(Some((version, 1))) if is_steady && recovers => Some(version.number),
-        _ => None,
+    let works = (work_from(alloc, 1), work_from(alloc, 201));
+    if !races(rt, live, reader, works, &key) {
+        return None;
     }
+    take_round(rt, alloc, live, 401)?;
+    let (version, _) = found(reader, &key).ok()??;
+    Some(version.number)
+}
+
+fn raced<R: Threads + Wait + Sync>(rt: &R, alloc: Global) -> Option<u64> {
+    let (mut live, mut reader) = open_one(rt, alloc, layout(alloc, "")?)?;
+    let last = race(rt, alloc, &mut live, &mut reader);
+    end(rt, alloc, live);
+    last
 }
 
 #[test]
-fn no_version_falls_and_no_front_is_missed(rt: HostRuntime) -> Result<(), Fail> {
-    let alloc = rt.alloc();
-    let (mut live, mut readers) = opened(&rt, alloc, layout(alloc, "").ok_or(NoMemory)?, 1)?;
-    let mut last = None;
-    if let Some(mut reader) = take_out(&live, &mut readers) {
-        last = race(&rt, alloc, &mut live, &mut reader);
-        hand_back(&live, &mut readers, reader);
-    }
-    closed(&rt, live, readers)?;
-    assert_eq!(rt; last, Some(401));
-    Ok(())
+fn no_version_falls_and_no_round_is_missed(rt: HostRuntime) {
+    assert_eq!(rt; raced(&rt, rt.alloc()), Some(401));
 }

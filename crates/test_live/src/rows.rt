@@ -1,24 +1,24 @@
-//! The worked row of live reads: a round whose front a reader learns in a thread of its own.
+//! Readers in threads of their own that learn fronts: the worked row of live reads, and fronts learnt beside the next round.
 
-ghost use Rattle.std.specs.Prelude.{◌≡◌, All};
+ghost use Rattle.std.specs.Prelude.{◌≡◌, All, IfSome};
 ghost use Rattle.std.specs.Option.{ForSome};
 ghost use Rattle.pn_live.specs.LiveRegions.{IsReaderIn, tablets_in};
-ghost use Rattle.pn_live.specs.Readers.{IsFrontFor, tablets_of};
+ghost use Rattle.pn_live.specs.Readers.{AreNotesOf, IsFrontFor, tablets_of};
 
 use pn_apply::Open;
-use pn_join::NoMemory;
 use pn_live::{Front, LiveReader, LiveRegion};
 use pn_record::{Key, Version};
 use pn_scan::ScanFault;
-use pn_stream::Delivery;
+use std::alloc::Global;
 use std::sync::Wait;
-use std::test::Fail;
 use std::thread::{Threads, join_mut};
 use test_kit::{deliveries, layout};
 use test_kit_live::{closed, found, hand_back, opened, take_out};
 
-// The version and the number of contents, whether the version 1.5 is there, and whether 1.9 is not.
-type Found = (Option<(Version, usize)>, bool, bool);
+/// The number of the last round, and the most readers that there may be.
+const LAST: u64 = 50;
+
+const READERS: usize = 16;
 
 // A reader, and a front that it is to learn, where there is one.
 #[derive(Drop)]
@@ -29,86 +29,127 @@ struct Learner {
 }
 
 impl Learner {
-    // Learns its front, and looks.
-    fn look(&mut self, key: &Key) -> Result<Found, ScanFault>
+    // Learns its front, and finds the number of the key's version, or 0 where there is none.
+    fn look(&mut self, key: &Key) -> Option<u64>
         ensures { tablets_of self.new.reader ≡ tablets_of self.old.reader }
     {
         if let Some(front) = self.front.take() {
             self.reader.learn(front);
         }
-        let cell = found(&mut self.reader, key)?;
-        let enough = self.reader.read(key, Version::new(1, 5))?.is_some();
-        let behind = matches!(
-            self.reader.read(key, Version::new(1, 9)),
-            Err(ScanFault::Behind { has: Some(has) }) if has.number == 5
-        );
-        Ok((cell, enough, behind))
+        match found(&mut self.reader, key) {
+            Ok(Some((version, 1))) => Some(version.number),
+            Ok(None) => Some(0),
+            _ => None,
+        }
     }
 }
 
-// How many records a round changes, and what two readers then find in threads of their own. The first learns its front.
-fn beside<R: Threads + Wait + Sync>(
-    rt: &R,
-    live: &mut LiveRegion,
-    first: &mut Learner,
-    second: &mut Learner,
-    given: Vec<Delivery>,
-    key: &Key,
-) -> Option<(u64, Found, Found)>
-    requires { tablets_of first.old.reader ≡ tablets_in live.old }
-    ensures live { tablets_in live.new ≡ tablets_in live.old }
-    ensures first { tablets_of first.new.reader ≡ tablets_of first.old.reader }
-    ensures second { tablets_of second.new.reader ≡ tablets_of second.old.reader }
+// Whether the reader gets the key where it asks for the last version, and is told of that one where it asks for a later one.
+fn is_behind(reader: &mut LiveReader, key: &Key) -> bool
+    ensures { tablets_of reader.new ≡ tablets_of reader.old }
 {
-    let (round, front) = live.round(rt, given, 1, &Open).ok()?;
-    first.front = Some(front);
-    let (one, other) = join_mut(rt, &mut || first.look(key), &mut || second.look(key));
-    Some((round.changed, one.ok()?, other.ok()?))
+    let is_there = matches!(reader.read(key, Version::new(1, LAST)), Ok(Some(_)));
+    let later = reader.read(key, Version::new(1, LAST + 1));
+    is_there && matches!(later, Err(ScanFault::Behind { has: Some(has) }) if has.number == LAST)
 }
 
-// Takes two of these readers for it.
-fn rounded<R: Threads + Wait + Sync>(
+// Takes the round of this number, which brings the key the version of it. Answers its front.
+fn take_round<R: Threads + Wait + Sync>(
     rt: &R,
+    alloc: Global,
+    live: &mut LiveRegion,
+    number: u64,
+) -> Option<Front>
+    ensures front { IfSome result (AreNotesOf (tablets_in live.old)) }
+    ensures same { tablets_in live.new ≡ tablets_in live.old }
+{
+    let given = deliveries(alloc, number, "k", number)?;
+    let (_round, front) = live.round(rt, given, 1, &Open).ok()?;
+    Some(front)
+}
+
+// Learns the front of the round before, and looks, while the round of this number is taken. Whether it found no less.
+fn learn_beside<R: Threads + Wait + Sync>(
+    rt: &R,
+    alloc: Global,
+    live: &mut LiveRegion,
+    learner: &mut Learner,
+    key: &Key,
+    number: u64,
+) -> bool
+    requires { tablets_of learner.old.reader ≡ tablets_in live.old }
+    ensures same { tablets_in live.new ≡ tablets_in live.old }
+    ensures reader { tablets_of learner.new.reader ≡ tablets_in live.new }
+{
+    let (seen, front) = join_mut(
+        rt,
+        &mut || learner.look(key),
+        &mut || take_round(rt, alloc, live, number),
+    );
+    let (Some(seen), Some(front)) = (seen, front) else {
+        return false;
+    };
+    learner.front = Some(front);
+    seen.saturating_add(1) >= number
+}
+
+// Takes rounds, each while the reader learns the front before it. Whether each front was found, and the last one.
+fn rounds_beside<R: Threads + Wait + Sync>(
+    rt: &R,
+    alloc: Global,
+    live: &mut LiveRegion,
+    learner: &mut Learner,
+    key: &Key,
+) -> bool
+    requires { tablets_of learner.old.reader ≡ tablets_in live.old }
+    ensures same { tablets_in live.new ≡ tablets_in live.old }
+    ensures reader { tablets_of learner.new.reader ≡ tablets_in live.new }
+{
+    for number in 1..=LAST {
+        if !learn_beside(rt, alloc, live, learner, key, number) {
+            return false;
+        }
+    }
+    learner.look(key) == Some(LAST) && is_behind(&mut learner.reader, key)
+}
+
+// Takes one of these readers for it.
+fn learns<R: Threads + Wait + Sync>(
+    rt: &R,
+    alloc: Global,
     live: &mut LiveRegion,
     readers: &mut Vec<LiveReader>,
-    given: Vec<Delivery>,
     key: &Key,
-) -> Option<(u64, Found, Found)>
+) -> bool
     requires { All (IsReaderIn live.old) readers.old.items }
     ensures { All (IsReaderIn live.new) readers.new.items }
 {
-    let mut first = Learner {
-        reader: take_out(live, readers)?,
+    let Some(reader) = take_out(live, readers) else {
+        return false;
+    };
+    let mut learner = Learner {
+        reader,
         front: None,
     };
-    let mut second = Learner {
-        reader: take_out(live, readers)?,
-        front: None,
-    };
-    let answers = beside(rt, live, &mut first, &mut second, given, key);
-    hand_back(live, readers, first.reader);
-    hand_back(live, readers, second.reader);
-    answers
+    let went_well = rounds_beside(rt, alloc, live, &mut learner, key);
+    hand_back(live, readers, learner.reader);
+    went_well
+}
+
+// The number of the key's version in the region that is closed at the end, with all its readers.
+fn learnt<R: Threads + Wait + Sync>(rt: &R, alloc: Global) -> Option<u64> {
+    let key = Key::of(alloc, "k").ok()?;
+    let (mut live, mut readers) = opened(rt, alloc, layout(alloc, "")?, READERS).ok()?;
+    let went_well = learns(rt, alloc, &mut live, &mut readers, &key);
+    let region = closed(rt, live, readers).ok()?;
+    if !went_well {
+        return None;
+    }
+    let cell = region.read(&key, None).ok()??;
+    Some(cell.version().number)
 }
 
 #[test]
-fn a_reader_that_learns_the_front_finds_the_round(rt: HostRuntime) -> Result<(), Fail> {
-    let alloc = rt.alloc();
-    let key = Key::of(alloc, "k")?;
-    let given = deliveries(alloc, 1, "k", 5).ok_or(NoMemory)?;
-    let (mut live, mut readers) = opened(&rt, alloc, layout(alloc, "").ok_or(NoMemory)?, 2)?;
-    let answers = rounded(&rt, &mut live, &mut readers, given, &key);
-    let region = closed(&rt, live, readers)?;
-    let version = Version::new(1, 5).map(|version| (version, 1));
-    let Some((changed, first, second)) = answers else {
-        return Ok(assert!(rt; false, "a call was refused"));
-    };
-    assert_eq!(rt; changed, 1);
-    assert!(rt; first == (version, true, true));
-    assert!(rt; second == (version, true, true));
-    let Some(cell) = region.read(&key, None)? else {
-        return Ok(assert!(rt; false, "no record"));
-    };
-    assert_eq!(rt; cell.version().number, 5);
-    Ok(())
+fn a_front_is_found_while_the_next_round_is_published(rt: HostRuntime) {
+    assert_eq!(rt; learnt(&rt, rt.alloc()), Some(LAST));
 }

@@ -1,21 +1,15 @@
-//! A reader that is served while a round is held.
-
-ghost use Rattle.pn_live.specs.LiveRegions.{IsReaderIn, tablets_in};
-ghost use Rattle.pn_live.specs.Readers.{AreNotesOf, tablets_of};
-ghost use Rattle.std.specs.Prelude.{◌≡◌, IfSome};
+//! A reader that is served while a round is held, and that finds the round after it without learning its front.
 
 use pn_apply::Gate;
-use pn_join::NoMemory;
-use pn_live::{Front, LiveReader, LiveRegion};
-use pn_record::{Key, Version};
+use pn_live::{LiveReader, LiveRegion};
+use pn_record::Key;
 use std::alloc::Global;
 use std::sync::Wait;
 use std::sync::atomic::{AtomicBool, Ordering};
-use std::test::Fail;
 use std::thread;
 use std::thread::{Threads, join_mut};
 use test_kit::{deliveries, layout};
-use test_kit_live::{closed, found, hand_back, opened, take_out};
+use test_kit_live::{end, found, open_one};
 
 /// How often the worker looks whether the reader has answered.
 const MAX_TURNS: u64 = 1_000_000;
@@ -43,36 +37,26 @@ impl Gate for Held {
 }
 
 // Whether a read while the round is held finds no record. The gate then lets the round go on.
-fn read_once(reader: &mut LiveReader, key: &Key, gate: &Held) -> bool
-    ensures { tablets_of reader.new ≡ tablets_of reader.old }
-{
+fn read_once(reader: &mut LiveReader, key: &Key, gate: &Held) -> bool {
     let answer = reader.read(key, None);
     gate.answered.store(true, Ordering::SeqCst);
     matches!(answer, Ok(None))
 }
 
-// Takes a round of the key with one worker. Answers how many records changed, and the front.
+// Takes a round of the key with one worker. Answers how many records changed.
 fn hold_round<R: Threads + Wait + Sync>(
     rt: &R,
     alloc: Global,
     live: &mut LiveRegion,
     gate: &Held,
-) -> Option<(u64, Front)>
-    ensures front { IfSome result (λ done. AreNotesOf (tablets_in live.old) done.1) }
-    ensures same { tablets_in live.new ≡ tablets_in live.old }
-{
+) -> Option<u64> {
     let given = deliveries(alloc, 1, "n", 0)?;
-    let (round, front) = live.round(rt, given, 1, gate).ok()?;
-    Some((round.changed, front))
+    let (round, _front) = live.round(rt, given, 1, gate).ok()?;
+    Some(round.changed)
 }
 
-// What a read finds while the round is held, how many records the round changes, and what a read finds after it.
-#[derive(Drop)]
-struct Answers {
-    was_none: bool,
-    changed: u64,
-    found: Option<(Version, usize)>,
-}
+// Whether a read found no record while the round was held, how many records it changed, and the number that a read finds after it.
+type Answers = (bool, u64, Option<u64>);
 
 fn serve<R: Threads + Wait + Sync>(
     rt: &R,
@@ -80,48 +64,31 @@ fn serve<R: Threads + Wait + Sync>(
     live: &mut LiveRegion,
     reader: &mut LiveReader,
     gate: &Held,
-) -> Option<Answers>
-    requires { IsReaderIn live.old reader.old }
-    ensures same { tablets_in live.new ≡ tablets_in live.old }
-    ensures reader { IsReaderIn live.new reader.new }
-{
+) -> Option<Answers> {
     let key = Key::of(alloc, "n").ok()?;
-    let (was_none, done) = join_mut(
+    let (was_none, changed) = join_mut(
         rt,
         &mut || read_once(reader, &key, gate),
         &mut || hold_round(rt, alloc, live, gate),
     );
-    let (changed, front) = done?;
-    reader.learn(front);
     let found = found(reader, &key).ok()?;
-    Some(Answers {
-        was_none,
-        changed,
-        found,
-    })
+    Some((was_none, changed?, found.map(|(version, _)| version.number)))
+}
+
+fn served<R: Threads + Wait + Sync>(rt: &R, alloc: Global, gate: &Held) -> Option<Answers> {
+    let (mut live, mut reader) = open_one(rt, alloc, layout(alloc, "m")?)?;
+    let answers = serve(rt, alloc, &mut live, &mut reader, gate);
+    end(rt, alloc, live);
+    answers
 }
 
 #[test]
-fn a_reader_is_served_while_a_round_is_held(rt: HostRuntime) -> Result<(), Fail> {
-    let alloc = rt.alloc();
-    let (mut live, mut readers) = opened(&rt, alloc, layout(alloc, "m").ok_or(NoMemory)?, 1)?;
+fn a_reader_is_served_while_a_round_is_held(rt: HostRuntime) {
     let gate = Held {
         answered: AtomicBool::new(false),
         missed: AtomicBool::new(false),
     };
-    let mut answers = None;
-    if let Some(mut reader) = take_out(&live, &mut readers) {
-        answers = serve(&rt, alloc, &mut live, &mut reader, &gate);
-        hand_back(&live, &mut readers, reader);
-    }
-    closed(&rt, live, readers)?;
-    let Some(answers) = answers else {
-        return Ok(assert!(rt; false, "a call was refused"));
-    };
-    assert!(rt; answers.was_none);
+    let answers = served(&rt, rt.alloc(), &gate);
     assert!(rt; !gate.missed.load(Ordering::SeqCst));
-    assert_eq!(rt; answers.changed, 1);
-    let version = Version::new(1, 0).map(|version| (version, 1));
-    assert!(rt; answers.found == version);
-    Ok(())
+    assert_eq!(rt; answers, Some((true, 1, Some(0))));
 }
