@@ -10,9 +10,11 @@ from served import SECONDS, Client, Json, Served, same, written
 
 MEMORY = {"error": "memory"}
 MANY = 1_000
-# Two streams and two sessions, with many records that are waited for; or one of each, so that runs have as many allocations.
-LARGE = {"east": range(MANY // 2), "west": range(MANY // 2, MANY)}
-SMALL = {"east": range(1)}
+# Two streams and two sessions, with many records that are waited for, of which some come twice, so that two workers have enough
+# for a thread; or one of each, so that runs have as many allocations.
+HALVES, TWICE = (range(MANY // 2), range(MANY // 2, MANY)), 150
+LARGE = {name: [*half, *half[:TWICE]] for name, half in zip(("east", "west"), HALVES)}
+SMALL = {"east": [0]}
 LINES = {b"pnuts: %s\n" % word for word in (b"memory", b"cannot start", b"round failed", b"close failed", b"stream east failed",
                                            b"stream west failed")}
 WORDS = ["--bounds", '["k0500"]', "--workers", "2"]
@@ -26,7 +28,7 @@ def key_of(number: int) -> str:
     return f"k{number:04}"
 
 
-def messages(numbers: range) -> bytes:
+def messages(numbers: list[int]) -> bytes:
     """A stream of records."""
     images = ({"fields": {}, "key": key_of(number), "master": "w", "version": [1, 0]} for number in numbers)
     return b"".join(json.dumps({"at": at, "image": image}).encode() + b"\n" for at, image in enumerate(images, 1))
@@ -61,9 +63,9 @@ def load(client: Client, keys: list[str], mark: str) -> bool:
 class Checked:
     """Runs a program again and again, and notes the lines on standard error that were met."""
 
-    def __init__(self, program: str, room: str, parts: dict[str, range]) -> None:
+    def __init__(self, program: str, room: str, parts: dict[str, list[int]]) -> None:
         self.program, self.is_large, self.sessions = program, parts is LARGE, len(parts)
-        self.ends = [key_of(part[-1]) for part in parts.values()]
+        self.ends = [key_of(max(part)) for part in parts.values()]
         self.streams = [(name, written(room, f"{name}-{len(part)}", messages(part))) for name, part in parts.items()]
         self.met: set[bytes] = set()
 
