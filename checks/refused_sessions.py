@@ -9,13 +9,16 @@ from refusing import Refusals
 from served import SECONDS, Client, Json, Served, same, written
 
 MEMORY = {"error": "memory"}
-ROWS = 1_000
-HALF = ROWS // 2
-STREAMS = ["east", "west"]
+MANY = 1_000
+# Two streams and two sessions, with many records that are waited for, of which some come twice, so that two workers have enough
+# for a thread; or one of each, so that runs have as many allocations.
+HALVES, TWICE = (range(MANY // 2), range(MANY // 2, MANY)), 150
+LARGE = {name: [*half, *half[:TWICE]] for name, half in zip(("east", "west"), HALVES)}
+SMALL = {"east": [0]}
 LINES = {b"pnuts: %s\n" % word for word in (b"memory", b"cannot start", b"round failed", b"close failed", b"stream east failed",
                                            b"stream west failed")}
 WORDS = ["--bounds", '["k0500"]', "--workers", "2"]
-PAGE, NONE = {"do": "scan", "query": {"limit": ROWS}}, {"do": "read", "key": "z"}
+PAGE, NONE = {"do": "scan", "query": {"limit": MANY}}, {"do": "read", "key": "z"}
 PAUSE = 0.002
 # How often a client still asks once an allocation was refused: the streams may not be read on.
 PATIENCE = 4
@@ -25,9 +28,9 @@ def key_of(number: int) -> str:
     return f"k{number:04}"
 
 
-def messages(first: int) -> bytes:
-    """A stream of half of the records."""
-    images = ({"fields": {}, "key": key_of(first + at), "master": "w", "version": [1, 0]} for at in range(HALF))
+def messages(numbers: list[int]) -> bytes:
+    """A stream of records."""
+    images = ({"fields": {}, "key": key_of(number), "master": "w", "version": [1, 0]} for number in numbers)
     return b"".join(json.dumps({"at": at, "image": image}).encode() + b"\n" for at, image in enumerate(images, 1))
 
 
@@ -35,20 +38,17 @@ def row_of(key: str) -> Json:
     return {"contents": [{"fields": {}, "master": "w"}], "key": key, "state": "one", "version": [1, 0]}
 
 
-ALL = [row_of(key_of(number)) for number in range(ROWS)]
-
-
-def is_page(reply: Json, is_whole: bool) -> bool:
-    """Whether a reply is a page of records that were delivered, in key order: of all, where it is to be whole."""
-    if reply == MEMORY or is_whole:
-        return reply in (MEMORY, {"next": None, "rows": ALL})
+def is_page(reply: Json, whole: list[Json] | None) -> bool:
+    """Whether a reply is a page of records that were delivered, in key order: of all, where these are said."""
+    if reply == MEMORY or whole is not None:
+        return reply in (MEMORY, {"next": None, "rows": whole})
     keys = [row["key"] for row in reply["rows"]]
     return reply["next"] is None and keys == sorted(set(keys)) and all(row == row_of(row["key"]) for row in reply["rows"])
 
 
-def load(client: Client, mark: str) -> bool:
-    """Asks until both streams are served to their ends, or one allocation was refused and some more replies came."""
-    keys, patience, last = [key_of(HALF - 1), key_of(ROWS - 1)], PATIENCE, time.monotonic() + SECONDS
+def load(client: Client, keys: list[str], mark: str) -> bool:
+    """Asks until keys are served, or one allocation was refused and some more replies came."""
+    patience, last = PATIENCE, time.monotonic() + SECONDS
     while time.monotonic() < last and patience:
         reply = client.ask({"do": "get", "keys": keys})
         if reply != MEMORY:
@@ -60,44 +60,44 @@ def load(client: Client, mark: str) -> bool:
     return False
 
 
-def talk(clients: list[Client], mark: str) -> Iterator[bool]:
-    """What two clients are answered: the first until the streams are served, the second after it has gone. For each, whether
-    it had a page of all records."""
-    is_loaded = load(clients[0], mark)
-    for client in clients:
-        reply = client.ask(PAGE)
-        same("the page is right", is_page(reply, is_loaded), True)
-        same("what no record has", client.ask(NONE) in (MEMORY, {"row": None}), True)
-        client.end()
-        yield reply != MEMORY and is_loaded
-
-
 class Checked:
     """Runs a program again and again, and notes the lines on standard error that were met."""
 
-    def __init__(self, program: str, room: str) -> None:
-        self.program = program
-        self.streams = [(name, written(room, name, messages(HALF * place))) for place, name in enumerate(STREAMS)]
+    def __init__(self, program: str, room: str, parts: dict[str, list[int]]) -> None:
+        self.program, self.is_large, self.sessions = program, parts is LARGE, len(parts)
+        self.ends = [key_of(max(part)) for part in parts.values()]
+        self.streams = [(name, written(room, f"{name}-{len(part)}", messages(part))) for name, part in parts.items()]
         self.met: set[bytes] = set()
+
+    def talk(self, clients: list[Client], mark: str) -> Iterator[bool]:
+        """What the clients are answered: the first until many records are served, the second after it has gone. For each,
+        whether it had a page of all."""
+        whole = [row_of(key_of(at)) for at in range(MANY)] if self.is_large and load(clients[0], self.ends, mark) else None
+        for client in clients:
+            reply = client.ask(PAGE) if self.is_large else MEMORY
+            same("the page is right", is_page(reply, whole), True)
+            same("what no record has", client.ask(NONE) in (MEMORY, {"row": None}), True)
+            client.end()
+            yield whole is not None and reply != MEMORY
 
     def fault(self, given: dict[str, str]) -> str | None:
         """What is wrong where an allocation is refused."""
         pages: list[bool] = []
-        mark = given["REFUSED_MARK"]
-        with Served(self.program, self.streams, 2, WORDS, given) as served, contextlib.ExitStack() as stay:
+        with Served(self.program, self.streams, self.sessions, WORDS, given) as served, contextlib.ExitStack() as stay:
             with contextlib.suppress(OSError, ValueError):
-                clients = [stay.enter_context(Client(served.port)) for _ in range(2)] if served.first else []
+                clients = [stay.enter_context(Client(served.port)) for _ in range(self.sessions)] if served.first else []
                 try:
-                    pages += talk(clients, mark) if clients else []
+                    pages += self.talk(clients, given["REFUSED_MARK"]) if clients else []
                 except AssertionError as fault:
                     return str(fault)
             stay.close()
             end = served.end()
-        return self.end_fault(end, pages, os.path.exists(mark))
+        return self.end_fault(end, pages, os.path.exists(given["REFUSED_MARK"]))
 
     def end_fault(self, end: tuple[int, bytes, bytes], pages: list[bool], was_refused: bool) -> str | None:
         status, shown, said = end
-        if end == (0, b"served 2\n", b"") and (was_refused or pages == [True, True]):
+        is_well = end == (0, b"served %d\n" % self.sessions, b"")
+        if is_well and (was_refused or pages == [self.is_large] * self.sessions):
             return None
         self.met.add(said)
         return None if status == 1 and not shown and said in LINES and was_refused else f"{end}, pages {pages}"
@@ -105,10 +105,10 @@ class Checked:
 
 def check_refused_allocations(program: str, room: str) -> None:
     """Each allocation is refused in turn: the end is one of the lines that speak of memory, and each of them comes."""
-    checked = Checked(program, room)
+    refusals, small, large = Refusals(room), Checked(program, room, SMALL), Checked(program, room, LARGE)
     try:
-        count = Refusals(room).count("serve", checked.fault)
+        counts = [refusals.count("serve", checked.fault) for checked in (small, large)]
     except SystemExit as fault:
         raise AssertionError(str(fault)) from fault
-    same("the lines that did not come", LINES - checked.met, set())
-    print(f"{count} allocations refused, ", end="")
+    same("the lines that did not come", LINES - small.met - large.met, set())
+    print(f"{counts[0]} and {counts[1]} allocations refused, ", end="")

@@ -62,7 +62,8 @@ def environment(library: str, number: int, mark: str, is_for_good: bool = False)
 # What is wrong in this environment, or None.
 FindFault = Callable[[dict[str, str]], str | None]
 PROCESSORS = len(os.sched_getaffinity(0))
-AT_ONCE = 16 * PROCESSORS
+# So many are tried at a time. Threads take allocations in another order each time, so none of so many has to be there at the end.
+AT_ONCE = 64
 MOST = 1_000_000
 
 
@@ -82,15 +83,19 @@ class Refusals:
         return fault, is_met
 
     def count(self, name: str, find_fault: FindFault) -> int:
-        """How many allocations were refused, until a run met no refusal."""
+        """How many allocations were refused, until no run of many met a refusal."""
+        count = 0
         with concurrent.futures.ThreadPoolExecutor(PROCESSORS) as pool:
             for first in range(1, MOST, AT_ONCE):
                 numbers = range(first, first + AT_ONCE)
-                for number, (fault, is_met) in zip(numbers, pool.map(lambda each: self.attempt(each, find_fault), numbers)):
+                ends = list(pool.map(lambda each: self.attempt(each, find_fault), numbers))
+                for number, (fault, _) in zip(numbers, ends):
                     if fault is not None:
                         raise SystemExit(f"{name}: allocation {number} refused: {fault}")
-                    if not is_met:
-                        if number == 1:
-                            raise SystemExit(f"{name}: no allocation was refused")
-                        return number - 1
-        raise SystemExit(f"{name}: there is no end to the allocations")
+                met = sum(is_met for _, is_met in ends)
+                count += met
+                if not met:
+                    break
+        if not count:
+            raise SystemExit(f"{name}: no allocation was refused")
+        return count

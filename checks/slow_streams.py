@@ -1,6 +1,7 @@
 """Streams, read message by message from their text."""
 from slow import Region
-from slow_lines import MAX_LINE_BYTES, Json, Refused, check_image_range, check_image_shape, is_position, is_whole, json_of, ranged, shaped
+from slow_lines import (MAX_LINE_BYTES, Json, Refused, check_image_range, check_image_shape, is_position, is_whole, json_of,
+                        ranged, shaped)
 
 
 def message_of(line: bytes) -> tuple[int, Json]:

@@ -55,7 +55,8 @@ def images_of(script: Stored) -> Iterator[Json]:
 def stream_of(*scripts: Stored) -> bytes:
     """The images that scripts deliver, as a stream."""
     images = (image for script in scripts for image in images_of(script))
-    return b"".join(json.dumps({"at": at, "image": image}, separators=(",", ":")).encode() + b"\n" for at, image in enumerate(images, 1))
+    messages = ({"at": at, "image": image} for at, image in enumerate(images, 1))
+    return b"".join(json.dumps(message, separators=(",", ":")).encode() + b"\n" for message in messages)
 
 
 def session_stream() -> bytes:

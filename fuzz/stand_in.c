@@ -1,6 +1,7 @@
 // Loaded with a program that is fuzzed: stands in for the network, and aborts at a status that the documents do not have.
 //
-// With FUZZ_SESSION, a session is accepted once the stream was read to its end, and reads standard input; without it, it ends at once.
+// With FUZZ_SESSION, a session is accepted once the stream was read to its end, and reads standard input. Without it, a session
+// ends at once.
 #define _GNU_SOURCE
 #include <arpa/inet.h>
 #include <fcntl.h>
