@@ -7,4 +7,3 @@ pub mod Served
 pub mod States
 pub mod Stopped
 pub mod Turning
-pub mod Waiting
