@@ -2,7 +2,7 @@
 
 use pn_apply::Gate;
 use pn_live::LiveRegion;
-use pn_region::Region;
+use pn_region::{Region, Round, RoundFault};
 use std::alloc::Global;
 use std::sync::Wait;
 use std::sync::atomic::{AtomicBool, AtomicU64, Ordering};
@@ -55,8 +55,14 @@ impl Meeting {
 // How many records a round of two tablets changes, with a worker for each.
 fn plain<R: Threads + Sync>(rt: &R, alloc: Global, gate: &Meeting) -> Option<u64> {
     let mut region = Region::new(alloc, layout(alloc, "m")?).ok()?;
-    let given = deliveries(alloc, 1, "l m", 0)?;
-    let round = region.round(rt, given, 2, gate).ok()?;
+    match deliveries(alloc, 1, "l m", 0) {
+        Some(given) => changed(region.round(rt, given, 2, gate)),
+        None => None,
+    }
+}
+
+fn changed(round: Result<Round, RoundFault>) -> Option<u64> {
+    let round = round.ok()?;
     Some(round.changed)
 }
 

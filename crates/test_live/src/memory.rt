@@ -5,9 +5,7 @@
 use pn_apply::Open;
 use pn_join::Marks;
 use pn_live::{LiveReader, LiveRegion};
-use pn_record::Key;
 use pn_scan::{Query, View};
-use pn_stream::Delivery;
 use pn_tablet::TabletCopy;
 use std::alloc::Global;
 use std::sync::Wait;
@@ -25,166 +23,126 @@ const BOUNDS: &str = "m t";
 enum End {
     /// Each call went well, the first time or the second, and found what was brought.
     Well,
-    /// There was no memory for what the calls are given, or none to open or to close.
+    /// There was no memory to open, or none to close.
     Again,
     /// A call was refused twice, or found something else.
     Badly,
 }
 
-// What a reader asks for.
-#[derive(Drop)]
-struct Wanted {
-    keys: Vec<Key>,
-    query: Query,
-    need: Marks,
-}
-
-// What the calls are given, each round twice.
-#[derive(Drop)]
-struct Given {
-    wanted: Wanted,
-    rounds: (Vec<Delivery>, Vec<Delivery>),
-    later: (Vec<Delivery>, Vec<Delivery>),
-}
-
-fn make_wanted(alloc: Global) -> Option<Wanted> {
-    let keys = keys(alloc, KEYS)?;
-    let query = Query::new(None, None, None, Vec::new(alloc), 100)?;
-    let need = Marks::new(alloc);
-    Some(Wanted { keys, query, need })
-}
-
-fn make_given(alloc: Global) -> Option<Given> {
-    let wanted = make_wanted(alloc)?;
-    let rounds = twice(alloc, 1, 5)?;
-    let later = twice(alloc, 4, 6)?;
-    Some(Given {
-        wanted,
-        rounds,
-        later,
-    })
-}
-
-fn twice(alloc: Global, first: u64, number: u64) -> Option<(Vec<Delivery>, Vec<Delivery>)> {
-    let once = deliveries(alloc, first, KEYS, number)?;
-    let again = deliveries(alloc, first, KEYS, number)?;
-    Some((once, again))
-}
-
-impl Wanted {
-    // Whether a reader finds the versions of this number, or where a call was refused by the next one.
-    fn is_found(&self, reader: &mut LiveReader, number: u64) -> bool {
-        (self.is_read(reader, number) || self.is_read(reader, number))
-            && (self.is_got(reader, number) || self.is_got(reader, number))
-            && (self.is_scanned(reader, number) || self.is_scanned(reader, number))
-    }
-
-    fn is_read(&self, reader: &mut LiveReader, number: u64) -> bool {
-        for key in &self.keys {
-            match found(reader, key) {
-                Ok(Some((version, 1))) if version.number == number => {}
-                _ => return false,
-            }
-        }
-        true
-    }
-
-    fn is_got(&self, reader: &mut LiveReader, number: u64) -> bool {
-        let Ok(cells) = reader.get(&self.keys) else {
-            return false;
-        };
-        cells.len() == self.keys.len()
-            && cells.iter().flatten().count() == cells.len()
-            && cells
-                .iter()
-                .flatten()
-                .all(|cell| cell.version().number == number)
-    }
-
-    fn is_scanned(&self, reader: &mut LiveReader, number: u64) -> bool {
-        let Ok(page) = reader.scan(&self.query) else {
-            return false;
-        };
-        page.next.is_none()
-            && page.rows.len() == self.keys.len()
-            && page
-                .rows
-                .iter()
-                .all(|row| row.cell.version().number == number)
-    }
-
-    // A copy of the last tablet, by the next call where one was refused.
-    fn copy(&self, reader: &mut LiveReader) -> Option<TabletCopy> {
-        let last = reader.layout().count() - 1;
-        match reader.copy(last, &self.need) {
-            Ok(copy) => Some(copy),
-            Err(_) => reader.copy(last, &self.need).ok(),
-        }
-    }
-}
-
-// Takes a round, by the next call where one was refused.
-fn round_twice<R: Threads + Wait + Sync>(
+// Takes the round of this number.
+fn take<R: Threads + Wait + Sync>(
     rt: &R,
+    alloc: Global,
     live: &mut LiveRegion,
-    rounds: (Vec<Delivery>, Vec<Delivery>),
+    round: (u64, u64),
 ) -> bool {
-    let (first, second) = rounds;
-    live.round(rt, first, 2, &Open).is_ok() || live.round(rt, second, 2, &Open).is_ok()
+    let (first, number) = round;
+    match deliveries(alloc, first, KEYS, number) {
+        Some(given) => live.round(rt, given, 2, &Open).is_ok(),
+        None => false,
+    }
+}
+
+fn is_read(alloc: Global, reader: &mut LiveReader, number: u64) -> bool {
+    let keys = keys(alloc, KEYS).unwrap_or(Vec::new(alloc));
+    for key in &keys {
+        match found(reader, key) {
+            Ok(Some((version, 1))) if version.number == number => {}
+            _ => return false,
+        }
+    }
+    keys.len() == 3
+}
+
+fn is_got(alloc: Global, reader: &mut LiveReader, number: u64) -> bool {
+    let keys = keys(alloc, KEYS).unwrap_or(Vec::new(alloc));
+    let Ok(cells) = reader.get(&keys) else {
+        return false;
+    };
+    cells.iter().flatten().count() == 3
+        && cells
+            .iter()
+            .flatten()
+            .all(|cell| cell.version().number == number)
+}
+
+fn is_scanned(alloc: Global, reader: &mut LiveReader, number: u64) -> bool {
+    let Some(query) = Query::new(None, None, None, Vec::new(alloc), 100) else {
+        return false;
+    };
+    let Ok(page) = reader.scan(&query) else {
+        return false;
+    };
+    page.rows.len() == 3
+        && page
+            .rows
+            .iter()
+            .all(|row| row.cell.version().number == number)
+}
+
+// Whether a reader finds the versions of this number, or where a call was refused by the next one.
+fn is_found(alloc: Global, reader: &mut LiveReader, number: u64) -> bool {
+    (is_read(alloc, reader, number) || is_read(alloc, reader, number))
+        && (is_got(alloc, reader, number) || is_got(alloc, reader, number))
+        && (is_scanned(alloc, reader, number) || is_scanned(alloc, reader, number))
+}
+
+// A copy of the last tablet, by the next call where one was refused.
+fn copy(alloc: Global, reader: &mut LiveReader) -> Option<TabletCopy> {
+    let last = reader.layout().count() - 1;
+    match reader.copy(last, &Marks::new(alloc)) {
+        Ok(copy) => Some(copy),
+        Err(_) => reader.copy(last, &Marks::new(alloc)).ok(),
+    }
+}
+
+// Takes a round, by the next call where one was refused, and finds what it brought.
+fn serve<R: Threads + Wait + Sync>(
+    rt: &R,
+    alloc: Global,
+    live: &mut LiveRegion,
+    reader: &mut LiveReader,
+    round: (u64, u64),
+) -> bool {
+    (take(rt, alloc, live, round) || take(rt, alloc, live, round))
+        && is_found(alloc, reader, round.1)
 }
 
 // Loses the last tablet, by the next call where one was refused.
-fn lose_twice<R: Wait>(rt: &R, live: &mut LiveRegion) -> bool {
+fn lose<R: Wait>(rt: &R, live: &mut LiveRegion) -> bool {
     let last = live.layout().count() - 1;
     live.lose(rt, last).is_ok() || live.lose(rt, last).is_ok()
 }
 
-// Adopts a copy, or the other where that was refused.
-fn adopt_one<R: Wait>(rt: &R, live: &mut LiveRegion, copies: (TabletCopy, TabletCopy)) -> bool {
-    let (first, second) = copies;
-    live.adopt(rt, first).is_ok() || live.adopt(rt, second).is_ok()
-}
-
-// Loses a tablet, and adopts a copy that a reader gave before.
+// Loses the last tablet, and adopts a copy of it, or the other where that was refused.
 fn recover<R: Wait>(
     rt: &R,
     live: &mut LiveRegion,
-    reader: &mut LiveReader,
-    wanted: &Wanted,
+    copy: Option<TabletCopy>,
+    other: Option<TabletCopy>,
 ) -> bool {
-    let (Some(copy), Some(other)) = (wanted.copy(reader), wanted.copy(reader)) else {
-        return false;
-    };
-    lose_twice(rt, live) && adopt_one(rt, live, (copy, other))
+    lose(rt, live) && (adopt(rt, live, copy) || adopt(rt, live, other))
 }
 
-// Takes a round, and finds what it brought.
-fn serve<R: Threads + Wait + Sync>(
-    rt: &R,
-    live: &mut LiveRegion,
-    reader: &mut LiveReader,
-    rounds: (Vec<Delivery>, Vec<Delivery>),
-    wanted: &Wanted,
-    number: u64,
-) -> bool {
-    round_twice(rt, live, rounds) && wanted.is_found(reader, number)
+fn adopt<R: Wait>(rt: &R, live: &mut LiveRegion, copy: Option<TabletCopy>) -> bool {
+    match copy {
+        Some(copy) => live.adopt(rt, copy).is_ok(),
+        None => false,
+    }
 }
 
 // A round, a loss, an adoption, and a round after them.
 fn lives<R: Threads + Wait + Sync>(
     rt: &R,
+    alloc: Global,
     live: &mut LiveRegion,
     reader: &mut LiveReader,
-    given: Given,
 ) -> bool {
-    let Given {
-        wanted,
-        rounds,
-        later,
-    } = given;
-    serve(rt, live, reader, rounds, &wanted, 5)
-        && recover(rt, live, reader, &wanted)
-        && serve(rt, live, reader, later, &wanted, 6)
+    if !serve(rt, alloc, live, reader, (1, 5)) {
+        return false;
+    }
+    let (first, second) = (copy(alloc, reader), copy(alloc, reader));
+    recover(rt, live, first, second) && serve(rt, alloc, live, reader, (4, 6))
 }
 
 fn begin<R: Wait>(rt: &R, alloc: Global) -> Option<(LiveRegion, LiveReader)> {
@@ -193,13 +151,10 @@ fn begin<R: Wait>(rt: &R, alloc: Global) -> Option<(LiveRegion, LiveReader)> {
 
 // Opens a live region, lives, and closes.
 fn life<R: Threads + Wait + Sync>(rt: &R, alloc: Global) -> End {
-    let Some(given) = make_given(alloc) else {
-        return End::Again;
-    };
     let Some((mut live, mut reader)) = begin(rt, alloc) else {
         return End::Again;
     };
-    let lived = lives(rt, &mut live, &mut reader, given);
+    let lived = lives(rt, alloc, &mut live, &mut reader);
     match (lived, end(rt, alloc, live)) {
         (false, _) => End::Badly,
         (true, false) => End::Again,

@@ -106,28 +106,42 @@ fn beside<R: Threads + Wait + Sync>(
     reads && writes
 }
 
-// A race without a loss, and one with a loss. Whether each went well.
-fn races<R: Threads + Wait + Sync>(
+// A race without a loss. Whether it went well.
+fn stays<R: Threads + Wait + Sync>(
     rt: &R,
+    alloc: Global,
     live: &mut LiveRegion,
     reader: &mut LiveReader,
-    works: (Work, Work),
     key: &Key,
 ) -> bool {
-    let (mut rounds, mut recovery) = works;
-    if !beside(rt, live, reader, &mut rounds, key) {
-        return false;
-    }
-    recovery.copy = reader.copy(0, &Marks::new(recovery.alloc)).ok();
+    let mut rounds = Work {
+        alloc,
+        first: 1,
+        copy: None,
+    };
+    beside(rt, live, reader, &mut rounds, key)
+}
+
+// A race with a loss, and an adoption of a copy from before. Whether it went well.
+fn recovers<R: Threads + Wait + Sync>(
+    rt: &R,
+    alloc: Global,
+    live: &mut LiveRegion,
+    reader: &mut LiveReader,
+    key: &Key,
+) -> bool {
+    let mut recovery = Work {
+        alloc,
+        first: 201,
+        copy: reader.copy(0, &Marks::new(alloc)).ok(),
+    };
     recovery.copy.is_some() && beside(rt, live, reader, &mut recovery, key)
 }
 
-fn work_from(alloc: Global, first: u64) -> Work {
-    Work {
-        alloc,
-        first,
-        copy: None,
-    }
+// The number that the reader finds, where it finds one.
+fn number(reader: &mut LiveReader, key: &Key) -> Option<u64> {
+    let (version, _) = found(reader, key).ok()??;
+    Some(version.number)
 }
 
 // Answers the number that the reader finds after both races and a last round.
@@ -138,13 +152,14 @@ fn race<R: Threads + Wait + Sync>(
     reader: &mut LiveReader,
 ) -> Option<u64> {
     let key = Key::of(alloc, "k").ok()?;
-    let works = (work_from(alloc, 1), work_from(alloc, 201));
-    if !races(rt, live, reader, works, &key) {
-        return None;
+    let went_well = stays(rt, alloc, live, reader, &key)
+        && recovers(rt, alloc, live, reader, &key)
+        && take_round(rt, alloc, live, 401).is_some();
+    if went_well {
+        number(reader, &key)
+    } else {
+        None
     }
-    take_round(rt, alloc, live, 401)?;
-    let (version, _) = found(reader, &key).ok()??;
-    Some(version.number)
 }
 
 fn raced<R: Threads + Wait + Sync>(rt: &R, alloc: Global) -> Option<u64> {

@@ -3,8 +3,9 @@
 use pn_apply::Open;
 use pn_join::{Marks, Name, raise_at};
 use pn_live::{LiveReader, LiveRegion};
+use pn_record::Cell;
 use pn_region::{Region, Since};
-use pn_scan::{Page, Query, ScanFault};
+use pn_scan::{Page, Query, Row};
 use pn_tablet::TabletCopy;
 use std::alloc::Global;
 use std::sync::Wait;
@@ -94,9 +95,17 @@ fn adopt<R: Threads + Wait + Sync>(
 
 fn copy_of<R: Threads + Sync>(rt: &R, alloc: Global, words: &str) -> Option<TabletCopy> {
     let mut region = Region::new(alloc, layout(alloc, "")?).ok()?;
-    let given = deliveries(alloc, 1, words, 0)?;
-    region.round(rt, given, 1, &Open).ok()?;
+    if !is_taken(rt, alloc, &mut region, words) {
+        return None;
+    }
     region.copy(0, &Marks::new(alloc)).ok()
+}
+
+fn is_taken<R: Threads + Sync>(rt: &R, alloc: Global, region: &mut Region, words: &str) -> bool {
+    match deliveries(alloc, 1, words, 0) {
+        Some(given) => region.round(rt, given, 1, &Open).is_ok(),
+        None => false,
+    }
 }
 
 fn notices(alloc: Global, live: &LiveRegion, number: &str) -> Option<String> {
@@ -111,12 +120,15 @@ fn notices(alloc: Global, live: &LiveRegion, number: &str) -> Option<String> {
 // The number of each key's version.
 fn get(alloc: Global, reader: &mut LiveReader, words: &str) -> Option<String> {
     let keys = keys(alloc, words)?;
-    let cells = match reader.get(&keys) {
-        Ok(cells) => cells,
-        Err(fault) => return format!(in alloc; "{fault}").ok(),
-    };
+    match reader.get(&keys) {
+        Ok(cells) => cells_text(alloc, &cells),
+        Err(fault) => format!(in alloc; "{fault}").ok(),
+    }
+}
+
+fn cells_text(alloc: Global, cells: &[Option<Cell>]) -> Option<String> {
     let mut text = String::new(alloc);
-    for cell in &cells {
+    for cell in cells {
         let number = match cell {
             Some(cell) => format!(in alloc; "{} ", cell.version().number),
             None => format!(in alloc; "none "),
@@ -128,32 +140,37 @@ fn get(alloc: Global, reader: &mut LiveReader, words: &str) -> Option<String> {
 
 fn scan(alloc: Global, reader: &mut LiveReader) -> Option<String> {
     let query = Query::new(None, None, None, Vec::new(alloc), 100)?;
-    page_text(alloc, reader.scan(&query))
+    match reader.scan(&query) {
+        Ok(page) => page_text(alloc, &page),
+        Err(fault) => format!(in alloc; "{fault}").ok(),
+    }
 }
 
 // The keys of a page, with the numbers of their versions.
-fn page_text(alloc: Global, page: Result<Page, ScanFault>) -> Option<String> {
-    let page = match page {
-        Ok(page) => page,
-        Err(fault) => return format!(in alloc; "{fault}").ok(),
-    };
+fn page_text(alloc: Global, page: &Page) -> Option<String> {
     let mut text = String::new(alloc);
     for row in &page.rows {
-        let record = format!(in alloc; "{}{} ", row.key.as_str(), row.cell.version().number);
-        text.push_str(record.ok()?.as_str()).ok()?;
+        add_row(alloc, &mut text, row)?;
     }
     Some(text)
+}
+
+fn add_row(alloc: Global, text: &mut String, row: &Row) -> Option<()> {
+    let record = format!(in alloc; "{}{} ", row.key.as_str(), row.cell.version().number);
+    text.push_str(record.ok()?.as_str()).ok()
 }
 
 // How many records and marks a copy has that is to reach a position.
 fn copy(alloc: Global, reader: &mut LiveReader, position: &str) -> Option<String> {
     let need = need(alloc, position.parse::<u64>().ok()?)?;
     match reader.copy(0, &need) {
-        Ok(copy) => {
-            format!(in alloc; "{} records, {} mark", copy.cells.len(), copy.marks.len()).ok()
-        }
+        Ok(copy) => copy_text(alloc, &copy),
         Err(fault) => format!(in alloc; "{fault}").ok(),
     }
+}
+
+fn copy_text(alloc: Global, copy: &TabletCopy) -> Option<String> {
+    format!(in alloc; "{} records, {} mark", copy.cells.len(), copy.marks.len()).ok()
 }
 
 fn need(alloc: Global, position: u64) -> Option<Marks> {

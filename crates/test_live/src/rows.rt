@@ -8,6 +8,7 @@ ghost use Rattle.pn_live.specs.Readers.{AreNotesOf, IsFrontFor, tablets_of};
 use pn_apply::Open;
 use pn_live::{Front, LiveReader, LiveRegion};
 use pn_record::{Key, Version};
+use pn_region::Region;
 use pn_scan::ScanFault;
 use std::alloc::Global;
 use std::sync::Wait;
@@ -99,18 +100,20 @@ fn rounds_beside<R: Threads + Wait + Sync>(
     alloc: Global,
     live: &mut LiveRegion,
     learner: &mut Learner,
-    key: &Key,
 ) -> bool
     requires { tablets_of learner.old.reader ≡ tablets_in live.old }
     ensures same { tablets_in live.new ≡ tablets_in live.old }
     ensures reader { tablets_of learner.new.reader ≡ tablets_in live.new }
 {
+    let Ok(key) = Key::of(alloc, "k") else {
+        return false;
+    };
     for number in 1..=LAST {
-        if !learn_beside(rt, alloc, live, learner, key, number) {
+        if !learn_beside(rt, alloc, live, learner, &key, number) {
             return false;
         }
     }
-    learner.look(key) == Some(LAST) && is_behind(&mut learner.reader, key)
+    learner.look(&key) == Some(LAST) && is_behind(&mut learner.reader, &key)
 }
 
 // Takes one of these readers for it.
@@ -119,7 +122,6 @@ fn learns<R: Threads + Wait + Sync>(
     alloc: Global,
     live: &mut LiveRegion,
     readers: &mut Vec<LiveReader>,
-    key: &Key,
 ) -> bool
     requires { All (IsReaderIn live.old) readers.old.items }
     ensures { All (IsReaderIn live.new) readers.new.items }
@@ -131,22 +133,32 @@ fn learns<R: Threads + Wait + Sync>(
         reader,
         front: None,
     };
-    let went_well = rounds_beside(rt, alloc, live, &mut learner, key);
+    let went_well = rounds_beside(rt, alloc, live, &mut learner);
     hand_back(live, readers, learner.reader);
     went_well
 }
 
+fn number_in(alloc: Global, region: &Region) -> Option<u64> {
+    let cell = region.read(&Key::of(alloc, "k").ok()?, None).ok()??;
+    Some(cell.version().number)
+}
+
+fn open_all<R: Wait>(rt: &R, alloc: Global) -> Option<(LiveRegion, Vec<LiveReader>)>
+    ensures { IfSome result (λ opened. All (IsReaderIn opened.0) opened.1.items) }
+{
+    opened(rt, alloc, layout(alloc, "")?, READERS).ok()
+}
+
 // The number of the key's version in the region that is closed at the end, with all its readers.
 fn learnt<R: Threads + Wait + Sync>(rt: &R, alloc: Global) -> Option<u64> {
-    let key = Key::of(alloc, "k").ok()?;
-    let (mut live, mut readers) = opened(rt, alloc, layout(alloc, "")?, READERS).ok()?;
-    let went_well = learns(rt, alloc, &mut live, &mut readers, &key);
+    let (mut live, mut readers) = open_all(rt, alloc)?;
+    let went_well = learns(rt, alloc, &mut live, &mut readers);
     let region = closed(rt, live, readers).ok()?;
-    if !went_well {
-        return None;
+    if went_well {
+        number_in(alloc, &region)
+    } else {
+        None
     }
-    let cell = region.read(&key, None).ok()??;
-    Some(cell.version().number)
 }
 
 #[test]
