@@ -7,18 +7,19 @@ from collections.abc import Iterator
 
 from refusing import Refusals
 from served import SECONDS, Client, Json, Served, same, written
+from slow import text_of
 
 MEMORY = {"error": "memory"}
 MANY = 1_000
 # Two streams and two sessions, with many records that are waited for, of which some come twice, so that two workers have enough
 # for a thread; or one of each, so that runs have as many allocations.
-HALVES, TWICE = (range(MANY // 2), range(MANY // 2, MANY)), 150
+HALVES, TWICE = (range(MANY // 2), range(MANY // 2, MANY)), 100
 LARGE = {name: [*half, *half[:TWICE]] for name, half in zip(("east", "west"), HALVES)}
 SMALL = {"east": [0]}
 LINES = {b"pnuts: %s\n" % word for word in (b"memory", b"cannot start", b"round failed", b"close failed", b"stream east failed",
                                            b"stream west failed")}
 WORDS = ["--bounds", '["k0500"]', "--workers", "2"]
-PAGE, NONE = {"do": "scan", "query": {"limit": MANY}}, {"do": "read", "key": "z"}
+PAGE, NONE = b'{"do":"scan","query":{"limit":%d}}\n' % MANY, {"do": "read", "key": "z"}
 PAUSE = 0.002
 # How often a client still asks once an allocation was refused: the streams may not be read on.
 PATIENCE = 4
@@ -38,10 +39,13 @@ def row_of(key: str) -> Json:
     return {"contents": [{"fields": {}, "master": "w"}], "key": key, "state": "one", "version": [1, 0]}
 
 
-def is_page(reply: Json, whole: list[Json] | None) -> bool:
-    """Whether a reply is a page of records that were delivered, in key order: of all, where these are said."""
-    if reply == MEMORY or whole is not None:
-        return reply in (MEMORY, {"next": None, "rows": whole})
+ALL = b'{"next":null,"rows":[%s]}\n' % b",".join(text_of(row_of(key_of(at))).encode() for at in range(MANY))
+NO_PAGE = b'{"error":"memory"}\n'
+
+
+def is_page(text: bytes) -> bool:
+    """Whether a reply is a page of records that were delivered, in key order."""
+    reply = json.loads(text)
     keys = [row["key"] for row in reply["rows"]]
     return reply["next"] is None and keys == sorted(set(keys)) and all(row == row_of(row["key"]) for row in reply["rows"])
 
@@ -72,13 +76,15 @@ class Checked:
     def talk(self, clients: list[Client], mark: str) -> Iterator[bool]:
         """What the clients are answered: the first until many records are served, the second after it has gone. For each,
         whether it had a page of all."""
-        whole = [row_of(key_of(at)) for at in range(MANY)] if self.is_large and load(clients[0], self.ends, mark) else None
+        is_loaded = self.is_large and load(clients[0], self.ends, mark)
         for client in clients:
-            reply = client.ask(PAGE) if self.is_large else MEMORY
-            same("the page is right", is_page(reply, whole), True)
+            if self.is_large:
+                client.send(PAGE)
+            page = client.reply() if self.is_large else NO_PAGE
+            same("the page is right", page in (ALL, NO_PAGE) or not is_loaded and is_page(page), True)
             same("what no record has", client.ask(NONE) in (MEMORY, {"row": None}), True)
             client.end()
-            yield whole is not None and reply != MEMORY
+            yield is_loaded and page == ALL
 
     def fault(self, given: dict[str, str]) -> str | None:
         """What is wrong where an allocation is refused."""
