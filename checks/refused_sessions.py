@@ -75,13 +75,16 @@ class Checked:
 
     def talk(self, clients: list[Client], mark: str) -> Iterator[bool]:
         """What the clients are answered: the first until many records are served, the second after it has gone. For each,
-        whether it had a page of all."""
+        whether it had a page of all. Nothing comes of a session that had no memory to begin with."""
         is_loaded = self.is_large and load(clients[0], self.ends, mark)
         for client in clients:
             if self.is_large:
                 client.send(PAGE)
             page = client.reply() if self.is_large else NO_PAGE
-            same("the page is right", page in (ALL, NO_PAGE) or not is_loaded and is_page(page), True)
+            if not page:
+                return
+            is_right = page in (ALL, NO_PAGE) or not is_loaded and is_page(page)
+            same(f"whether the page is right, where it is {'whole' if is_loaded else 'a part'}: {page[:200]!r}", is_right, True)
             same("what no record has", client.ask(NONE) in (MEMORY, {"row": None}), True)
             client.end()
             yield is_loaded and page == ALL
