@@ -86,6 +86,14 @@ impl<K: Ord + Dup, C: Join> Table<K, C> {
         &self.leaf_list
     }
 
+    /// The entries of a leaf. `None` past the last leaf.
+    pub fn leaf(&self, place: usize) -> Option<&[(K, C)]>
+        ensures { (leaves : List (List (K × C)))
+            × AreLeavesOf self.now leaves × (option_map (λ leaf. leaf.now) result ≡ slice_get leaves place) }
+    {
+        self.leaves().leaf(place)
+    }
+
     /// All entries in key order, as keys and contents.
     pub fn iter(&self) -> Entries<'_, K, C>
         ensures all { result ≡ self.now }

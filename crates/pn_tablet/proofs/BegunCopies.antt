@@ -1,9 +1,8 @@
 -- Lines that begin a copy are read, and what is left of the text decides.
-use Rattle.std.proofs.Common.{◌≡◌, ℕ, suc, ◌+◌, Bool, true, false, List, [], ◌∷◌, ◌++◌, map, length, All, Option, Some, None, Result, Ok, Err, refl, sym, ap, ◌∙◌, append_assoc, append-nil, arith}
+use Rattle.std.proofs.Common.{◌≡◌, ℕ, suc, ◌+◌, true, List, [], ◌∷◌, ◌++◌, map, length, All, Option, Some, None, Ok, refl, sym, ap, ◌∙◌, append_assoc, append-nil, arith}
 use Rattle.std.proofs.lemmas.Bool.{and_parts}
 use Rattle.std.proofs.lemmas.List.Elements.{All-head, All-tail, All-nil, All-cons}
 use Rattle.std.specs.FinMap.{is_sorted}
-use Rattle.pn_json.specs.Answers.{◌>>=◌}
 use Rattle.pn_line.specs.Reads.{IsUnbroken}
 use Rattle.pn_line.specs.Text.{text_of}
 use Rattle.pn_line.proofs.TextLaws.{text_of-push}
@@ -11,14 +10,13 @@ use Rattle.pn_join.specs.Marks.{Positions, name_cmp}
 use Rattle.pn_record.specs.declared.image.Image.{Image}
 use Rattle.pn_record.specs.CellMap.{table_of, adds}
 use Rattle.pn_record.proofs.CellMaps.{adds-table_of, table_of-nil}
-use Rattle.pn_tablet.specs.CopyBeginnings.{Begin, IsCut, Reaches}
+use Rattle.pn_tablet.specs.CopyBeginnings.{Begin, Reaches}
 use Rattle.pn_tablet.specs.CopyLines.{AreLines}
-use Rattle.pn_tablet.specs.CopyLineReading.{head_at, line_at}
+use Rattle.pn_tablet.specs.CopyLineReading.{head_at}
 use Rattle.pn_tablet.specs.CopyReading.{pieces_of, with_mark, with_image, read_on, copy_in, copy_at}
 use Rattle.pn_tablet.specs.CopyTexts.{images_rise, mark_line}
 use Rattle.pn_tablet.specs.Drafts.{DraftValue, begun}
 use Rattle.pn_tablet.specs.Ranges.{Ends, in_range}
-use Rattle.pn_tablet.specs.declared.copy_line.CopyLine.{CopyLine}
 use Rattle.pn_tablet.specs.declared.copy_line.CopyLine.TheVariants.{Mark, Record}
 use Rattle.pn_tablet.specs.declared.copy_fault.CopyTextFault.TheVariants.{BadLine}
 use Rattle.pn_tablet.proofs.CopyGrammar.{rise_after, all_inside, first_after, sorted_after}

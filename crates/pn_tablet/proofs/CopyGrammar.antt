@@ -1,5 +1,5 @@
 -- A text is read as a copy exactly where it spells the copy.
-use Rattle.std.proofs.Common.{◌≡◌, ℕ, suc, ◌+◌, ◌-◌, ◌==◌, ◌≤◌, Bool, true, false, ◌&&◌, List, [], ◌∷◌, ◌++◌, map, length, All, Option, Some, None, is_some, Result, Ok, Err, IsTrue, refl, sym, ap, ◌∙◌, subst, append_assoc, append-nil, arith, eq-eqb, eqb-true}
+use Rattle.std.proofs.Common.{◌≡◌, ℕ, suc, ◌+◌, ◌-◌, ◌==◌, ◌≤◌, Bool, true, ◌&&◌, List, [], ◌∷◌, ◌++◌, map, length, Option, Some, None, is_some, Ok, refl, sym, ap, ◌∙◌, subst, append_assoc, append-nil, arith, eq-eqb, eqb-true}
 use Rattle.std.proofs.lemmas.Bool.{and_parts, and_from, false≢true}
 use Rattle.std.specs.List.{list_all}
 use Rattle.std.specs.Option.{option_map_or}
@@ -14,15 +14,14 @@ use Rattle.pn_record.specs.CellMap.{table_of, adds}
 use Rattle.pn_record.specs.Reading.{IsLine}
 use Rattle.pn_record.proofs.CellMaps.{adds-table_of, table_of-nil}
 use Rattle.pn_tablet.specs.Copies.{TabletCopyValue}
-use Rattle.pn_tablet.specs.CopyLines.{IsHead, IsValue, AreLines}
+use Rattle.pn_tablet.specs.CopyLines.{IsValue, AreLines}
 use Rattle.pn_tablet.specs.CopyLineReading.{line_at}
 use Rattle.pn_tablet.specs.CopyReading.{is_over, with_mark, with_image, ended, after, read_on}
-use Rattle.pn_tablet.specs.CopyTexts.{comes_after, images_rise, lines_after_head}
+use Rattle.pn_tablet.specs.CopyTexts.{comes_after, images_rise}
 use Rattle.pn_tablet.specs.Drafts.{DraftValue, whole}
 use Rattle.pn_tablet.specs.Ranges.{Ends, in_range}
 use Rattle.pn_tablet.specs.declared.copy_line.CopyLine.{CopyLine}
 use Rattle.pn_tablet.specs.declared.copy_line.CopyLine.TheVariants.{Mark, Record, End}
-use Rattle.pn_tablet.specs.declared.copy_fault.CopyTextFault.{CopyTextFault}
 use Rattle.pn_tablet.specs.declared.copy_fault.CopyTextFault.TheVariants.{BadLine, OutsideRange, NotRising, BadEnd}
 use Rattle.pn_tablet.proofs.CopySteps.{read_on-cons, then_ok}
 use Rattle.pn_tablet.proofs.CopyValues.{line_at-again, line_at-found}

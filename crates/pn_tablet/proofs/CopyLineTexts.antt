@@ -1,5 +1,5 @@
 -- The text of a value has no newline, and that of a line of a copy is short.
-use Rattle.std.proofs.Common.{◌≡◌, ◌≢◌, ℕ, ◌+◌, ◌*◌, ◌/◌, ◌%◌, ◌^◌, ◌<◌, ◌≤◌, ◌==◌, ◌||◌, List, [], ◌∷◌, ◌++◌, length, codes, All, Bool, true, false, not, cond, ◌&&◌, Option, Some, None, decimal, ltb, leb, refl, sym, ap, ◌∙◌, arith, length-append, get_or}
+use Rattle.std.proofs.Common.{◌≡◌, ◌≢◌, ℕ, ◌+◌, ◌/◌, ◌%◌, ◌^◌, ◌<◌, ◌≤◌, ◌==◌, ◌||◌, List, [], ◌∷◌, ◌++◌, length, codes, Bool, true, false, not, cond, ◌&&◌, Option, Some, None, decimal, ltb, leb, refl, sym, ap, ◌∙◌, arith, length-append}
 use Rattle.std.proofs.lemmas.Bool.{and_parts, false≢true, ltb-false, leb-true}
 use Rattle.std.proofs.lemmas.Fmt.{decimal_is_IsNumeral, length-decimal-le}
 use Rattle.std.proofs.lemmas.List.Elements.{All-nil, All-cons, All-append, All-from_get_or}
@@ -7,7 +7,7 @@ use Rattle.std.proofs.lemmas.Str.Parse.{digit_at}
 use Rattle.std.specs.Char.{digit_char}
 use Rattle.std.specs.List.{list_all}
 use Rattle.json.specs.Print.{escape_byte, escape_letter, escape, quoted}
-use Rattle.serde_json.specs.Data.{Data, Num, null, boolean, number, string, array, object, unsigned, negative, float, Items, no_items, item, Members, no_members, member}
+use Rattle.serde_json.specs.Data.{Data, null, boolean, number, string, array, object, unsigned, negative, float, Items, no_items, item, Members, no_members, member}
 use Rattle.serde_json.specs.Written.{compact_text, items_text, members_text, comma_if}
 use Rattle.pn_join.specs.Marks.{is_position, last_position}
 use Rattle.pn_join.specs.Naming.{is_name, is_name_byte}
@@ -17,9 +17,9 @@ use Rattle.pn_record.specs.Canonical.{is_image}
 use Rattle.pn_record.specs.Bodies.{is_content}
 use Rattle.pn_record.specs.Limits.{Field, is_key, is_version, greatest}
 use Rattle.pn_record.specs.Marks.{is_mark}
-use Rattle.pn_record.specs.Writing.{version_data, fields_data, body_data, image_data}
+use Rattle.pn_record.specs.Writing.{fields_data, body_data, image_data}
 use Rattle.pn_record.proofs.ImageText.{length-quoted}
-use Rattle.pn_tablet.specs.CopyLines.{key_data, head_data, mark_data, end_data, is_end, is_range}
+use Rattle.pn_tablet.specs.CopyLines.{key_data, head_data, mark_data, end_data, is_end}
 
 also : (x : ℕ) (xs : List ℕ) → x ≢ 10 → IsUnbroken xs → IsUnbroken (x ∷ xs)
 also x xs other unbroken = All-cons (λ b. b ≢ 10) x xs other unbroken

@@ -1,9 +1,9 @@
 -- The pieces of a text between its newlines.
-use Rattle.std.proofs.Common.{◌≡◌, ◌≢◌, ℕ, suc, ◌+◌, ◌-◌, ◌<◌, ◌≤◌, List, [], ◌∷◌, ◌++◌, length, All, Bool, true, false, Option, Some, None, take, drop, if◌then◌else◌, ◌==◌, refl, sym, ap, ◌∙◌, append_assoc, ne_eqb, arith, ⊎_elim, eq-eqb, eqb-true, get_or, get_or-take, add-one}
+use Rattle.std.proofs.Common.{◌≡◌, ◌≢◌, ℕ, suc, ◌+◌, ◌-◌, ◌<◌, List, [], ◌∷◌, ◌++◌, length, All, false, Some, None, take, drop, if◌then◌else◌, ◌==◌, refl, sym, ap, ◌∙◌, append_assoc, ne_eqb, arith, ⊎_elim, eq-eqb, eqb-true, get_or, get_or-take, add-one}
 use Rattle.std.proofs.Math.Seq.{split_at}
 use Rattle.std.proofs.lemmas.Bool.{cases_eq}
 use Rattle.std.proofs.lemmas.List.{length-take, length-drop, take_all}
-use Rattle.std.proofs.lemmas.List.Elements.{All-head, All-tail, All-nil, All-cons, All-from_get_or}
+use Rattle.std.proofs.lemmas.List.Elements.{All-head, All-tail, All-from_get_or}
 use Rattle.memchr.specs.Find.{IsFirstByte, is_byte}
 use Rattle.pn_line.specs.Reads.{IsUnbroken}
 use Rattle.pn_line.specs.Text.{text_of, onto_first}

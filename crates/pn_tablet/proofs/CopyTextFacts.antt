@@ -1,20 +1,17 @@
 -- A text is read as a copy exactly where it spells the copy.
-use Rattle.std.proofs.Common.{◌≡◌, ◌≢◌, ℕ, ◌+◌, ◌≤◌, List, [], ◌∷◌, ◌++◌, length, All, Option, Some, None, Result, Ok, Err, refl, sym, ap, ◌∙◌, subst, append_assoc, append-nil, arith, zero-add, IfOk, ⊎_elim}
+use Rattle.std.proofs.Common.{◌≡◌, ◌≢◌, ℕ, ◌+◌, List, [], ◌∷◌, ◌++◌, length, All, Result, Ok, Err, refl, sym, ap, ◌∙◌, subst, append-nil, arith, zero-add, IfOk, ⊎_elim}
 use Rattle.std.proofs.lemmas.Bool.{cases_eq}
 use Rattle.std.proofs.lemmas.List.Elements.{All-head, All-tail, All-nil, All-cons}
-use Rattle.pn_json.specs.Answers.{◌>>=◌, IsUnless}
+use Rattle.pn_json.specs.Answers.{IsUnless}
 use Rattle.pn_json.proofs.Inverses.{bind_ok}
 use Rattle.pn_line.specs.Reads.{IsUnbroken}
 use Rattle.pn_line.specs.Text.{text_of, onto_first}
-use Rattle.pn_record.specs.declared.image.Image.{Image}
-use Rattle.pn_record.specs.CellMap.{table_of}
 use Rattle.pn_record.proofs.CellMaps.{table_of-nil}
 use Rattle.pn_tablet.specs.Copies.{TabletCopyValue}
 use Rattle.pn_tablet.specs.CopyLineReading.{head_at}
 use Rattle.pn_tablet.specs.CopyReading.{pieces_of, read_on, copy_in, copy_at}
 use Rattle.pn_tablet.specs.CopyTexts.{IsCopyText}
-use Rattle.pn_tablet.specs.Drafts.{DraftValue, begun}
-use Rattle.pn_tablet.specs.Ranges.{Ends}
+use Rattle.pn_tablet.specs.Drafts.{begun}
 use Rattle.pn_tablet.specs.declared.copy_fault.CopyTextFault.{CopyTextFault}
 use Rattle.pn_tablet.specs.declared.copy_fault.CopyTextFault.TheVariants.{BadLine, Memory}
 use Rattle.pn_tablet.specs.CopyLines.{AreLines}

@@ -1,17 +1,14 @@
 -- What a line of a copy is read as, its value is the JSON of; and that JSON is read as it.
-use Rattle.std.proofs.Common.{◌≡◌, ℕ, List, [], ◌∷◌, length, codes, Bool, true, false, cond, ◌&&◌, ◌==◌, T, Option, Some, None, is_some, Result, Ok, Err, ltb, refl, sym, ap, ◌∙◌, subst, eqb-true}
+use Rattle.std.proofs.Common.{◌≡◌, ℕ, List, [], ◌∷◌, length, codes, Bool, true, false, cond, ◌&&◌, ◌==◌, Option, Some, None, is_some, Result, Ok, Err, ltb, refl, sym, ap, ◌∙◌, subst, eqb-true}
 use Rattle.std.proofs.lemmas.Bool.{and_parts, le-ltb}
 use Rattle.std.specs.Option.{ok_or}
 use Rattle.serde_json.specs.Data.{Data, null, boolean, number, string, array, object, unsigned, Members, no_members, member}
 use Rattle.serde_json.specs.Find.{get, get_member, as_str, as_object}
-use Rattle.pn_json.specs.Answers.{◌>>=◌}
 use Rattle.pn_json.specs.Members.{whole_number, member_as, no_others, only_named}
 use Rattle.pn_json.proofs.Inverses.{bind_ok, guard_ok, no_fault, ok_or_ok, and_then_some, string_from_as_str, object_from_as_object, number_from_whole}
 use Rattle.pn_json.proofs.LookUps.{Rise}
 use Rattle.pn_json.proofs.MembersByName.{same_by_name}
 use Rattle.pn_record.specs.declared.fault.ImageFault.TheVariants.{TooLong, NotJson}
-use Rattle.pn_record.specs.declared.image.Image.{Image}
-use Rattle.pn_record.specs.Canonical.{IsImage}
 use Rattle.pn_record.specs.Grammar.{image_in}
 use Rattle.pn_record.specs.Limits.{Field}
 use Rattle.pn_record.specs.Marks.{is_mark}
@@ -21,7 +18,7 @@ use Rattle.pn_record.proofs.Lines as lines
 use Rattle.pn_record.proofs.ReadImages.{image_in_order}
 use Rattle.pn_record.proofs.ReadInOrder.{InOrder, in_order}
 use Rattle.pn_record.proofs.SameImage.{image_again}
-use Rattle.pn_tablet.specs.CopyLines.{key_data, head_data, mark_data, end_data, is_range, IsHead, IsValue}
+use Rattle.pn_tablet.specs.CopyLines.{key_data, head_data, is_range, IsHead, IsValue}
 use Rattle.pn_tablet.specs.CopyLineReading.{or_as, if_fits, end_of, head_in, mark_in, end_in, record_in, line_in, head_at, line_at}
 use Rattle.pn_tablet.specs.Ranges.{Ends}
 use Rattle.pn_tablet.specs.declared.copy_line.CopyLine.{CopyLine}

@@ -7,7 +7,7 @@ use Rattle.std.specs.Option.{option_map_or}
 use Rattle.std.specs.Ordering.{is_lt, is_eq, ordering_reverse}
 use Rattle.std.specs.FinMap.{find, put, is_sorted}
 use Rattle.std.specs.FinMap.Entries.{by_order}
-use Rattle.pn_join.specs.Marks.{Positions, name_cmp, is_position, are_positions, position_of, raised}
+use Rattle.pn_join.specs.Marks.{Positions, name_cmp, is_position, are_positions, raised}
 use Rattle.pn_join.proofs.MarksFacts.{are_positions-raised}
 use Rattle.pn_record.specs.declared.image.Image.{Image}
 use Rattle.pn_record.specs.Cells.{Holds, spell}

@@ -1,26 +1,24 @@
 -- A text that is read has the fault that the reading finds.
-use Rattle.std.proofs.Common.{◌≡◌, ◌≢◌, ◌⊎◌, inl, inr, ℕ, suc, ◌+◌, ◌-◌, ◌==◌, Bool, true, false, cond, not, ◌&&◌, if◌then◌else◌, List, [], ◌∷◌, ◌++◌, map, length, All, Option, Some, None, is_some, Result, Ok, Err, IsTrue, refl, sym, ap, ◌∙◌, subst, arith, append-nil, append_assoc, length-append, eq-eqb}
-use Rattle.std.proofs.lemmas.Bool.{and_parts, and_from, and_cases, false≢true, false_from_ne_true}
+use Rattle.std.proofs.Common.{◌≡◌, ◌≢◌, inl, inr, ℕ, ◌+◌, ◌-◌, ◌==◌, Bool, true, false, not, ◌&&◌, if◌then◌else◌, List, [], ◌∷◌, ◌++◌, map, length, All, Option, Some, None, is_some, Result, Ok, Err, refl, sym, ap, ◌∙◌, subst, arith, append-nil, append_assoc, length-append, eq-eqb}
+use Rattle.std.proofs.lemmas.Bool.{and_parts, and_from, false≢true, false_from_ne_true}
 use Rattle.std.proofs.lemmas.List.{map-append, length-map}
 use Rattle.std.proofs.lemmas.List.Elements.{All-head, All-tail, All-nil, All-cons, All-append}
-use Rattle.std.specs.List.{list_all}
 use Rattle.std.specs.Option.{option_map_or}
-use Rattle.std.specs.FinMap.{is_sorted}
 use Rattle.pn_json.specs.Answers.{◌>>=◌}
 use Rattle.pn_line.specs.Reads.{IsUnbroken}
 use Rattle.pn_line.specs.Text.{text_of}
 use Rattle.pn_line.proofs.TextLaws.{text_of-nil}
-use Rattle.pn_join.specs.Marks.{Positions, name_cmp}
+use Rattle.pn_join.specs.Marks.{Positions}
 use Rattle.pn_record.specs.declared.image.Image.{Image}
 use Rattle.pn_record.specs.CellMap.{table_of, adds}
 use Rattle.pn_record.specs.Reading.{IsLine}
 use Rattle.pn_record.proofs.CellMaps.{adds-table_of, table_of-nil}
 use Rattle.pn_tablet.specs.Copies.{TabletCopyValue}
 use Rattle.pn_tablet.specs.CopyBeginnings.{Begin, IsCut, Reaches}
-use Rattle.pn_tablet.specs.CopyFaults.{IsCutOff, HasNoHead, MayCome, HasBadLine, LeavesRange, Falls, HasFall, HasBadEnd}
-use Rattle.pn_tablet.specs.CopyLines.{IsHead, IsValue, AreLines}
+use Rattle.pn_tablet.specs.CopyFaults.{IsCutOff, MayCome, HasBadLine, LeavesRange, HasFall, HasBadEnd}
+use Rattle.pn_tablet.specs.CopyLines.{IsValue, AreLines}
 use Rattle.pn_tablet.specs.CopyLineReading.{head_at, line_at}
-use Rattle.pn_tablet.specs.CopyReading.{pieces_of, is_over, with_mark, with_image, ended, after, read_on, copy_in, copy_at}
+use Rattle.pn_tablet.specs.CopyReading.{pieces_of, is_over, after, read_on, copy_in, copy_at}
 use Rattle.pn_tablet.specs.CopyTexts.{comes_after, images_rise, mark_line}
 use Rattle.pn_tablet.specs.Drafts.{DraftValue, begun, whole}
 use Rattle.pn_tablet.specs.Ranges.{Ends, in_range}
@@ -35,7 +33,7 @@ use Rattle.pn_tablet.proofs.CopyLineCounts.{as_many}
 use Rattle.pn_tablet.proofs.CopyTextFacts.{joined, joined-pieces_of, unbroken-pieces_of}
 use Rattle.pn_tablet.proofs.CopyValues.{line_at-again, line_at-found, head_at-again, head_at-found}
 use Rattle.pn_tablet.proofs.Drafting.{is_after_all}
-use Rattle.pn_tablet.proofs.LineFaults.{IsOnly, head_or_not, line_or_not}
+use Rattle.pn_tablet.proofs.LineFaults.{head_or_not, line_or_not}
 
 -- a fault is the one that the text has
 abbrev pub IsRight : List ℕ → Result TabletCopyValue CopyTextFault → Type 0

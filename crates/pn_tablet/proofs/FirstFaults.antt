@@ -1,26 +1,22 @@
 -- A text has a fault exactly where the reading finds it.
-use Rattle.std.proofs.Common.{◌≡◌, ◌↔◌, ◌⊎◌, inl, inr, ℕ, ◌+◌, ◌-◌, ◌==◌, Bool, true, false, cond, not, ◌&&◌, if◌then◌else◌, List, [], ◌∷◌, ◌++◌, length, All, Option, Some, None, is_some, Result, Ok, Err, IsTrue, refl, sym, ap, ◌∙◌, subst, arith, eq-eqb, eqb-true}
-use Rattle.std.proofs.lemmas.Bool.{and_parts, false≢true, true≢false, false_from_ne_true, true_from_ne_false}
+use Rattle.std.proofs.Common.{◌≡◌, ◌↔◌, ◌⊎◌, inl, inr, ℕ, ◌+◌, ◌-◌, ◌==◌, true, false, ◌&&◌, if◌then◌else◌, List, [], ◌∷◌, ◌++◌, length, None, is_some, Ok, Err, refl, sym, ap, ◌∙◌, subst, arith, eqb-true}
+use Rattle.std.proofs.lemmas.Bool.{and_parts, false≢true, false_from_ne_true, true_from_ne_false}
 use Rattle.std.specs.Option.{option_map_or}
-use Rattle.std.specs.FinMap.{is_sorted}
-use Rattle.pn_json.specs.Answers.{◌>>=◌}
 use Rattle.pn_line.specs.Text.{text_of}
 use Rattle.pn_line.proofs.TextLaws.{text_of-nil}
-use Rattle.pn_join.specs.Marks.{Positions, name_cmp}
+use Rattle.pn_join.specs.Marks.{Positions}
 use Rattle.pn_record.specs.declared.image.Image.{Image}
 use Rattle.pn_record.specs.Reading.{IsLine}
-use Rattle.pn_tablet.specs.Copies.{TabletCopyValue}
 use Rattle.pn_tablet.specs.CopyBeginnings.{Begin, IsCut, Reaches}
-use Rattle.pn_tablet.specs.CopyFaults.{IsCutOff, HasNoHead, MayCome, HasBadLine, LeavesRange, Falls, HasFall, HasBadEnd}
+use Rattle.pn_tablet.specs.CopyFaults.{IsCutOff, MayCome, HasBadLine, LeavesRange, Falls, HasFall, HasBadEnd}
 use Rattle.pn_tablet.specs.CopyLines.{IsValue}
-use Rattle.pn_tablet.specs.CopyLineReading.{head_at, line_at}
-use Rattle.pn_tablet.specs.CopyReading.{pieces_of, is_over, with_mark, with_image, ended, after, read_on, copy_in, copy_at}
-use Rattle.pn_tablet.specs.CopyTexts.{comes_after, images_rise}
+use Rattle.pn_tablet.specs.CopyLineReading.{head_at}
+use Rattle.pn_tablet.specs.CopyReading.{pieces_of, is_over, with_mark, with_image, after, read_on, copy_in, copy_at}
+use Rattle.pn_tablet.specs.CopyTexts.{comes_after}
 use Rattle.pn_tablet.specs.Drafts.{DraftValue, whole}
 use Rattle.pn_tablet.specs.Ranges.{Ends, in_range}
 use Rattle.pn_tablet.specs.declared.copy_line.CopyLine.{CopyLine}
 use Rattle.pn_tablet.specs.declared.copy_line.CopyLine.TheVariants.{Mark, Record, End}
-use Rattle.pn_tablet.specs.declared.copy_fault.CopyTextFault.{CopyTextFault}
 use Rattle.pn_tablet.specs.declared.copy_fault.CopyTextFault.TheVariants.{Truncated, BadLine, OutsideRange, NotRising, BadEnd, Memory}
 use Rattle.pn_tablet.proofs.BegunCopies.{last_with, drafted, begun_read, text_cut, last_unbroken, reached}
 use Rattle.pn_tablet.proofs.CopyGrammar.{sorted_push}

@@ -1,5 +1,5 @@
 -- A line of a copy has what it says, or the one fault of its line.
-use Rattle.std.proofs.Common.{◌≡◌, ◌⊎◌, inl, inr, ℕ, ◌==◌, Bool, true, false, cond, ◌&&◌, List, ◌∷◌, [], codes, Option, Some, None, is_some, Result, Ok, Err, refl, ap, subst}
+use Rattle.std.proofs.Common.{◌≡◌, ◌⊎◌, inl, inr, ℕ, ◌==◌, Bool, true, false, cond, ◌&&◌, List, ◌∷◌, [], codes, Option, Some, None, is_some, Result, Ok, Err, refl, ap}
 use Rattle.std.specs.Option.{ok_or, option_and_then}
 use Rattle.serde_json.specs.Data.{Data}
 use Rattle.serde_json.specs.Find.{get, as_str, as_object}
@@ -8,12 +8,12 @@ use Rattle.pn_json.specs.Members.{whole_number, member_as, only_named, no_others
 use Rattle.pn_record.specs.Grammar.{image_in}
 use Rattle.pn_record.specs.Marks.{is_mark}
 use Rattle.pn_record.specs.Reading.{IsLine, value_at}
-use Rattle.pn_tablet.specs.CopyLines.{IsHead, IsValue, is_range}
-use Rattle.pn_tablet.specs.CopyLineReading.{or_as, if_fits, end_of, head_in, mark_in, end_in, record_in, line_in, head_at, line_at}
+use Rattle.pn_tablet.specs.CopyLines.{IsHead, is_range}
+use Rattle.pn_tablet.specs.CopyLineReading.{or_as, end_of, head_in, mark_in, end_in, record_in, line_in, head_at, line_at}
 use Rattle.pn_tablet.specs.Ranges.{Ends}
 use Rattle.pn_tablet.specs.declared.copy_line.CopyLine.{CopyLine}
 use Rattle.pn_tablet.specs.declared.copy_line.CopyLine.TheVariants.{Mark, Record, End}
-use Rattle.pn_tablet.proofs.CopyValues.{head_at-found, line_at-found}
+use Rattle.pn_tablet.proofs.CopyValues.{head_at-found}
 
 -- a fault, if there is one, is this one
 abbrev pub IsOnly : {A F : Type 0} → F → Result A F → Type 0

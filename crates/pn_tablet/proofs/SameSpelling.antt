@@ -1,7 +1,6 @@
 -- Images that rise are those that spell their table.
-use Rattle.std.proofs.Common.{◌≡◌, ◌⊎◌, inl, inr, ℕ, ◌<◌, Bool, true, false, ◌||◌, ◌&&◌, List, [], ◌∷◌, ◌++◌, map, length, Ordering, Less, Equal, Greater, refl, sym, ap, ◌∙◌, arith}
+use Rattle.std.proofs.Common.{◌≡◌, ◌⊎◌, inl, inr, ℕ, ◌<◌, Bool, true, false, ◌||◌, List, [], ◌∷◌, ◌++◌, map, length, Ordering, Less, Equal, Greater, refl, sym, ap, ◌∙◌, arith}
 use Rattle.std.proofs.lemmas.Bool.{and_parts}
-use Rattle.std.specs.FinMap.{keys}
 use Rattle.std.specs.List.{flat_map, AllByRecursion}
 use Rattle.std.specs.Ordering.{is_lt, is_eq, eq_by_cmp}
 use Rattle.pn_join.specs.Tables.{IsTable}
@@ -13,7 +12,7 @@ use Rattle.pn_record.specs.Limits.{ContentValue}
 use Rattle.pn_record.specs.Order.{bytes_cmp, version_cmp, content_cmp}
 use Rattle.pn_record.specs.Laws.Totals.{bytes_cmp_total, content_cmp_total, version_cmp-exact}
 use Rattle.pn_record.specs.Laws.Unions.{keys-set_of, some-set_of}
-use Rattle.pn_record.specs.Sets.{Stamp, CellValue, HasContents, IsContents, as_entries, set_of}
+use Rattle.pn_record.specs.Sets.{Stamp, CellValue, HasContents, as_entries, set_of}
 use Rattle.pn_record.proofs.HeldRecords.{tied_keys}
 use Rattle.pn_tablet.specs.CopyTexts.{comes_after, images_rise}
 use Rattle.pn_tablet.proofs.SpelledImages.{spelled_own}

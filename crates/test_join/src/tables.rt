@@ -80,8 +80,7 @@ pub(crate) fn join(alloc: Global, tables: &str) -> Result<String, Fail> {
 
 // The entries of the last leaf.
 fn last_leaf(table: &Counts) -> Option<&[(Highest, Highest)]> {
-    let leaves = table.leaves();
-    leaves.leaf(leaves.count().checked_sub(1)?)
+    table.leaf(table.leaves().count().checked_sub(1)?)
 }
 
 /// A table with one entry more, below all others, and whether its last leaf is as it was.

@@ -204,8 +204,8 @@ impl<K: Ord + Dup, C: Join> LeafList<K, C> {
         Ok(())
     }
 
-    /// Joins a content into that at the key: changes one leaf, cuts one in two, or makes the first. All others
-    /// stay as they were. An error leaves the list as it was.
+    /// Joins a content into that at the key. One leaf is changed or cut in two, or the first is made; all others
+    /// stay. An error leaves the list as it was.
     pub fn join_entry(&mut self, key: K, content: C) -> Result<(), NoMemory>
         requires { C.valid content }
         ensures ok { OnOk result (IsPutOf K.cmp C.meaning C.joined C.valid key content

@@ -1,5 +1,5 @@
 -- How drafts of copies are stored in a proof.
-use Rattle.std.specs.Prelude.{◌≡◌, ℕ, List, Option, refl}
+use Rattle.std.specs.Prelude.{ℕ, List, Option, refl}
 use Rattle.std.specs.Coded.{Coded, code_by, coded×, coded_ℕ, coded_list, coded_option}
 use Rattle.pn_join.specs.Marks.{Positions}
 use Rattle.pn_record.specs.CellMap.{Entries}

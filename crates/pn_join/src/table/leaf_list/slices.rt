@@ -15,7 +15,12 @@ use std::alloc::Global;
 
 impl<K: Ord + Dup, C: Join> LeafList<K, C> {
     /// Adds the other's entries from index `from` to before index `to` after all others.
-    pub fn push_slice(&mut self, other: &Self, from: usize, to: usize) -> Result<(), NoMemory>
+    pub(crate) fn push_slice(
+        &mut self,
+        other: &Self,
+        from: usize,
+        to: usize,
+    ) -> Result<(), NoMemory>
         requires order { from ≤ to }
         requires within { to ≤ length (all_entries other.now) }
         requires table { IsTable K.cmp C.valid (all_entries self.old ++ slice_range (all_entries other.now) from to) }

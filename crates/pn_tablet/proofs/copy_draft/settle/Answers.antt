@@ -1,6 +1,5 @@
 -- The last image is added to the cells.
-use Rattle.std.proofs.Common.{OnOk, ◌≡◌, sym, ap, subst, Option, ◌∷◌, []}
-use Rattle.pn_record.specs.CellMap.{adds}
+use Rattle.std.proofs.Common.{OnOk, ◌≡◌, sym, subst, Option}
 use Rattle.pn_record.specs.declared.image.Image.{Image}
 use Rattle.pn_tablet.specs.Drafts.{with_last}
 use Rattle.pn_tablet.proofs.Drafting.{taken}

@@ -1,5 +1,5 @@
 -- A line that is refused ends the reading, and one that is taken makes the draft longer.
-use Rattle.std.proofs.Common.{rules, ◌≡◌, ◌+◌, ◌==◌, Ok, List, length, sym, ap, ◌∙◌, arith}
+use Rattle.std.proofs.Common.{rules, ◌≡◌, ◌+◌, ◌==◌, Ok, length, sym, ap, ◌∙◌, arith}
 use Rattle.pn_tablet.specs.CopyReading.{pieces_of, is_over, with_mark, with_image, ended, read_on}
 use Rattle.pn_tablet.specs.Drafts.{DraftValue}
 use Rattle.pn_tablet.specs.declared.copy_line.CopyLine.TheVariants.{Mark, Record, End}

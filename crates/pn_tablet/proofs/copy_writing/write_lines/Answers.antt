@@ -1,12 +1,11 @@
 -- The head, the marks, the images and the end are the whole text.
-use Rattle.std.proofs.Common.{rules, arith, ◌≡◌, ℕ, ◌+◌, ◌<◌, ◌≤◌, ◌^◌, ◌∷◌, ◌++◌, [], List, length, IsUtf8, ap, sym, ◌∙◌, subst}
-use Rattle.std.specs.List.{AllByRecursion}
+use Rattle.std.proofs.Common.{rules, arith, ℕ, ◌+◌, ◌<◌, ◌≤◌, ◌^◌, ◌∷◌, ◌++◌, [], List, length, IsUtf8, ap, sym, ◌∙◌, subst}
 use Rattle.std.proofs.lemmas.Result.{IfOk-weaker}
 use Rattle.pn_record.specs.Cells.{spell}
 use Rattle.pn_tablet.specs.Copies.{TabletCopyValue}
 use Rattle.pn_tablet.specs.CopyLines.{head_data}
 use Rattle.pn_tablet.specs.CopyTexts.{IsCopyText, lines_after_head}
-use Rattle.pn_tablet.specs.CopyWriting.{WritesLines, IsWrittenLine, copy_text, line_text}
+use Rattle.pn_tablet.specs.CopyWriting.{WritesLines, copy_text, line_text}
 use Rattle.pn_tablet.specs.declared.copy_line.CopyLine.TheVariants.{End}
 use Rattle.pn_tablet.proofs.CopyWritten.{parts_written, whole_spelled, marks_room, text_utf8}
 use Rattle.pn_tablet.proofs.copy_writing.write_lines.Goals as goal
