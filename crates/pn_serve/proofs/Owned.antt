@@ -5,7 +5,7 @@ use Rattle.std.proofs.lemmas.List.Elements.{All-from_recursion, All-weaker}
 use Rattle.pn_live.specs.LiveRegions.{LiveRegionValue, IsReaderIn, tablets_in}
 use Rattle.pn_live.specs.Readers.{LiveReaderValue, IsNewReader}
 
-pub own_readers : {V E : Type 0} (items : V → List LiveReaderValue) (opened : Result (LiveRegionValue × V) E)
+pub own_opened : {V E : Type 0} (items : V → List LiveReaderValue) (opened : Result (LiveRegionValue × V) E)
     → IfOk opened (λ o. AllByRecursion (IsNewReader (tablets_in o.0)) (items o.1)) → IfOk opened (λ o. All (IsReaderIn o.0) (items o.1))
-own_readers items (Ok o) new = All-weaker (IsNewReader (tablets_in o.0)) (IsReaderIn o.0) (λ reader is. is.0) (items o.1) (All-from_recursion (IsNewReader (tablets_in o.0)) (items o.1) new)
-own_readers items (Err fault) new = tt
+own_opened items (Ok o) new = All-weaker (IsNewReader (tablets_in o.0)) (IsReaderIn o.0) (λ reader is. is.0) (items o.1) (All-from_recursion (IsNewReader (tablets_in o.0)) (items o.1) new)
+own_opened items (Err fault) new = tt

@@ -1,13 +1,16 @@
 -- Rounds of what was gathered, one after another.
 use Rattle.std.proofs.Common.{◌≡◌, ◌⊎◌, ℕ, ◌+◌, ◌-◌, ◌≤◌, List, [], ◌∷◌, ◌++◌, Option, None, Some, IfSome, IfOk, IfErr, OnOk, OnErr, inl, inr, refl, sym, ap, ◌∙◌, subst, arith}
-use Rattle.std.specs.Prelude.{Result, Ok, Err, MatchResult}
+use Rattle.std.specs.Prelude.{Result, Ok, Err, IsErrAnd, MatchResult}
+use Rattle.std.specs.List.{Contains}
+use Rattle.std.proofs.lemmas.Result.{err_from_is_err_and}
 use Rattle.pn_stream.specs.Positions.{DeliveryValue}
 use Rattle.pn_tablet.specs.Refusals.{Refuses}
 use Rattle.pn_region.specs.Marking.{is_memory}
 use Rattle.pn_region.specs.Rounds.{round}
 use Rattle.pn_region.specs.declared.fault.RoundFault.{RoundFault}
 use Rattle.pn_live.specs.LiveRegions.{LiveRegionValue, core, LeavesLive}
-use Rattle.pn_serve.specs.Server.Reading.{AllTaken, ends_of, ReadToEnds, ReadUpTo, StopsAt}
+use Rattle.pn_serve.specs.Server.Faults.{IsOfRounds}
+use Rattle.pn_serve.specs.Server.Reading.{AllTaken, ends_of, ReadToEnds, ReadUpTo, ReadsStreams, StopsAt}
 use Rattle.pn_serve.specs.Server.Rounds.{GatheredValue, IsSmall, IsRoundTaken, IsRoundRefused, TakesGathered}
 use Rattle.pn_serve.specs.declared.server.fault.ServeFault.{ServeFault}
 use Rattle.pn_serve.specs.declared.server.fault.ServeFault.TheVariants.{Start, Stream, Round, Close, Write}
@@ -83,3 +86,23 @@ stopped streams reading old between new gathered fault so small takes =
 
 pub not_gathered : (streams reading : ℕ) (old new : LiveRegionValue) (fault : ServeFault) → SoFar streams reading old new → fault ≡ Round → ReadUpTo streams old new fault
 not_gathered streams reading old new fault so is = record { rounds = so.rounds; last = new; taken = so.taken; stops = inr (is, refl) }
+
+-- a fault as an answer
+pub at_fault : {T : Type 0} (streams : ℕ) (old new : LiveRegionValue) (fault : ServeFault) (result : Result T ServeFault) → IsErrAnd result (λ other. other ≡ fault) → ReadUpTo streams old new fault → ReadsStreams streams old new result
+at_fault streams old new fault result answered read =
+    let (other, is, same) = err_from_is_err_and result answered in
+    subst (ReadsStreams streams old new) (sym is) (subst (ReadUpTo streams old new) (sym same) read)
+
+-- it is of a round, or names a stream
+pub fault_named : (names : List (List ℕ)) (gathered : GatheredValue) (old new : LiveRegionValue) (fault : ServeFault) → TakesGathered gathered old new (Err fault) → IfSome gathered.fault (Contains names) → IsOfRounds names fault
+fault_named names gathered old new (Stream name) takes known = subst (λ (f : Option (List ℕ)). IfSome f (Contains names)) takes.0 known
+fault_named names gathered old new Round takes known = tt
+fault_named names gathered old new Start takes known = absurd takes
+fault_named names gathered old new Close takes known = absurd takes
+fault_named names gathered old new Write takes known = absurd takes
+
+-- what holds of a fault that is passed on
+pub passed_on : {T : Type 0} (P : ServeFault → Type 0) (fault : ServeFault) (result : Result T ServeFault) → IsErrAnd result (λ other. other ≡ fault) → P fault → IfErr result P
+passed_on {T} P fault result answered holds =
+    let (other, is, same) = err_from_is_err_and result answered in
+    subst (λ (r : Result T ServeFault). IfErr r P) (sym is) (subst P (sym same) holds)

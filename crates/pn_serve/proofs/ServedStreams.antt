@@ -1,14 +1,16 @@
 -- How serving ends, by how its parts end.
-use Rattle.std.proofs.Common.{◌≡◌, ◌≢◌, ℕ, List, [], ◌∷◌, length, map, Option, refl, sym, ap, ◌∙◌, subst, Unit}
-use Rattle.std.specs.Prelude.{Result, Ok, Err, IfErr, IfOk, OnOk, OnErr, MatchResult, All}
+use Rattle.std.proofs.Common.{◌≡◌, ◌≢◌, ℕ, Bool, true, false, List, [], ◌∷◌, length, map, Option, refl, sym, ap, ◌∙◌, subst}
+use Rattle.std.proofs.lemmas.List.{length-map}
+use Rattle.std.specs.Prelude.{Result, Ok, Err, IfErr, IfOk, IsOk, OnOk, OnErr, IsErrOf, MatchResult, All}
 use Rattle.std.specs.List.{Contains}
+use Rattle.pn_join.specs.Marks.{Positions}
 use Rattle.pn_stream.specs.Batches as batches
 use Rattle.pn_tablet.specs.Layouts.{Bounds}
 use Rattle.pn_live.specs.LiveRegions.{LiveRegionValue, IsNewLive}
 use Rattle.pn_serve.specs.Server.Faults.{names_of, NamesOne, IsOfRounds}
 use Rattle.pn_serve.specs.Server.Reading.{ReadToEnds, ReadUpTo, ReadsStreams}
 use Rattle.pn_serve.specs.Server.Served.{ReadsAll, EndsReading, Serves, EndsRegion, EndsServing}
-use Rattle.pn_serve.specs.Server.Whole.{IsTaken}
+use Rattle.pn_serve.specs.Server.Whole.{IsTakenWhole}
 use Rattle.pn_serve.specs.declared.server.fault.ServeFault.{ServeFault}
 use Rattle.pn_serve.specs.declared.server.fault.ServeFault.TheVariants.{Start, Stream, Round, Close, Write}
 
@@ -29,10 +31,28 @@ module _ {S : Type 0} (left : S → Option (List ℕ)) (streams : List (batches.
   not_taken old new Close named = absurd named
   not_taken old new Write named = absurd named
 
-  pub all_read : (old new : LiveRegionValue) (result : Result (Unit {0}) ServeFault) → ReadToEnds (length streams) old new → OnOk result (All (IsTaken left new.marks) streams) → IfErr result (NamesOne (names_of streams))
+  pub all_read : (old new : LiveRegionValue) (result : Result (Unit {0}) ServeFault) → ReadToEnds (length streams) old new → OnOk result (All (IsTakenWhole left new.marks) streams) → IfErr result (NamesOne (names_of streams))
       → EndsReading left streams old new result
   all_read old new (Ok done) read taken named = record { read = read; taken = taken }
   all_read old new (Err fault) read taken named = not_taken old new fault named
+
+  -- all threads ended, or sessions were refused
+  pub reading_ends : {P : Type 0} (name : P → List ℕ) (places : List P) (read_by : List (batches.Stream S)) (old new : LiveRegionValue) (is_refused : Bool) (marks : Positions) (read result : Result (Unit {0}) ServeFault)
+      → map name places ≡ names_of streams → read_by ≡ streams → (is_refused ≡ true → read ≡ Err Start) → (is_refused ≡ false → ReadsStreams (length places) old new read)
+      → (is_refused ≡ false → IfErr read (IsOfRounds (map name places))) → IfErr read (λ fault. result ≡ Err fault)
+      → marks ≡ new.marks → OnOk read (OnOk result (All (IsTakenWhole left marks) read_by)) → OnOk read (IfErr result (NamesOne (names_of read_by))) → EndsReading left streams old new result
+  reading_ends name places read_by old new true marks read result names are refused reads named first same taken rest =
+      let start = subst (λ (r : Result (Unit {0}) ServeFault). IfErr r (λ fault. result ≡ Err fault)) (refused refl) first in
+      subst (EndsReading left streams old new) (sym start) tt
+  reading_ends name places read_by old new false marks (Err fault) result names are refused reads named first same taken rest =
+      let count : length places ≡ length streams = sym (length-map places name) ∙ ap length names ∙ length-map streams (λ (stream : batches.Stream S). stream.name) in
+      let read_up : ReadUpTo (length streams) old new fault = subst (λ (n : ℕ). ReadUpTo n old new fault) count (reads refl) in
+      subst (EndsReading left streams old new) (sym first) (rounds_stopped old new fault (subst (λ (ns : List (List ℕ)). IsOfRounds ns fault) names (named refl)) read_up)
+  reading_ends name places read_by old new false marks (Ok done) result names are refused reads named first same taken rest =
+      let count : length places ≡ length streams = sym (length-map places name) ∙ ap length names ∙ length-map streams (λ (stream : batches.Stream S). stream.name) in
+      all_read old new result (subst (λ (n : ℕ). ReadToEnds n old new) count (reads refl))
+      (subst (λ (ss : List (batches.Stream S)). OnOk result (All (IsTakenWhole left new.marks) ss)) are (subst (λ (m : Positions). OnOk result (All (IsTakenWhole left m) read_by)) same taken))
+      (subst (λ (ss : List (batches.Stream S)). IfErr result (NamesOne (names_of ss))) are rest)
 
   module _ (layout : Bounds) (opened closed : LiveRegionValue) (is_new : IsNewLive layout opened) where
     abbrev serves : (reading : Result (Unit {0}) ServeFault) → EndsReading left streams opened closed reading → Serves left layout streams reading
@@ -46,12 +66,19 @@ module _ {S : Type 0} (left : S → Option (List ℕ)) (streams : List (batches.
     stopped Write ends = absurd ends
 
     -- it was closed
-    pub region_closed : {A B : Type 0} (reading ended : Result (Unit {0}) ServeFault) (closing : Result A B) → EndsReading left streams opened closed reading
-        → IfErr reading (λ fault. ended ≡ Err fault) → OnOk reading (MatchResult closing (λ _. ended ≡ Ok tt) (λ _. ended ≡ Err Close))
-        → MatchResult ended (λ _. (count : ℕ) → EndsRegion left layout streams (Ok count)) (λ fault. EndsRegion left layout streams (Err fault))
-    region_closed (Err fault) ended closing ends first closes = subst (λ e. MatchResult e (λ _. (count : ℕ) → EndsRegion left layout streams (Ok count)) (λ fault. EndsRegion left layout streams (Err fault))) (sym first) (stopped fault ends)
-    region_closed (Ok done) ended (Ok region) ends first closes = subst (λ e. MatchResult e (λ _. (count : ℕ) → EndsRegion left layout streams (Ok count)) (λ fault. EndsRegion left layout streams (Err fault))) (sym closes) (λ count. serves (Ok tt) ends)
-    region_closed (Ok done) ended (Err fault) ends first closes = subst (λ e. MatchResult e (λ _. (count : ℕ) → EndsRegion left layout streams (Ok count)) (λ fault. EndsRegion left layout streams (Err fault))) (sym closes) (serves (Ok tt) ends)
+    pub region_ends : {A B : Type 0} (count : ℕ) (reading : Result (Unit {0}) ServeFault) (closing : Result A B) (result : Result ℕ ServeFault) → EndsReading left streams opened closed reading
+        → IfErr reading (λ fault. result ≡ Err fault) → OnOk reading (MatchResult closing (λ _. result ≡ Ok count) (λ _. result ≡ Err Close)) → EndsRegion left layout streams result
+    region_ends count (Err fault) closing result ends first closes = subst (EndsRegion left layout streams) (sym first) (stopped fault ends)
+    region_ends count (Ok done) (Ok region) result ends first closes = subst (EndsRegion left layout streams) (sym closes) (serves (Ok tt) ends)
+    region_ends count (Ok done) (Err fault) result ends first closes = subst (EndsRegion left layout streams) (sym closes) (serves (Ok tt) ends)
+
+  pub no_write : (layout : Bounds) (result : Result ℕ ServeFault) → EndsRegion left layout streams result → IfErr result (λ fault. fault ≢ Write)
+  no_write layout (Ok count) ends = tt
+  no_write layout (Err (Stream name)) ends = λ is. cc
+  no_write layout (Err Start) ends = λ is. cc
+  no_write layout (Err Round) ends = λ is. cc
+  no_write layout (Err Close) ends = λ is. cc
+  no_write layout (Err Write) ends = absurd ends
 
   at_fault : (layout : Bounds) (fault : ServeFault) → EndsRegion left layout streams (Err fault) → EndsServing left layout streams (Err fault)
   at_fault layout (Stream name) ends = ends
@@ -66,3 +93,31 @@ module _ {S : Type 0} (left : S → Option (List ℕ)) (streams : List (batches.
   serving_ends layout (Err fault) result ends first write = subst (EndsServing left layout streams) (sym first) (at_fault layout fault ends)
   serving_ends layout (Ok count) (Ok done) ends first write = ends
   serving_ends layout (Ok count) (Err fault) ends first write = subst (λ (f : ServeFault). EndsServing left layout streams (Err f)) (sym write) ends
+
+-- as many readers came back as there were
+pub all_back : {A B : Type 0} (count now was sessions : ℕ) (reading : Result (Unit {0}) ServeFault) (closing : Result A B) (result : Result ℕ ServeFault) → IfErr reading (λ fault. result ≡ Err fault)
+    → OnOk reading (MatchResult closing (λ _. result ≡ Ok count) (λ _. result ≡ Err Close)) → count ≡ now → OnOk reading (now ≡ was) → was ≡ sessions → IfOk result (λ n. n ≡ sessions)
+all_back count now was sessions (Err fault) closing result first closes counted all same = subst (λ (r : Result ℕ ServeFault). IfOk r (λ n. n ≡ sessions)) (sym first) tt
+all_back count now was sessions (Ok done) (Ok region) result first closes counted all same = subst (λ (r : Result ℕ ServeFault). IfOk r (λ n. n ≡ sessions)) (sym closes) (counted ∙ all ∙ same)
+all_back count now was sessions (Ok done) (Err fault) result first closes counted all same = subst (λ (r : Result ℕ ServeFault). IfOk r (λ n. n ≡ sessions)) (sym closes) tt
+
+-- what is written of their number
+pub of_sessions : {T : Type 0} (sessions : ℕ) (P : ℕ → Type 0) (served : Result ℕ ServeFault) (result : Result T ServeFault) → IfOk served (λ n. n ≡ sessions) → OnOk result (IsOk served) → IfOk served (λ n. OnOk result (P n)) → OnOk result (P sessions)
+of_sessions sessions P (Ok n) result is all written = subst (λ (m : ℕ). OnOk result (P m)) is written
+of_sessions sessions P (Err fault) (Ok done) is all written = let no : false ≡ true = all in absurd (cc)
+of_sessions sessions P (Err fault) (Err other) is all written = tt
+
+-- what is written of it where the writer fails
+pub of_sessions_in_part : {T : Type 0} (sessions : ℕ) (P : ℕ → Type 0) (served : Result ℕ ServeFault) (result : Result T ServeFault) → IfOk served (λ n. n ≡ sessions) → IfErr served (λ fault. fault ≢ Write)
+    → IfErr served (λ fault. result ≡ Err fault) → IfOk served (λ n. OnErr result (P n)) → IsErrOf result Write → P sessions
+of_sessions_in_part sessions P (Ok n) (Err fault) is not first written failed = subst P is written
+of_sessions_in_part sessions P (Ok n) (Ok done) is not first written failed = absurd (cc)
+of_sessions_in_part sessions P (Err fault) result is not first written failed = absurd (not (let same = sym first ∙ failed in cc))
+
+pub err_first : {T E : Type 0} (result : Result T E) (P : E → Type 0) (A : Type 0) → IfErr result (λ e. P e × A) → IfErr result P
+err_first (Ok done) P A both = tt
+err_first (Err fault) P A both = both.0
+
+pub ok_err_first : {T U E : Type 0} (before : Result T E) (result : Result U E) (P : E → Type 0) (A : Type 0) → OnOk before (IfErr result (λ e. P e × A)) → OnOk before (IfErr result P)
+ok_err_first (Err fault) result P A both = tt
+ok_err_first (Ok done) result P A both = err_first result P A both

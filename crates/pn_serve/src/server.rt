@@ -1,15 +1,16 @@
 //! Reads streams into a live region while sessions over TCP are answered from it.
 
-ghost use Rattle.std.specs.Prelude.{◌≡◌, ◌≢◌, ◌≤◌, map, vec_len, vec_capacity, Ok, Err, IfOk, IfErr, IsOk, OnOk, OnErr, IsErrOf, IsTrue, IsFalse, MatchResult};
+ghost use Rattle.std.specs.Prelude.{◌≡◌, ◌≢◌, ◌≤◌, map, vec_len, vec_capacity, All, Ok, Err, IfOk, IfErr, IsOk, OnOk, OnErr, IsErrOf, IsTrue, IsFalse, MatchResult};
 ghost use Rattle.std.specs.Io.KnownBytes.{Appends, Keeps};
 ghost use Rattle.pn_apply.specs.Limits.{max_workers};
 ghost use Rattle.pn_line.specs.Sent.{AppendsPrefix};
 ghost use Rattle.pn_live.specs.Limits.{max_readers};
 ghost use Rattle.pn_live.specs.LiveRegions.{IsNewLive, tablets_in};
-ghost use Rattle.pn_serve.specs.Server.Faults.{IsOfRounds};
+ghost use Rattle.pn_serve.specs.Server.Faults.{IsOfRounds, NamesOne, names_of};
 ghost use Rattle.pn_serve.specs.Server.Reading.{ReadsStreams};
 ghost use Rattle.pn_serve.specs.Server.Served.{EndsReading, EndsRegion, EndsServing};
 ghost use Rattle.pn_serve.specs.Server.Sessions.{AllRead};
+ghost use Rattle.pn_serve.specs.Server.Whole.{IsTakenWhole};
 ghost use Rattle.pn_protocol.specs.Reply.Short.{served_line};
 
 mod bell;
@@ -24,11 +25,11 @@ mod streams;
 use crate::Settings;
 use crate::server::connections::{StartedSessions, begin_sessions, end_sessions};
 use crate::server::rounds::take_rounds;
-use crate::server::streams::{Feeds, Reading, begin_reading, end_reading};
+use crate::server::streams::{Feeding, Feeds, Reading, begin_reading, end_reading};
 pub use fault::ServeFault;
-use pn_join::NoMemory;
+use pn_join::{Marks, NoMemory};
 use pn_line::{Sink, Source, WriteFault, write_all_of};
-use pn_live::{LiveReader, LiveRegion};
+use pn_live::{LiveReader, LiveRegion, OpenFault};
 use pn_protocol::served_reply;
 use pn_region::Region;
 use pn_stream::StreamReader;
@@ -103,17 +104,19 @@ where
     S: Source + Drop + Send + 'static,
     requires { (1 ≤ sessions) × (sessions ≤ max_readers) }
     ensures ends { EndsRegion S.left settings.layout streams.items result }
+    ensures fault { IfErr result (λ fault. fault ≢ ServeFault.Write) }
     ensures count { IfOk result (λ count. count ≡ sessions) }
 {
     let Settings { layout, workers } = settings;
-    let (live, readers) = open(rt, alloc, layout, sessions)?;
+    let Ok((live, readers)) = open(rt, alloc, layout, sessions) else {
+        return Err(ServeFault::Start);
+    };
     let mut opened = Opened { live, readers };
     let served = serve_all(rt, alloc, listener, &mut opened, workers, streams);
     let Opened { live, readers } = opened;
     let count = readers.len();
     let closed = close(rt, live, readers);
-    end(served, closed)?;
-    Ok(count)
+    end(served, closed, count)
 }
 
 // Opens a live region with this many readers.
@@ -122,17 +125,13 @@ fn open<R: Wait>(
     alloc: Global,
     layout: Layout,
     readers: usize,
-) -> Result<(LiveRegion, Vec<LiveReader>), ServeFault>
+) -> Result<(LiveRegion, Vec<LiveReader>), OpenFault>
     requires { (1 ≤ readers) × (readers ≤ max_readers) }
     ensures is_new { IfOk result (λ opened. IsNewLive layout opened.0) }
-    ensures start { IfErr result (λ fault. fault ≡ ServeFault.Start) }
     ensures own { IfOk result (λ opened. AllRead (tablets_in opened.0) opened.1.items) }
     ensures count { IfOk result (λ opened. vec_len opened.1 ≡ readers) }
 {
-    match LiveRegion::open(rt, alloc, layout, readers) {
-        Ok(opened) => Ok(opened),
-        Err(_) => Err(ServeFault::Start),
-    }
+    LiveRegion::open(rt, alloc, layout, readers)
 }
 
 // Closes a live region, whose readers came back.
@@ -142,15 +141,19 @@ fn close<R: Wait>(rt: &R, live: LiveRegion, readers: Vec<LiveReader>) -> Result<
     live.close(rt, readers)
 }
 
-// An earlier fault outranks out of memory while closing.
-fn end(served: Result<(), ServeFault>, closed: Result<Region, NoMemory>) -> Result<(), ServeFault>
+// How many readers came back, unless there is a fault. An earlier one outranks out of memory while closing.
+fn end(
+    served: Result<(), ServeFault>,
+    closed: Result<Region, NoMemory>,
+    count: usize,
+) -> Result<usize, ServeFault>
     ensures served { IfErr served (λ fault. result ≡ Err fault) }
-    ensures closed { OnOk served (MatchResult closed (λ _. result ≡ Ok tt) (λ _. result ≡ Err ServeFault.Close)) }
+    ensures closed { OnOk served (MatchResult closed (λ _. result ≡ Ok count) (λ _. result ≡ Err ServeFault.Close)) }
 {
     match (served, closed) {
         (Err(fault), _) => Err(fault),
         (Ok(()), Err(_)) => Err(ServeFault::Close),
-        (Ok(()), Ok(_)) => Ok(()),
+        (Ok(()), Ok(_)) => Ok(count),
     }
 }
 
@@ -183,8 +186,24 @@ where
     let read = take_all(rt, alloc, &mut opened.live, workers, &feeds, is_refused);
     feeds.close(rt);
     end_sessions(rt, &opened.live, running, &mut opened.readers);
-    read?;
-    end_reading(rt, threads, opened.live.marks())
+    end_all(rt, read, threads, opened.live.marks())
+}
+
+// A fault of the rounds outranks that of a stream.
+fn end_all<R: Threads, S: Source + Drop>(
+    rt: &R,
+    read: Result<(), ServeFault>,
+    threads: Vec<Feeding<S>>,
+    marks: &Marks,
+) -> Result<(), ServeFault>
+    ensures first { IfErr read (λ fault. result ≡ Err fault) }
+    ensures taken { OnOk read (OnOk result (All (IsTakenWhole S.left marks.now) (map (λ thread. thread.promise.0.value) threads.items))) }
+    ensures named { OnOk read (IfErr result (NamesOne (names_of (map (λ thread. thread.promise.0.value) threads.items)))) }
+{
+    match read {
+        Ok(()) => end_reading(rt, threads, marks),
+        Err(fault) => Err(fault),
+    }
 }
 
 // Runs the rounds, unless a session was refused.

@@ -9,8 +9,8 @@ ghost use Rattle.pn_serve.specs.Session.Lines.{AnswersLine, EndsLines, starts};
 mod lookups;
 
 use crate::machine::line_handler::LineHandler;
-use crate::script::{MAX_LINES, answer_all};
 use crate::script::line_loop::LineLoop;
+use crate::script::{MAX_LINES, answer_all};
 use crate::sessions::lookups::answer;
 use crate::{Counts, RunFault};
 use pn_line::{LineBuffer, Sink, Source};
@@ -42,9 +42,8 @@ pub fn session<S: Source, W: Sink>(
 }
 
 impl LineHandler for LiveReader {
-    ghost use Rattle.pn_serve.specs.Lines.Waiting.{HandsOn, looks_of_input};
-ghost use Rattle.pn_serve.specs.Session.Knowing.{KnowsNoLess};
-ghost use Rattle.pn_serve.specs.Session.Lines.{AnswersLine, EndsLines};
+    ghost use Rattle.pn_serve.specs.Session.Knowing.{KnowsNoLess};
+    ghost use Rattle.pn_serve.specs.Session.Lines.{AnswersLine, EndsLines};
     ghost use Rattle.std.specs.Prelude.{⊤};
 
     ghost ready = { ⊤ };

@@ -5,7 +5,7 @@ use Rattle.pn_tablet.specs.Layouts.{Bounds}
 use Rattle.pn_live.specs.LiveRegions.{LiveRegionValue, IsNewLive}
 use Rattle.pn_serve.specs.Server.Faults.{names_of}
 use Rattle.pn_serve.specs.Server.Reading.{ReadToEnds, ReadUpTo}
-use Rattle.pn_serve.specs.Server.Whole.{IsTaken}
+use Rattle.pn_serve.specs.Server.Whole.{IsTakenWhole}
 use Rattle.pn_serve.specs.declared.server.fault.ServeFault.{ServeFault}
 use Rattle.pn_serve.specs.declared.server.fault.ServeFault.TheVariants.{Start, Stream as of_stream, Round, Close, Write}
 
@@ -13,7 +13,7 @@ module _ {S : Type 0} (left : S → Option (List ℕ)) where
   -- a live region read all streams to their ends, and took each up to its last message
   pub record ReadsAll (streams : List (Stream S)) (old new : LiveRegionValue) : Type 0 where
     pub read : ReadToEnds (length streams) old new
-    pub taken : All (IsTaken left new.marks) streams
+    pub taken : All (IsTakenWhole left new.marks) streams
 
   -- what reading comes to: all streams are taken; or one of them is named; or a round was refused
   abbrev pub EndsReading : List (Stream S) → LiveRegionValue → LiveRegionValue → Result (Unit {0}) ServeFault → Type 0

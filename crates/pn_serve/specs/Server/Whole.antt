@@ -24,7 +24,7 @@ EndsStream left stream (Ok end) = (end.name ≡ stream.name) × IsWholeTo left s
 EndsStream left stream (Err name) = name ≡ stream.name
 
 -- the stream is whole, and the marks reach its last position
-pub record IsTaken {S : Type 0} (left : S → Option (List ℕ)) (marks : Positions) (stream : Stream S) : Type 0 where
+pub record IsTakenWhole {S : Type 0} (left : S → Option (List ℕ)) (marks : Positions) (stream : Stream S) : Type 0 where
   pub last : ℕ
   pub whole : IsWholeTo left stream last
   pub reached : last ≤ position_of marks stream.name

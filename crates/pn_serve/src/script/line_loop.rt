@@ -106,10 +106,10 @@ impl LineLoop {
         match end {
             LineEnd::Newline { more } => {
                 self.answer_line(machine, output)?;
+                self.more = more;
                 if !more {
                     self.blocks.flush(output)?;
                 }
-                self.more = more;
                 Ok(Next::Line)
             }
             LineEnd::EndOfInput => {

@@ -49,14 +49,14 @@ pub(crate) fn take_rounds<R: Threads + Wait + Sync>(
     let mut reading = feeds.count();
     for _ in rt.forever() {
         if reading == 0 {
-            break;
+            return Ok(());
         }
         feeds.wait(rt);
         let gathered = gather(rt, alloc, feeds)?;
         let ended = take_gathered(rt, live, workers, gathered)?;
         reading = reading.saturating_sub(ended);
     }
-    Ok(())
+    unreachable!()
 }
 
 // Takes one report of each stream that has one. The fault is out of memory, before a report is taken.
@@ -127,9 +127,7 @@ fn add_report(gathered: &mut Gathered, name: &StreamName, report: Report)
 fn same_name(name: &StreamName) -> StreamName
     ensures { result ≡ name.now }
 {
-    let Ok(name) = name.dup() else {
-        unreachable!()
-    };
+    let Ok(name) = name.dup() else { unreachable!() };
     name
 }
 

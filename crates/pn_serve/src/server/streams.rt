@@ -3,7 +3,7 @@
 ghost use Rattle.std.specs.Prelude.{◌≡◌, ◌≤◌, ◌∷◌, [], ◌++◌, map, vec_len, All, IfOk, IfErr, IsErr, OnOk, OnErr, MatchResult};
 ghost use Rattle.pn_join.specs.Marks.{position_of};
 ghost use Rattle.pn_serve.specs.Server.Faults.{NamesOne, names_of};
-ghost use Rattle.pn_serve.specs.Server.Whole.{EndsStream, IsTaken};
+ghost use Rattle.pn_serve.specs.Server.Whole.{EndsStream, IsTakenWhole};
 
 use crate::ServeFault;
 use crate::server::bell::Bell;
@@ -173,8 +173,8 @@ pub(crate) fn end_reading<R: Threads, S: Source + Drop>(
     threads: Vec<Feeding<S>>,
     marks: &Marks,
 ) -> Result<(), ServeFault>
-    ensures taken { OnOk result (All (IsTaken S.left marks.now) (map (λ thread. thread.promise.0.value) threads.items)) }
-    ensures named { IfErr result (NamesOne (map (λ thread. thread.promise.0.value.name) threads.items)) }
+    ensures taken { OnOk result (All (IsTakenWhole S.left marks.now) (map (λ thread. thread.promise.0.value) threads.items)) }
+    ensures named { IfErr result (NamesOne (names_of (map (λ thread. thread.promise.0.value) threads.items))) }
 {
     for thread in threads {
         taken_whole(thread.join(rt), marks)?;

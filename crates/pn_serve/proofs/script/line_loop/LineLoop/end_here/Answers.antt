@@ -8,21 +8,15 @@ use Rattle.pn_serve.proofs.script.line_loop.LineLoop.end_here.Goals as goal
 
 pub returns-in_default-clause-ends : goal.returns-in_default-clause-ends
 returns-in_default-clause-ends g c start served =
-    let makes = g.M.LineHandler.makes in
-    let ends = g.M.LineHandler.ends in
-    let none = rw (sym c.self.view_is) at c.requires.waits in
-    OnTold _ _ _ (λ script between. Broken_after makes ends start script _ _ _ _ _ _ between c.has_more.ensures.kept (nothing_sent _ _ none)) (subst (Served makes start _ _ _) (sym c.self.view_is) served)
+    OnTold _ _ _ (λ script between. Broken_after g.M.LineHandler.makes g.M.LineHandler.ends start script _ _ _ _ _ _ between c.has_more.ensures.kept (nothing_sent _ _ c.requires.waits)) served
 
 pub returns-in_default-clause-knows : goal.returns-in_default-clause-knows
 returns-in_default-clause-knows g c = knows_itself _
 
 pub returns-then-more-clause-ends : goal.returns-then-more-clause-ends
 returns-then-more-clause-ends g c start served =
-    let makes = g.M.LineHandler.makes in
-    let ends = g.M.LineHandler.ends in
-    let many = rw (sym c.self.view_is) at c.requires.all in
-    let none = rw (sym c.self.view_is) at c.requires.waits in
-    OnTold _ _ _ (λ script between. Exceeded_lines makes ends start script _ _ _ _ _ _ between (c.in-Ok.ensures.more (ap (λ (more : Bool). Ok more) c.if-more.true)) c.has_more.ensures.kept many (nothing_sent _ _ none)) (subst (Served makes start _ _ _) (sym c.self.view_is) served)
+    OnTold _ _ _ (λ script between. Exceeded_lines g.M.LineHandler.makes g.M.LineHandler.ends start script _ _ _ _ _ _ between
+    (c.in-Ok.ensures.more (ap (λ (more : Bool). Ok more) c.if-more.true)) c.has_more.ensures.kept c.requires.all (nothing_sent _ _ c.requires.waits)) served
 
 pub returns-then-more-clause-knows : goal.returns-then-more-clause-knows
 returns-then-more-clause-knows g c = knows_itself _

@@ -20,6 +20,5 @@ pub returns-clause-ends : goal.returns-clause-ends
 returns-clause-ends g c start served =
     let makes = g.M.LineHandler.makes in
     let ends = g.M.LineHandler.ends in
-    let flushed : Served makes start _ _ _ _ =
-    OnTold _ _ _ (λ script between. Flushes makes ends start script _ _ _ _ _ _ between c.in_ok-flush.ensures.ok refl c.flush.ensures.empty) (subst (Served makes start _ _ _) (sym c.self.view_is) served) in
-    c.end_here.ensures.ends start (subst (Served makes start _ _ _) c.self-2.view_is flushed)
+    c.end_here.ensures.ends start
+    (OnTold _ _ _ (λ script between. Flushes makes ends start script _ _ _ _ _ _ between c.in_ok-flush.ensures.ok refl c.flush.ensures.empty) (subst (Served makes start _ _ _) (sym c.self.view_is) served))

@@ -55,7 +55,8 @@ returns-else-not-more-clause-turns g c start served =
     let ends = g.M.LineHandler.ends in
     let takes = rw (c.in-Newline.is, c.start.ensures) at c.in-Ok.ensures.takes in
     let below = c.in-Ok.ensures.below (λ endless. let newline = c.in-Newline.is in cc) in
-    OnTold _ _ _ (λ script between. Stays makes ends start script _ _ _ _ _ (Goes_on makes ends start script _ _ _ _ _ _ _ _ _ between takes below c.in_ok-answer_line-in-Newline.ensures.ok) refl refl) (subst (Served makes start _ _ _) (sym c.self.view_is) served)
+    let gone : Served makes start _ _ _ _ = OnTold _ _ _ (λ script between. Goes_on makes ends start script _ _ _ _ _ _ _ _ _ between takes below c.in_ok-answer_line-in-Newline.ensures.ok) (subst (Served makes start _ _ _) (sym c.self.view_is) served) in
+    OnTold _ _ _ (λ script between. Stays makes ends start script _ _ _ _ _ between refl refl) (subst (Served makes start _ _ _) (sym c.self-in-Newline.view_is) gone)
 
 pub returns-in_err-counts-in-EndOfInput-clause-turns : goal.returns-in_err-counts-in-EndOfInput-clause-turns
 returns-in_err-counts-in-EndOfInput-clause-turns g c start served =

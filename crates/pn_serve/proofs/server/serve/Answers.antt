@@ -1,0 +1,26 @@
+-- What is written is the number of the readers that came back.
+use Rattle.std.proofs.Common.{◌≡◌, ℕ, Err}
+use Rattle.std.specs.Io.KnownBytes.{Appends}
+use Rattle.pn_line.specs.Sent.{AppendsPrefix}
+use Rattle.pn_protocol.specs.Reply.Short.{served_line}
+use Rattle.pn_serve.specs.declared.server.fault.ServeFault.{ServeFault}
+use Rattle.pn_serve.specs.declared.server.fault.ServeFault.TheVariants.{Write}
+use Rattle.pn_serve.proofs.ServedStreams.{serving_ends, of_sessions, of_sessions_in_part, err_first, ok_err_first}
+use Rattle.pn_serve.proofs.server.serve.Goals as goal
+
+pub returns-clause-ends : goal.returns-clause-ends
+returns-clause-ends g c =
+    serving_ends g.S.Source.left c.args.streams.items c.args.settings.layout c.serve_region-served.result c.conclude.result c.serve_region-served.ensures.ends
+    (err_first c.serve_region-served.result (λ fault. c.conclude.result ≡ Err fault) (c.conclude.new.out ≡ c.args.out.now) c.conclude.ensures.fault)
+    (ok_err_first c.serve_region-served.result c.conclude.result (λ fault. fault ≡ Write) g.W.Sink.may_fail c.conclude.ensures.write)
+
+pub returns-clause-served : goal.returns-clause-served
+returns-clause-served g c =
+    of_sessions c.args.sessions (λ n. Appends (g.W.Sink.contents c.args.out.now) (g.W.Sink.contents c.conclude.new.out) (served_line n))
+    c.serve_region-served.result c.conclude.result c.serve_region-served.ensures.count c.conclude.ensures.all c.conclude.ensures.ok
+
+pub returns-clause-part : goal.returns-clause-part
+returns-clause-part g c =
+    of_sessions_in_part c.args.sessions (λ n. AppendsPrefix (g.W.Sink.contents c.args.out.now) (g.W.Sink.contents c.conclude.new.out) (served_line n))
+    c.serve_region-served.result c.conclude.result c.serve_region-served.ensures.count c.serve_region-served.ensures.fault
+    (err_first c.serve_region-served.result (λ fault. c.conclude.result ≡ Err fault) (c.conclude.new.out ≡ c.args.out.now) c.conclude.ensures.fault) c.conclude.ensures.err
