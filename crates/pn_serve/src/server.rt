@@ -68,6 +68,7 @@ where
     ensures silent { IfErr result (λ fault. fault ≢ ServeFault.Write → Keeps (W.contents out.old) (W.contents out.new)) }
     ensures part { IsErrOf result ServeFault.Write → AppendsPrefix (W.contents out.old) (W.contents out.new) (served_line sessions) }
     ensures write { IsErrOf result ServeFault.Write → W.may_fail }
+    ensures handed_on { OnOk result (W.is_handed_on out.new) }
 {
     let served = serve_region(rt, alloc, listener, settings, sessions, streams);
     conclude(served, out)
@@ -80,6 +81,7 @@ fn conclude<W: Sink>(served: Result<usize, ServeFault>, out: &mut W) -> Result<(
     ensures ok { IfOk served (λ count. OnOk result (Appends (W.contents out.old) (W.contents out.new) (served_line count))) }
     ensures err { IfOk served (λ count. OnErr result (AppendsPrefix (W.contents out.old) (W.contents out.new) (served_line count))) }
     ensures write { OnOk served (IfErr result (λ fault. (fault ≡ ServeFault.Write) × W.may_fail)) }
+    ensures handed_on { OnOk result (W.is_handed_on out.new) }
 {
     match served {
         Ok(count) => write_served(out, count),
@@ -229,6 +231,7 @@ fn write_served<W: Sink>(out: &mut W, sessions: usize) -> Result<(), ServeFault>
     ensures ok { OnOk result (Appends (W.contents out.old) (W.contents out.new) (served_line sessions)) }
     ensures err { OnErr result (AppendsPrefix (W.contents out.old) (W.contents out.new) (served_line sessions)) }
     ensures fault { IfErr result (λ fault. (fault ≡ ServeFault.Write) × W.may_fail) }
+    ensures handed_on { OnOk result (W.is_handed_on out.new) }
 {
     let line = served_reply(sessions);
     match send_line(out, line.as_bytes()) {
@@ -242,6 +245,7 @@ fn send_line<W: Sink>(out: &mut W, line: &[u8]) -> Result<(), WriteFault>
     ensures ok { OnOk result (Appends (W.contents out.old) (W.contents out.new) line.now) }
     ensures err { OnErr result (AppendsPrefix (W.contents out.old) (W.contents out.new) line.now) }
     ensures fault { OnErr result W.may_fail }
+    ensures handed_on { OnOk result (W.is_handed_on out.new) }
 {
     write_all_of(out, line)?;
     out.hand_on()
