@@ -28,7 +28,7 @@ use crate::server::streams::{Feeding, Feeds, Reading, begin_reading, end_reading
 pub use fault::ServeFault;
 use pn_join::{Marks, NoMemory};
 use pn_line::{Sink, Source, WriteFault, write_all_of};
-use pn_live::{LiveReader, LiveRegion, OpenFault};
+use pn_live::{LiveReader, LiveRegion};
 use pn_protocol::served_reply;
 use pn_region::Region;
 use pn_stream::StreamReader;
@@ -107,9 +107,7 @@ where
     ensures count { IfOk result (λ count. count ≡ sessions) }
 {
     let Settings { layout, workers } = settings;
-    let Ok((live, readers)) = open(rt, alloc, layout, sessions) else {
-        return Err(ServeFault::Start);
-    };
+    let (live, readers) = open(rt, alloc, layout, sessions)?;
     let mut opened = Opened { live, readers };
     let served = serve_all(rt, alloc, listener, &mut opened, workers, streams);
     let Opened { live, readers } = opened;
@@ -124,13 +122,17 @@ fn open<R: Wait>(
     alloc: Global,
     layout: Layout,
     readers: usize,
-) -> Result<(LiveRegion, Vec<LiveReader>), OpenFault>
+) -> Result<(LiveRegion, Vec<LiveReader>), ServeFault>
     requires { (1 ≤ readers) × (readers ≤ max_readers) }
     ensures is_new { IfOk result (λ opened. IsNewLive layout opened.0) }
     ensures own { IfOk result (λ opened. AllRead (tablets_in opened.0) opened.1.items) }
     ensures count { IfOk result (λ opened. vec_len opened.1 ≡ readers) }
+    ensures fault { IfErr result (λ fault. fault ≡ ServeFault.Start) }
 {
-    LiveRegion::open(rt, alloc, layout, readers)
+    match LiveRegion::open(rt, alloc, layout, readers) {
+        Ok(opened) => Ok(opened),
+        Err(_) => Err(ServeFault::Start),
+    }
 }
 
 // Closes a live region, whose readers came back.
@@ -174,9 +176,7 @@ where
     ensures all { OnOk result (vec_len opened.new.readers ≡ vec_len opened.old.readers) }
     ensures ends { EndsReading S.left streams.items opened.old.live opened.new.live result }
 {
-    let Ok(reading) = begin_reading(rt, alloc, streams) else {
-        return Err(ServeFault::Start);
-    };
+    let reading = begin_reading(rt, alloc, streams)?;
     let StartedSessions {
         running,
         is_refused,
@@ -215,7 +215,7 @@ fn take_all<R: Threads + Wait + Sync>(
     is_refused: bool,
 ) -> Result<(), ServeFault>
     requires workers { (1 ≤ workers) × (workers ≤ max_workers) }
-    ensures refused { IsTrue is_refused → result ≡ Err ServeFault.Start }
+    ensures refused { IsTrue is_refused → (result ≡ Err ServeFault.Start) × (live.new ≡ live.old) }
     ensures reads { IsFalse is_refused → ReadsStreams (vec_len feeds.now.places) live.old live.new result }
     ensures named { IsFalse is_refused → IfErr result (IsOfRounds (map (λ place. place.name) feeds.now.places.items)) }
     ensures same { tablets_in live.new ≡ tablets_in live.old }

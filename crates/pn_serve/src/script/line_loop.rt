@@ -18,7 +18,7 @@ use crate::script::MAX_LINES;
 use crate::script::blocks::Blocks;
 use crate::{Counts, RunFault};
 use pn_join::NoMemory;
-use pn_line::{LineBuffer, LineEnd, Sink, Source, WriteFault, read_line};
+use pn_line::{ENDLESS, LineBuffer, LineEnd, Sink, Source, WriteFault, read_line};
 use pn_protocol::{Reply, adopted_reply, changed_reply, lines_reply, lost_reply, refusal_reply};
 use std::alloc::Global;
 use std::marker::Model;
@@ -99,6 +99,7 @@ impl LineLoop {
     {
         self.line.start();
         let Ok(end) = read_line(&mut self.line, input) else {
+            prove!(self.line.len() <= ENDLESS);
             self.blocks.flush(output)?;
             return Err(RunFault::Read);
         };
