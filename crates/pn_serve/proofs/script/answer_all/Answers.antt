@@ -42,4 +42,4 @@ pub returns-clause-knows : goal.returns-clause-knows
 returns-clause-knows g c = knows_on _ _ _ c.turns.invariant.knows c.finish.ensures.knows
 
 pub returns-in_err-turn-clause-out : goal.returns-in_err-turn-clause-out
-returns-in_err-turn-clause-out g c = hands_on_still {A = Next} _ _ _ c.from_residual.ensures.1 (c.in_err-turn.ensures.ends_out (λ same. cc))
+returns-in_err-turn-clause-out g c = hands_on_still Next _ _ _ c.from_residual.ensures.1 (c.in_err-turn.ensures.ends_out (λ same. cc))
