@@ -3,6 +3,7 @@
 from __future__ import annotations
 
 import os
+import signal
 import subprocess
 import sys
 import time
@@ -73,7 +74,8 @@ class Processes:
     def start(self, name: str, command: Sequence[str | os.PathLike[str]], environment: dict[str, str] | None = None) -> subprocess.Popen[bytes]:
         """Starts a program. What it says goes to the file of its name."""
         with open(said_by(name), "ab") as said:
-            program = subprocess.Popen(command, stdin=subprocess.DEVNULL, stdout=said, stderr=said, env={**os.environ, **(environment or {})})
+            streams = {"stdin": subprocess.DEVNULL, "stdout": said, "stderr": said}
+            program = subprocess.Popen(command, **streams, env={**os.environ, **(environment or {})}, start_new_session=True)
         self._stay.callback(end, program)
         return program
 
@@ -90,5 +92,10 @@ def end(program: subprocess.Popen[bytes]) -> None:
         try:
             program.wait(5)
         except subprocess.TimeoutExpired:
-            program.kill()
+            kill(program)
+
+
+def kill(program: subprocess.Popen[bytes]) -> None:
+    """Kills a program that runs, and all that it has started."""
+    os.killpg(program.pid, signal.SIGKILL)
     program.wait()
