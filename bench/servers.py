@@ -16,9 +16,9 @@ def build_c(source: pathlib.Path, program: pathlib.Path) -> None:
 class Server:
     """A process that serves sessions, which is ended with the block. It is ready once a line of its output has the word."""
 
-    def __init__(self, command: Sequence[str], port: int, word: bytes = b"listening") -> None:
+    def __init__(self, command: Sequence[str], port: int, word: bytes = b"listening", errors: int | None = None) -> None:
         self.port, self.word = port, word
-        self.process = subprocess.Popen(command, stdin=subprocess.DEVNULL, stdout=subprocess.PIPE)
+        self.process = subprocess.Popen(command, stdin=subprocess.DEVNULL, stdout=subprocess.PIPE, stderr=errors)
 
     def __enter__(self) -> "Server":
         if not any(self.word in line for line in self.process.stdout):
