@@ -24,7 +24,8 @@ CHUNK = 1 << 16
 # How many messages a feed writes at a time.
 PART = 100
 PAGE = b'{"do":"scan","query":{"limit":1000}}\n'
-READ = re.compile(rb'\{"row":(?:null|\{"contents":\[\{"fields":\{.*\},"master":"w"\}\],"key":"(k\d+)","state":"one","version":\[1,(\d+)\]\})\}\n')
+ROW = rb'\{"contents":\[\{"fields":\{.*\},"master":"w"\}\],"key":"(k\d+)","state":"one","version":\[1,(\d+)\]\}'
+READ = re.compile(rb'\{"row":(?:null|%b)\}\n' % ROW)
 
 
 def raise_descriptors() -> None:
@@ -56,7 +57,15 @@ def until(what: str, holds: Callable[[], object], seconds: float = SECONDS) -> N
 class Staying:
     """A program that serves until it is killed; what it says goes to a file. Its streams are names and paths."""
 
-    def __init__(self, program: str, room: str, streams: Sequence[tuple[str, str]], *words: str, threads: int = 4, errors: BinaryIO | int | None = None) -> None:
+    def __init__(
+        self,
+        program: str,
+        room: str,
+        streams: Sequence[tuple[str, str]],
+        *words: str,
+        threads: int = 4,
+        errors: BinaryIO | int | None = None,
+    ) -> None:
         pipes = {"stdin": subprocess.DEVNULL, "stdout": subprocess.PIPE}
         self.port, self.room = free_port(), room
         self.errors = os.path.join(room, f"errors-{self.port}")
@@ -100,7 +109,7 @@ class Staying:
 
 
 class Beside:
-    """Work in a process of its own, until the block ends. The work takes a flag that tells it to stop. It fails where the work does."""
+    """Work in a process of its own, which asks whether it is over, until the block ends. It fails where the work does."""
 
     def __init__(self, work: Callable[..., None], *told: object) -> None:
         self.stop, self.is_killed = FORK.Event(), False

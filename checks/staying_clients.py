@@ -1,6 +1,7 @@
 """Thousands of clients of a program that stays, among them some that misbehave: parts of checks/stay."""
 import contextlib
 import itertools
+import os
 import random
 import socket
 import statistics
@@ -10,7 +11,6 @@ from collections.abc import Callable
 
 from served import SECONDS, Client, same, written
 from staying import CHUNK, KEYS, PAGE, Beside, Staying, Swarm, feed, key_of, messages, until
-import os
 
 IDLE, BUSY, TURNS = 10_000, 256, 20_000
 IDLE_KB, LEAK_KB = 4, 1_024
@@ -28,9 +28,11 @@ def fed(room: str) -> str:
 
 
 def check_idle(program: str, room: str) -> None:
-    """10,000 idle connections, of which most have asked or sent half a line, beside 256 busy ones: they cost little, and are still answered."""
+    """10,000 idle connections, most of which asked or sent half a line, beside 256 busy ones: they cost little, and are answered."""
     path = fed(room)
-    with Beside(feed, path, 2_000), Staying(program, room, [("east", path)], "--connections", "65536") as region, contextlib.ExitStack() as stay:
+    with contextlib.ExitStack() as stay:
+        stay.enter_context(Beside(feed, path, 2_000))
+        region = stay.enter_context(Staying(program, room, [("east", path)], "--connections", "65536"))
         swarm = stay.enter_context(Swarm(region.port, BUSY))
         alone, before = swarm.run_for(2), region.memory()
         idle = [stay.enter_context(Client(region.port)) for _ in range(IDLE)]
@@ -43,7 +45,8 @@ def check_idle(program: str, room: str) -> None:
         for at, client in enumerate(idle):
             client.send(PAGE[20:] if at % 3 == 2 else PAGE)
             same("what an idle one is answered", client.reply()[:9], b'{"next":n')
-        print(f"  {IDLE:,} idle connections cost {each:.2f} KB each; {BUSY} busy ones have {beside:,.0f} replies a second, and {alone:,.0f} without them")
+        print(f"  {IDLE:,} idle connections cost {each:.2f} KB each")
+        print(f"  {BUSY} busy ones have {beside:,.0f} replies a second, and {alone:,.0f} without them")
 
 
 def check_one_after_another(program: str, room: str) -> None:
@@ -86,9 +89,10 @@ def check_versions(program: str, room: str) -> None:
         path = os.path.join(room, f"fifo-{threads}")
         os.mkfifo(path)
         streams, words = [("east", path)], ["--bounds", '["k050"]', "--workers", "2"]
-        with Beside(feed, path, 20_000), Staying(program, room, streams, *words, threads=threads) as region, Swarm(region.port, 128, threads == 1) as swarm:
-            rate = swarm.run_for(4)
-            newest = max(max(asker.shown.values()) for asker in swarm.askers.values())
+        with Beside(feed, path, 20_000), Staying(program, room, streams, *words, threads=threads) as region:
+            with Swarm(region.port, 128, is_one_thread=threads == 1) as swarm:
+                rate = swarm.run_for(4)
+                newest = max(max(asker.shown.values()) for asker in swarm.askers.values())
             same("messages came meanwhile", newest > 10, True)
             print(f"  {threads} threads: {rate:,.0f} replies a second, while each key had {newest} versions")
 
@@ -192,15 +196,16 @@ def last_of_hundred(swarm: Swarm, seconds: float) -> float:
 
 
 def check_misbehaving(program: str, room: str) -> None:
-    """Clients that never read, never end their lines, reset or flood, beside honest ones: these are answered as before, and memory stays small."""
+    """Clients that never read, never end a line, reset or flood: honest ones are answered as before, and memory stays small."""
     east = written(room, "east", messages(1, 1_000, "x" * 20))
     lines = b'{"do":"read","key":"k000"}\n'
     with Staying(program, room, [("east", east)]) as region, Swarm(region.port, 16) as swarm, contextlib.ExitStack() as stay:
         last_of_hundred(swarm, 1)
         alone, before = [last_of_hundred(swarm, 2) for _ in range(3)], region.memory()
-        works = [Beside(flood, region.port, lines) for _ in range(FLOODING)] + [Beside(work, region.port) for work in (never_read, send_half_lines, reset)]
-        for work in works:
-            stay.enter_context(work)
+        for work in [never_read, send_half_lines, reset]:
+            stay.enter_context(Beside(work, region.port))
+        for _ in range(FLOODING):
+            stay.enter_context(Beside(flood, region.port, lines))
         beside = [last_of_hundred(swarm, 2) for _ in range(3)]
         grown = region.memory() - before
         most = NEVER_READING * WAITING_KB + HALF_LINES // 10 * WAITING_KB + LEAK_KB
@@ -210,7 +215,7 @@ def check_misbehaving(program: str, room: str) -> None:
 
 
 def check_silent(program: str, room: str) -> None:
-    """With --idle, clients that send nothing or half a line, or take nothing, are ended; those that ask or take now and then are not."""
+    """With --idle, clients that send nothing or half a line, or take nothing, are ended; those that ask or take are not."""
     east = written(room, "east", messages(1, 1_000, "x" * 1_000))
     with Staying(program, room, [("east", east)], "--idle", "1") as region, contextlib.ExitStack() as stay:
         silent, half, deaf, slow, honest = (stay.enter_context(Client(region.port)) for _ in range(5))

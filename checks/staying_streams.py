@@ -29,7 +29,7 @@ def cut(stream: bytes) -> bytes:
 
 
 def check_killed_writers(program: str, room: str) -> None:
-    """A FIFO's writer dies in the middle of a line, twenty times under load: no client is shown less, and in the end all is there."""
+    """A FIFO's writer dies in the middle of a line, twenty times under load: nobody is shown less, and in the end all is there."""
     path, ended = os.path.join(room, "east"), b"pnuts: stream east ended\n"
     os.mkfifo(path)
     streams = {"east": messages(1, MESSAGES), "west": messages(1, MESSAGES // 2, "y")}

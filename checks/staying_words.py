@@ -45,7 +45,7 @@ def fails_to_listen(program: str, east: str, *words: str) -> None:
 
 
 def check_addresses(program: str, room: str) -> None:
-    """Over IPv6 and over an address of IPv4, with and without --stay; one that is not this machine's is refused, and no name is one."""
+    """Over IPv6 and an address of IPv4, with and without --stay. One that is not this machine's is refused, and no name is one."""
     east = written(room, "east", messages(1, KEYS))
     for address, shown in {"::1": b"[::1]", "127.0.0.2": b"127.0.0.2"}.items():
         with Staying(program, room, [("east", east)], "--listen", address) as region:
@@ -69,7 +69,7 @@ def check_addresses(program: str, room: str) -> None:
 
 
 def check_unix_socket(program: str, room: str) -> None:
-    """The mode of the socket's file, a stale one, one that is in use, a file that is none; it is removed where the program ends by itself."""
+    """The socket's mode, a stale one, one in use, a file that is none; it is removed where the program ends by itself."""
     east, path, plain = written(room, "east", messages(1, KEYS)), os.path.join(room, "socket"), written(room, "plain", b"x")
     old = os.umask(UMASK)
     try:
@@ -112,7 +112,7 @@ def serves_and_ends(program: str, east: str, path: str) -> None:
 
 
 def check_progress_to_a_file(program: str, room: str) -> None:
-    """With --progress a line a second, of each stream's position among others, while something changes, and none while nothing does."""
+    """With --progress a line a second while something changes, with each stream's position, and none while nothing does."""
     (path, pipe), west = fifo(room, "east"), written(room, "west", messages(1, KEYS))
     with Staying(program, room, [("east", path), ("west", west)], "--progress") as region, pipe:
         start, at = time.monotonic(), 0
@@ -123,7 +123,8 @@ def check_progress_to_a_file(program: str, room: str) -> None:
         time.sleep(1.5)
         lines = [line for line in region.said().decode().splitlines(keepends=True) if "east" in line and "ended" not in line]
         same(f"{len(lines)} lines in 4 seconds are one a second", 3 <= len(lines) <= 6, True)
-        same("each is a line without control characters", [line for line in lines if not line.endswith("\n") or re.search(r"[\r\x1b\x08]", line)], [])
+        same("lines with control characters", [line for line in lines if re.search(r"[\r\x1b\x08]", line)], [])
+        same("the end of the last line", lines[-1][-1:], "\n")
         same(f"the last has the position {at}: {lines[-1]}", bool(re.search(rf"\b{at:,}\b|\b{at}\b", lines[-1])), True)
         before = region.said()
         time.sleep(2.5)

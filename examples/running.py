@@ -3,6 +3,7 @@
 from __future__ import annotations
 
 import os
+import shutil
 import signal
 import subprocess
 import sys
@@ -12,6 +13,7 @@ from contextlib import ExitStack
 from pathlib import Path
 from types import TracebackType
 
+Word = str | os.PathLike[str]
 TOP = Path(__file__).resolve().parents[1]
 FEEDS = TOP / "feeds"
 CLIENT = TOP / "clients/python/src"
@@ -43,7 +45,7 @@ def as_other_user(command: Sequence[str]) -> list[str]:
 
 def needs(*programs: str) -> None:
     """Ends this program where one of these is missing."""
-    missing = [program for program in programs if not any(os.access(Path(folder, program), os.X_OK) for folder in os.get_exec_path())]
+    missing = [program for program in programs if not shutil.which(program, path=":".join(os.get_exec_path()))]
     if missing:
         print(f"{sys.argv[0]}: missing: {', '.join(missing)}", file=sys.stderr)
         sys.exit(2)
@@ -71,7 +73,7 @@ class Processes:
     def __exit__(self, kind: type[BaseException] | None, fault: BaseException | None, trace: TracebackType | None) -> None:
         self._stay.close()
 
-    def start(self, name: str, command: Sequence[str | os.PathLike[str]], environment: dict[str, str] | None = None) -> subprocess.Popen[bytes]:
+    def start(self, name: str, command: Sequence[Word], environment: dict[str, str] | None = None) -> subprocess.Popen[bytes]:
         """Starts a program. What it says goes to the file of its name."""
         with open(said_by(name), "ab") as said:
             streams = {"stdin": subprocess.DEVNULL, "stdout": said, "stderr": said}

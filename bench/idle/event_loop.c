@@ -1,4 +1,4 @@
-// A server that looks at nothing, over event loops: it answers each line with the same reply. Threads share its connections in turn.
+// A server that looks at nothing, over event loops: it answers each line with the same reply. Connections go to its threads in turn.
 // What it takes for a line is what an event loop, a read and a write of a socket cost at least.
 #include <arpa/inet.h>
 #include <errno.h>
