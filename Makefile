@@ -37,8 +37,8 @@ STAGE ?= notices
 SOAK ?= 60
 SECONDS ?= 240
 
-.PHONY: run test edits build install uninstall deb bench bench-beside checks checks-client checks-feeds checks-install \
-	races fuzz definitions rows toolchain
+.PHONY: run test edits build install uninstall deb bench bench-beside checks checks-client checks-feeds checks-brokers \
+	checks-install pictures races fuzz definitions rows toolchain
 
 # Shows the program at work: the replies to the script on standard output. It proves nothing. A program that is current answers
 # at once; otherwise one is built, in about two minutes, and kept.
@@ -79,18 +79,20 @@ bench: build
 	bench/instructions "$(PROGRAM)"; \
 	exit $$status
 
-# Measures the built program beside a plain Rust program and a server that does nothing.
+# Measures the built program beside a plain Rust program and servers that do nothing, and one that stays beside Redis.
 bench-beside: build
 	@bench/beside "$(PROGRAM)"
+	@bench/stay "$(PROGRAM)"
 
-# Brings the built program to each of its ends; talks to its sessions, and misbehaves; refuses each of its allocations in turn, and
-# all memory; lets each of its reads and writes fail; cuts and damages what it is given; and compares its replies to random scripts
-# with those of a plain, slow program, and what it reads with what serde_json reads.
+# Brings the built program to each of its ends; talks to its sessions, and misbehaves, where it stays by the thousand; refuses each
+# of its allocations in turn, and all memory; lets each of its reads and writes fail; cuts and damages what it is given; and compares
+# its replies to random scripts with those of a plain, slow program, and what it reads with what serde_json reads.
 checks: build
 	@cd crates/test_rows && rt run < stdin > /dev/null
 	@cd crates/test_live && rt test > /dev/null
 	@checks/exit-statuses "$(PROGRAM)"
 	@checks/sessions "$(PROGRAM)"
+	@checks/stay "$(PROGRAM)"
 	@checks/live-copies "$(PROGRAM)"
 	@checks/out-of-memory "$(PROGRAM)" "$(LIVE)"
 	@checks/memory-limit "$(PROGRAM)"
@@ -116,6 +118,17 @@ checks-client: build
 # Tests the feeds against brokers that are started for it; those that are missing are skipped.
 checks-feeds:
 	@feeds/test
+
+# Tests the feeds, and runs both examples with real brokers, a database and proxies. Debian's packages: redis-server python3-redis
+# python3-hiredis rabbitmq-server python3-pika postgresql python3-psycopg2 haproxy openssl iproute2 util-linux.
+# What misses one of them says so, and is skipped.
+checks-brokers: build checks-feeds
+	@for it in postgres regions; do "examples/$$it/demo" --program "$(PROGRAM)" || [[ $$? == 2 ]]; done
+
+# Draws the pictures of docs/pictures. It needs Debian's graphviz and gnuplot-nox.
+pictures:
+	@cd docs/pictures; for it in *.dot; do dot -Tsvg -o "$${it%.dot}.svg" "$$it"; done
+	@cd docs/pictures; for it in *.gnuplot; do gnuplot "$$it" > "$${it%.gnuplot}.svg"; done
 
 # Installs and removes the program, and its Debian package in a system that is made for it. It needs root and the network.
 checks-install: $(PROVED)

@@ -1,0 +1,35 @@
+"""Servers that the benches measure beside one another, and their processor time."""
+import os
+import pathlib
+import subprocess
+from collections.abc import Sequence
+
+TICKS = os.sysconf("SC_CLK_TCK")
+OPTIONS = ["-std=c11", "-D_GNU_SOURCE", "-O2", "-Wall", "-Wextra", "-Wconversion", "-Wshadow", "-Werror", "-pthread"]
+
+
+def build_c(source: pathlib.Path, program: pathlib.Path) -> None:
+    program.parent.mkdir(parents=True, exist_ok=True)
+    subprocess.run(["cc", *OPTIONS, "-o", str(program), str(source)], check=True)
+
+
+class Server:
+    """A process that serves sessions, which is ended with the block. It is ready once a line of its output has the word."""
+
+    def __init__(self, command: Sequence[str], port: int, word: bytes = b"listening", errors: int | None = None) -> None:
+        self.port, self.word = port, word
+        self.process = subprocess.Popen(command, stdin=subprocess.DEVNULL, stdout=subprocess.PIPE, stderr=errors)
+
+    def __enter__(self) -> "Server":
+        if not any(self.word in line for line in self.process.stdout):
+            raise ChildProcessError(f"{self.process.args[0]} does not listen")
+        return self
+
+    def __exit__(self, *_: object) -> None:
+        self.process.kill()
+        self.process.wait()
+        self.process.stdout.close()
+
+    def processor_seconds(self) -> float:
+        fields = pathlib.Path(f"/proc/{self.process.pid}/stat").read_text().rpartition(")")[2].split()
+        return (int(fields[11]) + int(fields[12])) / TICKS

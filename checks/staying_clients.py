@@ -1,0 +1,249 @@
+"""Thousands of clients of a program that stays, among them some that misbehave: parts of checks/stay."""
+import contextlib
+import itertools
+import os
+import random
+import socket
+import statistics
+import struct
+import time
+from collections.abc import Callable
+
+from served import SECONDS, Client, same, written
+from staying import CHUNK, KEYS, PAGE, Beside, Staying, Swarm, feed, key_of, messages, until
+
+IDLE, BUSY, TURNS = 10_000, 256, 20_000
+IDLE_KB, LEAK_KB = 4, 1_024
+NEVER_READING, HALF_LINES, FLOODING = 200, 200, 4
+# What a client that reads nothing may cost: an outbox of 64 KB and a page, with what its socket's two buffers do not count for.
+WAITING_KB = 64 + 16
+SLOWER = 5
+RESET = struct.pack("ii", 1, 0)
+
+
+def fed(room: str) -> str:
+    path = os.path.join(room, "east")
+    os.mkfifo(path)
+    return path
+
+
+def check_idle(program: str, room: str) -> None:
+    """10,000 idle connections, most of which asked or sent half a line, beside 256 busy ones: they cost little, and are answered."""
+    path = fed(room)
+    with contextlib.ExitStack() as stay:
+        stay.enter_context(Beside(feed, path, 2_000))
+        region = stay.enter_context(Staying(program, room, [("east", path)], "--connections", "65536"))
+        swarm = stay.enter_context(Swarm(region.port, BUSY))
+        alone, before = swarm.run_for(2), region.memory()
+        idle = [stay.enter_context(Client(region.port)) for _ in range(IDLE)]
+        for at, client in enumerate(idle):
+            client.send([b"", PAGE, PAGE[:20]][at % 3])
+            if at % 3 == 1:
+                client.reply()
+        beside, each = swarm.run_for(4), (region.memory() - before) / IDLE
+        same(f"an idle connection costs {each:.2f} KB, which is little enough", each < IDLE_KB, True)
+        for at, client in enumerate(idle):
+            client.send(PAGE[20:] if at % 3 == 2 else PAGE)
+            same("what an idle one is answered", client.reply()[:9], b'{"next":n')
+        print(f"  {IDLE:,} idle connections cost {each:.2f} KB each")
+        print(f"  {BUSY} busy ones have {beside:,.0f} replies a second, and {alone:,.0f} without them")
+
+
+def check_one_after_another(program: str, room: str) -> None:
+    """20,000 connections, of one thread and of four: what one was shown the next is shown too, and nothing is left of them."""
+    path = fed(room)
+    with Beside(feed, path, 2_000), Staying(program, room, [("east", path)], threads=1) as region:
+        shown = dict.fromkeys(map(key_of, range(KEYS)), -1)
+        for key in itertools.islice(itertools.cycle(shown), TURNS // 4):
+            with Client(region.port) as client:
+                row = client.read(key)["row"]
+                number = row["version"][1] if row else -1
+                same(f"{key} is as new as it was shown before", number >= shown[key], True)
+                shown[key] = number
+    east = written(room, "file", messages(1, KEYS))
+    with Staying(program, room, [("east", east)], threads=4) as region:
+        descriptors = region.descriptors()
+        turn_over(region.port, TURNS // 10)
+        before = region.memory()
+        turn_over(region.port, TURNS)
+        region.wait_for_descriptors(descriptors)
+        grown = region.memory() - before
+        same(f"{TURNS:,} connections left {grown} KB, which is little enough", grown < LEAK_KB, True)
+        print(f"  {TURNS:,} connections left {grown} KB and no descriptor")
+
+
+def turn_over(port: int, count: int) -> None:
+    """Connections that read once and go, or send half a line and go, or go at once."""
+    for at in range(count):
+        with socket.create_connection(("127.0.0.1", port), timeout=SECONDS) as connection:
+            if at % 4 == 0:
+                connection.sendall(PAGE[: at % len(PAGE)])
+            elif at % 4 != 1:
+                connection.sendall(b'{"do":"read","key":"k000"}\n')
+                same("the reply", connection.recv(CHUNK)[:8], b'{"row":{')
+
+
+def check_versions(program: str, room: str) -> None:
+    """Beside a stream that loads, nothing that a connection was shown becomes older; on one thread that holds over connections."""
+    for threads in (1, 4):
+        path = os.path.join(room, f"fifo-{threads}")
+        os.mkfifo(path)
+        streams, words = [("east", path)], ["--bounds", '["k050"]', "--workers", "2"]
+        with Beside(feed, path, 20_000), Staying(program, room, streams, *words, threads=threads) as region:
+            with Swarm(region.port, 128, is_one_thread=threads == 1) as swarm:
+                rate = swarm.run_for(4)
+                newest = max(max(asker.shown.values()) for asker in swarm.askers.values())
+            same("messages came meanwhile", newest > 10, True)
+            print(f"  {threads} threads: {rate:,.0f} replies a second, while each key had {newest} versions")
+
+
+def check_backlog(program: str, room: str) -> None:
+    """A connection too many waits until another one ends."""
+    east = written(room, "east", messages(1, KEYS))
+    with Staying(program, room, [("east", east)], "--connections", "3") as region:
+        first = [Client(region.port) for _ in range(3)]
+        for client in first:
+            same("the row of one within the limit", client.read("k000")["row"]["key"], "k000")
+        with Client(region.port) as late:
+            late.send(PAGE)
+            late.socket.settimeout(0.5)
+            with contextlib.suppress(TimeoutError):
+                raise AssertionError(f"one connection too many is answered: {late.socket.recv(CHUNK)[:100]!r}")
+            first.pop().__exit__()
+            late.socket.settimeout(SECONDS)
+            same("the page of the one that waited", late.socket.recv(CHUNK)[:9], b'{"next":n')
+            for client in first:
+                same("the row of one that stayed", client.read("k001")["row"]["key"], "k001")
+                client.__exit__()
+
+
+def check_last_line(program: str, room: str) -> None:
+    """A connection has a million lines, as a session has; its client begins another."""
+    east = written(room, "east", b"")
+    with Staying(program, room, [("east", east)]) as region:
+        with Beside(flood, region.port, b"{}\n", 1_000_200), Client(region.port) as client:
+            same("the first reply of another connection", client.read("k"), {"row": None})
+            flood(lambda: False, region.port, b"{}\n", 1_000_200)
+        with Client(region.port) as client:
+            same("the first reply of the next one", client.read("k"), {"row": None})
+
+
+def flood(is_over: Callable[[], bool], port: int, line: bytes, most: int = 0) -> None:
+    """Sends lines as fast as they are taken, and reads all replies; with `most`, the connection ends after a million of them."""
+    with socket.create_connection(("127.0.0.1", port), timeout=SECONDS) as connection:
+        connection.setblocking(False)
+        lines, left, replies, sent = line * 1_000, memoryview(b""), 0, 0
+        while not is_over():
+            with contextlib.suppress(BlockingIOError, BrokenPipeError, ConnectionResetError):
+                if not left and (not most or sent < most):
+                    left, sent = memoryview(lines), sent + 1_000
+                left = left[connection.send(left) :]
+            try:
+                came = connection.recv(CHUNK)
+            except BlockingIOError:
+                time.sleep(0.0005)
+                continue
+            except ConnectionResetError:
+                came = b""
+            replies += came.count(b"\n")
+            if not came:
+                break
+        if most:
+            same("how many lines of a connection are answered", replies, 1_000_000)
+
+
+def never_read(is_over: Callable[[], bool], port: int) -> None:
+    """Clients that send pages until no more is taken, and read nothing."""
+    with contextlib.ExitStack() as stay:
+        clients = [stay.enter_context(socket.create_connection(("127.0.0.1", port))) for _ in range(NEVER_READING)]
+        for client in clients:
+            client.setblocking(False)
+        while not is_over():
+            for client in clients:
+                with contextlib.suppress(BlockingIOError):
+                    client.send(PAGE * 100)
+            time.sleep(0.1)
+
+
+def send_half_lines(is_over: Callable[[], bool], port: int) -> None:
+    """Clients whose lines never end, of which some are long."""
+    with contextlib.ExitStack() as stay:
+        clients = [stay.enter_context(socket.create_connection(("127.0.0.1", port))) for _ in range(HALF_LINES)]
+        for at, client in enumerate(clients):
+            client.sendall(PAGE + PAGE[:10] + b" " * (60_000 if at % 10 == 0 else at))
+        while not is_over():
+            for client in random.sample(clients, 20):
+                client.sendall(b" ")
+            time.sleep(0.02)
+
+
+def reset(is_over: Callable[[], bool], port: int) -> None:
+    """Clients that ask, and reset their connections before they were answered, or while they are."""
+    while not is_over():
+        with contextlib.suppress(OSError), socket.create_connection(("127.0.0.1", port)) as client:
+            client.sendall(PAGE * random.randrange(1, 20))
+            if random.random() < 0.5:
+                client.recv(1_000)
+            client.setsockopt(socket.SOL_SOCKET, socket.SO_LINGER, RESET)
+        time.sleep(0.002)
+
+
+def last_of_hundred(swarm: Swarm, seconds: float) -> float:
+    """The 99th percentile of the time of a reply, in milliseconds."""
+    swarm.took.clear()
+    swarm.run_for(seconds)
+    return statistics.quantiles(swarm.took, n=100)[98] * 1e3
+
+
+def check_misbehaving(program: str, room: str) -> None:
+    """Clients that never read, never end a line, reset or flood: honest ones are answered as before, and memory stays small."""
+    east = written(room, "east", messages(1, 1_000, "x" * 20))
+    lines = b'{"do":"read","key":"k000"}\n'
+    with Staying(program, room, [("east", east)]) as region, Swarm(region.port, 16) as swarm, contextlib.ExitStack() as stay:
+        last_of_hundred(swarm, 1)
+        alone, before = [last_of_hundred(swarm, 2) for _ in range(3)], region.memory()
+        for work in [never_read, send_half_lines, reset]:
+            stay.enter_context(Beside(work, region.port))
+        for _ in range(FLOODING):
+            stay.enter_context(Beside(flood, region.port, lines))
+        beside = [last_of_hundred(swarm, 2) for _ in range(3)]
+        grown = region.memory() - before
+        most = NEVER_READING * WAITING_KB + HALF_LINES // 10 * WAITING_KB + LEAK_KB
+        print(f"  the 99th percentile of honest ones: {min(beside):.2f} ms, alone {min(alone):.2f} ms; {grown:,} KB more memory")
+        same(f"{grown} KB more are at most {most}", grown <= most, True)
+        same(f"{min(beside):.2f} ms are at most {SLOWER} times {min(alone):.2f}", min(beside) <= SLOWER * min(alone), True)
+
+
+def check_silent(program: str, room: str) -> None:
+    """With --idle, clients that send nothing or half a line, or take nothing, are ended; those that ask or take are not."""
+    east = written(room, "east", messages(1, 1_000, "x" * 1_000))
+    with Staying(program, room, [("east", east)], "--idle", "1") as region, contextlib.ExitStack() as stay:
+        silent, half, deaf, slow, honest = (stay.enter_context(Client(region.port)) for _ in range(5))
+        same("what the honest one is answered", honest.read("k000")["row"]["key"], "k000")
+        half.send(PAGE[:20])
+        deaf.socket.setblocking(False)
+        with contextlib.suppress(BlockingIOError):
+            for _ in range(10_000):
+                deaf.socket.send(PAGE * 100)
+        start, slowly = time.monotonic(), 0
+        slow.send(PAGE * 200)
+        while time.monotonic() < start + 4:
+            honest.read("k000")
+            slowly += len(slow.socket.recv(CHUNK * 8))
+            time.sleep(0.2)
+        same("what a silent one is sent", silent.reply(), b"")
+        same("what one with half a line is sent", half.reply(), b"")
+        same("the slow one was sent something", slowly > CHUNK, True)
+        until("one that takes nothing is ended", lambda: has_ended(deaf.socket), 5)
+
+
+def has_ended(connection: socket.socket) -> bool:
+    """Whether the other side has gone. What it has sent is read."""
+    try:
+        while connection.recv(CHUNK):
+            pass
+    except BlockingIOError:
+        return False
+    except ConnectionResetError:
+        pass
+    return True

@@ -1,0 +1,103 @@
+"""What the examples share: processes within namespaces of their own, whose memory holds all that they write."""
+
+from __future__ import annotations
+
+import os
+import shutil
+import signal
+import subprocess
+import sys
+import time
+from collections.abc import Callable, Sequence
+from contextlib import ExitStack
+from pathlib import Path
+from types import TracebackType
+
+Word = str | os.PathLike[str]
+TOP = Path(__file__).resolve().parents[1]
+FEEDS = TOP / "feeds"
+CLIENT = TOP / "clients/python/src"
+WITHIN = "PNUTS_EXAMPLE_IS_WITHIN"
+# Files of an example, of which none is left.
+ROOM = Path("/run")
+SECONDS = 60.0
+
+
+def enter() -> None:
+    """Starts this program again in namespaces of its own, where it is not yet: all within ends with it, however it ends."""
+    if os.environ.get(WITHIN):
+        for folder in (str(ROOM), "/dev/shm"):
+            subprocess.run(["mount", "-t", "tmpfs", "-o", "mode=1777", "none", folder], check=True)
+        subprocess.run(["ip", "link", "set", "lo", "up"], check=True)
+        return
+    user = [] if os.geteuid() == 0 else ["--user", "--map-root-user"]
+    command = ["unshare", *user, "--net", "--mount", "--pid", "--fork", "--kill-child", "--mount-proc", sys.executable, *sys.argv]
+    os.environ[WITHIN] = "root" if os.geteuid() == 0 else "user"
+    os.execvp(command[0], command)
+
+
+def as_other_user(command: Sequence[str]) -> list[str]:
+    """The command as another user than root, for programs that refuse root."""
+    if os.environ[WITHIN] == "root":
+        return ["setpriv", "--reuid=nobody", "--regid=nogroup", "--clear-groups", *command]
+    return ["unshare", "--user", "--map-user=1000", "--map-group=1000", *command]
+
+
+def needs(*programs: str) -> None:
+    """Ends this program where one of these is missing."""
+    missing = [program for program in programs if not shutil.which(program, path=":".join(os.get_exec_path()))]
+    if missing:
+        print(f"{sys.argv[0]}: missing: {', '.join(missing)}", file=sys.stderr)
+        sys.exit(2)
+
+
+def until(what: str, holds: Callable[[], bool], seconds: float = SECONDS) -> float:
+    """Waits until something holds, and answers for how many seconds."""
+    start = time.monotonic()
+    while not holds():
+        if time.monotonic() > start + seconds:
+            raise TimeoutError(f"{what}: not within {seconds:.0f} seconds")
+        time.sleep(0.01)
+    return time.monotonic() - start
+
+
+class Processes:
+    """Programs that run until the block ends, and what each says in a file of its own."""
+
+    def __init__(self) -> None:
+        self._stay = ExitStack()
+
+    def __enter__(self) -> Processes:
+        return self
+
+    def __exit__(self, kind: type[BaseException] | None, fault: BaseException | None, trace: TracebackType | None) -> None:
+        self._stay.close()
+
+    def start(self, name: str, command: Sequence[Word], environment: dict[str, str] | None = None) -> subprocess.Popen[bytes]:
+        """Starts a program. What it says goes to the file of its name."""
+        with open(said_by(name), "ab") as said:
+            streams = {"stdin": subprocess.DEVNULL, "stdout": said, "stderr": said}
+            program = subprocess.Popen(command, **streams, env={**os.environ, **(environment or {})}, start_new_session=True)
+        self._stay.callback(end, program)
+        return program
+
+
+def said_by(name: str) -> Path:
+    """The file of what a program says."""
+    return ROOM / f"{name}.said"
+
+
+def end(program: subprocess.Popen[bytes]) -> None:
+    """Ends a program, by force where it does not."""
+    if program.poll() is None:
+        program.terminate()
+        try:
+            program.wait(5)
+        except subprocess.TimeoutExpired:
+            kill(program)
+
+
+def kill(program: subprocess.Popen[bytes]) -> None:
+    """Kills a program that runs, and all that it has started."""
+    os.killpg(program.pid, signal.SIGKILL)
+    program.wait()
