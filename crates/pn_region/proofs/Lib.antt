@@ -9,6 +9,7 @@ pub mod Faith
 pub mod FaithfulCopies
 pub mod Following
 pub mod GapLaws
+pub mod HalfAhead
 pub mod HalfRounds
 pub mod InRange
 pub mod Keeping
@@ -24,6 +25,9 @@ pub mod PageWalks
 pub mod Pieces
 pub mod ReadLaws
 pub mod Reading
+pub mod Repeats
+pub mod RisingMarks
+pub mod RisingRegions
 pub mod RoundEnds
 pub mod RoundSteps
 pub mod ServedRecords

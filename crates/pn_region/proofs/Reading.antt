@@ -1,6 +1,7 @@
 -- What a view of a region reads, by its looks.
-use Rattle.std.proofs.Common.{◌≡◌, ℕ, List, [], ◌∷◌, ◌++◌, length, map, take, drop, slice_get, Option, Some, None, Result, Ok, Err, refl, sym, ap, ◌∙◌, subst, arith}
-use Rattle.std.proofs.lemmas.List.{map-append, take-append-drop, take_all}
+use Rattle.std.proofs.Common.{◌≡◌, ℕ, Bool, true, false, if◌then◌else◌, ◌≤◌, suc, ◌+◌, ◌<◌, get_or, drop-cons, List, [], ◌∷◌, ◌++◌, length, map, take, drop, slice_get, Option, Some, None, Result, Ok, Err, IsOk, refl, sym, ap, ◌∙◌, subst, arith}
+use Rattle.std.specs.Prelude.{IsErrOf}
+use Rattle.std.proofs.lemmas.List.{drop_all, map-append, take-append-drop, take_all}
 use Rattle.pn_json.specs.Answers.{ShowsUnless}
 use Rattle.pn_scan.specs.Queries.{QueryValue}
 use Rattle.pn_scan.specs.Candidates.{Look, cells_in}
@@ -10,9 +11,9 @@ use Rattle.pn_scan.specs.Reads.{IsGet, cells_got}
 use Rattle.pn_scan.specs.Visits.{IsScan}
 use Rattle.pn_scan.specs.declared.fault.ScanFault.{ScanFault}
 use Rattle.pn_scan.specs.declared.fault.ScanFault.TheVariants as fault
-use Rattle.pn_scan.proofs.Settled.{Stand, page_settled}
-use Rattle.pn_region.specs.Reads.{IsThere}
-use Rattle.pn_region.proofs.Common.{find, option_or, bytes_cmp, CellValue, tablet_of, refusal, first_refusal, first_page, RegionValue, IsRegion, look_for, get_in, page_in}
+use Rattle.pn_scan.proofs.Settled.{Stand, page_settled, page_begun}
+use Rattle.pn_region.specs.Reads.{IsThere, BeginsToRead, look_in}
+use Rattle.pn_region.proofs.Common.{find, option_or, bytes_cmp, CellValue, Bounds, TabletStateValue, tablet_of, refusal, first_refusal, first_page, RegionValue, IsRegion, look_for, get_in, page_in}
 use Rattle.pn_region.proofs.Standing.{all_found}
 
 err_value : {A : Type 0} (o : Option ScanFault) (a : A) (why : ScanFault) → unless o a ≡ Err why → o ≡ Some why
@@ -80,3 +81,47 @@ module _ {V : Type 0} (region_of : V → RegionValue) {looks : V → Look → V 
     pub page_tells : IsRegion (region_of old) → (query : QueryValue) (show : A → PageValue) (answer : Result A ScanFault) → IsScan looks (region_of old).layout query old new show answer (first_page query) seen → ShowsUnless fault.Memory show answer (page_in (region_of old) query)
     page_tells is query show answer scan =
         page_settled (region_of old).tablets looks (region_of old).layout query old new show answer seen is.lawful (all_found (region_of old) is) (all_stand old new seen scan.looked) scan
+
+    pub page_begins : IsRegion (region_of old) → (query : QueryValue) (show : A → PageValue) (answer : Result A ScanFault) → IsScan looks (region_of old).layout query old new show answer (first_page query) seen
+        → IsErrOf answer fault.Memory → BeginsToRead (region_of old) query
+    page_begins is query show answer scan =
+        page_begun (region_of old).tablets looks (region_of old).layout query old new show answer seen is.lawful (all_stand old new seen scan.looked) scan
+
+-- ---- tablets of keys
+
+module _ (bounds : Bounds) (tablets : List TabletStateValue) (keys : List (List ℕ)) (i : ℕ) (so_far : first_refusal (map (look_in bounds tablets) keys) ≡ first_refusal (map (look_in bounds tablets) (drop i keys))) where
+  module _ (key : List ℕ) (within : i < length keys) (at : key ≡ get_or keys i key) (n : ℕ) (named : n ≡ tablet_of bounds key) (recovers : Bool)
+      (refused : refusal (n, slice_get tablets n) ≡ (if recovers then Some (fault.Recovering n) else None)) where
+    here : refusal (look_in bounds tablets key) ≡ (if recovers then Some (fault.Recovering n) else None)
+    here = ap (λ (tablet : ℕ). refusal (tablet, slice_get tablets tablet)) (sym named) ∙ refused
+
+    next : first_refusal (map (look_in bounds tablets) keys) ≡ option_or (if recovers then Some (fault.Recovering n) else None) (first_refusal (map (look_in bounds tablets) (drop (i + 1) keys)))
+    next =
+        let further : suc i ≡ i + 1 = omega arith in
+        so_far ∙ ap (λ (l : List (List ℕ)). first_refusal (map (look_in bounds tablets) l)) (drop-cons keys i key within)
+        ∙ (λ j. option_or (refusal (look_in bounds tablets (sym at j))) (first_refusal (map (look_in bounds tablets) (drop (further j) keys))))
+        ∙ ap (λ (o : Option ScanFault). option_or o (first_refusal (map (look_in bounds tablets) (drop (i + 1) keys)))) here
+
+    -- the first of the keys left recovers, or the others decide
+    pub stops_here : recovers ≡ true → first_refusal (map (look_in bounds tablets) keys) ≡ Some (fault.Recovering n)
+    stops_here is = next ∙ ap (λ (b : Bool). option_or (if b then Some (fault.Recovering n) else None) (first_refusal (map (look_in bounds tablets) (drop (i + 1) keys)))) is
+
+    pub goes_on_here : recovers ≡ false → first_refusal (map (look_in bounds tablets) keys) ≡ first_refusal (map (look_in bounds tablets) (drop (i + 1) keys))
+    goes_on_here is = next ∙ ap (λ (b : Bool). option_or (if b then Some (fault.Recovering n) else None) (first_refusal (map (look_in bounds tablets) (drop (i + 1) keys)))) is
+
+  -- no key is left
+  pub none_stops : length keys ≤ i → first_refusal (map (look_in bounds tablets) keys) ≡ None
+  none_stops past = so_far ∙ ap (λ (l : List (List ℕ)). first_refusal (map (look_in bounds tablets) l)) (drop_all i keys past)
+
+module _ (region : RegionValue) (keys : List (List ℕ)) (bounds : Bounds) (tablets : List TabletStateValue) (same : bounds ≡ region.layout) (same_too : tablets ≡ region.tablets) where
+  got_as : (first : Option ScanFault) → first_refusal (map (look_in bounds tablets) keys) ≡ first → get_in region keys ≡ unless first (map (λ key. find bytes_cmp key (cells_in (look_for region key).1)) keys)
+  got_as first is =
+      ap (λ (o : Option ScanFault). unless o (map (λ key. find bytes_cmp key (cells_in (look_for region key).1)) keys))
+      ((λ j. first_refusal (map (look_in (sym same j) (sym same_too j)) keys)) ∙ is)
+
+  -- a tablet of a key recovers, or all cells are there
+  pub refused_get : (n : ℕ) → first_refusal (map (look_in bounds tablets) keys) ≡ Some (fault.Recovering n) → get_in region keys ≡ Err (fault.Recovering n)
+  refused_get n is = got_as (Some (fault.Recovering n)) is
+
+  pub all_read : first_refusal (map (look_in bounds tablets) keys) ≡ None → IsOk (get_in region keys)
+  all_read is = subst (λ (answer : Result (List (Option CellValue)) ScanFault). IsOk answer) (sym (got_as None is)) refl

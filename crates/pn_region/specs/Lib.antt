@@ -9,10 +9,12 @@ pub mod Limits
 pub mod Log
 pub mod Logged
 pub mod Marking
+pub mod PageWalks
 pub mod Proofs
 pub mod Reads
 pub mod Recovery
 pub mod Regions
+pub mod Rising
 pub mod Rounds
 pub mod Serving
 pub mod Since

@@ -1,20 +1,24 @@
 -- Reads of a region.
-use Rattle.std.specs.Prelude.{◌≡◌, ℕ, List, map, slice_get, Option, IsSome, Result}
+use Rattle.std.specs.Prelude.{◌≡◌, ℕ, List, map, slice_get, Option, None, IsSome, IsSomeAnd, Result}
 use Rattle.std.specs.FinMap.{find}
 use Rattle.pn_record.specs.Order.{bytes_cmp}
 use Rattle.pn_record.specs.Sets.{Stamp, CellValue}
-use Rattle.pn_tablet.specs.Layouts.{tablet_of}
+use Rattle.pn_tablet.specs.Layouts.{Bounds, tablet_of}
+use Rattle.pn_tablet.specs.Tablets.{TabletStateValue}
 use Rattle.pn_scan.specs.Queries.{QueryValue}
-use Rattle.pn_scan.specs.Candidates.{Look, cells_in}
-use Rattle.pn_scan.specs.Pages.{PageValue, first_refusal, unless, page_of}
+use Rattle.pn_scan.specs.Candidates.{Look, cells_in, candidates_of}
+use Rattle.pn_scan.specs.Pages.{PageValue, refusal, first_refusal, unless, page_of}
 use Rattle.pn_scan.specs.Reads.{read_of}
 use Rattle.pn_scan.specs.Walks.{looks_of}
 use Rattle.pn_scan.specs.declared.fault.ScanFault.{ScanFault}
 use Rattle.pn_region.specs.Regions.{RegionValue}
 
 -- a key's tablet in its present state
+abbrev pub look_in : Bounds → List TabletStateValue → List ℕ → Look
+look_in bounds tablets key = (tablet_of bounds key, slice_get tablets (tablet_of bounds key))
+
 abbrev pub look_for : RegionValue → List ℕ → Look
-look_for region key = (tablet_of region.layout key, slice_get region.tablets (tablet_of region.layout key))
+look_for region key = look_in region.layout region.tablets key
 
 -- all tablets in their present states
 abbrev pub all_looks : RegionValue → List Look
@@ -36,3 +40,7 @@ get_in region keys = unless (first_refusal (map (look_for region) keys)) (map (�
 -- the page of a query
 abbrev pub page_in : RegionValue → QueryValue → Result PageValue ScanFault
 page_in region query = page_of region.layout query (all_looks region)
+
+-- there is a tablet that may have rows of the page, and the first of these can be read
+abbrev pub BeginsToRead : RegionValue → QueryValue → Type 0
+BeginsToRead region query = IsSomeAnd (slice_get (candidates_of region.layout query (all_looks region)) 0) (λ look. refusal look ≡ None)

@@ -1,18 +1,21 @@
 //! The laws of reads of regions, as contracts. A call does nothing.
 
-ghost use Rattle.std.specs.Prelude.{◌≡◌, ◌≢◌, ℕ, ◌<◌, List, map, Option, Some, None, Ok, Err};
-ghost use Rattle.std.specs.FinMap.{find};
+ghost use Rattle.std.specs.Prelude.{◌≡◌, ◌≢◌, ℕ, ◌<◌, List, map, Option, Some, None, Ok, Err, IsTrue};
+ghost use Rattle.std.specs.FinMap.{find, is_sorted};
+ghost use Rattle.std.specs.List.{AllByRecursion};
 ghost use Rattle.pn_join.specs.Marks.{Positions};
+ghost use Rattle.pn_record.specs.CellMap.{Entries};
 ghost use Rattle.pn_record.specs.Order.{bytes_cmp};
 ghost use Rattle.pn_record.specs.Sets.{Stamp};
 ghost use Rattle.pn_stream.specs.Positions.{DeliveryValue};
 ghost use Rattle.pn_tablet.specs.Layouts.{Bounds};
 ghost use Rattle.pn_scan.specs.Queries.{QueryValue};
-ghost use Rattle.pn_scan.specs.Shown.{shown_rows};
+ghost use Rattle.pn_scan.specs.Shown.{is_after, shown_rows};
 ghost use Rattle.pn_scan.specs.Pages.{PageValue, first_page};
 ghost use Rattle.pn_scan.specs.Reads.{unless_behind};
-ghost use Rattle.pn_scan.specs.Walks.{left_by, rows_of};
+ghost use Rattle.pn_scan.specs.Walks.{ArePages, left_by, rows_of};
 ghost use Rattle.pn_scan.specs.declared.fault.ScanFault.TheVariants.{NoEntry};
+ghost use Rattle.pn_region.specs.PageWalks.{IsAnswered, IsAnsweredOf};
 ghost use Rattle.pn_region.specs.Reads.{read_in, get_in, page_in};
 ghost use Rattle.pn_region.specs.Regions.{RegionValue, IsRegion, new_region, all_cells};
 ghost use Rattle.pn_region.specs.Rounds.{taking, IsHalfTaken};
@@ -59,7 +62,7 @@ pub fn regions_of_the_same_cells_answer_alike()
 {}
 
 /// The pages of an unchanged region, each continuing the one before, have together the rows that its cells show,
-/// each once.
+/// each once. So do pages between which the cells stay the same.
 ///
 /// Where every tablet serves, such a walk comes to its end.
 pub fn pages_together_are_the_shown_rows()
@@ -68,4 +71,16 @@ pub fn pages_together_are_the_shown_rows()
         → rows_of pages ≡ shown_rows query (all_cells region) }
     ensures ends { (region : RegionValue) (query : QueryValue) → IsRegion region → AllServe region → 0 < query.limit
         → (pages : List PageValue) × ArePagesOf region (Some query) pages × (left_by (Some query) pages ≡ None) }
+    ensures same_cells { (cells : Entries) (query : QueryValue) (pages : List PageValue) → 0 < query.limit
+        → ArePages (IsAnsweredOf cells) (Some query) pages → left_by (Some query) pages ≡ None
+        → rows_of pages ≡ shown_rows query cells }
+{}
+
+/// Whatever happens to a region between pages, each continuing the one before, keys strictly rise within a page and from
+/// page to page. All are above the key that the first query excludes.
+pub fn keys_rise_from_page_to_page()
+    ensures rise { (query : QueryValue) (pages : List PageValue) → 0 < query.limit
+        → ArePages IsAnswered (Some query) pages → IsTrue (is_sorted bytes_cmp (rows_of pages)) }
+    ensures after { (query : QueryValue) (pages : List PageValue) → 0 < query.limit
+        → ArePages IsAnswered (Some query) pages → AllByRecursion (λ row. IsTrue (is_after query.after row.0)) (rows_of pages) }
 {}

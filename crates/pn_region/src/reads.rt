@@ -1,16 +1,17 @@
 //! Reads of a region.
 
-ghost use Rattle.std.specs.Prelude.{◌≡◌, Err};
+ghost use Rattle.std.specs.Prelude.{◌≡◌, ◌<◌, ◌+◌, length, map, slice_get, option_map, Some, None, Err, IsOk, IsErrOf, if◌then◌else◌};
 ghost use Rattle.pn_json.specs.Answers.{ShowsUnless};
+ghost use Rattle.pn_scan.specs.Pages.{refusal, first_refusal};
 ghost use Rattle.pn_scan.specs.Reads.{AnswersAfter};
 ghost use Rattle.pn_scan.specs.Views.{cell_at};
-ghost use Rattle.pn_scan.specs.declared.fault.ScanFault.TheVariants.{Memory, NoEntry};
-ghost use Rattle.pn_region.specs.Reads.{IsThere, look_for, read_in, get_in, page_in};
+ghost use Rattle.pn_scan.specs.declared.fault.ScanFault.TheVariants.{Memory, NoEntry, Recovering};
+ghost use Rattle.pn_region.specs.Reads.{IsThere, BeginsToRead, look_in, look_for, read_in, get_in, page_in};
 
 use crate::Region;
 use pn_record::{Cell, Key, Version};
 use pn_scan::{Page, Query, Row, ScanFault, View, cell_of, get, page, part_of, read_at_least};
-use pn_tablet::Layout;
+use pn_tablet::{Layout, Status, TabletState};
 use std::alloc::Global;
 
 /// A view of the region's own tablets, which do not change while it lasts. It never answers `NoEntry`.
@@ -57,12 +58,16 @@ impl Region {
 
     /// The cells of keys, in the order of the keys, repeats included; none if there is no record.
     ///
-    /// `Recovering` names the tablet of the first key whose tablet is recovering. `Memory` may come before such a
-    /// tablet is found, and `NoEntry` never comes.
+    /// `Recovering` comes exactly where the tablet of a key is recovering, and names the first. `Memory` comes only
+    /// where none is, and `NoEntry` never.
     pub fn get(&self, keys: &[Key]) -> Result<Vec<Option<Cell>>, ScanFault>
         ensures get { ShowsUnless Memory (λ cells. cells.items) result (get_in self.now.state keys.now) }
+        ensures memory { IsErrOf result ScanFault.Memory → IsOk (get_in self.now.state keys.now) }
         ensures entered { result ≡ Err NoEntry → ⊥ }
     {
+        if let Some(tablet) = first_recovering(self.layout(), self.states(), keys) {
+            return Err(ScanFault::Recovering(tablet));
+        }
         let mut view = self;
         get(self.alloc, &mut view, keys)
     }
@@ -71,12 +76,37 @@ impl Region {
     /// there are more.
     ///
     /// `Recovering` names the first recovering tablet that may have rows of the page. `Memory` may come before
-    /// such a tablet is found, and `NoEntry` never comes.
+    /// such a tablet is found, but only after the first that may have rows was read. `NoEntry` never comes.
     pub fn scan(&self, query: &Query) -> Result<Page, ScanFault>
         ensures page { ShowsUnless Memory (λ page. (page.rows.items, page.next)) result (page_in self.now.state query.now) }
+        ensures memory { IsErrOf result ScanFault.Memory → BeginsToRead self.now.state query.now }
         ensures entered { result ≡ Err NoEntry → ⊥ }
     {
         let mut view = self;
         page(self.alloc, &mut view, query)
+    }
+}
+
+// The tablet of the first key whose tablet recovers.
+fn first_recovering(layout: &Layout, tablets: &[TabletState], keys: &[Key]) -> Option<usize>
+    requires { length tablets.now ≡ length layout.now + 1 }
+    ensures { first_refusal (map (look_in layout.now tablets.now) keys.now) ≡ option_map (λ tablet. Recovering tablet) result }
+{
+    for key in keys {
+        let tablet = layout.tablet_of(key);
+        if recovers(tablets, tablet) {
+            return Some(tablet);
+        }
+    }
+    None
+}
+
+fn recovers(tablets: &[TabletState], tablet: usize) -> bool
+    requires { tablet < length tablets.now }
+    ensures { refusal (tablet, slice_get tablets.now tablet) ≡ (if result then Some (Recovering tablet) else None) }
+{
+    match tablets[tablet].status() {
+        Status::Recovering { .. } => true,
+        Status::Serving => false,
     }
 }

@@ -10,6 +10,7 @@ ghost use Rattle.pn_record.specs.Older.{NotOlder};
 ghost use Rattle.pn_record.specs.Order.{bytes_cmp};
 ghost use Rattle.pn_record.specs.Sets.{CellValue};
 ghost use Rattle.pn_stream.specs.Brokers.{BrokerRecord};
+ghost use Rattle.pn_stream.specs.Positions.{DeliveryValue};
 ghost use Rattle.pn_tablet.specs.Copies.{TabletCopyValue};
 ghost use Rattle.pn_tablet.specs.Copying.{copy_of};
 ghost use Rattle.pn_tablet.specs.Laws.{AreJoins};
@@ -25,6 +26,8 @@ ghost use Rattle.pn_region.specs.Held.{HoldsStill};
 ghost use Rattle.pn_region.specs.Honest.{IsHonestCopy};
 ghost use Rattle.pn_region.specs.Laws.{AreIn};
 ghost use Rattle.pn_region.specs.Regions.{RegionValue, IsRegion, new_region, all_cells};
+ghost use Rattle.pn_region.specs.Rising.{AllRise};
+ghost use Rattle.pn_region.specs.Rounds.{round, IsHalfTaken};
 ghost use Rattle.pn_region.specs.Serving.{AllServe, ServesAt};
 ghost use Rattle.pn_region.specs.Taken.{all_taken, all_left, CoversTell, AreRounds};
 
@@ -144,4 +147,15 @@ pub fn the_same_images_leave_the_same_records()
         → IsLayout others → AllLeadTo more (new_region others) other → AreHonestEvents broker more → AllServe other
         → AreIn (all_left more) (all_taken broker more)
         → SameImages (all_taken broker events) (all_taken broker more) → all_cells one ≡ all_cells other }
+{}
+
+/// A round that ran out of memory and is accepted when it is repeated, with only rounds in between, leaves the
+/// tablets and marks that it would have left without the failure.
+pub fn a_repeated_round_makes_up_for_a_failed_one()
+    ensures makes_up { (start failed later end : RegionValue) (deliveries : List DeliveryValue) (events : List RegionEvent)
+        → AllRise start → IsHalfTaken start deliveries failed → AreRounds events → AllLeadTo events failed later
+        → round later deliveries ≡ Ok end
+        → (other : RegionValue) × AllLeadTo events start other × (round other deliveries ≡ Ok end) }
+    ensures new { (bounds : Bounds) → AllRise (new_region bounds) }
+    ensures kept { (event : RegionEvent) (old new : RegionValue) → AllRise old → LeadsTo event old new → AllRise new }
 {}

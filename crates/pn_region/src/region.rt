@@ -1,6 +1,6 @@
 //! Regions and their rounds.
 
-ghost use Rattle.std.specs.Prelude.{◌≡◌, ◌≤◌, ◌<◌, ◌^◌, length, slice_get, map, Some, Ok, IsTrue, IfOk, IfErr, OnOk, OnErr};
+ghost use Rattle.std.specs.Prelude.{◌≡◌, ◌+◌, ◌≤◌, ◌<◌, ◌^◌, length, slice_get, map, Some, Ok, IsTrue, IfOk, IfErr, OnOk, OnErr};
 ghost use Rattle.std.specs.List.{flat_map};
 ghost use Rattle.pn_join.specs.Marks.{are_positions};
 ghost use Rattle.pn_tablet.specs.Layouts.{tablet_ends};
@@ -110,6 +110,14 @@ impl Region {
         ensures of { IsStateOf self.now.state.layout tablet result.now }
     {
         &self.tablets[tablet]
+    }
+
+    // The tablets, in the order of their numbers.
+    pub(crate) fn states(&self) -> &[TabletState]
+        ensures states { result.now ≡ self.now.state.tablets }
+        ensures count { length self.now.state.tablets ≡ length self.now.state.layout + 1 }
+    {
+        &self.tablets
     }
 
     /// Takes deliveries, in order; those without images are passed over. There are 1 to 16 workers, whose number

@@ -16,8 +16,7 @@ use Rattle.pn_scan.specs.Visits.{IsVisit}
 use Rattle.pn_scan.specs.Walks.{IsSomePage, ArePages, rows_of}
 use Rattle.pn_scan.proofs.Continuing.{Row, last_above, third_true, after_too, rising_kept}
 use Rattle.pn_scan.proofs.InOrder.{Ascending, ascending_first, there_first, all_rising}
-use Rattle.pn_scan.proofs.Scans.{ok_value}
-use Rattle.pn_scan.proofs.WalkLaws.{Ending, whole, goes_on, ending_of, HasRoom, room_left}
+use Rattle.pn_scan.proofs.WalkLaws.{Ending, whole, goes_on, ending_of, HasRoom, room_left, IsCutFrom, page_cut}
 
 -- all keys are above the one that is excluded, if there is one
 abbrev pub AllAfter : Option (List ℕ) → Entries → Type 0
@@ -90,7 +89,7 @@ seen_rising bounds query seen lawful visit =
     all_rising bounds seen lawful (subst Ascending (sym visit.order) (ascending_first (is_candidate bounds query) (length seen) 0 (length bounds + 1)))
     (there_first bounds (is_candidate bounds query) (length seen) seen visit.order) visit.found
 
-abbrev after_of : Option QueryValue → Option (List ℕ)
+abbrev pub after_of : Option QueryValue → Option (List ℕ)
 after_of None = None
 after_of (Some query) = query.after
 
@@ -113,13 +112,20 @@ page_rises query cells rises page later none (goes_on row at next front within) 
       after_join query.after rows later row (after_front query.after query.limit (shown_rows query cells) (shown_after query cells)) at after,
     )
 
+-- the page is the first of the rows that some rising cells show
+abbrev pub IsCutFromSome : QueryValue → PageValue → Type 0
+IsCutFromSome query page = (cells : Entries) × Rising bytes_cmp cells × IsCutFrom cells query page
+
+pub cut_rise : (is_page : QueryValue → PageValue → Type 0) → ((query : QueryValue) (page : PageValue) → is_page query page → IsCutFromSome query page)
+    → (asked : Option QueryValue) (pages : List PageValue) → HasRoom asked → ArePages is_page asked pages → Rising bytes_cmp (rows_of pages) × AllAfter (after_of asked) (rows_of pages)
+cut_rise is_page cut asked [] some are = (tt, tt)
+cut_rise is_page cut None (page ∷ pages) some are = absurd are
+cut_rise is_page cut (Some query) (page ∷ pages) some are =
+    let (cells, rises, is) = cut query page are.0 in
+    let ending = ending_of query (shown_rows query cells) page some is in
+    page_rises query cells rises page (rows_of pages) (λ none. none_more is_page page.1 pages none are.1) ending
+    (cut_rise is_page cut page.1 pages (room_left query (shown_rows query cells) page some ending) are.1)
+
 pub pages_rise : (bounds : Bounds) → IsLayout bounds → (asked : Option QueryValue) (pages : List PageValue) → HasRoom asked → ArePages (IsSomePage bounds) asked pages → Rising bytes_cmp (rows_of pages) × AllAfter (after_of asked) (rows_of pages)
-pages_rise bounds lawful asked [] some are = (tt, tt)
-pages_rise bounds lawful None (page ∷ pages) some are = absurd are
-pages_rise bounds lawful (Some query) (page ∷ pages) some are =
-    let seen = are.0.0 in
-    let rises = seen_rising bounds query seen lawful are.0.1 in
-    let is : page ≡ first_page query (rows_in query seen) = (ok_value (first_refusal (visited bounds query seen)) (first_page query (rows_in query seen)) page are.0.2).1 in
-    let ending = ending_of query (rows_in query seen) page some is in
-    page_rises query (flat_map (λ (look : Look). cells_in look.1) seen) rises page (rows_of pages) (λ none. none_more (IsSomePage bounds) page.1 pages none are.1) ending
-    (pages_rise bounds lawful page.1 pages (room_left seen rises query page some ending) are.1)
+pages_rise bounds lawful asked pages some are =
+    cut_rise (IsSomePage bounds) (λ query page is. (flat_map (λ (look : Look). cells_in look.1) is.0, seen_rising bounds query is.0 lawful is.1, page_cut bounds is.0 query page is.2)) asked pages some are

@@ -17,6 +17,7 @@ use Rattle.pn_scan.specs.Pages.{refusal, first_refusal, unless}
 use Rattle.pn_scan.specs.Views.{IsFoundIn, Looks, is_memory}
 use Rattle.pn_scan.specs.Visits.{GoesOn, IsVisit, IsScan, rows_after}
 use Rattle.pn_scan.specs.declared.fault.ScanFault.{ScanFault}
+use Rattle.pn_scan.specs.declared.fault.ScanFault.TheVariants.{Memory}
 use Rattle.pn_scan.proofs.Numbers.{Numbered, numbered_more, in_order, AllFew, all_visited}
 
 -- one look more
@@ -157,6 +158,7 @@ module _ {V : Type 0} {looks : V → Look → V → Type 0} {bounds : Bounds} {q
       answers = subst (λ (o : Option ScanFault). Refuses is_memory why (unless o (right (rows_in query (seen ++ look ∷ []))))) (sym refused)
           (is_right_too (is_memory why) why (refusal look) _ (right (rows_in query (seen ++ look ∷ []))) refuses);
       whole = tt;
+      begun = omega (arith, size);
     })
 
     module _ (more : Entries) (right : rows_after query rows look ≡ Ok more) where
@@ -176,6 +178,7 @@ module _ {V : Type 0} {looks : V → Look → V → Type 0} {bounds : Bounds} {q
         visit = visit;
         answers = ap (λ (o : Option ScanFault). unless o (take (query.limit + 1) (rows_in query (seen ++ look ∷ [])))) (refused ∙ parts.0) ∙ ap (λ (es : Entries). Ok es) (sym front ∙ sym shows);
         whole = inr (more_left query.limit (rows_in query (seen ++ look ∷ [])) (subst (λ (es : Entries). query.limit < length es) front full));
+        begun = tt;
       }
 
       -- and after one that does not, it goes on
@@ -208,4 +211,22 @@ module _ {V : Type 0} {looks : V → Look → V → Type 0} {bounds : Bounds} {q
         };
         answers = ap (λ (o : Option ScanFault). unless o (take (query.limit + 1) (rows_in query seen))) none ∙ ap (λ (es : Entries). Ok es) (take_all (query.limit + 1) (rows_in query seen) short ∙ sym walked.shows ∙ sym shows);
         whole = inl (omega (arith, walked.count, past, within, length-range_with_len first count, ap (λ (l : List ℕ). length l) range));
+        begun = tt;
       }
+
+some_seen : (query : QueryValue) (n : ℕ) (seen : List Look) → n < length (take (query.limit + 1) (rows_in query seen)) → 0 < length seen
+some_seen query n [] some = absurd (omega (arith, length-take (query.limit + 1) (rows_in query []), some))
+some_seen query n (look ∷ seen) some = omega arith
+
+-- rows that were read, and no memory left to end their page
+pub scan_unpaged : {V A B C : Type 0} {looks : V → Look → V → Type 0} {bounds : Bounds} {query : QueryValue} {old new : V} {show : A → Entries} {rows : A} {seen : List Look} → IsScan looks bounds query old new show (Ok rows) (take (query.limit + 1)) seen
+    → (shown : B → C) (answer : Result B ScanFault) (right : Entries → C) → answer ≡ Err Memory → query.limit < length (show rows) → IsScan looks bounds query old new shown answer right seen
+scan_unpaged {B = B} {looks = looks} {bounds = bounds} {query = query} {old = old} {new = new} {show = show} {rows = rows} {seen = seen} scan shown answer right failed full =
+    let parts = ok_value (first_refusal (visited bounds query seen)) (take (query.limit + 1) (rows_in query seen)) (show rows) scan.answers in
+    subst (λ (a : Result B ScanFault). IsScan looks bounds query old new shown a right seen) (sym failed) (record {
+      looked = scan.looked;
+      visit = scan.visit;
+      answers = subst (λ (o : Option ScanFault). Refuses is_memory Memory (unless o (right (rows_in query seen)))) (sym parts.0) refl;
+      whole = tt;
+      begun = some_seen query query.limit seen (subst (λ (es : Entries). query.limit < length es) parts.1 full);
+    })

@@ -1,6 +1,6 @@
 -- Pages of tablets that stay as they are.
-use Rattle.std.proofs.Common.{◌≡◌, ℕ, zero, suc, ◌+◌, ◌<◌, ◌≤◌, inl, inr, Bool, true, false, cond, List, [], ◌∷◌, ◌++◌, length, map, take, drop, nat_lt, slice_get, Option, Some, None, option_map, Result, Ok, Err, refl, sym, ap, ◌∙◌, subst, arith, append-nil, length-append}
-use Rattle.std.specs.Prelude.{filter}
+use Rattle.std.proofs.Common.{◌≡◌, ℕ, zero, suc, ◌+◌, ◌<◌, ◌≤◌, inl, inr, Bool, true, false, cond, List, [], ◌∷◌, ◌++◌, length, map, take, drop, nat_lt, slice_get, Option, Some, None, option_map, Result, Ok, Err, IsOk, refl, sym, ap, ◌∙◌, subst, arith, append-nil, length-append}
+use Rattle.std.specs.Prelude.{filter, IsErrOf, IsSomeAnd}
 use Rattle.std.specs.List.{AllByRecursion, range_with_len, last_or}
 use Rattle.std.specs.Option.{option_or}
 use Rattle.std.proofs.lemmas.Bool.Decides.{nat_tests}
@@ -23,7 +23,7 @@ use Rattle.pn_scan.proofs.CandidateRows.{rows_of_candidates}
 use Rattle.pn_scan.proofs.Visiting.{AreRange, range_of, visited_in, not_visited}
 use Rattle.pn_scan.proofs.InOrder.{AreThere}
 use Rattle.pn_scan.proofs.Numbers.{Numbered, AllFew, numbered_split, keeps_all, all_visited}
-use Rattle.pn_scan.proofs.Scans.{rows-append, ok_value}
+use Rattle.pn_scan.proofs.Scans.{rows-append, ok_value, or_none}
 
 lt_true : (m n : ℕ) → m < n → nat_lt m n ≡ true
 lt_true m n less = grind (arith, nat_tests)
@@ -51,6 +51,15 @@ none_left (x ∷ xs) none = absurd (omega arith)
 refused_some : (o : Option ScanFault) {A : Type 0} (a : A) (why : ScanFault) → unless o a ≡ Err why → o ≡ Some why
 refused_some None a why is = cc
 refused_some (Some other) a why is = cc
+
+-- the first of some looks, none of which was refused
+one_seen : (seen : List Look) → 0 < length seen → first_refusal seen ≡ None → (look : Look) × (rest : List Look) × (seen ≡ look ∷ rest) × (refusal look ≡ None)
+one_seen [] some none = absurd (omega (arith, some))
+one_seen (look ∷ rest) some none = (look, rest, refl, (or_none (refusal look) (first_refusal rest) none).0)
+
+pub none_from_ok : {A : Type 0} (o : Option ScanFault) (a : A) → IsOk (unless o a) → o ≡ None
+none_from_ok None a is = refl
+none_from_ok (Some why) a is = absurd (cc)
 
 module _ (tablets : List TabletStateValue) where
   abbrev as_stands : ℕ → Look
@@ -158,6 +167,12 @@ module _ (tablets : List TabletStateValue) where
         ap (λ (o : Option ScanFault). unless o (first_page query (rows_in query all))) none_all
         ∙ ap (λ (p : PageValue). Ok p) (ap (first_page query) (rows_all found) ∙ same_page whole ∙ sym parts.1)
 
+    -- where memory ran out, the first candidate serves
+    first_served : 0 < length seen → first_refusal (visited bounds query seen) ≡ None → IsSomeAnd (slice_get mine 0) (λ look. refusal look ≡ None)
+    first_served some none =
+        let first = one_seen seen some (ap first_refusal (sym own) ∙ none) in
+        subst (λ (looks : List Look). IsSomeAnd (slice_get looks 0) (λ look. refusal look ≡ None)) (sym (sym parted ∙ ap (λ (l : List Look). l ++ more) first.2)) first.3
+
   -- a page that was read of tablets that stay is that of all tablets, unless memory ran out
   pub page_settled : {V A : Type 0} (looks : V → Look → V → Type 0) (bounds : Bounds) (query : QueryValue) (old new : V) (show : A → PageValue) (answer : Result A ScanFault) (seen : List Look) → IsLayout bounds
       → AllByRecursion (IsFoundIn bounds) (looks_of bounds tablets) → Stand seen → IsScan looks bounds query old new show answer (first_page query) seen → ShowsUnless fault.Memory show answer (page_of bounds query (looks_of bounds tablets))
@@ -166,6 +181,13 @@ module _ (tablets : List TabletStateValue) where
   page_settled looks bounds query old new show (Err (fault.Recovering tablet)) seen lawful found stand scan = λ other. settled_fault bounds query lawful seen scan.visit stand (first_page query (rows_in query seen)) (fault.Recovering tablet) scan.answers
   page_settled looks bounds query old new show (Err (fault.Behind has)) seen lawful found stand scan = λ other. settled_fault bounds query lawful seen scan.visit stand (first_page query (rows_in query seen)) (fault.Behind has) scan.answers
   page_settled looks bounds query old new show (Err fault.NoEntry) seen lawful found stand scan = λ other. settled_fault bounds query lawful seen scan.visit stand (first_page query (rows_in query seen)) fault.NoEntry scan.answers
+
+  -- and memory ran out only after the first candidate was read
+  pub page_begun : {V A : Type 0} (looks : V → Look → V → Type 0) (bounds : Bounds) (query : QueryValue) (old new : V) (show : A → PageValue) (answer : Result A ScanFault) (seen : List Look) → IsLayout bounds → Stand seen
+      → IsScan looks bounds query old new show answer (first_page query) seen → IsErrOf answer fault.Memory → IsSomeAnd (slice_get (candidates_of bounds query (looks_of bounds tablets)) 0) (λ look. refusal look ≡ None)
+  page_begun {A = A} looks bounds query old new show answer seen lawful stand scan is =
+      let failed = subst (λ (a : Result A ScanFault). IsScan looks bounds query old new show a (first_page query) seen) is scan in
+      first_served bounds query lawful seen failed.visit stand failed.begun (none_from_ok (first_refusal (visited bounds query seen)) _ failed.answers)
 
 -- the looks of a view of tablets that stay find them as they are
 pub plain_looks : {V : Type 0} (tablets : V → List TabletStateValue) (old new : V) (seen : List Look) → Looks (LooksAt tablets) old seen new → Stand (tablets old) seen × (new ≡ old)

@@ -11,6 +11,7 @@ use Rattle.pn_record.specs.CellMap.{Entries}
 use Rattle.pn_record.specs.Order.{bytes_cmp}
 use Rattle.pn_tablet.specs.Layouts.{Bounds}
 use Rattle.pn_scan.specs.Queries.{QueryValue, continued}
+use Rattle.pn_scan.specs.Shown.{shown_rows}
 use Rattle.pn_scan.specs.Candidates.{Look, cells_in, rows_in, is_candidate, is_visited, candidates_of, visited}
 use Rattle.pn_scan.specs.Pages.{PageValue, refusal, first_refusal, next_of, first_page, page_of, unless}
 use Rattle.pn_scan.specs.Walks.{IsPageOf, ArePages, left_by, rows_of, rows_left}
@@ -56,31 +57,57 @@ abbrev pub HasRoom : Option QueryValue → Type 0
 HasRoom None = Unit {0}
 HasRoom (Some query) = 0 < query.limit
 
-module _ (looks : List Look) (rises : Rising bytes_cmp (flat_map (λ look. cells_in look.1) looks)) where
-  page_and_rest : (query : QueryValue) (page : PageValue) → Ending query (rows_in query looks) page → page.0 ++ rows_left looks page.1 ≡ rows_in query looks
-  page_and_rest query page (whole last all few) = (λ i. all i ++ rows_left looks (last i)) ∙ append-nil (rows_in query looks)
-  page_and_rest query page (goes_on row at next front within) =
-      (λ i. front i ++ rows_left looks (next i))
-      ∙ ap (λ (es : Entries). take query.limit (rows_in query looks) ++ es) (shown_after query (flat_map (λ (look : Look). cells_in look.1) looks) query.limit row rises at)
-      ∙ take-append-drop query.limit (rows_in query looks)
+-- the rows that a continuation still asks for, of these cells
+abbrev rows_still : Entries → Option QueryValue → Entries
+rows_still cells None = []
+rows_still cells (Some query) = shown_rows query cells
 
-  pub room_left : (query : QueryValue) (page : PageValue) → 0 < query.limit → Ending query (rows_in query looks) page → HasRoom page.1
-  room_left query page some (whole last all few) = subst HasRoom (sym last) tt
-  room_left query page some (goes_on row at next front within) = subst HasRoom (sym next) some
+-- a page is the first of the rows that cells show
+abbrev pub IsCutFrom : Entries → QueryValue → PageValue → Type 0
+IsCutFrom cells query page = page ≡ first_page query (shown_rows query cells)
+
+pub room_left : (query : QueryValue) (rows : Entries) (page : PageValue) → 0 < query.limit → Ending query rows page → HasRoom page.1
+room_left query rows page some (whole last all few) = subst HasRoom (sym last) tt
+room_left query rows page some (goes_on row at next front within) = subst HasRoom (sym next) some
+
+module _ (cells : Entries) (rises : Rising bytes_cmp cells) where
+  page_and_rest : (query : QueryValue) (page : PageValue) → Ending query (shown_rows query cells) page → page.0 ++ rows_still cells page.1 ≡ shown_rows query cells
+  page_and_rest query page (whole last all few) = (λ i. all i ++ rows_still cells (last i)) ∙ append-nil (shown_rows query cells)
+  page_and_rest query page (goes_on row at next front within) =
+      (λ i. front i ++ rows_still cells (next i))
+      ∙ ap (λ (es : Entries). take query.limit (shown_rows query cells) ++ es) (shown_after query cells query.limit row rises at)
+      ∙ take-append-drop query.limit (shown_rows query cells)
 
   -- the rows of pages, and those that are left, are all
-  walked_from : (bounds : Bounds) (asked : Option QueryValue) (pages : List PageValue) → HasRoom asked → ArePages (IsPageOf bounds looks) asked pages → rows_of pages ++ rows_left looks (left_by asked pages) ≡ rows_left looks asked
-  walked_from bounds asked [] some are = refl
-  walked_from bounds None (page ∷ pages) some are = absurd are
-  walked_from bounds (Some query) (page ∷ pages) some are =
-      let is : page ≡ first_page query (rows_in query looks) = (ok_value (first_refusal (visited bounds query looks)) (first_page query (rows_in query looks)) page are.0).1 in
-      let ending = ending_of query (rows_in query looks) page some is in
-      append_assoc page.0 (rows_of pages) (rows_left looks (left_by page.1 pages))
-      ∙ ap (λ (es : Entries). page.0 ++ es) (walked_from bounds page.1 pages (room_left query page some ending) are.1)
+  walked_from : (is_page : QueryValue → PageValue → Type 0) → ((query : QueryValue) (page : PageValue) → is_page query page → IsCutFrom cells query page)
+      → (asked : Option QueryValue) (pages : List PageValue) → HasRoom asked → ArePages is_page asked pages → rows_of pages ++ rows_still cells (left_by asked pages) ≡ rows_still cells asked
+  walked_from is_page cut asked [] some are = refl
+  walked_from is_page cut None (page ∷ pages) some are = absurd are
+  walked_from is_page cut (Some query) (page ∷ pages) some are =
+      let ending = ending_of query (shown_rows query cells) page some (cut query page are.0) in
+      append_assoc page.0 (rows_of pages) (rows_still cells (left_by page.1 pages))
+      ∙ ap (λ (es : Entries). page.0 ++ es) (walked_from is_page cut page.1 pages (room_left query (shown_rows query cells) page some ending) are.1)
       ∙ page_and_rest query page ending
 
+  -- where no row is left, pages have all that the cells show
+  pub all_walked : (is_page : QueryValue → PageValue → Type 0) → ((query : QueryValue) (page : PageValue) → is_page query page → IsCutFrom cells query page)
+      → (query : QueryValue) (pages : List PageValue) → 0 < query.limit → ArePages is_page (Some query) pages → left_by (Some query) pages ≡ None → rows_of pages ≡ shown_rows query cells
+  all_walked is_page cut query pages some are none =
+      sym (append-nil (rows_of pages)) ∙ ap (λ (left : Option QueryValue). rows_of pages ++ rows_still cells left) (sym none) ∙ walked_from is_page cut (Some query) pages some are
+
+-- a page of tablets that stay is cut from the rows of their cells
+pub page_cut : (bounds : Bounds) (looks : List Look) (query : QueryValue) (page : PageValue) → page_of bounds query looks ≡ Ok page → IsCutFrom (flat_map (λ look. cells_in look.1) looks) query page
+page_cut bounds looks query page is = (ok_value (first_refusal (visited bounds query looks)) (first_page query (rows_in query looks)) page is).1
+
+still_left : (looks : List Look) (asked : Option QueryValue) → rows_left looks asked ≡ rows_still (flat_map (λ look. cells_in look.1) looks) asked
+still_left looks None = refl
+still_left looks (Some query) = refl
+
+module _ (looks : List Look) (rises : Rising bytes_cmp (flat_map (λ look. cells_in look.1) looks)) where
   pub walked : (bounds : Bounds) (query : QueryValue) (pages : List PageValue) → 0 < query.limit → ArePages (IsPageOf bounds looks) (Some query) pages → rows_of pages ++ rows_left looks (left_by (Some query) pages) ≡ rows_in query looks
-  walked bounds query pages some are = walked_from bounds (Some query) pages some are
+  walked bounds query pages some are =
+      ap (λ (es : Entries). rows_of pages ++ es) (still_left looks (left_by (Some query) pages))
+      ∙ walked_from (flat_map (λ (look : Look). cells_in look.1) looks) rises (IsPageOf bounds looks) (page_cut bounds looks) (Some query) pages some are
 
 -- where none is refused, none that is visited is
 none_kept : (p : Look → Bool) (looks : List Look) → first_refusal looks ≡ None → first_refusal (filter p looks) ≡ None

@@ -1,5 +1,5 @@
 -- Pages over what the looks of a view found.
-use Rattle.std.specs.Prelude.{◌≡◌, ℕ, ◌+◌, ◌-◌, ◌<◌, ◌≤◌, ◌⊎◌, List, length, map, take, ◌++◌, None, Result, OnOk}
+use Rattle.std.specs.Prelude.{◌≡◌, ℕ, ◌+◌, ◌-◌, ◌<◌, ◌≤◌, ◌⊎◌, List, length, map, take, ◌++◌, None, Result, OnOk, OnErr}
 use Rattle.std.specs.List.{AllByRecursion}
 use Rattle.pn_record.specs.CellMap.{Entries}
 use Rattle.pn_tablet.specs.Layouts.{Bounds}
@@ -25,12 +25,13 @@ pub record IsVisit (bounds : Bounds) (query : QueryValue) (seen : List Look) : T
 abbrev pub IsWhole : Bounds → QueryValue → List Look → Type 0
 IsWhole bounds query seen = (length seen ≡ length (candidates bounds query)) ⊎ (query.limit < length (rows_in query seen))
 
--- the rows of a query were read through a view by these looks, and the answer is the right one for them
+-- the rows of a query were read through a view by these looks, and the answer is the right one for them; no fault comes before a look
 pub record IsScan {V A B : Type 0} (looks : V → Look → V → Type 0) (bounds : Bounds) (query : QueryValue) (old new : V) (show : A → B) (answer : Result A ScanFault) (right : Entries → B) (seen : List Look) : Type 0 where
   pub looked : Looks looks old seen new
   pub visit : IsVisit bounds query seen
   pub answers : Answers show answer (unless (first_refusal (visited bounds query seen)) (right (rows_in query seen)))
   pub whole : OnOk answer (IsWhole bounds query seen)
+  pub begun : OnErr answer (0 < length seen)
 
 -- rows, and after them those of one more tablet, up to one more than a page has
 abbrev pub rows_after : QueryValue → Entries → Look → Result Entries ScanFault

@@ -1,6 +1,6 @@
 //! Pages of the rows of a query, read tablet by tablet.
 
-ghost use Rattle.std.specs.Prelude.{◌≡◌, ℕ, ◌+◌, ◌-◌, ◌≤◌, ◌++◌, List, length, take, max, option_map, nat_lt, Option, Some, None, IfOk};
+ghost use Rattle.std.specs.Prelude.{◌≡◌, ℕ, ◌+◌, ◌-◌, ◌<◌, ◌≤◌, ◌++◌, List, length, take, max, option_map, nat_lt, Option, Some, None, IfOk, OnErr};
 ghost use Rattle.std.specs.List.{range_with_len, last_or};
 ghost use Rattle.std.specs.Option.{option_copied};
 ghost use Rattle.pn_record.specs.CellMap.{Entries};
@@ -23,7 +23,7 @@ use std::alloc::Global;
 /// Tablets are read in rising number until a row comes after the page. `Recovering` names the first that recovers,
 /// even where the page is full.
 ///
-/// After an error the view stays usable.
+/// `Memory` comes only after a look into the first candidate, which serves. After an error the view stays usable.
 pub fn page<V: View>(alloc: Global, view: &mut V, query: &Query) -> Result<Page, ScanFault>
     ensures scan { (seen : List Look) × IsScan V.looks (V.bounds view.old) query.now view.old view.new (λ page. (page.rows.items, page.next)) result
         (first_page query.now) seen }
@@ -126,7 +126,8 @@ fn begins_before(from: Option<&Key>, to: &Key) -> bool
 
 // The page of rows, of which there may be one more than the limit.
 fn page_of(alloc: Global, query: &Query, mut rows: Vec<Row>) -> Result<Page, NoMemory>
-    ensures { IfOk result (λ page. (all : Entries) → rows.items ≡ take (query.now.limit + 1) all → (page.rows.items, page.next) ≡ first_page query.now all) }
+    ensures full { OnErr result (query.now.limit < length rows.items) }
+    ensures page { IfOk result (λ page. (all : Entries) → rows.items ≡ take (query.now.limit + 1) all → (page.rows.items, page.next) ≡ first_page query.now all) }
 {
     if rows.len() <= query.limit() {
         return Ok(Page { rows, next: None });

@@ -50,8 +50,8 @@ got_as bounds keys old new show (Err fault) seen is = record { looked = is.looke
 -- a scan, by what its answer shows
 pub scanned_as : {A : Type 0} (bounds : Bounds) (query : QueryValue) (old new : LiveReaderValue) (show : A → PageValue) (found : Result A ScanFault) (seen : List Look)
     → IsScan LooksLive bounds query old new show found (first_page query) seen → IsScan LooksLive bounds query old new (λ page. page) (seen_as show found) (first_page query) seen
-scanned_as bounds query old new show (Ok page) seen is = record { looked = is.looked; visit = is.visit; answers = is.answers; whole = is.whole }
-scanned_as bounds query old new show (Err fault) seen is = record { looked = is.looked; visit = is.visit; answers = is.answers; whole = is.whole }
+scanned_as bounds query old new show (Ok page) seen is = record { looked = is.looked; visit = is.visit; answers = is.answers; whole = is.whole; begun = is.begun }
+scanned_as bounds query old new show (Err fault) seen is = record { looked = is.looked; visit = is.visit; answers = is.answers; whole = is.whole; begun = is.begun }
 
 -- the line says this command
 pub answers_said : (old new : LiveReaderValue) (line : List ℕ) (command : CommandValue) (reply : Reply) → lookup_at line ≡ Ok command → LooksUp old command new reply → AnswersLine old line new reply

@@ -134,7 +134,7 @@ follow_in (line ∷ before) between after one other [] are order = absurd are
 follow_in (line ∷ before) between after one other (first ∷ says) are order = follow_in before between after one other says are.1 order.1
 
 -- a text is one line of a copy
-says_one : (line : List ℕ) (says other : CopyLine) → IsLine IsValue line says → IsLine IsValue line other → says ≡ other
+pub says_one : (line : List ℕ) (says other : CopyLine) → IsLine IsValue line says → IsLine IsValue line other → says ≡ other
 says_one line says other first second =
     let same = sym (line_at-again Truncated line says first) ∙ line_at-again Truncated line other second in
     cc

@@ -46,7 +46,7 @@ some_after (line ∷ lines) = (line, lines ++ [] ∷ [], refl)
 
 -- ---- a text that spells a copy is read as it
 
-first_after : (last : Option Image) (image : Image) (images : List Image) → rise_after last (image ∷ images) ≡ true → (option_map_or (λ l. comes_after l image) last true ≡ true) × (rise_after (Some image) images ≡ true)
+pub first_after : (last : Option Image) (image : Image) (images : List Image) → rise_after last (image ∷ images) ≡ true → (option_map_or (λ l. comes_after l image) last true ≡ true) × (rise_after (Some image) images ≡ true)
 first_after None image images rise = (refl, rise)
 first_after (Some last) image images rise = and_parts (comes_after last image) (images_rise (image ∷ images)) rise
 
@@ -83,7 +83,7 @@ module _ (range : Ends) (marks : Positions) where
       ∙ images_again (n + 1) (done ++ image ∷ []) (Some image) images lines count (omega (arith, some)) (omega (arith, counts, some)) are.1 later.1 within.1
       ∙ ap (λ all. Ok (record { range = range; marks = marks; cells = table_of all })) (append_assoc done (image ∷ []) images)
 
-sorted_after : (marks : Positions) (mark : List ℕ × ℕ) (rest : Positions) → is_sorted name_cmp (marks ++ mark ∷ rest) ≡ true → is_after_all marks mark.0 ≡ true
+pub sorted_after : (marks : Positions) (mark : List ℕ × ℕ) (rest : Positions) → is_sorted name_cmp (marks ++ mark ∷ rest) ≡ true → is_after_all marks mark.0 ≡ true
 sorted_after [] mark rest sorted = refl
 sorted_after (first ∷ marks) mark rest sorted =
     let parts = and_parts (below_all name_cmp first.0 (marks ++ mark ∷ rest)) (is_sorted name_cmp (marks ++ mark ∷ rest)) sorted in
@@ -116,7 +116,7 @@ module _ (range : Ends) (images : List Image) (rise : images_rise images ≡ tru
 
 -- ---- and a text that is read as a copy spells it
 
-sorted_push : (marks : Positions) (name : List ℕ) (n : ℕ) → is_sorted name_cmp marks ≡ true → is_after_all marks name ≡ true → is_sorted name_cmp (marks ++ (name, n) ∷ []) ≡ true
+pub sorted_push : (marks : Positions) (name : List ℕ) (n : ℕ) → is_sorted name_cmp marks ≡ true → is_after_all marks name ≡ true → is_sorted name_cmp (marks ++ (name, n) ∷ []) ≡ true
 sorted_push [] name n sorted later = refl
 sorted_push (first ∷ marks) name n sorted later =
     let parts = and_parts (below_all name_cmp first.0 marks) (is_sorted name_cmp marks) sorted in

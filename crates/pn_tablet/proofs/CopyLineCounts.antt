@@ -14,7 +14,7 @@ use Rattle.pn_tablet.proofs.SameSpelling.{spelled_again}
 lines_again : (lines : List (List ℕ)) → All IsUnbroken lines → lines_of (text_of lines) ≡ lines
 lines_again lines unbroken = ap lines_of (sym (append-nil (text_of lines))) ∙ lines_of-text lines [] unbroken ∙ ap (λ rest. lines ++ rest) lines_of-nil ∙ append-nil lines
 
-as_many : (lines : List (List ℕ)) (says : List CopyLine) → AreLines lines says → length lines ≡ length says
+pub as_many : (lines : List (List ℕ)) (says : List CopyLine) → AreLines lines says → length lines ≡ length says
 as_many [] [] are = refl
 as_many [] (line ∷ says) are = absurd are
 as_many (line ∷ lines) [] are = absurd are

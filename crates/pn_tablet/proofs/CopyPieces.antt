@@ -1,5 +1,5 @@
 -- The pieces of a text between its newlines.
-use Rattle.std.proofs.Common.{◌≡◌, ◌≢◌, ℕ, ◌+◌, ◌-◌, ◌<◌, ◌≤◌, List, [], ◌∷◌, ◌++◌, length, All, Bool, true, false, Option, Some, None, take, drop, if◌then◌else◌, ◌==◌, refl, sym, ap, ◌∙◌, append_assoc, ne_eqb, arith, ⊎_elim, eq-eqb, eqb-true, get_or, get_or-take, add-one}
+use Rattle.std.proofs.Common.{◌≡◌, ◌≢◌, ℕ, suc, ◌+◌, ◌-◌, ◌<◌, ◌≤◌, List, [], ◌∷◌, ◌++◌, length, All, Bool, true, false, Option, Some, None, take, drop, if◌then◌else◌, ◌==◌, refl, sym, ap, ◌∙◌, append_assoc, ne_eqb, arith, ⊎_elim, eq-eqb, eqb-true, get_or, get_or-take, add-one}
 use Rattle.std.proofs.Math.Seq.{split_at}
 use Rattle.std.proofs.lemmas.Bool.{cases_eq}
 use Rattle.std.proofs.lemmas.List.{length-take, length-drop, take_all}
@@ -58,6 +58,13 @@ pieces_of-some (b ∷ text) =
     let (piece, more, first) = onto_first-some b (pieces_of text) in
     (b ∷ piece, more, pieces_of-byte b text other ∙ first))
     (cases_eq b 10)
+
+-- a text of a line and a rest is no single piece
+pub two_pieces : (text line rest : List ℕ) → pieces_of text ≡ line ∷ pieces_of rest → pieces_of text ≡ text ∷ [] → ⊥
+two_pieces text line rest cut one =
+    let (piece, more, is) = pieces_of-some rest in
+    let both : 1 ≡ suc (suc (length more)) = ap length (sym one ∙ cut) ∙ ap (λ pieces. suc (length pieces)) is in
+    omega (arith, both)
 
 is_over-two : (first : List ℕ) (pieces more : List (List ℕ)) (piece : List ℕ) → pieces ≡ piece ∷ more → is_over (first ∷ pieces) ≡ false
 is_over-two [] pieces more piece is = ap (λ rest. is_over ([] ∷ rest)) is

@@ -4,14 +4,16 @@ use Rattle.std.proofs.lemmas.Bool.{and_parts}
 use Rattle.pn_json.specs.Answers.{◌>>=◌, IsUnless}
 use Rattle.pn_join.specs.Marks.{is_position}
 use Rattle.pn_join.specs.Naming.{is_name}
+use Rattle.pn_tablet.specs.CopyFaults.{is_memory}
 use Rattle.pn_tablet.specs.CopyLineReading.{head_at, line_at}
 use Rattle.pn_tablet.specs.CopyReading.{pieces_of, is_over, after, read_on, copy_in, copy_at}
 use Rattle.pn_tablet.specs.Drafts.{DraftValue, begun}
 use Rattle.pn_tablet.specs.Ranges.{Ends}
+use Rattle.pn_tablet.specs.Refusals.{Answers, Refuses}
 use Rattle.pn_tablet.specs.declared.copy_line.CopyLine.{CopyLine}
 use Rattle.pn_tablet.specs.declared.copy_line.CopyLine.TheVariants.{Mark}
 use Rattle.pn_tablet.specs.declared.copy_fault.CopyTextFault.{CopyTextFault}
-use Rattle.pn_tablet.specs.declared.copy_fault.CopyTextFault.TheVariants.{Truncated, BadLine, Memory}
+use Rattle.pn_tablet.specs.declared.copy_fault.CopyTextFault.TheVariants.{Truncated, BadLine, OutsideRange, NotRising, BadEnd, Memory}
 use Rattle.pn_tablet.proofs.CopyPieces.{pieces_of-some}
 use Rattle.pn_tablet.proofs.CopyValues.{line_at-found}
 
@@ -53,6 +55,19 @@ handed_on (Err other) right fault is refused = subst (λ (f : CopyTextFault). f 
 
 pub same_right : {A : Type 0} (result right other : Result A CopyTextFault) → right ≡ other → IsUnless Memory result right → IsUnless Memory result other
 same_right {A = A} result right other is answers = subst (λ (r : Result A CopyTextFault). IsUnless Memory result r) is answers
+
+-- a refusal is right, but for memory
+pub refused_right : {A : Type 0} (fault : CopyTextFault) (right : Result A CopyTextFault) → Refuses is_memory fault right → fault ≢ Memory → right ≡ Err fault
+refused_right Truncated right is other = is
+refused_right (BadLine n) right is other = is
+refused_right (OutsideRange n) right is other = is
+refused_right (NotRising n) right is other = is
+refused_right BadEnd right is other = is
+refused_right Memory right is other = absurd (other refl)
+
+pub unless_memory : {A : Type 0} (result right : Result A CopyTextFault) → Answers is_memory result right → IsUnless Memory result right
+unless_memory (Ok value) right is = is
+unless_memory (Err fault) right is = refused_right fault right is
 
 -- the position of a mark that a line says is one of a message
 pub mark_position : (fault : CopyTextFault) (line name : List ℕ) (position : ℕ) → line_at fault line ≡ Ok (Mark name position) → is_position position ≡ true

@@ -25,7 +25,7 @@ use Rattle.pn_tablet.proofs.CopyValues.{head_at-again, head_at-found}
 
 -- ---- from the pieces back to the text
 
-abbrev joined : List (List ℕ) → List ℕ
+abbrev pub joined : List (List ℕ) → List ℕ
 joined [] = []
 joined (piece ∷ []) = piece
 joined (piece ∷ next ∷ pieces) = piece ++ 10 ∷ joined (next ∷ pieces)
@@ -37,7 +37,7 @@ joined-onto b piece (next ∷ pieces) = refl
 joined-cons : (line : List ℕ) (pieces more : List (List ℕ)) (piece : List ℕ) → pieces ≡ piece ∷ more → joined (line ∷ pieces) ≡ line ++ 10 ∷ joined pieces
 joined-cons line pieces more piece is = rw is refl
 
-joined-pieces_of : (text : List ℕ) → joined (pieces_of text) ≡ text
+pub joined-pieces_of : (text : List ℕ) → joined (pieces_of text) ≡ text
 joined-pieces_of [] = rw pieces_of-nil refl
 joined-pieces_of (b ∷ text) =
     let (piece, more, is) = pieces_of-some text in
@@ -64,7 +64,7 @@ onto_first-unbroken b (piece ∷ pieces) other unbroken =
     (All-cons (λ x. x ≢ 10) b piece other (All-head IsUnbroken piece pieces unbroken))
     (All-tail IsUnbroken piece pieces unbroken)
 
-unbroken-pieces_of : (text : List ℕ) → All IsUnbroken (pieces_of text)
+pub unbroken-pieces_of : (text : List ℕ) → All IsUnbroken (pieces_of text)
 unbroken-pieces_of [] = rw pieces_of-nil (All-cons IsUnbroken [] [] (All-nil (λ x. x ≢ 10)) (All-nil IsUnbroken))
 unbroken-pieces_of (b ∷ text) =
     ⊎_elim

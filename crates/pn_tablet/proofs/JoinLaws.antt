@@ -46,6 +46,9 @@ raised_commute cover marks positions g h k =
 raised_repeat : (cover marks : Positions) → Rise cover → Rise marks → raised (raised cover marks) marks ≡ raised cover marks
 raised_repeat cover marks g h = raised-associates cover marks marks g ∙ ap (raised cover) (raised-repeats marks h)
 
+raised_past : (cover marks later : Positions) → Rise cover → raised marks later ≡ later → raised (raised cover marks) later ≡ raised cover later
+raised_past cover marks later g past = raised-associates cover marks later g ∙ ap (raised cover) past
+
 taking_commutes : (t : TabletStateValue) (cells others : Entries) (marks positions : Positions) → Rise t.cover → Rise marks → Rise positions
     → taking (taking t cells marks) others positions ≡ taking (taking t others positions) cells marks
 taking_commutes t cells others marks positions g h k =
@@ -93,3 +96,16 @@ repeat_by t cells marks false x g h = ap (λ t. stepped t (Join cells marks)) (l
 pub joins_repeat : (t : TabletStateValue) (cells : Entries) (marks : Positions) → Rise t.cover → Rise marks
     → stepped (stepped t (Join cells marks)) (Join cells marks) ≡ stepped t (Join cells marks)
 joins_repeat t cells marks = repeat_by t cells marks (lie_in t.range cells) refl
+
+later_by : (t : TabletStateValue) (cells : Entries) (marks later : Positions) (a : Bool) → lie_in t.range cells ≡ a → Rise t.cover → raised marks later ≡ later
+    → stepped (stepped t (Join cells marks)) (Join cells later) ≡ stepped t (Join cells later)
+later_by t cells marks later true x g past =
+    ap (λ t. stepped t (Join cells later)) (taken_in t cells marks x) ∙ taken_in (taking t cells marks) cells later x
+    ∙ (λ i. record { range = t.range; cells = adds_repeat t.cells (spell cells) i; cover = raised_past t.cover marks later g past i; status = t.status })
+    ∙ sym (taken_in t cells later x)
+later_by t cells marks later false x g past = ap (λ t. stepped t (Join cells later)) (left_out t cells marks x)
+
+-- the same cells joined again, with marks that are nowhere below
+pub later_join_alone : (t : TabletStateValue) (cells : Entries) (marks later : Positions) → Rise t.cover → raised marks later ≡ later
+    → stepped (stepped t (Join cells marks)) (Join cells later) ≡ stepped t (Join cells later)
+later_join_alone t cells marks later = later_by t cells marks later (lie_in t.range cells) refl

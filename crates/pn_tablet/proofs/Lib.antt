@@ -1,3 +1,4 @@
+pub mod BegunCopies
 pub mod BoundSteps
 pub mod Changed
 pub mod CopyExchanges
@@ -13,11 +14,14 @@ pub mod CopyValues
 pub mod CopyWritten
 pub mod Counts
 pub mod Drafting
+pub mod FaultCases
+pub mod FirstFaults
 pub mod Insides
 pub mod JoinLaws
 pub mod Joined
 pub mod Keeping
 pub mod LayoutFacts
+pub mod LineFaults
 pub mod Recovery
 pub mod SameSpelling
 pub mod SpelledImages

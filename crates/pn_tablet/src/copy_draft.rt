@@ -4,13 +4,14 @@ ghost use Rattle.std.specs.Prelude.{◌≡◌, ◌≤◌, true, IsTrue, OnOk};
 ghost use Rattle.std.specs.List.{list_all};
 ghost use Rattle.std.specs.Option.{option_copied, option_map_or};
 ghost use Rattle.std.specs.Ordering.{is_lt};
-ghost use Rattle.pn_json.specs.Answers.{IsUnless};
 ghost use Rattle.pn_join.specs.Marks.{is_position, name_cmp};
 ghost use Rattle.pn_record.specs.Cells.{spell};
 ghost use Rattle.pn_record.specs.CellMap.{table_of};
+ghost use Rattle.pn_tablet.specs.CopyFaults.{is_memory};
 ghost use Rattle.pn_tablet.specs.CopyReading.{with_mark, with_image, ended};
 ghost use Rattle.pn_tablet.specs.CopyTexts.{comes_after};
 ghost use Rattle.pn_tablet.specs.Drafts.{begun, with_last};
+ghost use Rattle.pn_tablet.specs.Refusals.{Answers};
 
 use crate::{CopyTextFault, Range, TabletCopy};
 use pn_join::{Marks, NoMemory, StreamName, raise_at};
@@ -64,7 +65,7 @@ impl CopyDraft {
         position: u64,
     ) -> Result<CopyDraft, CopyTextFault>
         requires { IsTrue (is_position position) }
-        ensures { IsUnless CopyTextFault.Memory result (with_mark number self (name, position)) }
+        ensures { Answers is_memory result (with_mark number self (name, position)) }
     {
         if self.last.is_some() {
             return Err(CopyTextFault::BadLine(number));
@@ -82,7 +83,7 @@ impl CopyDraft {
         number: u64,
         image: Image,
     ) -> Result<CopyDraft, CopyTextFault>
-        ensures { IsUnless CopyTextFault.Memory result (with_image number self image) }
+        ensures { Answers is_memory result (with_image number self image) }
     {
         if !self.range.contains(&image.key) {
             return Err(CopyTextFault::OutsideRange(number));
@@ -103,7 +104,7 @@ impl CopyDraft {
         is_over: bool,
     ) -> Result<TabletCopy, CopyTextFault>
         requires { 2 ≤ number }
-        ensures { IsUnless CopyTextFault.Memory result (ended number self count is_over) }
+        ensures { Answers is_memory result (ended number self count is_over) }
     {
         if count != number - 2 || !is_over {
             return Err(CopyTextFault::BadEnd);

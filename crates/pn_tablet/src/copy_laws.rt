@@ -1,16 +1,27 @@
 //! The laws of the texts of copies, as contracts. A call does nothing.
 
-ghost use Rattle.std.specs.Prelude.{◌≡◌, ◌<◌, ◌↔◌, ◌∷◌, ◌++◌, ℕ, List, length, All, Ok, Err};
+ghost use Rattle.std.specs.Prelude.{◌≡◌, ◌≢◌, ◌<◌, ◌↔◌, ◌∷◌, ◌++◌, ℕ, List, length, All, Ok, Err};
 ghost use Rattle.pn_line.specs.Reads.{IsUnbroken};
 ghost use Rattle.pn_line.specs.Text.{text_of};
 ghost use Rattle.pn_tablet.specs.Copies.{TabletCopyValue};
+ghost use Rattle.pn_tablet.specs.CopyFaults.{IsCutOff, HasBadLine, LeavesRange, HasFall, HasBadEnd};
 ghost use Rattle.pn_tablet.specs.CopyReading.{copy_at};
 ghost use Rattle.pn_tablet.specs.CopyTexts.{IsCopyText};
-ghost use Rattle.pn_tablet.specs.declared.copy_fault.CopyTextFault.TheVariants.{Truncated};
+ghost use Rattle.pn_tablet.specs.declared.copy_fault.CopyTextFault.TheVariants.{Truncated, BadLine, OutsideRange, NotRising, BadEnd, Memory};
 
 /// A text is read as a copy exactly where it spells it.
 pub fn a_copy_is_read_where_it_is_spelled()
     ensures { (text : List ℕ) (copy : TabletCopyValue) → IsCopyText text copy ↔ (copy_at text ≡ Ok copy) }
+{}
+
+/// Any other text has the fault of the first line with which it no longer begins a copy, or is truncated.
+pub fn a_fault_is_that_of_the_first_faulty_line()
+    ensures truncated { (text : List ℕ) → (copy_at text ≡ Err Truncated) ↔ IsCutOff text }
+    ensures bad_line { (text : List ℕ) (n : ℕ) → (copy_at text ≡ Err (BadLine n)) ↔ HasBadLine text n }
+    ensures outside_range { (text : List ℕ) (n : ℕ) → (copy_at text ≡ Err (OutsideRange n)) ↔ LeavesRange text n }
+    ensures not_rising { (text : List ℕ) (n : ℕ) → (copy_at text ≡ Err (NotRising n)) ↔ HasFall text n }
+    ensures bad_end { (text : List ℕ) → (copy_at text ≡ Err BadEnd) ↔ HasBadEnd text }
+    ensures no_other { (text : List ℕ) → copy_at text ≢ Err Memory }
 {}
 
 /// No text spells two copies.

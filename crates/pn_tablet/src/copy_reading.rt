@@ -1,6 +1,7 @@
 //! Copies, read from their text.
 
 ghost use Rattle.std.specs.Prelude.{◌≡◌, ◌≤◌, ◌<◌, ◌∷◌, [], length, Ok, IfOk, MatchOption};
+ghost use Rattle.pn_line.specs.Reads.{IsUnbroken};
 ghost use Rattle.pn_json.specs.Answers.{IsUnless};
 ghost use Rattle.pn_tablet.specs.Copies.{TabletCopyValue};
 ghost use Rattle.pn_tablet.specs.CopyReading.{pieces_of, read_on, copy_at};
@@ -15,20 +16,22 @@ use std::alloc::Global;
 /// The copy that a text spells, read in one pass. It takes the memory of the copy and of one line.
 ///
 /// The first faulty line decides: `BadLine` above 65,536 bytes, out of place or out of its limits, `OutsideRange`,
-/// `NotRising`, `BadEnd`. `Truncated` where the text ends before.
+/// `NotRising`, `BadEnd`. `Truncated` where the text ends before, which `Memory` never replaces where it has no newline.
 pub fn read_copy(alloc: Global, text: &[u8]) -> Result<TabletCopy, CopyTextFault>
     ensures found { IfOk result (λ copy. IsCopyText text.now copy) }
     ensures only { (copy : TabletCopyValue) → IsCopyText text.now copy → IsUnless CopyTextFault.Memory result (Ok copy) }
 
     // Which fault it is.
     ensures exact { IsUnless CopyTextFault.Memory result (copy_at text.now) }
+    ensures no_line { IsUnbroken text.now → result ≡ Err CopyTextFault.Truncated }
 {
     checked_copy(alloc, text)
 }
 
 #[tactic(auto, unfolding(crate::specs::CopyReading::copy_at))]
 fn checked_copy(alloc: Global, text: &[u8]) -> Result<TabletCopy, CopyTextFault>
-    ensures { IsUnless CopyTextFault.Memory result (copy_at text.now) }
+    ensures exact { IsUnless CopyTextFault.Memory result (copy_at text.now) }
+    ensures no_line { pieces_of text.now ≡ text.now ∷ [] → result ≡ Err CopyTextFault.Truncated }
 {
     let Some((head, rest)) = cut_line(text) else {
         return Err(CopyTextFault::Truncated);

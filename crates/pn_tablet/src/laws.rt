@@ -2,7 +2,7 @@
 
 ghost use Rattle.std.specs.Prelude.{◌≡◌, ℕ, List, Ok, fold};
 ghost use Rattle.std.specs.FinMap.{find};
-ghost use Rattle.pn_join.specs.Marks.{Positions, Reaches};
+ghost use Rattle.pn_join.specs.Marks.{Positions, Reaches, raised};
 ghost use Rattle.pn_record.specs.declared.image.Image.{Image};
 ghost use Rattle.pn_record.specs.Order.{bytes_cmp};
 ghost use Rattle.pn_record.specs.CellMap.{Entries, table_of};
@@ -36,9 +36,11 @@ pub fn joins_commute()
         ≡ stepped (stepped tablet (Join others positions)) (Join cells marks) }
 {}
 
-/// A repeated join changes nothing.
+/// A repeated join changes nothing. With later marks, it leaves what it alone would have left.
 pub fn joins_repeat_without_effect()
-    ensures { (tablet : TabletStateValue) (cells : Entries) (marks : Positions) → Rise tablet.cover → Rise marks
+    ensures later { (tablet : TabletStateValue) (cells : Entries) (marks later : Positions) → Rise tablet.cover → raised marks later ≡ later
+        → stepped (stepped tablet (Join cells marks)) (Join cells later) ≡ stepped tablet (Join cells later) }
+    ensures same { (tablet : TabletStateValue) (cells : Entries) (marks : Positions) → Rise tablet.cover → Rise marks
         → stepped (stepped tablet (Join cells marks)) (Join cells marks) ≡ stepped tablet (Join cells marks) }
 {}
 

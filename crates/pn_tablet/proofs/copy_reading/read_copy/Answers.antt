@@ -1,10 +1,14 @@
 -- What was read is the copy that the text spells.
 use Rattle.pn_json.proofs.Inverses.{right_same}
 use Rattle.pn_tablet.proofs.CopyTextFacts.{text_again, answer_found}
+use Rattle.pn_tablet.proofs.CopyPieces.{pieces_of-last}
 use Rattle.pn_tablet.proofs.copy_reading.read_copy.Goals as goal
 
 pub returns-clause-found : goal.returns-clause-found
-returns-clause-found c = answer_found c.args.text.now c.checked_copy.result c.checked_copy.ensures
+returns-clause-found c = answer_found c.args.text.now c.checked_copy.result c.checked_copy.ensures.exact
 
 pub returns-clause-only : goal.returns-clause-only
-returns-clause-only c = λ copy is. right_same _ _ _ _ _ c.checked_copy.ensures (text_again c.args.text.now copy is)
+returns-clause-only c = λ copy is. right_same _ _ _ _ _ c.checked_copy.ensures.exact (text_again c.args.text.now copy is)
+
+pub returns-clause-no_line : goal.returns-clause-no_line
+returns-clause-no_line c = λ unbroken. c.checked_copy.ensures.no_line (pieces_of-last c.args.text.now unbroken)
