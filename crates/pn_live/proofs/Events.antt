@@ -1,5 +1,5 @@
 -- Calls of a live region are events of a region, and what they take is there when it is closed.
-use Rattle.std.proofs.Common.{◌≡◌, List, [], ◌∷◌, refl, sym, ap, ◌∙◌, subst, Ok}
+use Rattle.std.proofs.Common.{◌≡◌, List, [], ◌∷◌, refl, sym, ap, ◌∙◌, subst}
 use Rattle.pn_record.specs.CellMap.{table_of}
 use Rattle.pn_stream.specs.Brokers.{BrokerRecord}
 use Rattle.pn_stream.specs.Positions.{DeliveryValue}
@@ -11,7 +11,6 @@ use Rattle.pn_region.specs.Laws.{AreIn}
 use Rattle.pn_region.specs.Logged.{LoggedRegion, breaking}
 use Rattle.pn_region.specs.Regions.{RegionValue, new_region, all_cells}
 use Rattle.pn_region.specs.Rising.{AllRise}
-use Rattle.pn_region.specs.Rounds as rounds
 use Rattle.pn_region.specs.Serving.{AllServe}
 use Rattle.pn_region.specs.Taken.{all_taken, all_left, AreRounds}
 use Rattle.pn_region.proofs.EventImages.{taken_together, rounds_together}
@@ -53,11 +52,11 @@ module _ (broker : BrokerRecord) (bounds : Bounds) (events : List RegionEvent) (
 
 -- a repeated round makes up for a failed one
 pub live_makes_up : (start failed later end : LiveRegionValue) (deliveries : List DeliveryValue) (events : List RegionEvent)
-    → AllRise (core start) → rounds.IsHalfTaken (core start) deliveries (core failed) → AreRounds events → AllLeadLive events failed later
-    → rounds.round (core later) deliveries ≡ Ok (core end)
-    → (other : RegionValue) × AllLeadTo events (core start) other × (rounds.round other deliveries ≡ Ok (core end))
+    → AllRise (core start) → LeadsLive (half_round deliveries) start failed → AreRounds events → AllLeadLive events failed later
+    → LeadsLive (round deliveries) later end
+    → (other : RegionValue) × AllLeadTo events (core start) other × LeadsTo (round deliveries) other (core end)
 live_makes_up start failed later end deliveries events rise left are led is =
-    makes_up (core start) (core failed) (core later) (core end) deliveries events rise are (all_lead events failed later led) is left
+    makes_up (core start) (core failed) (core later) (core end) deliveries events rise are (all_lead events failed later led) is.0 left.1
 
 -- names of marks and covers rise in a new live region, and after each call
 pub new_rises : (bounds : Bounds) (live : LiveRegionValue) → IsNewLive bounds live → AllRise (core live)
