@@ -2,6 +2,7 @@
 use Rattle.std.proofs.Common.{◌≡◌, List, [], ◌∷◌, refl, sym, ap, ◌∙◌, subst}
 use Rattle.pn_record.specs.CellMap.{table_of}
 use Rattle.pn_stream.specs.Brokers.{BrokerRecord}
+use Rattle.pn_stream.specs.Positions.{DeliveryValue}
 use Rattle.pn_tablet.specs.Layouts.{Bounds, IsLayout}
 use Rattle.pn_tablet.specs.declared.op.TabletOp.TheVariants.{Lose}
 use Rattle.pn_apply.specs.Reducing.{ranges}
@@ -9,9 +10,12 @@ use Rattle.pn_region.specs.Events.{RegionEvent, round, half_round, loss, adoptio
 use Rattle.pn_region.specs.Laws.{AreIn}
 use Rattle.pn_region.specs.Logged.{LoggedRegion, breaking}
 use Rattle.pn_region.specs.Regions.{RegionValue, new_region, all_cells}
+use Rattle.pn_region.specs.Rising.{AllRise}
 use Rattle.pn_region.specs.Serving.{AllServe}
 use Rattle.pn_region.specs.Taken.{all_taken, all_left, AreRounds}
 use Rattle.pn_region.proofs.EventImages.{taken_together, rounds_together}
+use Rattle.pn_region.proofs.Repeats.{makes_up}
+use Rattle.pn_region.proofs.RisingRegions.{new_region_rises, event_rises}
 use Rattle.pn_live.specs.Events.{LeadsLive, AllLeadLive}
 use Rattle.pn_live.specs.LiveRegions.{LiveRegionValue, IsNewLive, core}
 use Rattle.pn_live.specs.Recovery.{appended_at}
@@ -45,3 +49,18 @@ module _ (broker : BrokerRecord) (bounds : Bounds) (events : List RegionEvent) (
 
   pub round_calls : AreRounds events → AreIn (all_left events) (all_taken broker events) → all_cells closed.state ≡ table_of (all_taken broker events)
   round_calls are again = rounds_together broker bounds events closed.state lawful leads are again
+
+-- a repeated round makes up for a failed one
+pub live_makes_up : (start failed later end : LiveRegionValue) (deliveries : List DeliveryValue) (events : List RegionEvent)
+    → AllRise (core start) → LeadsLive (half_round deliveries) start failed → AreRounds events → AllLeadLive events failed later
+    → LeadsLive (round deliveries) later end
+    → (other : RegionValue) × AllLeadTo events (core start) other × LeadsTo (round deliveries) other (core end)
+live_makes_up start failed later end deliveries events rise left are led is =
+    makes_up (core start) (core failed) (core later) (core end) deliveries events rise are (all_lead events failed later led) is.0 left.1
+
+-- names of marks and covers rise in a new live region, and after each call
+pub new_rises : (bounds : Bounds) (live : LiveRegionValue) → IsNewLive bounds live → AllRise (core live)
+new_rises bounds live new = subst AllRise (sym (new_core bounds live new)) (new_region_rises bounds)
+
+pub call_rises : (event : RegionEvent) (old new : LiveRegionValue) → AllRise (core old) → LeadsLive event old new → AllRise (core new)
+call_rises event old new rise did = event_rises event (core old) (core new) rise (one_leads event old new did)

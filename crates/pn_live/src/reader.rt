@@ -7,6 +7,7 @@ ghost use Rattle.pn_live.specs.Readers.{LooksLive, IsFrontFor, AreTabletReadersO
 ghost use Rattle.pn_live.specs.TabletReaders.{AllLearn};
 
 mod copying;
+mod getting;
 mod scanning;
 
 use crate::front::{Front, TabletNote};
