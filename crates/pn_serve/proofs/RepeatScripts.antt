@@ -4,7 +4,7 @@ use Rattle.std.specs.Prelude.{ℕ, Result, Ok, Err, Option}
 use Rattle.pn_join.specs.Marks.{Positions}
 use Rattle.pn_join.proofs.MarksFacts.{raised-repeats}
 use Rattle.pn_stream.specs.Positions.{DeliveryValue}
-use Rattle.pn_tablet.specs.Layouts.{Bounds, IsLayout}
+use Rattle.pn_tablet.specs.Layouts.{Bounds}
 use Rattle.pn_region.specs.Events.{RegionEvent, AllLeadTo}
 use Rattle.pn_region.specs.Marking.{new_marks}
 use Rattle.pn_region.specs.Regions.{RegionValue, IsRegion, new_region}
@@ -23,7 +23,7 @@ use Rattle.pn_serve.specs.Script.Events.{happened_in}
 use Rattle.pn_serve.specs.Script.Happened.{happened}
 use Rattle.pn_serve.specs.Script.Inputs.{InputEnd, Input, ended, after_input}
 use Rattle.pn_serve.specs.Script.Lines.{ToldLine, told_lines, after_line}
-use Rattle.pn_serve.specs.Script.Repeats.{IsRefused, IsRepeated, AreWithout, IsWithout}
+use Rattle.pn_serve.specs.Script.Repeats.{IsRefused, IsRepeated, AreWithout, IsToldWithout}
 use Rattle.pn_serve.specs.Script.Told.{Told, machine_of}
 use Rattle.pn_serve.specs.Script.Written.{first_outcome, later_outcomes, machine_after}
 use Rattle.pn_serve.proofs.Happened.{OneLeads, line_leads}
@@ -165,16 +165,17 @@ finished_input m input = ap (λ (k : Machine). ended k input.end) (after_told m 
 
 -- ---- the laws
 
-new_stands : (bounds : Bounds) → IsLayout bounds → Stands (new_region bounds)
-new_stands bounds lawful = record { is = new_one bounds lawful; rise = new_region_rises bounds }
-
-pub input_without : (bounds : Bounds) (input other : Input) → IsLayout bounds → IsWithout (serving (new_region bounds)) input other → Same (after_input (serving (new_region bounds)) input) (after_input (serving (new_region bounds)) other)
-input_without bounds input other lawful without =
-    let m = serving (new_region bounds) in
-    subst (λ (k : Machine). Same k (after_input m other)) (finished_input m input)
-    (subst (λ (k : Machine). Same (finished m (told_lines input.lines input.outcomes) input.end) k) (finished_input m other)
-    (subst (λ (end : Option InputEnd). Same (finished m (told_lines input.lines input.outcomes) input.end) (finished m (told_lines other.lines other.outcomes) end)) (sym without.end)
-    (all_made_up input.end (told_lines input.lines input.outcomes) (told_lines other.lines other.outcomes) m (new_stands bounds lawful) without.lines)))
+pub told_without : (one other : Told) → IsToldWithout one other → Same (machine_of one) (machine_of other)
+told_without one other without =
+    let m = serving (new_region one.layout) in
+    let stands : Stands (new_region one.layout) = record { is = new_one one.layout one.lawful; rise = new_region_rises one.layout } in
+    let lines = told_lines one.input.lines one.input.outcomes in
+    let fewer = told_lines other.input.lines other.input.outcomes in
+    subst (λ (bounds : Bounds). Same (machine_of one) (after_input (serving (new_region bounds)) other.input)) without.layout
+    (subst (λ (k : Machine). Same k (after_input m other.input)) (finished_input m one.input)
+    (subst (λ (k : Machine). Same (finished m lines one.input.end) k) (finished_input m other.input)
+    (subst (λ (end : Option InputEnd). Same (finished m lines one.input.end) (finished m fewer end)) (sym without.end)
+    (all_made_up one.input.end lines fewer m stands without.lines))))
 
 events_rise : (events : List RegionEvent) (old new : RegionValue) → AllRise old → AllLeadTo events old new → AllRise new
 events_rise [] old new rise lead = subst AllRise (sym lead) rise

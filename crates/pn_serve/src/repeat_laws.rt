@@ -1,14 +1,13 @@
 //! The laws of repeated rounds, as contracts. A call does nothing.
 
-ghost use Rattle.std.specs.Prelude.{◌≡◌, List};
-ghost use Rattle.pn_region.specs.Prelude.{new_region};
-ghost use Rattle.pn_serve.specs.Machine.Outcomes.{serving};
-ghost use Rattle.pn_serve.specs.Script.Inputs.{Input, after_input, region_after};
-ghost use Rattle.pn_serve.specs.Script.Lines.{ToldLine, told_lines, after_line};
-ghost use Rattle.pn_serve.specs.Script.Repeats.{IsRefused, IsRepeated, IsWithout};
-ghost use Rattle.pn_serve.specs.Script.Told.{Told, machine_of};
+ghost use Rattle.std.specs.Prelude.{◌≡◌, ℕ, List};
+ghost use Rattle.pn_protocol.specs.Prelude.{command_at};
+ghost use Rattle.pn_serve.specs.Machine.Outcomes.{Outcome};
+ghost use Rattle.pn_serve.specs.Script.Inputs.{Input, after_input};
+ghost use Rattle.pn_serve.specs.Script.Lines.{ToldLine, told_lines, after_line, AsksNoNotices};
+ghost use Rattle.pn_serve.specs.Script.Repeats.{IsRefused, IsRepeated, IsToldWithout};
+ghost use Rattle.pn_serve.specs.Script.Told.{Told, machine_of, reply_of, last_reply};
 ghost use Rattle.pn_stream.specs.Prelude.{DeliveryValue};
-ghost use Rattle.pn_tablet.specs.Prelude.{Bounds, IsLayout};
 
 /// A `deliver` that was refused, as where memory ran out, leaves no trace once it is repeated and accepted, with only
 /// rounds in between.
@@ -25,11 +24,13 @@ pub fn a_repeated_deliver_leaves_no_trace_of_a_refused_one()
         → (after_input (after_line (machine_of told) line) more).mode ≡ (after_input (machine_of told) more).mode }
 {}
 
-/// Two new regions of one layout end with the same tablets and marks, where one was told what the other was, but for
-/// refused `deliver` lines that were repeated.
+/// A new region that was told an input with refused `deliver` lines, each repeated and accepted later with only rounds in
+/// between, is the region that was told the same without them.
+///
+/// It has the same tablets and marks, and replies alike to each further line that asks for no notices.
 pub fn repeated_delivers_leave_the_same_region()
-    ensures region { (bounds : Bounds) (input other : Input) → IsLayout bounds → IsWithout (serving (new_region bounds)) input other
-        → region_after (new_region bounds) input ≡ region_after (new_region bounds) other }
-    ensures mode { (bounds : Bounds) (input other : Input) → IsLayout bounds → IsWithout (serving (new_region bounds)) input other
-        → (after_input (serving (new_region bounds)) input).mode ≡ (after_input (serving (new_region bounds)) other).mode }
+    ensures region { (one other : Told) → IsToldWithout one other → (machine_of one).region ≡ (machine_of other).region }
+    ensures mode { (one other : Told) → IsToldWithout one other → (machine_of one).mode ≡ (machine_of other).mode }
+    ensures replies { (one other : Told) (outcome : Outcome) (text : List ℕ) → IsToldWithout one other → AsksNoNotices (command_at text)
+        → (reply_of one outcome text ≡ reply_of other outcome text) × (last_reply one outcome text ≡ last_reply other outcome text) }
 {}

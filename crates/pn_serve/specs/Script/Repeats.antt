@@ -1,15 +1,17 @@
 -- Rounds that were refused and repeated, and inputs without them.
 use Rattle.std.specs.Prelude.{◌≡◌, ◌≢◌, ◌⊎◌, ℕ, true, false, List, [], ◌∷◌, Option, None, Some, Ok}
 use Rattle.pn_stream.specs.Positions.{DeliveryValue}
+use Rattle.pn_region.specs.Regions.{new_region}
 use Rattle.pn_region.specs.Taken.{AreRounds}
 use Rattle.pn_protocol.specs.Command.Lines.{command_at}
 use Rattle.pn_protocol.specs.Command.Meaning.{deliver}
 use Rattle.pn_serve.specs.Machine.LastTurns.{end_turn}
-use Rattle.pn_serve.specs.Machine.Outcomes.{idle, Machine}
+use Rattle.pn_serve.specs.Machine.Outcomes.{idle, Machine, serving}
 use Rattle.pn_serve.specs.Machine.Turns.{turn}
 use Rattle.pn_serve.specs.Script.Events.{happened_in}
-use Rattle.pn_serve.specs.Script.Inputs.{InputEnd, Input}
+use Rattle.pn_serve.specs.Script.Inputs.{InputEnd}
 use Rattle.pn_serve.specs.Script.Lines.{ToldLine, told_lines, after_line}
+use Rattle.pn_serve.specs.Script.Told.{Told}
 
 -- a command is awaited, and the line delivers this
 pub record Delivers (machine : Machine) (text : List ℕ) (deliveries : List DeliveryValue) : Type 0 where
@@ -56,7 +58,8 @@ AreWithout machine (line ∷ lines) end others =
     (IsMadeUp machine line lines end × AreWithout (after_line machine line) lines end others)
     ⊎ ((rest : List ToldLine) × (others ≡ line ∷ rest) × AreWithout (after_line machine line) lines end rest)
 
--- the other input is this one, without some refused rounds that are later repeated
-pub record IsWithout (machine : Machine) (input other : Input) : Type 0 where
-  pub lines : AreWithout machine (told_lines input.lines input.outcomes) input.end (told_lines other.lines other.outcomes)
-  pub end : other.end ≡ input.end
+-- both have one layout; the other was told the same, without some refused rounds that are later repeated
+pub record IsToldWithout (one other : Told) : Type 0 where
+  pub layout : one.layout ≡ other.layout
+  pub lines : AreWithout (serving (new_region one.layout)) (told_lines one.input.lines one.input.outcomes) one.input.end (told_lines other.input.lines other.input.outcomes)
+  pub end : other.input.end ≡ one.input.end
