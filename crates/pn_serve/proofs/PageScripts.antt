@@ -1,6 +1,6 @@
 -- Pages that a script shows are those of regions, one after another.
-use Rattle.std.proofs.Common.{◌≡◌, ◌≢◌, ◌<◌, ◌⊎◌, inl, inr, ℕ, nat_le, Bool, true, false, cond, ◌&&◌, List, [], ◌∷◌, ◌++◌, length, take, drop, refl, sym, ap, ◌∙◌, subst, append-nil, arith}
-use Rattle.std.specs.Prelude.{Result, Ok, Err, Option, Some, None, filter, IsTrue}
+use Rattle.std.proofs.Common.{◌≡◌, ◌≢◌, ◌<◌, inl, inr, ℕ, nat_le, true, false, cond, ◌&&◌, List, [], ◌∷◌, ◌++◌, length, take, drop, refl, sym, ap, ◌∙◌, subst, append-nil, arith}
+use Rattle.std.specs.Prelude.{Result, Ok, Err, Option, Some, None}
 use Rattle.std.specs.FinMap.{find}
 use Rattle.std.specs.List.{list_all}
 use Rattle.std.specs.Ordering.{eq_by_cmp}
@@ -14,14 +14,14 @@ use Rattle.pn_record.specs.CellMap.{Entries}
 use Rattle.pn_record.specs.Order.{bytes_cmp}
 use Rattle.pn_record.specs.Sets.{CellValue}
 use Rattle.pn_record.proofs.HeldRecords.{tied_keys}
-use Rattle.pn_scan.specs.Pages.{PageValue, first_page}
+use Rattle.pn_scan.specs.Pages.{PageValue}
 use Rattle.pn_scan.specs.Queries.{QueryValue, continued, max_conditions, is_condition, is_end, is_limit, query_fits, is_query}
 use Rattle.pn_scan.specs.Shown.{is_shown, shown_rows}
 use Rattle.pn_scan.specs.Walks.{ArePages, left_by, rows_of}
 use Rattle.pn_scan.specs.declared.fault.ScanFault.{ScanFault}
-use Rattle.pn_scan.proofs.Continuing.{Row, shown_after}
+use Rattle.pn_scan.proofs.Continuing.{shown_after}
 use Rattle.pn_scan.proofs.RisingPages.{AllAfter}
-use Rattle.pn_scan.proofs.WalkLaws.{Ending, whole, goes_on, ending_of, HasRoom, room_left, IsCutFrom, page_cut}
+use Rattle.pn_scan.proofs.WalkLaws.{Ending, whole, goes_on, ending_of, IsCutFrom, page_cut}
 use Rattle.pn_region.specs.Events.{RegionEvent}
 use Rattle.pn_region.specs.PageWalks.{IsAnswered, IsAnsweredOf}
 use Rattle.pn_region.specs.Reads.{all_looks, page_in}

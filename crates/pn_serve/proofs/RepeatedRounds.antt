@@ -1,9 +1,7 @@
 -- Regions of which one took part of a round that the other did not, until the round is repeated.
-use Rattle.std.proofs.Common.{◌≡◌, ◌⊎◌, inl, inr, ℕ, zero, suc, Bool, true, false, cond, if◌then◌else◌, List, [], ◌∷◌, map, refl, sym, ap, ◌∙◌, subst}
+use Rattle.std.proofs.Common.{◌≡◌, ◌⊎◌, inl, inr, Bool, true, false, if◌then◌else◌, List, [], ◌∷◌, map, refl, sym, ap, ◌∙◌, subst}
 use Rattle.std.specs.Prelude.{Result, Ok, Err}
-use Rattle.std.specs.Result.{result_map_both}
-use Rattle.pn_join.specs.Marks.{Positions, raised}
-use Rattle.pn_join.proofs.MarksFacts.{raised-repeats}
+use Rattle.pn_join.specs.Marks.{Positions}
 use Rattle.pn_record.specs.declared.image.Image.{Image}
 use Rattle.pn_record.specs.CellMap.{Entries, table_of}
 use Rattle.pn_stream.specs.Positions.{DeliveryValue}
@@ -14,11 +12,9 @@ use Rattle.pn_tablet.specs.Steps as steps
 use Rattle.pn_tablet.specs.Steps.{after_step, stepped}
 use Rattle.pn_tablet.specs.Tablets.{TabletStateValue, lie_in}
 use Rattle.pn_tablet.specs.declared.fault.OpFault.TheVariants.{WrongRange}
-use Rattle.pn_tablet.specs.declared.op.TabletOp.{TabletOp}
 use Rattle.pn_tablet.specs.declared.op.TabletOp.TheVariants.{Join, Adopt}
 use Rattle.pn_apply.specs.Applying.{all_stepped, AreOldOrStepped}
 use Rattle.pn_apply.specs.Reducing.{all_images, images_in, join_in, joins_of, ranges}
-use Rattle.pn_region.specs.Events.{RegionEvent}
 use Rattle.pn_region.specs.Marking.{new_marks}
 use Rattle.pn_region.specs.Recovery.{losing, stepping}
 use Rattle.pn_region.specs.Regions.{RegionValue}
@@ -26,7 +22,6 @@ use Rattle.pn_region.specs.Rising.{AllRise}
 use Rattle.pn_region.specs.Rounds.{taking, joins}
 use Rattle.pn_region.specs.Taken.{IsRound}
 use Rattle.pn_region.specs.declared.fault.RoundFault.{RoundFault}
-use Rattle.pn_region.proofs.EventSteps.{Each}
 use Rattle.pn_region.proofs.HalfAhead.{CoversRise, all_joins_rise, join_rises, all_on, made_up}
 use Rattle.pn_region.proofs.RisingMarks.{IsBelow, below_then, new_rise, new_above, new_both}
 use Rattle.pn_serve.specs.Machine.PartRounds.{some_stepped, partly_marked}

@@ -1,8 +1,7 @@
 -- Machines with the same region, which wait for the same, reply alike to lines that ask for no notices.
-use Rattle.std.proofs.Common.{◌≡◌, ℕ, ◌-◌, nat_le, Bool, true, false, if◌then◌else◌, List, [], ◌∷◌, refl, ap, ◌∙◌, subst}
+use Rattle.std.proofs.Common.{◌≡◌, ℕ, ◌-◌, nat_le, Bool, true, false, if◌then◌else◌, List, [], ◌∷◌, refl, ◌∙◌}
 use Rattle.std.specs.Prelude.{Result, Ok, Err, Option, Some, None, slice_get}
 use Rattle.pn_join.specs.Marks.{Positions}
-use Rattle.pn_stream.specs.Positions.{DeliveryValue}
 use Rattle.pn_tablet.specs.Copies.{TabletCopyValue}
 use Rattle.pn_tablet.specs.Copying.{copy_of}
 use Rattle.pn_tablet.specs.CopyReading.{copy_at}

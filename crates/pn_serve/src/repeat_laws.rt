@@ -12,7 +12,7 @@ ghost use Rattle.pn_stream.specs.Prelude.{DeliveryValue};
 /// A `deliver` that was refused, as where memory ran out, leaves no trace once it is repeated and accepted, with only
 /// rounds in between.
 ///
-/// The tablets and marks are then those of the same lines without it; so are the lines that are awaited.
+/// Tablets, marks, and the lines that are awaited, are then those of the same input without it.
 pub fn a_repeated_deliver_leaves_no_trace_of_a_refused_one()
     ensures region { (told : Told) (line : ToldLine) (deliveries : List DeliveryValue) (more : Input)
         → IsRefused (machine_of told) line deliveries
@@ -24,8 +24,8 @@ pub fn a_repeated_deliver_leaves_no_trace_of_a_refused_one()
         → (after_input (after_line (machine_of told) line) more).mode ≡ (after_input (machine_of told) more).mode }
 {}
 
-/// A new region that was told an input with refused `deliver` lines, each repeated and accepted later with only rounds in
-/// between, is the region that was told the same without them.
+/// A new region ends as it would without its refused `deliver` lines, if each is accepted when repeated, with only rounds
+/// in between.
 ///
 /// It has the same tablets and marks, and replies alike to each further line that asks for no notices.
 pub fn repeated_delivers_leave_the_same_region()
