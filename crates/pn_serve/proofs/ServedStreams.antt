@@ -1,15 +1,15 @@
 -- How serving ends, by how its parts end.
-use Rattle.std.proofs.Common.{◌≡◌, ◌≢◌, ℕ, Bool, true, false, List, [], ◌∷◌, length, map, Option, refl, sym, ap, ◌∙◌, subst}
+use Rattle.std.proofs.Common.{◌≡◌, ◌≢◌, ℕ, Bool, true, false, List, length, map, Option, refl, sym, ap, ◌∙◌, subst}
 use Rattle.std.proofs.lemmas.List.{length-map}
-use Rattle.std.specs.Prelude.{Result, Ok, Err, IfErr, IfOk, IsOk, OnOk, OnErr, IsErrOf, MatchResult, All}
-use Rattle.std.specs.List.{Contains}
+use Rattle.std.specs.Prelude.{Result, Ok, Err, IfErr, IfOk, IsOk, OnOk, OnErr, IsErrAnd, IsErrOf, MatchResult, All}
+use Rattle.std.proofs.lemmas.Result.{err_from_is_err_and}
 use Rattle.pn_join.specs.Marks.{Positions}
 use Rattle.pn_stream.specs.Batches as batches
 use Rattle.pn_tablet.specs.Layouts.{Bounds}
 use Rattle.pn_live.specs.LiveRegions.{LiveRegionValue, IsNewLive}
 use Rattle.pn_serve.specs.Server.Faults.{names_of, NamesOne, IsOfRounds}
 use Rattle.pn_serve.specs.Server.Reading.{ReadToEnds, ReadUpTo, ReadsStreams}
-use Rattle.pn_serve.specs.Server.Served.{ReadsAll, EndsReading, Serves, EndsRegion, EndsServing}
+use Rattle.pn_serve.specs.Server.Served.{EndsReading, Serves, EndsRegion, EndsServing}
 use Rattle.pn_serve.specs.Server.Whole.{IsTakenWhole}
 use Rattle.pn_serve.specs.declared.server.fault.ServeFault.{ServeFault}
 use Rattle.pn_serve.specs.declared.server.fault.ServeFault.TheVariants.{Start, Stream, Round, Close, Write}
@@ -36,14 +36,20 @@ module _ {S : Type 0} (left : S → Option (List ℕ)) (streams : List (batches.
   all_read old new (Ok done) read taken named = record { read = read; taken = taken }
   all_read old new (Err fault) read taken named = not_taken old new fault named
 
+  -- nothing was begun
+  pub not_begun : (old : LiveRegionValue) (fault : ServeFault) (result : Result (Unit {0}) ServeFault) → IsErrAnd result (λ other. other ≡ fault) → fault ≡ Start → EndsReading left streams old old result
+  not_begun old fault result answered start =
+      let (other, is, same) = err_from_is_err_and result answered in
+      subst (EndsReading left streams old old) (sym is) (subst (λ (f : ServeFault). EndsReading left streams old old (Err f)) (sym (same ∙ start)) refl)
+
   -- all threads ended, or sessions were refused
   pub reading_ends : {P : Type 0} (name : P → List ℕ) (places : List P) (read_by : List (batches.Stream S)) (old new : LiveRegionValue) (is_refused : Bool) (marks : Positions) (read result : Result (Unit {0}) ServeFault)
-      → map name places ≡ names_of streams → read_by ≡ streams → (is_refused ≡ true → read ≡ Err Start) → (is_refused ≡ false → ReadsStreams (length places) old new read)
+      → map name places ≡ names_of streams → read_by ≡ streams → (is_refused ≡ true → (read ≡ Err Start) × (new ≡ old)) → (is_refused ≡ false → ReadsStreams (length places) old new read)
       → (is_refused ≡ false → IfErr read (IsOfRounds (map name places))) → IfErr read (λ fault. result ≡ Err fault)
       → marks ≡ new.marks → OnOk read (OnOk result (All (IsTakenWhole left marks) read_by)) → OnOk read (IfErr result (NamesOne (names_of read_by))) → EndsReading left streams old new result
   reading_ends name places read_by old new true marks read result names are refused reads named first same taken rest =
-      let start = subst (λ (r : Result (Unit {0}) ServeFault). IfErr r (λ fault. result ≡ Err fault)) (refused refl) first in
-      subst (EndsReading left streams old new) (sym start) tt
+      let start = subst (λ (r : Result (Unit {0}) ServeFault). IfErr r (λ fault. result ≡ Err fault)) (refused refl).0 first in
+      subst (EndsReading left streams old new) (sym start) (refused refl).1
   reading_ends name places read_by old new false marks (Err fault) result names are refused reads named first same taken rest =
       let count : length places ≡ length streams = sym (length-map places name) ∙ ap length names ∙ length-map streams (λ (stream : batches.Stream S). stream.name) in
       let read_up : ReadUpTo (length streams) old new fault = subst (λ (n : ℕ). ReadUpTo n old new fault) count (reads refl) in
@@ -71,6 +77,12 @@ module _ {S : Type 0} (left : S → Option (List ℕ)) (streams : List (batches.
     region_ends count (Err fault) closing result ends first closes = subst (EndsRegion left layout streams) (sym first) (stopped fault ends)
     region_ends count (Ok done) (Ok region) result ends first closes = subst (EndsRegion left layout streams) (sym closes) (serves (Ok tt) ends)
     region_ends count (Ok done) (Err fault) result ends first closes = subst (EndsRegion left layout streams) (sym closes) (serves (Ok tt) ends)
+
+  -- no live region was opened
+  pub not_opened : (layout : Bounds) (fault : ServeFault) (result : Result ℕ ServeFault) → IsErrAnd result (λ other. other ≡ fault) → fault ≡ Start → EndsRegion left layout streams result
+  not_opened layout fault result answered start =
+      let (other, is, same) = err_from_is_err_and result answered in
+      subst (EndsRegion left layout streams) (sym is) (subst (λ (f : ServeFault). EndsRegion left layout streams (Err f)) (sym (same ∙ start)) tt)
 
   pub no_write : (layout : Bounds) (result : Result ℕ ServeFault) → EndsRegion left layout streams result → IfErr result (λ fault. fault ≢ Write)
   no_write layout (Ok count) ends = tt
