@@ -2,8 +2,11 @@
 pub mod Events
 pub mod Happened
 pub mod Inputs
+pub mod Lines
 pub mod Losses
+pub mod Pages
 pub mod Parts
+pub mod Repeats
 pub mod Taken
 pub mod Told
 pub mod Written

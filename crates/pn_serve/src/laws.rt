@@ -23,6 +23,8 @@ ghost use Rattle.pn_stream.specs.Prelude.{BrokerRecord};
 /// runs out. Honest lines make no record of a serving tablet older.
 ///
 /// The record of brokers is what was published. Without losses and adoptions, any record will do.
+///
+/// Rounds that failed in between leave no trace once they are repeated: `repeated_delivers_leave_the_same_region`.
 pub fn regions_converge()
     ensures records { (broker : BrokerRecord) (one other : Told) → TookTheSame broker one other
         → (records_of one ≡ table_of (images_of broker one)) × (records_of other ≡ table_of (images_of broker one)) }

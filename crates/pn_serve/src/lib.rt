@@ -4,6 +4,8 @@
 mod arguments;
 mod laws;
 mod machine;
+mod page_laws;
+mod repeat_laws;
 mod script;
 mod server;
 mod sessions;
@@ -13,10 +15,17 @@ pub use arguments::laws::numbers_are_as_written;
 pub use arguments::plan;
 pub use arguments::plans::{Plan, PlanFault};
 pub use laws::regions_converge;
+pub use page_laws::{
+    a_scan_line_shows_the_page_of_its_region, keys_rise_from_page_to_page_of_a_script,
+    pages_of_a_script_are_together_its_rows,
+};
 pub use pn_protocol::{
     Command, Part, Refusal, Reply, ShortReply, a_line_is_one_command, adopted_reply,
     bad_text_reply, changed_reply, command_of, fault_reply, lines_reply, lost_reply, no_copy_reply,
     not_adopted_reply, refusal_reply, refused_reply, scan_reply,
+};
+pub use repeat_laws::{
+    a_repeated_deliver_leaves_no_trace_of_a_refused_one, repeated_delivers_leave_the_same_region,
 };
 pub use script::{Counts, MAX_LINES, RunFault, run, run_to_exit};
 pub use server::{ServeFault, serve};

@@ -1,0 +1,172 @@
+-- Machines with the same region, which wait for the same, reply alike to lines that ask for no notices.
+use Rattle.std.proofs.Common.{◌≡◌, ℕ, ◌-◌, nat_le, Bool, true, false, if◌then◌else◌, List, [], ◌∷◌, refl, ◌∙◌}
+use Rattle.std.specs.Prelude.{Result, Ok, Err, Option, Some, None, slice_get}
+use Rattle.pn_join.specs.Marks.{Positions}
+use Rattle.pn_tablet.specs.Copies.{TabletCopyValue}
+use Rattle.pn_tablet.specs.Copying.{copy_of}
+use Rattle.pn_tablet.specs.CopyReading.{copy_at}
+use Rattle.pn_tablet.specs.Tablets.{TabletStateValue}
+use Rattle.pn_tablet.specs.declared.copy_fault.CopyTextFault.{CopyTextFault}
+use Rattle.pn_tablet.specs.declared.fault.CopyFault.{CopyFault}
+use Rattle.pn_tablet.specs.declared.fault.OpFault.{OpFault as AdoptFault}
+use Rattle.pn_region.specs.Logged.{breaking}
+use Rattle.pn_region.specs.Recovery.{losing, adopting}
+use Rattle.pn_region.specs.Regions.{RegionValue}
+use Rattle.pn_region.specs.Rounds.{round as taken_round}
+use Rattle.pn_region.specs.declared.entry.Entry.{Entry}
+use Rattle.pn_region.specs.declared.fault.RoundFault.{RoundFault}
+use Rattle.pn_json.specs.Lines.{line_of}
+use Rattle.pn_protocol.specs.declared.refusal.Refusal.{Refusal}
+use Rattle.pn_protocol.specs.Command.Lines.{command_at}
+use Rattle.pn_protocol.specs.Command.Meaning.{CommandValue, adopt, copy, deliver, get, lose, marks, notices, read, scan, tablets}
+use Rattle.pn_protocol.specs.Reply.Short.{lost_data}
+use Rattle.pn_serve.specs.Machine.Announced.{unless_call, with_line}
+use Rattle.pn_serve.specs.Machine.Doing.{delivering}
+use Rattle.pn_serve.specs.Machine.LastTurns.{obeying_last, last_of, end_in, end_turn}
+use Rattle.pn_serve.specs.Machine.Outcomes.{Outcome, done, line, call, round, Mode, idle, announced, Machine, Turn, logged, silent}
+use Rattle.pn_serve.specs.Machine.Recovering.{at_tablet, showing_copy, copying, losing_it, adopted, adopting_read, adopting_text}
+use Rattle.pn_serve.specs.Machine.Turns.{obeying, turn_of, outcome_at, turn_in, turn}
+use Rattle.pn_serve.specs.Script.Lines.{AsksNoNotices}
+use Rattle.pn_serve.proofs.RepeatLaws.{Same}
+
+module _ (mode : Mode) (region : RegionValue) (log others : List Entry) where
+  abbrev m : Machine
+  m = record { mode = mode; region = region; log = log }
+
+  abbrev n : Machine
+  n = record { mode = mode; region = region; log = others }
+
+  -- the turns reply alike
+  abbrev Replies : Turn → Turn → Type 0
+  Replies turned other = turned.reply ≡ other.reply
+
+  shown_replies : (tablet : ℕ) (right : Result TabletCopyValue CopyFault) → Replies (showing_copy m tablet right) (showing_copy n tablet right)
+  shown_replies tablet (Ok given) = refl
+  shown_replies tablet (Err fault) = refl
+
+  copy_replies : (need : Positions) (tablet : ℕ) → Replies (copying m need tablet) (copying n need tablet)
+  copy_replies need tablet = at (slice_get region.tablets tablet)
+    where
+      at : (found : Option TabletStateValue) → Replies (at_tablet m found (λ state. showing_copy m tablet (copy_of state need))) (at_tablet n found (λ state. showing_copy n tablet (copy_of state need)))
+      at None = refl
+      at (Some state) = shown_replies tablet (copy_of state need)
+
+  round_replies : (right : Result RegionValue RoundFault) → Replies (delivering m right) (delivering n right)
+  round_replies (Ok after) = refl
+  round_replies (Err fault) = refl
+
+  abbrev losing_found : Machine → ℕ → Option TabletStateValue → Turn
+  losing_found k tablet found = at_tablet k found (λ state. record { machine = record k { region = losing k.region tablet; log = breaking k.log }; reply = line_of (lost_data tablet); refused = false })
+
+  loss_by : (tablet : ℕ) (found : Option TabletStateValue) → Replies (losing_found m tablet found) (losing_found n tablet found)
+  loss_by tablet None = refl
+  loss_by tablet (Some state) = refl
+
+  loss_replies : (tablet : ℕ) → Replies (losing_it m tablet) (losing_it n tablet)
+  loss_replies tablet = loss_by tablet (slice_get region.tablets tablet)
+
+  obey_replies : (outcome : Outcome) (command : CommandValue) → AsksNoNotices (Ok command) → Replies (obeying m outcome command) (obeying n outcome command)
+  obey_replies done (adopt lines) free = refl
+  obey_replies line (adopt lines) free = refl
+  obey_replies call (adopt lines) free = refl
+  obey_replies (round flags) (adopt lines) free = refl
+  obey_replies done (copy need tablet) free = copy_replies need tablet
+  obey_replies line (copy need tablet) free = copy_replies need tablet
+  obey_replies call (copy need tablet) free = refl
+  obey_replies (round flags) (copy need tablet) free = copy_replies need tablet
+  obey_replies done (deliver deliveries) free = round_replies (taken_round region deliveries)
+  obey_replies line (deliver deliveries) free = round_replies (taken_round region deliveries)
+  obey_replies call (deliver deliveries) free = refl
+  obey_replies (round flags) (deliver deliveries) free = refl
+  obey_replies done (get keys) free = refl
+  obey_replies line (get keys) free = refl
+  obey_replies call (get keys) free = refl
+  obey_replies (round flags) (get keys) free = refl
+  obey_replies done (lose tablet) free = loss_replies tablet
+  obey_replies line (lose tablet) free = loss_replies tablet
+  obey_replies call (lose tablet) free = loss_replies tablet
+  obey_replies (round flags) (lose tablet) free = loss_replies tablet
+  obey_replies done marks free = refl
+  obey_replies line marks free = refl
+  obey_replies call marks free = refl
+  obey_replies (round flags) marks free = refl
+  obey_replies outcome (notices since) free = absurd free
+  obey_replies done (read key version) free = refl
+  obey_replies line (read key version) free = refl
+  obey_replies call (read key version) free = refl
+  obey_replies (round flags) (read key version) free = refl
+  obey_replies done (scan query) free = refl
+  obey_replies line (scan query) free = refl
+  obey_replies call (scan query) free = refl
+  obey_replies (round flags) (scan query) free = refl
+  obey_replies done tablets free = refl
+  obey_replies line tablets free = refl
+  obey_replies call tablets free = refl
+  obey_replies (round flags) tablets free = refl
+
+  said_replies : (outcome : Outcome) (said : Result CommandValue Refusal) → AsksNoNotices said → Replies (turn_of m outcome said) (turn_of n outcome said)
+  said_replies line said free = refl
+  said_replies done (Ok command) free = obey_replies done command free
+  said_replies call (Ok command) free = obey_replies call command free
+  said_replies (round flags) (Ok command) free = obey_replies (round flags) command free
+  said_replies done (Err refusal) free = refl
+  said_replies call (Err refusal) free = refl
+  said_replies (round flags) (Err refusal) free = refl
+
+  adopted_replies : (right : Result (ℕ × RegionValue) AdoptFault) → Replies (adopted (logged m) right) (adopted (logged n) right)
+  adopted_replies (Ok (tablet, after)) = refl
+  adopted_replies (Err fault) = refl
+
+  read_replies : (right : Result TabletCopyValue CopyTextFault) → Replies (adopting_read (logged m) right) (adopting_read (logged n) right)
+  read_replies (Ok given) = adopted_replies (adopting region given)
+  read_replies (Err fault) = refl
+
+  text_replies : (text : Option (List ℕ)) → Replies (adopting_text (logged m) text) (adopting_text (logged n) text)
+  text_replies None = refl
+  text_replies (Some text) = read_replies (copy_at text)
+
+  came_replies : (left : ℕ) (text : Option (List ℕ)) (last : Bool)
+      → Replies (if last then adopting_text (logged m) text else silent (record m { mode = announced (left - 1) text })) (if last then adopting_text (logged n) text else silent (record n { mode = announced (left - 1) text }))
+  came_replies left text true = text_replies text
+  came_replies left text false = refl
+
+  mode_replies : (how : Mode) (outcome : Outcome) (text : List ℕ) → AsksNoNotices (command_at text) → Replies (turn_in how m outcome text) (turn_in how n outcome text)
+  mode_replies idle outcome text free = said_replies (outcome_at outcome text) (command_at text) free
+  mode_replies (announced left came) outcome text free = came_replies left (unless_call outcome (with_line came text (10 ∷ []))) (nat_le left 1)
+
+  obey_last_replies : (outcome : Outcome) (command : CommandValue) → AsksNoNotices (Ok command) → Replies (obeying_last m outcome command) (obeying_last n outcome command)
+  obey_last_replies outcome (adopt lines) free = text_replies (unless_call outcome (Some []))
+  obey_last_replies outcome (copy need tablet) free = obey_replies outcome (copy need tablet) free
+  obey_last_replies outcome (deliver deliveries) free = obey_replies outcome (deliver deliveries) free
+  obey_last_replies outcome (get keys) free = obey_replies outcome (get keys) free
+  obey_last_replies outcome (lose tablet) free = obey_replies outcome (lose tablet) free
+  obey_last_replies outcome marks free = obey_replies outcome marks free
+  obey_last_replies outcome (notices since) free = absurd free
+  obey_last_replies outcome (read key version) free = obey_replies outcome (read key version) free
+  obey_last_replies outcome (scan query) free = obey_replies outcome (scan query) free
+  obey_last_replies outcome tablets free = obey_replies outcome tablets free
+
+  last_replies : (outcome : Outcome) (said : Result CommandValue Refusal) → AsksNoNotices said → Replies (last_of m outcome said) (last_of n outcome said)
+  last_replies line said free = refl
+  last_replies done (Ok command) free = obey_last_replies done command free
+  last_replies call (Ok command) free = obey_last_replies call command free
+  last_replies (round flags) (Ok command) free = obey_last_replies (round flags) command free
+  last_replies done (Err refusal) free = refl
+  last_replies call (Err refusal) free = refl
+  last_replies (round flags) (Err refusal) free = refl
+
+  end_replies : (how : Mode) (outcome : Outcome) (part : List ℕ) → AsksNoNotices (command_at part) → Replies (end_in how m outcome part) (end_in how n outcome part)
+  end_replies idle outcome [] free = refl
+  end_replies idle outcome (b ∷ part) free = last_replies (outcome_at outcome (b ∷ part)) (command_at (b ∷ part)) free
+  end_replies (announced left came) outcome part free = text_replies (unless_call outcome (with_line came part []))
+
+module _ (one other : Machine) (same : Same one other) (outcome : Outcome) (text : List ℕ) (free : AsksNoNotices (command_at text)) where
+  pub same_line : (turn one outcome text).reply ≡ (turn other outcome text).reply
+  same_line =
+      mode_replies one.mode one.region one.log other.log one.mode outcome text free
+      ∙ (λ i. (turn (record { mode = same.mode i; region = same.region i; log = other.log }) outcome text).reply)
+
+  pub same_end : (end_turn one outcome text).reply ≡ (end_turn other outcome text).reply
+  same_end =
+      end_replies one.mode one.region one.log other.log one.mode outcome text free
+      ∙ (λ i. (end_turn (record { mode = same.mode i; region = same.region i; log = other.log }) outcome text).reply)
