@@ -130,7 +130,7 @@ module _ (Holds : RegionValue → Type 0) where
   ends_had m (Some end) asked (page ∷ []) is ends = shown_had m end.part _ asked page [] is ends tt
   ends_had m (Some end) asked (page ∷ next ∷ pages) is ends = absurd ends
 
-  pub pages_had : (lines : List ToldLine) (m : Machine) (end : Option InputEnd) (asked : Option QueryValue) (pages : List PageValue) → IsRegion m.region → ShowPages Holds m lines end asked pages → ArePages Had asked pages
+  pages_had : (lines : List ToldLine) (m : Machine) (end : Option InputEnd) (asked : Option QueryValue) (pages : List PageValue) → IsRegion m.region → ShowPages Holds m lines end asked pages → ArePages Had asked pages
   pages_had [] m end asked pages is shows = ends_had m end asked pages is shows
   pages_had (text ∷ lines) m end asked pages is (inl other) = pages_had lines (after_line m text) end asked pages (line_is m text is) other
   pages_had (text ∷ lines) m end asked pages is (inr (page, rest, first, next, later)) =

@@ -48,7 +48,7 @@ module _ (m n : Machine) (same : Same m n) where
   said_same : (outcome : Outcome) (said : Result CommandValue Refusal) → Same (turn_of m outcome said).machine (turn_of n outcome said).machine
   said_same outcome said = (said_steps Equal Any equal_carries m n same outcome said (any_events (happened_by m outcome said))).machines
 
-  pub line_same : (text : ToldLine) → Same (after_line m text) (after_line n text)
+  line_same : (text : ToldLine) → Same (after_line m text) (after_line n text)
   line_same text = (line_steps Equal Any equal_carries m n same text.outcome text.text (any_events (happened_in m.mode m text.outcome text.text))).machines
 
   text_same : (text : Option (List ℕ)) → Same (adopting_text (logged m) text).machine (adopting_text (logged n) text).machine

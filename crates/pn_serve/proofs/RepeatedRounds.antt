@@ -162,7 +162,7 @@ module _ (deliveries : List DeliveryValue) where
       rise_next : Rise next
       rise_next = new_rise b.marks next more is_too ahead.rise.marks
 
-      abbrev pub Both : List TabletStateValue → List TabletStateValue → Type 0
+      abbrev Both : List TabletStateValue → List TabletStateValue → Type 0
       Both ts us = AreOldOrStepped ts (map (join_in ahead.first (all_images deliveries)) (ranges b.layout)) us
 
       ahead_takes : RunsAhead (taking a more next) (taking b more next)
@@ -222,7 +222,7 @@ module _ (deliveries : List DeliveryValue) where
         (λ i. record { layout = ahead.layout i; tablets = all_stepped a.tablets (joins_of (ahead.layout i) last (all_images deliveries)); marks = last })
         ∙ (λ i. record { layout = b.layout; tablets = made i; marks = last })
 
-  pub ahead_look : (a b : RegionValue) → RunsAhead a b → LookAlike a b
+  ahead_look : (a b : RegionValue) → RunsAhead a b → LookAlike a b
   ahead_look a b ahead = record { layout = ahead.layout; marks = ahead.marks; faces = half_faces ahead.first (all_images deliveries) (ranges b.layout) b.tablets a.tablets ahead.tablets }
 
   pub ahead_carries : Carries RunsAhead IsRound
