@@ -26,6 +26,9 @@ LIVE := crates/test_live/out/test_live_tests
 # The program that answers many scripts in one input.
 SCRIPTS := crates/test_rows/out/test_rows
 
+# What programs are built from. The gate leaves them built as well.
+SOURCES := $(shell find crates -name '*.rt')
+
 # The crate whose edits `make edits` tries, and whose definitions `make definitions` prints; none: all crates.
 CRATE ?=
 
@@ -58,6 +61,16 @@ build: toolchain
 	@sources=$$(bin/program sum); (cd crates/pnuts && rt run -- replay < /dev/null); bin/program note "$$sources"
 	@echo "the proved, optimised program: $(PROGRAM)"
 
+# The programs of the checks, where a source is newer.
+$(PROGRAM): $(SOURCES)
+	@$(MAKE) build
+
+$(SCRIPTS): $(SOURCES)
+	@cd crates/test_rows && rt run < stdin > /dev/null
+
+$(LIVE): $(SOURCES)
+	@cd crates/test_live && rt test > /dev/null
+
 # Installs the built program with its pages for man, its completion for bash and its service. It needs no toolchain.
 install:
 	@packaging/install "$(PNUTS)" --prefix "$(PREFIX)" --destdir "$(DESTDIR)/"
@@ -87,9 +100,7 @@ bench-beside: build
 # Brings the built program to each of its ends; talks to its sessions, and misbehaves, where it stays by the thousand; refuses each
 # of its allocations in turn, and all memory; lets each of its reads and writes fail; cuts and damages what it is given; and compares
 # its replies to random scripts with those of a plain, slow program, and what it reads with what serde_json reads.
-checks: build
-	@cd crates/test_rows && rt run < stdin > /dev/null
-	@cd crates/test_live && rt test > /dev/null
+checks: $(PROGRAM) $(SCRIPTS) $(LIVE)
 	@checks/exit-statuses "$(PROGRAM)"
 	@checks/sessions "$(PROGRAM)"
 	@checks/stay "$(PROGRAM)"

@@ -10,7 +10,8 @@ from stored import Stored
 
 NO_MEMORY = (1, "pnuts: memory\n")
 CLOSING = [(b'{"do":"scan","query":{}}',), (b'{"do":"tablets"}',)]
-SECONDS = 60
+# For how long a talk may go on: beside other programs each reply may take long.
+SECONDS = 600
 # A line that is too long is refused so also where there is no memory.
 FENCE, AT_FENCE = b" " * 65_537, '{"error":"too-long"}'
 

@@ -5,26 +5,33 @@ import subprocess
 from collections.abc import Callable
 
 # The allocation of the number REFUSED answers that there is no memory, and leaves a file at REFUSED_MARK. With REFUSED_ON, so do
-# all after it.
+# all after it. With REFUSED_IN_THREADS, only those count from where a thread starts until more input is read.
 SHIM = r"""
 #define _GNU_SOURCE
 #include <dlfcn.h>
 #include <fcntl.h>
 #include <limits.h>
+#include <pthread.h>
 #include <stdatomic.h>
+#include <stdbool.h>
 #include <stdlib.h>
+#include <sys/syscall.h>
 #include <unistd.h>
 
 static atomic_long at = 0;
 static long first = -1, last = -1;
+static bool in_threads = false;
+static atomic_bool counts = false;
 
 __attribute__((constructor)) static void read_number(void) {
     first = atol(getenv("REFUSED"));
     last = getenv("REFUSED_ON") ? LONG_MAX : first;
+    in_threads = getenv("REFUSED_IN_THREADS");
+    counts = !in_threads;
 }
 
-static int is_refused(void) {
-    if (first < 0) return 0;
+static bool is_refused(void) {
+    if (!counts) return false;
     long number = atomic_fetch_add(&at, 1) + 1;
     if (number == first) close(open(getenv("REFUSED_MARK"), O_CREAT | O_WRONLY, 0600));
     return first <= number && number <= last;
@@ -41,7 +48,24 @@ void *realloc(void *old, size_t size) {
     if (!next) next = (void *(*)(void *, size_t))dlsym(RTLD_NEXT, "realloc");
     return is_refused() ? NULL : next(old, size);
 }
+
+int pthread_create(pthread_t *thread, const pthread_attr_t *attributes, void *(*start)(void *), void *given) {
+    static int (*next)(pthread_t *, const pthread_attr_t *, void *(*)(void *), void *);
+    if (!next) next = (int (*)(pthread_t *, const pthread_attr_t *, void *(*)(void *), void *))dlsym(RTLD_NEXT, "pthread_create");
+    counts = true;
+    return next(thread, attributes, start, given);
+}
+
+ssize_t read(int file, void *bytes, size_t size) {
+    if (in_threads) counts = false;
+    return syscall(SYS_read, file, bytes, size);
+}
 """
+
+# Which allocations are refused: one, all from it on, or one of those that count while threads work.
+ONE: dict[str, str] = {}
+FOR_GOOD = {"REFUSED_ON": "1"}
+IN_THREADS = {"REFUSED_IN_THREADS": "1"}
 
 
 def refusing_library(folder: str) -> str:
@@ -53,10 +77,9 @@ def refusing_library(folder: str) -> str:
     return library
 
 
-def environment(library: str, number: int, mark: str, is_for_good: bool = False) -> dict[str, str]:
-    """An environment in which the allocation of a number is refused, or each from there on, which leaves a file at the mark."""
-    all_after = {"REFUSED_ON": "1"} if is_for_good else {}
-    return {**os.environ, "LD_PRELOAD": library, "REFUSED": str(number), "REFUSED_MARK": mark, **all_after}
+def environment(library: str, number: int, mark: str, which: dict[str, str]) -> dict[str, str]:
+    """An environment in which the allocation of a number is refused, which leaves a file at the mark."""
+    return {**os.environ, "LD_PRELOAD": library, "REFUSED": str(number), "REFUSED_MARK": mark, **which}
 
 
 # What is wrong in this environment, or None.
@@ -68,27 +91,27 @@ MOST = 1_000_000
 
 
 class Refusals:
-    """Refuses each allocation of a program in turn, alone or with all after it, where nothing may be wrong."""
+    """Refuses each allocation of a program in turn, where nothing may be wrong."""
 
-    def __init__(self, room: str, is_for_good: bool = False) -> None:
-        self.room, self.library, self.is_for_good = room, refusing_library(room), is_for_good
+    def __init__(self, room: str) -> None:
+        self.room, self.library = room, refusing_library(room)
 
-    def attempt(self, number: int, find_fault: FindFault) -> tuple[str | None, bool]:
+    def attempt(self, number: int, find_fault: FindFault, which: dict[str, str]) -> tuple[str | None, bool]:
         """What is wrong where the allocation of a number is refused, and whether there was such an allocation."""
         mark = os.path.join(self.room, f"mark-{number}")
-        fault = find_fault(environment(self.library, number, mark, self.is_for_good))
+        fault = find_fault(environment(self.library, number, mark, which))
         is_met = os.path.exists(mark)
         if is_met:
             os.remove(mark)
         return fault, is_met
 
-    def count(self, name: str, find_fault: FindFault) -> int:
+    def count(self, name: str, find_fault: FindFault, which: dict[str, str] = ONE) -> int:
         """How many allocations were refused, until no run of many met a refusal."""
         count = 0
         with concurrent.futures.ThreadPoolExecutor(PROCESSORS) as pool:
             for first in range(1, MOST, AT_ONCE):
                 numbers = range(first, first + AT_ONCE)
-                ends = list(pool.map(lambda each: self.attempt(each, find_fault), numbers))
+                ends = list(pool.map(lambda each: self.attempt(each, find_fault, which), numbers))
                 for number, (fault, _) in zip(numbers, ends):
                     if fault is not None:
                         raise SystemExit(f"{name}: allocation {number} refused: {fault}")

@@ -16,18 +16,15 @@ use tables::{join, least};
 use test_kit::answer_lines;
 
 fn main(rt: HostRuntime) -> Result<(), Fail> {
-    answer_lines(&rt, |line| answer(rt.alloc(), line))
-}
-
-fn answer(alloc: Global, line: &str) -> Result<String, Fail> {
-    match line.split_once(' ') {
+    let alloc = rt.alloc();
+    answer_lines(&rt, |line| match line.split_once(' ') {
         Some(("join", tables)) => join(alloc, tables),
         Some(("least", table)) => least(alloc, table),
         Some(("name", text)) => name(alloc, text),
         Some(("slice", table)) => slice(alloc, table),
         Some(("cut", table)) => cut(alloc, table),
         _ => Ok(String::from_str(alloc, "no case")?),
-    }
+    })
 }
 
 fn name(alloc: Global, text: &str) -> Result<String, Fail> {

@@ -8,15 +8,29 @@ use pn_join::{Name, NoMemory};
 use pn_line::InMemory;
 use pn_live::{LiveReader, LiveRegion};
 use pn_record::read_image;
-use pn_serve::{Counts, session};
+use pn_serve::{Counts, RunFault, session};
 use pn_stream::Delivery;
 use std::alloc::Global;
 use std::str;
 use std::sync::Wait;
 use std::test::Fail;
 use std::thread::Threads;
-use test_kit::layout;
-use test_kit_live::{closed, hand_back, opened, take_out};
+use test_kit::{Pieces, Runs, Stop, Stopping, layout};
+use test_kit_live::{closed, end, hand_back, open_one, opened, take_out};
+
+/// An image, the lines of a session over it, and their replies.
+const IMAGE: &str = r#"{"fields":{"v":"x"},"key":"k","master":"w","version":[1,5]}"#;
+
+const LINES: &str = r#"{"do":"read","key":"k"}
+{"do":"get","keys":["k","z"]}
+{"do":"lose","tablet":0}
+"#;
+
+const REPLIES: &str =
+    r#"{"row":{"contents":[{"fields":{"v":"x"},"master":"w"}],"key":"k","state":"one","version":[1,5]}}
+{"rows":[{"contents":[{"fields":{"v":"x"},"master":"w"}],"key":"k","state":"one","version":[1,5]},null]}
+{"error":"read-only"}
+"#;
 
 // One delivery of the image that the first line is.
 fn given(alloc: Global, lines: &str) -> Option<Vec<Delivery>> {
@@ -81,4 +95,53 @@ pub(crate) fn answered<R: Threads + Wait + Sync>(
         "{changed} changed, {} lines, {} refused: {replies}",
         counts.lines, counts.refused
     )?)
+}
+
+/// How sessions end whose readers or writers fail, at each call in turn.
+pub(crate) fn failing<R: Threads + Wait + Sync>(
+    rt: &R,
+    alloc: Global,
+    how: &str,
+) -> Result<String, Fail> {
+    let layout = layout(alloc, "").ok_or(NoMemory)?;
+    let (mut live, mut reader) = open_one(rt, alloc, layout).ok_or(NoMemory)?;
+    let changed = changed(rt, alloc, &mut live, IMAGE);
+    let ends = match how {
+        "over readers that fail" => over_failing_readers(alloc, &mut reader),
+        _ => into_failing_writers(alloc, &mut reader),
+    };
+    end(rt, alloc, live);
+    let text = ends?;
+    changed.ok_or(NoMemory)?;
+    Ok(text)
+}
+
+// Readers that show a byte at a time.
+fn over_failing_readers(alloc: Global, reader: &mut LiveReader) -> Result<String, Fail> {
+    let mut ends = Runs::new(alloc);
+    for look in 1..=LINES.len() {
+        let mut input = Pieces::failing(LINES.as_bytes(), 1, look);
+        let mut written = Vec::new(alloc);
+        let ended = session(alloc, reader, &mut input, &mut written);
+        let is_due = matches!(ended, Err(RunFault::Read))
+            && REPLIES.as_bytes().starts_with(&written);
+        ends.push(format!(in alloc; "{is_due}, {} bytes", written.len())?)?;
+    }
+    ends.text()
+}
+
+// Writers that take a byte at a time. Counts those that had just the bytes before the call that failed.
+fn into_failing_writers(alloc: Global, reader: &mut LiveReader) -> Result<String, Fail> {
+    let mut stopped = 0u64;
+    for count in 0..REPLIES.len() {
+        let mut input = InMemory::new(LINES.as_bytes());
+        let mut output = Stopping::new(alloc, 1, count.saturating_add(1), Stop::Fails);
+        let ended = session(alloc, reader, &mut input, &mut output);
+        if matches!(ended, Err(RunFault::Write))
+            && output.taken.as_slice() == &REPLIES.as_bytes()[..count]
+        {
+            stopped = stopped.saturating_add(1);
+        }
+    }
+    Ok(format!(in alloc; "{stopped} of {}", REPLIES.len())?)
 }

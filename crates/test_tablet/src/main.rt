@@ -12,20 +12,16 @@ use copies::copy;
 use damaged::{crossed, prefixes};
 use fault_texts::faults;
 use layouts::layout;
-use std::alloc::Global;
 use std::test::Fail;
 use test_kit::answer_lines;
 
 fn main(rt: HostRuntime) -> Result<(), Fail> {
-    answer_lines(&rt, |line| answer(rt.alloc(), line))
-}
-
-fn answer(alloc: Global, line: &str) -> Result<String, Fail> {
-    match line.split_once(' ') {
+    let alloc = rt.alloc();
+    answer_lines(&rt, |line| match line.split_once(' ') {
         Some(("layout", bounds)) => layout(alloc, bounds),
         Some(("copy", text)) => copy(alloc, text),
         Some(("prefixes", text)) => prefixes(alloc, text),
         Some(("crossed", text)) => crossed(alloc, text),
         _ => faults(alloc),
-    }
+    })
 }
