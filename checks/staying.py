@@ -24,7 +24,7 @@ CHUNK = 1 << 16
 # How many messages a feed writes at a time.
 PART = 100
 PAGE = b'{"do":"scan","query":{"limit":1000}}\n'
-ROW = rb'\{"contents":\[\{"fields":\{.*\},"master":"w"\}\],"key":"(k\d+)","state":"one","version":\[1,(\d+)\]\}'
+ROW = rb'\{"contents":\[\{"fields":.*\],"key":"(k\d+)","state":"(?:one|conflict)","version":\[1,(\d+)\]\}'
 READ = re.compile(rb'\{"row":(?:null|%b)\}\n' % ROW)
 
 
@@ -106,6 +106,12 @@ class Staying:
 
     def wait_for_descriptors(self, most: int) -> None:
         until(f"it has at most {most} descriptors", lambda: self.descriptors() <= most)
+
+    def descriptors_at_rest(self) -> int:
+        """How many it has once there are no more and no fewer for a second."""
+        seen: list[int] = []
+        until("its descriptors stay", lambda: not seen.append(self.descriptors()) and len(seen) > 100 and len(set(seen[-100:])) == 1)
+        return seen[-1]
 
 
 class Beside:

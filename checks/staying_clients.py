@@ -9,7 +9,7 @@ import struct
 import time
 from collections.abc import Callable
 
-from served import SECONDS, Client, same, written
+from served import SECONDS, Client, row_of, same, written
 from staying import CHUNK, KEYS, PAGE, Beside, Staying, Swarm, feed, key_of, messages, until
 
 IDLE, BUSY, TURNS = 10_000, 256, 20_000
@@ -62,9 +62,10 @@ def check_one_after_another(program: str, room: str) -> None:
                 shown[key] = number
     east = written(room, "file", messages(1, KEYS))
     with Staying(program, room, [("east", east)], threads=4) as region:
-        descriptors = region.descriptors()
+        with Client(region.port) as client:
+            client.wait_for("k000", row_of("k000", 1, "x"))
         turn_over(region.port, TURNS // 10)
-        before = region.memory()
+        descriptors, before = region.descriptors_at_rest(), region.memory()
         turn_over(region.port, TURNS)
         region.wait_for_descriptors(descriptors)
         grown = region.memory() - before
