@@ -20,6 +20,7 @@ from served import SECONDS, STARTING, Client, Json, free_port, same
 FORK = multiprocessing.get_context("fork")
 KEYS = 100
 DESCRIPTORS = 20_000
+NICER = 15
 CHUNK = 1 << 16
 # How many messages a feed writes at a time.
 PART = 100
@@ -119,7 +120,7 @@ class Beside:
 
     def __init__(self, work: Callable[..., None], *told: object) -> None:
         self.stop, self.is_killed = FORK.Event(), False
-        self.process = FORK.Process(target=work, args=[self.stop.is_set, *told], daemon=True)
+        self.process = FORK.Process(target=do_beside, args=[work, self.stop.is_set, *told], daemon=True)
 
     def __enter__(self) -> "Beside":
         self.process.start()
@@ -140,6 +141,12 @@ class Beside:
         self.is_killed = True
         self.process.kill()
         self.process.join()
+
+
+def do_beside(work: Callable[..., None], *told: object) -> None:
+    """Work that takes little from the program's processors, as if it were another machine's."""
+    os.nice(NICER)
+    work(*told)
 
 
 def feed(is_over: Callable[[], bool], path: str, a_second: int) -> None:

@@ -14,9 +14,9 @@ from staying import CHUNK, KEYS, PAGE, Beside, Staying, Swarm, feed, key_of, mes
 
 IDLE, BUSY, TURNS = 10_000, 256, 20_000
 IDLE_KB, LEAK_KB = 4, 1_024
-NEVER_READING, HALF_LINES, FLOODING = 200, 200, 4
-# What a client that reads nothing may cost: an outbox of 64 KB and a page, with what its socket's two buffers do not count for.
-WAITING_KB = 64 + 16
+NEVER_READING, HALF_LINES, FLOODING = 200, 200, 2
+# What a client that reads nothing may cost: an outbox of 64 KB, and a page.
+WAITING_KB, ROOM_BYTES = 64 + 16, 1 << 14
 SLOWER = 5
 RESET = struct.pack("ii", 1, 0)
 
@@ -154,10 +154,12 @@ def flood(is_over: Callable[[], bool], port: int, line: bytes, most: int = 0) ->
 
 
 def never_read(is_over: Callable[[], bool], port: int) -> None:
-    """Clients that send pages until no more is taken, and read nothing."""
+    """Clients that send pages until no more is taken, and read nothing. What their sockets hold is little."""
     with contextlib.ExitStack() as stay:
-        clients = [stay.enter_context(socket.create_connection(("127.0.0.1", port))) for _ in range(NEVER_READING)]
+        clients = [stay.enter_context(socket.socket()) for _ in range(NEVER_READING)]
         for client in clients:
+            client.setsockopt(socket.SOL_SOCKET, socket.SO_RCVBUF, ROOM_BYTES)
+            client.connect(("127.0.0.1", port))
             client.setblocking(False)
         while not is_over():
             for client in clients:
