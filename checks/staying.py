@@ -20,11 +20,12 @@ from served import SECONDS, STARTING, Client, Json, free_port, same
 FORK = multiprocessing.get_context("fork")
 KEYS = 100
 DESCRIPTORS = 20_000
+NICER = 15
 CHUNK = 1 << 16
 # How many messages a feed writes at a time.
 PART = 100
 PAGE = b'{"do":"scan","query":{"limit":1000}}\n'
-ROW = rb'\{"contents":\[\{"fields":\{.*\},"master":"w"\}\],"key":"(k\d+)","state":"one","version":\[1,(\d+)\]\}'
+ROW = rb'\{"contents":\[\{"fields":.*\],"key":"(k\d+)","state":"(?:one|conflict)","version":\[1,(\d+)\]\}'
 READ = re.compile(rb'\{"row":(?:null|%b)\}\n' % ROW)
 
 
@@ -107,13 +108,19 @@ class Staying:
     def wait_for_descriptors(self, most: int) -> None:
         until(f"it has at most {most} descriptors", lambda: self.descriptors() <= most)
 
+    def descriptors_at_rest(self) -> int:
+        """How many it has once there are no more and no fewer for a second."""
+        seen: list[int] = []
+        until("its descriptors stay", lambda: not seen.append(self.descriptors()) and len(seen) > 100 and len(set(seen[-100:])) == 1)
+        return seen[-1]
+
 
 class Beside:
     """Work in a process of its own, which asks whether it is over, until the block ends. It fails where the work does."""
 
     def __init__(self, work: Callable[..., None], *told: object) -> None:
         self.stop, self.is_killed = FORK.Event(), False
-        self.process = FORK.Process(target=work, args=[self.stop.is_set, *told], daemon=True)
+        self.process = FORK.Process(target=do_beside, args=[work, self.stop.is_set, *told], daemon=True)
 
     def __enter__(self) -> "Beside":
         self.process.start()
@@ -134,6 +141,12 @@ class Beside:
         self.is_killed = True
         self.process.kill()
         self.process.join()
+
+
+def do_beside(work: Callable[..., None], *told: object) -> None:
+    """Work that takes little from the program's processors, as if it were another machine's."""
+    os.nice(NICER)
+    work(*told)
 
 
 def feed(is_over: Callable[[], bool], path: str, a_second: int) -> None:

@@ -9,14 +9,14 @@ import struct
 import time
 from collections.abc import Callable
 
-from served import SECONDS, Client, same, written
+from served import SECONDS, Client, row_of, same, written
 from staying import CHUNK, KEYS, PAGE, Beside, Staying, Swarm, feed, key_of, messages, until
 
 IDLE, BUSY, TURNS = 10_000, 256, 20_000
 IDLE_KB, LEAK_KB = 4, 1_024
-NEVER_READING, HALF_LINES, FLOODING = 200, 200, 4
-# What a client that reads nothing may cost: an outbox of 64 KB and a page, with what its socket's two buffers do not count for.
-WAITING_KB = 64 + 16
+NEVER_READING, HALF_LINES, FLOODING = 200, 200, 2
+# What a client that reads nothing may cost: an outbox of 64 KB, and a page.
+WAITING_KB, ROOM_BYTES = 64 + 16, 1 << 14
 SLOWER = 5
 RESET = struct.pack("ii", 1, 0)
 
@@ -62,9 +62,10 @@ def check_one_after_another(program: str, room: str) -> None:
                 shown[key] = number
     east = written(room, "file", messages(1, KEYS))
     with Staying(program, room, [("east", east)], threads=4) as region:
-        descriptors = region.descriptors()
+        with Client(region.port) as client:
+            client.wait_for("k000", row_of("k000", 1, "x"))
         turn_over(region.port, TURNS // 10)
-        before = region.memory()
+        descriptors, before = region.descriptors_at_rest(), region.memory()
         turn_over(region.port, TURNS)
         region.wait_for_descriptors(descriptors)
         grown = region.memory() - before
@@ -153,10 +154,12 @@ def flood(is_over: Callable[[], bool], port: int, line: bytes, most: int = 0) ->
 
 
 def never_read(is_over: Callable[[], bool], port: int) -> None:
-    """Clients that send pages until no more is taken, and read nothing."""
+    """Clients that send pages until no more is taken, and read nothing. What their sockets hold is little."""
     with contextlib.ExitStack() as stay:
-        clients = [stay.enter_context(socket.create_connection(("127.0.0.1", port))) for _ in range(NEVER_READING)]
+        clients = [stay.enter_context(socket.socket()) for _ in range(NEVER_READING)]
         for client in clients:
+            client.setsockopt(socket.SOL_SOCKET, socket.SO_RCVBUF, ROOM_BYTES)
+            client.connect(("127.0.0.1", port))
             client.setblocking(False)
         while not is_over():
             for client in clients:

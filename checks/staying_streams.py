@@ -30,7 +30,7 @@ def cut(stream: bytes) -> bytes:
 
 def check_killed_writers(program: str, room: str) -> None:
     """A FIFO's writer dies in the middle of a line, twenty times under load: nobody is shown less, and in the end all is there."""
-    path, ended = os.path.join(room, "east"), b"pnuts: stream east ended\n"
+    path, ended, begun = os.path.join(room, "east"), b"pnuts: stream east ended\n", b"pnuts: stream east begins again\n"
     os.mkfifo(path)
     streams = {"east": messages(1, MESSAGES), "west": messages(1, MESSAGES // 2, "y")}
     west = written(room, "west", streams["west"])
@@ -40,7 +40,8 @@ def check_killed_writers(program: str, room: str) -> None:
         region = stay.enter_context(Staying(program, room, [("east", path), ("west", west)], *words))
         stay.enter_context(Beside(watch, region.port, 32))
         for life in range(1, LIVES + 1):
-            # Half of them die while they wait for the region, and half once it has all of theirs.
+            # Some die while they wait for the region, and some once it has all of theirs.
+            region.wait_for_words(begun, life - 1)
             time.sleep(random.choice([0.02, 0.3]))
             writer.kill()
             region.wait_for_words(ended, life)
@@ -52,8 +53,7 @@ def check_killed_writers(program: str, room: str) -> None:
         writer.kill()
         region.wait_for_words(ended, LIVES + 1)
         said = Counter(region.said().splitlines(keepends=True))
-        begun, other = b"pnuts: stream east begins again\n", b"pnuts: stream west ended\n"
-        same("what is said", said, {ended: LIVES + 1, begun: LIVES, other: 1})
+        same("what is said", said, {ended: LIVES + 1, begun: LIVES, b"pnuts: stream west ended\n": 1})
         print(f"  {LIVES} writers died, and {len(wanted)} records of {MESSAGES:,} messages are there")
 
 
