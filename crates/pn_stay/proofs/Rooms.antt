@@ -1,5 +1,5 @@
 -- What is taken from the front of bytes that are held.
-use Rattle.std.proofs.Common.{◌≡◌, ℕ, ◌+◌, ◌-◌, ◌≤◌, Option, Some, List, [], ◌++◌, length, take, drop, refl, sym, ap, ◌∙◌, subst, arith, length-append, append-nil, take-append-drop}
+use Rattle.std.proofs.Common.{◌≡◌, ℕ, ◌+◌, ◌-◌, Option, Some, List, [], ◌++◌, length, take, drop, sym, ap, ◌∙◌, subst, arith, length-append, append-nil, take-append-drop}
 use Rattle.std.proofs.lemmas.List.{drop-drop, drop_at, take_rest}
 use Rattle.std.specs.Io.KnownBytes.{Appends, Keeps}
 use Rattle.std.proofs.KnownBytes.{Appends-kept}

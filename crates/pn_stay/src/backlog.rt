@@ -4,6 +4,7 @@ ghost use Rattle.std.specs.Prelude.{◌≡◌, ◌<◌, ◌↔◌, ◌++◌, [],
 ghost use Rattle.std.specs.Io.KnownBytes.{Keeps};
 ghost use Rattle.pn_line.specs.Sent.{AppendsPrefix, Sends};
 
+use crate::waiting::is_wait;
 use pn_line::{Sink, WriteFault};
 use std::alloc::Global;
 use std::io;
@@ -115,7 +116,7 @@ fn blocked(fault: WriteFault) -> Result<Sent, WriteFault>
 
 fn would_block(fault: &WriteFault) -> bool {
     match fault {
-        WriteFault::Failed(error) => error.kind() == io::ErrorKind::WouldBlock,
+        WriteFault::Failed(error) => is_wait(error),
         WriteFault::TookNothing => false,
     }
 }

@@ -2,7 +2,17 @@
 #![tactic(auto)]
 
 mod backlog;
+mod connection;
+mod desk;
+mod laws;
+mod pieces;
 mod room;
+mod steps;
+mod waiting;
 
 pub use backlog::{Backlog, Sent};
+pub use connection::{Answering, Closing, Connection, Pause, Turned};
+pub use desk::Desk;
+pub use laws::{answer_in_turns, every_way_of_coming_and_going};
+pub use pieces::{Pieces, Takes};
 pub use room::{READ_ROOM, ROOM, Room};

@@ -1,6 +1,6 @@
 //! The room of a thread for input that was read, which its connections share.
 
-ghost use Rattle.std.specs.Prelude.{◌≡◌, ◌≢◌, ◌≤◌, ◌<◌, [], true, false, length, vec_len, vec_capacity, IfOk, OnErr};
+ghost use Rattle.std.specs.Prelude.{◌≡◌, ◌≢◌, ◌≤◌, ◌<◌, ◌↔◌, [], true, false, length, vec_len, vec_capacity, IfOk, IsTrue, OnErr};
 ghost use Rattle.std.specs.Io.KnownBytes.{Consumes, IsAtEnd, Keeps};
 ghost use Rattle.pn_line.specs.Reads.{newline_after};
 
@@ -56,6 +56,13 @@ impl Room {
         ensures bounded { length result.now ≤ ROOM }
     {
         &self.bytes[self.start..]
+    }
+
+    /// Whether it holds no input.
+    pub fn is_empty(&self) -> bool
+        ensures { IsTrue result ↔ (self.now ≡ []) }
+    {
+        self.start == self.bytes.len()
     }
 
     /// Holds this input, and no other.

@@ -1,5 +1,5 @@
 -- Nothing waits where all was taken.
-use Rattle.std.proofs.Common.{◌≡◌, ◌-◌, ◌≤◌, List, [], ℕ, length, drop, sym, ap, ◌∙◌, arith}
+use Rattle.std.proofs.Common.{◌≡◌, length, drop, sym, ap, ◌∙◌, arith}
 use Rattle.std.proofs.lemmas.Bool.{eqb-true, eq-eqb}
 use Rattle.std.proofs.lemmas.List.{drop_all, length-drop}
 use Rattle.pn_stay.proofs.backlog.Backlog.is_empty.Goals as goal

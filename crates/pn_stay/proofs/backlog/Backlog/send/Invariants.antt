@@ -1,5 +1,5 @@
 -- What is gone was written, and each write takes some.
-use Rattle.std.proofs.Common.{List, ℕ, [], length}
+use Rattle.std.proofs.Common.{[], length}
 use Rattle.pn_line.specs.Sent.{Sends}
 use Rattle.pn_stay.proofs.backlog.Backlog.send.Given as goal
 

@@ -1,6 +1,5 @@
 -- The line's bytes are taken from the front of the room's.
-use Rattle.std.proofs.Common.{◌≡◌, ◌+◌, ◌-◌, ◌∙◌, length, arith}
-use Rattle.pn_line.specs.Reads.{newline_after}
+use Rattle.std.proofs.Common.{◌∙◌, arith}
 use Rattle.pn_stay.proofs.Rooms.{slice_from, Takes-front, HasMore-front}
 use Rattle.pn_stay.proofs.room.RoomSource.take_some.Goals as goal
 
