@@ -1,9 +1,14 @@
 -- What a turn of one connection is to the others: lines of others were answered.
-use Rattle.std.proofs.Common.{◌≡◌, ◌<◌, ◌≤◌, ◌-◌, ℕ, List, [], ◌∷◌, ◌++◌, length, take, replicate, refl, sym, ap, ◌∙◌, ⊎_elim, arith, length-append, append-nil}
+use Rattle.std.proofs.Common.{◌≡◌, ◌<◌, ◌≤◌, ◌+◌, ◌-◌, ◌⊎◌, ℕ, min, List, [], ◌∷◌, ◌++◌, length, take, replicate, refl, sym, ap, ◌∙◌, subst, ⊎_elim, arith, length-append, append-nil}
 use Rattle.std.proofs.Math.Nat.{eq-or-lt_of_le}
 use Rattle.std.proofs.Math.Seq.{take-append_seam}
 use Rattle.std.proofs.lemmas.List.{length-take, take_all, length-replicate}
+use Rattle.std.specs.Prelude.{Option, Result, Ok, Err, IfOk, OnErr}
 use Rattle.pn_line.specs.Line.{LineBufferValue, so_far, longer, max_kept}
+use Rattle.pn_line.specs.Reads.{Takes}
+use Rattle.pn_serve.specs.declared.script.Counts.{Counts}
+use Rattle.pn_serve.specs.Lines.Answered.{Answered, AnsweredInPart, Closed}
+use Rattle.pn_serve.specs.Lines.States.{LineLoopValue}
 use Rattle.pn_protocol.specs.declared.reply.Reply.{Reply}
 use Rattle.pn_stay.specs.Kept.{IsLine}
 use Rattle.pn_stay.specs.Others.{Answers, Passes}
@@ -40,3 +45,27 @@ module _ {V : Type 0} (makes ends : V → List ℕ → V → Reply → Type 0) w
   -- one line was answered
   pub Passes-one : (was : V) (text : List ℕ) (now : V) (reply : Reply) → Answers makes ends was text now reply → Passes makes ends was now
   Passes-one was text now reply answered = record { others = text ∷ []; answered = (now, (reply, answered), refl) }
+
+  -- the answer to a line, and to the end of an input
+  pub Passes-answered : (was now : V) (old new : LineLoopValue) (before after : Option (List ℕ)) → Answered makes was now old new before after → IsLine old.line → Passes makes ends was now
+  Passes-answered was now old new before after answered is =
+      let (text, same) = some_line old.line is in Passes-one was text now answered.reply (inl (answered.made text same))
+
+  pub Passes-part : (was now : V) (old : LineLoopValue) (before after : Option (List ℕ)) → AnsweredInPart makes was now old before after → IsLine old.line → Passes makes ends was now
+  Passes-part was now old before after answered is =
+      let (text, same) = some_line old.line is in Passes-one was text now answered.reply (inl (answered.made text same))
+
+  pub Passes-closed : {E : Type 0} (was now : V) (old new : LineLoopValue) (before after : Option (List ℕ)) (closed : Result Counts E) → IfOk closed (λ counts. Closed ends was now old new before after counts)
+      → OnErr closed (AnsweredInPart ends was now old before after) → IsLine old.line → Passes makes ends was now
+  Passes-closed was now old new before after (Ok counts) ok err is =
+      let (text, same) = some_line old.line is in Passes-one was text now ok.reply (inr (ok.made text same))
+  Passes-closed was now old new before after (Err fault) ok err is =
+      let (text, same) = some_line old.line is in Passes-one was text now err.reply (inr (err.made text same))
+
+-- a line that was read on
+pub IsLine-taken : (old new : LineBufferValue) (left leaves : Option (List ℕ)) (after : List ℕ) → Takes old new left leaves after → IsLine old → IsLine new
+IsLine-taken old new left leaves after takes is = subst IsLine (sym takes.line) (IsLine-longer old takes.taken is)
+
+-- a line with no byte
+pub IsLine-none : IsLine (so_far [])
+IsLine-none = omega (arith, length-take {A = ℕ} max_kept [])

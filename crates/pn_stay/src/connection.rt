@@ -4,6 +4,7 @@ ghost use Rattle.std.specs.Prelude.{◌≡◌, Bool, [], IfOk, OnErr};
 ghost use Rattle.pn_serve.specs.Lines.States.{Start};
 ghost use Rattle.pn_line.specs.Sent.{AppendsPrefix, Sends};
 ghost use Rattle.pn_stay.specs.Kept.{nothing_kept};
+ghost use Rattle.pn_stay.specs.Others.{Passes};
 ghost use Rattle.pn_stay.specs.Standing.{StandsIn};
 ghost use Rattle.pn_stay.specs.declared.connection.Connection.TheVariants as connection;
 ghost use Rattle.pn_stay.specs.Turns.{Continues, TurnsTo};
@@ -44,7 +45,7 @@ impl Model for Answering {
     ghost use Rattle.std.specs.Prelude.{◌≤◌, vec_len};
     ghost use Rattle.pn_serve.specs.declared.script.TheConstants.{MAX_LINES};
     ghost use Rattle.pn_stay.specs.declared.room.TheConstants.{ROOM};
-    ghost use Rattle.pn_stay.specs.Kept.{KeptValue, line_in};
+    ghost use Rattle.pn_stay.specs.Kept.{KeptValue, IsLine, line_in};
 
     ghost Value = { KeptValue };
 
@@ -54,7 +55,7 @@ impl Model for Answering {
 
     ghost view = { λ kept. record { line = line_in kept.line; held = kept.held.items; waits = kept.backlog; counts = kept.counts } };
 
-    ghost invariant = { λ kept. (vec_len kept.held ≤ ROOM) × (kept.counts.refused ≤ kept.counts.lines) × (kept.counts.lines ≤ MAX_LINES) };
+    ghost invariant = { λ kept. IsLine (line_in kept.line) × (vec_len kept.held ≤ ROOM) × (kept.counts.refused ≤ kept.counts.lines) × (kept.counts.lines ≤ MAX_LINES) };
 }
 
 /// Replies that are still to be sent, and how the session ended.
@@ -114,6 +115,7 @@ impl Connection {
         requires ready { M.ready }
         ensures turns { (shared : Bool) (start : Start M) → Continues M.makes M.ends shared start (R.remaining input.old) (W.contents output.old) machine.old self
             → TurnsTo M.makes M.ends shared start (R.remaining input.new) (W.contents output.new) machine.new result }
+        ensures passes { Passes M.makes M.ends machine.old machine.new }
         ensures same { M.tablets machine.new ≡ M.tablets machine.old }
     {
         match self {
@@ -134,6 +136,7 @@ fn send_first<M: LineHandler, R: Read, W: Sink>(
     requires ready { M.ready }
     ensures turns { (shared : Bool) (start : Start M) → StandsIn M.makes M.ends shared start (R.remaining input.old) (W.contents output.old) machine.old kept
         → TurnsTo M.makes M.ends shared start (R.remaining input.new) (W.contents output.new) machine.new result }
+    ensures passes { Passes M.makes M.ends machine.old machine.new }
     ensures same { M.tablets machine.new ≡ M.tablets machine.old }
 {
     let mut kept = kept;
@@ -166,6 +169,7 @@ fn answer_some<M: LineHandler, R: Read, W: Sink>(
     requires ready { M.ready }
     ensures turns { (shared : Bool) (start : Start M) → StandsIn M.makes M.ends shared start (R.remaining input.old) (W.contents output.old) machine.old kept
         → TurnsTo M.makes M.ends shared start (R.remaining input.new) (W.contents output.new) machine.new result }
+    ensures passes { Passes M.makes M.ends machine.old machine.new }
     ensures same { M.tablets machine.new ≡ M.tablets machine.old }
 {
     let alloc = kept.alloc;

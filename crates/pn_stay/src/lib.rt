@@ -1,9 +1,14 @@
 //! Connections that are answered as sessions are, in turns, while their sockets give and take what they do.
 #![tactic(auto)]
 
+mod accepting;
 mod backlog;
+mod client;
 mod connection;
 mod desk;
+mod event_loop;
+mod gate;
+mod inbox;
 mod laws;
 mod pieces;
 mod room;

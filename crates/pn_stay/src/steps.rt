@@ -5,6 +5,8 @@ ghost use Rattle.std.specs.IoError.{error_kind};
 ghost use Rattle.pn_line.specs.Line.{so_far};
 ghost use Rattle.pn_serve.specs.Lines.Answered.{Answered, AnsweredInPart, Closed};
 ghost use Rattle.pn_serve.specs.Lines.States.{Start};
+ghost use Rattle.pn_stay.specs.Kept.{IsLine};
+ghost use Rattle.pn_stay.specs.Others.{Passes};
 ghost use Rattle.pn_stay.specs.Standing.{StandsIn};
 ghost use Rattle.pn_stay.specs.Turns.{at_desk, loop_at, GoesOn, StepsTo};
 
@@ -40,10 +42,13 @@ pub(crate) fn take_steps<M: LineHandler, R: Read>(
     input: &mut R,
 ) -> Step
     requires ready { M.ready }
+    requires line { IsLine desk.old.lines.line }
     requires few { desk.old.lines.counts.lines ≤ MAX_LINES }
     ensures steps { (shared : Bool) (start : Start M) (written : Option (List ℕ)) → StandsIn M.makes M.ends shared start (R.remaining input.old) written machine.old (at_desk desk.old backlog.old)
         → StepsTo M.makes M.ends shared start (R.remaining input.new) written machine.new (at_desk desk.new backlog.new) result }
     ensures few { GoesOn result → desk.new.lines.counts.lines ≤ MAX_LINES }
+    ensures line { GoesOn result → IsLine desk.new.lines.line }
+    ensures passes { Passes M.makes M.ends machine.old machine.new }
     ensures same { M.tablets machine.new ≡ M.tablets machine.old }
 {
     'steps: for _step in 0..TURN_STEPS {
@@ -66,10 +71,13 @@ fn take_step<M: LineHandler, R: Read>(
     input: &mut R,
 ) -> Step
     requires ready { M.ready }
+    requires line { IsLine desk.old.lines.line }
     requires few { desk.old.lines.counts.lines ≤ MAX_LINES }
     ensures steps { (shared : Bool) (start : Start M) (written : Option (List ℕ)) → StandsIn M.makes M.ends shared start (R.remaining input.old) written machine.old (at_desk desk.old backlog.old)
         → StepsTo M.makes M.ends shared start (R.remaining input.new) written machine.new (at_desk desk.new backlog.new) result }
     ensures few { GoesOn result → desk.new.lines.counts.lines ≤ MAX_LINES }
+    ensures line { GoesOn result → IsLine desk.new.lines.line }
+    ensures passes { Passes M.makes M.ends machine.old machine.new }
     ensures same { M.tablets machine.new ≡ M.tablets machine.old }
 {
     if desk.lines.counts().lines >= MAX_LINES {
@@ -96,12 +104,15 @@ fn read_more<M: LineHandler, R: Read>(
     input: &mut R,
 ) -> Step
     requires ready { M.ready }
+    requires line { IsLine desk.old.lines.line }
     requires few { desk.old.lines.counts.lines < MAX_LINES }
     requires below { desk.old.lines.line.count < ENDLESS }
     requires empty { desk.old.room ≡ [] }
     ensures steps { (shared : Bool) (start : Start M) (written : Option (List ℕ)) → StandsIn M.makes M.ends shared start (R.remaining input.old) written machine.old (at_desk desk.old backlog.old)
         → StepsTo M.makes M.ends shared start (R.remaining input.new) written machine.new (at_desk desk.new backlog.new) result }
     ensures few { GoesOn result → desk.new.lines.counts.lines ≤ MAX_LINES }
+    ensures line { GoesOn result → desk.new.lines.line ≡ desk.old.lines.line }
+    ensures passes { Passes M.makes M.ends machine.old machine.new }
     ensures same { M.tablets machine.new ≡ M.tablets machine.old }
 {
     match desk.room.read_from(input) {
@@ -124,10 +135,13 @@ fn look_further<M: LineHandler, R: Read>(
     input: &mut R,
 ) -> Step
     requires ready { M.ready }
+    requires line { IsLine desk.old.lines.line }
     requires all { desk.old.lines.counts.lines ≡ MAX_LINES }
     ensures steps { (shared : Bool) (start : Start M) (written : Option (List ℕ)) → StandsIn M.makes M.ends shared start (R.remaining input.old) written machine.old (at_desk desk.old backlog.old)
         → StepsTo M.makes M.ends shared start (R.remaining input.new) written machine.new (at_desk desk.new backlog.new) result }
     ensures few { GoesOn result → desk.new.lines.counts.lines ≤ MAX_LINES }
+    ensures line { GoesOn result → desk.new.lines.line ≡ desk.old.lines.line }
+    ensures passes { Passes M.makes M.ends machine.old machine.new }
     ensures same { M.tablets machine.new ≡ M.tablets machine.old }
 {
     if desk.room.is_empty() {
@@ -144,11 +158,14 @@ fn look_for_more<M: LineHandler, R: Read>(
     input: &mut R,
 ) -> Step
     requires ready { M.ready }
+    requires line { IsLine desk.old.lines.line }
     requires all { desk.old.lines.counts.lines ≡ MAX_LINES }
     requires empty { desk.old.room ≡ [] }
     ensures steps { (shared : Bool) (start : Start M) (written : Option (List ℕ)) → StandsIn M.makes M.ends shared start (R.remaining input.old) written machine.old (at_desk desk.old backlog.old)
         → StepsTo M.makes M.ends shared start (R.remaining input.new) written machine.new (at_desk desk.new backlog.new) result }
     ensures few { GoesOn result → desk.new.lines.counts.lines ≤ MAX_LINES }
+    ensures line { GoesOn result → desk.new.lines.line ≡ desk.old.lines.line }
+    ensures passes { Passes M.makes M.ends machine.old machine.new }
     ensures same { M.tablets machine.new ≡ M.tablets machine.old }
 {
     match desk.room.read_from(input) {
@@ -192,12 +209,14 @@ fn answer<M: LineHandler>(
     backlog: &mut Backlog,
 ) -> Result<(), WriteFault>
     requires ready { M.ready }
+    requires line { IsLine desk.old.lines.line }
     requires few { desk.old.lines.counts.lines < MAX_LINES }
     ensures ok { (written : Option (List ℕ)) → OnOk result (Answered M.makes machine.old machine.new (loop_at desk.old backlog.old) (loop_at desk.new backlog.new) written written) }
     ensures err { (written : Option (List ℕ)) → OnErr result (AnsweredInPart M.makes machine.old machine.new (loop_at desk.old backlog.old) written written) }
     ensures begun { OnOk result (desk.new.lines.line ≡ so_far []) }
     ensures few { OnOk result (desk.new.lines.counts.lines ≤ MAX_LINES) }
     ensures room { desk.new.room ≡ desk.old.room }
+    ensures passes { Passes M.makes M.ends machine.old machine.new }
     ensures same { M.tablets machine.new ≡ M.tablets machine.old }
 {
     desk.lines.answer_line(machine, backlog)?;
@@ -212,10 +231,12 @@ fn close<M: LineHandler>(
     backlog: &mut Backlog,
 ) -> Result<Counts, WriteFault>
     requires ready { M.ready }
+    requires line { IsLine desk.old.lines.line }
     requires few { desk.old.lines.counts.lines ≤ MAX_LINES }
     ensures ok { (written : Option (List ℕ)) → IfOk result (λ counts. Closed M.ends machine.old machine.new (loop_at desk.old backlog.old) (loop_at desk.new backlog.new) written written counts) }
     ensures err { (written : Option (List ℕ)) → OnErr result (AnsweredInPart M.ends machine.old machine.new (loop_at desk.old backlog.old) written written) }
     ensures room { desk.new.room ≡ desk.old.room }
+    ensures passes { Passes M.makes M.ends machine.old machine.new }
     ensures same { M.tablets machine.new ≡ M.tablets machine.old }
 {
     desk.lines.close(machine, backlog)

@@ -3,7 +3,7 @@
 ghost use Rattle.std.specs.Prelude.{◌≡◌, ◌+◌, ◌≤◌, ℕ, Bool, List, [], ◌++◌, Option, length, vec_len, IfOk};
 ghost use Rattle.pn_line.specs.Line.{so_far};
 ghost use Rattle.pn_serve.specs.Lines.States.{Start};
-ghost use Rattle.pn_stay.specs.Kept.{line_in, SameInput};
+ghost use Rattle.pn_stay.specs.Kept.{line_in, IsLine, SameInput};
 ghost use Rattle.pn_stay.specs.Standing.{StandsIn};
 ghost use Rattle.pn_stay.specs.Turns.{at_desk, TurnsTo};
 
@@ -19,6 +19,7 @@ impl Answering {
     // Lays its line and its input out on a desk. What waits is given.
     pub(super) fn lay_out(self, desk: &mut Desk) -> Backlog
         ensures laid { at_desk desk.new result ≡ self }
+        ensures line { IsLine desk.new.lines.line }
         ensures few { desk.new.lines.counts.lines ≤ MAX_LINES }
     {
         let Answering {
@@ -57,6 +58,7 @@ pub(super) fn keep<M: LineHandler>(
     pause: Pause,
 ) -> Turned
     requires few { desk.old.lines.counts.lines ≤ MAX_LINES }
+    requires line { IsLine desk.old.lines.line }
     requires none { desk.old.lines.waits ≡ [] }
     ensures turns { (shared : Bool) (start : Start M) (left written : Option (List ℕ)) (machine : M) → StandsIn M.makes M.ends shared start left written machine (at_desk desk.old backlog)
         → TurnsTo M.makes M.ends shared start left written machine result }
@@ -92,7 +94,9 @@ struct Taken {
 
 // Takes the input from a desk: bytes as long as they are, and the buffer of a line that is too long for them.
 fn take_input(alloc: Global, desk: &mut Desk) -> Result<Taken, AllocError>
+    requires line { IsLine desk.old.lines.line }
     ensures same { IfOk result (λ taken. SameInput desk.old.lines.line desk.old.room (line_in taken.line) taken.held.items) }
+    ensures line { IfOk result (λ taken. IsLine (line_in taken.line)) }
     ensures fits { IfOk result (λ taken. vec_len taken.held ≤ ROOM) }
 {
     let room = desk.room.held();

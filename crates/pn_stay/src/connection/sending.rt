@@ -2,6 +2,7 @@
 
 ghost use Rattle.std.specs.Prelude.{◌≡◌, ◌≤◌, ℕ, Bool, List, [], Option};
 ghost use Rattle.pn_serve.specs.Lines.States.{Start};
+ghost use Rattle.pn_stay.specs.Kept.{IsLine};
 ghost use Rattle.pn_stay.specs.Standing.{StandsIn};
 ghost use Rattle.pn_stay.specs.Turns.{at_desk, Continues, GoesOn, StepsTo, TurnsTo};
 ghost use Rattle.pn_stay.specs.declared.connection.Connection.TheVariants as connection;
@@ -24,6 +25,7 @@ pub(super) fn finish<M: LineHandler, W: Sink>(
     output: &mut W,
 ) -> Turned
     requires few { GoesOn step → desk.old.lines.counts.lines ≤ MAX_LINES }
+    requires line { GoesOn step → IsLine desk.old.lines.line }
     ensures turns { (shared : Bool) (start : Start M) (left : Option (List ℕ)) (machine : M) → StepsTo M.makes M.ends shared start left (W.contents output.old) machine (at_desk desk.old backlog) step
         → TurnsTo M.makes M.ends shared start left (W.contents output.new) machine result }
 {
@@ -43,6 +45,7 @@ fn conclude<M: LineHandler, W: Sink>(
     output: &mut W,
 ) -> Turned
     requires few { GoesOn step → desk.old.lines.counts.lines ≤ MAX_LINES }
+    requires line { GoesOn step → IsLine desk.old.lines.line }
     requires none { desk.old.lines.waits ≡ [] }
     ensures turns { (shared : Bool) (start : Start M) (left : Option (List ℕ)) (machine : M) → StepsTo M.makes M.ends shared start left (W.contents output.old) machine (at_desk desk.old backlog) step
         → TurnsTo M.makes M.ends shared start left (W.contents output.new) machine result }
@@ -81,6 +84,7 @@ fn go_on<M: LineHandler, W: Sink>(
     output: &mut W,
 ) -> Turned
     requires few { desk.old.lines.counts.lines ≤ MAX_LINES }
+    requires line { IsLine desk.old.lines.line }
     requires none { desk.old.lines.waits ≡ [] }
     ensures turns { (shared : Bool) (start : Start M) (left : Option (List ℕ)) (machine : M) → StandsIn M.makes M.ends shared start left (W.contents output.old) machine (at_desk desk.old backlog)
         → TurnsTo M.makes M.ends shared start left (W.contents output.new) machine result }

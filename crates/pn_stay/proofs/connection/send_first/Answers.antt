@@ -2,6 +2,7 @@
 use Rattle.std.proofs.Common.{ap}
 use Rattle.pn_stay.specs.Kept.{KeptValue}
 use Rattle.pn_stay.proofs.Stepping.{Steps-sent, Steps-cut}
+use Rattle.pn_stay.proofs.Stands.{Passes-none}
 use Rattle.pn_stay.proofs.connection.send_first.Goals as goal
 
 pub returns-in-Ok-All-clause-turns : goal.returns-in-Ok-All-clause-turns
@@ -18,3 +19,9 @@ returns-in-Ok-Waits-clause-turns g c shared start stands =
 pub returns-in-Err-clause-turns : goal.returns-in-Err-clause-turns
 returns-in-Err-clause-turns g c shared start stands =
     (c.args.kept.held, Steps-cut g.M.LineHandler.makes g.M.LineHandler.ends shared start _ _ _ _ c.args.kept stands c.in-Err.ensures.err)
+
+pub returns-in-Ok-Waits-clause-passes : goal.returns-in-Ok-Waits-clause-passes
+returns-in-Ok-Waits-clause-passes g c = Passes-none g.M.LineHandler.makes g.M.LineHandler.ends _
+
+pub returns-in-Err-clause-passes : goal.returns-in-Err-clause-passes
+returns-in-Err-clause-passes g c = Passes-none g.M.LineHandler.makes g.M.LineHandler.ends _

@@ -1,6 +1,8 @@
 -- All replies are in the backlog, or there was no memory for them.
 use Rattle.pn_stay.specs.Turns.{at_desk}
 use Rattle.pn_stay.proofs.Stepping.{Steps-flushed, Steps-given_up}
+use Rattle.std.proofs.Common.{sym, subst}
+use Rattle.pn_stay.specs.Kept.{IsLine}
 use Rattle.pn_stay.proofs.connection.sending.finish.Goals as goal
 
 pub returns-in-Ok : goal.returns-in-Ok
@@ -17,3 +19,6 @@ returns-in-Err g c = record {
   turns = λ shared start left machine steps.
       Steps-given_up g.M.LineHandler.makes g.M.LineHandler.ends shared start left _ machine (at_desk c.args.desk.now c.args.backlog) c.args.step steps;
 }
+
+pub conclude-requires-clause-line : goal.conclude-requires-clause-line
+conclude-requires-clause-line g c goes = subst IsLine (sym c.flush.ensures.line) (c.requires.line goes)
