@@ -22,7 +22,7 @@ pub(crate) fn accept_all<R: Wait + Clock>(
 )
     requires { 0 < length inboxes.now }
 {
-    let mut next = 0;
+    let mut next: usize = 0;
     for _ in rt.forever() {
         gate.enter(rt);
         let Ok(stream) = accept_one(listener) else {
@@ -33,7 +33,7 @@ pub(crate) fn accept_all<R: Wait + Clock>(
         if inboxes[next % inboxes.len()].put(rt, stream).is_err() {
             gate.leave(rt);
         }
-        next = (next + 1) % inboxes.len();
+        next = next.wrapping_add(1);
     }
 }
 

@@ -1,5 +1,7 @@
 //! A client of a session thread: its socket, and its connection between two turns.
 
+ghost use Rattle.std.specs.Prelude.{◌≡◌};
+
 use crate::connection::{Connection, Pause, Turned};
 use crate::desk::Desk;
 use mio::net::TcpStream;

@@ -22,3 +22,6 @@ steps-preserved g c =
       few = c.take_step.ensures.few goes;
       same = c.take_step.ensures.same ∙ c.steps.invariant.same;
     }
+
+pub returns-in_default-clause-passes : goal.returns-in_default-clause-passes
+returns-in_default-clause-passes g c = Passes-trans g.M.LineHandler.makes g.M.LineHandler.ends _ _ _ c.steps.invariant.passes c.take_step.ensures.passes
