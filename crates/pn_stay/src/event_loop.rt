@@ -64,7 +64,7 @@ impl EventLoop {
             if self.wait()? {
                 self.take_clients(rt, inbox);
             }
-            self.take_turns(rt, inbox, machine)?;
+            self.take_turns(rt, inbox, machine);
             if self.clients.is_empty() && inbox.is_closed(rt) {
                 break;
             }
@@ -117,31 +117,33 @@ impl EventLoop {
         Ok(())
     }
 
-    // Gives each client that is ready one turn.
-    fn take_turns<R: Wait, M: LineHandler>(
-        &mut self,
-        rt: &R,
-        inbox: &Inbox,
-        machine: &mut M,
-    ) -> io::Result<()>
+    // Gives each client that is ready one turn. One that is to have another and finds no memory ends.
+    fn take_turns<R: Wait, M: LineHandler>(&mut self, rt: &R, inbox: &Inbox, machine: &mut M)
         requires ready { M.ready }
         ensures same { M.tablets machine.new ≡ M.tablets machine.old }
     {
         let ready = mem::replace(&mut self.ready, Vec::new(self.alloc));
         for key in ready {
-            let pause = match self.clients.get_mut(key) {
-                Some(client) => client.turn(&mut self.desk, machine),
-                None => continue,
+            let goes_on = match self.turn_of(key, machine) {
+                Some(Pause::Turn) => self.ready.push(key).is_ok(),
+                Some(Pause::Input | Pause::Output) => true,
+                None => false,
             };
-            match pause {
-                Some(Pause::Turn) => self.ready.push(key)?,
-                Some(Pause::Input | Pause::Output) => {}
-                None => {
-                    let _ = self.clients.try_remove(key);
-                    inbox.leave(rt);
-                }
+            if !goes_on {
+                let _ = self.clients.try_remove(key);
+                inbox.leave(rt);
             }
         }
-        Ok(())
+    }
+
+    // One turn of the client of a key. Where the client is gone, nothing is at hand.
+    fn turn_of<M: LineHandler>(&mut self, key: usize, machine: &mut M) -> Option<Pause>
+        requires ready { M.ready }
+        ensures same { M.tablets machine.new ≡ M.tablets machine.old }
+    {
+        match self.clients.get_mut(key) {
+            Some(client) => client.turn(&mut self.desk, machine),
+            None => Some(Pause::Input),
+        }
     }
 }
