@@ -12,11 +12,13 @@ mod settings;
 pub use arguments::plan;
 pub use arguments::plans::{Plan, PlanFault};
 pub use laws::regions_converge;
+pub use machine::line_handler::LineHandler;
 pub use pn_protocol::{
     Command, Part, Refusal, Reply, ShortReply, a_line_is_one_command, adopted_reply,
     bad_text_reply, changed_reply, command_of, fault_reply, lines_reply, lost_reply, no_copy_reply,
     not_adopted_reply, refusal_reply, refused_reply, scan_reply,
 };
+pub use script::line_loop::LineLoop;
 pub use script::{Counts, MAX_LINES, RunFault, run, run_to_exit};
 pub use server::{ServeFault, serve};
 pub use sessions::session;

@@ -1,0 +1,45 @@
+//! A client of a session thread: its socket, and its connection between two turns.
+
+ghost use Rattle.std.specs.Prelude.{◌≡◌};
+
+use crate::connection::{Connection, Pause, Turned};
+use crate::desk::Desk;
+use mio::net::TcpStream;
+use pn_serve::LineHandler;
+use std::alloc::Global;
+use std::mem;
+
+/// A socket and its connection.
+#[derive(Drop)]
+pub(crate) struct Client {
+    alloc: Global,
+    stream: TcpStream,
+    connection: Connection,
+}
+
+impl Client {
+    /// A client of which nothing was read.
+    pub(crate) fn new(alloc: Global, stream: TcpStream) -> Client {
+        Client {
+            alloc,
+            stream,
+            connection: Connection::new(alloc),
+        }
+    }
+
+    /// One turn. None where the connection has ended.
+    pub(crate) fn turn<M: LineHandler>(&mut self, desk: &mut Desk, machine: &mut M) -> Option<Pause>
+        requires ready { M.ready }
+        ensures same { M.tablets machine.new ≡ M.tablets machine.old }
+    {
+        let connection = mem::replace(&mut self.connection, Connection::new(self.alloc));
+        let stream = &self.stream;
+        match connection.turn(desk, machine, &mut &*stream, &mut &*stream) {
+            Turned::Goes(connection, pause) => {
+                self.connection = connection;
+                Some(pause)
+            }
+            Turned::Ended(_) => None,
+        }
+    }
+}

@@ -1,0 +1,149 @@
+//! The event loop of a session thread: its connections have their turns one after another.
+
+ghost use Rattle.std.specs.Prelude.{◌≡◌};
+
+use crate::client::Client;
+use crate::connection::Pause;
+use crate::desk::Desk;
+use crate::inbox::Inbox;
+use mio::net::TcpStream;
+use mio::{Events, Interest, Poll, Token};
+use pn_serve::LineHandler;
+use slab::Slab;
+use std::alloc::Global;
+use std::sync::Wait;
+use std::time::Duration;
+use std::{io, mem};
+
+/// How many events one wait gives at most.
+const EVENTS: usize = 1_024;
+
+/// The token of the inbox.
+pub(crate) const INBOX: Token = Token(usize::MAX);
+
+/// The connections of a session thread.
+#[derive(Drop)]
+pub(crate) struct EventLoop {
+    alloc: Global,
+    poll: Poll,
+    events: Events,
+    desk: Desk,
+    clients: Slab<Client>,
+    // The keys of clients that are to have a turn. A key may have passed to another client since.
+    ready: Vec<usize>,
+}
+
+impl EventLoop {
+    /// A loop with no connection.
+    pub(crate) fn new(alloc: Global, poll: Poll) -> io::Result<EventLoop> {
+        let Ok(desk) = Desk::new(alloc) else {
+            return Err(io::Error::from(io::ErrorKind::OutOfMemory));
+        };
+        Ok(EventLoop {
+            alloc,
+            poll,
+            events: Events::with_capacity(alloc, EVENTS)?,
+            desk,
+            clients: Slab::new(alloc),
+            ready: Vec::new(alloc),
+        })
+    }
+
+    /// Answers connections until the inbox is closed and the last has ended. An error is one of the system's wait, or
+    /// of memory.
+    pub(crate) fn run<R: Wait, M: LineHandler>(
+        &mut self,
+        rt: &R,
+        inbox: &Inbox,
+        machine: &mut M,
+    ) -> io::Result<()>
+        requires ready { M.ready }
+        ensures same { M.tablets machine.new ≡ M.tablets machine.old }
+    {
+        'rounds: for _ in rt.forever() {
+            if self.wait()? {
+                self.take_clients(rt, inbox);
+            }
+            self.take_turns(rt, inbox, machine);
+            if self.clients.is_empty() && inbox.is_closed(rt) {
+                break;
+            }
+        }
+        Ok(())
+    }
+
+    // Waits for events, unless clients are ready. Whether the inbox was filled.
+    fn wait(&mut self) -> io::Result<bool> {
+        let timeout = if self.ready.is_empty() {
+            None
+        } else {
+            Some(Duration::ZERO)
+        };
+        self.poll.poll(&mut self.events, timeout)?;
+        let mut is_filled = false;
+        for event in self.events.iter() {
+            if event.token() == INBOX {
+                is_filled = true;
+            } else {
+                self.ready.push(usize::from(event.token()))?;
+            }
+        }
+        Ok(is_filled)
+    }
+
+    // Takes the sockets that were accepted. One that cannot be registered is dropped.
+    fn take_clients<R: Wait>(&mut self, rt: &R, inbox: &Inbox) {
+        for stream in inbox.take(rt) {
+            if self.add(stream).is_err() {
+                inbox.leave(rt);
+            }
+        }
+    }
+
+    fn add(&mut self, stream: TcpStream) -> io::Result<()> {
+        let mut stream = stream;
+        self.clients.reserve(1)?;
+        self.ready.reserve(1)?;
+        let key = self.clients.vacant_key();
+        self.poll.registry().register(
+            &mut stream,
+            Token(key),
+            Interest::READABLE | Interest::WRITABLE,
+        )?;
+        let _ = self
+            .clients
+            .insert_reserved(Client::new(self.alloc, stream));
+        self.ready.push(key)?;
+        Ok(())
+    }
+
+    // Gives each client that is ready one turn. One that is to have another and finds no memory ends.
+    fn take_turns<R: Wait, M: LineHandler>(&mut self, rt: &R, inbox: &Inbox, machine: &mut M)
+        requires ready { M.ready }
+        ensures same { M.tablets machine.new ≡ M.tablets machine.old }
+    {
+        let ready = mem::replace(&mut self.ready, Vec::new(self.alloc));
+        for key in ready {
+            let goes_on = match self.turn_of(key, machine) {
+                Some(Pause::Turn) => self.ready.push(key).is_ok(),
+                Some(Pause::Input | Pause::Output) => true,
+                None => false,
+            };
+            if !goes_on {
+                let _ = self.clients.try_remove(key);
+                inbox.leave(rt);
+            }
+        }
+    }
+
+    // One turn of the client of a key. Where the client is gone, nothing is at hand.
+    fn turn_of<M: LineHandler>(&mut self, key: usize, machine: &mut M) -> Option<Pause>
+        requires ready { M.ready }
+        ensures same { M.tablets machine.new ≡ M.tablets machine.old }
+    {
+        match self.clients.get_mut(key) {
+            Some(client) => client.turn(&mut self.desk, machine),
+            None => Some(Pause::Input),
+        }
+    }
+}
