@@ -1,5 +1,5 @@
 -- How a connection ends: as its session does, once its replies are written.
-use Rattle.std.proofs.Common.{◌≡◌, ◌≢◌, ◌<◌, ℕ, Bool, Option, None, Some, List, [], ◌∷◌, ◌++◌, IfSome, OnSome, refl, ap, ◌∙◌, subst, append-nil, ⊎_elim, arith}
+use Rattle.std.proofs.Common.{◌≡◌, ◌≢◌, ◌<◌, ℕ, Bool, false, Option, None, Some, List, [], ◌∷◌, ◌++◌, IfSome, OnSome, refl, ap, ◌∙◌, subst, append-nil, ⊎_elim, arith}
 use Rattle.std.specs.Prelude.{Result, Ok, Err}
 use Rattle.std.specs.Io.KnownBytes.{Appends, Consumes, Keeps, IsAtEnd, prepend_known}
 use Rattle.std.proofs.KnownBytes.{Keeps-refl, Appends-trans}
@@ -147,7 +147,7 @@ module _ {V : Type 0} (makes ends : V → List ℕ → V → Reply → Type 0) (
 
       -- a reply found no memory
       pub HasEnded-line : (left written : Option (List ℕ)) (was now : V) (old : KeptValue) (line : LineBufferValue) (held : List ℕ) → Stands makes ends shared start script left written was old
-          → Takes old.line line (Some old.held) (Some held) (10 ∷ []) → AnsweredInPart makes was now (record { line = line; waits = old.waits; counts = old.counts }) written written
+          → Takes old.line line (Some old.held) (Some held) (10 ∷ []) → AnsweredInPart makes was now (record { line = line; waits = old.waits; more = false; counts = old.counts }) written written
           → HasEnded makes ends shared start (prepend_known held left) written now (Err Write)
       HasEnded-line left written was now old line held stands taken answered =
           let takes = Takes-ahead stands.part old.held left line held (10 ∷ []) stands.unbroken (rw stands.line_is at taken) in record {
@@ -180,7 +180,7 @@ module _ {V : Type 0} (makes ends : V → List ℕ → V → Reply → Type 0) (
 
         -- and there may be more lines
         module _ (below : old.line.count < 1000000000) (few : old.counts.lines < 1000000) where
-          pub EndsOnceSent-closed : (new : LineLoopValue) (counts : Counts) → Closed ends was now (record { line = old.line; waits = old.waits; counts = old.counts }) new written written counts
+          pub EndsOnceSent-closed : (new : LineLoopValue) (counts : Counts) → Closed ends was now (record { line = old.line; waits = old.waits; more = false; counts = old.counts }) new written written counts
               → EndsOnceSent makes ends shared start (prepend_known old.held leaves) written new.waits now (Ok counts)
           EndsOnceSent-closed new counts closed = record {
             all = λ after sent. record {
@@ -197,7 +197,7 @@ module _ {V : Type 0} (makes ends : V → List ℕ → V → Reply → Type 0) (
             };
           }
 
-          pub HasEnded-last : AnsweredInPart ends was now (record { line = old.line; waits = old.waits; counts = old.counts }) written written
+          pub HasEnded-last : AnsweredInPart ends was now (record { line = old.line; waits = old.waits; more = false; counts = old.counts }) written written
               → HasEnded makes ends shared start (prepend_known old.held leaves) written now (Err Write)
           HasEnded-last closed = record {
             reached = now;
@@ -219,7 +219,7 @@ module _ {V : Type 0} (makes ends : V → List ℕ → V → Reply → Type 0) (
               (subst (λ (p : List ℕ). Between (MakesAfter makes ends shared) start script (prepend_known (p ++ old.held) left) written stands.reached (loop_of old)) none stands.between)
               (Keeps-ahead old.held left leaves kept)
 
-          pub EndsOnceSent-finished : (new : LineLoopValue) (counts : Counts) → Closed ends was now (record { line = old.line; waits = old.waits; counts = old.counts }) new written written counts
+          pub EndsOnceSent-finished : (new : LineLoopValue) (counts : Counts) → Closed ends was now (record { line = old.line; waits = old.waits; more = false; counts = old.counts }) new written written counts
               → EndsOnceSent makes ends shared start (prepend_known old.held leaves) written new.waits now (Ok counts)
           EndsOnceSent-finished new counts closed = record {
             all = λ after sent. record {
@@ -236,7 +236,7 @@ module _ {V : Type 0} (makes ends : V → List ℕ → V → Reply → Type 0) (
             };
           }
 
-          pub HasEnded-finish : AnsweredInPart ends was now (record { line = old.line; waits = old.waits; counts = old.counts }) written written
+          pub HasEnded-finish : AnsweredInPart ends was now (record { line = old.line; waits = old.waits; more = false; counts = old.counts }) written written
               → HasEnded makes ends shared start (prepend_known old.held leaves) written now (Err Write)
           HasEnded-finish closed = record {
             reached = now;

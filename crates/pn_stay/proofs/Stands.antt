@@ -119,7 +119,7 @@ module _ {V : Type 0} (makes ends : V → List ℕ → V → Reply → Type 0) (
       -- a line was answered
       pub Stands-line : (left written : Option (List ℕ)) (was now : V) (old new : KeptValue) (line : LineBufferValue) → Stands makes ends shared start script left written was old
           → Takes old.line line (Some old.held) (Some new.held) (10 ∷ []) → line.count < 1000000000 → new.line ≡ so_far []
-          → Answered makes was now (record { line = line; waits = old.waits; counts = old.counts }) (record { line = new.line; waits = new.waits; counts = new.counts }) written written
+          → Answered makes was now (record { line = line; waits = old.waits; more = false; counts = old.counts }) (record { line = new.line; waits = new.waits; more = false; counts = new.counts }) written written
           → Stands makes ends shared start script left written now new
       Stands-line left written was now old new line stands takes below begun answered =
           let whole = Takes-ahead stands.part old.held left line new.held (10 ∷ []) stands.unbroken (rw stands.line_is at takes) in

@@ -1,5 +1,5 @@
 -- What a step does to where a connection stands, whether the bytes are known or not.
-use Rattle.std.proofs.Common.{◌≡◌, ◌≢◌, ◌⊎◌, ◌+◌, ◌<◌, ℕ, Bool, Option, None, Some, List, [], ◌∷◌, ◌++◌, inl, inr, sym, ap, ◌∙◌, subst, append_assoc, append-nil}
+use Rattle.std.proofs.Common.{◌≡◌, ◌≢◌, ◌⊎◌, ◌+◌, ◌<◌, ℕ, Bool, false, Option, None, Some, List, [], ◌∷◌, ◌++◌, inl, inr, sym, ap, ◌∙◌, subst, append_assoc, append-nil}
 use Rattle.std.specs.Prelude.{Result, Ok, Err, IfOk, OnErr, MatchResult}
 use Rattle.std.specs.Io.KnownBytes.{Appends, Consumes, Keeps, IsAtEnd, prepend_known}
 use Rattle.std.proofs.KnownBytes.{Keeps-refl}
@@ -28,7 +28,7 @@ use Rattle.pn_stay.proofs.Ending.{HasEnded-untold, EndsOnceSent-untold, HasEnded
 module _ {V : Type 0} (does : V → List ℕ → V → Reply → Type 0) (was now : V) (old new : LineLoopValue) (backlog after : List ℕ) (written : Option (List ℕ)) where
   -- a reply went to the outbox, and bytes of the outbox to the backlog
   pub Answered-queued : (last : LineLoopValue) → last.waits ≡ new.waits → last.counts ≡ new.counts → Answered does was now old new (Some backlog) (Some after)
-      → Answered does was now (record { line = old.line; waits = backlog ++ old.waits; counts = old.counts }) (record { line = last.line; waits = after ++ last.waits; counts = last.counts }) written written
+      → Answered does was now (record { line = old.line; waits = backlog ++ old.waits; more = false; counts = old.counts }) (record { line = last.line; waits = after ++ last.waits; more = false; counts = last.counts }) written written
   Answered-queued last waits counts answered = record {
     reply = answered.reply;
     made = answered.made;
@@ -39,11 +39,11 @@ module _ {V : Type 0} (does : V → List ℕ → V → Reply → Type 0) (was no
   }
 
   pub AnsweredInPart-queued : AnsweredInPart does was now old (Some backlog) (Some after)
-      → AnsweredInPart does was now (record { line = old.line; waits = backlog ++ old.waits; counts = old.counts }) written written
+      → AnsweredInPart does was now (record { line = old.line; waits = backlog ++ old.waits; more = false; counts = old.counts }) written written
   AnsweredInPart-queued answered = record { reply = answered.reply; made = answered.made; prefix = AppendsPrefix-none written _ }
 
   pub Closed-queued : (counts : Counts) → Closed does was now old new (Some backlog) (Some after) counts
-      → Closed does was now (record { line = old.line; waits = backlog ++ old.waits; counts = old.counts }) (record { line = new.line; waits = after ++ new.waits; counts = new.counts }) written written counts
+      → Closed does was now (record { line = old.line; waits = backlog ++ old.waits; more = false; counts = old.counts }) (record { line = new.line; waits = after ++ new.waits; more = false; counts = new.counts }) written written counts
   Closed-queued counts closed = record {
     reply = closed.reply;
     made = closed.made;
@@ -55,7 +55,7 @@ module _ {V : Type 0} (does : V → List ℕ → V → Reply → Type 0) (was no
 -- the loop that answered, by its parts
 module _ {V : Type 0} (does : V → List ℕ → V → Reply → Type 0) (was now : V) (run : LineLoopValue) (waits : List ℕ) (counts : Counts) (same : run.waits ≡ waits) (as_many : run.counts ≡ counts)
     (b c : Option (List ℕ)) where
-  Answered-from : (new : LineLoopValue) → Answered does was now run new b c → Answered does was now (record { line = run.line; waits = waits; counts = counts }) new b c
+  Answered-from : (new : LineLoopValue) → Answered does was now run new b c → Answered does was now (record { line = run.line; waits = waits; more = false; counts = counts }) new b c
   Answered-from new answered = record {
     reply = answered.reply;
     made = answered.made;
@@ -64,7 +64,7 @@ module _ {V : Type 0} (does : V → List ℕ → V → Reply → Type 0) (was no
     refused = answered.refused ∙ ap (λ (n : Counts). one_if (is_refusal answered.reply) + n.refused) as_many;
   }
 
-  AnsweredInPart-from : AnsweredInPart does was now run b c → AnsweredInPart does was now (record { line = run.line; waits = waits; counts = counts }) b c
+  AnsweredInPart-from : AnsweredInPart does was now run b c → AnsweredInPart does was now (record { line = run.line; waits = waits; more = false; counts = counts }) b c
   AnsweredInPart-from answered = record {
     reply = answered.reply;
     made = answered.made;
@@ -106,7 +106,7 @@ module _ {V : Type 0} (makes ends : V → List ℕ → V → Reply → Type 0) (
       (takes : Takes old.line run.line (Some old.held) (Some held) (10 ∷ [])) (same : run.waits ≡ old.waits) (as_many : run.counts ≡ old.counts) where
     -- and answered
     pub Steps-line : (new : KeptValue) → new.held ≡ held → run.line.count < 1000000000 → new.line ≡ so_far []
-        → Answered makes was now run (record { line = new.line; waits = new.waits; counts = new.counts }) written written
+        → Answered makes was now run (record { line = new.line; waits = new.waits; more = false; counts = new.counts }) written written
         → StandsIn makes ends shared start left written now new
     Steps-line new is below begun answered =
         let whole = subst (λ (h : List ℕ). Takes old.line run.line (Some old.held) (Some h) (10 ∷ [])) (sym is) takes in
@@ -183,7 +183,7 @@ module _ {V : Type 0} (makes ends : V → List ℕ → V → Reply → Type 0) (
     held_is = empty ∙ sym (held ∙ end.0)
 
     pub Steps-closed : (new : LineLoopValue) (counts : Counts) → old.line.count < 1000000000 → old.counts.lines < 1000000
-        → Closed ends was now (record { line = old.line; waits = old.waits; counts = old.counts }) new written written counts
+        → Closed ends was now (record { line = old.line; waits = old.waits; more = false; counts = old.counts }) new written written counts
         → EndsOnceSent makes ends shared start (prepend_known new_held leaves) written new.waits now (Ok counts)
     Steps-closed new counts below few closed =
         subst (λ (h : List ℕ). EndsOnceSent makes ends shared start (prepend_known h leaves) written new.waits now (Ok counts)) held_is
@@ -191,7 +191,7 @@ module _ {V : Type 0} (makes ends : V → List ℕ → V → Reply → Type 0) (
         (λ script is. λ known. EndsOnceSent-closed makes ends shared start script is left leaves written was now old known empty nothing end.1 below few new counts closed))
 
     pub Steps-last_cut : old.line.count < 1000000000 → old.counts.lines < 1000000
-        → AnsweredInPart ends was now (record { line = old.line; waits = old.waits; counts = old.counts }) written written
+        → AnsweredInPart ends was now (record { line = old.line; waits = old.waits; more = false; counts = old.counts }) written written
         → HasEnded makes ends shared start (prepend_known new_held leaves) written now (Err Write)
     Steps-last_cut below few answered =
         subst (λ (h : List ℕ). HasEnded makes ends shared start (prepend_known h leaves) written now (Err Write)) held_is
@@ -199,7 +199,7 @@ module _ {V : Type 0} (makes ends : V → List ℕ → V → Reply → Type 0) (
         (λ script is. λ known. HasEnded-last makes ends shared start script is left leaves written was now old known empty nothing end.1 below few answered))
 
     pub Steps-finished : (new : LineLoopValue) (counts : Counts) → old.counts.lines ≡ 1000000
-        → Closed ends was now (record { line = old.line; waits = old.waits; counts = old.counts }) new written written counts
+        → Closed ends was now (record { line = old.line; waits = old.waits; more = false; counts = old.counts }) new written written counts
         → EndsOnceSent makes ends shared start (prepend_known new_held leaves) written new.waits now (Ok counts)
     Steps-finished new counts many closed =
         subst (λ (h : List ℕ). EndsOnceSent makes ends shared start (prepend_known h leaves) written new.waits now (Ok counts)) held_is
@@ -207,7 +207,7 @@ module _ {V : Type 0} (makes ends : V → List ℕ → V → Reply → Type 0) (
         (λ script is. λ known. EndsOnceSent-finished makes ends shared start script is left leaves written was now old known empty nothing end.1 many new counts closed))
 
     pub Steps-finish_cut : old.counts.lines ≡ 1000000
-        → AnsweredInPart ends was now (record { line = old.line; waits = old.waits; counts = old.counts }) written written
+        → AnsweredInPart ends was now (record { line = old.line; waits = old.waits; more = false; counts = old.counts }) written written
         → HasEnded makes ends shared start (prepend_known new_held leaves) written now (Err Write)
     Steps-finish_cut many answered =
         subst (λ (h : List ℕ). HasEnded makes ends shared start (prepend_known h leaves) written now (Err Write)) held_is
@@ -263,23 +263,23 @@ module _ {V : Type 0} (makes ends : V → List ℕ → V → Reply → Type 0) (
   module _ (left leaves written : Option (List ℕ)) (was now : V) (old new : KeptValue) (stands : StandsIn makes ends shared start left written was old) (empty : old.held ≡ []) (came : List ℕ)
       (consumed : Consumes left leaves came) (end : (came ≡ []) × IsAtEnd leaves) (held : new.held ≡ came) (step : Step) {E : Type 0} where
     pub Steps-ended : (closed : Result Counts E) → MatchResult closed (λ counts. step ≡ Ends (Ok counts)) (λ _. step ≡ OutOfMemory) → old.line.count < 1000000000 → old.counts.lines < 1000000
-        → IfOk closed (λ counts. Closed ends was now (record { line = old.line; waits = old.waits; counts = old.counts }) (record { line = new.line; waits = new.waits; counts = new.counts }) written written counts)
-        → OnErr closed (AnsweredInPart ends was now (record { line = old.line; waits = old.waits; counts = old.counts }) written written)
+        → IfOk closed (λ counts. Closed ends was now (record { line = old.line; waits = old.waits; more = false; counts = old.counts }) (record { line = new.line; waits = new.waits; more = false; counts = new.counts }) written written counts)
+        → OnErr closed (AnsweredInPart ends was now (record { line = old.line; waits = old.waits; more = false; counts = old.counts }) written written)
         → StepsTo makes ends shared start leaves written now new step
     Steps-ended (Ok counts) is below few ok err =
         subst (λ (s : Step). StepsTo makes ends shared start leaves written now new s) (sym is)
-        (Steps-closed left leaves written was now old stands empty came new.held consumed end held (record { line = new.line; waits = new.waits; counts = new.counts }) counts below few ok)
+        (Steps-closed left leaves written was now old stands empty came new.held consumed end held (record { line = new.line; waits = new.waits; more = false; counts = new.counts }) counts below few ok)
     Steps-ended (Err fault) is below few ok err =
         subst (λ (s : Step). StepsTo makes ends shared start leaves written now new s) (sym is)
         (Steps-last_cut left leaves written was now old stands empty came new.held consumed end held below few err)
 
     pub Steps-ended_last : (closed : Result Counts E) → MatchResult closed (λ counts. step ≡ Ends (Ok counts)) (λ _. step ≡ OutOfMemory) → old.counts.lines ≡ 1000000
-        → IfOk closed (λ counts. Closed ends was now (record { line = old.line; waits = old.waits; counts = old.counts }) (record { line = new.line; waits = new.waits; counts = new.counts }) written written counts)
-        → OnErr closed (AnsweredInPart ends was now (record { line = old.line; waits = old.waits; counts = old.counts }) written written)
+        → IfOk closed (λ counts. Closed ends was now (record { line = old.line; waits = old.waits; more = false; counts = old.counts }) (record { line = new.line; waits = new.waits; more = false; counts = new.counts }) written written counts)
+        → OnErr closed (AnsweredInPart ends was now (record { line = old.line; waits = old.waits; more = false; counts = old.counts }) written written)
         → StepsTo makes ends shared start leaves written now new step
     Steps-ended_last (Ok counts) is many ok err =
         subst (λ (s : Step). StepsTo makes ends shared start leaves written now new s) (sym is)
-        (Steps-finished left leaves written was now old stands empty came new.held consumed end held (record { line = new.line; waits = new.waits; counts = new.counts }) counts many ok)
+        (Steps-finished left leaves written was now old stands empty came new.held consumed end held (record { line = new.line; waits = new.waits; more = false; counts = new.counts }) counts many ok)
     Steps-ended_last (Err fault) is many ok err =
         subst (λ (s : Step). StepsTo makes ends shared start leaves written now new s) (sym is)
         (Steps-finish_cut left leaves written was now old stands empty came new.held consumed end held many err)

@@ -1,5 +1,5 @@
 -- What an answering connection keeps between two pieces of its input.
-use Rattle.std.specs.Prelude.{◌≡◌, ◌≤◌, ◌⊎◌, ℕ, min, length, List, [], ◌++◌, Option, None, Some}
+use Rattle.std.specs.Prelude.{◌≡◌, ◌≤◌, ◌⊎◌, ℕ, false, min, length, List, [], ◌++◌, Option, None, Some}
 use Rattle.pn_line.specs.Line.{LineBufferValue, so_far, max_kept, max_line_bytes}
 use Rattle.pn_serve.specs.declared.script.Counts.{Counts}
 use Rattle.pn_serve.specs.Lines.States.{LineLoopValue}
@@ -17,7 +17,7 @@ nothing_kept = record { line = so_far []; held = []; waits = []; counts = record
 
 -- the line loop of a session that is between two lines, with these replies and counts
 abbrev pub loop_of : KeptValue → LineLoopValue
-loop_of kept = record { line = so_far []; waits = kept.waits; counts = kept.counts }
+loop_of kept = record { line = so_far []; waits = kept.waits; more = false; counts = kept.counts }
 
 -- the line that is being read, or none
 abbrev pub line_in : Option LineBufferValue → LineBufferValue

@@ -1,5 +1,5 @@
 -- What a step and a turn of a connection come to.
-use Rattle.std.specs.Prelude.{ℕ, Bool, List, ◌++◌, Option, Err}
+use Rattle.std.specs.Prelude.{ℕ, Bool, false, List, ◌++◌, Option, Err}
 use Rattle.std.specs.Io.KnownBytes.{prepend_known}
 use Rattle.pn_protocol.specs.declared.reply.Reply.{Reply}
 use Rattle.pn_serve.specs.declared.script.RunFault.TheVariants.{Write}
@@ -20,7 +20,7 @@ at_desk desk backlog = record { line = desk.lines.line; held = desk.room; waits 
 
 -- its line loop with these replies
 abbrev pub loop_at : Desk → List ℕ → LineLoopValue
-loop_at desk backlog = record { line = desk.lines.line; waits = backlog ++ desk.lines.waits; counts = desk.lines.counts }
+loop_at desk backlog = record { line = desk.lines.line; waits = backlog ++ desk.lines.waits; more = false; counts = desk.lines.counts }
 
 -- the connection goes on after the step
 abbrev pub GoesOn : Step → Type 0

@@ -128,6 +128,8 @@ impl Sink for Backlog {
 
     ghost may_fail = { Unit {0} };
 
+    ghost is_handed_on = { λ _. Unit {0} };
+
     /// Takes all the bytes. Fails out of memory, and then takes none.
     fn write_some(&mut self, bytes: &[u8]) -> Result<usize, WriteFault> {
         match self.keep(bytes) {

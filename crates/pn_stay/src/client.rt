@@ -1,6 +1,7 @@
 //! A client of a session thread: its socket, and its connection between two turns.
 
 ghost use Rattle.std.specs.Prelude.{◌≡◌};
+ghost use Rattle.pn_serve.specs.Session.Knowing.{KnowsNoLess};
 
 use crate::connection::{Connection, Pause, Turned};
 use crate::desk::Desk;
@@ -30,7 +31,7 @@ impl Client {
     /// One turn. None where the connection has ended.
     pub(crate) fn turn<M: LineHandler>(&mut self, desk: &mut Desk, machine: &mut M) -> Option<Pause>
         requires ready { M.ready }
-        ensures same { M.tablets machine.new ≡ M.tablets machine.old }
+        ensures knows { KnowsNoLess (M.reader machine.old) (M.reader machine.new) }
     {
         let connection = mem::replace(&mut self.connection, Connection::new(self.alloc));
         let stream = &self.stream;

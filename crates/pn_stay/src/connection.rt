@@ -8,6 +8,7 @@ ghost use Rattle.pn_stay.specs.Others.{Passes};
 ghost use Rattle.pn_stay.specs.Standing.{StandsIn};
 ghost use Rattle.pn_stay.specs.declared.connection.Connection.TheVariants as connection;
 ghost use Rattle.pn_stay.specs.Turns.{Continues, TurnsTo};
+ghost use Rattle.pn_serve.specs.Session.Knowing.{KnowsNoLess};
 
 mod keeping;
 mod sending;
@@ -116,7 +117,7 @@ impl Connection {
         ensures turns { (shared : Bool) (start : Start M) → Continues M.makes M.ends shared start (R.remaining input.old) (W.contents output.old) machine.old self
             → TurnsTo M.makes M.ends shared start (R.remaining input.new) (W.contents output.new) machine.new result }
         ensures passes { Passes M.makes M.ends machine.old machine.new }
-        ensures same { M.tablets machine.new ≡ M.tablets machine.old }
+        ensures knows { KnowsNoLess (M.reader machine.old) (M.reader machine.new) }
     {
         match self {
             Connection::Answering(kept) => send_first(kept, desk, machine, input, output),
@@ -137,7 +138,7 @@ fn send_first<M: LineHandler, R: Read, W: Sink>(
     ensures turns { (shared : Bool) (start : Start M) → StandsIn M.makes M.ends shared start (R.remaining input.old) (W.contents output.old) machine.old kept
         → TurnsTo M.makes M.ends shared start (R.remaining input.new) (W.contents output.new) machine.new result }
     ensures passes { Passes M.makes M.ends machine.old machine.new }
-    ensures same { M.tablets machine.new ≡ M.tablets machine.old }
+    ensures knows { KnowsNoLess (M.reader machine.old) (M.reader machine.new) }
 {
     let mut kept = kept;
     match kept.send(output) {
@@ -170,7 +171,7 @@ fn answer_some<M: LineHandler, R: Read, W: Sink>(
     ensures turns { (shared : Bool) (start : Start M) → StandsIn M.makes M.ends shared start (R.remaining input.old) (W.contents output.old) machine.old kept
         → TurnsTo M.makes M.ends shared start (R.remaining input.new) (W.contents output.new) machine.new result }
     ensures passes { Passes M.makes M.ends machine.old machine.new }
-    ensures same { M.tablets machine.new ≡ M.tablets machine.old }
+    ensures knows { KnowsNoLess (M.reader machine.old) (M.reader machine.new) }
 {
     let alloc = kept.alloc;
     let mut backlog = kept.lay_out(desk);

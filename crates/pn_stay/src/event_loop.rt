@@ -1,6 +1,7 @@
 //! The event loop of a session thread: its connections have their turns one after another.
 
 ghost use Rattle.std.specs.Prelude.{◌≡◌};
+ghost use Rattle.pn_serve.specs.Session.Knowing.{KnowsNoLess};
 
 use crate::client::Client;
 use crate::connection::Pause;
@@ -58,7 +59,7 @@ impl EventLoop {
         machine: &mut M,
     ) -> io::Result<()>
         requires ready { M.ready }
-        ensures same { M.tablets machine.new ≡ M.tablets machine.old }
+        ensures knows { KnowsNoLess (M.reader machine.old) (M.reader machine.new) }
     {
         'rounds: for _ in rt.forever() {
             if self.wait()? {
@@ -120,7 +121,7 @@ impl EventLoop {
     // Gives each client that is ready one turn. One that is to have another and finds no memory ends.
     fn take_turns<R: Wait, M: LineHandler>(&mut self, rt: &R, inbox: &Inbox, machine: &mut M)
         requires ready { M.ready }
-        ensures same { M.tablets machine.new ≡ M.tablets machine.old }
+        ensures knows { KnowsNoLess (M.reader machine.old) (M.reader machine.new) }
     {
         let ready = mem::replace(&mut self.ready, Vec::new(self.alloc));
         for key in ready {
@@ -139,7 +140,7 @@ impl EventLoop {
     // One turn of the client of a key. Where the client is gone, nothing is at hand.
     fn turn_of<M: LineHandler>(&mut self, key: usize, machine: &mut M) -> Option<Pause>
         requires ready { M.ready }
-        ensures same { M.tablets machine.new ≡ M.tablets machine.old }
+        ensures knows { KnowsNoLess (M.reader machine.old) (M.reader machine.new) }
     {
         match self.clients.get_mut(key) {
             Some(client) => client.turn(&mut self.desk, machine),

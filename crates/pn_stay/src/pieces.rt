@@ -117,6 +117,8 @@ impl Sink for Takes<'_> {
 
     ghost may_fail = { Unit {0} };
 
+    ghost is_handed_on = { λ _. Unit {0} };
+
     fn write_some(&mut self, bytes: &[u8]) -> Result<usize, WriteFault> {
         let Some((count, counts)) = self.counts.split_first() else {
             return self.keep(bytes);

@@ -113,6 +113,10 @@ impl Source for Room {
 
     ghost may_fail = { ⊥ };
 
+    ghost may_end = { Unit {0} };
+
+    ghost looks = { λ _. 0 };
+
     fn take_some(&mut self, line: &mut LineBuffer) -> io::Result<Piece> {
         let before = line.len();
         let mut shown = InMemory::new(&self.bytes[self.start..]);

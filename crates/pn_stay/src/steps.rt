@@ -9,6 +9,7 @@ ghost use Rattle.pn_stay.specs.Kept.{IsLine};
 ghost use Rattle.pn_stay.specs.Others.{Passes};
 ghost use Rattle.pn_stay.specs.Standing.{StandsIn};
 ghost use Rattle.pn_stay.specs.Turns.{at_desk, loop_at, GoesOn, StepsTo};
+ghost use Rattle.pn_serve.specs.Session.Knowing.{KnowsNoLess};
 
 use crate::backlog::Backlog;
 use crate::desk::Desk;
@@ -49,7 +50,7 @@ pub(crate) fn take_steps<M: LineHandler, R: Read>(
     ensures few { GoesOn result → desk.new.lines.counts.lines ≤ MAX_LINES }
     ensures line { GoesOn result → IsLine desk.new.lines.line }
     ensures passes { Passes M.makes M.ends machine.old machine.new }
-    ensures same { M.tablets machine.new ≡ M.tablets machine.old }
+    ensures knows { KnowsNoLess (M.reader machine.old) (M.reader machine.new) }
 {
     'steps: for _step in 0..TURN_STEPS {
         if !backlog.is_empty() {
@@ -78,7 +79,7 @@ fn take_step<M: LineHandler, R: Read>(
     ensures few { GoesOn result → desk.new.lines.counts.lines ≤ MAX_LINES }
     ensures line { GoesOn result → IsLine desk.new.lines.line }
     ensures passes { Passes M.makes M.ends machine.old machine.new }
-    ensures same { M.tablets machine.new ≡ M.tablets machine.old }
+    ensures knows { KnowsNoLess (M.reader machine.old) (M.reader machine.new) }
 {
     if desk.lines.counts().lines >= MAX_LINES {
         return look_further(desk, machine, backlog, input);
@@ -113,7 +114,7 @@ fn read_more<M: LineHandler, R: Read>(
     ensures few { GoesOn result → desk.new.lines.counts.lines ≤ MAX_LINES }
     ensures line { GoesOn result → desk.new.lines.line ≡ desk.old.lines.line }
     ensures passes { Passes M.makes M.ends machine.old machine.new }
-    ensures same { M.tablets machine.new ≡ M.tablets machine.old }
+    ensures knows { KnowsNoLess (M.reader machine.old) (M.reader machine.new) }
 {
     match desk.room.read_from(input) {
         Ok(more) => {
@@ -142,7 +143,7 @@ fn look_further<M: LineHandler, R: Read>(
     ensures few { GoesOn result → desk.new.lines.counts.lines ≤ MAX_LINES }
     ensures line { GoesOn result → desk.new.lines.line ≡ desk.old.lines.line }
     ensures passes { Passes M.makes M.ends machine.old machine.new }
-    ensures same { M.tablets machine.new ≡ M.tablets machine.old }
+    ensures knows { KnowsNoLess (M.reader machine.old) (M.reader machine.new) }
 {
     if desk.room.is_empty() {
         return look_for_more(desk, machine, backlog, input);
@@ -166,7 +167,7 @@ fn look_for_more<M: LineHandler, R: Read>(
     ensures few { GoesOn result → desk.new.lines.counts.lines ≤ MAX_LINES }
     ensures line { GoesOn result → desk.new.lines.line ≡ desk.old.lines.line }
     ensures passes { Passes M.makes M.ends machine.old machine.new }
-    ensures same { M.tablets machine.new ≡ M.tablets machine.old }
+    ensures knows { KnowsNoLess (M.reader machine.old) (M.reader machine.new) }
 {
     match desk.room.read_from(input) {
         Ok(more) => {
@@ -217,7 +218,7 @@ fn answer<M: LineHandler>(
     ensures few { OnOk result (desk.new.lines.counts.lines ≤ MAX_LINES) }
     ensures room { desk.new.room ≡ desk.old.room }
     ensures passes { Passes M.makes M.ends machine.old machine.new }
-    ensures same { M.tablets machine.new ≡ M.tablets machine.old }
+    ensures knows { KnowsNoLess (M.reader machine.old) (M.reader machine.new) }
 {
     desk.lines.answer_line(machine, backlog)?;
     desk.lines.begin_line();
@@ -237,7 +238,7 @@ fn close<M: LineHandler>(
     ensures err { (written : Option (List ℕ)) → OnErr result (AnsweredInPart M.ends machine.old machine.new (loop_at desk.old backlog.old) written written) }
     ensures room { desk.new.room ≡ desk.old.room }
     ensures passes { Passes M.makes M.ends machine.old machine.new }
-    ensures same { M.tablets machine.new ≡ M.tablets machine.old }
+    ensures knows { KnowsNoLess (M.reader machine.old) (M.reader machine.new) }
 {
     desk.lines.close(machine, backlog)
 }

@@ -3,6 +3,7 @@ use Rattle.std.proofs.Common.{ap}
 use Rattle.pn_stay.specs.Kept.{KeptValue}
 use Rattle.pn_stay.proofs.Stepping.{Steps-sent, Steps-cut}
 use Rattle.pn_stay.proofs.Stands.{Passes-none}
+use Rattle.pn_serve.proofs.Knowing.{knows_itself}
 use Rattle.pn_stay.proofs.connection.send_first.Goals as goal
 
 pub returns-in-Ok-All-clause-turns : goal.returns-in-Ok-All-clause-turns
@@ -25,3 +26,9 @@ returns-in-Ok-Waits-clause-passes g c = Passes-none g.M.LineHandler.makes g.M.Li
 
 pub returns-in-Err-clause-passes : goal.returns-in-Err-clause-passes
 returns-in-Err-clause-passes g c = Passes-none g.M.LineHandler.makes g.M.LineHandler.ends _
+
+pub returns-in-Ok-Waits-clause-knows : goal.returns-in-Ok-Waits-clause-knows
+returns-in-Ok-Waits-clause-knows g c = knows_itself _
+
+pub returns-in-Err-clause-knows : goal.returns-in-Err-clause-knows
+returns-in-Err-clause-knows g c = knows_itself _

@@ -4,6 +4,7 @@ use Rattle.pn_stay.specs.Kept.{KeptValue}
 use Rattle.pn_stay.specs.Turns.{at_desk}
 use Rattle.pn_stay.proofs.Stepping.{Steps-came, Steps-many, Steps-ended_last, Steps-not_read}
 use Rattle.pn_stay.proofs.Stands.{Passes-none}
+use Rattle.pn_serve.proofs.Knowing.{knows_itself}
 use Rattle.pn_stay.proofs.steps.look_for_more.Goals as goal
 
 pub returns-then-more-clause-steps : goal.returns-then-more-clause-steps
@@ -30,3 +31,9 @@ returns-then-more-clause-passes g c = Passes-none g.M.LineHandler.makes g.M.Line
 
 pub returns-in-Err-clause-passes : goal.returns-in-Err-clause-passes
 returns-in-Err-clause-passes g c = Passes-none g.M.LineHandler.makes g.M.LineHandler.ends _
+
+pub returns-then-more-clause-knows : goal.returns-then-more-clause-knows
+returns-then-more-clause-knows g c = knows_itself _
+
+pub returns-in-Err-clause-knows : goal.returns-in-Err-clause-knows
+returns-in-Err-clause-knows g c = knows_itself _

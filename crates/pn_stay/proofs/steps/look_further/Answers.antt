@@ -2,6 +2,7 @@
 use Rattle.pn_stay.specs.Turns.{at_desk}
 use Rattle.pn_stay.proofs.Stepping.{Steps-many}
 use Rattle.pn_stay.proofs.Stands.{Passes-none}
+use Rattle.pn_serve.proofs.Knowing.{knows_itself}
 use Rattle.pn_stay.proofs.steps.look_further.Goals as goal
 
 pub returns-clause-steps : goal.returns-clause-steps
@@ -11,3 +12,6 @@ returns-clause-steps g c shared start written stands =
 
 pub returns-clause-passes : goal.returns-clause-passes
 returns-clause-passes g c = Passes-none g.M.LineHandler.makes g.M.LineHandler.ends _
+
+pub returns-clause-knows : goal.returns-clause-knows
+returns-clause-knows g c = knows_itself _

@@ -3,6 +3,7 @@ use Rattle.std.proofs.Common.{refl}
 use Rattle.pn_stay.specs.Turns.{at_desk}
 use Rattle.pn_stay.proofs.Stepping.{Steps-ended, Steps-not_read}
 use Rattle.pn_stay.proofs.Stands.{Passes-none}
+use Rattle.pn_serve.proofs.Knowing.{knows_itself}
 use Rattle.pn_stay.proofs.steps.read_more.Goals as goal
 
 pub returns-else-more-clause-steps : goal.returns-else-more-clause-steps
@@ -22,3 +23,9 @@ returns-then-more-clause-passes g c = Passes-none g.M.LineHandler.makes g.M.Line
 
 pub returns-in-Err-clause-passes : goal.returns-in-Err-clause-passes
 returns-in-Err-clause-passes g c = Passes-none g.M.LineHandler.makes g.M.LineHandler.ends _
+
+pub returns-then-more-clause-knows : goal.returns-then-more-clause-knows
+returns-then-more-clause-knows g c = knows_itself _
+
+pub returns-in-Err-clause-knows : goal.returns-in-Err-clause-knows
+returns-in-Err-clause-knows g c = knows_itself _

@@ -1,11 +1,12 @@
 -- A line is answered, a part is read, or a line has no end.
-use Rattle.std.proofs.Common.{ℕ, List, ◌++◌, sym, ap, subst, arith}
+use Rattle.std.proofs.Common.{ℕ, false, List, ◌++◌, sym, ap, subst, arith}
 use Rattle.pn_serve.specs.declared.script.Counts.{Counts}
 use Rattle.pn_stay.specs.Turns.{at_desk, loop_at}
 use Rattle.pn_stay.proofs.Stepping.{Steps-line, Steps-line_cut, Steps-part, Steps-endless}
 use Rattle.pn_stay.specs.Kept.{IsLine}
 use Rattle.pn_stay.proofs.Passing.{IsLine-taken, IsLine-none}
 use Rattle.pn_stay.proofs.Stands.{Passes-none}
+use Rattle.pn_serve.proofs.Knowing.{knows_itself}
 use Rattle.pn_stay.proofs.steps.take_step.Goals as goal
 
 pub returns-in-Ok-answer-clause-steps : goal.returns-in-Ok-answer-clause-steps
@@ -13,7 +14,7 @@ returns-in-Ok-answer-clause-steps g c shared start written stands =
     let takes = rw c.in-Newline.is at c.in-Ok.ensures.takes in
     let below = c.in-Ok.ensures.below (λ endless. let newline = c.in-Newline.is in cc) in
     Steps-line g.M.LineHandler.makes g.M.LineHandler.ends shared start _ written _ _ (at_desk c.args.desk.now c.args.backlog.now)
-    (record { line = c.read_on.new.self.line; waits = c.args.backlog.now ++ c.read_on.new.self.waits; counts = c.read_on.new.self.counts }) c.read_on.new.input
+    (record { line = c.read_on.new.self.line; waits = c.args.backlog.now ++ c.read_on.new.self.waits; more = false; counts = c.read_on.new.self.counts }) c.read_on.new.input
     stands takes (ap (λ (w : List ℕ). c.args.backlog.now ++ w) c.read_on.ensures.waits) c.read_on.ensures.counts
     (at_desk c.answer.new.desk c.answer.new.backlog) c.answer.ensures.room below c.in-Ok-answer.ensures.begun (c.in-Ok-answer.ensures.ok written)
 
@@ -21,7 +22,7 @@ pub returns-in-Err-clause-steps : goal.returns-in-Err-clause-steps
 returns-in-Err-clause-steps g c shared start written stands =
     let takes = rw c.in-Newline.is at c.in-Ok.ensures.takes in
     Steps-line_cut g.M.LineHandler.makes g.M.LineHandler.ends shared start _ written _ _ (at_desk c.args.desk.now c.args.backlog.now)
-    (record { line = c.read_on.new.self.line; waits = c.args.backlog.now ++ c.read_on.new.self.waits; counts = c.read_on.new.self.counts }) c.read_on.new.input
+    (record { line = c.read_on.new.self.line; waits = c.args.backlog.now ++ c.read_on.new.self.waits; more = false; counts = c.read_on.new.self.counts }) c.read_on.new.input
     stands takes (ap (λ (w : List ℕ). c.args.backlog.now ++ w) c.read_on.ensures.waits) c.read_on.ensures.counts
     c.answer.new.desk.room c.answer.ensures.room (c.in-Err.ensures.err written)
 
@@ -56,3 +57,6 @@ returns-in-EndOfInput-clause-line g c goes = subst IsLine (sym (c.read_more.ensu
 
 pub returns-in-Endless-clause-passes : goal.returns-in-Endless-clause-passes
 returns-in-Endless-clause-passes g c = Passes-none g.M.LineHandler.makes g.M.LineHandler.ends _
+
+pub returns-in-Endless-clause-knows : goal.returns-in-Endless-clause-knows
+returns-in-Endless-clause-knows g c = knows_itself _

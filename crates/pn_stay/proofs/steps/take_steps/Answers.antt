@@ -1,7 +1,8 @@
 -- One step after another.
-use Rattle.std.proofs.Common.{refl, sym, subst, ◌∙◌}
+use Rattle.std.proofs.Common.{sym, subst}
 use Rattle.pn_stay.specs.Turns.{GoesOn}
 use Rattle.pn_stay.proofs.Stands.{Passes-none, Passes-trans}
+use Rattle.pn_serve.proofs.Knowing.{knows_itself, knows_on}
 use Rattle.pn_stay.proofs.steps.take_steps.Goals as goal
 
 pub steps-init : goal.steps-init
@@ -10,7 +11,7 @@ steps-init g c = record {
   line = c.requires.line;
   passes = Passes-none g.M.LineHandler.makes g.M.LineHandler.ends _;
   few = c.requires.few;
-  same = refl;
+  knows = knows_itself _;
 }
 
 pub steps-preserved : goal.steps-preserved
@@ -20,8 +21,11 @@ steps-preserved g c =
       line = c.take_step.ensures.line goes;
       passes = Passes-trans g.M.LineHandler.makes g.M.LineHandler.ends _ _ _ c.steps.invariant.passes c.take_step.ensures.passes;
       few = c.take_step.ensures.few goes;
-      same = c.take_step.ensures.same ∙ c.steps.invariant.same;
+      knows = knows_on _ _ _ c.steps.invariant.knows c.take_step.ensures.knows;
     }
 
 pub returns-in_default-clause-passes : goal.returns-in_default-clause-passes
 returns-in_default-clause-passes g c = Passes-trans g.M.LineHandler.makes g.M.LineHandler.ends _ _ _ c.steps.invariant.passes c.take_step.ensures.passes
+
+pub returns-in_default-clause-knows : goal.returns-in_default-clause-knows
+returns-in_default-clause-knows g c = knows_on _ _ _ c.steps.invariant.knows c.take_step.ensures.knows

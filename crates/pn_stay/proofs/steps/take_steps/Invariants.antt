@@ -1,6 +1,7 @@
 -- The connection still stands where a session stands.
-use Rattle.std.proofs.Common.{◌≡◌, ◌≤◌, ℕ, Bool, List, Option}
+use Rattle.std.proofs.Common.{◌≤◌, ℕ, Bool, List, Option}
 use Rattle.pn_serve.specs.Lines.States.{Start}
+use Rattle.pn_serve.specs.Session.Knowing.{KnowsNoLess}
 use Rattle.pn_serve.specs.declared.script.TheConstants.{MAX_LINES}
 use Rattle.pn_stay.specs.Kept.{IsLine}
 use Rattle.pn_stay.specs.Others.{Passes}
@@ -14,5 +15,5 @@ invariant-steps g l = record {
   line : IsLine l.desk.lines.line;
   passes : Passes g.M.LineHandler.makes g.M.LineHandler.ends l.initial.machine l.machine;
   few : l.desk.lines.counts.lines ≤ MAX_LINES;
-  same : g.M.LineHandler.tablets l.machine ≡ g.M.LineHandler.tablets l.initial.machine;
+  knows : KnowsNoLess (g.M.LineHandler.reader l.initial.machine) (g.M.LineHandler.reader l.machine);
 }
