@@ -1,7 +1,5 @@
 //! The accepting thread: each new socket goes to the next session thread.
 
-ghost use Rattle.std.specs.Prelude.{◌<◌, length};
-
 use crate::gate::Gate;
 use crate::inbox::Inbox;
 use mio::net::TcpStream;
@@ -19,22 +17,20 @@ pub(crate) fn accept_all<R: Wait + Clock>(
     listener: &TcpListener,
     gate: &Gate,
     inboxes: &[Arc<Inbox>],
-)
-    requires { 0 < length inboxes.now }
-{
-    let mut next: usize = 0;
+) {
     for _ in rt.forever() {
-        gate.enter(rt);
-        let Ok(stream) = accept_one(listener) else {
-            gate.leave(rt);
-            thread::sleep(rt, Duration::from_millis(RETRY));
-            continue;
-        };
-        if inboxes[next % inboxes.len()].put(rt, stream).is_err() {
-            gate.leave(rt);
+        for inbox in inboxes.iter() {
+            gate.enter(rt);
+            if accept_into(rt, listener, inbox).is_err() {
+                gate.leave(rt);
+                thread::sleep(rt, Duration::from_millis(RETRY));
+            }
         }
-        next = next.wrapping_add(1);
     }
+}
+
+fn accept_into<R: Wait>(rt: &R, listener: &TcpListener, inbox: &Inbox) -> io::Result<()> {
+    inbox.put(rt, accept_one(listener)?)
 }
 
 /// Accepts one socket, which answers in place of waiting.

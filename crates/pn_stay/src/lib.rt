@@ -12,6 +12,7 @@ mod inbox;
 mod laws;
 mod pieces;
 mod room;
+mod server;
 mod steps;
 mod waiting;
 
@@ -21,3 +22,4 @@ pub use desk::Desk;
 pub use laws::{answer_in_turns, every_way_of_coming_and_going};
 pub use pieces::{Pieces, Takes};
 pub use room::{READ_ROOM, ROOM, Room};
+pub use server::StayingServer;

@@ -1,0 +1,87 @@
+//! The session threads of a server that stays, and the thread that accepts their connections.
+
+ghost use Rattle.std.specs.Prelude.{◌≡◌, ◌+◌, ◌≤◌, vec_len, vec_capacity, All, IfOk};
+ghost use Rattle.pn_live.specs.Prelude.{tablets_in, tablets_of};
+ghost use Rattle.pn_serve.specs.Server.Sessions.{AllRead};
+ghost use Rattle.pn_serve.specs.Session.Knowing.{KnowsNoLess};
+
+use crate::accepting::accept_all;
+use crate::event_loop::{EventLoop, INBOX};
+use crate::gate::Gate;
+use crate::inbox::Inbox;
+use mio::{Poll, Waker};
+use pn_live::{LiveReader, LiveRegion};
+use pn_serve::{ComesBack, Running};
+use std::alloc::Global;
+use std::net::{Net, TcpListener};
+use std::snapshot::Snapshot;
+use std::sync::{Arc, Wait};
+use std::thread::Threads;
+use std::time::Clock;
+use std::{io, thread};
+
+/// Starts a thread for each reader, and one that accepts connections, so many at once.
+pub(super) fn begin<R>(
+    rt: &R,
+    alloc: Global,
+    listener: TcpListener,
+    connections: usize,
+    live: &LiveRegion,
+    readers: &mut Vec<LiveReader>,
+) -> io::Result<Vec<Running>>
+where
+    R: Threads + Wait + Net + Clock + Copy + Send + 'static,
+    requires { AllRead (tablets_in live.now) readers.old.items }
+    ensures running { IfOk result (λ running. All (λ session. tablets_of session.promise.0.value ≡ tablets_in live.now) running.items) }
+    ensures readers { AllRead (tablets_in live.now) readers.new.items }
+    ensures room { IfOk result (λ running. vec_len running + vec_len readers.new ≤ vec_capacity readers.new) }
+{
+    let gate = Arc::new(alloc, Gate::new(connections))?;
+    let mut inboxes = Vec::new(alloc);
+    let mut running = Vec::with_capacity(alloc, readers.len())?;
+    while let Some(reader) = readers.pop() {
+        let own = Arc::try_clone(&gate)?;
+        let session = begin_session(rt, alloc, own, &mut inboxes, reader)?;
+        running.push_reserved(session);
+    }
+    let host = *rt;
+    thread::spawn(rt, move || { accept_all(&host, &listener, &gate, &inboxes) })?;
+    Ok(running)
+}
+
+// Starts the thread of a reader, and adds its inbox.
+fn begin_session<R>(
+    rt: &R,
+    alloc: Global,
+    gate: Arc<Gate>,
+    inboxes: &mut Vec<Arc<Inbox>>,
+    reader: LiveReader,
+) -> io::Result<Running>
+where
+    R: Threads + Wait + Net + Copy + Send + 'static,
+    ensures { IfOk result (λ session. tablets_of session.promise.0.value ≡ tablets_of reader) }
+{
+    let poll = Poll::new(rt)?;
+    let waker = Waker::new(poll.registry(), INBOX)?;
+    let inbox = Arc::new(alloc, Inbox::new(alloc, waker, gate))?;
+    inboxes.push(Arc::try_clone(&inbox)?)?;
+    let event_loop = EventLoop::new(alloc, poll)?;
+    let host = *rt;
+    let promise = ComesBack(Snapshot::of(&reader));
+    Ok(thread::spawn_with(rt, promise, move || { answer_all(&host, event_loop, &inbox, reader) })?)
+}
+
+// Answers connections, and gives the reader back.
+fn answer_all<R: Wait>(
+    rt: &R,
+    event_loop: EventLoop,
+    inbox: &Inbox,
+    reader: LiveReader,
+) -> LiveReader
+    ensures { KnowsNoLess reader result }
+{
+    let mut event_loop = event_loop;
+    let mut reader = reader;
+    let _ = event_loop.run(rt, inbox, &mut reader);
+    reader
+}
