@@ -3,7 +3,7 @@ import os
 import subprocess
 
 # Of the calls named FAILING_CALL, on standard input, standard output or a socket, each takes at most FAILING_BYTES, and the one of
-# the number FAILING_AT fails, as all after it.
+# the number FAILING_AT fails, as all after it, unless FAILING_ONCE is 1.
 SHIM = r"""
 #define _GNU_SOURCE
 #include <errno.h>
@@ -16,19 +16,22 @@ SHIM = r"""
 
 static const char *failing;
 static long failing_at;
+static int is_once;
 static size_t bytes;
 static atomic_long at = 0;
 
 __attribute__((constructor)) static void read_words(void) {
     failing = getenv("FAILING_CALL");
     failing_at = atol(getenv("FAILING_AT"));
+    is_once = !strcmp(getenv("FAILING_ONCE"), "1");
     bytes = strtoul(getenv("FAILING_BYTES"), NULL, 10);
 }
 
 // How many bytes a call may take, or none where it fails.
 static size_t taken(const char *call, size_t size) {
     if (strcmp(call, failing)) return size;
-    if (atomic_fetch_add(&at, 1) + 1 >= failing_at) return 0;
+    long number = atomic_fetch_add(&at, 1) + 1;
+    if (is_once ? number == failing_at : number >= failing_at) return 0;
     return size < bytes ? size : bytes;
 }
 
@@ -68,6 +71,7 @@ def failing_library(folder: str) -> str:
     return library
 
 
-def environment(library: str, call: str, number: int, size: int) -> dict[str, str]:
-    """An environment in which the call of a number fails, and each before it takes at most a size."""
-    return {**os.environ, "LD_PRELOAD": library, "FAILING_CALL": call, "FAILING_AT": str(number), "FAILING_BYTES": str(size)}
+def environment(library: str, call: str, number: int, size: int, once: bool = False) -> dict[str, str]:
+    """An environment in which the call of a number fails, alone or with all after it, and each takes at most a size."""
+    words = {"FAILING_CALL": call, "FAILING_AT": str(number), "FAILING_BYTES": str(size), "FAILING_ONCE": str(int(once))}
+    return {**os.environ, "LD_PRELOAD": library, **words}

@@ -38,12 +38,12 @@ module _ {S : Type 0} (left : S → Option (List ℕ)) (streams : List (batches.
 
   -- all threads ended, or sessions were refused
   pub reading_ends : {P : Type 0} (name : P → List ℕ) (places : List P) (read_by : List (batches.Stream S)) (old new : LiveRegionValue) (is_refused : Bool) (marks : Positions) (read result : Result (Unit {0}) ServeFault)
-      → map name places ≡ names_of streams → read_by ≡ streams → (is_refused ≡ true → read ≡ Err Start) → (is_refused ≡ false → ReadsStreams (length places) old new read)
+      → map name places ≡ names_of streams → read_by ≡ streams → (is_refused ≡ true → (read ≡ Err Start) × (new ≡ old)) → (is_refused ≡ false → ReadsStreams (length places) old new read)
       → (is_refused ≡ false → IfErr read (IsOfRounds (map name places))) → IfErr read (λ fault. result ≡ Err fault)
       → marks ≡ new.marks → OnOk read (OnOk result (All (IsTakenWhole left marks) read_by)) → OnOk read (IfErr result (NamesOne (names_of read_by))) → EndsReading left streams old new result
   reading_ends name places read_by old new true marks read result names are refused reads named first same taken rest =
-      let start = subst (λ (r : Result (Unit {0}) ServeFault). IfErr r (λ fault. result ≡ Err fault)) (refused refl) first in
-      subst (EndsReading left streams old new) (sym start) tt
+      let start = subst (λ (r : Result (Unit {0}) ServeFault). IfErr r (λ fault. result ≡ Err fault)) (refused refl).0 first in
+      subst (EndsReading left streams old new) (sym start) (refused refl).1
   reading_ends name places read_by old new false marks (Err fault) result names are refused reads named first same taken rest =
       let count : length places ≡ length streams = sym (length-map places name) ∙ ap length names ∙ length-map streams (λ (stream : batches.Stream S). stream.name) in
       let read_up : ReadUpTo (length streams) old new fault = subst (λ (n : ℕ). ReadUpTo n old new fault) count (reads refl) in

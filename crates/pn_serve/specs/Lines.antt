@@ -7,3 +7,4 @@ pub mod Served
 pub mod States
 pub mod Stopped
 pub mod Turning
+pub mod Waiting

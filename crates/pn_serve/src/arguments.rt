@@ -8,6 +8,7 @@ ghost use Rattle.pn_serve.specs.Arguments.Commands.{plan_in, replay_in, serve_in
 ghost use Rattle.pn_serve.specs.Arguments.PlanValues.{plan_value};
 
 mod bounds;
+pub(crate) mod laws;
 mod options;
 pub(crate) mod plans;
 mod streams;

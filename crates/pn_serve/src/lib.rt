@@ -9,6 +9,7 @@ mod server;
 mod sessions;
 mod settings;
 
+pub use arguments::laws::numbers_are_as_written;
 pub use arguments::plan;
 pub use arguments::plans::{Plan, PlanFault};
 pub use laws::regions_converge;

@@ -1,8 +1,9 @@
 //! Scripts: each line is read and answered, and its reply is written.
 
-ghost use Rattle.std.specs.Prelude.{◌≡◌, ◌≤◌, [], IfOk, IsErrOf, IsFalse};
+ghost use Rattle.std.specs.Prelude.{◌≡◌, ◌+◌, ◌≤◌, [], IfOk, OnOk, IsErrOf};
 ghost use Rattle.pn_serve.specs.declared.script.RunFault.TheVariants.{Write, Memory};
 ghost use Rattle.pn_serve.specs.Lines.Ends.{EndsBy};
+ghost use Rattle.pn_serve.specs.Lines.Waiting.{HandsOn, looks_of_input};
 ghost use Rattle.pn_serve.specs.Lines.States.{Start};
 ghost use Rattle.pn_serve.specs.Lines.Served.{Served};
 ghost use Rattle.pn_serve.specs.Runs.Ends.{Ends};
@@ -80,6 +81,9 @@ pub fn run<R: Threads + Sync, S: Source, W: Sink>(
     ensures read { IsErrOf result RunFault.Read → S.may_fail }
     ensures write { IsErrOf result RunFault.Write → W.may_fail }
     ensures few { IfOk result (λ counts. counts.lines ≤ MAX_LINES) }
+    ensures out { HandsOn result (W.is_handed_on output.new) }
+    ensures looks { S.looks input.new ≤ S.looks input.old + looks_of_input }
+    ensures end { OnOk result S.may_end }
 {
     let mut lines = LineLoop::new(alloc)?;
     let mut machine = ScriptHandler::new(rt, alloc, settings)?;
@@ -98,6 +102,9 @@ pub fn run_to_exit<R: Threads + Sync, S: Source, W: Sink>(
     ensures read { IsErrOf result RunFault.Read → S.may_fail }
     ensures write { IsErrOf result RunFault.Write → W.may_fail }
     ensures few { IfOk result (λ counts. counts.lines ≤ MAX_LINES) }
+    ensures out { HandsOn result (W.is_handed_on output.new) }
+    ensures looks { S.looks input.new ≤ S.looks input.old + looks_of_input }
+    ensures end { OnOk result S.may_end }
 {
     let mut lines = LineLoop::new(alloc)?;
     let mut kept = ScriptHandler::new(rt, alloc, settings)?;
@@ -122,6 +129,9 @@ pub(crate) fn answer_all<M: LineHandler, S: Source, W: Sink>(
     ensures write { IsErrOf result RunFault.Write → W.may_fail }
     ensures knows { KnowsNoLess (M.reader machine.old) (M.reader machine.new) }
     ensures few { IfOk result (λ counts. counts.lines ≤ MAX_LINES) }
+    ensures out { HandsOn result (W.is_handed_on output.new) }
+    ensures looks { S.looks input.new ≤ S.looks input.old + looks_of_input }
+    ensures end { OnOk result S.may_end }
 {
     'turns: for _turn in 0..MAX_LINES {
         match lines.turn(machine, input, output)? {

@@ -31,7 +31,7 @@ pub use fault::ServeFault;
 pub use feeding::{Feed, Origin, read_feeds};
 use pn_join::{Marks, NoMemory};
 use pn_line::{Sink, Source, WriteFault, write_all_of};
-use pn_live::{LiveReader, LiveRegion, OpenFault};
+use pn_live::{LiveReader, LiveRegion};
 use pn_protocol::served_reply;
 use pn_region::Region;
 use pn_stream::StreamReader;
@@ -71,6 +71,7 @@ where
     ensures silent { IfErr result (λ fault. fault ≢ ServeFault.Write → Keeps (W.contents out.old) (W.contents out.new)) }
     ensures part { IsErrOf result ServeFault.Write → AppendsPrefix (W.contents out.old) (W.contents out.new) (served_line sessions) }
     ensures write { IsErrOf result ServeFault.Write → W.may_fail }
+    ensures handed_on { OnOk result (W.is_handed_on out.new) }
 {
     let served = serve_region(rt, alloc, listener, settings, sessions, streams);
     conclude(served, out)
@@ -83,6 +84,7 @@ fn conclude<W: Sink>(served: Result<usize, ServeFault>, out: &mut W) -> Result<(
     ensures ok { IfOk served (λ count. OnOk result (Appends (W.contents out.old) (W.contents out.new) (served_line count))) }
     ensures err { IfOk served (λ count. OnErr result (AppendsPrefix (W.contents out.old) (W.contents out.new) (served_line count))) }
     ensures write { OnOk served (IfErr result (λ fault. (fault ≡ ServeFault.Write) × W.may_fail)) }
+    ensures handed_on { OnOk result (W.is_handed_on out.new) }
 {
     match served {
         Ok(count) => write_served(out, count),
@@ -108,9 +110,7 @@ where
     ensures count { IfOk result (λ count. count ≡ sessions) }
 {
     let Settings { layout, workers } = settings;
-    let Ok((live, readers)) = open(rt, alloc, layout, sessions) else {
-        return Err(ServeFault::Start);
-    };
+    let (live, readers) = open(rt, alloc, layout, sessions)?;
     let mut opened = Opened { live, readers };
     let served = serve_all(rt, alloc, listener, &mut opened, workers, streams);
     let Opened { live, readers } = opened;
@@ -125,13 +125,17 @@ fn open<R: Wait>(
     alloc: Global,
     layout: Layout,
     readers: usize,
-) -> Result<(LiveRegion, Vec<LiveReader>), OpenFault>
+) -> Result<(LiveRegion, Vec<LiveReader>), ServeFault>
     requires { (1 ≤ readers) × (readers ≤ max_readers) }
     ensures is_new { IfOk result (λ opened. IsNewLive layout opened.0) }
     ensures own { IfOk result (λ opened. AllRead (tablets_in opened.0) opened.1.items) }
     ensures count { IfOk result (λ opened. vec_len opened.1 ≡ readers) }
+    ensures fault { IfErr result (λ fault. fault ≡ ServeFault.Start) }
 {
-    LiveRegion::open(rt, alloc, layout, readers)
+    match LiveRegion::open(rt, alloc, layout, readers) {
+        Ok(opened) => Ok(opened),
+        Err(_) => Err(ServeFault::Start),
+    }
 }
 
 // Closes a live region, whose readers came back.
@@ -175,9 +179,7 @@ where
     ensures all { OnOk result (vec_len opened.new.readers ≡ vec_len opened.old.readers) }
     ensures ends { EndsReading S.left streams.items opened.old.live opened.new.live result }
 {
-    let Ok(reading) = begin_reading(rt, alloc, streams) else {
-        return Err(ServeFault::Start);
-    };
+    let reading = begin_reading(rt, alloc, streams)?;
     let StartedSessions {
         running,
         is_refused,
@@ -216,7 +218,7 @@ fn take_all<R: Threads + Wait + Sync>(
     is_refused: bool,
 ) -> Result<(), ServeFault>
     requires workers { (1 ≤ workers) × (workers ≤ max_workers) }
-    ensures refused { IsTrue is_refused → result ≡ Err ServeFault.Start }
+    ensures refused { IsTrue is_refused → (result ≡ Err ServeFault.Start) × (live.new ≡ live.old) }
     ensures reads { IsFalse is_refused → ReadsStreams (vec_len feeds.now.places) live.old live.new result }
     ensures named { IsFalse is_refused → IfErr result (IsOfRounds (map (λ place. place.name) feeds.now.places.items)) }
     ensures same { tablets_in live.new ≡ tablets_in live.old }
@@ -232,6 +234,7 @@ fn write_served<W: Sink>(out: &mut W, sessions: usize) -> Result<(), ServeFault>
     ensures ok { OnOk result (Appends (W.contents out.old) (W.contents out.new) (served_line sessions)) }
     ensures err { OnErr result (AppendsPrefix (W.contents out.old) (W.contents out.new) (served_line sessions)) }
     ensures fault { IfErr result (λ fault. (fault ≡ ServeFault.Write) × W.may_fail) }
+    ensures handed_on { OnOk result (W.is_handed_on out.new) }
 {
     let line = served_reply(sessions);
     match send_line(out, line.as_bytes()) {
@@ -245,6 +248,7 @@ fn send_line<W: Sink>(out: &mut W, line: &[u8]) -> Result<(), WriteFault>
     ensures ok { OnOk result (Appends (W.contents out.old) (W.contents out.new) line.now) }
     ensures err { OnErr result (AppendsPrefix (W.contents out.old) (W.contents out.new) line.now) }
     ensures fault { OnErr result W.may_fail }
+    ensures handed_on { OnOk result (W.is_handed_on out.new) }
 {
     write_all_of(out, line)?;
     out.hand_on()

@@ -1,7 +1,8 @@
 //! Sessions: lines are answered by a reader of a live region.
 
-ghost use Rattle.std.specs.Prelude.{◌≡◌, ◌≤◌, IfOk, IsErrOf};
+ghost use Rattle.std.specs.Prelude.{◌≡◌, ◌+◌, ◌≤◌, IfOk, OnOk, IsErrOf};
 ghost use Rattle.pn_serve.specs.Lines.Ends.{EndsBy};
+ghost use Rattle.pn_serve.specs.Lines.Waiting.{HandsOn, looks_of_input};
 ghost use Rattle.pn_serve.specs.Session.Knowing.{KnowsNoLess};
 ghost use Rattle.pn_serve.specs.Session.Lines.{AnswersLine, EndsLines, starts};
 
@@ -32,12 +33,16 @@ pub fn session<S: Source, W: Sink>(
     ensures write { IsErrOf result RunFault.Write → W.may_fail }
     ensures knows { KnowsNoLess reader.old reader.new }
     ensures few { IfOk result (λ counts. counts.lines ≤ MAX_LINES) }
+    ensures out { HandsOn result (W.is_handed_on output.new) }
+    ensures looks { S.looks input.new ≤ S.looks input.old + looks_of_input }
+    ensures end { OnOk result S.may_end }
 {
     let mut lines = LineLoop::new(alloc)?;
     answer_all(reader, &mut lines, input, output)
 }
 
 impl LineHandler for LiveReader {
+    ghost use Rattle.pn_serve.specs.Lines.Waiting.{HandsOn, looks_of_input};
     ghost use Rattle.pn_serve.specs.Session.Knowing.{KnowsNoLess};
     ghost use Rattle.pn_serve.specs.Session.Lines.{AnswersLine, EndsLines};
     ghost use Rattle.std.specs.Prelude.{⊤};

@@ -14,7 +14,7 @@ use std::thread::Threads;
 use std::{io, str, thread};
 
 /// The message at position 1, and the one at 2.
-const FIRST: &str =
+pub(crate) const FIRST: &str =
     "{\"at\":1,\"image\":{\"fields\":{\"v\":\"x\"},\"key\":\"k\",\"master\":\"w\",\"version\":[1,0]}}\n";
 
 const SECOND: &str =
@@ -115,7 +115,8 @@ where
     outcome(alloc, ended, &written, told)
 }
 
-fn streams(
+/// One stream of these messages.
+pub(crate) fn streams(
     alloc: Global,
     messages: &'static str,
 ) -> Result<Vec<StreamReader<InMemory<'static>>>, Fail> {

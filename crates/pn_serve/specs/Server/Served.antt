@@ -15,12 +15,12 @@ module _ {S : Type 0} (left : S → Option (List ℕ)) where
     pub read : ReadToEnds (length streams) old new
     pub taken : All (IsTakenWhole left new.marks) streams
 
-  -- what reading comes to: all streams are taken; or one of them is named; or a round was refused
+  -- what reading comes to: all streams are taken; or one of them is named; or a round was refused; or nothing was begun
   abbrev pub EndsReading : List (Stream S) → LiveRegionValue → LiveRegionValue → Result (Unit {0}) ServeFault → Type 0
   EndsReading streams old new (Ok done) = ReadsAll streams old new
   EndsReading streams old new (Err (of_stream name)) = Contains (names_of streams) name
   EndsReading streams old new (Err Round) = ReadUpTo (length streams) old new Round
-  EndsReading streams old new (Err Start) = Unit {0}
+  EndsReading streams old new (Err Start) = new ≡ old
   EndsReading streams old new (Err Close) = ⊥
   EndsReading streams old new (Err Write) = ⊥
 

@@ -1,6 +1,6 @@
 //! The line loop: each line is read and answered, and its reply waits or is written.
 
-ghost use Rattle.std.specs.Prelude.{◌≡◌, ◌+◌, ◌<◌, ◌≤◌, [], ◌++◌, Ok, IfOk, OnOk, OnErr, IsErrOf, IsFalse};
+ghost use Rattle.std.specs.Prelude.{◌≡◌, ◌≢◌, ◌+◌, ◌<◌, ◌≤◌, [], ◌++◌, Ok, IfOk, OnOk, OnErr, IsErrOf};
 ghost use Rattle.pn_line.specs.Prelude.{Sends, AppendsPrefix};
 ghost use Rattle.pn_json.specs.Prelude.{line_of};
 ghost use Rattle.pn_serve.specs.Lines.Ends.{EndsBy};
@@ -8,6 +8,7 @@ ghost use Rattle.pn_serve.specs.Lines.States.{Start, new_loop};
 ghost use Rattle.pn_serve.specs.Lines.Served.{Served};
 ghost use Rattle.pn_serve.specs.Lines.Answered.{Answered, AnsweredInPart, Closed};
 ghost use Rattle.pn_serve.specs.Lines.Turning.{TurnsTo, EndsWithin};
+ghost use Rattle.pn_serve.specs.Lines.Waiting.{HandsOn, IsAllOut, looks_of_line};
 ghost use Rattle.pn_protocol.specs.Prelude.{lines_data, reply_text, is_refusal};
 ghost use Rattle.pn_serve.specs.Script.Written.{one_if};
 ghost use Rattle.pn_serve.specs.Session.Knowing.{KnowsNoLess};
@@ -19,7 +20,7 @@ use crate::script::MAX_LINES;
 use crate::script::blocks::Blocks;
 use crate::{Counts, RunFault};
 use pn_join::NoMemory;
-use pn_line::{LineBuffer, LineEnd, Sink, Source, WriteFault, read_line};
+use pn_line::{ENDLESS, LineBuffer, LineEnd, Sink, Source, WriteFault, read_line};
 use pn_protocol::{Reply, adopted_reply, changed_reply, lines_reply, lost_reply, refusal_reply};
 use std::alloc::Global;
 use std::marker::Model;
@@ -85,8 +86,11 @@ impl LineLoop {
     ) -> Result<Next, RunFault>
         requires ready { M.ready }
         requires few { self.old.counts.lines < MAX_LINES }
-        requires waits { IsFalse self.old.more → self.old.waits ≡ [] }
-        ensures waits { result ≡ Ok Next.Line → IsFalse self.new.more → self.new.waits ≡ [] }
+        requires out { IsAllOut self.old (W.is_handed_on output.old) }
+        ensures out { result ≡ Ok Next.Line → IsAllOut self.new (W.is_handed_on output.new) }
+        ensures ends_out { result ≢ Ok Next.Line → HandsOn result (W.is_handed_on output.new) }
+        ensures looks { S.looks input.new ≤ S.looks input.old + looks_of_line }
+        ensures ends { IfOk result (λ next. next ≢ Next.Line → S.may_end) }
         ensures turns { (start : Start M) → Served M.makes start (S.left input.old) (W.contents output.old) machine.old self.old
             → TurnsTo M.makes M.ends start (S.left input.new) (W.contents output.new) machine.new self.new result }
         ensures counted { result ≡ Ok Next.Line → self.new.counts.lines ≡ self.old.counts.lines + 1 }
@@ -97,6 +101,7 @@ impl LineLoop {
     {
         self.line.start();
         let Ok(end) = read_line(&mut self.line, input) else {
+            prove!(self.line.len() <= ENDLESS);
             self.blocks.flush(output)?;
             return Err(RunFault::Read);
         };
@@ -180,6 +185,9 @@ impl LineLoop {
         ensures write { IsErrOf result RunFault.Write → W.may_fail }
         ensures knows { KnowsNoLess (M.reader machine.old) (M.reader machine.new) }
         ensures few { IfOk result (λ counts. counts.lines ≤ MAX_LINES) }
+        ensures out { HandsOn result (W.is_handed_on output.new) }
+        ensures looks { S.looks input.new ≤ S.looks input.old + 1 }
+        ensures end { OnOk result S.may_end }
     {
         self.blocks.flush(output)?;
         self.end_here(machine, input, output)
@@ -195,12 +203,16 @@ impl LineLoop {
         requires ready { M.ready }
         requires all { self.old.counts.lines ≡ MAX_LINES }
         requires waits { self.old.waits ≡ [] }
+        requires handed_on { W.is_handed_on output.old }
         ensures ends { (start : Start M) → Served M.makes start (S.left input.old) (W.contents output.old) machine.old self.old
             → EndsBy M.makes M.ends start (S.left input.new) (W.contents output.new) machine.new result }
         ensures read { IsErrOf result RunFault.Read → S.may_fail }
         ensures write { IsErrOf result RunFault.Write → W.may_fail }
         ensures knows { KnowsNoLess (M.reader machine.old) (M.reader machine.new) }
         ensures few { IfOk result (λ counts. counts.lines ≤ MAX_LINES) }
+        ensures out { HandsOn result (W.is_handed_on output.new) }
+        ensures looks { S.looks input.new ≤ S.looks input.old + 1 }
+        ensures end { OnOk result S.may_end }
     {
         let Ok(more) = input.has_more() else {
             return Err(RunFault::Read);

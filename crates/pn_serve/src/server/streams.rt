@@ -80,8 +80,26 @@ pub(crate) struct Reading<S: Source + Drop> {
     pub(crate) threads: Vec<Feeding<S>>,
 }
 
-/// Starts to read streams, each in its own thread. A refused thread ends the reading.
+/// Starts to read streams, each in its own thread. The fault is a refused thread, or out of memory, and ends the reading.
 pub(crate) fn begin_reading<R, S>(
+    rt: &R,
+    alloc: Global,
+    streams: Vec<StreamReader<S>>,
+) -> Result<Reading<S>, ServeFault>
+where
+    R: Threads + Wait + Copy + Send + 'static,
+    S: Source + Drop + Send + 'static,
+    ensures threads { IfOk result (λ reading. map (λ thread. thread.promise.0.value) reading.threads.items ≡ streams.items) }
+    ensures names { IfOk result (λ reading. map (λ place. place.name) reading.feeds.places.items ≡ names_of streams.items) }
+    ensures fault { IfErr result (λ fault. fault ≡ ServeFault.Start) }
+{
+    match begin_all(rt, alloc, streams) {
+        Ok(reading) => Ok(reading),
+        Err(_) => Err(ServeFault::Start),
+    }
+}
+
+fn begin_all<R, S>(
     rt: &R,
     alloc: Global,
     streams: Vec<StreamReader<S>>,

@@ -1,12 +1,12 @@
 -- What was answered before a line stays answered after it.
-use Rattle.std.proofs.Common.{◌+◌, Ok, ap, ◌∙◌}
+use Rattle.std.proofs.Common.{◌+◌, Ok, inl, ap, ◌∙◌, arith}
 use Rattle.pn_serve.specs.declared.script.line_loop.Next.{Next}
 use Rattle.pn_serve.proofs.Knowing.{knows_itself, knows_on}
 use Rattle.pn_serve.proofs.Stopping.{Handed_on}
 use Rattle.pn_serve.proofs.script.answer_all.Goals as goal
 
 pub turns-init : goal.turns-init
-turns-init g c = record { turns = c.requires.none; served = λ start served. served; knows = knows_itself _; waits = λ more. c.requires.waits }
+turns-init g c = record { turns = c.requires.none; served = λ start served. served; knows = knows_itself _; out = λ more. (c.requires.waits, inl c.requires.none); looks = omega arith }
 
 pub returns-in_err-turn-clause-ends : goal.returns-in_err-turn-clause-ends
 returns-in_err-turn-clause-ends g c = λ start served.
@@ -24,7 +24,8 @@ turns-preserved g c = record {
       let turned = c.in_ok-turn.ensures.turns start (c.turns.invariant.served start served) in
       rw c.in-Line.is at turned;
   knows = knows_on _ _ _ c.turns.invariant.knows c.in_ok-turn.ensures.knows;
-  waits = c.in_ok-turn.ensures.waits (ap (λ (next : Next). Ok next) c.in-Line.is);
+  out = c.in_ok-turn.ensures.out (ap (λ (next : Next). Ok next) c.in-Line.is);
+  looks = omega (arith, c.turns.invariant.looks, c.in_ok-turn.ensures.looks);
 }
 
 pub returns-clause-ends : goal.returns-clause-ends

@@ -1,8 +1,8 @@
 -- The replies to the lines so far wait or were written.
-use Rattle.std.proofs.Common.{◌≡◌, []}
-use Rattle.std.specs.Prelude.{IsFalse}
+use Rattle.std.proofs.Common.{◌≡◌, ◌+◌, ◌*◌, ◌≤◌}
 use Rattle.pn_serve.specs.Lines.States.{Start}
 use Rattle.pn_serve.specs.Lines.Served.{Served}
+use Rattle.pn_serve.specs.Lines.Waiting.{IsAllOut, looks_of_line}
 use Rattle.pn_serve.specs.Session.Knowing.{KnowsNoLess}
 use Rattle.pn_serve.proofs.script.answer_all.Given as goal
 
@@ -11,5 +11,6 @@ invariant-turns g l = record {
   turns : l.lines.counts.lines ≡ l._turn;
   served : (start : Start _) → Served g.M.LineHandler.makes start (g.S.Source.left l.initial.input) (g.W.Sink.contents l.initial.output) l.initial.machine l.initial.lines → Served g.M.LineHandler.makes start (g.S.Source.left l.input) (g.W.Sink.contents l.output) l.machine l.lines;
   knows : KnowsNoLess (g.M.LineHandler.reader l.initial.machine) (g.M.LineHandler.reader l.machine);
-  waits : IsFalse l.lines.more → l.lines.waits ≡ [];
+  out : IsAllOut l.lines (g.W.Sink.is_handed_on l.output);
+  looks : g.S.Source.looks l.input ≤ g.S.Source.looks l.initial.input + l._turn * looks_of_line;
 }

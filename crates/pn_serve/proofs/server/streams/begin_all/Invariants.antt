@@ -1,7 +1,7 @@
 -- There is a thread and a place for each stream so far.
 use Rattle.std.proofs.Common.{◌≡◌, map}
 use Rattle.pn_serve.specs.Server.Faults.{names_of}
-use Rattle.pn_serve.proofs.server.streams.begin_reading.Given as goal
+use Rattle.pn_serve.proofs.server.streams.begin_all.Given as goal
 
 abbrev pub invariant-loop-stream : goal.invariant-loop-stream
 invariant-loop-stream g l = record {

@@ -1,0 +1,25 @@
+-- What waits while a line is read, and how often its source is looked at.
+use Rattle.std.specs.Prelude.{◌≡◌, ◌⊎◌, ◌+◌, ◌*◌, ℕ, [], IsFalse, Result, Ok, Err}
+use Rattle.pn_serve.specs.declared.script.RunFault.{RunFault}
+use Rattle.pn_serve.specs.declared.script.RunFault.TheVariants.{Read, Write, TooManyTurns, Memory}
+use Rattle.pn_serve.specs.Lines.States.{LineLoopValue}
+
+-- unless a further line was seen, no reply waits, and those that were written were handed on
+abbrev pub IsAllOut : LineLoopValue → Type 0 → Type 0
+IsAllOut run handed_on = IsFalse run.more → (run.waits ≡ []) × ((run.counts.lines ≡ 0) ⊎ handed_on)
+
+-- all that was written was handed on, unless the writer failed or nothing was read
+abbrev pub HandsOn : {T : Type 0} → Result T RunFault → Type 0 → Type 0
+HandsOn (Ok done) handed_on = handed_on
+HandsOn (Err Read) handed_on = handed_on
+HandsOn (Err TooManyTurns) handed_on = handed_on
+HandsOn (Err Write) handed_on = Unit {0}
+HandsOn (Err Memory) handed_on = Unit {0}
+
+-- the most looks for a line: one for each of a billion bytes, and one for its end
+abbrev pub looks_of_line : ℕ
+looks_of_line = 1000000001
+
+-- the most looks for a million lines, and one for what comes after them
+abbrev pub looks_of_input : ℕ
+looks_of_input = 1000000 * looks_of_line + 1
