@@ -11,18 +11,23 @@ use Rattle.pn_serve.specs.Arguments.Streams.{streams_in}
 use Rattle.pn_serve.specs.declared.arguments.plans.PlanFault.{PlanFault}
 use Rattle.pn_serve.specs.Arguments.PlanValues.{PlanValue, replay, serve}
 
--- the number that decimal digits write, if it is no greater than this
-abbrev pub number_in : ℕ → Text → Option ℕ
-number_in greatest text =
-    if is_unsigned_in 0 greatest text then Some (digits_value 10 (without_leading_plus text)) else None
+-- the number that decimal digits write, in 16 bits
+abbrev pub number_in : Text → Option ℕ
+number_in text =
+    if is_unsigned_in 0 65535 text then Some (digits_value 10 (without_leading_plus text)) else None
 
--- the 16-bit number of an option, from 1 to `most`, as `clap` ensures
+-- the number of an option, from 1 to `most`, as `clap` ensures
 abbrev pub number_at : Text → ℕ → List Row → ℕ
-number_at name most options = max 1 (min (unwrap_or (option_and_then (number_in 65535) (one_of name options)) 1) most)
+number_at name most options = max 1 (min (unwrap_or (option_and_then number_in (one_of name options)) 1) most)
 
--- the 32-bit number of an option, from 1 to `most`, as `clap` ensures
+-- the count that decimal digits write, in 32 bits
+abbrev pub count_in : Text → Option ℕ
+count_in text =
+    if is_unsigned_in 0 4294967295 text then Some (digits_value 10 (without_leading_plus text)) else None
+
+-- the count of an option, from 1 to `most`, as `clap` ensures
 abbrev pub count_at : Text → ℕ → List Row → ℕ
-count_at name most options = max 1 (min (unwrap_or (option_and_then (number_in 4294967295) (one_of name options)) 1) most)
+count_at name most options = max 1 (min (unwrap_or (option_and_then count_in (one_of name options)) 1) most)
 
 -- the connections of a server that stays
 abbrev pub stay_in : List Row → Option ℕ
