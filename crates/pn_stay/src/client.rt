@@ -16,6 +16,8 @@ pub(crate) struct Client {
     alloc: Global,
     stream: TcpStream,
     connection: Connection,
+    /// Whether it is to have a turn.
+    pub(crate) is_ready: bool,
 }
 
 impl Client {
@@ -25,14 +27,16 @@ impl Client {
             alloc,
             stream,
             connection: Connection::new(alloc),
+            is_ready: false,
         }
     }
 
-    /// One turn. None where the connection has ended.
+    /// One turn, after which it is not ready. None where the connection has ended.
     pub(crate) fn turn<M: LineHandler>(&mut self, desk: &mut Desk, machine: &mut M) -> Option<Pause>
         requires ready { M.ready }
         ensures knows { KnowsNoLess (M.reader machine.old) (M.reader machine.new) }
     {
+        self.is_ready = false;
         let connection = mem::replace(&mut self.connection, Connection::new(self.alloc));
         let stream = &self.stream;
         match connection.turn(desk, machine, &mut &*stream, &mut &*stream) {

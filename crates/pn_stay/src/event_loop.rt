@@ -30,8 +30,10 @@ pub(crate) struct EventLoop {
     events: Events,
     desk: Desk,
     clients: Slab<Client>,
-    // The keys of clients that are to have a turn. A key may have passed to another client since.
+    // The keys of clients that are to have a turn, each once. A key may have passed to another client since.
     ready: Vec<usize>,
+    // The room for those of the next round.
+    spare: Vec<usize>,
 }
 
 impl EventLoop {
@@ -47,11 +49,11 @@ impl EventLoop {
             desk,
             clients: Slab::new(alloc),
             ready: Vec::new(alloc),
+            spare: Vec::new(alloc),
         })
     }
 
-    /// Answers connections until the inbox is closed and the last has ended. An error is one of the system's wait, or
-    /// of memory.
+    /// Answers connections until the inbox is closed and the last has ended. An error is one of the system's wait.
     pub(crate) fn run<R: Wait, M: LineHandler>(
         &mut self,
         rt: &R,
@@ -86,7 +88,7 @@ impl EventLoop {
             if event.token() == INBOX {
                 is_filled = true;
             } else {
-                self.ready.push(usize::from(event.token()))?;
+                make_ready(&mut self.clients, &mut self.ready, usize::from(event.token()));
             }
         }
         Ok(is_filled)
@@ -104,7 +106,8 @@ impl EventLoop {
     fn add(&mut self, stream: TcpStream) -> io::Result<()> {
         let mut stream = stream;
         self.clients.reserve(1)?;
-        self.ready.reserve(1)?;
+        self.ready.reserve(self.clients.len().saturating_add(1))?;
+        self.spare.reserve(self.clients.len().saturating_add(1))?;
         let key = self.clients.vacant_key();
         self.poll.registry().register(
             &mut stream,
@@ -114,27 +117,29 @@ impl EventLoop {
         let _ = self
             .clients
             .insert_reserved(Client::new(self.alloc, stream));
-        self.ready.push(key)?;
+        make_ready(&mut self.clients, &mut self.ready, key);
         Ok(())
     }
 
-    // Gives each client that is ready one turn. One that is to have another and finds no memory ends.
+    // Gives each client that is ready one turn.
     fn take_turns<R: Wait, M: LineHandler>(&mut self, rt: &R, inbox: &Inbox, machine: &mut M)
         requires ready { M.ready }
         ensures knows { KnowsNoLess (M.reader machine.old) (M.reader machine.new) }
     {
-        let ready = mem::replace(&mut self.ready, Vec::new(self.alloc));
-        for key in ready {
-            let goes_on = match self.turn_of(key, machine) {
-                Some(Pause::Turn) => self.ready.push(key).is_ok(),
-                Some(Pause::Input | Pause::Output) => true,
-                None => false,
-            };
-            if !goes_on {
-                let _ = self.clients.try_remove(key);
-                inbox.leave(rt);
+        let spare = mem::replace(&mut self.spare, Vec::new(self.alloc));
+        let mut ready = mem::replace(&mut self.ready, spare);
+        for key in ready.iter() {
+            match self.turn_of(*key, machine) {
+                Some(Pause::Turn) => make_ready(&mut self.clients, &mut self.ready, *key),
+                Some(Pause::Input | Pause::Output) => {}
+                None => {
+                    let _ = self.clients.try_remove(*key);
+                    inbox.leave(rt);
+                }
             }
         }
+        ready.clear();
+        self.spare = ready;
     }
 
     // One turn of the client of a key. Where the client is gone, nothing is at hand.
@@ -145,6 +150,15 @@ impl EventLoop {
         match self.clients.get_mut(key) {
             Some(client) => client.turn(&mut self.desk, machine),
             None => Some(Pause::Input),
+        }
+    }
+}
+
+// Puts a client among those that are ready, where there is room for all.
+fn make_ready(clients: &mut Slab<Client>, ready: &mut Vec<usize>, key: usize) {
+    if let Some(client) = clients.get_mut(key) {
+        if !client.is_ready {
+            client.is_ready = ready.push(key).is_ok();
         }
     }
 }
