@@ -22,7 +22,7 @@ pub use pn_protocol::{
 pub use script::line_loop::LineLoop;
 pub use script::{Counts, MAX_LINES, RunFault, run, run_to_exit};
 pub use server::{
-    ComesBack, Feed, Origin, Running, ServeFault, end_sessions, read_feeds, serve,
+    ComesBack, Feed, Origin, Running, ServeFault, close, end_sessions, open, read_feeds, serve,
 };
 pub use sessions::session;
 pub use settings::Settings;

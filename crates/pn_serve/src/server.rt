@@ -119,8 +119,8 @@ where
     end(served, closed, count)
 }
 
-// Opens a live region with this many readers.
-fn open<R: Wait>(
+/// Opens a live region with this many readers.
+pub fn open<R: Wait>(
     rt: &R,
     alloc: Global,
     layout: Layout,
@@ -138,8 +138,8 @@ fn open<R: Wait>(
     }
 }
 
-// Closes a live region, whose readers came back.
-fn close<R: Wait>(rt: &R, live: LiveRegion, readers: Vec<LiveReader>) -> Result<Region, NoMemory>
+/// Closes a live region, whose readers came back.
+pub fn close<R: Wait>(rt: &R, live: LiveRegion, readers: Vec<LiveReader>) -> Result<Region, NoMemory>
     requires { AllRead (tablets_in live) readers.items }
 {
     live.close(rt, readers)

@@ -44,8 +44,8 @@ impl Settings {
 
     /// The layout and the workers.
     pub fn into_parts(self) -> (Layout, usize)
-        ensures layout { result.0 ≡ self.entry.layout }
-        ensures workers { result.1 ≡ self.entry.workers }
+        ensures layout { result.0 ≡ self.layout }
+        ensures workers { result.1 ≡ self.workers }
         ensures within { (1 ≤ result.1) × (result.1 ≤ max_workers) }
     {
         (self.layout, self.workers)

@@ -10,7 +10,9 @@ mod sessions;
 use crate::server::sessions::begin;
 use pn_line::Source;
 use pn_live::{LiveReader, LiveRegion};
-use pn_serve::{Feed, Origin, Running, ServeFault, Settings, end_sessions, read_feeds};
+use pn_serve::{
+    Feed, Origin, Running, ServeFault, Settings, close, end_sessions, open, read_feeds,
+};
 use std::alloc::Global;
 use std::marker::Model;
 use std::net::{Net, TcpListener};
@@ -64,9 +66,7 @@ impl StayingServer {
         ensures { IfOk result (λ server. IsNewLive settings.layout server) }
     {
         let (layout, workers) = settings.into_parts();
-        let Ok((live, readers)) = LiveRegion::open(rt, alloc, layout, sessions) else {
-            return Err(ServeFault::Start);
-        };
+        let (live, readers) = open(rt, alloc, layout, sessions)?;
         let mut readers = readers;
         match begin(rt, alloc, listener, connections, &live, &mut readers) {
             Ok(running) => Ok(StayingServer {
@@ -76,7 +76,7 @@ impl StayingServer {
                 readers,
             }),
             Err(_) => {
-                let _ = live.close(rt, readers);
+                let _ = close(rt, live, readers);
                 Err(ServeFault::Start)
             }
         }
@@ -102,12 +102,12 @@ impl StayingServer {
     pub fn wait<R: Threads + Wait>(self, rt: &R) {
         let StayingServer {
             live,
+            workers: _,
             running,
             readers,
-            ..
         } = self;
         let mut readers = readers;
         end_sessions(rt, &live, running, &mut readers);
-        let _ = live.close(rt, readers);
+        let _ = close(rt, live, readers);
     }
 }

@@ -75,7 +75,7 @@ where
     R: Threads + Wait + Copy + Send + 'static,
     S: Source + Drop + Send + 'static,
     O: Origin<S> + Drop + Send + 'static,
-    ensures count { IfOk result (λ begun. vec_len begun.places ≡ vec_len feeds) }
+    ensures { IfOk result (λ begun. vec_len begun.places ≡ vec_len feeds) }
 {
     let mut begun = Feeds {
         places: Vec::with_capacity(alloc, feeds.len())?,
@@ -100,7 +100,7 @@ where
     R: Threads + Wait + Copy + Send + 'static,
     S: Source + Drop + Send + 'static,
     O: Origin<S> + Drop + Send + 'static,
-    ensures count { OnOk result (vec_len begun.new.places ≡ vec_len begun.old.places + 1) }
+    ensures { OnOk result (vec_len begun.new.places ≡ vec_len begun.old.places + 1) }
 {
     let mailbox = Arc::new(alloc, Mailbox::new())?;
     let bell = Arc::try_clone(&begun.bell)?;

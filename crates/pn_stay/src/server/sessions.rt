@@ -78,7 +78,8 @@ fn answer_all<R: Wait>(
     inbox: &Inbox,
     reader: LiveReader,
 ) -> LiveReader
-    ensures { KnowsNoLess reader result }
+    ensures tablets { tablets_of result ≡ tablets_of reader }
+    ensures knows { KnowsNoLess reader result }
 {
     let mut event_loop = event_loop;
     let mut reader = reader;
