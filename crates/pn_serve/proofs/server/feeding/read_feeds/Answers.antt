@@ -10,10 +10,10 @@ use Rattle.pn_serve.proofs.server.feeding.read_feeds.Goals as goal
 
 fed : (names : List (List ℕ)) (begun streams : ℕ) (old new : LiveRegionValue) (read : Result (Unit {0}) ServeFault) → begun ≡ streams → ReadsStreams begun old new read → IfErr read (IsOfRounds names)
     → ReadsFeeds streams old new read
-fed names begun streams old new (Ok done) count reads named = subst (λ (n : ℕ). ReadsStreams n old new (Ok done)) count reads
+fed names begun streams old new (Ok done) count reads named = subst (λ (n : ℕ). ReadsStreams {T = Unit {0}} n old new (Ok done)) count reads
 fed names begun streams old new (Err Start) count reads named = absurd named
-fed names begun streams old new (Err (Stream name)) count reads named = subst (λ (n : ℕ). ReadsStreams n old new (Err (Stream name))) count reads
-fed names begun streams old new (Err Round) count reads named = subst (λ (n : ℕ). ReadsStreams n old new (Err Round)) count reads
+fed names begun streams old new (Err (Stream name)) count reads named = subst (λ (n : ℕ). ReadsStreams {T = Unit {0}} n old new (Err (Stream name))) count reads
+fed names begun streams old new (Err Round) count reads named = subst (λ (n : ℕ). ReadsStreams {T = Unit {0}} n old new (Err Round)) count reads
 fed names begun streams old new (Err Close) count reads named = absurd named
 fed names begun streams old new (Err Write) count reads named = absurd named
 
