@@ -1,7 +1,8 @@
 -- How serving ends, by how its parts end.
 use Rattle.std.proofs.Common.{◌≡◌, ◌≢◌, ℕ, Bool, true, false, List, [], ◌∷◌, length, map, Option, refl, sym, ap, ◌∙◌, subst}
 use Rattle.std.proofs.lemmas.List.{length-map}
-use Rattle.std.specs.Prelude.{Result, Ok, Err, IfErr, IfOk, IsOk, OnOk, OnErr, IsErrOf, MatchResult, All}
+use Rattle.std.specs.Prelude.{Result, Ok, Err, IfErr, IfOk, IsOk, OnOk, OnErr, IsErrAnd, IsErrOf, MatchResult, All}
+use Rattle.std.proofs.lemmas.Result.{err_from_is_err_and}
 use Rattle.std.specs.List.{Contains}
 use Rattle.pn_join.specs.Marks.{Positions}
 use Rattle.pn_stream.specs.Batches as batches
@@ -35,6 +36,12 @@ module _ {S : Type 0} (left : S → Option (List ℕ)) (streams : List (batches.
       → EndsReading left streams old new result
   all_read old new (Ok done) read taken named = record { read = read; taken = taken }
   all_read old new (Err fault) read taken named = not_taken old new fault named
+
+  -- nothing was begun
+  pub not_begun : (old : LiveRegionValue) (fault : ServeFault) (result : Result (Unit {0}) ServeFault) → IsErrAnd result (λ other. other ≡ fault) → fault ≡ Start → EndsReading left streams old old result
+  not_begun old fault result answered start =
+      let (other, is, same) = err_from_is_err_and result answered in
+      subst (EndsReading left streams old old) (sym is) (subst (λ (f : ServeFault). EndsReading left streams old old (Err f)) (sym (same ∙ start)) refl)
 
   -- all threads ended, or sessions were refused
   pub reading_ends : {P : Type 0} (name : P → List ℕ) (places : List P) (read_by : List (batches.Stream S)) (old new : LiveRegionValue) (is_refused : Bool) (marks : Positions) (read result : Result (Unit {0}) ServeFault)
@@ -71,6 +78,12 @@ module _ {S : Type 0} (left : S → Option (List ℕ)) (streams : List (batches.
     region_ends count (Err fault) closing result ends first closes = subst (EndsRegion left layout streams) (sym first) (stopped fault ends)
     region_ends count (Ok done) (Ok region) result ends first closes = subst (EndsRegion left layout streams) (sym closes) (serves (Ok tt) ends)
     region_ends count (Ok done) (Err fault) result ends first closes = subst (EndsRegion left layout streams) (sym closes) (serves (Ok tt) ends)
+
+  -- no live region was opened
+  pub not_opened : (layout : Bounds) (fault : ServeFault) (result : Result ℕ ServeFault) → IsErrAnd result (λ other. other ≡ fault) → fault ≡ Start → EndsRegion left layout streams result
+  not_opened layout fault result answered start =
+      let (other, is, same) = err_from_is_err_and result answered in
+      subst (EndsRegion left layout streams) (sym is) (subst (λ (f : ServeFault). EndsRegion left layout streams (Err f)) (sym (same ∙ start)) tt)
 
   pub no_write : (layout : Bounds) (result : Result ℕ ServeFault) → EndsRegion left layout streams result → IfErr result (λ fault. fault ≢ Write)
   no_write layout (Ok count) ends = tt

@@ -1,6 +1,7 @@
 -- What was answered before a line stays answered after it.
 use Rattle.std.proofs.Common.{◌+◌, Ok, inl, ap, ◌∙◌, arith}
 use Rattle.pn_serve.specs.declared.script.line_loop.Next.{Next}
+use Rattle.pn_serve.proofs.HandedOn.{hands_on_still}
 use Rattle.pn_serve.proofs.Knowing.{knows_itself, knows_on}
 use Rattle.pn_serve.proofs.Stopping.{Handed_on}
 use Rattle.pn_serve.proofs.script.answer_all.Goals as goal
@@ -39,3 +40,6 @@ returns-in-End-clause-knows g c = knows_on _ _ _ c.turns.invariant.knows c.in_ok
 
 pub returns-clause-knows : goal.returns-clause-knows
 returns-clause-knows g c = knows_on _ _ _ c.turns.invariant.knows c.finish.ensures.knows
+
+pub returns-in_err-turn-clause-out : goal.returns-in_err-turn-clause-out
+returns-in_err-turn-clause-out g c = hands_on_still Next _ _ _ c.from_residual.ensures.1 (c.in_err-turn.ensures.ends_out (λ same. cc))

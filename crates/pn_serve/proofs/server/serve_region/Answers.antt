@@ -2,22 +2,31 @@
 use Rattle.std.proofs.Common.{◌≡◌, subst}
 use Rattle.pn_live.specs.LiveRegions.{IsNewLive}
 use Rattle.pn_serve.specs.Settings.{SettingsValue}
-use Rattle.pn_serve.proofs.ServedStreams.{region_ends, no_write, all_back}
+use Rattle.pn_serve.proofs.ServedStreams.{not_opened, region_ends, no_write, all_back}
 use Rattle.pn_serve.proofs.server.serve_region.Goals as goal
 
 pub returns-clause-ends : goal.returns-clause-ends
 returns-clause-ends g c =
-    let is_new = subst (λ (settings : SettingsValue). IsNewLive settings.layout c.in-Ok.live) c.settings.view_is c.in-Ok.ensures.is_new in
-    region_ends g.S.Source.left c.args.streams.items c.args.settings.layout c.in-Ok.live c.serve_all-served.new.opened.live is_new c.len-count.result
+    let is_new = subst (λ (settings : SettingsValue). IsNewLive settings.layout c.in_ok-live.live) c.settings.view_is c.in_ok-live.ensures.is_new in
+    region_ends g.S.Source.left c.args.streams.items c.args.settings.layout c.in_ok-live.live c.serve_all-served.new.opened.live is_new c.len-count.result
     c.serve_all-served.result c.close-closed.result c.end.result c.serve_all-served.ensures.ends c.end.ensures.served c.end.ensures.closed
 
 pub returns-clause-fault : goal.returns-clause-fault
 returns-clause-fault g c =
-    let is_new = subst (λ (settings : SettingsValue). IsNewLive settings.layout c.in-Ok.live) c.settings.view_is c.in-Ok.ensures.is_new in
+    let is_new = subst (λ (settings : SettingsValue). IsNewLive settings.layout c.in_ok-live.live) c.settings.view_is c.in_ok-live.ensures.is_new in
     no_write g.S.Source.left c.args.streams.items c.args.settings.layout c.end.result
-    (region_ends g.S.Source.left c.args.streams.items c.args.settings.layout c.in-Ok.live c.serve_all-served.new.opened.live is_new c.len-count.result
+    (region_ends g.S.Source.left c.args.streams.items c.args.settings.layout c.in_ok-live.live c.serve_all-served.new.opened.live is_new c.len-count.result
     c.serve_all-served.result c.close-closed.result c.end.result c.serve_all-served.ensures.ends c.end.ensures.served c.end.ensures.closed)
 
 pub returns-clause-count : goal.returns-clause-count
 returns-clause-count g c =
-    all_back c.len-count.result _ _ c.args.sessions c.serve_all-served.result c.close-closed.result c.end.result c.end.ensures.served c.end.ensures.closed c.len-count.ensures c.serve_all-served.ensures.all c.in-Ok.ensures.count
+    all_back c.len-count.result _ _ c.args.sessions c.serve_all-served.result c.close-closed.result c.end.result c.end.ensures.served c.end.ensures.closed c.len-count.ensures c.serve_all-served.ensures.all c.in_ok-live.ensures.count
+
+pub returns-in_err-live-clause-ends : goal.returns-in_err-live-clause-ends
+returns-in_err-live-clause-ends g c =
+    not_opened g.S.Source.left c.args.streams.items c.args.settings.layout c.in_err-live.field-0.0 c.from_residual.result c.from_residual.ensures.1 c.in_err-live.ensures.fault
+
+pub returns-in_err-live-clause-fault : goal.returns-in_err-live-clause-fault
+returns-in_err-live-clause-fault g c =
+    no_write g.S.Source.left c.args.streams.items c.args.settings.layout c.from_residual.result
+    (not_opened g.S.Source.left c.args.streams.items c.args.settings.layout c.in_err-live.field-0.0 c.from_residual.result c.from_residual.ensures.1 c.in_err-live.ensures.fault)

@@ -4,7 +4,7 @@ use Rattle.std.specs.Prelude.{option_and_then, unwrap_or}
 use Rattle.pn_serve.specs.Arguments.Commands.{number_in}
 use Rattle.pn_serve.proofs.arguments.laws.numbers_are_as_written.Goals as goal
 
-said : Option (List ℕ) → ℕ
+abbrev said : Option (List ℕ) → ℕ
 said text = unwrap_or (option_and_then number_in text) 1
 
 pub returns-clause-written : goal.returns-clause-written

@@ -1,6 +1,7 @@
 -- After the last line that may be answered, where no reply waits.
 use Rattle.std.proofs.Common.{◌≡◌, Bool, ℕ, List, [], Ok, ap, refl, sym, subst}
 use Rattle.pn_serve.specs.Lines.Served.{Served}
+use Rattle.pn_serve.proofs.HandedOn.{hands_on_unless_written}
 use Rattle.pn_serve.proofs.Knowing.{knows_itself}
 use Rattle.pn_serve.proofs.Serving.{OnTold, Ends_within}
 use Rattle.pn_serve.proofs.Stopping.{Run_write, nothing_sent, Cut_finish, Cut_finished, Broken_after, Exceeded_lines}
@@ -46,3 +47,9 @@ returns-clause-ends g c start served =
     let many = rw (sym c.self.view_is) at c.requires.all in
     OnTold _ _ _ (λ script between. Ends_within makes ends start script _ _ _ _ _ _ _ _ _ _ _ between
     (c.in-Ok.ensures.end (ap (λ (more : Bool). Ok more) c.if-more.false)) c.has_more.ensures.kept many c.start.ensures c.in_ok-counts.ensures.ok sent) (subst (Served makes start _ _ _) (sym c.self.view_is) served)
+
+pub returns-in_err-counts-clause-out : goal.returns-in_err-counts-clause-out
+returns-in_err-counts-clause-out g c = hands_on_unless_written _ _ c.from_residual.ensures.1
+
+pub returns-in_err-flush-clause-out : goal.returns-in_err-flush-clause-out
+returns-in_err-flush-clause-out g c = hands_on_unless_written _ _ c.from_residual-in_err-flush.ensures.1

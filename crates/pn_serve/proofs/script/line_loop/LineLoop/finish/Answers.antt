@@ -1,6 +1,7 @@
 -- After the last line that may be answered, once all that waited is written.
 use Rattle.std.proofs.Common.{refl, sym, subst}
 use Rattle.pn_serve.specs.Lines.Served.{Served}
+use Rattle.pn_serve.proofs.HandedOn.{hands_on_unless_written}
 use Rattle.pn_serve.proofs.Knowing.{knows_itself}
 use Rattle.pn_serve.proofs.Serving.{OnTold, Flushes}
 use Rattle.pn_serve.proofs.Stopping.{Run_write, Cut_between}
@@ -22,3 +23,6 @@ returns-clause-ends g c start served =
     let ends = g.M.LineHandler.ends in
     c.end_here.ensures.ends start
     (OnTold _ _ _ (λ script between. Flushes makes ends start script _ _ _ _ _ _ between c.in_ok-flush.ensures.ok refl c.flush.ensures.empty) (subst (Served makes start _ _ _) (sym c.self.view_is) served))
+
+pub returns-in_err-flush-clause-out : goal.returns-in_err-flush-clause-out
+returns-in_err-flush-clause-out g c = hands_on_unless_written _ _ c.from_residual.ensures.1

@@ -1,6 +1,9 @@
 -- Each line goes on from those answered before.
-use Rattle.std.proofs.Common.{refl, sym, subst, ap}
+use Rattle.std.proofs.Common.{ℕ, Ok, refl, sym, subst, ap, arith}
+use Rattle.pn_line.specs.Line.{LineBufferValue}
+use Rattle.pn_line.specs.declared.reading.LineEnd.{LineEnd}
 use Rattle.pn_serve.specs.Lines.Served.{Served}
+use Rattle.pn_serve.proofs.HandedOn.{hands_on_unless_written}
 use Rattle.pn_serve.proofs.Knowing.{knows_itself}
 use Rattle.pn_serve.proofs.Serving.{OnTold, Goes_on, Stays, Flushes, Ends_closed}
 use Rattle.pn_serve.proofs.Stopping.{Turn_write, Cut_between, Cut_part, Cut_line, Cut_last, Cut_after, Broken_in, Exceeded_bytes}
@@ -118,3 +121,88 @@ returns-in_err-flush-in-Endless-clause-knows g c = knows_itself _
 
 pub returns-in_ok-flush-in-Endless-clause-knows : goal.returns-in_ok-flush-in-Endless-clause-knows
 returns-in_ok-flush-in-Endless-clause-knows g c = knows_itself _
+
+pub returns-in_err-flush-clause-ends_out : goal.returns-in_err-flush-clause-ends_out
+returns-in_err-flush-clause-ends_out g c = λ other. hands_on_unless_written _ _ c.from_residual.ensures.1
+
+pub returns-in_err-answer_line-in-Newline-clause-ends_out : goal.returns-in_err-answer_line-in-Newline-clause-ends_out
+returns-in_err-answer_line-in-Newline-clause-ends_out g c = λ other. hands_on_unless_written _ _ c.from_residual-in_err-answer_line-in-Newline.ensures.1
+
+pub returns-in_err-flush-in-Newline-clause-ends_out : goal.returns-in_err-flush-in-Newline-clause-ends_out
+returns-in_err-flush-in-Newline-clause-ends_out g c = λ other. hands_on_unless_written _ _ c.from_residual-in_err-flush-in-Newline.ensures.1
+
+pub returns-in_err-counts-in-EndOfInput-clause-ends_out : goal.returns-in_err-counts-in-EndOfInput-clause-ends_out
+returns-in_err-counts-in-EndOfInput-clause-ends_out g c = λ other. hands_on_unless_written _ _ c.from_residual-in_err-counts-in-EndOfInput.ensures.1
+
+pub returns-in_err-flush-in-EndOfInput-clause-ends_out : goal.returns-in_err-flush-in-EndOfInput-clause-ends_out
+returns-in_err-flush-in-EndOfInput-clause-ends_out g c = λ other. hands_on_unless_written _ _ c.from_residual-in_err-flush-in-EndOfInput.ensures.1
+
+pub returns-in_err-flush-in-Endless-clause-ends_out : goal.returns-in_err-flush-in-Endless-clause-ends_out
+returns-in_err-flush-in-Endless-clause-ends_out g c = λ other. hands_on_unless_written _ _ c.from_residual-in_err-flush-in-Endless.ensures.1
+
+pub returns-in_err-answer_line-in-Newline-clause-looks : goal.returns-in_err-answer_line-in-Newline-clause-looks
+returns-in_err-answer_line-in-Newline-clause-looks g c =
+    let none = ap (λ (line : LineBufferValue). line.count) c.start.ensures in
+    let below = c.in-Ok.ensures.below (λ endless. let other = c.in-Newline.is in cc) in
+    omega (arith, none, below, c.read_line.ensures.looks)
+
+pub returns-in_err-flush-in-Newline-clause-looks : goal.returns-in_err-flush-in-Newline-clause-looks
+returns-in_err-flush-in-Newline-clause-looks g c =
+    let none = ap (λ (line : LineBufferValue). line.count) c.start.ensures in
+    let below = c.in-Ok.ensures.below (λ endless. let other = c.in-Newline.is in cc) in
+    omega (arith, none, below, c.read_line.ensures.looks)
+
+pub returns-in_ok-flush-in-Newline-clause-looks : goal.returns-in_ok-flush-in-Newline-clause-looks
+returns-in_ok-flush-in-Newline-clause-looks g c =
+    let none = ap (λ (line : LineBufferValue). line.count) c.start.ensures in
+    let below = c.in-Ok.ensures.below (λ endless. let other = c.in-Newline.is in cc) in
+    omega (arith, none, below, c.read_line.ensures.looks)
+
+pub returns-else-not-more-clause-looks : goal.returns-else-not-more-clause-looks
+returns-else-not-more-clause-looks g c =
+    let none = ap (λ (line : LineBufferValue). line.count) c.start.ensures in
+    let below = c.in-Ok.ensures.below (λ endless. let other = c.in-Newline.is in cc) in
+    omega (arith, none, below, c.read_line.ensures.looks)
+
+pub returns-in_err-counts-in-EndOfInput-clause-looks : goal.returns-in_err-counts-in-EndOfInput-clause-looks
+returns-in_err-counts-in-EndOfInput-clause-looks g c =
+    let none = ap (λ (line : LineBufferValue). line.count) c.start.ensures in
+    let below = c.in-Ok.ensures.below (λ endless. let other = c.in-EndOfInput.is in cc) in
+    omega (arith, none, below, c.read_line.ensures.looks)
+
+pub returns-in_err-flush-in-EndOfInput-clause-looks : goal.returns-in_err-flush-in-EndOfInput-clause-looks
+returns-in_err-flush-in-EndOfInput-clause-looks g c =
+    let none = ap (λ (line : LineBufferValue). line.count) c.start.ensures in
+    let below = c.in-Ok.ensures.below (λ endless. let other = c.in-EndOfInput.is in cc) in
+    omega (arith, none, below, c.read_line.ensures.looks)
+
+pub returns-in_ok-flush-in-EndOfInput-clause-looks : goal.returns-in_ok-flush-in-EndOfInput-clause-looks
+returns-in_ok-flush-in-EndOfInput-clause-looks g c =
+    let none = ap (λ (line : LineBufferValue). line.count) c.start.ensures in
+    let below = c.in-Ok.ensures.below (λ endless. let other = c.in-EndOfInput.is in cc) in
+    omega (arith, none, below, c.read_line.ensures.looks)
+
+pub returns-in_err-flush-in-Endless-clause-looks : goal.returns-in_err-flush-in-Endless-clause-looks
+returns-in_err-flush-in-Endless-clause-looks g c =
+    let none = ap (λ (line : LineBufferValue). line.count) c.start.ensures in
+    let all = c.in-Ok.ensures.endless.0 c.in-Endless.is in
+    omega (arith, none, all, c.read_line.ensures.looks)
+
+pub returns-in_ok-flush-in-Endless-clause-looks : goal.returns-in_ok-flush-in-Endless-clause-looks
+returns-in_ok-flush-in-Endless-clause-looks g c =
+    let none = ap (λ (line : LineBufferValue). line.count) c.start.ensures in
+    let all = c.in-Ok.ensures.endless.0 c.in-Endless.is in
+    omega (arith, none, all, c.read_line.ensures.looks)
+
+pub returns-in_err-flush-clause-looks : goal.returns-in_err-flush-clause-looks
+returns-in_err-flush-clause-looks g c =
+    let none = ap (λ (line : LineBufferValue). line.count) c.start.ensures in
+    omega (arith, none, c.len.ensures.count, c.len.ensures.bounded, c.read_line.ensures.looks)
+
+pub returns-in_default-clause-looks : goal.returns-in_default-clause-looks
+returns-in_default-clause-looks g c =
+    let none = ap (λ (line : LineBufferValue). line.count) c.start.ensures in
+    omega (arith, none, c.len.ensures.count, c.len.ensures.bounded, c.read_line.ensures.looks)
+
+pub returns-in_ok-flush-in-EndOfInput-clause-ends : goal.returns-in_ok-flush-in-EndOfInput-clause-ends
+returns-in_ok-flush-in-EndOfInput-clause-ends g c = λ other. c.in-Ok.ensures.end_comes (ap (λ (end : LineEnd). Ok end) c.in-EndOfInput.is)
