@@ -8,7 +8,7 @@ ghost use Rattle.pn_protocol.specs.declared.refusal.Refusal.TheVariants.{Memory 
 ghost use Rattle.pn_protocol.specs.Reply.Answers.{ShowsFound, ShowsCopy, ShowsCopyOf};
 ghost use Rattle.pn_protocol.specs.Reply.Record.{get_data, read_data};
 ghost use Rattle.pn_protocol.specs.Reply.Recovery.{is_newline};
-ghost use Rattle.pn_protocol.specs.Reply.Refusals.{Refuses, TellsBadText, TellsNoCopy, TellsNotAdopted};
+ghost use Rattle.pn_protocol.specs.Reply.Refusals.{Refuses, RefusesBy, TellsBadText, TellsNoCopy, TellsNotAdopted};
 ghost use Rattle.pn_protocol.specs.Reply.Scan.{scan_data};
 
 use crate::reply::record::{get_reply, read_reply};
@@ -63,10 +63,16 @@ fn page_reply(alloc: Global, page: Page) -> Result<Vec<u8>, NoMemory>
 fn refused(alloc: Global, fault: &ScanFault) -> Reply
     ensures { Refuses fault.now result }
 {
+    refused_by(fault, refused_reply(alloc, fault))
+}
+
+fn refused_by(fault: &ScanFault, text: Result<Vec<u8>, NoMemory>) -> Reply
+    ensures { RefusesBy ScanFault.Memory fault.now text result }
+{
     if let ScanFault::Memory = fault {
         return Reply::Refused(Refusal::Memory);
     }
-    not_taken(refused_reply(alloc, fault))
+    not_taken(text)
 }
 
 /// Answers a `copy` of the tablet of this number.
@@ -107,30 +113,48 @@ fn line_count(text: &[u8]) -> usize
 fn no_copy(alloc: Global, tablet: usize, fault: &CopyFault) -> Reply
     ensures { TellsNoCopy tablet fault.now result }
 {
+    no_copy_by(fault, no_copy_reply(alloc, tablet, fault))
+}
+
+fn no_copy_by(fault: &CopyFault, text: Result<Vec<u8>, NoMemory>) -> Reply
+    ensures { RefusesBy CopyFault.Memory fault.now text result }
+{
     if let CopyFault::Memory = fault {
         return Reply::Refused(Refusal::Memory);
     }
-    not_taken(no_copy_reply(alloc, tablet, fault))
+    not_taken(text)
 }
 
 /// Refuses an adoption whose text is no copy.
 pub fn bad_text(alloc: Global, fault: &CopyTextFault) -> Reply
     ensures { TellsBadText fault.now result }
 {
+    bad_text_by(fault, bad_text_reply(alloc, fault))
+}
+
+fn bad_text_by(fault: &CopyTextFault, text: Result<Vec<u8>, NoMemory>) -> Reply
+    ensures { RefusesBy CopyTextFault.Memory fault.now text result }
+{
     if let CopyTextFault::Memory = fault {
         return Reply::Refused(Refusal::Memory);
     }
-    not_taken(bad_text_reply(alloc, fault))
+    not_taken(text)
 }
 
 /// Refuses an adoption of a copy that the region did not take.
 pub fn not_adopted(alloc: Global, fault: &AdoptFault) -> Reply
     ensures { TellsNotAdopted fault.now result }
 {
+    not_adopted_by(fault, not_adopted_reply(alloc, fault))
+}
+
+fn not_adopted_by(fault: &AdoptFault, text: Result<Vec<u8>, NoMemory>) -> Reply
+    ensures { RefusesBy AdoptFault.Memory fault.now text result }
+{
     if let AdoptFault::Memory = fault {
         return Reply::Refused(Refusal::Memory);
     }
-    not_taken(not_adopted_reply(alloc, fault))
+    not_taken(text)
 }
 
 /// The refusal of this text.
