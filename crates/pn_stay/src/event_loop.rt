@@ -54,6 +54,7 @@ impl EventLoop {
     }
 
     /// Answers connections until the inbox is closed and the last has ended. An error is one of the system's wait.
+    #[tactic(auto, using(pn_serve::proofs::Knowing::knows_on))]
     pub(crate) fn run<R: Wait, M: LineHandler>(
         &mut self,
         rt: &R,
@@ -68,11 +69,15 @@ impl EventLoop {
                 self.take_clients(rt, inbox);
             }
             self.take_turns(rt, inbox, machine);
-            if self.clients.is_empty() && inbox.is_closed(rt) {
-                break;
+            if self.is_over(rt, inbox) {
+                return Ok(());
             }
         }
-        Ok(())
+        unreachable!()
+    }
+
+    fn is_over<R: Wait>(&self, rt: &R, inbox: &Inbox) -> bool {
+        self.clients.is_empty() && inbox.is_closed(rt)
     }
 
     // Waits for events, unless clients are ready. Whether the inbox was filled.

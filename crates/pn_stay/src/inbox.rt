@@ -23,6 +23,16 @@ struct Held {
     is_closed: bool,
 }
 
+impl Held {
+    fn put(&mut self, stream: TcpStream) -> io::Result<()> {
+        if self.is_closed {
+            return Err(io::Error::from(io::ErrorKind::NotConnected));
+        }
+        self.streams.push(stream)?;
+        Ok(())
+    }
+}
+
 impl Inbox {
     /// An empty inbox.
     pub(crate) fn new(alloc: Global, waker: Waker, gate: Arc<Gate>) -> Inbox {
@@ -37,9 +47,9 @@ impl Inbox {
         }
     }
 
-    /// Leaves a socket, and wakes the thread.
+    /// Leaves a socket, and wakes the thread. An error drops the socket.
     pub(crate) fn put<R: Wait>(&self, rt: &R, stream: TcpStream) -> io::Result<()> {
-        self.held.lock(rt).streams.push(stream)?;
+        self.held.lock(rt).put(stream)?;
         self.waker.wake()
     }
 

@@ -38,14 +38,33 @@ where
 {
     let gate = Arc::new(alloc, Gate::new(connections))?;
     let mut inboxes = Vec::new(alloc);
-    let mut running = Vec::with_capacity(alloc, readers.len())?;
-    while let Some(reader) = readers.pop() {
-        let own = Arc::try_clone(&gate)?;
-        let session = begin_session(rt, alloc, own, &mut inboxes, reader)?;
-        running.push_reserved(session);
-    }
+    let running = begin_sessions(rt, alloc, &gate, &mut inboxes, live, readers)?;
     let host = *rt;
     thread::spawn(rt, move || { accept_all(&host, &listener, &gate, &inboxes) })?;
+    Ok(running)
+}
+
+// Starts a thread for each reader, until one is refused. Its reader is dropped.
+fn begin_sessions<R>(
+    rt: &R,
+    alloc: Global,
+    gate: &Arc<Gate>,
+    inboxes: &mut Vec<Arc<Inbox>>,
+    live: &LiveRegion,
+    readers: &mut Vec<LiveReader>,
+) -> io::Result<Vec<Running>>
+where
+    R: Threads + Wait + Net + Copy + Send + 'static,
+    requires { AllRead (tablets_in live.now) readers.old.items }
+    ensures running { IfOk result (λ running. All (λ session. tablets_of session.promise.0.value ≡ tablets_in live.now) running.items) }
+    ensures readers { AllRead (tablets_in live.now) readers.new.items }
+    ensures room { IfOk result (λ running. vec_len running + vec_len readers.new ≤ vec_capacity readers.new) }
+{
+    let mut running = Vec::with_capacity(alloc, readers.len())?;
+    while let Some(reader) = readers.pop() {
+        let session = begin_session(rt, alloc, gate, inboxes, reader)?;
+        running.push_reserved(session);
+    }
     Ok(running)
 }
 
@@ -53,7 +72,7 @@ where
 fn begin_session<R>(
     rt: &R,
     alloc: Global,
-    gate: Arc<Gate>,
+    gate: &Arc<Gate>,
     inboxes: &mut Vec<Arc<Inbox>>,
     reader: LiveReader,
 ) -> io::Result<Running>
@@ -62,27 +81,59 @@ where
     ensures { IfOk result (λ session. tablets_of session.promise.0.value ≡ tablets_of reader) }
 {
     let poll = Poll::new(rt)?;
-    let waker = Waker::new(poll.registry(), INBOX)?;
-    let inbox = Arc::new(alloc, Inbox::new(alloc, waker, gate))?;
+    let inbox = new_inbox(alloc, &poll, gate)?;
     inboxes.push(Arc::try_clone(&inbox)?)?;
-    let event_loop = EventLoop::new(alloc, poll)?;
-    let host = *rt;
-    let promise = ComesBack(Snapshot::of(&reader));
-    Ok(thread::spawn_with(rt, promise, move || { answer_all(&host, event_loop, &inbox, reader) })?)
+    begin_thread(rt, alloc, poll, inbox, reader)
 }
 
-// Answers connections, and gives the reader back.
+// An inbox that wakes who waits at the poll.
+fn new_inbox(alloc: Global, poll: &Poll, gate: &Arc<Gate>) -> io::Result<Arc<Inbox>> {
+    let waker = Waker::new(poll.registry(), INBOX)?;
+    let gate = Arc::try_clone(gate)?;
+    Ok(Arc::new(alloc, Inbox::new(alloc, waker, gate))?)
+}
+
+fn begin_thread<R>(
+    rt: &R,
+    alloc: Global,
+    poll: Poll,
+    inbox: Arc<Inbox>,
+    reader: LiveReader,
+) -> io::Result<Running>
+where
+    R: Threads + Wait + Copy + Send + 'static,
+    ensures { IfOk result (λ session. tablets_of session.promise.0.value ≡ tablets_of reader) }
+{
+    let host = *rt;
+    let promise = ComesBack(Snapshot::of(&reader));
+    Ok(thread::spawn_with(rt, promise, move || { answer_all(&host, alloc, poll, &inbox, reader) })?)
+}
+
+// Answers connections, and gives the reader back. After a fault its inbox takes no sockets.
 fn answer_all<R: Wait>(
     rt: &R,
-    event_loop: EventLoop,
+    alloc: Global,
+    poll: Poll,
     inbox: &Inbox,
     reader: LiveReader,
 ) -> LiveReader
     ensures tablets { tablets_of result ≡ tablets_of reader }
     ensures knows { KnowsNoLess reader result }
 {
-    let mut event_loop = event_loop;
     let mut reader = reader;
-    let _ = event_loop.run(rt, inbox, &mut reader);
+    let _ = run(rt, alloc, poll, inbox, &mut reader);
+    let _ = inbox.close(rt);
     reader
+}
+
+fn run<R: Wait>(
+    rt: &R,
+    alloc: Global,
+    poll: Poll,
+    inbox: &Inbox,
+    reader: &mut LiveReader,
+) -> io::Result<()>
+    ensures { KnowsNoLess reader.old reader.new }
+{
+    EventLoop::new(alloc, poll)?.run(rt, inbox, reader)
 }

@@ -10,7 +10,7 @@ returns-in_err-answer_line-clause-err g c written =
 
 pub returns-clause-ok : goal.returns-clause-ok
 returns-clause-ok g c written =
-    Answered-queued g.M.LineHandler.makes _ _ c.args.desk.now.lines _ _ _ written _ c.begin_line.ensures.waits c.begin_line.ensures.counts c.in_ok-answer_line.ensures.ok
+    Answered-queued g.M.LineHandler.makes _ _ c.args.desk.now.lines _ _ _ written c.begin_line.new.self c.begin_line.ensures.waits c.begin_line.ensures.counts c.in_ok-answer_line.ensures.ok
 
 pub returns-in_err-answer_line-clause-passes : goal.returns-in_err-answer_line-clause-passes
 returns-in_err-answer_line-clause-passes g c = Passes-part g.M.LineHandler.makes g.M.LineHandler.ends _ _ c.args.desk.now.lines _ _ c.in_err-answer_line.ensures.err c.requires.line

@@ -3,7 +3,7 @@ use Rattle.std.proofs.Common.{◌≡◌, ◌+◌, ◌≤◌, vec_len, vec_capaci
 use Rattle.pn_live.specs.LiveRegions.{tablets_in}
 use Rattle.pn_live.specs.Readers.{tablets_of}
 use Rattle.pn_serve.specs.Server.Sessions.{AllRead}
-use Rattle.pn_stay.proofs.server.sessions.begin.Given as goal
+use Rattle.pn_stay.proofs.server.sessions.begin_sessions.Given as goal
 
 abbrev pub invariant-loop-reader : goal.invariant-loop-reader
 invariant-loop-reader g l = record {

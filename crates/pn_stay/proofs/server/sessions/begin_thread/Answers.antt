@@ -2,7 +2,7 @@
 use denote.Param.Send.{sendable}
 use Rattle.std.proofs.Crossing.{crosses}
 use Rattle.pn_live.proofs.Crossing.Readers.{reader_send}
-use Rattle.pn_stay.proofs.server.sessions.begin_session.Goals as goal
+use Rattle.pn_stay.proofs.server.sessions.begin_thread.Goals as goal
 
 pub spawn_with-requires-send-F : goal.spawn_with-requires-send-F
 spawn_with-requires-send-F g c κs within = search (sendable, crosses, reader_send) depth 40 fits 20000
