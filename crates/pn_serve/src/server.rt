@@ -139,7 +139,11 @@ pub fn open<R: Wait>(
 }
 
 /// Closes a live region, whose readers came back.
-pub fn close<R: Wait>(rt: &R, live: LiveRegion, readers: Vec<LiveReader>) -> Result<Region, NoMemory>
+pub fn close<R: Wait>(
+    rt: &R,
+    live: LiveRegion,
+    readers: Vec<LiveReader>,
+) -> Result<Region, NoMemory>
     requires { AllRead (tablets_in live) readers.items }
 {
     live.close(rt, readers)

@@ -93,7 +93,11 @@ impl EventLoop {
             if event.token() == INBOX {
                 is_filled = true;
             } else {
-                make_ready(&mut self.clients, &mut self.ready, usize::from(event.token()));
+                make_ready(
+                    &mut self.clients,
+                    &mut self.ready,
+                    usize::from(event.token()),
+                );
             }
         }
         Ok(is_filled)

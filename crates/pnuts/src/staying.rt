@@ -59,7 +59,14 @@ where
     if println!(rt; "listening on 127.0.0.1:{port}").is_err() {
         return fail(rt, "write");
     }
-    let mut server = match StayingServer::start(rt, rt.alloc(), listener, settings, sessions, connections as usize) {
+    let mut server = match StayingServer::start(
+        rt,
+        rt.alloc(),
+        listener,
+        settings,
+        sessions,
+        connections as usize,
+    ) {
         Ok(server) => server,
         Err(fault) => return tell(rt, fault),
     };

@@ -62,7 +62,11 @@ fn shown(alloc: Global, taken: &[u8]) -> Result<String, Fail> {
     }
     let mut text = String::new(alloc);
     for byte in taken.iter() {
-        text.push(if *byte == b'\n' { '|' } else { char::from(*byte) })?;
+        text.push(if *byte == b'\n' {
+            '|'
+        } else {
+            char::from(*byte)
+        })?;
     }
     Ok(text)
 }

@@ -40,7 +40,9 @@ where
     let mut inboxes = Vec::new(alloc);
     let running = begin_sessions(rt, alloc, &gate, &mut inboxes, live, readers)?;
     let host = *rt;
-    thread::spawn(rt, move || { accept_all(&host, &listener, &gate, &inboxes) })?;
+    thread::spawn(rt, move || {
+        accept_all(&host, &listener, &gate, &inboxes)
+    })?;
     Ok(running)
 }
 
@@ -106,7 +108,9 @@ where
 {
     let host = *rt;
     let promise = ComesBack(Snapshot::of(&reader));
-    Ok(thread::spawn_with(rt, promise, move || { answer_all(&host, alloc, poll, &inbox, reader) })?)
+    Ok(thread::spawn_with(rt, promise, move || {
+        answer_all(&host, alloc, poll, &inbox, reader)
+    })?)
 }
 
 // Answers connections, and gives the reader back. After a fault its inbox takes no sockets.
