@@ -1,5 +1,6 @@
 pub mod Ahead
 pub mod Alone
+pub mod Crossing
 pub mod Ending
 pub mod Passing
 pub mod Rooms

@@ -85,7 +85,13 @@ where
     let poll = Poll::new(rt)?;
     let inbox = new_inbox(alloc, &poll, gate)?;
     inboxes.push(Arc::try_clone(&inbox)?)?;
-    begin_thread(rt, alloc, poll, inbox, reader)
+    let session = Session {
+        alloc,
+        poll,
+        inbox,
+        reader,
+    };
+    begin_thread(rt, session)
 }
 
 // An inbox that wakes who waits at the poll.
@@ -95,37 +101,39 @@ fn new_inbox(alloc: Global, poll: &Poll, gate: &Arc<Gate>) -> io::Result<Arc<Inb
     Ok(Arc::new(alloc, Inbox::new(alloc, waker, gate))?)
 }
 
-fn begin_thread<R>(
-    rt: &R,
+// What a session thread begins with.
+#[derive(Drop)]
+struct Session {
     alloc: Global,
     poll: Poll,
     inbox: Arc<Inbox>,
     reader: LiveReader,
-) -> io::Result<Running>
+}
+
+// Starts the thread of a session.
+fn begin_thread<R>(rt: &R, session: Session) -> io::Result<Running>
 where
     R: Threads + Wait + Copy + Send + 'static,
-    ensures { IfOk result (λ session. tablets_of session.promise.0.value ≡ tablets_of reader) }
+    ensures { IfOk result (λ running. tablets_of running.promise.0.value ≡ tablets_of session.reader) }
 {
     let host = *rt;
-    let promise = ComesBack(Snapshot::of(&reader));
-    Ok(thread::spawn_with(rt, promise, move || {
-        answer_all(&host, alloc, poll, &inbox, reader)
-    })?)
+    let promise = ComesBack(Snapshot::of(&session.reader));
+    Ok(thread::spawn_with(rt, promise, move || { answer_all(&host, session) })?)
 }
 
 // Answers connections, and gives the reader back. After a fault its inbox takes no sockets.
-fn answer_all<R: Wait>(
-    rt: &R,
-    alloc: Global,
-    poll: Poll,
-    inbox: &Inbox,
-    reader: LiveReader,
-) -> LiveReader
-    ensures tablets { tablets_of result ≡ tablets_of reader }
-    ensures knows { KnowsNoLess reader result }
+fn answer_all<R: Wait>(rt: &R, session: Session) -> LiveReader
+    ensures tablets { tablets_of result ≡ tablets_of session.reader }
+    ensures knows { KnowsNoLess session.reader result }
 {
+    let Session {
+        alloc,
+        poll,
+        inbox,
+        reader,
+    } = session;
     let mut reader = reader;
-    let _ = run(rt, alloc, poll, inbox, &mut reader);
+    let _ = run(rt, alloc, poll, &inbox, &mut reader);
     let _ = inbox.close(rt);
     reader
 }
