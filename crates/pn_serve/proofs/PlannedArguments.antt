@@ -82,7 +82,7 @@ pub answered : (words : List Text) (kind : ErrorKind) → (kind ≡ error.OutOfM
 answered words kind (inl memory) (Ok (plan.Help text)) is = absurd (cc)
 answered words kind (inr among) (Ok (plan.Help text)) is = subst (λ (k : ErrorKind). IsAmong k (fault_of program words)) is among
 answered words kind has (Ok (plan.Replay settings)) is = absurd is
-answered words kind has (Ok (plan.Serve settings sessions port streams)) is = absurd is
+answered words kind has (Ok (plan.Serve settings sessions port stay streams)) is = absurd is
 answered words kind (inl memory) (Err (fault.Words text)) is = absurd (is.1 memory)
 answered words kind (inr among) (Err (fault.Words text)) is = record { kind = kind; among = among; other = is.0 }
 answered words kind has (Err fault.Bounds) is = absurd is
@@ -179,7 +179,7 @@ neither_helps false options e = replay_helps options e
 pub planned : (words : List Text) → fault_of program words ≡ [] → (command : Text × List Row) → subcommand_of program words ≡ Some command
     → (result : Result Plan PlanFault) → ShowsUnless fault.Memory plan_value result (plan_in command) → Plans words result
 planned words taken command found (Ok (plan.Replay settings)) shows = record { taken = taken; command = command; found = found; means = shows }
-planned words taken command found (Ok (plan.Serve settings sessions port streams)) shows = record { taken = taken; command = command; found = found; means = shows }
+planned words taken command found (Ok (plan.Serve settings sessions port stay streams)) shows = record { taken = taken; command = command; found = found; means = shows }
 planned words taken command found (Ok (plan.Help text)) shows = absurd (neither_helps _ command.1 shows)
 planned words taken command found (Err (fault.Words text)) shows = absurd (no_words command text (shows (λ e. cc)))
 planned words taken command found (Err fault.Bounds) shows = record { taken = taken; command = command; found = found; means = shows (λ e. cc) }
@@ -191,26 +191,26 @@ planned words taken command found (Err fault.Memory) shows = tt
 in_range : (n : ℕ) → (1 ≤ max 1 (min n 16)) × (max 1 (min n 16) ≤ 16)
 in_range n = (omega arith, omega arith)
 
-serves : (options : List Row) (settings : SettingsValue) (sessions port : ℕ) (streams : List StreamValue) → serve_in options ≡ Ok (serve settings sessions port streams) → (1 ≤ sessions) × (sessions ≤ 16)
-serves options settings sessions port streams e =
-    let one = bind_ok (settings_in options) _ (serve settings sessions port streams) e in
-    let two = bind_ok (streams_in _) _ (serve settings sessions port streams) one.2 in
+serves : (options : List Row) (settings : SettingsValue) (sessions port : ℕ) (stay : Option ℕ) (streams : List StreamValue) → serve_in options ≡ Ok (serve settings sessions port stay streams) → (1 ≤ sessions) × (sessions ≤ 16)
+serves options settings sessions port stay streams e =
+    let one = bind_ok (settings_in options) _ (serve settings sessions port stay streams) e in
+    let two = bind_ok (streams_in _) _ (serve settings sessions port stay streams) one.2 in
     let last = two.2 in
     let same : number_at (codes "sessions") 16 options ≡ sessions = cc in
     subst (λ (n : ℕ). (1 ≤ n) × (n ≤ 16)) same (in_range _)
 
-replays_not : (options : List Row) (settings : SettingsValue) (sessions port : ℕ) (streams : List StreamValue) → replay_in options ≡ Ok (serve settings sessions port streams) → ⊥
-replays_not options settings sessions port streams e =
-    let one = bind_ok (settings_in options) _ (serve settings sessions port streams) e in
+replays_not : (options : List Row) (settings : SettingsValue) (sessions port : ℕ) (stay : Option ℕ) (streams : List StreamValue) → replay_in options ≡ Ok (serve settings sessions port stay streams) → ⊥
+replays_not options settings sessions port stay streams e =
+    let one = bind_ok (settings_in options) _ (serve settings sessions port stay streams) e in
     let last = one.2 in cc
 
-either_serves : (b : Bool) (options : List Row) (settings : SettingsValue) (sessions port : ℕ) (streams : List StreamValue) → cond b (serve_in options) (replay_in options) ≡ Ok (serve settings sessions port streams)
+either_serves : (b : Bool) (options : List Row) (settings : SettingsValue) (sessions port : ℕ) (stay : Option ℕ) (streams : List StreamValue) → cond b (serve_in options) (replay_in options) ≡ Ok (serve settings sessions port stay streams)
     → (1 ≤ sessions) × (sessions ≤ 16)
-either_serves true options settings sessions port streams e = serves options settings sessions port streams e
-either_serves false options settings sessions port streams e = absurd (replays_not options settings sessions port streams e)
+either_serves true options settings sessions port stay streams e = serves options settings sessions port stay streams e
+either_serves false options settings sessions port stay streams e = absurd (replays_not options settings sessions port stay streams e)
 
 pub has_sessions : (words : List Text) (result : Result Plan PlanFault) → Plans words result → IfOk result HasSessions
 has_sessions words (Ok (plan.Replay settings)) is = tt
-has_sessions words (Ok (plan.Serve settings sessions port streams)) is = either_serves _ is.command.1 settings sessions port _ is.means
+has_sessions words (Ok (plan.Serve settings sessions port stay streams)) is = either_serves _ is.command.1 settings sessions port stay _ is.means
 has_sessions words (Ok (plan.Help text)) is = tt
 has_sessions words (Err found) is = tt

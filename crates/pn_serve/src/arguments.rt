@@ -4,7 +4,7 @@ ghost use Rattle.std.specs.Prelude.{◌≡◌, map, string_bytes, IfOk, IsSome, 
 ghost use Rattle.clap.specs.Words.{found_of, kind_of, rows_of, subcommand_rows_of};
 ghost use Rattle.pn_json.specs.Prelude.{IsUnless, ShowsUnless};
 ghost use Rattle.pn_serve.specs.Arguments.Plans.{Answers, HasSessions, Plans};
-ghost use Rattle.pn_serve.specs.Arguments.Commands.{plan_in, replay_in, serve_in, settings_in};
+ghost use Rattle.pn_serve.specs.Arguments.Commands.{plan_in, replay_in, serve_in, settings_in, stay_in};
 ghost use Rattle.pn_serve.specs.Arguments.PlanValues.{plan_value};
 
 mod bounds;
@@ -14,7 +14,7 @@ pub(crate) mod plans;
 mod streams;
 
 use crate::arguments::bounds::layout_of;
-use crate::arguments::options::{command, option_number, option_text};
+use crate::arguments::options::{command, option_count, option_number, option_text};
 use crate::arguments::streams::named_streams;
 use crate::{Plan, PlanFault, Settings};
 use clap::error::ErrorKind;
@@ -72,8 +72,20 @@ fn serve_of(alloc: Global, options: &ArgMatches<'_>) -> Result<Plan, PlanFault>
         settings,
         sessions: usize::from(option_number(options, "sessions", 16)),
         port: option_number(options, "port", 65_535),
+        stay: stay_of(options),
         streams,
     })
+}
+
+// With `--stay`, how many connections are served at once.
+fn stay_of(options: &ArgMatches<'_>) -> Option<u32>
+    ensures { result ≡ stay_in (rows_of (found_of options.now)) }
+{
+    if option_text(options, "stay") == "true" {
+        Some(option_count(options, "connections", 65_536))
+    } else {
+        None
+    }
 }
 
 fn replay_of(alloc: Global, options: &ArgMatches<'_>) -> Result<Plan, PlanFault>

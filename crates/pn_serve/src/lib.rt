@@ -15,6 +15,7 @@ pub use arguments::laws::numbers_are_as_written;
 pub use arguments::plan;
 pub use arguments::plans::{Plan, PlanFault};
 pub use laws::regions_converge;
+pub use machine::line_handler::LineHandler;
 pub use page_laws::{
     a_scan_line_shows_the_page_of_its_region, keys_rise_from_page_to_page_of_a_script,
     pages_of_a_script_are_together_its_rows,
@@ -27,7 +28,10 @@ pub use pn_protocol::{
 pub use repeat_laws::{
     a_repeated_deliver_leaves_no_trace_of_a_refused_one, repeated_delivers_leave_the_same_region,
 };
+pub use script::line_loop::LineLoop;
 pub use script::{Counts, MAX_LINES, RunFault, run, run_to_exit};
-pub use server::{ServeFault, serve};
+pub use server::{
+    ComesBack, Feed, Origin, Running, ServeFault, close, end_sessions, open, read_feeds, serve,
+};
 pub use sessions::session;
 pub use settings::Settings;

@@ -15,6 +15,7 @@ ghost use Rattle.pn_protocol.specs.Prelude.{served_line};
 mod bell;
 mod connections;
 mod fault;
+mod feeding;
 mod mailbox;
 mod messages;
 mod reports;
@@ -22,10 +23,12 @@ mod rounds;
 mod streams;
 
 use crate::Settings;
-use crate::server::connections::{StartedSessions, begin_sessions, end_sessions};
+use crate::server::connections::{StartedSessions, begin_sessions};
 use crate::server::rounds::take_rounds;
 use crate::server::streams::{Feeding, Feeds, Reading, begin_reading, end_reading};
+pub use connections::{ComesBack, Running, end_sessions};
 pub use fault::ServeFault;
+pub use feeding::{Feed, Origin, read_feeds};
 use pn_join::{Marks, NoMemory};
 use pn_line::{Sink, Source, WriteFault, write_all_of};
 use pn_live::{LiveReader, LiveRegion};
@@ -116,8 +119,8 @@ where
     end(served, closed, count)
 }
 
-// Opens a live region with this many readers.
-fn open<R: Wait>(
+/// Opens a live region with this many readers.
+pub fn open<R: Wait>(
     rt: &R,
     alloc: Global,
     layout: Layout,
@@ -135,8 +138,12 @@ fn open<R: Wait>(
     }
 }
 
-// Closes a live region, whose readers came back.
-fn close<R: Wait>(rt: &R, live: LiveRegion, readers: Vec<LiveReader>) -> Result<Region, NoMemory>
+/// Closes a live region, whose readers came back.
+pub fn close<R: Wait>(
+    rt: &R,
+    live: LiveRegion,
+    readers: Vec<LiveReader>,
+) -> Result<Region, NoMemory>
     requires { AllRead (tablets_in live) readers.items }
 {
     live.close(rt, readers)

@@ -42,6 +42,15 @@ impl Settings {
         Some(Settings { layout, workers })
     }
 
+    /// The layout and the workers.
+    pub fn into_parts(self) -> (Layout, usize)
+        ensures layout { result.0 ≡ self.layout }
+        ensures workers { result.1 ≡ self.workers }
+        ensures within { (1 ≤ result.1) × (result.1 ≤ max_workers) }
+    {
+        (self.layout, self.workers)
+    }
+
     /// How the keys are divided into tablets.
     pub fn layout(&self) -> &Layout
         ensures layout { result.now ≡ self.now.layout }

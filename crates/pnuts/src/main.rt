@@ -2,8 +2,10 @@
 #![tactic(auto)]
 
 mod served;
+mod staying;
 
 use crate::served::serve_streams;
+use crate::staying::stay_with;
 use pn_serve::{Plan, PlanFault, RunFault, Settings, plan, run_to_exit};
 use std::alloc::Global;
 use std::env::Env;
@@ -29,9 +31,13 @@ fn main(rt: HostRuntime) -> ExitCode {
                 settings,
                 sessions,
                 port,
+                stay,
                 streams,
             },
-        ) => serve_streams(&rt, settings, sessions, port, streams),
+        ) => match stay {
+            Some(connections) => stay_with(&rt, settings, sessions, port, connections, streams),
+            None => serve_streams(&rt, settings, sessions, port, streams),
+        },
         Ok(Plan::Help(text)) => show(&rt, text.as_str()),
         Err(PlanFault::Words(text)) => refuse(&rt, text.as_str()),
         Err(PlanFault::Bounds) => refuse(&rt, "pnuts: bounds\n"),

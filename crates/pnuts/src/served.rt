@@ -18,7 +18,7 @@ use std::sync::Wait;
 use std::thread::Threads;
 
 /// How many bytes of a stream are read at a time.
-const STREAM_ROOM: usize = 1_048_576;
+pub(crate) const STREAM_ROOM: usize = 1_048_576;
 
 type Stream = StreamReader<BufReader<File>>;
 
@@ -46,8 +46,7 @@ where
 {
     let streams = match opened(rt, rt.alloc(), streams) {
         Ok(streams) => streams,
-        Err(Unopened::File(name)) => return fail_about(rt, "cannot open ", name.as_str(), ""),
-        Err(Unopened::Memory) => return fail(rt, "memory"),
+        Err(unopened) => return tell_unopened(rt, unopened),
     };
     let Ok(listener) = listen(rt, port) else {
         return fail(rt, "cannot listen");
@@ -70,12 +69,19 @@ where
     }
 }
 
-// Why the streams were not opened.
+/// Why the streams were not opened.
 #[derive(Drop)]
-enum Unopened {
+pub(crate) enum Unopened {
     /// The file of the stream of this name does not open.
     File(Name),
     Memory,
+}
+
+pub(crate) fn tell_unopened(rt: &impl Eprint, unopened: Unopened) -> ExitCode {
+    match unopened {
+        Unopened::File(name) => fail_about(rt, "cannot open ", name.as_str(), ""),
+        Unopened::Memory => fail(rt, "memory"),
+    }
 }
 
 // Opens the files of the streams in their order.
@@ -113,14 +119,14 @@ fn open_one<R: Files<File = File>>(
     Ok(StreamReader::new(alloc, name, 0, source))
 }
 
-fn listen<R: Net<Listener = TcpListener, Stream = TcpStream>>(
+pub(crate) fn listen<R: Net<Listener = TcpListener, Stream = TcpStream>>(
     rt: &R,
     port: u16,
 ) -> io::Result<TcpListener> {
     TcpListener::bind(rt, SocketAddr::from((Ipv4Addr::LOCALHOST, port)))
 }
 
-fn tell(rt: &impl Eprint, fault: ServeFault) -> ExitCode {
+pub(crate) fn tell(rt: &impl Eprint, fault: ServeFault) -> ExitCode {
     match fault {
         ServeFault::Start => fail(rt, "cannot start"),
         ServeFault::Stream(name) => fail_about(rt, "stream ", name.as_str(), " failed"),

@@ -28,10 +28,15 @@ fn plan_text(alloc: Global, planned: &Plan) -> Result<String, Fail> {
             settings,
             sessions,
             port,
+            stay,
             streams,
         } => {
             let mut text = settings_text(alloc, settings)?;
-            write!(text, ", {sessions} sessions at {port}:")?;
+            write!(text, ", {sessions} sessions at {port}")?;
+            if let Some(connections) = stay {
+                write!(text, " for {connections} connections")?;
+            }
+            write!(text, ":")?;
             for (name, path) in streams {
                 write!(text, " {}={path}", name.as_str())?;
             }

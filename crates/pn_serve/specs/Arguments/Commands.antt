@@ -20,6 +20,20 @@ number_in text =
 abbrev pub number_at : Text → ℕ → List Row → ℕ
 number_at name most options = max 1 (min (unwrap_or (option_and_then number_in (one_of name options)) 1) most)
 
+-- the count that decimal digits write, in 32 bits
+abbrev pub count_in : Text → Option ℕ
+count_in text =
+    if is_unsigned_in 0 4294967295 text then Some (digits_value 10 (without_leading_plus text)) else None
+
+-- the count of an option, from 1 to `most`, as `clap` ensures
+abbrev pub count_at : Text → ℕ → List Row → ℕ
+count_at name most options = max 1 (min (unwrap_or (option_and_then count_in (one_of name options)) 1) most)
+
+-- the connections of a server that stays
+abbrev pub stay_in : List Row → Option ℕ
+stay_in options =
+    if bytes_eq (unwrap_or (first_of (codes "stay") options) []) (codes "true") then Some (count_at (codes "connections") 65536 options) else None
+
 -- the layout and the workers that options say
 abbrev pub settings_in : List Row → Result SettingsValue PlanFault
 settings_in options = do
@@ -31,7 +45,7 @@ abbrev pub serve_in : List Row → Result PlanValue PlanFault
 serve_in options = do
   settings ← settings_in options
   streams ← streams_in (unwrap_or (all_of (codes "streams") options) [])
-  Ok (serve settings (number_at (codes "sessions") 16 options) (number_at (codes "port") 65535 options) streams)
+  Ok (serve settings (number_at (codes "sessions") 16 options) (number_at (codes "port") 65535 options) (stay_in options) streams)
 
 -- what the options of `replay` say
 abbrev pub replay_in : List Row → Result PlanValue PlanFault

@@ -1,7 +1,7 @@
 -- The commands of the program and their options, as `clap` reads arguments by them.
 use Rattle.std.specs.Prelude.{ℕ, [], ◌∷◌, true, codes, Some, pos}
 use Rattle.clap.specs.Words.{App, Rule, Text, new_app, new_rule, with_rule, with_subcommand}
-use Rattle.clap.specs.declared.builder.action.ArgAction.TheVariants.{Append}
+use Rattle.clap.specs.declared.builder.action.ArgAction.TheVariants.{Append, SetTrue}
 use Rattle.clap.specs.declared.builder.value_parser.ValueParser.TheVariants as values
 
 -- an option with one value, and its default
@@ -28,6 +28,14 @@ sessions_option = number_option (codes "sessions") (codes "4") 16
 abbrev pub port_option : Rule
 port_option = number_option (codes "port") (codes "7070") 65535
 
+-- whether the program goes on until a signal ends it
+abbrev pub stay_flag : Rule
+stay_flag = record (new_rule (codes "stay")) { long = Some (codes "stay"); action = Some SetTrue }
+
+-- how many connections are served at once
+abbrev pub connections_option : Rule
+connections_option = number_option (codes "connections") (codes "1024") 65536
+
 -- at least one stream, one argument each
 abbrev pub streams_words : Rule
 streams_words = record (new_rule (codes "streams")) { value_names = 1; action = Some Append; required = true }
@@ -38,7 +46,8 @@ replay = with_rule (with_rule (new_app (codes "replay")) bounds_option) workers_
 
 -- streams are read while sessions are served
 abbrev pub serve : App
-serve = with_rule (with_rule (with_rule (with_rule (with_rule (new_app (codes "serve")) bounds_option) workers_option) sessions_option) port_option) streams_words
+serve =
+    with_rule (with_rule (with_rule (with_rule (with_rule (with_rule (with_rule (new_app (codes "serve")) bounds_option) workers_option) sessions_option) port_option) stay_flag) connections_option) streams_words
 
 -- the program, which needs a command
 abbrev pub named : App

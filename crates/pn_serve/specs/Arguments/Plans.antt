@@ -43,5 +43,5 @@ Answers kind (Err found) = ⊥
 
 -- a plan to serve has 1 to 16 sessions
 abbrev pub HasSessions : Plan → Type 0
-HasSessions (plan.Serve settings sessions port streams) = (1 ≤ sessions) × (sessions ≤ max_readers)
+HasSessions (plan.Serve settings sessions port stay streams) = (1 ≤ sessions) × (sessions ≤ max_readers)
 HasSessions planned = ⊤

@@ -1,9 +1,10 @@
 -- All rounds of a live region that reads streams.
-use Rattle.std.specs.Prelude.{◌≡◌, ◌⊎◌, ℕ, ◌+◌, ◌≤◌, List, [], ◌∷◌, Result, Ok, Err}
+use Rattle.std.specs.Prelude.{◌≡◌, ◌⊎◌, ℕ, ◌+◌, ◌≤◌, List, [], ◌∷◌, None, Result, Ok, Err}
+use Rattle.pn_stream.specs.Batches.{Stream}
 use Rattle.pn_live.specs.LiveRegions.{LiveRegionValue}
 use Rattle.pn_serve.specs.Server.Rounds.{GatheredValue, IsSmall, TakesGathered}
 use Rattle.pn_serve.specs.declared.server.fault.ServeFault.{ServeFault}
-use Rattle.pn_serve.specs.declared.server.fault.ServeFault.TheVariants.{Round}
+use Rattle.pn_serve.specs.declared.server.fault.ServeFault.TheVariants.{Start, Round}
 
 -- what was gathered from at most so many streams was taken, round by round
 abbrev pub AllTaken : ℕ → LiveRegionValue → List GatheredValue → LiveRegionValue → Type 0
@@ -38,3 +39,12 @@ pub record ReadUpTo (streams : ℕ) (old new : LiveRegionValue) (fault : ServeFa
 abbrev pub ReadsStreams : {T : Type 0} → ℕ → LiveRegionValue → LiveRegionValue → Result T ServeFault → Type 0
 ReadsStreams streams old new (Ok done) = ReadToEnds streams old new
 ReadsStreams streams old new (Err fault) = ReadUpTo streams old new fault
+
+-- all streams were read that are opened again, or a fault came; none was read if their threads were refused
+abbrev pub ReadsFeeds : ℕ → LiveRegionValue → LiveRegionValue → Result (Unit {0}) ServeFault → Type 0
+ReadsFeeds streams old new (Err Start) = new ≡ old
+ReadsFeeds streams old new read = ReadsStreams streams old new read
+
+-- the stream begins with its first message
+abbrev pub IsAnew : {S : Type 0} → Stream S → Type 0
+IsAnew stream = (stream.position ≡ 0) × (stream.part ≡ []) × (stream.fault ≡ None)

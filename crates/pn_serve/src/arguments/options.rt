@@ -4,8 +4,8 @@ ghost use Rattle.std.specs.Prelude.{◌≡◌, ◌≤◌, [], false, unwrap_or, 
 ghost use Rattle.clap.specs.Words.{app_of, first_of, found_of, rows_of, rule_of};
 ghost use Rattle.clap.specs.declared.builder.command.Command.TheViews.{out-Command};
 ghost use Rattle.clap.specs.declared.builder.value_parser.ValueParser.TheVariants as values;
-ghost use Rattle.pn_serve.specs.Arguments.Options.{bounds_option, port_option, program, replay as replay_app, serve as serve_app, sessions_option, streams_words, workers_option};
-ghost use Rattle.pn_serve.specs.Arguments.Commands.{number_at};
+ghost use Rattle.pn_serve.specs.Arguments.Options.{bounds_option, connections_option, port_option, program, replay as replay_app, serve as serve_app, sessions_option, stay_flag, streams_words, workers_option};
+ghost use Rattle.pn_serve.specs.Arguments.Commands.{count_at, number_at};
 
 use clap::builder::ValueParser;
 use clap::{Arg, ArgAction, ArgMatches, Command, value_parser};
@@ -44,6 +44,8 @@ fn serve<'w>(alloc: Global) -> Result<Command<'w>, AllocError>
         .arg(workers(alloc))?
         .arg(sessions(alloc))?
         .arg(port(alloc))?
+        .arg(stay(alloc))?
+        .arg(connections(alloc))?
         .arg(streams(alloc))
 }
 
@@ -96,6 +98,28 @@ fn port<'w>(alloc: Global) -> Arg<'w>
         .help("The port that is listened on")
 }
 
+fn stay<'w>(alloc: Global) -> Arg<'w>
+    ensures rule { rule_of result ≡ stay_flag }
+    ensures local { result.global ≡ false }
+{
+    Arg::new(alloc, "stay")
+        .long("stay")
+        .action(ArgAction::SetTrue)
+        .help("Goes on until a signal ends it, and opens a FIFO again once its writer is gone")
+}
+
+fn connections<'w>(alloc: Global) -> Arg<'w>
+    ensures rule { rule_of result ≡ connections_option }
+    ensures local { result.global ≡ false }
+{
+    Arg::new(alloc, "connections")
+        .long("connections")
+        .value_name("N")
+        .default_value("1024")
+        .value_parser(one_to_65_536())
+        .help("With --stay: how many connections are served at once: 1 to 65536")
+}
+
 fn streams<'w>(alloc: Global) -> Arg<'w>
     ensures rule { rule_of result ≡ streams_words }
     ensures local { result.global ≡ false }
@@ -119,12 +143,26 @@ fn one_to_65_535<'w>() -> ValueParser<'w>
     value_parser!(u16).range(1..=65_535)
 }
 
+fn one_to_65_536<'w>() -> ValueParser<'w>
+    ensures { result ≡ values.Signed (pos 1) (pos 65536) }
+{
+    value_parser!(u32).range(1..=65_536)
+}
+
 /// The number of an option, from 1 to the most that `clap` lets through.
 pub(crate) fn option_number(options: &ArgMatches<'_>, name: &str, most: u16) -> u16
     requires { 1 ≤ most }
     ensures { result ≡ number_at name.now most (rows_of (found_of options.now)) }
 {
     options.get_one::<u16>(name).unwrap_or(1).clamp(1, most)
+}
+
+/// The count of an option, from 1 to the most that `clap` lets through.
+pub(crate) fn option_count(options: &ArgMatches<'_>, name: &str, most: u32) -> u32
+    requires { 1 ≤ most }
+    ensures { result ≡ count_at name.now most (rows_of (found_of options.now)) }
+{
+    options.get_one::<u32>(name).unwrap_or(1).clamp(1, most)
 }
 
 /// The text of an option; it is empty where there is none.

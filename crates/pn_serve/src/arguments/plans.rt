@@ -20,6 +20,8 @@ pub enum Plan {
         sessions: usize,
         /// 1 to 65,535.
         port: u16,
+        /// With `--stay`, how many connections are served at once: 1 to 65,536.
+        stay: Option<u32>,
         /// The names of 1 to 16 streams, each once, with the paths of their files.
         streams: Vec<(Name, String)>,
     },

@@ -10,7 +10,7 @@ use pn_protocol::Reply;
 use std::alloc::Global;
 
 /// Answers lines one after another.
-pub(crate) trait LineHandler {
+pub trait LineHandler {
     ghost use Rattle.pn_protocol.specs.declared.reply.Reply.{Reply};
 
     // What its types need.

@@ -13,6 +13,8 @@ ghost use Rattle.pn_protocol.specs.Prelude.{lines_data, reply_text, is_refusal};
 ghost use Rattle.pn_serve.specs.Script.Written.{one_if};
 ghost use Rattle.pn_serve.specs.Session.Knowing.{KnowsNoLess};
 
+mod parts;
+
 use crate::machine::line_handler::LineHandler;
 use crate::script::MAX_LINES;
 use crate::script::blocks::Blocks;
@@ -25,7 +27,7 @@ use std::marker::Model;
 
 /// The state of a line loop between two lines.
 #[derive(Drop)]
-pub(crate) struct LineLoop {
+pub struct LineLoop {
     alloc: Global,
     line: LineBuffer,
     blocks: Blocks,
@@ -60,7 +62,7 @@ pub(crate) enum Next {
 
 impl LineLoop {
     /// A loop that has answered no line.
-    pub(crate) fn new(alloc: Global) -> Result<LineLoop, NoMemory>
+    pub fn new(alloc: Global) -> Result<LineLoop, NoMemory>
         ensures { IfOk result (λ run. run ≡ new_loop) }
     {
         Ok(LineLoop {
@@ -124,8 +126,8 @@ impl LineLoop {
         }
     }
 
-    // Answers the line that was read, and counts it.
-    fn answer_line<M: LineHandler, W: Sink>(
+    /// Answers the line that was read, and counts it.
+    pub fn answer_line<M: LineHandler, W: Sink>(
         &mut self,
         machine: &mut M,
         output: &mut W,
@@ -143,8 +145,8 @@ impl LineLoop {
         push_reply(&reply, &mut self.blocks, output)
     }
 
-    // Answers the end of the input after the part of a line that was read. All lines and refusals are counted.
-    fn close<M: LineHandler, W: Sink>(
+    /// Answers the end of the input after the part of a line that was read. All lines and refusals are counted.
+    pub fn close<M: LineHandler, W: Sink>(
         &mut self,
         machine: &mut M,
         output: &mut W,

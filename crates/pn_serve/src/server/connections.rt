@@ -18,7 +18,7 @@ const SESSION_ROOM: usize = 65_536;
 
 /// Promises that the reader comes back: it reads the same tablets.
 #[derive(Drop)]
-pub(crate) struct ComesBack(Snapshot<LiveReader>);
+pub struct ComesBack(pub Snapshot<LiveReader>);
 
 impl Promise<LiveReader> for ComesBack {
     ghost use Rattle.std.specs.Prelude.{◌≡◌};
@@ -28,7 +28,7 @@ impl Promise<LiveReader> for ComesBack {
 }
 
 /// A session that runs.
-pub(crate) type Running = PromisedHandle<LiveReader, ComesBack>;
+pub type Running = PromisedHandle<LiveReader, ComesBack>;
 
 /// The sessions that run, and whether one was refused.
 #[derive(Drop)]
@@ -105,7 +105,7 @@ fn answer_client(alloc: Global, listener: &TcpListener, reader: &mut LiveReader)
 }
 
 /// Waits for the sessions, and takes their readers back.
-pub(crate) fn end_sessions<R: Threads>(
+pub fn end_sessions<R: Threads>(
     rt: &R,
     live: &LiveRegion,
     running: Vec<Running>,

@@ -49,7 +49,7 @@ pub(crate) struct Place {
 #[derive(Drop)]
 pub(crate) struct Feeds {
     pub(crate) places: Vec<Place>,
-    bell: Arc<Bell>,
+    pub(crate) bell: Arc<Bell>,
 }
 
 impl Feeds {

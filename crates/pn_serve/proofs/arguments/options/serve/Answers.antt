@@ -11,7 +11,9 @@ returns-clause-app c =
     let two = c.in_ok-arg-2.ensures.shape c.workers.ensures.local ∙ ap₂ with_rule one c.workers.ensures.rule in
     let three = c.in_ok-arg-3.ensures.shape c.sessions.ensures.local ∙ ap₂ with_rule two c.sessions.ensures.rule in
     let four = c.in_ok-arg-4.ensures.shape c.port.ensures.local ∙ ap₂ with_rule three c.port.ensures.rule in
-    IfOk-weaker c.arg-5.result _ _ (λ r adds. adds.shape c.streams.ensures.local ∙ ap₂ with_rule four c.streams.ensures.rule) c.arg-5.ensures
+    let five = c.in_ok-arg-5.ensures.shape c.stay.ensures.local ∙ ap₂ with_rule four c.stay.ensures.rule in
+    let six = c.in_ok-arg-6.ensures.shape c.connections.ensures.local ∙ ap₂ with_rule five c.connections.ensures.rule in
+    IfOk-weaker c.arg-7.result _ _ (λ r adds. adds.shape c.streams.ensures.local ∙ ap₂ with_rule six c.streams.ensures.rule) c.arg-7.ensures
 
 neither : (a b : Bool) → a ≡ false → b ≡ false → (a || b) ≡ false
 neither a b one other = ap₂ (λ (x y : Bool). x || y) one other
@@ -23,4 +25,6 @@ returns-clause-local c =
     let two = c.in_ok-arg-2.ensures.globals ∙ neither _ _ one c.workers.ensures.local in
     let three = c.in_ok-arg-3.ensures.globals ∙ neither _ _ two c.sessions.ensures.local in
     let four = c.in_ok-arg-4.ensures.globals ∙ neither _ _ three c.port.ensures.local in
-    IfOk-weaker c.arg-5.result _ _ (λ r adds. adds.globals ∙ neither _ _ four c.streams.ensures.local) c.arg-5.ensures
+    let five = c.in_ok-arg-5.ensures.globals ∙ neither _ _ four c.stay.ensures.local in
+    let six = c.in_ok-arg-6.ensures.globals ∙ neither _ _ five c.connections.ensures.local in
+    IfOk-weaker c.arg-7.result _ _ (λ r adds. adds.globals ∙ neither _ _ six c.streams.ensures.local) c.arg-7.ensures

@@ -1,0 +1,33 @@
+-- What an answering connection keeps between two pieces of its input.
+use Rattle.std.specs.Prelude.{◌≡◌, ◌≤◌, ◌⊎◌, ℕ, false, min, length, List, [], ◌++◌, Option, None, Some}
+use Rattle.pn_line.specs.Line.{LineBufferValue, so_far, max_kept, max_line_bytes}
+use Rattle.pn_serve.specs.declared.script.Counts.{Counts}
+use Rattle.pn_serve.specs.Lines.States.{LineLoopValue}
+
+-- the line that is being read, the input that is read after it, the replies that its socket has not taken, and the counts
+pub record KeptValue : Type 0 where
+  pub line : LineBufferValue
+  pub held : List ℕ
+  pub waits : List ℕ
+  pub counts : Counts
+
+-- what a new connection keeps
+abbrev pub nothing_kept : KeptValue
+nothing_kept = record { line = so_far []; held = []; waits = []; counts = record { lines = 0; refused = 0 } }
+
+-- the line loop of a session that is between two lines, with these replies and counts
+abbrev pub loop_of : KeptValue → LineLoopValue
+loop_of kept = record { line = so_far []; waits = kept.waits; more = false; counts = kept.counts }
+
+-- the line that is being read, or none
+abbrev pub line_in : Option LineBufferValue → LineBufferValue
+line_in None = so_far []
+line_in (Some line) = line
+
+-- the same input: as it was, or with the line's bytes before the input that is held, where the line is not too long
+abbrev pub SameInput : LineBufferValue → List ℕ → LineBufferValue → List ℕ → Type 0
+SameInput line held new_line new_held = ((new_line ≡ line) × (new_held ≡ held)) ⊎ ((line.count ≤ max_line_bytes) × (new_line ≡ so_far []) × (new_held ≡ line.bytes ++ held))
+
+-- as much is kept of a line as there is room for
+abbrev pub IsLine : LineBufferValue → Type 0
+IsLine line = length line.bytes ≡ min line.count max_kept

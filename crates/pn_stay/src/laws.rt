@@ -1,0 +1,58 @@
+//! What a whole connection comes to, however its input comes and its replies are taken.
+
+ghost use Rattle.std.specs.Prelude.{◌≡◌, ℕ, List, [], Some, IfOk, IfSome, map};
+ghost use Rattle.std.specs.Io.KnownBytes.{prepend_known};
+ghost use Rattle.pn_serve.specs.Lines.Ends.{EndsBy};
+ghost use Rattle.pn_stay.specs.Told.{bytes_of, begin_with};
+
+use crate::connection::{Connection, Turned};
+use crate::desk::Desk;
+use crate::pieces::{Pieces, Takes};
+use pn_join::NoMemory;
+use pn_line::Sink;
+use pn_serve::{Counts, LineHandler, RunFault};
+use std::alloc::Global;
+use std::io::Read;
+
+/// Answers a connection that has its handler alone, until it ends or so many turns are over. It ends as a session
+/// of its whole input ends. None where the turns were over.
+pub fn answer_in_turns<M: LineHandler, R: Read, W: Sink>(
+    alloc: Global,
+    machine: &mut M,
+    input: &mut R,
+    output: &mut W,
+    turns: u32,
+) -> Result<Option<Result<Counts, RunFault>>, NoMemory>
+    requires ready { M.ready }
+    ensures ends { IfOk result (λ answered. IfSome answered (λ ended. (held : List ℕ) × EndsBy M.makes M.ends
+        (begin_with machine.old (R.remaining input.old) (W.contents output.old)) (prepend_known held (R.remaining input.new)) (W.contents output.new) machine.new ended)) }
+{
+    let mut desk = Desk::new(alloc)?;
+    let mut connection = Connection::new(alloc);
+    'turns: for _turn in 0..turns {
+        match connection.turn(&mut desk, machine, input, output) {
+            Turned::Goes(next, _) => connection = next,
+            Turned::Ended(ended) => return Ok(Some(ended)),
+        }
+    }
+    Ok(None)
+}
+
+/// For every list of pieces, with waits among them, and every list of what a sink takes, with waits among them: a
+/// connection that ends leaves what a session of all the bytes leaves.
+pub fn every_way_of_coming_and_going<M: LineHandler>(
+    alloc: Global,
+    machine: &mut M,
+    pieces: &[Vec<u8>],
+    takes: &[usize],
+    turns: u32,
+) -> Result<(Option<Result<Counts, RunFault>>, Vec<u8>), NoMemory>
+    requires ready { M.ready }
+    ensures ends { IfOk result (λ answered. IfSome answered.0 (λ ended. (rest : List ℕ) × EndsBy M.makes M.ends
+        (begin_with machine.old (Some (bytes_of (map (λ piece. piece.items) pieces.now))) (Some [])) (Some rest) (Some answered.1.items) machine.new ended)) }
+{
+    let mut input = Pieces::new(pieces);
+    let mut output = Takes::new(alloc, takes);
+    let ended = answer_in_turns(alloc, machine, &mut input, &mut output, turns)?;
+    Ok((ended, output.into_taken()))
+}

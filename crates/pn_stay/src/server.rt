@@ -1,0 +1,113 @@
+//! A server that stays: threads answer its connections while its live region reads streams.
+
+ghost use Rattle.std.specs.Prelude.{◌≡◌, ◌+◌, ◌≤◌, vec_len, vec_capacity, All, IfOk};
+ghost use Rattle.pn_live.specs.Prelude.{max_readers, tablets_in, tablets_of, IsNewLive};
+ghost use Rattle.pn_serve.specs.Server.Reading.{ReadsFeeds};
+ghost use Rattle.pn_serve.specs.Server.Sessions.{AllRead};
+
+mod sessions;
+
+use crate::server::sessions::begin;
+use pn_line::Source;
+use pn_live::{LiveReader, LiveRegion};
+use pn_serve::{
+    Feed, Origin, Running, ServeFault, Settings, close, end_sessions, open, read_feeds,
+};
+use std::alloc::Global;
+use std::marker::Model;
+use std::net::{Net, TcpListener};
+use std::sync::Wait;
+use std::thread::Threads;
+use std::time::Clock;
+
+/// A live region and the threads that answer connections from it.
+pub struct StayingServer {
+    live: LiveRegion,
+    workers: usize,
+    running: Vec<Running>,
+    // The room for the readers that come back.
+    readers: Vec<LiveReader>,
+}
+
+impl Model for StayingServer {
+    ghost use Rattle.std.specs.Prelude.{◌≡◌, ◌+◌, ◌≤◌, vec_len, vec_capacity, All};
+    ghost use Rattle.pn_apply.specs.Prelude.{max_workers};
+    ghost use Rattle.pn_live.specs.LiveRegions.{LiveRegionValue};
+    ghost use Rattle.pn_live.specs.Prelude.{tablets_in, tablets_of};
+    ghost use Rattle.pn_serve.specs.Server.Sessions.{AllRead};
+
+    ghost Value = { LiveRegionValue };
+
+    ghost use Rattle.pn_live.specs.Proofs.Coding.{live_code};
+
+    ghost coded = { live_code };
+
+    ghost view = { λ server. server.live };
+
+    ghost invariant = { λ server. (1 ≤ server.workers) × (server.workers ≤ max_workers)
+        × All (λ session. tablets_of session.promise.0.value ≡ tablets_in server.live) server.running.items
+        × AllRead (tablets_in server.live) server.readers.items
+        × (vec_len server.running + vec_len server.readers ≤ vec_capacity server.readers) };
+}
+
+impl StayingServer {
+    /// Opens a new live region, and begins to accept connections, so many at once. They are answered by 1 to 16 threads.
+    pub fn start<R>(
+        rt: &R,
+        alloc: Global,
+        listener: TcpListener,
+        settings: Settings,
+        sessions: usize,
+        connections: usize,
+    ) -> Result<StayingServer, ServeFault>
+    where
+        R: Threads + Wait + Net + Clock + Sync + Copy + Send + 'static,
+        requires { (1 ≤ sessions) × (sessions ≤ max_readers) }
+        ensures { IfOk result (λ server. IsNewLive settings.layout server) }
+    {
+        let (layout, workers) = settings.into_parts();
+        let (live, readers) = open(rt, alloc, layout, sessions)?;
+        let mut readers = readers;
+        match begin(rt, alloc, listener, connections, &live, &mut readers) {
+            Ok(running) => Ok(StayingServer {
+                live,
+                workers,
+                running,
+                readers,
+            }),
+            Err(_) => {
+                let _ = close(rt, live, readers);
+                Err(ServeFault::Start)
+            }
+        }
+    }
+
+    /// Reads streams until all have ended. Connections are answered meanwhile, and after a fault too.
+    pub fn read_feeds<R, S, O>(
+        &mut self,
+        rt: &R,
+        alloc: Global,
+        feeds: Vec<Feed<S, O>>,
+    ) -> Result<(), ServeFault>
+    where
+        R: Threads + Wait + Sync + Copy + Send + 'static,
+        S: Source + Drop + Send + 'static,
+        O: Origin<S> + Drop + Send + 'static,
+        ensures { ReadsFeeds (vec_len feeds) self.old self.new result }
+    {
+        read_feeds(rt, alloc, &mut self.live, self.workers, feeds)
+    }
+
+    /// Waits for the threads, which end where the system tells nothing more of sockets, and closes the region.
+    pub fn wait<R: Threads + Wait>(self, rt: &R) {
+        let StayingServer {
+            live,
+            workers: _,
+            running,
+            readers,
+        } = self;
+        let mut readers = readers;
+        end_sessions(rt, &live, running, &mut readers);
+        let _ = close(rt, live, readers);
+    }
+}

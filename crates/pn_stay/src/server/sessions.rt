@@ -1,0 +1,151 @@
+//! The session threads of a server that stays, and the thread that accepts their connections.
+
+ghost use Rattle.std.specs.Prelude.{◌≡◌, ◌+◌, ◌≤◌, vec_len, vec_capacity, All, IfOk};
+ghost use Rattle.pn_live.specs.Prelude.{tablets_in, tablets_of};
+ghost use Rattle.pn_serve.specs.Server.Sessions.{AllRead};
+ghost use Rattle.pn_serve.specs.Session.Knowing.{KnowsNoLess};
+
+use crate::accepting::accept_all;
+use crate::event_loop::{EventLoop, INBOX};
+use crate::gate::Gate;
+use crate::inbox::Inbox;
+use mio::{Poll, Waker};
+use pn_live::{LiveReader, LiveRegion};
+use pn_serve::{ComesBack, Running};
+use std::alloc::Global;
+use std::net::{Net, TcpListener};
+use std::snapshot::Snapshot;
+use std::sync::{Arc, Wait};
+use std::thread::Threads;
+use std::time::Clock;
+use std::{io, thread};
+
+/// Starts a thread for each reader, and one that accepts connections, so many at once.
+pub(super) fn begin<R>(
+    rt: &R,
+    alloc: Global,
+    listener: TcpListener,
+    connections: usize,
+    live: &LiveRegion,
+    readers: &mut Vec<LiveReader>,
+) -> io::Result<Vec<Running>>
+where
+    R: Threads + Wait + Net + Clock + Copy + Send + 'static,
+    requires { AllRead (tablets_in live.now) readers.old.items }
+    ensures running { IfOk result (λ running. All (λ session. tablets_of session.promise.0.value ≡ tablets_in live.now) running.items) }
+    ensures readers { AllRead (tablets_in live.now) readers.new.items }
+    ensures room { IfOk result (λ running. vec_len running + vec_len readers.new ≤ vec_capacity readers.new) }
+{
+    let gate = Arc::new(alloc, Gate::new(connections))?;
+    let mut inboxes = Vec::new(alloc);
+    let running = begin_sessions(rt, alloc, &gate, &mut inboxes, live, readers)?;
+    let host = *rt;
+    thread::spawn(rt, move || {
+        accept_all(&host, &listener, &gate, &inboxes)
+    })?;
+    Ok(running)
+}
+
+// Starts a thread for each reader, until one is refused. Its reader is dropped.
+fn begin_sessions<R>(
+    rt: &R,
+    alloc: Global,
+    gate: &Arc<Gate>,
+    inboxes: &mut Vec<Arc<Inbox>>,
+    live: &LiveRegion,
+    readers: &mut Vec<LiveReader>,
+) -> io::Result<Vec<Running>>
+where
+    R: Threads + Wait + Net + Copy + Send + 'static,
+    requires { AllRead (tablets_in live.now) readers.old.items }
+    ensures running { IfOk result (λ running. All (λ session. tablets_of session.promise.0.value ≡ tablets_in live.now) running.items) }
+    ensures readers { AllRead (tablets_in live.now) readers.new.items }
+    ensures room { IfOk result (λ running. vec_len running + vec_len readers.new ≤ vec_capacity readers.new) }
+{
+    let mut running = Vec::with_capacity(alloc, readers.len())?;
+    while let Some(reader) = readers.pop() {
+        let session = begin_session(rt, alloc, gate, inboxes, reader)?;
+        running.push_reserved(session);
+    }
+    Ok(running)
+}
+
+// Starts the thread of a reader, and adds its inbox.
+fn begin_session<R>(
+    rt: &R,
+    alloc: Global,
+    gate: &Arc<Gate>,
+    inboxes: &mut Vec<Arc<Inbox>>,
+    reader: LiveReader,
+) -> io::Result<Running>
+where
+    R: Threads + Wait + Net + Copy + Send + 'static,
+    ensures { IfOk result (λ session. tablets_of session.promise.0.value ≡ tablets_of reader) }
+{
+    let poll = Poll::new(rt)?;
+    let inbox = new_inbox(alloc, &poll, gate)?;
+    inboxes.push(Arc::try_clone(&inbox)?)?;
+    let session = Session {
+        alloc,
+        poll,
+        inbox,
+        reader,
+    };
+    begin_thread(rt, session)
+}
+
+// An inbox that wakes who waits at the poll.
+fn new_inbox(alloc: Global, poll: &Poll, gate: &Arc<Gate>) -> io::Result<Arc<Inbox>> {
+    let waker = Waker::new(poll.registry(), INBOX)?;
+    let gate = Arc::try_clone(gate)?;
+    Ok(Arc::new(alloc, Inbox::new(alloc, waker, gate))?)
+}
+
+// What a session thread begins with.
+#[derive(Drop)]
+struct Session {
+    alloc: Global,
+    poll: Poll,
+    inbox: Arc<Inbox>,
+    reader: LiveReader,
+}
+
+// Starts the thread of a session.
+fn begin_thread<R>(rt: &R, session: Session) -> io::Result<Running>
+where
+    R: Threads + Wait + Copy + Send + 'static,
+    ensures { IfOk result (λ running. tablets_of running.promise.0.value ≡ tablets_of session.reader) }
+{
+    let host = *rt;
+    let promise = ComesBack(Snapshot::of(&session.reader));
+    Ok(thread::spawn_with(rt, promise, move || { answer_all(&host, session) })?)
+}
+
+// Answers connections, and gives the reader back. After a fault its inbox takes no sockets.
+fn answer_all<R: Wait>(rt: &R, session: Session) -> LiveReader
+    ensures tablets { tablets_of result ≡ tablets_of session.reader }
+    ensures knows { KnowsNoLess session.reader result }
+{
+    let Session {
+        alloc,
+        poll,
+        inbox,
+        reader,
+    } = session;
+    let mut reader = reader;
+    let _ = run(rt, alloc, poll, &inbox, &mut reader);
+    let _ = inbox.close(rt);
+    reader
+}
+
+fn run<R: Wait>(
+    rt: &R,
+    alloc: Global,
+    poll: Poll,
+    inbox: &Inbox,
+    reader: &mut LiveReader,
+) -> io::Result<()>
+    ensures { KnowsNoLess reader.old reader.new }
+{
+    EventLoop::new(alloc, poll)?.run(rt, inbox, reader)
+}
