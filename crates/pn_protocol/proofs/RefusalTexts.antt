@@ -13,7 +13,6 @@ use Rattle.pn_tablet.specs.declared.fault.CopyFault.{CopyFault}
 use Rattle.pn_tablet.specs.declared.fault.CopyFault.TheVariants as copy
 use Rattle.pn_tablet.specs.declared.fault.OpFault.{OpFault as AdoptFault}
 use Rattle.pn_tablet.specs.declared.fault.OpFault.TheVariants as adoption
-use Rattle.pn_protocol.specs.declared.refusal.Refusal.TheVariants.{Memory}
 use Rattle.pn_protocol.specs.declared.reply.Reply.{Reply}
 use Rattle.pn_protocol.specs.Reply.Refusals.{Tells, RefusesBy}
 
