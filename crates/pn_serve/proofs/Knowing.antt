@@ -4,16 +4,14 @@ use Rattle.std.specs.Prelude.{Result, Ok, Err}
 use Rattle.pn_tablet.specs.Layouts.{tablet_of}
 use Rattle.pn_scan.specs.Candidates.{Look}
 use Rattle.pn_scan.specs.Views.{Looks}
-use Rattle.pn_live.specs.Laws.{AllKnowMore}
-use Rattle.pn_live.specs.Readers.{LiveReaderValue, LooksLive, tablets_of}
+use Rattle.pn_live.specs.Readers.{LiveReaderValue, LooksLive}
 use Rattle.pn_live.proofs.Knowing.{all_know_themselves, all_know_on, looks_know, looks_same}
 use Rattle.pn_protocol.specs.declared.refusal.Refusal.{Refusal}
 use Rattle.pn_protocol.specs.declared.reply.Reply.{Reply}
 use Rattle.pn_protocol.specs.Command.Lines.{lookup_at}
 use Rattle.pn_protocol.specs.Command.Meaning.{CommandValue, adopt, copy, deliver, get, lose, marks, notices, read, scan, tablets}
 use Rattle.pn_serve.specs.Session.Knowing.{KnowsNoLess}
-use Rattle.pn_serve.specs.Session.Lines.{LooksUp, Tells, AnswersLine, EndsLines}
-use Rattle.pn_serve.specs.Session.Lookups.{LooksUpKey, LooksUpKeys, LooksUpPage, LooksUpCopy}
+use Rattle.pn_serve.specs.Session.Lines.{LooksUp, Tells, AnswersLine}
 
 pub knows_itself : (reader : LiveReaderValue) → KnowsNoLess reader reader
 knows_itself reader = record { tablets = refl; known = all_know_themselves reader.tablet_readers }

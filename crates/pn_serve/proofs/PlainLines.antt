@@ -27,8 +27,8 @@ use Rattle.pn_serve.specs.Machine.Recovering.{at_tablet, showing_copy, copying}
 use Rattle.pn_serve.specs.Machine.LastTurns.{last_of, end_in, end_turn}
 use Rattle.pn_serve.specs.Machine.Turns.{turn_of, outcome_at, turn_in, turn}
 use Rattle.pn_serve.specs.Script.Events.{unless_refused, some_tablet, half_happened, happened_by, happened_in, happened_from}
-use Rattle.pn_serve.specs.Script.Happened.{happened, happened_last, happened_after, happened_at_end, happened_since}
-use Rattle.pn_serve.specs.Script.Inputs.{InputEnd, Input, line_at_end, all_lines, ended, after_input}
+use Rattle.pn_serve.specs.Script.Happened.{happened, happened_last, happened_after, happened_at_end}
+use Rattle.pn_serve.specs.Script.Inputs.{InputEnd, Input, line_at_end, all_lines, ended}
 use Rattle.pn_serve.specs.Script.Losses.{KeepsTablets, NoLosses}
 use Rattle.pn_serve.specs.Script.Taken.{taken, NothingLost, Waits}
 use Rattle.pn_serve.specs.Script.Written.{first_outcome, later_outcomes, machine_after}

@@ -1,5 +1,5 @@
 -- Rounds of what was gathered, one after another.
-use Rattle.std.proofs.Common.{◌≡◌, ◌⊎◌, ℕ, ◌+◌, ◌-◌, ◌≤◌, List, [], ◌∷◌, ◌++◌, Option, None, Some, IfSome, IfOk, IfErr, OnOk, OnErr, inl, inr, refl, sym, ap, ◌∙◌, subst, arith}
+use Rattle.std.proofs.Common.{◌≡◌, ◌⊎◌, ℕ, ◌+◌, ◌≤◌, List, [], ◌∷◌, ◌++◌, Option, None, Some, IfSome, IfErr, OnOk, OnErr, inl, inr, refl, sym, subst, arith}
 use Rattle.std.specs.Prelude.{Result, Ok, Err, IsErrAnd, MatchResult}
 use Rattle.std.specs.List.{Contains}
 use Rattle.std.proofs.lemmas.Result.{err_from_is_err_and}
@@ -10,7 +10,7 @@ use Rattle.pn_region.specs.Rounds.{round}
 use Rattle.pn_region.specs.declared.fault.RoundFault.{RoundFault}
 use Rattle.pn_live.specs.LiveRegions.{LiveRegionValue, core, LeavesLive}
 use Rattle.pn_serve.specs.Server.Faults.{IsOfRounds}
-use Rattle.pn_serve.specs.Server.Reading.{AllTaken, ends_of, ReadToEnds, ReadUpTo, ReadsStreams, StopsAt}
+use Rattle.pn_serve.specs.Server.Reading.{AllTaken, ends_of, ReadToEnds, ReadUpTo, ReadsStreams}
 use Rattle.pn_serve.specs.Server.Rounds.{GatheredValue, IsSmall, IsRoundTaken, IsRoundRefused, TakesGathered}
 use Rattle.pn_serve.specs.declared.server.fault.ServeFault.{ServeFault}
 use Rattle.pn_serve.specs.declared.server.fault.ServeFault.TheVariants.{Start, Stream, Round, Close, Write}

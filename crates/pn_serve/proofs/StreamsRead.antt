@@ -1,12 +1,12 @@
 -- What was read of a stream, one report after another.
-use Rattle.std.proofs.Common.{◌≡◌, Bool, true, false, map, ℕ, ◌+◌, ◌≤◌, List, [], ◌∷◌, ◌++◌, length, Option, None, Some, IfSome, inl, inr, refl, sym, ap, ◌∙◌, subst, arith, length-append, append-nil}
+use Rattle.std.proofs.Common.{◌≡◌, true, false, map, ℕ, ◌+◌, ◌≤◌, List, [], ◌∷◌, ◌++◌, length, Option, None, Some, IfSome, inl, inr, refl, sym, ap, ◌∙◌, subst, arith, length-append}
 use Rattle.std.specs.Prelude.{Result, Ok, Err, IsErr, IfOk, OnOk, OnErr, MatchResult}
 use Rattle.std.specs.List.{Contains}
 use Rattle.std.proofs.lemmas.List.Elements.{Contains-append_right, Contains-append_left, Contains-push}
 use Rattle.pn_join.specs.Marks.{Positions, position_of}
 use Rattle.pn_record.specs.declared.image.Image.{Image}
 use Rattle.pn_stream.specs.Batches.{Stream, Batch, SoFar}
-use Rattle.pn_stream.specs.Streams.{Run, NoLine}
+use Rattle.pn_stream.specs.Streams.{Run}
 use Rattle.pn_stream.specs.declared.fault.StreamFault.{StreamFault}
 use Rattle.pn_stream.proofs.Runs.{Run-append, SoFar-none, on_rest}
 use Rattle.pn_serve.specs.declared.server.messages.Messages.{Messages}

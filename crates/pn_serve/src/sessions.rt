@@ -42,7 +42,6 @@ pub fn session<S: Source, W: Sink>(
 }
 
 impl LineHandler for LiveReader {
-    ghost use Rattle.pn_serve.specs.Lines.Waiting.{HandsOn, looks_of_input};
     ghost use Rattle.pn_serve.specs.Session.Knowing.{KnowsNoLess};
     ghost use Rattle.pn_serve.specs.Session.Lines.{AnswersLine, EndsLines};
     ghost use Rattle.std.specs.Prelude.{⊤};

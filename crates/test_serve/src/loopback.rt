@@ -14,7 +14,7 @@ use std::thread::Threads;
 use std::{io, str, thread};
 
 /// The message at position 1, and the one at 2.
-pub(crate) const FIRST: &str =
+const FIRST: &str =
     "{\"at\":1,\"image\":{\"fields\":{\"v\":\"x\"},\"key\":\"k\",\"master\":\"w\",\"version\":[1,0]}}\n";
 
 const SECOND: &str =
@@ -115,8 +115,7 @@ where
     outcome(alloc, ended, &written, told)
 }
 
-/// One stream of these messages.
-pub(crate) fn streams(
+fn streams(
     alloc: Global,
     messages: &'static str,
 ) -> Result<Vec<StreamReader<InMemory<'static>>>, Fail> {

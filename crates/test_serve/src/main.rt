@@ -5,14 +5,12 @@
 #![tactic(auto)]
 
 mod loopback;
-mod many_lines;
 mod plans;
 mod scripts;
 mod sessions;
 mod talk;
 
 use loopback::served;
-use many_lines::answered_of;
 use plans::{plan_reply, says};
 use scripts::{blocks, ran, writes};
 use sessions::answered;
@@ -43,7 +41,6 @@ where
         Some(("run", how)) => ran(rt, alloc, how),
         Some(("blocks", lines)) => blocks(rt, alloc, lines),
         Some(("session", lines)) => answered(rt, alloc, lines),
-        Some(("serve", "lines")) => answered_of(rt, alloc),
         Some(("serve", position)) => served(rt, alloc, position),
         _ => writes(alloc),
     }

@@ -1,5 +1,5 @@
 -- Where a line loop stops before the end of its script: a fault, or too many lines.
-use Rattle.std.specs.Prelude.{◌≡◌, ◌≢◌, ◌⊎◌, ℕ, ◌+◌, List, [], ◌++◌, Option, Some}
+use Rattle.std.specs.Prelude.{◌≡◌, ◌≢◌, ◌⊎◌, ℕ, List, [], ◌++◌, Option, Some}
 use Rattle.std.specs.Io.KnownBytes.{Appends}
 use Rattle.pn_line.specs.LinesRead.{PartRead}
 use Rattle.pn_line.specs.Sent.{AppendsPrefix}

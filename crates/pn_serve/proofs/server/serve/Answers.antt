@@ -1,9 +1,8 @@
 -- What is written is the number of the readers that came back.
-use Rattle.std.proofs.Common.{◌≡◌, ℕ, Err}
+use Rattle.std.proofs.Common.{◌≡◌, Err}
 use Rattle.std.specs.Io.KnownBytes.{Appends}
 use Rattle.pn_line.specs.Sent.{AppendsPrefix}
 use Rattle.pn_protocol.specs.Reply.Short.{served_line}
-use Rattle.pn_serve.specs.declared.server.fault.ServeFault.{ServeFault}
 use Rattle.pn_serve.specs.declared.server.fault.ServeFault.TheVariants.{Write}
 use Rattle.pn_serve.proofs.ServedStreams.{serving_ends, of_sessions, of_sessions_in_part, err_first, ok_err_first}
 use Rattle.pn_serve.proofs.server.serve.Goals as goal

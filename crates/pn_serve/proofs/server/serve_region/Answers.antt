@@ -1,5 +1,5 @@
 -- What was read is what the closed region took.
-use Rattle.std.proofs.Common.{◌≡◌, subst}
+use Rattle.std.proofs.Common.{subst}
 use Rattle.pn_live.specs.LiveRegions.{IsNewLive}
 use Rattle.pn_serve.specs.Settings.{SettingsValue}
 use Rattle.pn_serve.proofs.ServedStreams.{not_opened, region_ends, no_write, all_back}

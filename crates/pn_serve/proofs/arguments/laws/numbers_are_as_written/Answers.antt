@@ -1,5 +1,5 @@
 -- What is written is what the clamp leaves.
-use Rattle.std.proofs.Common.{◌≡◌, ℕ, List, Option, None, Some, ap, arith, ◌∙◌}
+use Rattle.std.proofs.Common.{ℕ, List, Option, ap, arith, ◌∙◌}
 use Rattle.std.specs.Prelude.{option_and_then, unwrap_or}
 use Rattle.pn_serve.specs.Arguments.Commands.{number_in}
 use Rattle.pn_serve.proofs.arguments.laws.numbers_are_as_written.Goals as goal

@@ -1,8 +1,8 @@
 -- Each mailbox was asked once.
-use Rattle.std.proofs.Common.{◌≡◌, ◌<◌, List, map, ℕ, ◌∷◌, [], ◌++◌, Option, length, IfSome, refl, sym, ap, ◌∙◌, subst, arith}
+use Rattle.std.proofs.Common.{◌<◌, List, map, ℕ, ◌∷◌, [], ◌++◌, Option, length, IfSome, refl, sym, ap, ◌∙◌, subst, arith}
 use Rattle.std.specs.List.{Contains}
 use Rattle.std.proofs.lemmas.List.Elements.{All-nil, All-same}
-use Rattle.pn_serve.specs.Server.Gathering.{Note, value_of, nothing_gathered, with_report}
+use Rattle.pn_serve.specs.Server.Gathering.{value_of, nothing_gathered, with_report}
 use Rattle.pn_serve.specs.Server.Messages.{FitRound}
 use Rattle.pn_serve.specs.Server.Rounds.{GatheredValue}
 use Rattle.pn_serve.specs.declared.server.streams.Place.{Place}

@@ -1,5 +1,5 @@
 -- What the mailboxes so far gave.
-use Rattle.std.proofs.Common.{◌≡◌, ℕ, ◌≤◌, List, map, take, vec_len, vec_capacity, All, IfSome}
+use Rattle.std.proofs.Common.{◌≡◌, ◌≤◌, List, map, take, vec_len, vec_capacity, All, IfSome}
 use Rattle.std.specs.List.{Contains}
 use Rattle.pn_serve.specs.Server.Gathering.{Note, value_of, nothing_gathered, with_notes}
 use Rattle.pn_serve.specs.Server.Messages.{FitRound}

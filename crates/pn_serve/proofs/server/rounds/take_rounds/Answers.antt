@@ -1,5 +1,5 @@
 -- Each round goes on from those before it.
-use Rattle.std.proofs.Common.{◌≡◌, ℕ, List, map, refl, sym, ◌∙◌, subst, arith}
+use Rattle.std.proofs.Common.{ℕ, map, refl, sym, ◌∙◌, subst, arith}
 use Rattle.std.specs.Prelude.{vec_len}
 use Rattle.pn_serve.specs.Server.Faults.{IsOfRounds}
 use Rattle.pn_serve.specs.Server.Gathering.{value_of}

@@ -1,8 +1,7 @@
 -- A thread's fault names its stream.
-use Rattle.std.proofs.Common.{◌≡◌, List, [], ◌∷◌, ◌++◌, map, sym, ap, ◌∙◌, subst, append_assoc, All, Ok}
+use Rattle.std.proofs.Common.{[], ◌∷◌, ◌++◌, map, sym, ap, ◌∙◌, subst, append_assoc, All, Ok}
 use Rattle.std.specs.Vec.Iter.{into_iter_items}
 use Rattle.std.proofs.lemmas.List.Elements.{All-push}
-use Rattle.pn_stream.specs.Batches.{Stream}
 use Rattle.pn_serve.specs.Server.Faults.{NamesOne, names_of}
 use Rattle.pn_serve.specs.Server.Whole.{IsTakenWhole}
 use Rattle.pn_serve.proofs.Gatherings.{map_push}

@@ -1,5 +1,5 @@
 -- After the last line that may be answered, where no reply waits.
-use Rattle.std.proofs.Common.{◌≡◌, Bool, ℕ, List, [], Ok, ap, refl, sym, subst}
+use Rattle.std.proofs.Common.{Bool, Ok, ap, sym, subst}
 use Rattle.pn_serve.specs.Lines.Served.{Served}
 use Rattle.pn_serve.proofs.HandedOn.{hands_on_unless_written}
 use Rattle.pn_serve.proofs.Knowing.{knows_itself}

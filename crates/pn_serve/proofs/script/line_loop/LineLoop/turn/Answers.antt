@@ -1,5 +1,5 @@
 -- Each line goes on from those answered before.
-use Rattle.std.proofs.Common.{ℕ, Ok, refl, sym, subst, ap, arith}
+use Rattle.std.proofs.Common.{Ok, refl, sym, subst, ap, arith}
 use Rattle.pn_line.specs.Line.{LineBufferValue}
 use Rattle.pn_line.specs.declared.reading.LineEnd.{LineEnd}
 use Rattle.pn_serve.specs.Lines.Served.{Served}
