@@ -85,13 +85,14 @@ where
     let poll = Poll::new(rt)?;
     let inbox = new_inbox(alloc, &poll, gate)?;
     inboxes.push(Arc::try_clone(&inbox)?)?;
+    let promise = ComesBack(Snapshot::of(&reader));
     let session = Session {
         alloc,
         poll,
         inbox,
         reader,
     };
-    begin_thread(rt, session)
+    begin_thread(rt, promise, session)
 }
 
 // An inbox that wakes who waits at the poll.
@@ -110,15 +111,37 @@ struct Session {
     reader: LiveReader,
 }
 
+/// What goes to a session thread. Its type is a parameter where the thread starts, so that its bound says that it may.
+trait SessionThread {
+    ghost use Rattle.std.specs.Prelude.{◌≡◌};
+    ghost use Rattle.pn_live.specs.Prelude.{LiveReaderValue, tablets_of};
+
+    // The reader that it begins with.
+    ghost reader: { Self → LiveReaderValue };
+
+    // Answers connections, and gives the reader back.
+    fn answer_all<R: Wait>(self, rt: &R) -> LiveReader
+        ensures { tablets_of result ≡ tablets_of (reader self) };
+}
+
+impl SessionThread for Session {
+    ghost reader = { λ session. session.reader };
+
+    fn answer_all<R: Wait>(self, rt: &R) -> LiveReader {
+        answer_all(rt, self)
+    }
+}
+
 // Starts the thread of a session.
-fn begin_thread<R>(rt: &R, session: Session) -> io::Result<Running>
+fn begin_thread<R, S>(rt: &R, promise: ComesBack, session: S) -> io::Result<Running>
 where
     R: Threads + Wait + Copy + Send + 'static,
-    ensures { IfOk result (λ running. tablets_of running.promise.0.value ≡ tablets_of session.reader) }
+    S: SessionThread + Drop + Send + 'static,
+    requires { tablets_of (S.reader session) ≡ tablets_of promise.0.value }
+    ensures { IfOk result (λ running. running.promise ≡ promise) }
 {
     let host = *rt;
-    let promise = ComesBack(Snapshot::of(&session.reader));
-    Ok(thread::spawn_with(rt, promise, move || { answer_all(&host, session) })?)
+    Ok(thread::spawn_with(rt, promise, move || { session.answer_all(&host) })?)
 }
 
 // Answers connections, and gives the reader back. After a fault its inbox takes no sockets.
