@@ -111,7 +111,12 @@ class Staying:
     def descriptors_at_rest(self) -> int:
         """How many it has once there are no more and no fewer for a second."""
         seen: list[int] = []
-        until("its descriptors stay", lambda: not seen.append(self.descriptors()) and len(seen) > 100 and len(set(seen[-100:])) == 1)
+
+        def is_at_rest() -> bool:
+            seen.append(self.descriptors())
+            return len(seen) > 100 and len(set(seen[-100:])) == 1
+
+        until("its descriptors stay", is_at_rest)
         return seen[-1]
 
 

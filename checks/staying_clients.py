@@ -7,7 +7,7 @@ import socket
 import statistics
 import struct
 import time
-from collections.abc import Callable
+from collections.abc import Callable, Iterator
 
 from served import SECONDS, Client, row_of, same, written
 from staying import CHUNK, KEYS, PAGE, Beside, Staying, Swarm, feed, key_of, messages, until
@@ -28,7 +28,7 @@ def fed(room: str) -> str:
 
 
 def check_idle(program: str, room: str) -> None:
-    """10,000 idle connections, most of which asked or sent half a line, beside 256 busy ones: they cost little, and are answered."""
+    """10,000 idle connections, of which some asked or sent half a line, beside 256 busy ones: they cost little, and still ask."""
     path = fed(room)
     with contextlib.ExitStack() as stay:
         stay.enter_context(Beside(feed, path, 2_000))
@@ -122,9 +122,9 @@ def check_last_line(program: str, room: str) -> None:
     """A connection has a million lines, as a session has; its client begins another."""
     east = written(room, "east", b"")
     with Staying(program, room, [("east", east)]) as region:
-        with Beside(flood, region.port, b"{}\n", 1_000_200), Client(region.port) as client:
-            same("the first reply of another connection", client.read("k"), {"row": None})
+        with Client(region.port) as client:
             flood(lambda: False, region.port, b"{}\n", 1_000_200)
+            same("the first reply of another connection", client.read("k"), {"row": None})
         with Client(region.port) as client:
             same("the first reply of the next one", client.read("k"), {"row": None})
 
@@ -191,30 +191,45 @@ def reset(is_over: Callable[[], bool], port: int) -> None:
         time.sleep(0.002)
 
 
-def last_of_hundred(swarm: Swarm, seconds: float) -> float:
-    """The 99th percentile of the time of a reply, in milliseconds."""
-    swarm.took.clear()
-    swarm.run_for(seconds)
-    return statistics.quantiles(swarm.took, n=100)[98] * 1e3
+def last_of_hundred(swarm: Swarm) -> float:
+    """The 99th percentile of the time of a reply, in milliseconds: the least of three."""
+    found = []
+    for _ in range(3):
+        swarm.took.clear()
+        swarm.run_for(2)
+        found.append(statistics.quantiles(swarm.took, n=100)[98] * 1e3)
+    return min(found)
+
+
+@contextlib.contextmanager
+def misbehaving(port: int) -> Iterator[None]:
+    """All clients that misbehave, at once."""
+    with contextlib.ExitStack() as stay:
+        for work in [never_read, send_half_lines, reset]:
+            stay.enter_context(Beside(work, port))
+        for _ in range(FLOODING):
+            stay.enter_context(Beside(flood, port, b'{"do":"read","key":"k000"}\n'))
+        yield
 
 
 def check_misbehaving(program: str, room: str) -> None:
-    """Clients that never read, never end a line, reset or flood: honest ones are answered as before, and memory stays small."""
-    east = written(room, "east", messages(1, 1_000, "x" * 20))
-    lines = b'{"do":"read","key":"k000"}\n'
-    with Staying(program, room, [("east", east)]) as region, Swarm(region.port, 16) as swarm, contextlib.ExitStack() as stay:
-        last_of_hundred(swarm, 1)
-        alone, before = [last_of_hundred(swarm, 2) for _ in range(3)], region.memory()
-        for work in [never_read, send_half_lines, reset]:
-            stay.enter_context(Beside(work, region.port))
-        for _ in range(FLOODING):
-            stay.enter_context(Beside(flood, region.port, lines))
-        beside = [last_of_hundred(swarm, 2) for _ in range(3)]
-        grown = region.memory() - before
+    """Clients that never read, never end a line, reset or flood: honest ones are answered as before, and memory stays small.
+
+    As a control they ask another region first, which takes the machine's processors as much.
+    """
+    streams = [("east", written(room, "east", messages(1, 1_000, "x" * 20)))]
+    with Staying(program, room, streams) as region, Staying(program, room, streams) as other, Swarm(region.port, 16) as swarm:
+        alone = last_of_hundred(swarm)
+        with misbehaving(other.port):
+            elsewhere = last_of_hundred(swarm)
+        before = region.memory()
+        with misbehaving(region.port):
+            beside, grown = last_of_hundred(swarm), region.memory() - before
         most = NEVER_READING * WAITING_KB + HALF_LINES // 10 * WAITING_KB + LEAK_KB
-        print(f"  the 99th percentile of honest ones: {min(beside):.2f} ms, alone {min(alone):.2f} ms; {grown:,} KB more memory")
+        print(f"  the 99th percentile of honest ones: {beside:.2f} ms; {alone:.2f} alone, {elsewhere:.2f} beside another region")
+        print(f"  the others cost {grown:,} KB")
         same(f"{grown} KB more are at most {most}", grown <= most, True)
-        same(f"{min(beside):.2f} ms are at most {SLOWER} times {min(alone):.2f}", min(beside) <= SLOWER * min(alone), True)
+        same(f"{beside:.2f} ms are at most {SLOWER} times as long", beside <= SLOWER * max(alone, elsewhere), True)
 
 
 def check_silent(program: str, room: str) -> None:
