@@ -134,7 +134,7 @@ def flood(is_over: Callable[[], bool], port: int, line: bytes, most: int = 0) ->
     with socket.create_connection(("127.0.0.1", port), timeout=SECONDS) as connection:
         connection.setblocking(False)
         lines, left, replies, sent = line * 1_000, memoryview(b""), 0, 0
-        while not is_over():
+        while most or not is_over():
             with contextlib.suppress(BlockingIOError, BrokenPipeError, ConnectionResetError):
                 if not left and (not most or sent < most):
                     left, sent = memoryview(lines), sent + 1_000
