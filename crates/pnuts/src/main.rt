@@ -5,7 +5,7 @@ mod served;
 mod staying;
 
 use crate::served::serve_streams;
-use crate::staying::stay_with;
+use crate::staying::{Begun, begin_to_stay, go_on};
 use pn_serve::{Plan, PlanFault, RunFault, Settings, plan, run_to_exit};
 use std::alloc::Global;
 use std::env::Env;
@@ -35,7 +35,16 @@ fn main(rt: HostRuntime) -> ExitCode {
                 streams,
             },
         ) => match stay {
-            Some(connections) => stay_with(&rt, settings, sessions, port, connections, streams),
+            Some(connections) => {
+                match begin_to_stay(&rt, settings, sessions, port, connections, streams) {
+                    Ok(Begun { server, feeds }) => {
+                        let mut server = server;
+                        let read = server.read_feeds(&rt, rt.alloc(), feeds);
+                        go_on(&rt, server, read)
+                    }
+                    Err(status) => status,
+                }
+            }
             None => serve_streams(&rt, settings, sessions, port, streams),
         },
         Ok(Plan::Help(text)) => show(&rt, text.as_str()),

@@ -7,7 +7,7 @@ ghost use Rattle.pn_serve.specs.Server.Reading.{IsAnew};
 use crate::served::{STREAM_ROOM, Unopened, listen, tell, tell_unopened};
 use crate::{fail, fail_about};
 use pn_join::{Dup, Name};
-use pn_serve::{Feed, Origin, Settings};
+use pn_serve::{Feed, Origin, ServeFault, Settings};
 use pn_stay::StayingServer;
 use pn_stream::StreamReader;
 use std::alloc::Global;
@@ -25,15 +25,21 @@ use std::time::Clock;
 // The file of a stream, and its messages.
 type Stream = StreamReader<BufReader<File>>;
 
-/// Opens the streams, listens, and serves until a signal ends the program.
-pub(crate) fn stay_with<R>(
+/// A server that listens, and the streams that it is to read.
+pub(crate) struct Begun<R: Files<File = File> + Eprint + Drop> {
+    pub(crate) server: StayingServer,
+    pub(crate) feeds: Vec<FileFeed<R>>,
+}
+
+/// Opens the streams, listens, and begins to answer. Else it tells why not.
+pub(crate) fn begin_to_stay<R>(
     rt: &R,
     settings: Settings,
     sessions: usize,
     port: u16,
     connections: u32,
     streams: Vec<(Name, String)>,
-) -> ExitCode
+) -> Result<Begun<R>, ExitCode>
 where
     R: AllocGlobal
         + Files<File = File>
@@ -51,15 +57,15 @@ where
 {
     let feeds = match opened(rt, rt.alloc(), streams) {
         Ok(feeds) => feeds,
-        Err(unopened) => return tell_unopened(rt, unopened),
+        Err(unopened) => return Err(tell_unopened(rt, unopened)),
     };
     let Ok(listener) = listen(rt, port) else {
-        return fail(rt, "cannot listen");
+        return Err(fail(rt, "cannot listen"));
     };
     if println!(rt; "listening on 127.0.0.1:{port}").is_err() {
-        return fail(rt, "write");
+        return Err(fail(rt, "write"));
     }
-    let mut server = match StayingServer::start(
+    match StayingServer::start(
         rt,
         rt.alloc(),
         listener,
@@ -67,10 +73,18 @@ where
         sessions,
         connections as usize,
     ) {
-        Ok(server) => server,
-        Err(fault) => return tell(rt, fault),
-    };
-    if let Err(fault) = server.read_feeds(rt, rt.alloc(), feeds) {
+        Ok(server) => Ok(Begun { server, feeds }),
+        Err(fault) => Err(tell(rt, fault)),
+    }
+}
+
+/// Tells of a fault of the reading, and answers until a signal ends the program.
+pub(crate) fn go_on<R: Threads + Wait + Eprint>(
+    rt: &R,
+    server: StayingServer,
+    read: Result<(), ServeFault>,
+) -> ExitCode {
+    if let Err(fault) = read {
         let _ = tell(rt, fault);
     }
     server.wait(rt);
@@ -79,7 +93,7 @@ where
 
 // The path of a stream's file, and whether it is a FIFO.
 #[derive(Drop)]
-struct FileOrigin<R> {
+pub(crate) struct FileOrigin<R> {
     rt: R,
     alloc: Global,
     name: Name,
@@ -122,7 +136,7 @@ where
     }
 }
 
-type FileFeed<R> = Feed<BufReader<File>, FileOrigin<R>>;
+pub(crate) type FileFeed<R> = Feed<BufReader<File>, FileOrigin<R>>;
 
 // Opens the files of the streams in their order.
 fn opened<R: Files<File = File> + Eprint + Copy + Drop>(
