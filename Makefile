@@ -101,18 +101,7 @@ bench-beside: build
 # of its allocations in turn, and all memory; lets each of its reads and writes fail; cuts and damages what it is given; and compares
 # its replies to random scripts with those of a plain, slow program, and what it reads with what serde_json reads.
 checks: $(PROGRAM) $(SCRIPTS) $(LIVE)
-	@checks/exit-statuses "$(PROGRAM)"
-	@checks/sessions "$(PROGRAM)"
-	@checks/stay "$(PROGRAM)"
-	@checks/live-copies "$(PROGRAM)"
-	@checks/out-of-memory "$(PROGRAM)" "$(LIVE)"
-	@checks/memory-limit "$(PROGRAM)"
-	@checks/failing-calls "$(PROGRAM)"
-	@checks/damaged-input "$(PROGRAM)"
-	@checks/damaged-streams "$(PROGRAM)"
-	@checks/json-lines "$(PROGRAM)" --lines 100000
-	@checks/abuse "$(PROGRAM)" --seconds $(SOAK)
-	@checks/random-scripts "$(SCRIPTS)" --scripts 3000
+	@checks/all "$(PROGRAM)" "$(SCRIPTS)" "$(LIVE)" --soak $(SOAK)
 
 # Looks for data races by ThreadSanitizer, in builds without proofs.
 races: toolchain
@@ -130,11 +119,11 @@ checks-client: build
 checks-feeds:
 	@feeds/test
 
-# Tests the feeds, and runs both examples with real brokers, a database and proxies. Debian's packages: redis-server python3-redis
-# python3-hiredis rabbitmq-server python3-pika postgresql python3-psycopg2 haproxy openssl iproute2 util-linux.
-# What misses one of them says so, and is skipped.
-checks-brokers: build checks-feeds
-	@for it in postgres regions; do "examples/$$it/demo" --program "$(PROGRAM)" || [[ $$? == 2 ]]; done
+# Tests the feeds, gives 200,000 images through each, and runs both examples with real brokers, a database and proxies. Debian's
+# packages: redis-server python3-redis python3-hiredis rabbitmq-server python3-pika postgresql python3-psycopg2 haproxy openssl
+# iproute2 util-linux. What misses one of them says so, and is skipped.
+checks-brokers: build
+	@checks/brokers "$(PROGRAM)"
 
 # Draws the pictures of docs/pictures. It needs Debian's graphviz and gnuplot-nox.
 pictures:

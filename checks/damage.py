@@ -1,11 +1,9 @@
 """Texts that are cut or damaged in one byte, and what a plain, slow region replies to them."""
-import concurrent.futures
-import os
 from collections.abc import Callable, Iterable, Iterator
 
+from at_once import at_once
 from slow import Region
 
-PROCESSORS = len(os.sched_getaffinity(0))
 OTHER_BYTES = {"x": b"x", "a newline": b"\n", "0xff": b"\xff", "nothing": b""}
 
 # A name and a text.
@@ -38,6 +36,5 @@ def slow_replies(script: bytes, bounds: list[str]) -> bytes:
 def first_fault(find_fault: Callable[[bytes], str | None], cases: Iterable[Case]) -> tuple[int, str | None]:
     """How many cases there are, and the first in which something is wrong. Several are tried at a time."""
     cases = list(cases)
-    with concurrent.futures.ThreadPoolExecutor(PROCESSORS) as pool:
-        faults = list(pool.map(find_fault, (text for _, text in cases)))
+    faults = list(at_once(find_fault, (text for _, text in cases)))
     return len(cases), next((f"{name}: {fault}" for (name, _), fault in zip(cases, faults) if fault), None)

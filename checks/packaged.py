@@ -131,6 +131,8 @@ def check_package(system: System, package: Path) -> Iterator[str]:
     process = check_serving(system)
     check_bounds(system, process)
     yield "enabled: it serves what is written into its FIFO, as its own user and without a capability"
+    same("the process that serves another feed and client", check_serving(system), process)
+    yield "its feed and its client ended: it stays for the next ones"
     system.run("systemctl", "kill", "--signal=KILL", "pnuts")
     system.wait_for("1", "systemctl", "show", "pnuts", "--value", "--property=NRestarts")
     process = check_serving(system)

@@ -2,6 +2,7 @@
 import contextlib
 import json
 import os
+import pathlib
 import time
 from collections.abc import Iterator
 
@@ -65,13 +66,14 @@ def load(client: Client, keys: list[str], mark: str) -> bool:
 
 
 class Checked:
-    """Runs a program again and again, and notes the lines on standard error that were met."""
+    """Runs a program again and again, and notes the lines on standard error that were met, each as a file's name."""
 
     def __init__(self, program: str, room: str, parts: dict[str, list[int]]) -> None:
         self.program, self.is_large, self.sessions = program, parts is LARGE, len(parts)
         self.ends = [key_of(max(part)) for part in parts.values()]
         self.streams = [(name, written(room, f"{name}-{len(part)}", messages(part))) for name, part in parts.items()]
-        self.met: set[bytes] = set()
+        self.met = pathlib.Path(room, f"met-{self.sessions}")
+        self.met.mkdir()
 
     def talk(self, clients: list[Client], mark: str) -> Iterator[bool]:
         """What the clients are answered: the first until many records are served, the second after it has gone. For each,
@@ -108,7 +110,7 @@ class Checked:
         is_well = end == (0, b"served %d\n" % self.sessions, b"")
         if is_well and (was_refused or pages == [self.is_large] * self.sessions):
             return None
-        self.met.add(said)
+        (self.met / said.decode().strip()).touch()
         return None if status == 1 and not shown and said in LINES and was_refused else f"{end}, pages {pages}"
 
 
@@ -119,5 +121,6 @@ def check_refused_allocations(program: str, room: str) -> None:
         counts = [refusals.count("serve", checked.fault) for checked in (small, large)]
     except SystemExit as fault:
         raise AssertionError(str(fault)) from fault
-    same("the lines that did not come", LINES - small.met - large.met, set())
+    met = {f"{path.name}\n".encode() for checked in (small, large) for path in checked.met.iterdir()}
+    same("the lines that did not come", LINES - met, set())
     print(f"{counts[0]} and {counts[1]} allocations refused, ", end="")

@@ -55,7 +55,7 @@ class States:
     def after(self, state: str, command: Command) -> tuple[list[str], str]:
         """The replies to a command with its lines, and the region after it."""
         if (state, command) not in self.answered:
-            region = copy.deepcopy(self.regions[state])
+            region = self.regions[state].copied()
             replies = "".join([*map(region.feed, command), region.end()]).splitlines()
             self.answered[state, command] = replies, self.keep(region)
         return self.answered[state, command]

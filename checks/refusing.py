@@ -1,8 +1,10 @@
 """A library that is loaded with a program, and refuses one of its allocations: each in turn, several programs at a time."""
-import concurrent.futures
+import itertools
 import os
 import subprocess
 from collections.abc import Callable
+
+from at_once import at_once
 
 # The allocation of the number REFUSED answers that there is no memory, and leaves a file at REFUSED_MARK. With REFUSED_ON, so do
 # all after it. With REFUSED_IN_THREADS, only those count from where a thread starts until more input is read.
@@ -84,10 +86,8 @@ def environment(library: str, number: int, mark: str, which: dict[str, str]) -> 
 
 # What is wrong in this environment, or None.
 FindFault = Callable[[dict[str, str]], str | None]
-PROCESSORS = len(os.sched_getaffinity(0))
-# So many are tried at a time. Threads take allocations in another order each time, so none of so many has to be there at the end.
-AT_ONCE = 64
-MOST = 1_000_000
+# Threads take allocations in another order each time, so that none of so many in turn has to be there at the end.
+NOT_THERE = 64
 
 
 class Refusals:
@@ -106,19 +106,14 @@ class Refusals:
         return fault, is_met
 
     def count(self, name: str, find_fault: FindFault, which: dict[str, str] = ONE) -> int:
-        """How many allocations were refused, until no run of many met a refusal."""
-        count = 0
-        with concurrent.futures.ThreadPoolExecutor(PROCESSORS) as pool:
-            for first in range(1, MOST, AT_ONCE):
-                numbers = range(first, first + AT_ONCE)
-                ends = list(pool.map(lambda each: self.attempt(each, find_fault, which), numbers))
-                for number, (fault, _) in zip(numbers, ends):
-                    if fault is not None:
-                        raise SystemExit(f"{name}: allocation {number} refused: {fault}")
-                met = sum(is_met for _, is_met in ends)
-                count += met
-                if not met:
-                    break
+        """How many allocations were refused, until of many in turn none was there."""
+        count, last = 0, 0
+        for number, (fault, is_met) in enumerate(at_once(lambda each: self.attempt(each, find_fault, which), itertools.count(1)), 1):
+            if fault is not None:
+                raise SystemExit(f"{name}: allocation {number} refused: {fault}")
+            count, last = count + is_met, number if is_met else last
+            if number - last == NOT_THERE:
+                break
         if not count:
             raise SystemExit(f"{name}: no allocation was refused")
         return count

@@ -1,7 +1,7 @@
 """A program that serves sessions, and clients that talk to it: what the checks and benches of sessions share."""
 import contextlib
-import itertools
 import json
+import multiprocessing
 import os
 import random
 import socket
@@ -12,8 +12,9 @@ from collections.abc import Callable, Sequence
 from typing import IO
 
 SECONDS = 60
-# Below those that the system gives to clients, from any one on.
-PORTS = itertools.islice(itertools.cycle(range(10_000, 32_768)), random.randrange(22_768), None)
+# Below those that the system gives to clients, from any one on. Processes that were forked share the last one.
+PORTS = range(10_000, 32_768)
+LAST_PORT = multiprocessing.Value("i", random.randrange(len(PORTS)))
 # A program that starts holds what other threads have open until it has begun, and so a port that is tried.
 STARTING = threading.Lock()
 
@@ -41,7 +42,10 @@ def row_of(key: str, number: int, text: str) -> Json:
 
 def free_port() -> int:
     """A port that no client is given, and that this process has not used for long."""
-    for port in PORTS:
+    for _ in PORTS:
+        with LAST_PORT.get_lock():
+            LAST_PORT.value += 1
+            port = PORTS[LAST_PORT.value % len(PORTS)]
         with socket.socket() as probe, contextlib.suppress(OSError):
             probe.bind(("127.0.0.1", port))
             return port

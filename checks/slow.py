@@ -2,6 +2,7 @@
 
 docs/formats.md says what it has to reply.
 """
+import copy
 import json
 from collections.abc import Callable
 
@@ -30,6 +31,16 @@ def shortfall(has: Marks, wanted: Marks) -> tuple[str, int, int] | None:
     """The first stream that falls short, with both positions."""
     short = [(name, has.get(name, 0), at) for name, at in sorted(wanted.items()) if has.get(name, 0) < at]
     return short[0] if short else None
+
+
+def record_of(images: list[Json]) -> Record:
+    """The greatest version of images of one key, and the contents that came with it."""
+    version = max(image["version"] for image in images)
+    contents: list[Content] = []
+    for image in images:
+        if image["version"] == version and content_of(image) not in contents:
+            contents.append(content_of(image))
+    return version, sorted(contents)
 
 
 def shown_content(content: Content) -> Json:
@@ -69,21 +80,15 @@ class Tablet:
 
     def records(self) -> dict[str, Record]:
         """Each key with the greatest version that came, and the contents that came with it."""
-        records = {}
-        for key in sorted({image["key"] for image in self.images}):
-            images = [image for image in self.images if image["key"] == key]
-            version = max(image["version"] for image in images)
-            contents = []
-            for image in images:
-                if image["version"] == version and content_of(image) not in contents:
-                    contents.append(content_of(image))
-            records[key] = version, sorted(contents)
-        return records
+        images: dict[str, list[Json]] = {}
+        for image in self.images:
+            images.setdefault(image["key"], []).append(image)
+        return {key: record_of(images[key]) for key in sorted(images)}
 
     def take(self, images: list[Json], marks: Marks) -> list[Change]:
         """Joins the images of its range, and answers which records changed."""
         before = self.records()
-        self.images += [image for image in images if is_in(self.ends, image["key"])]
+        self.images = self.images + [image for image in images if is_in(self.ends, image["key"])]
         self.cover = greater(self.cover, marks)
         after = self.records()
         return [(key, before[key][0] if key in before else None, after[key][0])
@@ -105,6 +110,12 @@ class Region:
         self.marks: Marks = {}
         self.log: list[Change | None] = []
         self.announced, self.text = 0, b""
+
+    def copied(self) -> "Region":
+        """A region that goes on from here by itself. Both share their lists, which are replaced and never changed."""
+        region = copy.copy(self)
+        region.tablets = list(map(copy.copy, self.tablets))
+        return region
 
     def tablet_of(self, key: str) -> int:
         return next(number for number, tablet in enumerate(self.tablets) if is_in(tablet.ends, key))
@@ -132,7 +143,7 @@ class Region:
             raise Refused("too-many-streams")
         changes = [change for tablet in self.tablets for change in tablet.take(images, marks)]
         self.marks = marks
-        self.log += changes
+        self.log = self.log + changes
         return {"changed": len(changes)}
 
     def read(self, key: str, version: list[int] | None = None) -> Json:
@@ -165,8 +176,8 @@ class Region:
 
     def lose(self, number: int) -> Json:
         tablet = self.tablets[number]
-        tablet.images, tablet.need = [], dict(tablet.cover)
-        self.log.append(None)
+        tablet.images, tablet.need = [], tablet.cover
+        self.log = [*self.log, None]
         return {"lost": number}
 
     def copy(self, number: int, need: Marks) -> list[str]:
@@ -187,7 +198,7 @@ class Region:
             raise Refused("too-old", stream=short[0], has=short[1], needs=short[2])
         tablet.take(copy["images"], copy["marks"])
         tablet.need = None
-        self.log.append(None)
+        self.log = [*self.log, None]
         return {"adopted": numbers[0]}
 
     def notices(self, since: int) -> Json:

@@ -250,6 +250,10 @@ class Swarm:
         last = time.monotonic() + seconds
         return self.run(lambda: time.monotonic() > last)
 
+    def newest(self) -> int:
+        """The greatest version that a connection was shown."""
+        return max(number for asker in self.askers.values() for number in asker.shown.values())
+
 
 def watch(is_over: Callable[[], bool], port: int, count: int) -> None:
     """A swarm, as work beside."""

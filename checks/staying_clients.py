@@ -14,6 +14,8 @@ from staying import CHUNK, KEYS, PAGE, Beside, Staying, Swarm, feed, key_of, mes
 
 IDLE, BUSY, TURNS = 10_000, 256, 20_000
 IDLE_KB, LEAK_KB = 4, 1_024
+# How many versions of each key are shown to connections, or more.
+VERSIONS = 20
 NEVER_READING, HALF_LINES, FLOODING = 200, 200, 2
 # What a client that reads nothing may cost: an outbox of 64 KB, and a page.
 WAITING_KB, ROOM_BYTES = 64 + 16, 1 << 14
@@ -93,9 +95,8 @@ def check_versions(program: str, room: str) -> None:
         with Beside(feed, path, 20_000), Staying(program, room, streams, *words, threads=threads) as region:
             with Swarm(region.port, 128, is_one_thread=threads == 1) as swarm:
                 rate = swarm.run_for(4)
-                newest = max(max(asker.shown.values()) for asker in swarm.askers.values())
-            same("messages came meanwhile", newest > 10, True)
-            print(f"  {threads} threads: {rate:,.0f} replies a second, while each key had {newest} versions")
+                until(f"each key has {VERSIONS} versions", lambda: swarm.run_for(1) and swarm.newest() >= VERSIONS)
+            print(f"  {threads} threads: {rate:,.0f} replies a second, while each key had {swarm.newest()} versions")
 
 
 def check_backlog(program: str, room: str) -> None:
@@ -104,7 +105,7 @@ def check_backlog(program: str, room: str) -> None:
     with Staying(program, room, [("east", east)], "--connections", "3") as region:
         first = [Client(region.port) for _ in range(3)]
         for client in first:
-            same("the row of one within the limit", client.read("k000")["row"]["key"], "k000")
+            client.wait_for("k000", row_of("k000", 1, "x"))
         with Client(region.port) as late:
             late.send(PAGE)
             late.socket.settimeout(0.5)
@@ -236,8 +237,8 @@ def check_silent(program: str, room: str) -> None:
     """With --idle, clients that send nothing or half a line, or take nothing, are ended; those that ask or take are not."""
     east = written(room, "east", messages(1, 1_000, "x" * 1_000))
     with Staying(program, room, [("east", east)], "--idle", "1") as region, contextlib.ExitStack() as stay:
+        stay.enter_context(Client(region.port)).wait_for("k000", row_of("k000", 10, "x" * 1_000))
         silent, half, deaf, slow, honest = (stay.enter_context(Client(region.port)) for _ in range(5))
-        same("what the honest one is answered", honest.read("k000")["row"]["key"], "k000")
         half.send(PAGE[:20])
         deaf.socket.setblocking(False)
         with contextlib.suppress(BlockingIOError):

@@ -70,7 +70,12 @@ class Server:
     def end(self) -> None:
         """Kills the node and its port mapper, which outlives it."""
         self.kill()
-        subprocess.run(["epmd", "-kill"], env={**os.environ, **self._mapper}, stdout=subprocess.DEVNULL, check=False)
+        wait_until(self._ends_its_mapper)
+
+    def _ends_its_mapper(self) -> bool:
+        """Ends the port mapper, which refuses that until it has seen that the node is gone."""
+        said = subprocess.run(["epmd", "-kill"], env={**os.environ, **self._mapper}, capture_output=True, check=False).stdout
+        return b"not allowed" not in said
 
     @contextmanager
     def channel(self) -> Iterator[Any]:
