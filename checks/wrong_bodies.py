@@ -128,11 +128,10 @@ def is_at(function: str, place: Place) -> bool:
     """Whether a function that a check names is the one of this place, or a closure in it. A method is named by its type's module."""
     inner = function.partition("::")[2]
     parts = inner.split("::")
-    if place.name not in parts:
-        return False
     if place.owner:
-        return any(place.owner in it for it in parts[:-1])
-    return place.module == "lib" or inner.startswith(place.module + "::")
+        return place.name in parts and any(place.owner in it for it in parts[:-1])
+    below = inner if place.module == "lib" else inner.removeprefix(place.module + "::")
+    return (place.module == "lib" or below != inner) and place.name in below.split("::")
 
 
 def edits_of(crate: str) -> list[Edit]:
