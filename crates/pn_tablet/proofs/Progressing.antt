@@ -1,5 +1,5 @@
 -- How covers and reaches rise.
-use Rattle.std.proofs.Common.{◌≡◌, ℕ, ◌≤◌, true, cond, List, [], ◌∷◌, Option, Some, None, unwrap_or, IsTrue, refl, sym, arith}
+use Rattle.std.proofs.Common.{◌≡◌, ℕ, ◌≤◌, true, false, cond, List, [], ◌∷◌, Option, Some, None, unwrap_or, IsTrue, refl, sym, arith}
 use Rattle.std.proofs.lemmas.Bool.{and_parts}
 use Rattle.std.proofs.lemmas.Bool.Decides.{nat_tests}
 use Rattle.std.specs.FinMap.{find}
@@ -10,7 +10,7 @@ use Rattle.pn_tablet.specs.Laws.{Rise}
 use Rattle.pn_tablet.specs.Tablets.{IsProgress}
 
 -- a position that is there is not 0
-IsSet : Option ℕ → Type 0
+abbrev IsSet : Option ℕ → Type 0
 IsSet None = Unit {0}
 IsSet (Some n) = 1 ≤ n
 

@@ -135,10 +135,10 @@ within_order range cells ends = fewer (λ key. not (is_from range.0 key)) (λ ke
 pub counted_below : (from : List ℕ) (cells : Entries) → count_by (λ entry. is_lt (bytes_cmp entry.0 from)) cells ≡ count_by (λ entry. not (is_from (Some from) entry.0)) cells
 counted_below from cells = λ i. count_by (λ entry. sym (not_not (is_below entry.0 from)) i) cells
 
-none_below : (cells : Entries) → 0 ≡ count_by (λ entry. not (is_from None entry.0)) cells
+pub none_below : (cells : Entries) → 0 ≡ count_by (λ entry. not (is_from None entry.0)) cells
 none_below [] = refl
 none_below (e ∷ es) = none_below es ∙ sym (counted (λ key. not (is_from None key)) e es false refl ∙ zero-add _)
 
-all_before : (cells : Entries) → length cells ≡ count_by (λ entry. is_before None entry.0) cells
+pub all_before : (cells : Entries) → length cells ≡ count_by (λ entry. is_before None entry.0) cells
 all_before [] = refl
 all_before (e ∷ es) = ap suc (all_before es) ∙ sym (counted (λ key. is_before None key) e es true refl ∙ one-add _)
