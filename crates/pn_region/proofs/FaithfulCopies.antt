@@ -35,7 +35,7 @@ was_so true right after is = refl
 was_so false right after is = cc
 
 -- marks that lack nothing of what a tablet needs reach it
-need_reached : (status : Status) (marks : Positions) → lacking status marks ≡ None → Reaches marks (needed status)
+pub need_reached : (status : Status) (marks : Positions) → lacking status marks ≡ None → Reaches marks (needed status)
 need_reached Serving marks none name = omega arith
 need_reached (Recovering need) marks none name = nothing_short marks need none name
 
