@@ -5,7 +5,7 @@ use Rattle.pn_tablet.specs.Laws.{Rise}
 use Rattle.pn_tablet.specs.Steps.{taking}
 use Rattle.pn_tablet.proofs.JoinLaws.{joins_commute, later_join_alone}
 use Rattle.pn_region.specs.Rising.{AllRise}
-use Rattle.pn_region.proofs.Common.{Ok, Err, AllByRecursion, Positions, Image, Entries, table_of, Ends, lie_in, TabletStateValue, after_step, stepped, Join, WrongRange, all_stepped, AreOldOrStepped, images_in, join_in, RegionValue}
+use Rattle.pn_region.proofs.Common.{Ok, Err, AllByRecursion, Positions, raised, Image, Entries, table_of, Ends, lie_in, TabletStateValue, after_step, stepped, Join, WrongRange, all_stepped, AreOldOrStepped, images_in, join_in, RegionValue}
 
 -- the names of its cover rise, and those of its reach
 pub record BothRise (t : TabletStateValue) : Type 0 where

@@ -28,15 +28,15 @@ module _ (sure maybe : List Image) where
     between = record {
       all = λ image there.
           let part = part_at region is (None, None) image.key refl in
-          to_united Between own region.tablets all part.1.n part.0 part.1.there image (λ (one : Between part.0). one.1.0.all image there) part.1.lies;
+          to_united Between own region.tablets all part.1.n part.0 part.1.there image (λ (one : Between part.0). one.1.all image there) part.1.lies;
       no_others = λ image there.
           let of = from_united Between own region.tablets all image there in
-          of.is.1.0.no_others image of.there;
+          of.is.1.no_others image of.there;
     }
 
     made_between : (rs : List Ends) → AllHoldBetween sure maybe rs (map (made_of region.tablets) rs)
     made_between [] = tt
-    made_between (r ∷ rs) = ((all_own, between, united_cells Between own region all is (λ t one. one.1.1) r), made_between rs)
+    made_between (r ∷ rs) = ((all_own, between, united_cells Between own region all is (λ t one. one.2) r), made_between rs)
 
 pub relaid_between : (region : RegionValue) (bounds : Bounds) (sure maybe : List Image) → IsRegion region → HasBetween sure maybe region → HasBetween sure maybe (relaid region bounds)
 relaid_between region bounds sure maybe is has =
