@@ -10,12 +10,11 @@ use Rattle.pn_region.specs.Events.{RegionEvent, round, half_round, loss, adoptio
 use Rattle.pn_region.specs.Honest.{IsHonestCopy}
 use Rattle.pn_region.specs.Relayouts.{made_of}
 use Rattle.pn_region.specs.Taken.{taken_by, all_taken, left_by, all_left}
-use Rattle.pn_region.proofs.Common.{MatchResult, AllByRecursion, Positions, Reaches, Image, table_of, BrokerRecord, up_to, AreHonest, DeliveryValue, TabletCopyValue, lacking, Ends, in_range, lost, after_step, stepped, TabletStateValue, same_range, WrongRange, Short, Lose, Adopt, Serving, all_stepped, AreOldOrStepped, all_images, images_in, join_in, ranges, AreIn, new_marks, stepped_at, RegionValue, IsTabletOf, AreTabletsOf, IsRegion, joins, AllServe}
+use Rattle.pn_region.proofs.Common.{MatchResult, AllByRecursion, Positions, Image, table_of, BrokerRecord, up_to, AreHonest, DeliveryValue, TabletCopyValue, lacking, Ends, in_range, lost, after_step, stepped, TabletStateValue, same_range, WrongRange, Short, Lose, Adopt, Serving, all_stepped, AreOldOrStepped, all_images, images_in, join_in, ranges, AreIn, new_marks, stepped_at, RegionValue, IsTabletOf, AreTabletsOf, IsRegion, joins, AllServe}
 use Rattle.pn_region.proofs.Apart.{Outside, Apart, ranges_apart}
 use Rattle.pn_region.proofs.EventSteps.{adopts, takes, event_is}
 use Rattle.pn_region.proofs.InRange.{from_images_in}
 use Rattle.pn_region.proofs.OneTablet.{found_at, found_within}
-use Rattle.pn_region.proofs.PartMarks.{reaches_reach}
 use Rattle.pn_region.proofs.Relaying.{relays}
 use Rattle.pn_region.proofs.RoundSteps.{is_taken}
 

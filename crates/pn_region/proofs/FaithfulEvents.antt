@@ -1,5 +1,5 @@
 -- Honest events keep tablets faithful.
-use Rattle.std.proofs.Common.{◌≡◌, ℕ, zero, suc, List, [], ◌∷◌, map, slice_get, Some, Ok, Err, refl, sym, ◌∙◌, subst, inl, Contains}
+use Rattle.std.proofs.Common.{◌≡◌, ℕ, zero, suc, List, [], ◌∷◌, map, slice_get, Some, Ok, Err, refl, sym, ◌∙◌, subst, inl}
 use Rattle.pn_region.specs.Events.{RegionEvent, round, half_round, loss, adoption, relayout, LeadsTo, AllLeadTo, IsHonestEvent, AreHonestEvents}
 use Rattle.pn_region.specs.Honest.{IsHonestCopy}
 use Rattle.pn_region.specs.Relayouts.{made_of, parts_of}

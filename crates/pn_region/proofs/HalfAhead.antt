@@ -1,5 +1,5 @@
 -- Tablets of which some took a join that the others lack, and what further joins make of both.
-use Rattle.std.proofs.Common.{◌≡◌, Bool, true, false, cond, if◌then◌else◌, List, [], ◌∷◌, map, refl, sym, ap, ◌∙◌, subst, ◌⊎◌, inl, inr}
+use Rattle.std.proofs.Common.{◌≡◌, Bool, true, false, if◌then◌else◌, List, [], ◌∷◌, map, refl, sym, ap, ◌∙◌, subst, ◌⊎◌, inl, inr}
 use Rattle.pn_join.proofs.MarksFacts.{is_sorted-raised}
 use Rattle.pn_tablet.specs.Laws.{Rise}
 use Rattle.pn_tablet.specs.Steps.{taking}

@@ -1,5 +1,5 @@
 -- Tablets that hold what was taken.
-use Rattle.std.proofs.Common.{◌≡◌, true, List, [], ◌∷◌, ◌++◌, None, refl, sym, ap, ◌∙◌, subst, ◌⊎◌, inl, inr, Contains}
+use Rattle.std.proofs.Common.{◌≡◌, true, List, [], ◌∷◌, ◌++◌, None, sym, ap, ◌∙◌, subst, ◌⊎◌, inl, inr, Contains}
 use Rattle.std.proofs.lemmas.List.Elements.{Contains-append_left, Contains-append_right}
 use Rattle.pn_record.specs.CellMap.{adds}
 use Rattle.pn_record.proofs.CellMaps.{table_of-nil}

@@ -1,8 +1,8 @@
 -- A change of layout leaves the images that tablets have between the sure ones and others.
-use Rattle.std.proofs.Common.{◌≡◌, List, [], ◌∷◌, map, None, refl, sym, subst, Contains}
+use Rattle.std.proofs.Common.{List, [], ◌∷◌, map, None, refl, sym, subst}
 use Rattle.pn_region.specs.Laws.{IsBetween, HoldsBetween, AllHoldBetween}
 use Rattle.pn_region.specs.Relayouts.{made_of, relaid}
-use Rattle.pn_region.proofs.Common.{AllByRecursion, Positions, Image, table_of, Bounds, Ends, TabletStateValue, images_in, ranges, HasBetween, RegionValue, AreTabletsOf, IsRegion}
+use Rattle.pn_region.proofs.Common.{AllByRecursion, Positions, Image, Bounds, Ends, TabletStateValue, ranges, HasBetween, RegionValue, AreTabletsOf, IsRegion}
 use Rattle.pn_region.proofs.Relaying.{part_at}
 use Rattle.pn_region.proofs.United.{united, from_united, to_united, united_cells}
 

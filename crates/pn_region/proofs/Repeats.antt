@@ -1,14 +1,13 @@
 -- A round that ran out of memory, and its repeat.
 use Rattle.std.proofs.Common.{◌≡◌, List, [], ◌∷◌, map, Ok, Err, refl, sym, ap, ◌∙◌, subst}
 use Rattle.std.specs.Result.{result_map_both}
-use Rattle.pn_join.proofs.MarksFacts.{is_sorted-raised, raised-repeats}
+use Rattle.pn_join.proofs.MarksFacts.{raised-repeats}
 use Rattle.pn_tablet.specs.Laws.{Rise}
-use Rattle.pn_tablet.specs.Steps.{taking}
 use Rattle.pn_region.specs.Events.{RegionEvent, round, half_round, loss, adoption, relayout, LeadsTo, AllLeadTo}
 use Rattle.pn_region.specs.Rising.{AllRise}
 use Rattle.pn_region.specs.Rounds as rounds
 use Rattle.pn_region.specs.Taken.{IsRound, AreRounds}
-use Rattle.pn_region.proofs.Common.{Result, MatchResult, Positions, raised, Image, Bounds, DeliveryValue, TabletStateValue, AreOldOrStepped, all_images, join_in, ranges, new_marks, RegionValue, IsHalfTaken, RoundFault}
+use Rattle.pn_region.proofs.Common.{Result, MatchResult, Positions, Image, Bounds, DeliveryValue, TabletStateValue, AreOldOrStepped, all_images, join_in, ranges, new_marks, RegionValue, IsHalfTaken, RoundFault}
 use Rattle.pn_region.proofs.EventSteps.{takes}
 use Rattle.pn_region.proofs.HalfAhead.{tablets_rise, all_rise, all_joins_rise, half_joins_rise, all_on, half_on, made_up}
 use Rattle.pn_region.proofs.RisingMarks.{IsBelow, below_then, new_rise, new_above, new_both}

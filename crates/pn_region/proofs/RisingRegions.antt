@@ -13,7 +13,7 @@ use Rattle.pn_region.specs.Recovery.{stepping}
 use Rattle.pn_region.specs.Relayouts.{made_of, parts_of, least_cover, relaid}
 use Rattle.pn_region.specs.Rising.{AllRise}
 use Rattle.pn_region.specs.Rounds as rounds
-use Rattle.pn_region.proofs.Common.{Result, MatchResult, Positions, raised, Bounds, DeliveryValue, Ends, TabletCopyValue, lacking, Short, TabletStateValue, empty_tablet, same_range, after_step, stepped, WrongRange, TabletOp, Lose, Adopt, AreOldOrStepped, all_images, ranges, new_marks, stepped_at, RegionValue, new_region, IsHalfTaken, RoundFault}
+use Rattle.pn_region.proofs.Common.{Result, MatchResult, Positions, raised, Bounds, DeliveryValue, Ends, TabletCopyValue, lacking, Short, TabletStateValue, empty_tablet, same_range, after_step, stepped, WrongRange, TabletOp, Lose, Adopt, AreOldOrStepped, all_images, ranges, new_marks, stepped_at, RegionValue, new_region, RoundFault}
 use Rattle.pn_region.proofs.EventSteps.{takes, adopts}
 use Rattle.pn_region.proofs.HalfAhead.{BothRise, MarksRise, tablets_rise, all_rise, taking_rises, all_joins_rise, half_joins_rise}
 use Rattle.pn_region.proofs.PartMarks.{all_kept}
