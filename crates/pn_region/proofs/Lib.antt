@@ -4,6 +4,7 @@ pub mod Counting
 pub mod Covers
 pub mod Cutting
 pub mod EventImages
+pub mod EventRules
 pub mod EventSteps
 pub mod Events
 pub mod Faith
@@ -13,9 +14,11 @@ pub mod Following
 pub mod GapLaws
 pub mod HalfAhead
 pub mod HalfRounds
+pub mod Holding
 pub mod InRange
 pub mod Keeping
 pub mod KeyTablets
+pub mod LaidBetween
 pub mod LogLaws
 pub mod MarkLaws
 pub mod MarkSteps
