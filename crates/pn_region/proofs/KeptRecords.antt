@@ -14,10 +14,10 @@ use Rattle.pn_tablet.proofs.Stepping.{one_range}
 use Rattle.pn_region.specs.Held.{HoldsStill}
 use Rattle.pn_region.specs.Honest.{IsHonestCopy}
 use Rattle.pn_region.proofs.Common.{find, Positions, Reaches, raised, Image, bytes_cmp, CellValue, spell, Entries, BrokerRecord, up_to, TabletCopyValue, lacking, Ends, in_range, after_step, stepped, TabletStateValue, lie_in, same_range, WrongRange, Short, TabletOp, Join, Lose, Adopt, Serving, Recovering, images_in, IsFaithful}
-use Rattle.pn_region.proofs.Events.{up_to_more}
 use Rattle.pn_region.proofs.FoundIn.{cells_in}
 use Rattle.pn_region.proofs.InRange.{from_images_in}
 use Rattle.pn_region.proofs.StillHeld.{found_added, found_spelled, taken_in_held}
+use Rattle.pn_region.proofs.UpTo.{up_to_more}
 
 -- the status has a need that is not below the positions
 pub record NeedsAll (from : Positions) (status : Status) : Type 0 where

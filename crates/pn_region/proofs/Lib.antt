@@ -8,11 +8,14 @@ pub mod Events
 pub mod Faith
 pub mod FaithfulCopies
 pub mod Following
+pub mod FoundIn
 pub mod GapLaws
 pub mod HalfAhead
 pub mod HalfRounds
 pub mod InRange
 pub mod Keeping
+pub mod KeptEvents
+pub mod KeptRecords
 pub mod KeyTablets
 pub mod LogLaws
 pub mod MarkLaws
