@@ -20,7 +20,7 @@ below_first cover [] name = omega arith
 below_first cover (t ∷ ts) name = omega (arith, below_first (least cover t.cover) ts name, position_of-least cover t.cover name)
 
 below_other : (cover : Positions) (ts : List TabletStateValue) (n : ℕ) (t : TabletStateValue) → slice_get ts n ≡ Some t → Reaches t.cover (fold lesser cover ts)
-below_other cover [] n t there = cc
+below_other cover [] n t there name = cc
 below_other cover (u ∷ ts) zero t there name =
     let same : u ≡ t = cc in
     omega (arith, below_first (least cover u.cover) ts name, position_of-least cover u.cover name, ap (λ (part : TabletStateValue). position_of part.cover name) same)
@@ -28,7 +28,7 @@ below_other cover (u ∷ ts) (suc n) t there name = below_other (least cover u.c
 
 -- nor above any
 pub least_below : (ts : List TabletStateValue) (n : ℕ) (t : TabletStateValue) → slice_get ts n ≡ Some t → Reaches t.cover (least_cover ts)
-least_below [] n t there = cc
+least_below [] n t there name = cc
 least_below (u ∷ ts) zero t there name =
     let same : u ≡ t = cc in
     omega (arith, below_first u.cover ts name, ap (λ (part : TabletStateValue). position_of part.cover name) same)
@@ -39,7 +39,7 @@ above_first reach [] name = omega arith
 above_first reach (t ∷ ts) name = omega (arith, above_first (raised reach t.reach) ts name, position_of-raised reach t.reach name)
 
 above_other : (reach : Positions) (ts : List TabletStateValue) (n : ℕ) (t : TabletStateValue) → slice_get ts n ≡ Some t → Reaches (fold greater reach ts) t.reach
-above_other reach [] n t there = cc
+above_other reach [] n t there name = cc
 above_other reach (u ∷ ts) zero t there name =
     let same : u ≡ t = cc in
     omega (arith, above_first (raised reach u.reach) ts name, position_of-raised reach u.reach name, ap (λ (part : TabletStateValue). position_of part.reach name) same)

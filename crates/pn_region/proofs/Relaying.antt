@@ -30,8 +30,8 @@ pub record Relays (old : RegionValue) (bounds : Bounds) (new : RegionValue) : Ty
   pub serve : AllServe new
 
 serves_then : (status : Status) → is_recovering status ≡ false → status ≡ Serving
-serves_then Serving no = refl
-serves_then (Recovering need) no = cc
+serves_then Serving serves = refl
+serves_then (Recovering need) serves = cc
 
 each_serves : (ts : List TabletStateValue) → ((k : ℕ) (d : TabletStateValue) → k < length ts → is_recovering (get_or ts k d).status ≡ false) → AllByRecursion (λ (t : TabletStateValue). t.status ≡ Serving) ts
 each_serves [] none = tt
@@ -90,8 +90,8 @@ has_key : (region : RegionValue) (key : List ℕ) → IsRegion region → HasKey
 has_key region key is = has_key_by region key (slice_get region.tablets (tablet_of region.layout key)) is refl (has_tablet region key is)
 
 passed_over : (t : Bool) (x : CellValue) (all rest : Option CellValue) → (t ≡ true → ⊥) → rest ≡ all → rest ≡ cond t (Some x) all
-passed_over true x all rest no is = absurd (no refl)
-passed_over false x all rest no is = is
+passed_over true x all rest other is = absurd (other refl)
+passed_over false x all rest other is = is
 
 fails_not : (b : Bool) → b ≡ true → b ≡ false → ⊥
 fails_not true is is_not = cc
@@ -190,14 +190,14 @@ module _ (region : RegionValue) (bounds : Bounds) (lawful : IsLayout bounds) (is
   -- the tablet made for a range that a tablet meets
   made_is : (r : Ends) → HasPart region r → IsTabletOf region.marks r (made_of region.tablets r)
   made_is r part =
-      let kept = kept_at (λ (t : TabletStateValue). meet t.range r) region.tablets part.0 part.1.0 part.1.1.0 part.1.1.1 in
+      let kept = kept_at (λ (t : TabletStateValue). meet t.range r) region.tablets part.0 part.1 part.2 part.3 in
       let those = ap (entries_that (in_range r)) (all_spelled region is) ∙ sym (table_that (in_range r) (spell (all_cells region))) in
       record {
         range = refl;
         inside = all_that (in_range r) (all_cells region);
         spelled = subst IsSpelled (sym those) (spelled_table _);
         covered =
-            least_reaches region.marks (parts_of region.tablets r) kept.0 part.1.0 kept.1
+            least_reaches region.marks (parts_of region.tablets r) kept.0 part.1 kept.1
             (all_kept (λ (t : TabletStateValue). Reaches t.cover region.marks) (λ (t : TabletStateValue). meet t.range r) region.tablets (covers_reach region.marks (ranges region.layout) region.tablets is.tablets));
         reached =
             reached_by_all (parts_of region.tablets r)

@@ -47,7 +47,7 @@ none_more r (q ∷ rs) images more outside none = (
 
 module _ (P : TabletStateValue → Type 0) (images : (t : TabletStateValue) → P t → List Image) where
   -- the images of each tablet that lie in its range
-  pub united : (ts : List TabletStateValue) → AllByRecursion P ts → List Image
+  abbrev pub united : (ts : List TabletStateValue) → AllByRecursion P ts → List Image
   united [] all = []
   united (t ∷ ts) all = images_in t.range (images t all.0) ++ united ts all.1
 
