@@ -23,8 +23,8 @@ loop-tablet-preserved c =
                 (subst (λ (marks : Positions). IsTrue (are_positions marks)) (sym one) (least_positions own t.cover c.loop-tablet.invariant.positions w.cover.ensures.positions));
           }
       | else-meets w ↦ record {
-          least = w.least-is ∙ c.loop-tablet.invariant.least
-              ∙ ap least_so_far (sym (skipped range c.args.tablets.now c.loop-tablet.tablet-index t c.loop-tablet-test.true c.tablet-item.is (found ∙ w.if-meets.false)));
-          positions = subst (λ (o : Option Positions). IsTrue (are_positions (unwrap_or o []))) (sym w.least-is) c.loop-tablet.invariant.positions;
-        }
+        least = w.least-is ∙ c.loop-tablet.invariant.least
+            ∙ ap least_so_far (sym (skipped range c.args.tablets.now c.loop-tablet.tablet-index t c.loop-tablet-test.true c.tablet-item.is (found ∙ w.if-meets.false)));
+        positions = subst (λ (o : Option Positions). IsTrue (are_positions (unwrap_or o []))) (sym w.least-is) c.loop-tablet.invariant.positions;
+      }
     ]
