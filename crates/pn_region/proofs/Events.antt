@@ -8,7 +8,7 @@ use Rattle.pn_region.specs.Events.{RegionEvent, round, half_round, loss, adoptio
 use Rattle.pn_region.specs.Held.{HoldsStill}
 use Rattle.pn_region.specs.Relayouts.{made_of}
 use Rattle.pn_region.specs.Taken.{KeepsLayout, KeepLayout}
-use Rattle.pn_region.proofs.Common.{find, AllByRecursion, IsSome, Positions, Reaches, position_of, bytes_cmp, spell, Entries, Bounds, tablet_of, TabletCopyValue, lacking, Ends, after_step, stepped, TabletStateValue, lie_in, same_range, WrongRange, Short, TabletOp, Join, Lose, Adopt, Serving, RegionValue, AreTabletsOf, IsRegion}
+use Rattle.pn_region.proofs.Common.{find, IsSome, Positions, Reaches, position_of, bytes_cmp, spell, Entries, Bounds, tablet_of, TabletCopyValue, lacking, Ends, after_step, stepped, TabletStateValue, lie_in, same_range, WrongRange, Short, TabletOp, Join, Lose, Adopt, Serving, RegionValue, AreTabletsOf, IsRegion}
 use Rattle.pn_region.proofs.EventSteps.{adopts, takes, event_is, Moves, each_at, each_moves, each_after, Grows, grows_itself, grows_then}
 use Rattle.pn_region.proofs.KeyTablets.{has_tablet}
 use Rattle.pn_region.proofs.Relaying.{relays, part_at, new_at}

@@ -1,5 +1,5 @@
 -- Regions after a change of layout.
-use Rattle.std.proofs.Common.{◌≡◌, ℕ, zero, suc, ◌+◌, ◌<◌, ◌≤◌, Bool, true, false, cond, nat_lt, List, [], ◌∷◌, length, map, get_or, slice_get, Option, Some, None, Ok, refl, sym, ap, ◌∙◌, subst, arith, is_lt, IsTrue}
+use Rattle.std.proofs.Common.{◌≡◌, ℕ, zero, suc, ◌+◌, ◌<◌, ◌≤◌, Bool, true, false, cond, nat_lt, List, [], ◌∷◌, length, map, get_or, slice_get, Option, Some, None, Ok, refl, sym, ap, ◌∙◌, subst, arith, is_lt}
 use Rattle.std.specs.List.{position_or_len}
 use Rattle.std.proofs.lemmas.Bool.Decides.{nat_tests}
 use Rattle.std.proofs.lemmas.Cmp.{nat_list_cmp_total, tied_itself}
@@ -13,7 +13,7 @@ use Rattle.pn_tablet.proofs.LayoutFacts.{key_in_tablet, tablet_of_within, ends_i
 use Rattle.pn_apply.proofs.Cuts.{all_pieces}
 use Rattle.pn_apply.proofs.Tables.{entries_that, table_that, all_that}
 use Rattle.pn_region.specs.Relayouts.{made_of, parts_of, relaid, relaid_unless, relaying, is_recovering, first_recovering}
-use Rattle.pn_region.proofs.Common.{find, IsSome, AllByRecursion, range_with_len, Positions, Reaches, bytes_cmp, spell, Entries, table_of, Bounds, IsLayout, Ends, in_range, lie_in, tablet_of, tablet_ends, TabletStateValue, Serving, Recovering, ranges, RegionValue, IsTabletOf, AreTabletsOf, IsRegion, all_cells, AllServe}
+use Rattle.pn_region.proofs.Common.{find, IsSome, AllByRecursion, range_with_len, Reaches, bytes_cmp, spell, Bounds, IsLayout, Ends, in_range, tablet_of, tablet_ends, TabletStateValue, Serving, Recovering, ranges, RegionValue, IsTabletOf, AreTabletsOf, IsRegion, all_cells, AllServe}
 use Rattle.pn_region.proofs.FoundIn.{found_in}
 use Rattle.pn_region.proofs.KeyTablets.{range_at, has_tablet, has_its_cell}
 use Rattle.pn_region.proofs.Meeting.{both_in_meet}

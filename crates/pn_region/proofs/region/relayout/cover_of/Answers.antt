@@ -1,7 +1,6 @@
 -- The least with the cover of one more part.
-use Rattle.std.proofs.Common.{◌≡◌, true, false, [], Some, Option, unwrap_or, IsTrue, sym, ap, ◌∙◌, subst}
+use Rattle.std.proofs.Common.{[], Option, unwrap_or, IsTrue, sym, ap, ◌∙◌, subst}
 use Rattle.pn_tablet.specs.Ranges.{meet}
-use Rattle.pn_region.specs.Relayouts.{parts_of}
 use Rattle.pn_region.proofs.Common.{Positions, are_positions, Ends}
 use Rattle.pn_region.proofs.PartMarks.{with_own, least_so_far, least_positions, cover_step, skipped}
 use Rattle.pn_region.proofs.region.relayout.cover_of.Goals as goal

@@ -1,5 +1,5 @@
 -- The greatest with the reach of one more part.
-use Rattle.std.proofs.Common.{◌≡◌, ◌+◌, true, false, List, take, IsTrue, sym, ap, ◌∙◌, subst}
+use Rattle.std.proofs.Common.{◌+◌, List, take, IsTrue, sym, ap, ◌∙◌, subst}
 use Rattle.pn_join.proofs.MarksFacts.{are_positions-raised}
 use Rattle.pn_tablet.specs.Ranges.{meet}
 use Rattle.pn_tablet.specs.Tablets.{TabletStateValue}
