@@ -9,11 +9,14 @@ pub mod Faith
 pub mod FaithfulCopies
 pub mod FaithfulEvents
 pub mod Following
+pub mod FoundIn
 pub mod GapLaws
 pub mod HalfAhead
 pub mod HalfRounds
 pub mod InRange
 pub mod Keeping
+pub mod KeptEvents
+pub mod KeptRecords
 pub mod KeyTablets
 pub mod LogLaws
 pub mod MarkLaws
