@@ -1,10 +1,10 @@
 -- How covers and reaches rise.
-use Rattle.std.proofs.Common.{◌≡◌, ℕ, ◌≤◌, true, false, cond, List, [], ◌∷◌, Option, Some, None, unwrap_or, IsTrue, refl, sym, arith}
+use Rattle.std.proofs.Common.{◌≡◌, ℕ, ◌≤◌, true, false, cond, List, [], ◌∷◌, Option, Some, None, unwrap_or, refl, arith}
 use Rattle.std.proofs.lemmas.Bool.{and_parts}
 use Rattle.std.proofs.lemmas.Bool.Decides.{nat_tests}
 use Rattle.std.specs.FinMap.{find}
 use Rattle.std.specs.Ordering.{eq_by_cmp}
-use Rattle.pn_join.specs.Marks.{Positions, Reaches, position_of, are_positions, is_position, name_cmp, raised}
+use Rattle.pn_join.specs.Marks.{Positions, Reaches, are_positions, is_position, name_cmp, raised}
 use Rattle.pn_join.proofs.MarksFacts.{are_positions-raised, position_of-raised, same_marks}
 use Rattle.pn_tablet.specs.Laws.{Rise}
 use Rattle.pn_tablet.specs.Tablets.{IsProgress}

@@ -1,7 +1,7 @@
 -- The cells whose keys lie in a range are a slice of all.
-use Rattle.std.proofs.Common.{◌≡◌, ℕ, zero, suc, ◌+◌, ◌-◌, ◌≤◌, Bool, true, false, not, ◌&&◌, cond, List, [], ◌∷◌, length, take, drop, slice_range, filter, count_by, Option, Some, None, Less, IsTrue, refl, sym, ap, ◌∙◌, subst, arith, one-add, zero-add}
+use Rattle.std.proofs.Common.{◌≡◌, ℕ, suc, ◌+◌, ◌-◌, ◌≤◌, Bool, true, false, not, ◌&&◌, cond, List, [], ◌∷◌, length, take, drop, slice_range, filter, count_by, Option, Some, None, Less, IsTrue, refl, sym, ap, ◌∙◌, arith, one-add, zero-add}
 use Rattle.std.proofs.lemmas.Cmp.{nat_list_cmp_total}
-use Rattle.std.proofs.lemmas.List.Sums.{sum_by-cons, count_by-le-length}
+use Rattle.std.proofs.lemmas.List.Sums.{sum_by-cons}
 use Rattle.std.specs.FinMap.{is_sorted}
 use Rattle.std.specs.Ordering.{is_lt}
 use Rattle.pn_join.proofs.Rising.{Below, Rising, Rising-from_sorted}

@@ -1,5 +1,5 @@
 -- No key lies below a range that is open there.
-use Rattle.std.proofs.Common.{not, count_by, Option, ◌≡◌, ap, sym, subst, ◌∙◌}
+use Rattle.std.proofs.Common.{not, count_by, ap, sym, ◌∙◌}
 use Rattle.std.specs.Option.{option_copied}
 use Rattle.pn_tablet.specs.Ranges.{is_from}
 use Rattle.pn_tablet.proofs.Within.{counted_below, none_below}
