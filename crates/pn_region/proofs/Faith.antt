@@ -33,7 +33,7 @@ all_empty broker (r ∷ rs) = (one_empty broker r, all_empty broker rs)
 pub new_faithful : (broker : BrokerRecord) (bounds : Bounds) → AreFaithful broker (new_region bounds).tablets
 new_faithful broker bounds = all_empty broker (ranges bounds)
 
-left_so : {A B C : Type 0} → (A → C) → A ⊎ B → C ⊎ B
+pub left_so : {A B C : Type 0} → (A → C) → A ⊎ B → C ⊎ B
 left_so f (inl a) = inl (f a)
 left_so f (inr b) = inr b
 

@@ -35,7 +35,7 @@ was_so true right after is = refl
 was_so false right after is = cc
 
 -- marks that lack nothing of what a tablet needs reach it
-need_reached : (status : Status) (marks : Positions) → lacking status marks ≡ None → Reaches marks (needed status)
+pub need_reached : (status : Status) (marks : Positions) → lacking status marks ≡ None → Reaches marks (needed status)
 need_reached Serving marks none name = omega arith
 need_reached (Recovering need) marks none name = nothing_short marks need none name
 
@@ -92,7 +92,7 @@ pub none_lacked : (broker : BrokerRecord) (image : Image) {A : Type 0} → A ⊎
 none_lacked broker image (inl there) = there
 none_lacked broker image (inr lacked) = absurd (omega (arith, lacked.1))
 
--- a faithful tablet that serves lacks nothing up to its cover
+-- a faithful tablet that serves lacks nothing in its range up to its cover
 pub serving_lacks_none : (broker : BrokerRecord) (t : TabletStateValue) (faithful : IsFaithful broker t) → t.status ≡ Serving → (image : Image) → Contains (up_to broker t.cover) image → in_range t.range image.key ≡ true → Contains faithful.images image
 serving_lacks_none broker t faithful serves image there lies =
     none_lacked broker image
@@ -106,7 +106,7 @@ serving_has_all broker t faithful serves reach =
     (λ image there lies. up_to_more broker t.cover t.reach reach image (faithful.published image there))
     (serving_lacks_none broker t faithful serves)
 
--- marks that lack nothing of others reach them, where nothing is lacked at all
+-- where nothing of both is lacked, nothing of the second is
 none_of_both : (first second : Option Short) → option_or first second ≡ None → second ≡ None
 none_of_both None second none = none
 none_of_both (Some short) second none = cc

@@ -3,6 +3,7 @@ pub mod Common
 pub mod Counting
 pub mod Covers
 pub mod EventImages
+pub mod EventRules
 pub mod EventSteps
 pub mod Events
 pub mod Faith
@@ -13,11 +14,13 @@ pub mod FoundIn
 pub mod GapLaws
 pub mod HalfAhead
 pub mod HalfRounds
+pub mod Holding
 pub mod InRange
 pub mod Keeping
 pub mod KeptEvents
 pub mod KeptRecords
 pub mod KeyTablets
+pub mod LaidBetween
 pub mod LogLaws
 pub mod MarkLaws
 pub mod MarkSteps
