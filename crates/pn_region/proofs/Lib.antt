@@ -2,6 +2,7 @@ pub mod Apart
 pub mod Common
 pub mod Counting
 pub mod Covers
+pub mod Cutting
 pub mod EventImages
 pub mod EventRules
 pub mod EventSteps
