@@ -20,6 +20,7 @@ pub use reply::marks::marks_reply;
 pub use reply::notices::since_reply;
 pub use reply::scan::scan_reply;
 pub use reply::short::{
-    ShortReply, adopted_reply, changed_reply, lines_reply, lost_reply, refusal_reply, served_reply,
+    ShortReply, adopted_reply, changed_reply, lines_reply, lost_reply, refusal_reply, relaid_reply,
+    served_reply,
 };
 pub use reply::tablets::tablets_reply;
