@@ -6,10 +6,10 @@ use Rattle.pn_join.proofs.MarksFacts.{position_of-raised}
 use Rattle.pn_stream.proofs.Published.{Stands, is_up_to, published}
 use Rattle.pn_region.specs.Taken.{CoverTells}
 use Rattle.pn_region.proofs.Common.{Ok, Positions, Reaches, position_of, raised, Image, BrokerRecord, up_to, AreHonest, DeliveryValue, TabletCopyValue, Ends, in_range, TabletStateValue, all_images, images_in, new_marks}
-use Rattle.pn_region.proofs.Events.{up_to_more}
 use Rattle.pn_region.proofs.Faith.{brought, was_brought}
 use Rattle.pn_region.proofs.InRange.{from_images_in, to_images_in}
 use Rattle.pn_region.proofs.TakenImages.{either_one, by_part}
+use Rattle.pn_region.proofs.UpTo.{up_to_more}
 
 -- what was taken or left before was so after more
 among_more : (taken left more maybe : List Image) (image : Image) → Contains (taken ++ left) image → Contains ((taken ++ more) ++ (left ++ maybe)) image

@@ -13,7 +13,7 @@ use Rattle.pn_region.specs.Taken.{taken_by, all_taken, left_by, all_left, CoverT
 use Rattle.pn_region.proofs.Common.{MatchResult, AllByRecursion, Positions, Image, SameImages, table_of, BrokerRecord, up_to, AreHonest, DeliveryValue, TabletCopyValue, Bounds, IsLayout, lacking, Ends, in_range, after_step, stepped, TabletStateValue, empty_tablet, same_range, WrongRange, Short, Lose, Adopt, Serving, all_stepped, AreOldOrStepped, all_images, images_in, join_in, ranges, IsFaithful, AreFaithful, AreIn, HasBetween, new_marks, stepped_at, RegionValue, IsTabletOf, AreTabletsOf, IsRegion, new_region, all_cells, joins, AllServe}
 use Rattle.pn_region.proofs.Apart.{Outside, Apart, ranges_apart}
 use Rattle.pn_region.proofs.Covers.{tells_itself, round_tells, adopted_tells}
-use Rattle.pn_region.proofs.Events.{events_faithful}
+use Rattle.pn_region.proofs.FaithfulEvents.{events_faithful}
 use Rattle.pn_region.proofs.EventSteps.{adopts, takes, event_is, events_are}
 use Rattle.pn_region.proofs.Faith.{new_faithful}
 use Rattle.pn_region.proofs.FaithfulCopies.{serving_has_all}

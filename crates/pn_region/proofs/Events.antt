@@ -44,52 +44,6 @@ event_reaches event old new n t u is leads there there_too = (grows_move t u (ea
 pub events_reach : (events : List RegionEvent) (old new : RegionValue) (n : ℕ) (t u : TabletStateValue) → IsRegion old → AllLeadTo events old new → slice_get old.tablets n ≡ Some t → slice_get new.tablets n ≡ Some u → Reaches u.cover t.cover
 events_reach events old new n t u is lead there there_too = (each_at Grows old.tablets new.tablets n t u (events_grow events old new is lead) there there_too).cover
 
--- faithful tablets stay faithful
-module _ (broker : BrokerRecord) where
-  lost_at : (n : ℕ) (ts : List TabletStateValue) → AreFaithful broker ts → AreFaithful broker (stepped_at n Lose ts)
-  lost_at n [] faithful = tt
-  lost_at zero (t ∷ ts) faithful = (lost_faithful broker t, faithful.1)
-  lost_at (suc n) (t ∷ ts) faithful = (faithful.0, lost_at n ts faithful.1)
-
-  adopted_or_not : (t : TabletStateValue) (copy : TabletCopyValue) → IsHonestCopy broker copy → IsFaithful broker t → IsFaithful broker (stepped t (Adopt copy))
-  adopted_or_not t copy honest faithful =
-      elim (step t (Adopt copy)) as (λ right. step t (Adopt copy) ≡ right → IsFaithful broker (after_step t right)) [
-        | Ok after ↦ λ is. adopted_faithful broker t after copy faithful honest is
-        | Err refusal ↦ λ is. faithful
-      ] refl
-
-  adopted_at : (n : ℕ) (copy : TabletCopyValue) (ts : List TabletStateValue) → IsHonestCopy broker copy → AreFaithful broker ts → AreFaithful broker (stepped_at n (Adopt copy) ts)
-  adopted_at n copy [] honest faithful = tt
-  adopted_at zero copy (t ∷ ts) honest faithful = (adopted_or_not t copy honest faithful.0, faithful.1)
-  adopted_at (suc n) copy (t ∷ ts) honest faithful = (faithful.0, adopted_at n copy ts honest faithful.1)
-
-  pub event_faithful : (event : RegionEvent) (old new : RegionValue) → IsRegion old → AreFaithful broker old.tablets → IsHonestEvent broker event → LeadsTo event old new → AreFaithful broker new.tablets
-  event_faithful (round deliveries) old new is faithful honest leads =
-      let took = takes old deliveries new leads in
-      subst (λ (r : RegionValue). AreFaithful broker r.tablets) (sym took.is) (round_keeps broker old deliveries took.marks is faithful honest took.accepted)
-  event_faithful (half_round deliveries) old new is faithful honest leads = half_keeps broker old new deliveries is faithful honest leads
-  event_faithful (loss n) old new is faithful honest leads = subst (λ (r : RegionValue). AreFaithful broker r.tablets) (sym leads) (lost_at n old.tablets faithful)
-  event_faithful (adoption copy) old new is faithful honest leads =
-      subst (λ (r : RegionValue). AreFaithful broker r.tablets) (sym (adopts old copy leads.tablet new leads.adopted).is) (adopted_at leads.tablet copy old.tablets honest faithful)
-
-  pub events_faithful : (events : List RegionEvent) (old new : RegionValue) → IsRegion old → AreFaithful broker old.tablets → AreHonestEvents broker events → AllLeadTo events old new → AreFaithful broker new.tablets
-  events_faithful [] old new is faithful honest lead = subst (λ (r : RegionValue). AreFaithful broker r.tablets) (sym lead) faithful
-  events_faithful (event ∷ events) old new is faithful honest lead =
-      events_faithful events lead.0 new (event_is event old lead.0 is lead.1) (event_faithful event old lead.0 is faithful honest.0 lead.1) honest.1 lead.2
-
-  pub faithful_at : (n : ℕ) (ts : List TabletStateValue) (t : TabletStateValue) → AreFaithful broker ts → slice_get ts n ≡ Some t → IsFaithful broker t
-  faithful_at n [] t faithful there = cc
-  faithful_at zero (u ∷ ts) t faithful there =
-      let same : u ≡ t = cc in
-      subst (IsFaithful broker) same faithful.0
-  faithful_at (suc n) (u ∷ ts) t faithful there = faithful_at n ts t faithful.1 there
-
-  -- marks that reach others have all images that those have
-  pub up_to_more : (marks others : Positions) → Reaches marks others → (image : Image) → Contains (up_to broker others) image → Contains (up_to broker marks) image
-  up_to_more marks others reach image there =
-      let old = published broker others image there in
-      is_up_to broker marks old.stream image (wider (position_of others old.stream) (position_of marks old.stream) (broker old.stream) image (reach old.stream) old.stands)
-
 joined_held : (t : TabletStateValue) (cells : Entries) (marks : Positions) (b : Bool) → IsSpelled t.cells → (key : List ℕ) → HoldsStill (find bytes_cmp key t.cells) (find bytes_cmp key (after_step t (if b then Ok (taking t cells marks) else Err WrongRange)).cells)
 joined_held t cells marks true spelled key = added_held t.cells (spell cells) key spelled
 joined_held t cells marks false spelled key = itself_held (find bytes_cmp key t.cells)

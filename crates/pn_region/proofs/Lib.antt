@@ -7,6 +7,7 @@ pub mod EventSteps
 pub mod Events
 pub mod Faith
 pub mod FaithfulCopies
+pub mod FaithfulEvents
 pub mod Following
 pub mod GapLaws
 pub mod HalfAhead
@@ -17,14 +18,17 @@ pub mod KeyTablets
 pub mod LogLaws
 pub mod MarkLaws
 pub mod MarkSteps
+pub mod Meeting
 pub mod NeverBack
 pub mod NewRegion
 pub mod OneTablet
 pub mod Ordered
 pub mod PageWalks
+pub mod PartMarks
 pub mod Pieces
 pub mod ReadLaws
 pub mod Reading
+pub mod Relaying
 pub mod Repeats
 pub mod RisingMarks
 pub mod RisingRegions
@@ -40,4 +44,6 @@ pub mod StreamCount
 pub mod TakenImages
 pub mod Telling
 pub mod Together
+pub mod United
 pub mod Untraced
+pub mod UpTo

@@ -15,10 +15,10 @@ use Rattle.pn_apply.proofs.ReduceLaws.{same_in}
 use Rattle.pn_region.specs.Held.{HoldsStill}
 use Rattle.pn_region.specs.Honest.{IsHonestCopy}
 use Rattle.pn_region.proofs.Common.{find, Positions, Reaches, raised, Image, bytes_cmp, CellValue, spell, Entries, table_of, BrokerRecord, up_to, TabletCopyValue, lacking, Ends, lost, step, after_step, stepped, TabletStateValue, lie_in, same_range, WrongRange, TabletOp, Join, Lose, Adopt, Serving, Recovering, images_in, IsFaithful}
-use Rattle.pn_region.proofs.Events.{up_to_more}
 use Rattle.pn_region.proofs.FaithfulCopies.{was_so, serving_has_all}
 use Rattle.pn_region.proofs.InRange.{more_in}
 use Rattle.pn_region.proofs.StillHeld.{joined_held, found_added}
+use Rattle.pn_region.proofs.UpTo.{up_to_more}
 
 spelled_added : (own : Entries) (images : List Image) (key : List ℕ) → cells (spell (adds own images)) key ≡ both (cells (spell own) key) (cells images key)
 unfolding adds

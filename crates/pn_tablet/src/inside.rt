@@ -1,12 +1,13 @@
-//! Which keys lie in a range.
+//! Which keys and cells lie in a range.
 
-ghost use Rattle.std.specs.Prelude.{◌≡◌};
+ghost use Rattle.std.specs.Prelude.{◌≡◌, filter, IfOk};
 ghost use Rattle.std.specs.List.{list_all};
 ghost use Rattle.std.specs.Option.{option_copied};
-ghost use Rattle.pn_tablet.specs.Ranges.{is_from, is_before};
+ghost use Rattle.pn_tablet.specs.Ranges.{is_from, is_before, in_range};
 ghost use Rattle.pn_tablet.specs.Tablets.{lie_in as all_lie_in};
 
 use crate::Range;
+use pn_join::NoMemory;
 use pn_record::{Key, Records};
 
 /// Whether all keys lie in the range, found by a search for its ends among them.
@@ -32,4 +33,19 @@ fn end_before(to: Option<&Key>, cells: &Records) -> bool
         Some(to) => cells.lower_bound(to) == cells.len(),
         None => true,
     }
+}
+
+/// The cells whose keys lie in the range, found by a search for its ends. Whole leaves of cells are shared.
+pub fn cells_within(range: &Range, cells: &Records) -> Result<Records, NoMemory>
+    ensures { IfOk result (λ part. part ≡ filter (λ entry. in_range range.now entry.0) cells.now) }
+{
+    let from = match range.from() {
+        Some(from) => cells.lower_bound(from),
+        None => 0,
+    };
+    let to = match range.to() {
+        Some(to) => cells.lower_bound(to),
+        None => cells.len(),
+    };
+    cells.slice(from, to)
 }

@@ -1,22 +1,24 @@
 //! The state of a tablet, and the operations on it.
 
 ghost use Rattle.std.specs.Prelude.{◌≡◌, Ok, IsOk, IsTrue, IfOk, IfErr, OnOk, OnErr};
-ghost use Rattle.pn_join.specs.Prelude.{raised, are_positions};
+ghost use Rattle.pn_join.specs.Prelude.{Reaches, raised, are_positions};
 ghost use Rattle.pn_tablet.specs.Operations.{HasPositions};
-ghost use Rattle.pn_tablet.specs.Tablets.{empty_tablet};
+ghost use Rattle.pn_tablet.specs.Tablets.{empty_tablet, lie_in};
 ghost use Rattle.pn_tablet.specs.Needs.{lacking as all_lacking};
 ghost use Rattle.pn_tablet.specs.Refusals.{Refuses};
 ghost use Rattle.pn_tablet.specs.Steps.{step, lost, is_memory};
 ghost use Rattle.pn_tablet.specs.Changes.{answer, changes};
 ghost use Rattle.pn_tablet.specs.declared.op.TabletOp.TheVariants.{Join, Lose, Adopt};
+ghost use Rattle.pn_tablet.specs.declared.state.Status.TheVariants.{Serving};
 
 mod parts;
 
 use crate::change::{add_told, room_for};
 use crate::inside::lie_in;
 use crate::needs::{Short, first_short};
+use crate::progress::Progress;
 use crate::{Change, OpFault, Range, TabletCopy, TabletOp};
-use pn_join::{Dup, Marks, NoMemory, raise};
+use pn_join::{Dup, Marks, NoMemory};
 use pn_record::{Records, join_and_tell, join_records};
 use std::alloc::Global;
 use std::marker::Model;
@@ -28,13 +30,13 @@ pub enum Status {
     Recovering { need: Marks },
 }
 
-/// A tablet: a range of keys, the cells of its records, the last position taken from each stream, and whether it
+/// A tablet: a range of keys, the cells of its records, the positions up to which it took streams, and whether it
 /// serves.
 #[derive(Drop)]
 pub struct TabletState {
     range: Range,
     cells: Records,
-    cover: Marks,
+    progress: Progress,
     status: Status,
     spare: Option<Marks>,
     alloc: Global,
@@ -51,9 +53,9 @@ impl Model for TabletState {
 
     ghost use Rattle.pn_tablet.specs.Tablets.{IsTablet};
 
-    ghost view = { λ state. record { range = state.range; cells = state.cells; cover = state.cover; status = state.status } };
+    ghost view = { λ state. record { range = state.range; cells = state.cells; cover = state.progress.cover; reach = state.progress.reach; status = state.status } };
 
-    ghost invariant = { λ state. IsTablet state.range state.cells state.cover state.status state.spare };
+    ghost invariant = { λ state. IsTablet state.range state.cells state.progress.reach state.status state.spare };
 }
 
 impl TabletState {
@@ -64,11 +66,39 @@ impl TabletState {
         TabletState {
             range,
             cells: Records::new(alloc),
-            cover: Marks::new(alloc),
+            progress: Progress::new(alloc),
             status: Status::Serving,
             spare: Some(Marks::new(alloc)),
             alloc,
         }
+    }
+
+    /// A tablet that serves with these cells, whose keys lie in the range, this cover, and this reach, which reaches the
+    /// cover. All positions are from 1 to 10^15.
+    pub fn of_parts(
+        alloc: Global,
+        range: Range,
+        cells: Records,
+        cover: Marks,
+        reach: Marks,
+    ) -> Result<TabletState, NoMemory>
+        requires inside { IsTrue (lie_in range cells) }
+        requires reached { Reaches reach cover }
+        requires positions { IsTrue (are_positions cover) }
+        requires reach_positions { IsTrue (are_positions reach) }
+        ensures { IfOk result (λ tablet. tablet ≡ record { range = range; cells = cells; cover = cover; reach = reach; status = Serving }) }
+    {
+        // A call on the cells tells the checker that the contents of each rise.
+        let _ = cells.iter();
+        let spare = reach.dup()?;
+        Ok(TabletState {
+            range,
+            cells,
+            progress: Progress::of_parts(cover, reach),
+            status: Status::Serving,
+            spare: Some(spare),
+            alloc,
+        })
     }
 
     /// Takes one operation, with positions from 1 to 10^15, and returns the keys whose cells a join changed. A loss
@@ -112,10 +142,10 @@ impl TabletState {
             return Err(OpFault::WrongRange);
         }
         let mut changes = room_for(self.alloc, cells.len())?;
-        let (cover, spare) = raised_by(&self.cover, marks)?;
+        let (progress, spare) = raised_by(&self.progress, marks)?;
         let told = join_and_tell(&mut self.cells, cells)?;
         add_told(&mut changes, told);
-        self.cover = cover;
+        self.progress = progress;
         self.spare = Some(spare);
         Ok(changes)
     }
@@ -144,9 +174,9 @@ impl TabletState {
                 needs: short.wanted,
             });
         }
-        let (cover, spare) = raised_by(&self.cover, &copy.marks)?;
+        let (progress, spare) = raised_by(&self.progress, &copy.marks)?;
         join_records(&mut self.cells, &copy.cells)?;
-        self.cover = cover;
+        self.progress = progress;
         self.spare = Some(spare);
         self.status = Status::Serving;
         Ok(())
@@ -163,13 +193,13 @@ impl TabletState {
     }
 }
 
-// The cover raised by the marks, and a copy of it, which a later loss takes as the need.
-fn raised_by(cover: &Marks, marks: &Marks) -> Result<(Marks, Marks), NoMemory>
-    ensures { IfOk result (λ covers. (covers.0 ≡ raised cover.now marks.now) × (covers.1 ≡ raised cover.now marks.now)) }
+// The progress raised by the marks, and a copy of its reach, which a later loss takes as the need.
+fn raised_by(progress: &Progress, marks: &Marks) -> Result<(Progress, Marks), NoMemory>
+    requires { IsTrue (are_positions marks.now) }
+    ensures { IfOk result (λ both. (both.0.cover ≡ raised progress.now.cover marks.now) × ((both.0.reach ≡ raised progress.now.reach marks.now) × (both.1 ≡ both.0.reach))) }
 {
-    let mut higher = cover.dup()?;
-    raise(&mut higher, marks)?;
-    let spare = higher.dup()?;
+    let higher = progress.raised_by(marks)?;
+    let spare = higher.reach().dup()?;
     Ok((higher, spare))
 }
 
@@ -181,9 +211,9 @@ impl Dup for TabletState {
         Ok(TabletState {
             range: self.range.dup()?,
             cells: self.cells.dup()?,
-            cover: self.cover.dup()?,
+            progress: self.progress.dup()?,
             status: self.status.dup()?,
-            spare: Some(self.cover.dup()?),
+            spare: Some(self.progress.reach().dup()?),
             alloc: self.alloc,
         })
     }

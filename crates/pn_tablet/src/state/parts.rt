@@ -2,7 +2,7 @@
 
 ghost use Rattle.std.specs.Prelude.{◌≡◌, IsTrue};
 ghost use Rattle.pn_record.specs.Prelude.{spell, table_of};
-ghost use Rattle.pn_join.specs.Prelude.{are_positions};
+ghost use Rattle.pn_join.specs.Prelude.{Reaches, are_positions};
 ghost use Rattle.pn_tablet.specs.Needs.{needed};
 ghost use Rattle.pn_tablet.specs.Tablets.{lie_in};
 
@@ -28,12 +28,21 @@ impl TabletState {
         &self.cells
     }
 
-    /// The last position taken from each stream.
+    /// The positions up to which all cells took streams.
     pub fn cover(&self) -> &Marks
         ensures cover { result.now ≡ self.now.cover }
         ensures positions { IsTrue (are_positions self.now.cover) }
     {
-        &self.cover
+        self.progress.cover()
+    }
+
+    /// The positions up to which any cells took streams, nowhere less than the cover.
+    pub fn reach(&self) -> &Marks
+        ensures reach { result.now ≡ self.now.reach }
+        ensures positions { IsTrue (are_positions self.now.reach) }
+        ensures reached { Reaches self.now.reach self.now.cover }
+    {
+        self.progress.reach()
     }
 
     /// Whether it serves.
