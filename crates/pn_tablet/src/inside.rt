@@ -1,6 +1,6 @@
 //! Which keys and cells lie in a range.
 
-ghost use Rattle.std.specs.Prelude.{◌≡◌, filter, IfOk};
+ghost use Rattle.std.specs.Prelude.{◌≡◌, not, filter, count_by, IfOk};
 ghost use Rattle.std.specs.List.{list_all};
 ghost use Rattle.std.specs.Option.{option_copied};
 ghost use Rattle.pn_tablet.specs.Ranges.{is_from, is_before, in_range};
@@ -39,13 +39,29 @@ fn end_before(to: Option<&Key>, cells: &Records) -> bool
 pub fn cells_within(range: &Range, cells: &Records) -> Result<Records, NoMemory>
     ensures { IfOk result (λ part. part ≡ filter (λ entry. in_range range.now entry.0) cells.now) }
 {
-    let from = match range.from() {
+    // A call on the cells tells the checker that their keys rise.
+    let _ = cells.len();
+    let from = count_below(range.from(), cells);
+    let to = count_before(range.to(), cells);
+    cells.slice(from, to)
+}
+
+// How many keys lie below the lower end of a range.
+fn count_below(from: Option<&Key>, cells: &Records) -> usize
+    ensures { result ≡ count_by (λ entry. not (is_from (option_copied from.entry) entry.0)) cells.now }
+{
+    match from {
         Some(from) => cells.lower_bound(from),
         None => 0,
-    };
-    let to = match range.to() {
+    }
+}
+
+// How many keys lie before the upper end of a range.
+fn count_before(to: Option<&Key>, cells: &Records) -> usize
+    ensures { result ≡ count_by (λ entry. is_before (option_copied to.entry) entry.0) cells.now }
+{
+    match to {
         Some(to) => cells.lower_bound(to),
         None => cells.len(),
-    };
-    cells.slice(from, to)
+    }
 }

@@ -1,15 +1,14 @@
 //! The state of a tablet, and the operations on it.
 
 ghost use Rattle.std.specs.Prelude.{◌≡◌, Ok, IsOk, IsTrue, IfOk, IfErr, OnOk, OnErr};
-ghost use Rattle.pn_join.specs.Prelude.{Reaches, raised, are_positions};
+ghost use Rattle.pn_join.specs.Prelude.{raised, are_positions};
 ghost use Rattle.pn_tablet.specs.Operations.{HasPositions};
-ghost use Rattle.pn_tablet.specs.Tablets.{empty_tablet, lie_in};
+ghost use Rattle.pn_tablet.specs.Tablets.{empty_tablet};
 ghost use Rattle.pn_tablet.specs.Needs.{lacking as all_lacking};
 ghost use Rattle.pn_tablet.specs.Refusals.{Refuses};
 ghost use Rattle.pn_tablet.specs.Steps.{step, lost, is_memory};
 ghost use Rattle.pn_tablet.specs.Changes.{answer, changes};
 ghost use Rattle.pn_tablet.specs.declared.op.TabletOp.TheVariants.{Join, Lose, Adopt};
-ghost use Rattle.pn_tablet.specs.declared.state.Status.TheVariants.{Serving};
 
 mod parts;
 
@@ -73,34 +72,6 @@ impl TabletState {
         }
     }
 
-    /// A tablet that serves with these cells, whose keys lie in the range, this cover, and this reach, which reaches the
-    /// cover. All positions are from 1 to 10^15.
-    pub fn of_parts(
-        alloc: Global,
-        range: Range,
-        cells: Records,
-        cover: Marks,
-        reach: Marks,
-    ) -> Result<TabletState, NoMemory>
-        requires inside { IsTrue (lie_in range cells) }
-        requires reached { Reaches reach cover }
-        requires positions { IsTrue (are_positions cover) }
-        requires reach_positions { IsTrue (are_positions reach) }
-        ensures { IfOk result (λ tablet. tablet ≡ record { range = range; cells = cells; cover = cover; reach = reach; status = Serving }) }
-    {
-        // A call on the cells tells the checker that the contents of each rise.
-        let _ = cells.iter();
-        let spare = reach.dup()?;
-        Ok(TabletState {
-            range,
-            cells,
-            progress: Progress::of_parts(cover, reach),
-            status: Status::Serving,
-            spare: Some(spare),
-            alloc,
-        })
-    }
-
     /// Takes one operation, with positions from 1 to 10^15, and returns the keys whose cells a join changed. A loss
     /// takes no memory and is never refused.
     ///
@@ -153,6 +124,8 @@ impl TabletState {
     fn lose(&mut self)
         ensures { self.new ≡ lost self.old }
     {
+        // A call on the progress tells the checker that its positions are those of messages.
+        let _ = self.progress.reach();
         self.cells = Records::new(self.alloc);
         if let Some(need) = self.spare.take() {
             self.status = Status::Recovering { need };
