@@ -132,9 +132,6 @@ within_order range cells ends = fewer (λ key. not (is_from range.0 key)) (λ ke
 
 -- ---- what the searches count
 
-pub counted_below : (from : List ℕ) (cells : Entries) → count_by (λ entry. is_lt (bytes_cmp entry.0 from)) cells ≡ count_by (λ entry. not (is_from (Some from) entry.0)) cells
-counted_below from cells = λ i. count_by (λ entry. sym (not_not (is_below entry.0 from)) i) cells
-
 pub none_below : (cells : Entries) → 0 ≡ count_by (λ entry. not (is_from None entry.0)) cells
 none_below [] = refl
 none_below (e ∷ es) = none_below es ∙ sym (counted (λ key. not (is_from None key)) e es false refl ∙ zero-add _)

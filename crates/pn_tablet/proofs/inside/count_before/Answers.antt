@@ -5,8 +5,5 @@ use Rattle.pn_tablet.specs.Ranges.{is_before}
 use Rattle.pn_tablet.proofs.Within.{all_before}
 use Rattle.pn_tablet.proofs.inside.count_before.Goals as goal
 
-pub returns-in-Some : goal.returns-in-Some
-returns-in-Some c = c.lower_bound.ensures ∙ ap (λ to. count_by (λ entry. is_before to entry.0) c.args.cells.now) (sym (ap option_copied c.in-Some.is))
-
 pub returns-in-None : goal.returns-in-None
 returns-in-None c = c.len.ensures.count ∙ all_before c.args.cells.now ∙ ap (λ to. count_by (λ entry. is_before to entry.0) c.args.cells.now) (sym (ap option_copied c.in-None.is))
