@@ -1,11 +1,12 @@
 //! Changes of a region's layout.
 
-ghost use Rattle.std.specs.Prelude.{◌≡◌, map, filter, Ok, Some, IsTrue, IfOk, IfErr, OnOk, OnErr, unwrap_or};
+ghost use Rattle.std.specs.Prelude.{◌≡◌, map, filter, Ok, IsTrue, IfOk, IfErr, OnOk, OnErr, option_map, unwrap_or};
 ghost use Rattle.std.specs.FinMap.{is_sorted};
-ghost use Rattle.std.specs.List.{AllByRecursion, flat_map};
+ghost use Rattle.std.specs.List.{flat_map};
+ghost use Rattle.pn_join.specs.Marks.{least as least_of};
 ghost use Rattle.pn_join.specs.Prelude.{Reaches, are_positions};
 ghost use Rattle.pn_record.specs.Prelude.{bytes_cmp};
-ghost use Rattle.pn_tablet.specs.Prelude.{in_range, lie_in, Refuses};
+ghost use Rattle.pn_tablet.specs.Prelude.{in_range, Refuses};
 ghost use Rattle.pn_apply.specs.Prelude.{ranges};
 ghost use Rattle.pn_region.specs.Relayouts.{relaying, made_of, parts_of, least_cover, greatest_reach, first_recovering as first_that_recovers, is_recovering, is_memory};
 
@@ -113,11 +114,15 @@ fn cover_of(alloc: Global, tablets: &[TabletState], range: &Range) -> Result<Mar
             least = Some(with_cover(least, tablet.cover())?);
         }
     }
-    Ok(least.unwrap_or(Marks::new(alloc)))
+    match least {
+        Some(least) => Ok(least),
+        None => Ok(Marks::new(alloc)),
+    }
 }
 
 // The lesser of both positions at each name, or the marks where there are no others.
 fn with_cover(least: Option<Marks>, marks: &Marks) -> Result<Marks, NoMemory>
+    ensures { IfOk result (λ both. both ≡ unwrap_or (option_map (λ own. least_of own marks.now) least) marks.now) }
 {
     match least {
         Some(least) => least.least(marks),
