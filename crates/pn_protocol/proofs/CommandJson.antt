@@ -13,28 +13,29 @@ use Rattle.pn_scan.specs.Queries.{QueryValue}
 use Rattle.pn_record.specs.Sets.{Stamp}
 use Rattle.pn_json.proofs.LookUps.{Rise}
 use Rattle.pn_join.specs.Marks.{Positions}
-use Rattle.pn_protocol.specs.Command.Json.{delivery_data, tablet_member, adopt_command, copy_command, deliver_command, get_command, notices_command, read_command, scan_command}
+use Rattle.pn_protocol.specs.Command.Json.{delivery_data, tablet_member, adopt_command, copy_command, deliver_command, get_command, notices_command, read_command, relayout_command, scan_command}
 use Rattle.pn_protocol.specs.Command.Grammar.{IsRequired, Says, IsCommand}
 use Rattle.pn_protocol.specs.Command.Deliveries.{deliver_in}
 use Rattle.pn_protocol.specs.Command.Lookups.{get_in, read_in, scan_in}
 use Rattle.pn_protocol.specs.Command.Overview.{alone_in}
 use Rattle.pn_protocol.specs.Command.Objects.{command_as, allowed_in, command_in}
 use Rattle.pn_protocol.specs.Command.Limits.{may_announce, may_be_asked, may_be_required, is_command}
-use Rattle.pn_protocol.specs.Command.Meaning.{CommandValue, adopt, copy, deliver, lose, marks, notices, read, scan, tablets}
+use Rattle.pn_protocol.specs.Command.Meaning.{CommandValue, adopt, copy, deliver, lose, marks, notices, read, relayout, scan, tablets}
 use Rattle.pn_protocol.specs.Command.Meaning as meaning
 use Rattle.pn_protocol.specs.Command.Needs.{need_at, need_shape}
 use Rattle.pn_protocol.specs.Command.Notices.{notices_in}
 use Rattle.pn_protocol.specs.Command.Recovery.{adopt_in, copy_in, lose_in}
+use Rattle.pn_protocol.specs.Command.Relayouts.{relayout_in}
 use Rattle.pn_protocol.specs.Command.Queries.{query_at, query_shape, fitting_query}
-use Rattle.pn_protocol.specs.Command.RangeChecks.{fits, batches_fit, keys_fit, fitting_version}
+use Rattle.pn_protocol.specs.Command.RangeChecks.{fits, batches_fit, bounds_fit, keys_fit, fitting_version}
 use Rattle.pn_protocol.specs.Command.ShapeChecks.{named_alone, batch_shape, key_shape, version_shape}
 use Rattle.pn_protocol.specs.Command.Words.{word_in}
 use Rattle.pn_protocol.specs.declared.command.word.CommandWord.{CommandWord}
-use Rattle.pn_protocol.specs.declared.command.word.CommandWord.TheVariants.{Adopt, Copy, Deliver, Get, Lose, Marks, Notices, Read, Scan, Tablets}
-use Rattle.pn_protocol.specs.declared.refusal.Part.TheVariants.{Whole, Do, Batches, Key, Keys, Lines, Since, Tablet}
+use Rattle.pn_protocol.specs.declared.command.word.CommandWord.TheVariants.{Adopt, Copy, Deliver, Get, Lose, Marks, Notices, Read, Relayout, Scan, Tablets}
+use Rattle.pn_protocol.specs.declared.refusal.Part.TheVariants.{Whole, Do, Batches, Bounds, Key, Keys, Lines, Since, Tablet}
 use Rattle.pn_protocol.specs.declared.refusal.Refusal.TheVariants.{BadShape}
 use Rattle.pn_protocol.proofs.CommandNeeds.{need_found, need_again}
-use Rattle.pn_protocol.proofs.CommandLimits.{fits_true, deliver_members, deliveries_kept, deliveries_again, keys_kept, keys_again, read_kept, version_again}
+use Rattle.pn_protocol.proofs.CommandLimits.{fits_true, deliver_members, deliveries_kept, deliveries_again, bounds_kept, bounds_again, keys_kept, keys_again, read_kept, version_again}
 use Rattle.pn_protocol.proofs.EachFits.{as_ok}
 use Rattle.pn_json.proofs.MembersByName.{SameAt, same_by_name}
 use Rattle.pn_record.proofs.ReadInOrder.{InOrder}
@@ -99,7 +100,7 @@ module _ (ms : Members) (order : InOrder (object ms)) where
   unfolding get_in
   get_found command says is =
       let items = bind_ok (member_as as_array (BadShape Keys) (get_member (codes "keys") ms)) _ command is in
-      let keys = bind_ok (each_in key_shape items.0) _ command items.2 in
+      let keys = bind_ok (each_in (key_shape Keys) items.0) _ command items.2 in
       let named = bind_ok (named_alone (names_of Get) ms) _ command keys.2 in
       let fit = bind_ok (keys_fit keys.0) _ command named.2 in
       let same : meaning.get keys.0 ≡ command = cc in
@@ -107,7 +108,7 @@ module _ (ms : Members) (order : InOrder (object ms)) where
       let inside = array_in_order (codes "keys") ms items.0 (in_order (object ms) ms refl order) at_keys in
       let value : object ms ≡ get_command keys.0 =
       named_object (names_of Get) (member (codes "do") (string (codes "get")) (member (codes "keys") (array (items_of (map string keys.0))) no_members)) named.1 tt refl
-      (says, (at_keys ∙ ap (λ ds. Some (array ds)) (each_found key_shape string key_found items.0 keys.0 inside keys.1), tt)) in
+      (says, (at_keys ∙ ap (λ ds. Some (array ds)) (each_found (key_shape Keys) string (key_found Keys) items.0 keys.0 inside keys.1), tt)) in
       subst (λ c. IsCommand (object ms) c) same (record { value = value; limits = keys_kept keys.0 fit.1 })
 
   lose_found : Found Lose
@@ -164,6 +165,21 @@ module _ (ms : Members) (order : InOrder (object ms)) where
       subst (λ c. IsCommand (object ms) c) (ap (read text.0) kept.0 ∙ same)
       (record { value = (after_key (get_member (codes "version") ms), version_required _ numbers.0 numbers.1, whole); limits = kept.1 })
 
+  relayout_found : Found Relayout
+  unfolding relayout_in
+  relayout_found command says is =
+      let items = bind_ok (member_as as_array (BadShape Bounds) (get_member (codes "bounds") ms)) _ command is in
+      let bounds = bind_ok (each_in (key_shape Bounds) items.0) _ command items.2 in
+      let named = bind_ok (named_alone (names_of Relayout) ms) _ command bounds.2 in
+      let fit = bind_ok (bounds_fit bounds.0) _ command named.2 in
+      let same : relayout bounds.0 ≡ command = cc in
+      let at_bounds = array_at Bounds _ items.0 items.1 in
+      let inside = array_in_order (codes "bounds") ms items.0 (in_order (object ms) ms refl order) at_bounds in
+      let value : object ms ≡ relayout_command bounds.0 =
+      named_object (names_of Relayout) (member (codes "bounds") (array (items_of (map string bounds.0))) (member (codes "do") (string (codes "relayout")) no_members)) named.1 tt refl
+      (at_bounds ∙ ap (λ ds. Some (array ds)) (each_found (key_shape Bounds) string (key_found Bounds) items.0 bounds.0 inside bounds.1), (says, tt)) in
+      subst (λ c. IsCommand (object ms) c) same (record { value = value; limits = bounds_kept bounds.0 fit.1 })
+
   scan_found : Found Scan
   unfolding scan_in
   scan_found command says is =
@@ -191,6 +207,7 @@ module _ (ms : Members) (order : InOrder (object ms)) where
   word_found Marks = marks_found
   word_found Notices = notices_found
   word_found Read = read_found
+  word_found Relayout = relayout_found
   word_found Scan = scan_found
   word_found Tablets = tablets_found
 
@@ -230,17 +247,18 @@ copy_again (Some d) need tablet is = rw is refl
 
 -- a command's value is read as the command
 says_again : (d : Data) (command : CommandValue) → Says d command → is_command command ≡ true → command_in d ≡ Ok command
-unfolding allowed_in deliver_in get_in lose_in alone_in
+unfolding allowed_in deliver_in get_in lose_in relayout_in alone_in
 says_again d (adopt lines) says keeps = ap command_in says ∙ adopt_again lines keeps
 says_again d (copy need tablet) (said, is, says) keeps = ap command_in says ∙ copy_again said need tablet (need_again said need is keeps)
 says_again d (deliver deliveries) says keeps = ap command_in says ∙ rw (each_again batch_shape delivery_data batch_again deliveries, deliveries_again deliveries keeps) refl
-says_again d (meaning.get keys) says keeps = ap command_in says ∙ rw (each_again key_shape string key_again keys, keys_again keys keeps) refl
+says_again d (meaning.get keys) says keeps = ap command_in says ∙ rw (each_again (key_shape Keys) string (key_again Keys) keys, keys_again keys keeps) refl
 says_again d (lose tablet) says keeps = ap command_in says
 says_again d marks says keeps = ap command_in says
 says_again d (notices since) says keeps = ap command_in says ∙ notices_again since keeps
 says_again d (read key required) (others, about, says) keeps =
     let parts = and_parts (is_key key) (may_be_required required) keeps in
     ap command_in says ∙ read_again key required others about parts.0 (version_again required parts.1)
+says_again d (relayout bounds) says keeps = ap command_in says ∙ rw (each_again (key_shape Bounds) string (key_again Bounds) bounds, bounds_again bounds keeps) refl
 says_again d (scan query) (asked, shape, says) keeps =
     ap command_in says ∙ scan_again asked query (query_again asked query (shape, keeps))
 says_again d tablets says keeps = ap command_in says

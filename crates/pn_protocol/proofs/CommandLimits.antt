@@ -1,5 +1,5 @@
 -- What is in its ranges keeps the limits, and what keeps the limits is in its ranges.
-use Rattle.std.proofs.Common.{◌≡◌, ◌<◌, ℕ, zero, suc, arith, slice_index_or, IsTrue, List, [], ◌∷◌, length, map, codes, Bool, true, false, ◌&&◌, Option, Some, None, Result, Ok, refl}
+use Rattle.std.proofs.Common.{◌≡◌, ◌<◌, ℕ, zero, suc, arith, slice_index_or, IsTrue, List, [], ◌∷◌, length, map, codes, Bool, true, false, ◌&&◌, nat_le, Option, Some, None, Result, Ok, refl}
 use Rattle.std.proofs.lemmas.Bool.{and_parts, and_from}
 use Rattle.std.specs.Borrow.{Bor}
 use Rattle.std.specs.List.{list_all}
@@ -16,12 +16,15 @@ use Rattle.pn_record.specs.declared.image.Image.{Image}
 use Rattle.pn_json.proofs.Inverses.{guard_ok}
 use Rattle.pn_record.proofs.Limiting.{in_ranges, image_from_ranges}
 use Rattle.pn_stream.specs.Positions.{DeliveryValue, are_positions}
+use Rattle.pn_tablet.specs.Layouts.{Bounds}
+use Rattle.pn_tablet.specs.Limits.{max_bounds}
 use Rattle.pn_protocol.specs.Command.Json.{delivery_data, deliver_command}
-use Rattle.pn_protocol.specs.Command.Limits.{is_delivery, may_be_required, is_command}
-use Rattle.pn_protocol.specs.Command.Meaning.{deliver, get, read}
-use Rattle.pn_protocol.specs.Command.RangeChecks.{fits, each_fits, image_fits, batch_fits, batches_fit, key_fits, keys_fit, fitting_version}
+use Rattle.pn_protocol.specs.Command.Limits.{is_delivery, max_keys, are_few, may_be_required, is_command}
+use Rattle.pn_protocol.specs.Command.Meaning.{deliver, get, read, relayout}
+use Rattle.pn_protocol.specs.Command.RangeChecks.{fits, each_fits, image_fits, batch_fits, batches_fit, bounds_fit, key_fits, keys_fit, fitting_version}
 use Rattle.pn_protocol.specs.declared.refusal.Part.{Part}
 use Rattle.pn_protocol.specs.declared.refusal.Part.TheVariants.{Batches, First, Key, Keys, Stream, Version}
+use Rattle.pn_protocol.specs.declared.refusal.Part.TheVariants as part
 use Rattle.pn_protocol.specs.declared.refusal.Refusal.{Refusal}
 use Rattle.pn_protocol.specs.declared.refusal.Refusal.TheVariants.{OutOfRange}
 use Rattle.pn_protocol.proofs.EachFits.{both_fit, as_ok}
@@ -92,38 +95,61 @@ deliveries_again deliveries keeps =
     let parts = and_parts _ (list_all is_delivery deliveries) keeps in
     rw (parts.0, fit_each batch_fits is_delivery delivery_again deliveries parts.1) refl
 
-all_keys : (keys : List (List ℕ)) → each_fits key_fits keys ≡ Ok tt → list_all is_key keys ≡ true
-all_keys [] is = refl
-all_keys (key ∷ keys) is =
-    let parts = both_fit (key_fits key) (each_fits key_fits keys) is in
-    and_from (is_key key) (list_all is_key keys) (fits_true Keys (is_key key) parts.0) (all_keys keys parts.1)
+all_keys : (part : Part) (keys : List (List ℕ)) → each_fits (key_fits part) keys ≡ Ok tt → list_all is_key keys ≡ true
+all_keys part [] is = refl
+all_keys part (key ∷ keys) is =
+    let parts = both_fit (key_fits part key) (each_fits (key_fits part) keys) is in
+    and_from (is_key key) (list_all is_key keys) (fits_true part (is_key key) parts.0) (all_keys part keys parts.1)
 
-key_again : (key : List ℕ) → is_key key ≡ true → key_fits key ≡ Ok tt
-key_again key keeps = rw keeps refl
+key_again : (part : Part) (key : List ℕ) → is_key key ≡ true → key_fits part key ≡ Ok tt
+key_again part key keeps = rw keeps refl
 
--- each of texts that are keys in their ranges
-pub key_at : (keys : List (Bor (List ℕ))) (i : ℕ) (other : Bor (List ℕ)) → i < length keys → keys_fit (texts keys) ≡ Ok tt → IsTrue (is_key (slice_index_or keys i other).now)
+-- each of texts that are keys
+pub key_at : (keys : List (Bor (List ℕ))) (i : ℕ) (other : Bor (List ℕ)) → i < length keys → IsTrue (list_all is_key (texts keys)) → IsTrue (is_key (slice_index_or keys i other).now)
+key_at [] i other inside are = absurd (omega (arith, inside))
+key_at (key ∷ keys) zero other inside are = (and_parts (is_key key.now) (list_all is_key (texts keys)) are).0
+key_at (key ∷ keys) (suc i) other inside are = key_at keys i other (omega (arith, inside)) (and_parts (is_key key.now) (list_all is_key (texts keys)) are).1
+
+keys_in : (keys : List (List ℕ)) → keys_fit keys ≡ Ok tt → (are_few max_keys keys ≡ true) × (list_all is_key keys ≡ true)
 unfolding keys_fit
-key_at keys i other inside is = fit_at keys i inside (both_fit (fits Keys _) (each_fits key_fits (texts keys)) is).1
-  where
-    fit_at : (keys : List (Bor (List ℕ))) (i : ℕ) → i < length keys → each_fits key_fits (texts keys) ≡ Ok tt → IsTrue (is_key (slice_index_or keys i other).now)
-    fit_at [] i inside is = absurd (omega (arith, inside))
-    fit_at (key ∷ keys) zero inside is = fits_true Keys (is_key key.now) (both_fit (key_fits key.now) (each_fits key_fits (texts keys)) is).0
-    fit_at (key ∷ keys) (suc i) inside is = fit_at keys i (omega (arith, inside)) (both_fit (key_fits key.now) (each_fits key_fits (texts keys)) is).1
+keys_in keys is =
+    let count = both_fit (fits Keys _) (each_fits (key_fits Keys) keys) is in
+    (fits_true Keys _ count.0, all_keys Keys keys count.1)
+
+bounds_in : (bounds : Bounds) → bounds_fit bounds ≡ Ok tt → (nat_le (length bounds) max_bounds ≡ true) × (list_all is_key bounds ≡ true)
+unfolding bounds_fit
+bounds_in bounds is =
+    let count = both_fit (fits part.Bounds _) (each_fits (key_fits part.Bounds) bounds) is in
+    (fits_true part.Bounds _ count.0, all_keys part.Bounds bounds count.1)
+
+-- keys and bounds that are in their ranges are keys
+pub are_keys : (keys : List (List ℕ)) → keys_fit keys ≡ Ok tt → IsTrue (list_all is_key keys)
+are_keys keys is = (keys_in keys is).1
+
+pub bounds_are_keys : (bounds : Bounds) → bounds_fit bounds ≡ Ok tt → IsTrue (list_all is_key bounds)
+bounds_are_keys bounds is = (bounds_in bounds is).1
 
 -- keys that are in their ranges
 pub keys_kept : (keys : List (List ℕ)) → keys_fit keys ≡ Ok tt → is_command (get keys) ≡ true
-unfolding keys_fit
-keys_kept keys is =
-    let count = both_fit (fits Keys _) (each_fits key_fits keys) is in
-    and_from _ _ (fits_true Keys _ count.0) (all_keys keys count.1)
+keys_kept keys is = let both = keys_in keys is in and_from _ _ both.0 both.1
+
+-- bounds that are in their ranges
+pub bounds_kept : (bounds : Bounds) → bounds_fit bounds ≡ Ok tt → is_command (relayout bounds) ≡ true
+bounds_kept bounds is = let both = bounds_in bounds is in and_from _ _ both.0 both.1
 
 -- keys that keep their limits
 pub keys_again : (keys : List (List ℕ)) → is_command (get keys) ≡ true → keys_fit keys ≡ Ok tt
 unfolding keys_fit
 keys_again keys keeps =
     let parts = and_parts _ (list_all is_key keys) keeps in
-    rw (parts.0, fit_each key_fits is_key key_again keys parts.1) refl
+    rw (parts.0, fit_each (key_fits Keys) is_key (key_again Keys) keys parts.1) refl
+
+-- bounds that keep their limits
+pub bounds_again : (bounds : Bounds) → is_command (relayout bounds) ≡ true → bounds_fit bounds ≡ Ok tt
+unfolding bounds_fit
+bounds_again bounds keeps =
+    let parts = and_parts (nat_le (length bounds) max_bounds) (list_all is_key bounds) keeps in
+    rw (parts.0, fit_each (key_fits part.Bounds) is_key (key_again part.Bounds) bounds parts.1) refl
 
 version_kept : (required version : Option Stamp) → fitting_version required ≡ Ok version → (required ≡ version) × (may_be_required required ≡ true)
 version_kept None version is = (cc, refl)

@@ -25,9 +25,9 @@ use Rattle.pn_protocol.specs.Command.Queries.{query_at}
 use Rattle.pn_protocol.specs.Command.ShapeChecks.{named_alone, image_shape, batch_shape, key_shape, required_in, version_shape}
 use Rattle.pn_protocol.specs.Command.Words.{word_of, word_in}
 use Rattle.pn_protocol.specs.declared.command.word.CommandWord.{CommandWord}
-use Rattle.pn_protocol.specs.declared.command.word.CommandWord.TheVariants.{Adopt, Copy, Deliver, Get, Lose, Marks, Notices, Read, Scan, Tablets}
+use Rattle.pn_protocol.specs.declared.command.word.CommandWord.TheVariants.{Adopt, Copy, Deliver, Get, Lose, Marks, Notices, Read, Relayout, Scan, Tablets}
 use Rattle.pn_protocol.specs.declared.refusal.Part.{Part}
-use Rattle.pn_protocol.specs.declared.refusal.Part.TheVariants.{Do, Batches, First, Images, Keys, Stream, Version, Other}
+use Rattle.pn_protocol.specs.declared.refusal.Part.TheVariants.{Do, Batches, First, Images, Stream, Version, Other}
 use Rattle.pn_protocol.specs.declared.refusal.Refusal.{Refusal}
 use Rattle.pn_protocol.specs.declared.refusal.Refusal.TheVariants.{BadShape}
 use Rattle.pn_protocol.proofs.CommandLimits.{delivery_members}
@@ -67,6 +67,7 @@ names_of Lose = codes "do" ∷ codes "tablet" ∷ []
 names_of Marks = codes "do" ∷ []
 names_of Notices = codes "do" ∷ codes "since" ∷ []
 names_of Read = codes "do" ∷ codes "key" ∷ codes "version" ∷ []
+names_of Relayout = codes "bounds" ∷ codes "do" ∷ []
 names_of Scan = codes "do" ∷ codes "query" ∷ []
 names_of Tablets = codes "do" ∷ []
 
@@ -141,6 +142,7 @@ text_of Lose = codes "lose"
 text_of Marks = codes "marks"
 text_of Notices = codes "notices"
 text_of Read = codes "read"
+text_of Relayout = codes "relayout"
 text_of Scan = codes "scan"
 text_of Tablets = codes "tablets"
 
@@ -152,8 +154,8 @@ text_from_word : (text : List ℕ) (word : CommandWord) → word_of text ≡ Som
 text_from_word text word found =
     this_or_next _ text Adopt word _ refl found (λ found. this_or_next _ text Copy word _ refl found (λ found. this_or_next _ text Deliver word _ refl found (λ found.
     this_or_next _ text Get word _ refl found (λ found. this_or_next _ text Lose word _ refl found (λ found. this_or_next _ text Marks word _ refl found (λ found.
-    this_or_next _ text Notices word _ refl found (λ found. this_or_next _ text Read word _ refl found (λ found. this_or_next _ text Scan word _ refl found (λ found.
-    this_or_next _ text Tablets word _ refl found (λ none. absurd (cc)))))))))))
+    this_or_next _ text Notices word _ refl found (λ found. this_or_next _ text Read word _ refl found (λ found. this_or_next _ text Relayout word _ refl found (λ found.
+    this_or_next _ text Scan word _ refl found (λ found. this_or_next _ text Tablets word _ refl found (λ none. absurd (cc))))))))))))
 
 pub word_at : (o : Option Data) (word : CommandWord) → member_as word_in (BadShape Do) o ≡ Ok word → o ≡ Some (string (text_of word))
 word_at o word is =
@@ -161,11 +163,11 @@ word_at o word is =
     let text = and_then_some (as_str found.0) word_of word found.2 in
     found.1 ∙ ap Some (string_from_as_str found.0 text.0 text.1 ∙ ap string (text_from_word text.0 word text.2))
 
-pub key_found : (d : Data) (key : List ℕ) → InOrder d → key_shape d ≡ Ok key → d ≡ string key
-key_found d key order is = string_from_as_str d key (ok_or_ok (as_str d) (BadShape Keys) key is)
+pub key_found : (part : Part) (d : Data) (key : List ℕ) → InOrder d → key_shape part d ≡ Ok key → d ≡ string key
+key_found part d key order is = string_from_as_str d key (ok_or_ok (as_str d) (BadShape part) key is)
 
-pub key_again : (key : List ℕ) → key_shape (string key) ≡ Ok key
-key_again key = refl
+pub key_again : (part : Part) (key : List ℕ) → key_shape part (string key) ≡ Ok key
+key_again part key = refl
 
 -- the member after a key: `version`, if it is there
 abbrev pub after_key : Option Data → Members

@@ -5,6 +5,8 @@ use Rattle.std.specs.declared.alloc.Global.{Global}
 use Rattle.serde_json.specs.Data.{Data}
 use Rattle.pn_join.specs.declared.memory.NoMemory.{NoMemory}
 use Rattle.pn_json.specs.Lines.{line_of}
+use Rattle.pn_region.specs.declared.fault.RelayoutFault.{RelayoutFault}
+use Rattle.pn_region.specs.declared.fault.RelayoutFault.TheVariants as relayout
 use Rattle.pn_scan.specs.declared.fault.ScanFault.{ScanFault}
 use Rattle.pn_scan.specs.declared.fault.ScanFault.TheVariants as fault_of
 use Rattle.pn_tablet.specs.declared.copy_fault.CopyTextFault.{CopyTextFault}
@@ -48,6 +50,10 @@ adopt_memory adoption.Memory = inl refl
 adopt_memory adoption.WrongRange = inr (λ is. cc)
 adopt_memory (adoption.TooOld stream has needs) = inr (λ is. cc)
 
+relayout_memory : (fault : RelayoutFault) → (fault ≡ relayout.Memory) ⊎ (fault ≢ relayout.Memory)
+relayout_memory relayout.Memory = inl refl
+relayout_memory (relayout.StillRecovering tablet) = inr (λ is. cc)
+
 module _ (said : Data) (given : Result (Vec ℕ Global) NoMemory) (reply : Reply) (is_text : IfOk given (λ t. t.items ≡ line_of said)) where
   pub scan_told : (fault : ScanFault) → RefusesBy fault_of.Memory fault given reply → Tells (fault ≢ fault_of.Memory) said reply
   scan_told fault refuses = told_by fault_of.Memory fault said given reply (scan_memory fault) is_text refuses
@@ -60,3 +66,6 @@ module _ (said : Data) (given : Result (Vec ℕ Global) NoMemory) (reply : Reply
 
   pub adopt_told : (fault : AdoptFault) → RefusesBy adoption.Memory fault given reply → Tells (fault ≢ adoption.Memory) said reply
   adopt_told fault refuses = told_by adoption.Memory fault said given reply (adopt_memory fault) is_text refuses
+
+  pub relayout_told : (fault : RelayoutFault) → RefusesBy relayout.Memory fault given reply → Tells (fault ≢ relayout.Memory) said reply
+  relayout_told fault refuses = told_by relayout.Memory fault said given reply (relayout_memory fault) is_text refuses

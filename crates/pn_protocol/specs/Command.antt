@@ -14,5 +14,6 @@ pub mod Overview
 pub mod Queries
 pub mod RangeChecks
 pub mod Recovery
+pub mod Relayouts
 pub mod ShapeChecks
 pub mod Words

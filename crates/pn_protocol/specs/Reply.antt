@@ -8,6 +8,7 @@ pub mod Notices
 pub mod Record
 pub mod Recovery
 pub mod Refusals
+pub mod Relayouts
 pub mod Rows
 pub mod Scan
 pub mod Short

@@ -8,6 +8,7 @@ pub(crate) mod parse;
 mod ranges;
 mod records;
 mod recovery;
+mod relayout;
 mod shapes;
 pub(crate) mod word;
 
@@ -35,6 +36,8 @@ pub enum Command {
     Notices { since: u64 },
     /// Show the record of a key. Where a version is required, the record must have it or a later one.
     Read { key: Key, version: Option<Version> },
+    /// Divide the keys into tablets at these bounds, at most 63. Whether they rise is not checked yet.
+    Relayout(Vec<Key>),
     /// Show the records that a query asks for, up to its limit.
     Scan(Query),
     /// Show the tablets.

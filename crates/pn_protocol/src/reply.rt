@@ -25,6 +25,8 @@ pub enum Reply {
     Copied { lines: u64, text: String },
     /// The number of the tablet that was lost.
     Lost(u64),
+    /// The number of tablets in a new layout.
+    Relaid(u64),
     /// No reply: announced lines are still to come, or the input is at its end.
     Silent,
     /// A reply's text.

@@ -1,12 +1,14 @@
 -- What an event does to each tablet.
 use Rattle.std.proofs.Common.{◌≡◌, ℕ, zero, suc, List, [], ◌∷◌, slice_get, Option, None, Some, Result, Ok, Err, refl, sym, ap, ◌∙◌, subst, arith, ◌⊎◌, inl, inr}
 use Rattle.std.specs.Result.{result_map_both}
-use Rattle.pn_region.specs.Events.{RegionEvent, round, half_round, loss, adoption, LeadsTo, AllLeadTo}
+use Rattle.pn_region.specs.Events.{RegionEvent, round, half_round, loss, adoption, relayout, LeadsTo, AllLeadTo}
 use Rattle.pn_region.specs.Recovery.{stepping, lacks, adopting_unless, adopting}
 use Rattle.pn_region.specs.Rounds as rounds
+use Rattle.pn_region.specs.Taken.{KeepsLayout, KeepLayout}
 use Rattle.pn_region.proofs.Common.{Positions, Reaches, DeliveryValue, TabletCopyValue, stepped, TabletStateValue, Short, TabletOp, Lose, Adopt, AreOldOrStepped, all_images, ranges, new_marks, stepped_at, tablet_for, adopting_by, RegionValue, IsRegion, RoundFault}
 use Rattle.pn_region.proofs.HalfRounds.{half_so, half_taken_is}
 use Rattle.pn_region.proofs.OneTablet.{stepping_is}
+use Rattle.pn_region.proofs.Relaying.{relays, relaid_is}
 use Rattle.pn_region.proofs.RoundEnds.{taken_half}
 use Rattle.pn_region.proofs.RoundSteps.{all_taken}
 
@@ -65,6 +67,7 @@ event_is (half_round deliveries) old new is leads = half_taken_is old new delive
 event_is (loss n) old new is leads = subst IsRegion (sym leads) (stepping_is old n Lose tt is)
 event_is (adoption copy) old new is leads =
     subst IsRegion (sym (adopts old copy leads.tablet new leads.adopted).is) (stepping_is old leads.tablet (Adopt copy) leads.lawful.inside is)
+event_is (relayout bounds) old new is leads = subst IsRegion (sym (relays old new bounds leads.relaid).is) (relaid_is old bounds leads.lawful is)
 
 pub events_are : (events : List RegionEvent) (old new : RegionValue) → IsRegion old → AllLeadTo events old new → IsRegion new
 events_are [] old new is lead = subst IsRegion (sym lead) is
@@ -126,32 +129,38 @@ one_moves n op [] = tt
 one_moves zero op (t ∷ ts) = (inr (op, refl), each_itself Moves (λ u. inl refl) ts)
 one_moves (suc n) op (t ∷ ts) = (inl refl, one_moves n op ts)
 
--- in an event each tablet stays as it is, or takes one operation
-pub each_moves : (event : RegionEvent) (old new : RegionValue) → IsRegion old → LeadsTo event old new → Each Moves old.tablets new.tablets
-each_moves (round deliveries) old new is leads =
+-- in an event that keeps the layout each tablet stays as it is, or takes one operation
+pub each_moves : (event : RegionEvent) (old new : RegionValue) → IsRegion old → KeepsLayout event → LeadsTo event old new → Each Moves old.tablets new.tablets
+each_moves (round deliveries) old new is keeps leads =
     let took = takes old deliveries new leads in
     subst (λ (r : RegionValue). Each Moves old.tablets r.tablets) (sym took.is) (halves_move old.tablets (rounds.joins old deliveries took.marks) (rounds.taking old deliveries took.marks).tablets (taken_half old deliveries is took.marks))
-each_moves (half_round deliveries) old new is leads =
+each_moves (half_round deliveries) old new is keeps leads =
     half_so old new deliveries (Each Moves old.tablets) (each_itself Moves (λ t. inl refl) old.tablets) (λ marks half. halves_move old.tablets _ new.tablets half) leads
-each_moves (loss n) old new is leads = subst (λ (r : RegionValue). Each Moves old.tablets r.tablets) (sym leads) (one_moves n Lose old.tablets)
-each_moves (adoption copy) old new is leads =
+each_moves (loss n) old new is keeps leads = subst (λ (r : RegionValue). Each Moves old.tablets r.tablets) (sym leads) (one_moves n Lose old.tablets)
+each_moves (adoption copy) old new is keeps leads =
     subst (λ (r : RegionValue). Each Moves old.tablets r.tablets) (sym (adopts old copy leads.tablet new leads.adopted).is) (one_moves leads.tablet (Adopt copy) old.tablets)
+each_moves (relayout bounds) old new is keeps leads = absurd keeps
 
--- what each event does to a tablet, and each two that it does, events do together
+-- what each event that keeps the layout does to a tablet, and each two that it does, such events do together
 pub each_after : (R : TabletStateValue → TabletStateValue → Type 0) → ((t : TabletStateValue) → R t t) → ((t u v : TabletStateValue) → R t u → R u v → R t v) → ((t u : TabletStateValue) → Moves t u → R t u)
-    → (events : List RegionEvent) (old new : RegionValue) → IsRegion old → AllLeadTo events old new → Each R old.tablets new.tablets
-each_after R itself both moves [] old new is lead = subst (λ (r : RegionValue). Each R old.tablets r.tablets) (sym lead) (each_itself R itself old.tablets)
-each_after R itself both moves (event ∷ events) old new is lead =
-    each_then R both old.tablets lead.0.tablets new.tablets (each_so Moves R moves old.tablets lead.0.tablets (each_moves event old lead.0 is lead.1))
-    (each_after R itself both moves events lead.0 new (event_is event old lead.0 is lead.1) lead.2)
+    → (events : List RegionEvent) (old new : RegionValue) → IsRegion old → KeepLayout events → AllLeadTo events old new → Each R old.tablets new.tablets
+each_after R itself both moves [] old new is keep lead = subst (λ (r : RegionValue). Each R old.tablets r.tablets) (sym lead) (each_itself R itself old.tablets)
+each_after R itself both moves (event ∷ events) old new is keep lead =
+    each_then R both old.tablets lead.0.tablets new.tablets (each_so Moves R moves old.tablets lead.0.tablets (each_moves event old lead.0 is keep.0 lead.1))
+    (each_after R itself both moves events lead.0 new (event_is event old lead.0 is lead.1) keep.1 lead.2)
 
--- the range stays, and the cover does not fall
+-- the range stays, and neither the cover nor the reach falls
 pub record Grows (t u : TabletStateValue) : Type 0 where
   pub range : u.range ≡ t.range
   pub cover : Reaches u.cover t.cover
+  pub reach : Reaches u.reach t.reach
 
 pub grows_itself : (t : TabletStateValue) → Grows t t
-grows_itself t = record { range = refl; cover = λ name. omega arith }
+grows_itself t = record { range = refl; cover = λ name. omega arith; reach = λ name. omega arith }
 
 pub grows_then : (t u v : TabletStateValue) → Grows t u → Grows u v → Grows t v
-grows_then t u v first second = record { range = second.range ∙ first.range; cover = λ name. omega (arith, first.cover name, second.cover name) }
+grows_then t u v first second = record {
+  range = second.range ∙ first.range;
+  cover = λ name. omega (arith, first.cover name, second.cover name);
+  reach = λ name. omega (arith, first.reach name, second.reach name);
+}

@@ -1,19 +1,18 @@
--- Events keep covers, faithful tablets and what tablets that serve hold.
-use Rattle.std.proofs.Common.{◌≡◌, ℕ, zero, suc, Bool, true, false, if◌then◌else◌, List, [], ◌∷◌, slice_get, Option, None, Some, Ok, Err, refl, sym, ap, ◌∙◌, subst, inl, inr, Contains}
-use Rattle.pn_stream.proofs.Published.{wider, is_up_to, published}
+-- Events keep covers and reaches, and what tablets that serve hold.
+use Rattle.std.proofs.Common.{◌≡◌, ℕ, zero, suc, ◌≤◌, Bool, true, false, if◌then◌else◌, List, [], ◌∷◌, slice_get, Option, None, Some, Ok, Err, refl, sym, ap, ◌∙◌, subst, arith, inl, inr}
 use Rattle.pn_tablet.specs.Laws.{IsSpelled}
 use Rattle.pn_tablet.specs.Steps.{taking}
 use Rattle.pn_tablet.specs.Steps as steps
-use Rattle.pn_tablet.proofs.TabletLaws.{never_falls}
-use Rattle.pn_region.specs.Events.{RegionEvent, round, half_round, loss, adoption, LeadsTo, AllLeadTo, IsHonestEvent, AreHonestEvents}
+use Rattle.pn_tablet.proofs.TabletLaws.{never_falls, reach_never_falls}
+use Rattle.pn_region.specs.Events.{RegionEvent, round, half_round, loss, adoption, relayout, LeadsTo, AllLeadTo, IsRelayout}
 use Rattle.pn_region.specs.Held.{HoldsStill}
-use Rattle.pn_region.specs.Honest.{IsHonestCopy}
-use Rattle.pn_region.proofs.Common.{find, Positions, Reaches, position_of, Image, bytes_cmp, spell, Entries, table_of, BrokerRecord, up_to, TabletCopyValue, lacking, Ends, step, after_step, stepped, TabletStateValue, lie_in, same_range, WrongRange, Short, TabletOp, Join, Lose, Adopt, Serving, images_in, IsFaithful, AreFaithful, stepped_at, RegionValue, AreTabletsOf, IsRegion}
-use Rattle.pn_region.proofs.EventSteps.{adopts, takes, event_is, Moves, Each, each_at, each_moves, each_after, Grows, grows_itself, grows_then}
-use Rattle.pn_region.proofs.Faith.{round_keeps, half_keeps}
-use Rattle.pn_region.proofs.FaithfulCopies.{lost_faithful, adopted_faithful, serving_has_all}
-use Rattle.pn_region.proofs.InRange.{more_in}
-use Rattle.pn_region.proofs.StillHeld.{itself_held, added_held, more_held}
+use Rattle.pn_region.specs.Relayouts.{made_of}
+use Rattle.pn_region.specs.Taken.{KeepsLayout, KeepLayout}
+use Rattle.pn_region.proofs.Common.{find, AllByRecursion, IsSome, Positions, Reaches, position_of, bytes_cmp, spell, Entries, Bounds, tablet_of, TabletCopyValue, lacking, Ends, after_step, stepped, TabletStateValue, lie_in, same_range, WrongRange, Short, TabletOp, Join, Lose, Adopt, Serving, RegionValue, AreTabletsOf, IsRegion}
+use Rattle.pn_region.proofs.EventSteps.{adopts, takes, event_is, Moves, each_at, each_moves, each_after, Grows, grows_itself, grows_then}
+use Rattle.pn_region.proofs.KeyTablets.{has_tablet}
+use Rattle.pn_region.proofs.Relaying.{relays, part_at, new_at}
+use Rattle.pn_region.proofs.StillHeld.{itself_held, added_held}
 
 join_stays : (t : TabletStateValue) (cells : Entries) (marks : Positions) (b : Bool) → (after_step t (if b then Ok (taking t cells marks) else Err WrongRange)).range ≡ t.range
 join_stays t cells marks true = refl
@@ -32,63 +31,20 @@ range_stays t (Adopt copy) = adopt_stays t copy (same_range t.range copy.range) 
 
 grows_move : (t u : TabletStateValue) → Moves t u → Grows t u
 grows_move t u (inl same) = subst (Grows t) (sym same) (grows_itself t)
-grows_move t u (inr move) = subst (Grows t) (sym move.1) (record { range = range_stays t move.0; cover = never_falls t move.0 })
+grows_move t u (inr move) = subst (Grows t) (sym move.1) (record { range = range_stays t move.0; cover = never_falls t move.0; reach = reach_never_falls t move.0 })
 
--- over events each tablet keeps its range, and no cover falls
-pub events_grow : (events : List RegionEvent) (old new : RegionValue) → IsRegion old → AllLeadTo events old new → Each Grows old.tablets new.tablets
-events_grow events old new is lead = each_after Grows grows_itself grows_then grows_move events old new is lead
+-- in the same layout each tablet keeps its range, and neither its cover nor its reach falls
+pub event_reaches : (event : RegionEvent) (old new : RegionValue) (n : ℕ) (t u : TabletStateValue) → IsRegion old → KeepsLayout event → LeadsTo event old new → slice_get old.tablets n ≡ Some t → slice_get new.tablets n ≡ Some u
+    → Reaches u.cover t.cover × Reaches u.reach t.reach
+event_reaches event old new n t u is keeps leads there there_too =
+    let grows = grows_move t u (each_at Moves old.tablets new.tablets n t u (each_moves event old new is keeps leads) there there_too) in
+    (grows.cover, grows.reach)
 
-pub event_reaches : (event : RegionEvent) (old new : RegionValue) (n : ℕ) (t u : TabletStateValue) → IsRegion old → LeadsTo event old new → slice_get old.tablets n ≡ Some t → slice_get new.tablets n ≡ Some u → Reaches u.cover t.cover
-event_reaches event old new n t u is leads there there_too = (grows_move t u (each_at Moves old.tablets new.tablets n t u (each_moves event old new is leads) there there_too)).cover
-
-pub events_reach : (events : List RegionEvent) (old new : RegionValue) (n : ℕ) (t u : TabletStateValue) → IsRegion old → AllLeadTo events old new → slice_get old.tablets n ≡ Some t → slice_get new.tablets n ≡ Some u → Reaches u.cover t.cover
-events_reach events old new n t u is lead there there_too = (each_at Grows old.tablets new.tablets n t u (events_grow events old new is lead) there there_too).cover
-
--- faithful tablets stay faithful
-module _ (broker : BrokerRecord) where
-  lost_at : (n : ℕ) (ts : List TabletStateValue) → AreFaithful broker ts → AreFaithful broker (stepped_at n Lose ts)
-  lost_at n [] faithful = tt
-  lost_at zero (t ∷ ts) faithful = (lost_faithful broker t, faithful.1)
-  lost_at (suc n) (t ∷ ts) faithful = (faithful.0, lost_at n ts faithful.1)
-
-  adopted_or_not : (t : TabletStateValue) (copy : TabletCopyValue) → IsHonestCopy broker copy → IsFaithful broker t → IsFaithful broker (stepped t (Adopt copy))
-  adopted_or_not t copy honest faithful =
-      elim (step t (Adopt copy)) as (λ right. step t (Adopt copy) ≡ right → IsFaithful broker (after_step t right)) [
-        | Ok after ↦ λ is. adopted_faithful broker t after copy faithful honest is
-        | Err refusal ↦ λ is. faithful
-      ] refl
-
-  adopted_at : (n : ℕ) (copy : TabletCopyValue) (ts : List TabletStateValue) → IsHonestCopy broker copy → AreFaithful broker ts → AreFaithful broker (stepped_at n (Adopt copy) ts)
-  adopted_at n copy [] honest faithful = tt
-  adopted_at zero copy (t ∷ ts) honest faithful = (adopted_or_not t copy honest faithful.0, faithful.1)
-  adopted_at (suc n) copy (t ∷ ts) honest faithful = (faithful.0, adopted_at n copy ts honest faithful.1)
-
-  pub event_faithful : (event : RegionEvent) (old new : RegionValue) → IsRegion old → AreFaithful broker old.tablets → IsHonestEvent broker event → LeadsTo event old new → AreFaithful broker new.tablets
-  event_faithful (round deliveries) old new is faithful honest leads =
-      let took = takes old deliveries new leads in
-      subst (λ (r : RegionValue). AreFaithful broker r.tablets) (sym took.is) (round_keeps broker old deliveries took.marks is faithful honest took.accepted)
-  event_faithful (half_round deliveries) old new is faithful honest leads = half_keeps broker old new deliveries is faithful honest leads
-  event_faithful (loss n) old new is faithful honest leads = subst (λ (r : RegionValue). AreFaithful broker r.tablets) (sym leads) (lost_at n old.tablets faithful)
-  event_faithful (adoption copy) old new is faithful honest leads =
-      subst (λ (r : RegionValue). AreFaithful broker r.tablets) (sym (adopts old copy leads.tablet new leads.adopted).is) (adopted_at leads.tablet copy old.tablets honest faithful)
-
-  pub events_faithful : (events : List RegionEvent) (old new : RegionValue) → IsRegion old → AreFaithful broker old.tablets → AreHonestEvents broker events → AllLeadTo events old new → AreFaithful broker new.tablets
-  events_faithful [] old new is faithful honest lead = subst (λ (r : RegionValue). AreFaithful broker r.tablets) (sym lead) faithful
-  events_faithful (event ∷ events) old new is faithful honest lead =
-      events_faithful events lead.0 new (event_is event old lead.0 is lead.1) (event_faithful event old lead.0 is faithful honest.0 lead.1) honest.1 lead.2
-
-  pub faithful_at : (n : ℕ) (ts : List TabletStateValue) (t : TabletStateValue) → AreFaithful broker ts → slice_get ts n ≡ Some t → IsFaithful broker t
-  faithful_at n [] t faithful there = cc
-  faithful_at zero (u ∷ ts) t faithful there =
-      let same : u ≡ t = cc in
-      subst (IsFaithful broker) same faithful.0
-  faithful_at (suc n) (u ∷ ts) t faithful there = faithful_at n ts t faithful.1 there
-
-  -- marks that reach others have all images that those have
-  pub up_to_more : (marks others : Positions) → Reaches marks others → (image : Image) → Contains (up_to broker others) image → Contains (up_to broker marks) image
-  up_to_more marks others reach image there =
-      let old = published broker others image there in
-      is_up_to broker marks old.stream image (wider (position_of others old.stream) (position_of marks old.stream) (broker old.stream) image (reach old.stream) old.stands)
+pub events_reach : (events : List RegionEvent) (old new : RegionValue) (n : ℕ) (t u : TabletStateValue) → IsRegion old → KeepLayout events → AllLeadTo events old new → slice_get old.tablets n ≡ Some t → slice_get new.tablets n ≡ Some u
+    → Reaches u.cover t.cover × Reaches u.reach t.reach
+events_reach events old new n t u is keep lead there there_too =
+    let grows = each_at Grows old.tablets new.tablets n t u (each_after Grows grows_itself grows_then grows_move events old new is keep lead) there there_too in
+    (grows.cover, grows.reach)
 
 joined_held : (t : TabletStateValue) (cells : Entries) (marks : Positions) (b : Bool) → IsSpelled t.cells → (key : List ℕ) → HoldsStill (find bytes_cmp key t.cells) (find bytes_cmp key (after_step t (if b then Ok (taking t cells marks) else Err WrongRange)).cells)
 joined_held t cells marks true spelled key = added_held t.cells (spell cells) key spelled
@@ -110,7 +66,7 @@ move_held t u (inr move) spelled serves key =
     subst (λ (now : TabletStateValue). HoldsStill (find bytes_cmp key t.cells) (find bytes_cmp key now.cells)) (sym move.1)
     (step_held t move.0 spelled (ap (λ (now : TabletStateValue). now.status) (sym move.1) ∙ serves) key)
 
-spelled_at : (marks : Positions) (rs : List Ends) (ts : List TabletStateValue) (n : ℕ) (t : TabletStateValue) → AreTabletsOf marks rs ts → slice_get ts n ≡ Some t → IsSpelled t.cells
+pub spelled_at : (marks : Positions) (rs : List Ends) (ts : List TabletStateValue) (n : ℕ) (t : TabletStateValue) → AreTabletsOf marks rs ts → slice_get ts n ≡ Some t → IsSpelled t.cells
 spelled_at marks [] [] n t are there = cc
 spelled_at marks [] (u ∷ ts) n t are there = absurd are
 spelled_at marks (r ∷ rs) [] n t are there = absurd are
@@ -119,22 +75,95 @@ spelled_at marks (r ∷ rs) (u ∷ ts) zero t are there =
     subst (λ (now : TabletStateValue). IsSpelled now.cells) same are.0.spelled
 spelled_at marks (r ∷ rs) (u ∷ ts) (suc n) t are there = spelled_at marks rs ts n t are.1 there
 
--- a tablet that serves after an event still holds what it held before
-pub event_held : (event : RegionEvent) (old new : RegionValue) (n : ℕ) (t u : TabletStateValue) → IsRegion old → LeadsTo event old new → slice_get old.tablets n ≡ Some t → slice_get new.tablets n ≡ Some u → u.status ≡ Serving
-    → (key : List ℕ) → HoldsStill (find bytes_cmp key t.cells) (find bytes_cmp key u.cells)
-event_held event old new n t u is leads there there_too serves key =
-    move_held t u (each_at Moves old.tablets new.tablets n t u (each_moves event old new is leads) there there_too)
-    (spelled_at old.marks _ old.tablets n t is.tablets there) serves key
+-- ---- the tablet of a key, before and after an event
 
--- so does a faithful tablet that serves at both ends of honest events, whatever was between
-pub events_held : (broker : BrokerRecord) (events : List RegionEvent) (old new : RegionValue) (n : ℕ) (t u : TabletStateValue) → IsRegion old → AreFaithful broker old.tablets → AreHonestEvents broker events → AllLeadTo events old new
-    → slice_get old.tablets n ≡ Some t → slice_get new.tablets n ≡ Some u → t.status ≡ Serving → u.status ≡ Serving → (key : List ℕ) → HoldsStill (find bytes_cmp key t.cells) (find bytes_cmp key u.cells)
-events_held broker events old new n t u is faithful honest lead there there_too serves serves_too key =
-    let grows = each_at Grows old.tablets new.tablets n t u (events_grow events old new is lead) there there_too in
-    let had = serving_has_all broker t (faithful_at broker n old.tablets t faithful there) serves in
-    let has = serving_has_all broker u (faithful_at broker n new.tablets u (events_faithful broker events old new is faithful honest lead) there_too) serves_too
-    ∙ ap (λ (range : Ends). table_of (images_in range (up_to broker u.cover))) grows.range in
-    subst (λ (cells : Entries). HoldsStill (find bytes_cmp key cells) (find bytes_cmp key u.cells)) (sym had)
-    (subst (λ (cells : Entries). HoldsStill (find bytes_cmp key (table_of (images_in t.range (up_to broker t.cover)))) (find bytes_cmp key cells)) (sym has)
-    (more_held (images_in t.range (up_to broker t.cover)) (images_in t.range (up_to broker u.cover)) key
-    (more_in t.range (up_to broker t.cover) (up_to broker u.cover) (up_to_more broker u.cover t.cover grows.cover))))
+-- by whether an event keeps the layout
+pub by_layout : (P : RegionEvent → Type 0) → ((event : RegionEvent) → KeepsLayout event → P event) → ((bounds : Bounds) → P (relayout bounds)) → (event : RegionEvent) → P event
+by_layout P kept laid (round deliveries) = kept (round deliveries) tt
+by_layout P kept laid (half_round deliveries) = kept (half_round deliveries) tt
+by_layout P kept laid (loss n) = kept (loss n) tt
+by_layout P kept laid (adoption copy) = kept (adoption copy) tt
+by_layout P kept laid (relayout bounds) = laid bounds
+
+event_layout : (event : RegionEvent) (old new : RegionValue) → KeepsLayout event → LeadsTo event old new → new.layout ≡ old.layout
+event_layout (round deliveries) old new keeps leads = ap (λ (r : RegionValue). r.layout) (takes old deliveries new leads).is
+event_layout (half_round deliveries) old new keeps leads = leads.0
+event_layout (loss n) old new keeps leads = ap (λ (r : RegionValue). r.layout) leads
+event_layout (adoption copy) old new keeps leads = ap (λ (r : RegionValue). r.layout) (adopts old copy leads.tablet new leads.adopted).is
+event_layout (relayout bounds) old new keeps leads = absurd keeps
+
+-- the tablet of the key
+abbrev pub at_key : RegionValue → List ℕ → Option TabletStateValue
+at_key region key = slice_get region.tablets (tablet_of region.layout key)
+
+-- in the same layout it has the same number
+pub same_number : (event : RegionEvent) (old new : RegionValue) (key : List ℕ) (u : TabletStateValue) → KeepsLayout event → LeadsTo event old new → at_key new key ≡ Some u → slice_get new.tablets (tablet_of old.layout key) ≡ Some u
+same_number event old new key u keeps leads there = ap (λ (bounds : Bounds). slice_get new.tablets (tablet_of bounds key)) (sym (event_layout event old new keeps leads)) ∙ there
+
+pub one_found : (t u : TabletStateValue) (found : Option TabletStateValue) → found ≡ Some t → found ≡ Some u → t ≡ u
+one_found t u found is is_too = cc
+
+-- what holds of all holds of the one at a place
+pub all_at : (P : TabletStateValue → Type 0) (ts : List TabletStateValue) (n : ℕ) (t : TabletStateValue) → AllByRecursion P ts → slice_get ts n ≡ Some t → P t
+all_at P [] n t all there = cc
+all_at P (u ∷ ts) zero t all there =
+    let same : u ≡ t = cc in
+    subst P same all.0
+all_at P (u ∷ ts) (suc n) t all there = all_at P ts n t all.1 there
+
+-- in another layout it has the same record, and a reach that is not below
+pub record IsRelaidAt (key : List ℕ) (t u : TabletStateValue) : Type 0 where
+  pub cell : find bytes_cmp key u.cells ≡ find bytes_cmp key t.cells
+  pub reach : Reaches u.reach t.reach
+  pub served : t.status ≡ Serving
+
+pub relaid_at : (old new : RegionValue) (bounds : Bounds) (key : List ℕ) (t u : TabletStateValue) → IsRegion old → IsRelayout bounds old new → at_key old key ≡ Some t → at_key new key ≡ Some u → IsRelaidAt key t u
+relaid_at old new bounds key t u is leads there there_too =
+    let known = relays old new bounds leads.relaid in
+    let made = new_at old bounds key leads.lawful in
+    let part = part_at old is made.0 key made.2 in
+    let now = made_of old.tablets made.0 in
+    let same : now ≡ u = one_found now u (at_key new key) (ap (λ (r : RegionValue). at_key r key) known.is ∙ made.1) there_too in
+    let same_part : part.0 ≡ t = one_found part.0 t (at_key old key) (ap (λ (n : ℕ). slice_get old.tablets n) (sym part.1.number) ∙ part.1.there) there in
+    subst (λ (after : TabletStateValue). IsRelaidAt key t after) same
+    (subst (λ (before : TabletStateValue). IsRelaidAt key before now) same_part (record {
+      cell = part.1.cell;
+      reach = part.1.reach;
+      served = all_at (λ (tablet : TabletStateValue). tablet.status ≡ Serving) old.tablets part.1.n part.0 known.served part.1.there;
+    }))
+
+event_reach_at : (key : List ℕ) (event : RegionEvent) (old new : RegionValue) (t u : TabletStateValue) → IsRegion old → LeadsTo event old new → at_key old key ≡ Some t → at_key new key ≡ Some u → Reaches u.reach t.reach
+event_reach_at key =
+    by_layout (λ event. (old new : RegionValue) (t u : TabletStateValue) → IsRegion old → LeadsTo event old new → at_key old key ≡ Some t → at_key new key ≡ Some u → Reaches u.reach t.reach)
+    (λ event keeps old new t u is leads there there_too. (event_reaches event old new (tablet_of old.layout key) t u is keeps leads there (same_number event old new key u keeps leads there_too)).1)
+    (λ bounds old new t u is leads there there_too. (relaid_at old new bounds key t u is leads there there_too).reach)
+
+some_found : (found : Option TabletStateValue) → IsSome found → (t : TabletStateValue) × (found ≡ Some t)
+some_found None there = cc
+some_found (Some t) there = (t, refl)
+
+-- each key has a tablet
+pub found_at_key : (region : RegionValue) (key : List ℕ) → IsRegion region → (t : TabletStateValue) × (at_key region key ≡ Some t)
+found_at_key region key is = some_found (at_key region key) (has_tablet region key is)
+
+-- the reach of a key's tablet does not fall over events
+pub events_reach_at : (events : List RegionEvent) (old new : RegionValue) (key : List ℕ) (t u : TabletStateValue) → IsRegion old → AllLeadTo events old new → at_key old key ≡ Some t → at_key new key ≡ Some u → Reaches u.reach t.reach
+events_reach_at [] old new key t u is lead there there_too name =
+    let same = one_found t u (at_key old key) there (ap (λ (r : RegionValue). at_key r key) (sym lead) ∙ there_too) in
+    subst (λ (after : TabletStateValue). position_of t.reach name ≤ position_of after.reach name) same (omega arith)
+events_reach_at (event ∷ events) old new key t u is lead there there_too name =
+    let next = event_is event old lead.0 is lead.1 in
+    let mid = found_at_key lead.0 key next in
+    omega (arith, event_reach_at key event old lead.0 t mid.0 is lead.1 there mid.1 name, events_reach_at events lead.0 new key mid.0 u next lead.2 mid.1 there_too name)
+
+-- a key's tablet that serves after an event still holds its record
+pub event_held : (event : RegionEvent) (old new : RegionValue) (key : List ℕ) (t u : TabletStateValue) → IsRegion old → LeadsTo event old new → at_key old key ≡ Some t → at_key new key ≡ Some u → u.status ≡ Serving
+    → HoldsStill (find bytes_cmp key t.cells) (find bytes_cmp key u.cells)
+event_held event old new key t u =
+    by_layout (λ event. IsRegion old → LeadsTo event old new → at_key old key ≡ Some t → at_key new key ≡ Some u → u.status ≡ Serving → HoldsStill (find bytes_cmp key t.cells) (find bytes_cmp key u.cells))
+    (λ event keeps is leads there there_too serves.
+    move_held t u (each_at Moves old.tablets new.tablets (tablet_of old.layout key) t u (each_moves event old new is keeps leads) there (same_number event old new key u keeps leads there_too))
+    (spelled_at old.marks _ old.tablets (tablet_of old.layout key) t is.tablets there) serves key)
+    (λ bounds is leads there there_too serves.
+    subst (HoldsStill (find bytes_cmp key t.cells)) (sym (relaid_at old new bounds key t u is leads there there_too).cell) (itself_held (find bytes_cmp key t.cells)))
+    event

@@ -10,18 +10,19 @@ use Rattle.pn_tablet.specs.Steps.{taking}
 use Rattle.pn_apply.proofs.ReduceLaws.{range_joins, same_in}
 use Rattle.pn_tablet.specs.Needs.{needed}
 use Rattle.pn_region.specs.Rounds as rounds
-use Rattle.pn_region.proofs.Common.{Ok, Err, MatchResult, Positions, Reaches, position_of, raised, Image, spell, SameImages, Entries, table_of, DeliveryValue, BrokerRecord, up_to, AreHonest, Bounds, Ends, stepped, TabletStateValue, empty_tablet, AreOldOrStepped, all_images, images_in, join_in, ranges, IsFaithful, AreFaithful, HasImages, new_marks, last_position, RegionValue, IsTabletOf, AreTabletsOf, IsRegion, new_region, joins, IsHalfTaken}
+use Rattle.pn_region.proofs.Common.{Ok, Err, MatchResult, Positions, Reaches, position_of, raised, Image, spell, SameImages, Entries, table_of, DeliveryValue, BrokerRecord, up_to, AreHonest, Bounds, Ends, in_range, stepped, TabletStateValue, empty_tablet, AreOldOrStepped, all_images, images_in, join_in, ranges, IsFaithful, AreFaithful, HasImages, new_marks, last_position, RegionValue, IsTabletOf, AreTabletsOf, IsRegion, new_region, joins, IsHalfTaken}
 use Rattle.pn_region.proofs.MarkLaws.{not_skipped, next_has_last, next_reaches}
 use Rattle.pn_region.proofs.RoundEnds.{taken_half}
 use Rattle.pn_region.proofs.RoundSteps.{is_taken}
 use Rattle.pn_region.proofs.TakenImages.{by_part, pieces_of, round_takes}
+use Rattle.pn_region.proofs.UpTo.{up_to_more}
 
 one_empty : (broker : BrokerRecord) (r : Ends) → IsFaithful broker (empty_tablet r)
 one_empty broker r = record {
   images = [];
   cells = sym table_of-nil;
   published = λ image there. absurd (omega (arith, there.1));
-  all = λ image there. absurd (omega (arith, there.1));
+  all = λ image there lies. absurd (omega (arith, there.1));
 }
 
 all_empty : (broker : BrokerRecord) (rs : List Ends) → AreFaithful broker (map empty_tablet rs)
@@ -32,7 +33,7 @@ all_empty broker (r ∷ rs) = (one_empty broker r, all_empty broker rs)
 pub new_faithful : (broker : BrokerRecord) (bounds : Bounds) → AreFaithful broker (new_region bounds).tablets
 new_faithful broker bounds = all_empty broker (ranges bounds)
 
-left_so : {A B C : Type 0} → (A → C) → A ⊎ B → C ⊎ B
+pub left_so : {A B C : Type 0} → (A → C) → A ⊎ B → C ⊎ B
 left_so f (inl a) = inl (f a)
 left_so f (inr b) = inr b
 
@@ -85,13 +86,13 @@ module _ (broker : BrokerRecord) (marks next : Positions) (deliveries : List Del
 
   module _ (r : Ends) (t : TabletStateValue) (of : IsTabletOf marks r t) (faithful : IsFaithful broker t) where
     -- the images up to the raised cover: those up to the old one, and those that were brought
-    up_to_raised : (image : Image) (stream : List ℕ) → Stands (broker stream) (position_of (raised t.cover next) stream) image
+    up_to_raised : (image : Image) (stream : List ℕ) → Stands (broker stream) (position_of (raised t.cover next) stream) image → in_range t.range image.key ≡ true
         → Contains (faithful.images ++ images) image ⊎ Contains (up_to broker (needed t.status)) image
-    up_to_raised image stream stands =
+    up_to_raised image stream stands lies =
         elim (nat_lt stands.at (position_of t.cover stream)) as (λ b. nat_lt stands.at (position_of t.cover stream) ≡ b → Contains (faithful.images ++ images) image ⊎ Contains (up_to broker (needed t.status)) image) [
           | true ↦ λ before.
               left_so (Contains-append_left faithful.images images image)
-              (faithful.all image (is_up_to broker t.cover stream image (record { at = stands.at; below = grind (arith, nat_tests); within = stands.within; is = stands.is })))
+              (faithful.all image (is_up_to broker t.cover stream image (record { at = stands.at; below = grind (arith, nat_tests); within = stands.within; is = stands.is })) lies)
           | false ↦ λ past.
               let reached : position_of t.cover stream ≤ stands.at = grind (arith, nat_tests) in
               inl (Contains-append_right faithful.images images image
@@ -108,14 +109,11 @@ module _ (broker : BrokerRecord) (marks next : Positions) (deliveries : List Del
           ∙ ap (λ (range : Ends). table_of (images_in range (faithful.images ++ images))) (sym of.range);
       published = λ image.
           by_part faithful.images images image
-          (λ there.
-          let old = published broker t.cover image (faithful.published image there) in
-          is_up_to broker (raised t.cover next) old.stream image
-          (wider (position_of t.cover old.stream) (position_of (raised t.cover next) old.stream) (broker old.stream) image (omega (arith, position_of-raised t.cover next old.stream)) old.stands))
-          (brought (raised t.cover next) (λ name. omega (arith, position_of-raised t.cover next name)) image);
-      all = λ image there.
+          (λ there. up_to_more broker (raised t.reach next) t.reach (λ name. omega (arith, position_of-raised t.reach next name)) image (faithful.published image there))
+          (brought (raised t.reach next) (λ name. omega (arith, position_of-raised t.reach next name)) image);
+      all = λ image there lies.
           let new = published broker (raised t.cover next) image there in
-          up_to_raised image new.stream new.stands;
+          up_to_raised image new.stream new.stands lies;
     }
 
     stepped_keeps : IsFaithful broker (stepped t (join_in next images r))

@@ -1,12 +1,13 @@
 -- A loss, and an honest copy that is adopted, leave faithful tablets, and these give honest copies.
 use Rattle.std.proofs.Common.{◌≡◌, ℕ, ◌≤◌, Bool, true, false, nat_lt, if◌then◌else◌, List, [], ◌++◌, Option, None, Some, refl, sym, ap, ◌∙◌, subst, arith, ◌⊎◌, inl, inr, Contains}
+use Rattle.std.specs.Option.{option_or}
 use Rattle.std.proofs.lemmas.Bool.Decides.{nat_tests}
 use Rattle.std.proofs.lemmas.List.Elements.{Contains-append_left, Contains-append_right}
 use Rattle.pn_join.proofs.MarksFacts.{position_of-raised}
 use Rattle.pn_record.specs.CellMap.{adds}
 use Rattle.pn_record.proofs.CellMaps.{table_of-nil}
-use Rattle.pn_stream.proofs.Published.{Stands, wider, is_up_to, published}
-use Rattle.pn_tablet.specs.Copying.{unless_behind, copy_from, copy_of}
+use Rattle.pn_stream.proofs.Published.{Stands, is_up_to, published}
+use Rattle.pn_tablet.specs.Copying.{unless_behind, copy_short, copy_from, copy_of}
 use Rattle.pn_tablet.specs.Needs.{needed, first_short}
 use Rattle.pn_tablet.specs.Steps.{taking, adopting}
 use Rattle.pn_tablet.specs.declared.state.Status.{Status}
@@ -14,18 +15,19 @@ use Rattle.pn_tablet.specs.declared.fault.OpFault.{OpFault}
 use Rattle.pn_tablet.proofs.Recovery.{nothing_short}
 use Rattle.pn_tablet.proofs.Stepping.{one_range}
 use Rattle.pn_tablet.proofs.TabletLaws.{adopted}
-use Rattle.pn_apply.proofs.ReduceLaws.{range_joins, same_in}
+use Rattle.pn_apply.proofs.ReduceLaws.{range_joins}
 use Rattle.pn_region.specs.Honest.{IsHonestCopy}
-use Rattle.pn_region.proofs.Common.{Result, Ok, Err, Positions, Reaches, position_of, raised, Image, spell, table_of, BrokerRecord, up_to, TabletCopyValue, lacking, Ends, lost, step, TabletStateValue, same_range, Serving, Recovering, Short, Adopt, WrongRange, images_in, IsFaithful}
-use Rattle.pn_region.proofs.TakenImages.{by_part}
+use Rattle.pn_region.proofs.Common.{Result, Ok, Err, Positions, Reaches, position_of, raised, Image, spell, table_of, BrokerRecord, up_to, TabletCopyValue, lacking, Ends, in_range, lost, step, TabletStateValue, same_range, Serving, Recovering, Short, Adopt, WrongRange, images_in, IsFaithful}
+use Rattle.pn_region.proofs.TakenImages.{by_part, alike_in}
+use Rattle.pn_region.proofs.UpTo.{up_to_more}
 
 -- a tablet that was lost may lack all up to its need
-pub lost_faithful : (broker : BrokerRecord) (t : TabletStateValue) → IsFaithful broker (lost t)
-lost_faithful broker t = record {
+pub lost_faithful : (broker : BrokerRecord) (t : TabletStateValue) → Reaches t.reach t.cover → IsFaithful broker (lost t)
+lost_faithful broker t reached = record {
   images = [];
   cells = sym table_of-nil;
   published = λ image there. absurd (omega (arith, there.1));
-  all = λ image there. inr there;
+  all = λ image there lies. inr (up_to_more broker t.reach t.cover reached image there);
 }
 
 pub was_so : (b : Bool) (right : Result TabletStateValue OpFault) (after : TabletStateValue) → (if b then right else Err WrongRange) ≡ Ok after → b ≡ true
@@ -33,7 +35,7 @@ was_so true right after is = refl
 was_so false right after is = cc
 
 -- marks that lack nothing of what a tablet needs reach it
-need_reached : (status : Status) (marks : Positions) → lacking status marks ≡ None → Reaches marks (needed status)
+pub need_reached : (status : Status) (marks : Positions) → lacking status marks ≡ None → Reaches marks (needed status)
 need_reached Serving marks none name = omega arith
 need_reached (Recovering need) marks none name = nothing_short marks need none name
 
@@ -44,30 +46,25 @@ module _ (broker : BrokerRecord) (t : TabletStateValue) (copy : TabletCopyValue)
   abbrev cover : Positions
   cover = raised t.cover copy.marks
 
+  abbrev reach : Positions
+  reach = raised t.reach copy.marks
+
   -- what the tablet lacked the copy has
   not_lacking : (image : Image) → Contains faithful.images image ⊎ Contains (up_to broker (needed t.status)) image → Contains (faithful.images ++ copied) image
   not_lacking image (inl there) = Contains-append_left faithful.images copied image there
-  not_lacking image (inr lacked) =
-      let old = published broker (needed t.status) image lacked in
-      Contains-append_right faithful.images copied image
-      (is_up_to broker copy.marks old.stream image (wider (position_of (needed t.status) old.stream) (position_of copy.marks old.stream) (broker old.stream) image (reaches old.stream) old.stands))
+  not_lacking image (inr lacked) = Contains-append_right faithful.images copied image (up_to_more broker copy.marks (needed t.status) reaches image lacked)
 
-  up_to_cover : (image : Image) (stream : List ℕ) → Stands (broker stream) (position_of cover stream) image → Contains (faithful.images ++ copied) image
-  up_to_cover image stream stands =
+  up_to_cover : (image : Image) (stream : List ℕ) → Stands (broker stream) (position_of cover stream) image → in_range t.range image.key ≡ true → Contains (faithful.images ++ copied) image
+  up_to_cover image stream stands lies =
       elim (nat_lt stands.at (position_of t.cover stream)) as (λ b. nat_lt stands.at (position_of t.cover stream) ≡ b → Contains (faithful.images ++ copied) image) [
         | true ↦ λ before.
             not_lacking image
-            (faithful.all image (is_up_to broker t.cover stream image (record { at = stands.at; below = grind (arith, nat_tests); within = stands.within; is = stands.is })))
+            (faithful.all image (is_up_to broker t.cover stream image (record { at = stands.at; below = grind (arith, nat_tests); within = stands.within; is = stands.is })) lies)
         | false ↦ λ past.
             let beyond : position_of t.cover stream ≤ stands.at = grind (arith, nat_tests) in
             Contains-append_right faithful.images copied image
             (is_up_to broker copy.marks stream image (record { at = stands.at; below = omega (arith, beyond, stands.below, position_of-raised t.cover copy.marks stream); within = stands.within; is = stands.is }))
       ] refl
-
-  up_to_more : (marks : Positions) → Reaches cover marks → (image : Image) → Contains (up_to broker marks) image → Contains (up_to broker cover) image
-  up_to_more marks reach image there =
-      let old = published broker marks image there in
-      is_up_to broker cover old.stream image (wider (position_of marks old.stream) (position_of cover old.stream) (broker old.stream) image (reach old.stream) old.stands)
 
   taken_faithful : IsFaithful broker (record (taking t copy.cells copy.marks) { status = Serving })
   taken_faithful = record {
@@ -77,11 +74,11 @@ module _ (broker : BrokerRecord) (t : TabletStateValue) (copy : TabletCopyValue)
         ∙ range_joins t.range faithful.images copied;
     published = λ image.
         by_part faithful.images copied image
-        (λ there. up_to_more t.cover (λ name. omega (arith, position_of-raised t.cover copy.marks name)) image (faithful.published image there))
-        (up_to_more copy.marks (λ name. omega (arith, position_of-raised t.cover copy.marks name)) image);
-    all = λ image there.
+        (λ there. up_to_more broker reach t.reach (λ name. omega (arith, position_of-raised t.reach copy.marks name)) image (faithful.published image there))
+        (up_to_more broker reach copy.marks (λ name. omega (arith, position_of-raised t.reach copy.marks name)) image);
+    all = λ image there lies.
         let new = published broker cover image there in
-        inl (up_to_cover image new.stream new.stands);
+        inl (up_to_cover image new.stream new.stands lies);
   }
 
 -- an honest copy that is adopted keeps a tablet faithful
@@ -91,26 +88,40 @@ adopted_faithful broker t after copy faithful honest is =
     let ranged = one_range t.range copy.range (was_so (same_range t.range copy.range) (adopting t copy (lacking t.status copy.marks)) after is) in
     subst (IsFaithful broker) (sym known.taken) (taken_faithful broker t copy faithful honest ranged (need_reached t.status copy.marks known.reaches))
 
-none_lacked : (broker : BrokerRecord) (image : Image) {A : Type 0} → A ⊎ Contains (up_to broker []) image → A
+pub none_lacked : (broker : BrokerRecord) (image : Image) {A : Type 0} → A ⊎ Contains (up_to broker []) image → A
 none_lacked broker image (inl there) = there
 none_lacked broker image (inr lacked) = absurd (omega (arith, lacked.1))
 
--- a faithful tablet that serves has the cells of all images up to its cover
-pub serving_has_all : (broker : BrokerRecord) (t : TabletStateValue) → IsFaithful broker t → t.status ≡ Serving → t.cells ≡ table_of (images_in t.range (up_to broker t.cover))
-serving_has_all broker t faithful serves =
-    let all = subst (λ (status : Status). (image : Image) → Contains (up_to broker t.cover) image → Contains faithful.images image ⊎ Contains (up_to broker (needed status)) image) serves faithful.all in
-    faithful.cells
-    ∙ same_in t.range faithful.images (up_to broker t.cover) (λ image. (faithful.published image, λ there. none_lacked broker image (all image there)))
+-- a faithful tablet that serves lacks nothing in its range up to its cover
+pub serving_lacks_none : (broker : BrokerRecord) (t : TabletStateValue) (faithful : IsFaithful broker t) → t.status ≡ Serving → (image : Image) → Contains (up_to broker t.cover) image → in_range t.range image.key ≡ true → Contains faithful.images image
+serving_lacks_none broker t faithful serves image there lies =
+    none_lacked broker image
+    (subst (λ (status : Status). Contains faithful.images image ⊎ Contains (up_to broker (needed status)) image) serves (faithful.all image there lies))
 
-given_by : (broker : BrokerRecord) (t : TabletStateValue) (short : Option Short) (copy : TabletCopyValue) → t.cells ≡ table_of (images_in t.range (up_to broker t.cover))
+-- where its cover is its reach, it has the cells of all images up to there
+pub serving_has_all : (broker : BrokerRecord) (t : TabletStateValue) → IsFaithful broker t → t.status ≡ Serving → Reaches t.cover t.reach → t.cells ≡ table_of (images_in t.range (up_to broker t.cover))
+serving_has_all broker t faithful serves reach =
+    faithful.cells
+    ∙ alike_in t.range faithful.images (up_to broker t.cover)
+    (λ image there lies. up_to_more broker t.cover t.reach reach image (faithful.published image there))
+    (serving_lacks_none broker t faithful serves)
+
+-- where nothing of both is lacked, nothing of the second is
+none_of_both : (first second : Option Short) → option_or first second ≡ None → second ≡ None
+none_of_both None second none = none
+none_of_both (Some short) second none = cc
+
+given_by : (broker : BrokerRecord) (t : TabletStateValue) (short : Option Short) (copy : TabletCopyValue) → (short ≡ None → t.cells ≡ table_of (images_in t.range (up_to broker t.cover)))
     → unless_behind short (record { range = t.range; marks = t.cover; cells = t.cells }) ≡ Ok copy → IsHonestCopy broker copy
 given_by broker t None copy has is =
     let same : record { range = t.range; marks = t.cover; cells = t.cells } ≡ copy = cc in
-    subst (IsHonestCopy broker) same has
+    subst (IsHonestCopy broker) same (has refl)
 given_by broker t (Some short) copy has is = cc
 
 by_status : (broker : BrokerRecord) (t : TabletStateValue) (need : Positions) (copy : TabletCopyValue) (status : Status) → t.status ≡ status → IsFaithful broker t → copy_from status t need ≡ Ok copy → IsHonestCopy broker copy
-by_status broker t need copy Serving serves faithful is = given_by broker t (first_short t.cover need) copy (serving_has_all broker t faithful serves) is
+by_status broker t need copy Serving serves faithful is =
+    given_by broker t (copy_short t need) copy
+    (λ none. serving_has_all broker t faithful serves (nothing_short t.cover t.reach (none_of_both (first_short t.cover need) (first_short t.cover t.reach) none))) is
 by_status broker t need copy (Recovering lacked) recovers faithful is = cc
 
 -- so the copy that it gives is honest

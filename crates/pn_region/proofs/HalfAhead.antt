@@ -1,28 +1,55 @@
 -- Tablets of which some took a join that the others lack, and what further joins make of both.
-use Rattle.std.proofs.Common.{◌≡◌, Bool, true, false, cond, if◌then◌else◌, List, [], ◌∷◌, map, refl, sym, ap, ◌∙◌, subst, ◌⊎◌, inl, inr}
+use Rattle.std.proofs.Common.{◌≡◌, Bool, true, false, if◌then◌else◌, List, [], ◌∷◌, map, refl, sym, ap, ◌∙◌, subst, ◌⊎◌, inl, inr}
 use Rattle.pn_join.proofs.MarksFacts.{is_sorted-raised}
 use Rattle.pn_tablet.specs.Laws.{Rise}
 use Rattle.pn_tablet.specs.Steps.{taking}
 use Rattle.pn_tablet.proofs.JoinLaws.{joins_commute, later_join_alone}
-use Rattle.pn_region.proofs.Common.{Ok, Err, AllByRecursion, Positions, raised, Image, Entries, table_of, Ends, lie_in, TabletStateValue, after_step, stepped, Join, WrongRange, all_stepped, AreOldOrStepped, images_in, join_in}
+use Rattle.pn_region.specs.Rising.{AllRise}
+use Rattle.pn_region.proofs.Common.{Ok, Err, AllByRecursion, Positions, raised, Image, Entries, table_of, Ends, lie_in, TabletStateValue, after_step, stepped, Join, WrongRange, all_stepped, AreOldOrStepped, images_in, join_in, RegionValue}
 
--- the names of all covers rise
-abbrev pub CoversRise : List TabletStateValue → Type 0
-CoversRise tablets = AllByRecursion (λ tablet. Rise tablet.cover) tablets
+-- the names of its cover rise, and those of its reach
+pub record BothRise (t : TabletStateValue) : Type 0 where
+  pub cover : Rise t.cover
+  pub reach : Rise t.reach
 
-rises_by : (t : TabletStateValue) (cells : Entries) (marks : Positions) (b : Bool) → Rise t.cover → Rise (raised t.cover marks) → Rise (after_step t (if b then Ok (taking t cells marks) else Err WrongRange)).cover
+-- those of all tablets do
+abbrev pub MarksRise : List TabletStateValue → Type 0
+MarksRise tablets = AllByRecursion BothRise tablets
+
+both_rise : (ts : List TabletStateValue) → AllByRecursion (λ (t : TabletStateValue). Rise t.cover) ts → AllByRecursion (λ (t : TabletStateValue). Rise t.reach) ts → MarksRise ts
+both_rise [] covers reaches = tt
+both_rise (t ∷ ts) covers reaches = (record { cover = covers.0; reach = reaches.0 }, both_rise ts covers.1 reaches.1)
+
+covers_rise : (ts : List TabletStateValue) → MarksRise ts → AllByRecursion (λ (t : TabletStateValue). Rise t.cover) ts
+covers_rise [] rise = tt
+covers_rise (t ∷ ts) rise = (rise.0.cover, covers_rise ts rise.1)
+
+reaches_rise : (ts : List TabletStateValue) → MarksRise ts → AllByRecursion (λ (t : TabletStateValue). Rise t.reach) ts
+reaches_rise [] rise = tt
+reaches_rise (t ∷ ts) rise = (rise.0.reach, reaches_rise ts rise.1)
+
+pub tablets_rise : (region : RegionValue) → AllRise region → MarksRise region.tablets
+tablets_rise region rise = both_rise region.tablets rise.covers rise.reaches
+
+pub all_rise : (region : RegionValue) → Rise region.marks → MarksRise region.tablets → AllRise region
+all_rise region marks rise = record { marks = marks; covers = covers_rise region.tablets rise; reaches = reaches_rise region.tablets rise }
+
+rises_by : (t : TabletStateValue) (cells : Entries) (marks : Positions) (b : Bool) → BothRise t → BothRise (taking t cells marks) → BothRise (after_step t (if b then Ok (taking t cells marks) else Err WrongRange))
 rises_by t cells marks true was is = is
 rises_by t cells marks false was is = was
 
-pub join_rises : (t : TabletStateValue) (cells : Entries) (marks : Positions) → Rise t.cover → Rise (stepped t (Join cells marks)).cover
-join_rises t cells marks rise = rises_by t cells marks (lie_in t.range cells) rise (is_sorted-raised t.cover marks rise)
+pub taking_rises : (t : TabletStateValue) (cells : Entries) (marks : Positions) → BothRise t → BothRise (taking t cells marks)
+taking_rises t cells marks rise = record { cover = is_sorted-raised t.cover marks rise.cover; reach = is_sorted-raised t.reach marks rise.reach }
 
-pub all_joins_rise : (marks : Positions) (images : List Image) (rs : List Ends) (ts : List TabletStateValue) → CoversRise ts → CoversRise (all_stepped ts (map (join_in marks images) rs))
+join_rises : (t : TabletStateValue) (cells : Entries) (marks : Positions) → BothRise t → BothRise (stepped t (Join cells marks))
+join_rises t cells marks rise = rises_by t cells marks (lie_in t.range cells) rise (taking_rises t cells marks rise)
+
+pub all_joins_rise : (marks : Positions) (images : List Image) (rs : List Ends) (ts : List TabletStateValue) → MarksRise ts → MarksRise (all_stepped ts (map (join_in marks images) rs))
 all_joins_rise marks images rs [] rise = tt
 all_joins_rise marks images [] (t ∷ ts) rise = tt
 all_joins_rise marks images (r ∷ rs) (t ∷ ts) rise = (join_rises t (table_of (images_in r images)) marks rise.0, all_joins_rise marks images rs ts rise.1)
 
-pub half_joins_rise : (marks : Positions) (images : List Image) (rs : List Ends) (ts us : List TabletStateValue) → CoversRise ts → AreOldOrStepped ts (map (join_in marks images) rs) us → CoversRise us
+pub half_joins_rise : (marks : Positions) (images : List Image) (rs : List Ends) (ts us : List TabletStateValue) → MarksRise ts → AreOldOrStepped ts (map (join_in marks images) rs) us → MarksRise us
 half_joins_rise marks images [] [] [] rise half = tt
 half_joins_rise marks images [] [] (u ∷ us) rise half = absurd half
 half_joins_rise marks images [] (t ∷ ts) us rise half = absurd half
@@ -30,20 +57,20 @@ half_joins_rise marks images (r ∷ rs) [] us rise half = absurd half
 half_joins_rise marks images (r ∷ rs) (t ∷ ts) [] rise half = absurd half
 half_joins_rise marks images (r ∷ rs) (t ∷ ts) (u ∷ us) rise half = (one half.0, half_joins_rise marks images rs ts us rise.1 half.1)
   where
-    one : (u ≡ t) ⊎ (u ≡ stepped t (join_in marks images r)) → Rise u.cover
-    one (inl same) = subst (λ (x : TabletStateValue). Rise x.cover) (sym same) rise.0
-    one (inr took) = subst (λ (x : TabletStateValue). Rise x.cover) (sym took) (join_rises t (table_of (images_in r images)) marks rise.0)
+    one : (u ≡ t) ⊎ (u ≡ stepped t (join_in marks images r)) → BothRise u
+    one (inl same) = subst BothRise (sym same) rise.0
+    one (inr took) = subst BothRise (sym took) (join_rises t (table_of (images_in r images)) marks rise.0)
 
 module _ (first : Positions) (images : List Image) (rise_first : Rise first) where
   -- a further join
   module _ (marks : Positions) (more : List Image) (rise_marks : Rise marks) where
-    one_on : (r : Ends) (t u : TabletStateValue) → Rise t.cover → (u ≡ t) ⊎ (u ≡ stepped t (join_in first images r))
+    one_on : (r : Ends) (t u : TabletStateValue) → BothRise t → (u ≡ t) ⊎ (u ≡ stepped t (join_in first images r))
         → (stepped u (join_in marks more r) ≡ stepped t (join_in marks more r)) ⊎ (stepped u (join_in marks more r) ≡ stepped (stepped t (join_in marks more r)) (join_in first images r))
     one_on r t u rise (inl same) = inl (ap (λ (x : TabletStateValue). stepped x (join_in marks more r)) same)
     one_on r t u rise (inr took) =
-        inr (ap (λ (x : TabletStateValue). stepped x (join_in marks more r)) took ∙ joins_commute t (table_of (images_in r images)) (table_of (images_in r more)) first marks rise rise_first rise_marks)
+        inr (ap (λ (x : TabletStateValue). stepped x (join_in marks more r)) took ∙ joins_commute t (table_of (images_in r images)) (table_of (images_in r more)) first marks rise.cover rise.reach rise_first rise_marks)
 
-    pub all_on : (rs : List Ends) (ts us : List TabletStateValue) → CoversRise ts → AreOldOrStepped ts (map (join_in first images) rs) us
+    pub all_on : (rs : List Ends) (ts us : List TabletStateValue) → MarksRise ts → AreOldOrStepped ts (map (join_in first images) rs) us
         → AreOldOrStepped (all_stepped ts (map (join_in marks more) rs)) (map (join_in first images) rs) (all_stepped us (map (join_in marks more) rs))
     all_on [] [] [] rise half = tt
     all_on [] [] (u ∷ us) rise half = absurd half
@@ -53,7 +80,7 @@ module _ (first : Positions) (images : List Image) (rise_first : Rise first) whe
     all_on (r ∷ rs) (t ∷ ts) (u ∷ us) rise half = (one_on r t u rise.0 half.0, all_on rs ts us rise.1 half.1)
 
     -- a further join that some tablets took
-    pub half_on : (rs : List Ends) (ts us vs : List TabletStateValue) → CoversRise ts → AreOldOrStepped ts (map (join_in first images) rs) us → AreOldOrStepped us (map (join_in marks more) rs) vs
+    pub half_on : (rs : List Ends) (ts us vs : List TabletStateValue) → MarksRise ts → AreOldOrStepped ts (map (join_in first images) rs) us → AreOldOrStepped us (map (join_in marks more) rs) vs
         → (ws : List TabletStateValue) × AreOldOrStepped ts (map (join_in marks more) rs) ws × AreOldOrStepped ws (map (join_in first images) rs) vs
     half_on [] [] [] [] rise half next = ([], tt, tt)
     half_on [] [] [] (v ∷ vs) rise half next = absurd next
@@ -77,7 +104,7 @@ module _ (first : Positions) (images : List Image) (rise_first : Rise first) whe
         )
 
   -- the same join again, with later marks, makes all the same
-  pub made_up : (last : Positions) → Rise last → raised first last ≡ last → (rs : List Ends) (ts us : List TabletStateValue) → CoversRise ts → AreOldOrStepped ts (map (join_in first images) rs) us
+  pub made_up : (last : Positions) → Rise last → raised first last ≡ last → (rs : List Ends) (ts us : List TabletStateValue) → MarksRise ts → AreOldOrStepped ts (map (join_in first images) rs) us
       → all_stepped us (map (join_in last images) rs) ≡ all_stepped ts (map (join_in last images) rs)
   made_up last rise_last below [] [] [] rise half = refl
   made_up last rise_last below [] [] (u ∷ us) rise half = absurd half
@@ -90,4 +117,4 @@ module _ (first : Positions) (images : List Image) (rise_first : Rise first) whe
       one (inl same) = ap (λ (x : TabletStateValue). stepped x (join_in last images r)) same
       one (inr took) =
           ap (λ (x : TabletStateValue). stepped x (join_in last images r)) took
-          ∙ later_join_alone t (table_of (images_in r images)) first last rise.0 below
+          ∙ later_join_alone t (table_of (images_in r images)) first last rise.0.cover rise.0.reach below

@@ -8,7 +8,7 @@ use Rattle.pn_region.proofs.RoundSteps.{own_ranges}
 
 pub empty_ones : (rs : List Ends) → AreTabletsOf [] rs (map empty_tablet rs)
 empty_ones [] = tt
-empty_ones (r ∷ rs) = (record { range = refl; inside = refl; spelled = spelled_nil; covered = λ name. omega arith }, empty_ones rs)
+empty_ones (r ∷ rs) = (record { range = refl; inside = refl; spelled = spelled_nil; covered = λ name. omega arith; reached = λ name. omega arith }, empty_ones rs)
 
 -- there are as many tablets as ranges
 pub tablet_count : (marks : Positions) (bounds : Bounds) (ts : List TabletStateValue) → AreTabletsOf marks (ranges bounds) ts → length ts ≡ length bounds + 1

@@ -18,7 +18,7 @@ use Rattle.pn_region.specs.Recovery.{stepping, lacks, adopting_unless, adopting}
 use Rattle.pn_region.specs.Regions.{IsLawfulRegion}
 use Rattle.pn_region.proofs.Common.{Positions, Image, spell, Entries, table_of, TabletCopyValue, lacking, Ends, in_range, step, after_step, stepped, TabletStateValue, empty_tablet, lie_in, same_range, Short, TabletOp, Join, Lose, Adopt, stepped_at, tablet_for, adopting_by, RegionValue, IsTabletOf, AreTabletsOf, IsRegion}
 use Rattle.pn_region.proofs.NewRegion.{tablet_at}
-use Rattle.pn_region.proofs.RoundSteps.{old_reached}
+use Rattle.pn_region.proofs.RoundSteps.{old_reached, both_reached}
 use Rattle.pn_region.proofs.Spelled.{spelled_inside}
 
 -- the keys of a copy that is adopted lie in its range
@@ -39,6 +39,7 @@ taken_kept marks later r t cells inside is = record {
   inside = adds_inside r t.cells cells is.inside inside;
   spelled = spelled_adds t.cells (spell cells);
   covered = old_reached t.cover later marks is.covered;
+  reached = both_reached t.reach t.cover later is.reached;
 }
 
 join_kept : (marks later : Positions) (r : Ends) (t : TabletStateValue) (cells : Entries) (b : Bool) → lie_in t.range cells ≡ b → IsTabletOf marks r t
@@ -51,14 +52,14 @@ adopt_kept : (marks : Positions) (r : Ends) (t : TabletStateValue) (copy : Table
 adopt_kept marks r t copy true None same whole is =
     let ranged = sym (one_range t.range copy.range same) ∙ is.range in
     let taken = taken_kept marks copy.marks r t copy.cells (ap (λ (range : Ends). lie_in range copy.cells) (sym ranged) ∙ whole) is in
-    record { range = taken.range; inside = taken.inside; spelled = taken.spelled; covered = taken.covered }
+    record { range = taken.range; inside = taken.inside; spelled = taken.spelled; covered = taken.covered; reached = taken.reached }
 adopt_kept marks r t copy true (Some short) same whole is = is
 adopt_kept marks r t copy false short same whole is = is
 
 -- a tablet of a range stays one of it in every operation
 pub one_kept : (marks : Positions) (r : Ends) (t : TabletStateValue) (op : TabletOp) → IsWhole op → IsTabletOf marks r t → IsTabletOf marks r (stepped t op)
 one_kept marks r t (Join cells later) whole is = join_kept marks later r t cells (lie_in t.range cells) refl is
-one_kept marks r t Lose whole is = record { range = is.range; inside = refl; spelled = spelled_nil; covered = is.covered }
+one_kept marks r t Lose whole is = record { range = is.range; inside = refl; spelled = spelled_nil; covered = is.covered; reached = is.reached }
 one_kept marks r t (Adopt copy) whole is = adopt_kept marks r t copy (same_range t.range copy.range) (lacking t.status copy.marks) refl whole is
 
 all_kept : (marks : Positions) (n : ℕ) (op : TabletOp) (rs : List Ends) (ts : List TabletStateValue) → IsWhole op → AreTabletsOf marks rs ts → AreTabletsOf marks rs (stepped_at n op ts)

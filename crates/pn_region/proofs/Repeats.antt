@@ -1,16 +1,15 @@
 -- A round that ran out of memory, and its repeat.
 use Rattle.std.proofs.Common.{◌≡◌, List, [], ◌∷◌, map, Ok, Err, refl, sym, ap, ◌∙◌, subst}
 use Rattle.std.specs.Result.{result_map_both}
-use Rattle.pn_join.proofs.MarksFacts.{is_sorted-raised, raised-repeats}
+use Rattle.pn_join.proofs.MarksFacts.{raised-repeats}
 use Rattle.pn_tablet.specs.Laws.{Rise}
-use Rattle.pn_tablet.specs.Steps.{taking}
-use Rattle.pn_region.specs.Events.{RegionEvent, round, half_round, loss, adoption, LeadsTo, AllLeadTo}
+use Rattle.pn_region.specs.Events.{RegionEvent, round, half_round, loss, adoption, relayout, LeadsTo, AllLeadTo}
 use Rattle.pn_region.specs.Rising.{AllRise}
 use Rattle.pn_region.specs.Rounds as rounds
 use Rattle.pn_region.specs.Taken.{IsRound, AreRounds}
-use Rattle.pn_region.proofs.Common.{Result, MatchResult, Positions, raised, Image, Bounds, DeliveryValue, TabletStateValue, AreOldOrStepped, all_images, join_in, ranges, new_marks, RegionValue, IsHalfTaken, RoundFault}
+use Rattle.pn_region.proofs.Common.{Result, MatchResult, Positions, Image, Bounds, DeliveryValue, TabletStateValue, AreOldOrStepped, all_images, join_in, ranges, new_marks, RegionValue, IsHalfTaken, RoundFault}
 use Rattle.pn_region.proofs.EventSteps.{takes}
-use Rattle.pn_region.proofs.HalfAhead.{CoversRise, all_joins_rise, half_joins_rise, all_on, half_on, made_up}
+use Rattle.pn_region.proofs.HalfAhead.{tablets_rise, all_rise, all_joins_rise, half_joins_rise, all_on, half_on, made_up}
 use Rattle.pn_region.proofs.RisingMarks.{IsBelow, below_then, new_rise, new_above, new_both}
 
 -- the same layout and marks, and tablets of which some took the failed round's join, and others as they are without it
@@ -41,8 +40,8 @@ module _ (first : Positions) (images : List Image) (rise_first : Rise first) (la
       let runs : RunsAhead first images (rounds.taking old deliveries took.marks) (rounds.taking ahead deliveries took.marks) =
       record {
         same = refl;
-        tablets = all_on first images rise_first took.marks (all_images deliveries) rise_next (ranges layout) ts us rise.covers half;
-        rise = record { marks = rise_next; covers = all_joins_rise took.marks (all_images deliveries) (ranges layout) ts rise.covers };
+        tablets = all_on first images rise_first took.marks (all_images deliveries) rise_next (ranges layout) ts us (tablets_rise old rise) half;
+        rise = all_rise (rounds.taking old deliveries took.marks) rise_next (all_joins_rise took.marks (all_images deliveries) (ranges layout) ts (tablets_rise old rise));
       } in
       record {
         new = rounds.taking old deliveries took.marks;
@@ -56,11 +55,11 @@ module _ (first : Positions) (images : List Image) (rise_first : Rise first) (la
       → Catches first images (half_round deliveries) old (record { layout = layout; tablets = vs; marks = marks })
   half_by deliveries vs (Ok next) accepted left =
       let rise_next = new_rise marks next deliveries accepted rise.marks in
-      let on = half_on first images rise_first next (all_images deliveries) rise_next (ranges layout) ts us vs rise.covers half left in
+      let on = half_on first images rise_first next (all_images deliveries) rise_next (ranges layout) ts us vs (tablets_rise old rise) half left in
       record {
         new = record { layout = layout; tablets = on.0; marks = marks };
         leads = (refl, refl, subst (λ (right : Result Positions RoundFault). MatchResult right (λ next. AreOldOrStepped ts (rounds.joins old deliveries next) on.0) (λ fault. on.0 ≡ ts)) (sym accepted) on.1);
-        runs = record { same = refl; tablets = on.2; rise = record { marks = rise.marks; covers = half_joins_rise next (all_images deliveries) (ranges layout) ts on.0 rise.covers on.1 } };
+        runs = record { same = refl; tablets = on.2; rise = all_rise (record { layout = layout; tablets = on.0; marks = marks }) rise.marks (half_joins_rise next (all_images deliveries) (ranges layout) ts on.0 (tablets_rise old rise) on.1) };
         below = raised-repeats marks rise.marks;
       }
   half_by deliveries vs (Err fault) refused left = record {
@@ -80,6 +79,7 @@ module _ (first : Positions) (images : List Image) (rise_first : Rise first) (la
   event_catches (half_round deliveries) new is leads = half_catches deliveries new leads
   event_catches (loss n) new is leads = absurd is
   event_catches (adoption copy) new is leads = absurd is
+  event_catches (relayout bounds) new is leads = absurd is
 
 -- rounds lead from each of two such regions to two such regions
 module _ (first : Positions) (images : List Image) (rise_first : Rise first) where
@@ -109,7 +109,7 @@ module _ (start failed later end : RegionValue) (deliveries : List DeliveryValue
       let above = new_both start.marks other.marks first took.marks deliveries accepted again rise.marks both.rise.marks below in
       let made : rounds.taking later deliveries took.marks ≡ rounds.taking other deliveries took.marks =
       ap (λ (r : RegionValue). rounds.taking r deliveries took.marks) both.same
-      ∙ (λ i. record { layout = other.layout; tablets = made_up first (all_images deliveries) rise_first took.marks rise_last above (ranges other.layout) other.tablets later.tablets both.rise.covers both.tablets i; marks = took.marks }) in
+      ∙ (λ i. record { layout = other.layout; tablets = made_up first (all_images deliveries) rise_first took.marks rise_last above (ranges other.layout) other.tablets later.tablets (tablets_rise other both.rise) both.tablets i; marks = took.marks }) in
       (other, leads, ap (result_map_both (rounds.taking other deliveries) (λ fault. fault)) again ∙ ap Ok (sym made ∙ sym took.is))
 
   by_marks : (right : Result Positions RoundFault) → new_marks start.marks deliveries ≡ right → failed ≡ record { layout = start.layout; tablets = failed.tablets; marks = start.marks }

@@ -1,9 +1,9 @@
 -- Marks that others are raised to, and marks after deliveries.
-use Rattle.std.proofs.Common.{◌≡◌, Bool, true, false, cond, List, [], ◌∷◌, refl, sym, ap, ◌∙◌, subst, IsTrue}
+use Rattle.std.proofs.Common.{◌≡◌, List, [], ◌∷◌, refl, sym, ap, ◌∙◌, subst}
 use Rattle.std.specs.Prelude.{fold}
 use Rattle.pn_join.proofs.MarksFacts.{is_sorted-raised, raised-commutes, raised-associates, raised-repeats}
 use Rattle.pn_tablet.specs.Laws.{Rise}
-use Rattle.pn_region.proofs.Common.{Result, Ok, Err, Positions, raised, DeliveryValue, bringing, last_position, marked, leaves_gap, marks_after, new_marks, all_marked}
+use Rattle.pn_region.proofs.Common.{Ok, Positions, raised, DeliveryValue, bringing, last_position, marked, leaves_gap, marks_after, new_marks, all_marked}
 use Rattle.pn_region.proofs.MarkLaws.{gap_of, accepted, few}
 
 -- the others have each position of the marks, or a greater one

@@ -27,6 +27,10 @@ new_reached cover marks name = omega (arith, position_of-raised cover marks name
 pub old_reached : (cover marks old : Positions) → Reaches cover old → Reaches (raised cover marks) old
 old_reached cover marks old reach name = omega (arith, position_of-raised cover marks name, reach name)
 
+-- a reach that reaches the cover does so once both are raised
+pub both_reached : (reach cover marks : Positions) → Reaches reach cover → Reaches (raised reach marks) (raised cover marks)
+both_reached reach cover marks reached name = omega (arith, position_of-raised reach marks name, position_of-raised cover marks name, reached name)
+
 module _ (marks : Positions) (images : List Image) where
   abbrev join : Ends → TabletOp
   join = join_in marks images
@@ -47,6 +51,7 @@ module _ (marks : Positions) (images : List Image) where
         inside = ap (lie_in r) (taken_inside r t.cells images is.spelled is.inside) ∙ cells_inside r (spell t.cells ++ images);
         spelled = spelled_adds t.cells (spell (cells_in r));
         covered = reach;
+        reached = both_reached t.reach t.cover marks is.reached;
       })
 
   pub all_taken : (old : Positions) (rs : List Ends) (ts : List TabletStateValue) → AreTabletsOf old rs ts → AreTabletsOf marks rs (all_stepped ts (map join rs))

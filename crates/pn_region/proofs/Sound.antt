@@ -18,6 +18,7 @@ parts_are_tablets marks (r ∷ rs) (t ∷ ts) are sound = (
     inside = subst (λ (ends : Ends). IsTrue (lie_in ends t.cells)) are.0.range sound.0.inside;
     spelled = sound.0.spelled;
     covered = are.0.covered;
+    reached = sound.0.reached;
   },
   parts_are_tablets marks rs ts are.1 sound.1,
 )

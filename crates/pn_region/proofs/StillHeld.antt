@@ -38,6 +38,10 @@ joined_held None more = tt
 joined_held (Some a) None = inr (refl, λ content there. there)
 joined_held (Some a) (Some b) = one_held a b
 
+-- a cell that is in the one that is found is still held
+pub taken_in_held : (was now : Option CellValue) → both was now ≡ now → HoldsStill was now
+taken_in_held was now has = subst (HoldsStill was) has (joined_held was now)
+
 -- what is found once more images are taken
 pub found_added : (own : Entries) (images : List Image) (key : List ℕ) → find bytes_cmp key (adds own images) ≡ both (cells (spell own) key) (cells images key)
 unfolding adds

@@ -1,13 +1,15 @@
 -- The images that the tablets of a region have.
-use Rattle.std.proofs.Common.{◌≡◌, List, [], ◌∷◌, ◌++◌, map, refl, sym, ap, ◌∙◌, ◌⊎◌, inl, inr, Contains}
+use Rattle.std.proofs.Common.{◌≡◌, ℕ, zero, suc, true, slice_get, Some, List, [], ◌∷◌, ◌++◌, map, refl, sym, ap, ◌∙◌, subst, ◌⊎◌, inl, inr, Contains}
 use Rattle.std.proofs.lemmas.List.Elements.{Contains-append_left, Contains-append_right, Contains-append_cases}
 use Rattle.pn_record.specs.CellMap.{adds}
-use Rattle.pn_record.proofs.CellMaps.{table_of-nil}
+use Rattle.pn_record.proofs.CellLists.{cells-same}
+use Rattle.pn_record.proofs.CellMaps.{table_of-nil, same_cells_table}
 use Rattle.pn_apply.proofs.ReduceLaws.{range_joins}
 use Rattle.pn_region.specs.Laws.{IsBetween, HoldsBetween, AllHoldBetween}
 use Rattle.pn_region.specs.Rounds.{taking}
-use Rattle.pn_region.proofs.Common.{Positions, DeliveryValue, Image, spell, Entries, table_of, Bounds, Ends, stepped, TabletStateValue, empty_tablet, all_stepped, AreOldOrStepped, all_images, images_in, join_in, ranges, HasImages, AreIn, HasBetween, RegionValue, IsTabletOf, AreTabletsOf, IsRegion, new_region, IsHalfTaken}
+use Rattle.pn_region.proofs.Common.{AllByRecursion, Positions, DeliveryValue, Image, spell, Entries, table_of, Bounds, Ends, in_range, stepped, TabletStateValue, empty_tablet, all_stepped, AreOldOrStepped, all_images, images_in, join_in, ranges, HasImages, AreIn, HasBetween, RegionValue, IsTabletOf, AreTabletsOf, IsRegion, new_region, IsHalfTaken}
 use Rattle.pn_region.proofs.HalfRounds.{half_so, left_as}
+use Rattle.pn_region.proofs.InRange.{from_images_in, to_images_in}
 use Rattle.pn_region.proofs.RoundSteps.{is_taken}
 
 -- the cells of each tablet
@@ -46,6 +48,27 @@ either_one first second (inr other) = second other
 -- what is in one list or in the other
 pub by_part : {P : Type 0} (xs ys : List Image) (image : Image) → (Contains xs image → P) → (Contains ys image → P) → Contains (xs ++ ys) image → P
 by_part xs ys image first second there = either_one first second (Contains-append_cases xs ys image there)
+
+-- images of which each list has those of the other in a range make the same cells there
+pub alike_in : (range : Ends) (images others : List Image) → ((image : Image) → Contains images image → in_range range image.key ≡ true → Contains others image)
+    → ((image : Image) → Contains others image → in_range range image.key ≡ true → Contains images image) → table_of (images_in range images) ≡ table_of (images_in range others)
+alike_in range images others to from =
+    same_cells_table (images_in range images) (images_in range others) (cells-same (images_in range images) (images_in range others) (λ image. (
+      λ there.
+          let is = from_images_in range images image there in
+          to_images_in range others image (to image is.there is.lies) is.lies,
+      λ there.
+          let is = from_images_in range others image there in
+          to_images_in range images image (from image is.there is.lies) is.lies,
+    )))
+
+-- what is true of all is true of the one at a place
+pub one_of : (P : TabletStateValue → Type 0) (ts : List TabletStateValue) (n : ℕ) (t : TabletStateValue) → AllByRecursion P ts → slice_get ts n ≡ Some t → P t
+one_of P [] n t all there = cc
+one_of P (u ∷ ts) zero t all there =
+    let same : u ≡ t = cc in
+    subst P same all.0
+one_of P (u ∷ ts) (suc n) t all there = one_of P ts n t all.1 there
 
 module _ (sure maybe images more : List Image) (between : IsBetween sure maybe images) where
   sure_more : IsBetween (sure ++ more) maybe (images ++ more)

@@ -15,10 +15,10 @@ use Rattle.pn_apply.proofs.ReduceLaws.{same_in}
 use Rattle.pn_region.specs.Held.{HoldsStill}
 use Rattle.pn_region.specs.Honest.{IsHonestCopy}
 use Rattle.pn_region.proofs.Common.{find, Positions, Reaches, raised, Image, bytes_cmp, CellValue, spell, Entries, table_of, BrokerRecord, up_to, TabletCopyValue, lacking, Ends, lost, step, after_step, stepped, TabletStateValue, lie_in, same_range, WrongRange, TabletOp, Join, Lose, Adopt, Serving, Recovering, images_in, IsFaithful}
-use Rattle.pn_region.proofs.Events.{up_to_more}
 use Rattle.pn_region.proofs.FaithfulCopies.{was_so, serving_has_all}
 use Rattle.pn_region.proofs.InRange.{more_in}
 use Rattle.pn_region.proofs.StillHeld.{joined_held, found_added}
+use Rattle.pn_region.proofs.UpTo.{up_to_more}
 
 spelled_added : (own : Entries) (images : List Image) (key : List ℕ) → cells (spell (adds own images)) key ≡ both (cells (spell own) key) (cells images key)
 unfolding adds
@@ -35,7 +35,8 @@ record Beside (t away kept : TabletStateValue) : Type 0 where
   pub range : kept.range ≡ away.range
   pub own : away.range ≡ t.range
   pub cover : kept.cover ≡ away.cover
-  pub needs : away.status ≡ Recovering t.cover
+  pub reach : kept.reach ≡ away.reach
+  pub needs : away.status ≡ Recovering t.reach
   pub status : kept.status ≡ t.status
   pub held : (key : List ℕ) → cells (spell kept.cells) key ≡ both (cells (spell t.cells) key) (cells (spell away.cells) key)
 
@@ -44,6 +45,7 @@ at_loss t = record {
   range = refl;
   own = refl;
   cover = refl;
+  reach = refl;
   needs = refl;
   status = refl;
   held = λ key. sym (both-comm (cells (spell t.cells) key) None);
@@ -55,6 +57,7 @@ join_beside t away kept more marks true beside = record {
   range = beside.range;
   own = beside.own;
   cover = ap (λ (cover : Positions). raised cover marks) beside.cover;
+  reach = ap (λ (reach : Positions). raised reach marks) beside.reach;
   needs = beside.needs;
   status = beside.status;
   held = λ key.
@@ -89,23 +92,23 @@ module _ (broker : BrokerRecord) (t after : TabletStateValue) (joins : List Tabl
   same : same_range away.range copy.range ≡ true
   same = was_so (same_range away.range copy.range) (steps.adopting away copy (lacking away.status copy.marks)) after is
 
-  reaches : Reaches copy.marks t.cover
-  reaches = nothing_short copy.marks t.cover (ap (λ (status : Status). lacking status copy.marks) (sym beside.needs) ∙ (adopted away copy after is).reaches)
+  reaches : Reaches copy.marks t.reach
+  reaches = nothing_short copy.marks t.reach (ap (λ (status : Status). lacking status copy.marks) (sym beside.needs) ∙ (adopted away copy after is).reaches)
 
   abbrev had : List Image
-  had = images_in copy.range (up_to broker t.cover)
+  had = images_in copy.range faithful.images
 
   abbrev has : List Image
   has = images_in copy.range (up_to broker copy.marks)
 
   cells_were : t.cells ≡ table_of had
-  cells_were =
-      serving_has_all broker t faithful serves
-      ∙ ap (λ (range : Ends). table_of (images_in range (up_to broker t.cover))) (sym beside.own ∙ one_range away.range copy.range same)
+  cells_were = faithful.cells ∙ ap (λ (range : Ends). table_of (images_in range faithful.images)) (sym beside.own ∙ one_range away.range copy.range same)
 
   -- the copy has all that was lost
   all_there : (key : List ℕ) → both (cells had key) (cells has key) ≡ cells has key
-  all_there key = all_absorbed key had has (more_in copy.range (up_to broker t.cover) (up_to broker copy.marks) (up_to_more broker copy.marks t.cover reaches))
+  all_there key =
+      all_absorbed key had has
+      (more_in copy.range faithful.images (up_to broker copy.marks) (λ image there. up_to_more broker copy.marks t.reach reaches image (faithful.published image there)))
 
   copied : (key : List ℕ) → cells (spell copy.cells) key ≡ cells has key
   copied key = ap (λ (entries : Entries). cells (spell entries) key) honest ∙ cells-spelled has key
@@ -130,6 +133,7 @@ module _ (broker : BrokerRecord) (t after : TabletStateValue) (joins : List Tabl
         range = beside.range i;
         cells = same_added kept.cells away.cells (spell copy.cells) (λ key. ap (λ (o : Option CellValue). both o (cells (spell copy.cells) key)) (beside.held key) ∙ brought key) i;
         cover = raised (beside.cover i) copy.marks;
+        reach = raised (beside.reach i) copy.marks;
         status = Serving;
       }))
       ∙ ap Ok (sym (adopted away copy after is).taken)
@@ -144,10 +148,11 @@ module _ (broker : BrokerRecord) (t after : TabletStateValue) (joins : List Tabl
       (subst (λ (now : TabletStateValue). HoldsStill x (find bytes_cmp key now.cells)) (sym (adopted away copy after is).taken)
       (subst (HoldsStill x) (sym (both-assoc x y z) ∙ brought key ∙ sym (found_added away.cells (spell copy.cells) key)) (joined_held x (both y z))))
 
--- tablets that serve hold the same where their covers reach one another
-pub same_covers : (broker : BrokerRecord) (t u : TabletStateValue) → IsFaithful broker t → IsFaithful broker u → t.status ≡ Serving → u.status ≡ Serving → t.range ≡ u.range → Reaches t.cover u.cover → Reaches u.cover t.cover → t.cells ≡ u.cells
-same_covers broker t u faithful faithful_too serves serves_too range reach reach_too =
-    serving_has_all broker t faithful serves
+-- tablets that serve hold the same where their covers reach one another, and each its own reach
+pub same_covers : (broker : BrokerRecord) (t u : TabletStateValue) → IsFaithful broker t → IsFaithful broker u → t.status ≡ Serving → u.status ≡ Serving → t.range ≡ u.range → Reaches t.cover t.reach → Reaches u.cover u.reach
+    → Reaches t.cover u.cover → Reaches u.cover t.cover → t.cells ≡ u.cells
+same_covers broker t u faithful faithful_too serves serves_too range own own_too reach reach_too =
+    serving_has_all broker t faithful serves own
     ∙ same_in t.range (up_to broker t.cover) (up_to broker u.cover) (λ image. (up_to_more broker u.cover t.cover reach_too image, up_to_more broker t.cover u.cover reach image))
     ∙ ap (λ (range : Ends). table_of (images_in range (up_to broker u.cover))) range
-    ∙ sym (serving_has_all broker u faithful_too serves_too)
+    ∙ sym (serving_has_all broker u faithful_too serves_too own_too)

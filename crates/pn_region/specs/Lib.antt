@@ -15,6 +15,7 @@ pub mod Proofs
 pub mod Reads
 pub mod Recovery
 pub mod Regions
+pub mod Relayouts
 pub mod Rising
 pub mod Rounds
 pub mod Serving

@@ -16,12 +16,13 @@ pub record RegionValue : Type 0 where
   pub tablets : List TabletStateValue
   pub marks : Positions
 
--- a tablet of the range: its keys lie there, its cells are those of images, and its cover reaches the marks
+-- a tablet of the range: its keys lie there, its cells are those of images, its cover reaches the marks, and its reach the cover
 pub record IsTabletOf (marks : Positions) (ends : Ends) (tablet : TabletStateValue) : Type 0 where
   pub range : tablet.range ≡ ends
   pub inside : IsTrue (lie_in ends tablet.cells)
   pub spelled : IsSpelled tablet.cells
   pub covered : Reaches tablet.cover marks
+  pub reached : Reaches tablet.reach tablet.cover
 
 -- the tablet has the range, and its cover reaches the marks
 pub record IsPartOf (marks : Positions) (ends : Ends) (tablet : TabletStateValue) : Type 0 where
@@ -34,10 +35,11 @@ ArePartsOf marks [] [] = Unit {0}
 ArePartsOf marks (range ∷ others) (tablet ∷ tablets) = IsPartOf marks range tablet × ArePartsOf marks others tablets
 ArePartsOf marks _ _ = ⊥
 
--- its keys lie in its range, and its cells are those of images
+-- its keys lie in its range, its cells are those of images, and its reach reaches its cover
 pub record IsSound (tablet : TabletStateValue) : Type 0 where
   pub inside : IsTrue (lie_in tablet.range tablet.cells)
   pub spelled : IsSpelled tablet.cells
+  pub reached : Reaches tablet.reach tablet.cover
 
 -- each range has its own tablet, in order
 abbrev pub AreTabletsOf : Positions → List Ends → List TabletStateValue → Type 0

@@ -1,6 +1,7 @@
-//! Why a round was refused.
+//! Why a round or a change of layout was refused.
 
 ghost use Rattle.std.specs.Prelude.{◌≡◌};
+ghost use Rattle.pn_region.specs.declared.fault.RelayoutFault.TheVariants.{Memory as no_memory_to_relay};
 ghost use Rattle.pn_region.specs.declared.fault.RoundFault.TheVariants.{Memory as no_memory};
 
 use pn_join::{NoMemory, StreamName};
@@ -31,5 +32,23 @@ impl From<NoMemory> for RoundFault {
 
     fn from(_error: NoMemory) -> RoundFault {
         RoundFault::Memory
+    }
+}
+
+/// Why the layout was not changed. Nothing was changed.
+#[derive(Debug, Drop, Error)]
+pub enum RelayoutFault {
+    /// The first tablet that is recovering.
+    #[error("tablet {0} is still recovering")]
+    StillRecovering(usize),
+    #[error("out of memory")]
+    Memory,
+}
+
+impl From<NoMemory> for RelayoutFault {
+    ghost from_gives = { λ _ fault. fault ≡ no_memory_to_relay };
+
+    fn from(_error: NoMemory) -> RelayoutFault {
+        RelayoutFault::Memory
     }
 }

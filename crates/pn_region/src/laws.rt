@@ -154,15 +154,15 @@ pub fn marks_tell_what_was_taken()
 
 /// A lost tablet is faithful, and adopting an honest copy keeps a tablet faithful.
 ///
-/// A faithful tablet that serves has the cells of all images in its range up to its cover, and gives honest
-/// copies.
+/// A faithful tablet that serves, and whose cover is its reach, has the cells of all images in its range up to there.
+/// The copies that a faithful tablet gives are honest.
 pub fn honest_copies_keep_tablets_faithful()
-    ensures lost { (broker : BrokerRecord) (tablet : TabletStateValue) → IsFaithful broker (lost tablet) }
+    ensures lost { (broker : BrokerRecord) (tablet : TabletStateValue) → Reaches tablet.reach tablet.cover → IsFaithful broker (lost tablet) }
     ensures adopted { (broker : BrokerRecord) (tablet after : TabletStateValue) (copy : TabletCopyValue)
         → IsFaithful broker tablet → IsHonestCopy broker copy → step tablet (Adopt copy) ≡ Ok after
         → IsFaithful broker after }
     ensures serving { (broker : BrokerRecord) (tablet : TabletStateValue)
-        → IsFaithful broker tablet → tablet.status ≡ Serving
+        → IsFaithful broker tablet → tablet.status ≡ Serving → Reaches tablet.cover tablet.reach
         → tablet.cells ≡ table_of (images_in tablet.range (up_to broker tablet.cover)) }
     ensures given { (broker : BrokerRecord) (tablet : TabletStateValue) (need : Positions) (copy : TabletCopyValue)
         → IsFaithful broker tablet → copy_of tablet need ≡ Ok copy → IsHonestCopy broker copy }

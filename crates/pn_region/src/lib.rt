@@ -17,10 +17,11 @@ pub mod read_laws;
 mod reads;
 pub mod recovery_laws;
 mod region;
+pub mod relayout_laws;
 mod since;
 
 pub use entry::Entry;
-pub use fault::RoundFault;
+pub use fault::{RelayoutFault, RoundFault};
 pub use history::History;
 pub use marking::next_marks;
 pub use notices::Log;

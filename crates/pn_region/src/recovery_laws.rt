@@ -6,7 +6,7 @@ ghost use Rattle.pn_join.specs.Prelude.{Positions, Reaches};
 ghost use Rattle.pn_record.specs.declared.image.Image.{Image};
 ghost use Rattle.pn_record.specs.Prelude.{SameImages, table_of, NotOlder, bytes_cmp, CellValue};
 ghost use Rattle.pn_stream.specs.Prelude.{BrokerRecord, DeliveryValue};
-ghost use Rattle.pn_tablet.specs.Prelude.{TabletCopyValue, copy_of, AreJoins, Bounds, IsLayout, lost, step, stepped, TabletStateValue};
+ghost use Rattle.pn_tablet.specs.Prelude.{TabletCopyValue, copy_of, AreJoins, Bounds, IsLayout, tablet_of, lost, step, stepped, TabletStateValue};
 ghost use Rattle.pn_tablet.specs.declared.op.TabletOp.{TabletOp};
 ghost use Rattle.pn_tablet.specs.declared.op.TabletOp.TheVariants.{Adopt};
 ghost use Rattle.pn_tablet.specs.declared.state.Status.TheVariants.{Serving};
@@ -19,9 +19,9 @@ ghost use Rattle.pn_region.specs.Regions.{RegionValue, IsRegion, new_region, all
 ghost use Rattle.pn_region.specs.Rising.{AllRise};
 ghost use Rattle.pn_region.specs.Rounds.{round, IsHalfTaken};
 ghost use Rattle.pn_region.specs.Serving.{AllServe, ServesAt};
-ghost use Rattle.pn_region.specs.Taken.{all_taken, all_left, CoversTell, AreRounds};
+ghost use Rattle.pn_region.specs.Taken.{all_taken, all_left, CoversTell, HoldTaken, AreRounds, LoseNothing, KeepsLayout, KeepLayout};
 
-/// Every event leaves a region: one tablet for each range, whose cover reaches the marks.
+/// Every event leaves a region: one tablet for each range, whose cover reaches the marks, and whose reach the cover.
 pub fn events_leave_a_region()
     ensures event { (event : RegionEvent) (old new : RegionValue) → IsRegion old → LeadsTo event old new → IsRegion new }
     ensures events { (events : List RegionEvent) (old new : RegionValue) → IsRegion old → AllLeadTo events old new → IsRegion new }
@@ -39,31 +39,40 @@ pub fn honest_events_keep_tablets_faithful()
         → copy_of state need ≡ Ok copy → IsHonestCopy broker copy }
 {}
 
-/// No event lowers the cover of a tablet, nor does a sequence of events.
+/// No event but a change of layout lowers the cover or the reach of a tablet, nor does a sequence of such events.
+///
+/// No event lowers the reach of a key's tablet, which after a change of layout may be another one.
 pub fn covers_never_fall()
     ensures event { (event : RegionEvent) (old new : RegionValue) (tablet : ℕ) (before after : TabletStateValue)
-        → IsRegion old → LeadsTo event old new
+        → IsRegion old → KeepsLayout event → LeadsTo event old new
         → slice_get old.tablets tablet ≡ Some before → slice_get new.tablets tablet ≡ Some after
-        → Reaches after.cover before.cover }
+        → Reaches after.cover before.cover × Reaches after.reach before.reach }
     ensures events { (events : List RegionEvent) (old new : RegionValue) (tablet : ℕ) (before after : TabletStateValue)
-        → IsRegion old → AllLeadTo events old new
+        → IsRegion old → KeepLayout events → AllLeadTo events old new
         → slice_get old.tablets tablet ≡ Some before → slice_get new.tablets tablet ≡ Some after
-        → Reaches after.cover before.cover }
+        → Reaches after.cover before.cover × Reaches after.reach before.reach }
+    ensures reaches { (events : List RegionEvent) (old new : RegionValue) (key : List ℕ) (before after : TabletStateValue)
+        → IsRegion old → AllLeadTo events old new
+        → slice_get old.tablets (tablet_of old.layout key) ≡ Some before
+        → slice_get new.tablets (tablet_of new.layout key) ≡ Some after
+        → Reaches after.reach before.reach }
 {}
 
-/// A tablet that serves after an event still holds each record it held before.
+/// Where the tablet of a key serves after an event, it still holds the record that the key's tablet held before.
 ///
-/// After honest events, so does one that serves before and after them, whatever losses and copies came between.
+/// After honest events, so it does where it serves before and after them, whatever came between.
 pub fn what_is_served_never_goes_back()
-    ensures event { (event : RegionEvent) (old new : RegionValue) (tablet : ℕ) (before after : TabletStateValue)
+    ensures event { (event : RegionEvent) (old new : RegionValue) (key : List ℕ) (before after : TabletStateValue)
         → IsRegion old → LeadsTo event old new
-        → slice_get old.tablets tablet ≡ Some before → slice_get new.tablets tablet ≡ Some after → after.status ≡ Serving
-        → (key : List ℕ) → HoldsStill (find bytes_cmp key before.cells) (find bytes_cmp key after.cells) }
-    ensures events { (broker : BrokerRecord) (events : List RegionEvent) (old new : RegionValue) (tablet : ℕ) (before after : TabletStateValue)
+        → slice_get old.tablets (tablet_of old.layout key) ≡ Some before
+        → slice_get new.tablets (tablet_of new.layout key) ≡ Some after → after.status ≡ Serving
+        → HoldsStill (find bytes_cmp key before.cells) (find bytes_cmp key after.cells) }
+    ensures events { (broker : BrokerRecord) (events : List RegionEvent) (old new : RegionValue) (key : List ℕ) (before after : TabletStateValue)
         → IsRegion old → AreFaithful broker old.tablets → AreHonestEvents broker events → AllLeadTo events old new
-        → slice_get old.tablets tablet ≡ Some before → slice_get new.tablets tablet ≡ Some after
+        → slice_get old.tablets (tablet_of old.layout key) ≡ Some before
+        → slice_get new.tablets (tablet_of new.layout key) ≡ Some after
         → before.status ≡ Serving → after.status ≡ Serving
-        → (key : List ℕ) → HoldsStill (find bytes_cmp key before.cells) (find bytes_cmp key after.cells) }
+        → HoldsStill (find bytes_cmp key before.cells) (find bytes_cmp key after.cells) }
 {}
 
 /// After an event, or honest events, a region still holds the record of a key whose tablet serves before and
@@ -93,7 +102,7 @@ pub fn a_recovery_leaves_no_trace()
 /// Such a tablet still holds each record it held before the loss: at a greater version, or at the same one with
 /// all its contents.
 ///
-/// The cells of faithful serving tablets of one range depend on their covers alone.
+/// The cells of faithful serving tablets of one range depend on their covers alone, where these reach their reaches.
 pub fn a_recovery_brings_all_back()
     ensures whole { (broker : BrokerRecord) (tablet after : TabletStateValue) (joins : List TabletOp) (copy : TabletCopyValue) → AreJoins joins
         → IsFaithful broker tablet → tablet.status ≡ Serving → IsHonestCopy broker copy
@@ -101,13 +110,14 @@ pub fn a_recovery_brings_all_back()
         → (key : List ℕ) → HoldsStill (find bytes_cmp key tablet.cells) (find bytes_cmp key after.cells) }
     ensures covers { (broker : BrokerRecord) (tablet other : TabletStateValue) → IsFaithful broker tablet → IsFaithful broker other
         → tablet.status ≡ Serving → other.status ≡ Serving → tablet.range ≡ other.range
+        → Reaches tablet.cover tablet.reach → Reaches other.cover other.reach
         → Reaches tablet.cover other.cover → Reaches other.cover tablet.cover → tablet.cells ≡ other.cells }
 {}
 
 /// Honest events take the images of their rounds, and those of each copy up to its marks.
 ///
-/// Each tablet's cover then reaches all of these in its range, and else only images of rounds that ran out of
-/// memory.
+/// In its range, each tablet's reach then has come to all of these, and its cover to no others but those of rounds that
+/// ran out of memory.
 pub fn covers_tell_what_events_took()
     ensures new { (broker : BrokerRecord) (bounds : Bounds) → CoversTell broker [] [] (new_region bounds).tablets }
     ensures events { (broker : BrokerRecord) (events : List RegionEvent) (old new : RegionValue) (taken left : List Image)
@@ -118,14 +128,21 @@ pub fn covers_tell_what_events_took()
 /// After honest events of a new region, its cells are exactly those of the images taken, if all tablets serve
 /// and rounds that ran out of memory were retried.
 ///
-/// Rounds alone need not be honest.
+/// Without losses and adoptions, events need not be honest.
+///
+/// A tablet that recovers lacks only what it needs of what was taken in its range.
 pub fn events_leave_what_they_took()
     ensures honest { (broker : BrokerRecord) (bounds : Bounds) (events : List RegionEvent) (region : RegionValue)
         → IsLayout bounds → AllLeadTo events (new_region bounds) region → AreHonestEvents broker events → AllServe region
         → AreIn (all_left events) (all_taken broker events) → all_cells region ≡ table_of (all_taken broker events) }
     ensures rounds { (broker : BrokerRecord) (bounds : Bounds) (events : List RegionEvent) (region : RegionValue)
-        → IsLayout bounds → AllLeadTo events (new_region bounds) region → AreRounds events
+        → IsLayout bounds → AllLeadTo events (new_region bounds) region → LoseNothing events
         → AreIn (all_left events) (all_taken broker events) → all_cells region ≡ table_of (all_taken broker events) }
+    ensures new { (broker : BrokerRecord) (bounds : Bounds) → HoldTaken broker [] [] (new_region bounds).tablets }
+    ensures events { (broker : BrokerRecord) (events : List RegionEvent) (old new : RegionValue) (taken left : List Image)
+        → IsRegion old → AreHonestEvents broker events → AllLeadTo events old new
+        → CoversTell broker taken left old.tablets → HoldTaken broker taken left old.tablets
+        → HoldTaken broker (taken ++ all_taken broker events) (left ++ all_left events) new.tablets }
 {}
 
 /// Two such regions whose events took the same images have the same records, whatever their layouts and events. By

@@ -15,6 +15,7 @@ ghost use Rattle.pn_region.specs.Since.{IsSince};
 
 mod parts;
 mod recovery;
+mod relayout;
 
 use crate::{Log, RoundFault, Since, next_marks};
 use pn_apply::{Gate, apply_all, reduce_owned};

@@ -49,13 +49,24 @@ raised_repeat cover marks g h = raised-associates cover marks marks g ∙ ap (ra
 raised_past : (cover marks later : Positions) → Rise cover → raised marks later ≡ later → raised (raised cover marks) later ≡ raised cover later
 raised_past cover marks later g past = raised-associates cover marks later g ∙ ap (raised cover) past
 
-taking_commutes : (t : TabletStateValue) (cells others : Entries) (marks positions : Positions) → Rise t.cover → Rise marks → Rise positions
+taking_commutes : (t : TabletStateValue) (cells others : Entries) (marks positions : Positions) → Rise t.cover → Rise t.reach → Rise marks → Rise positions
     → taking (taking t cells marks) others positions ≡ taking (taking t others positions) cells marks
-taking_commutes t cells others marks positions g h k =
-    λ i. record { range = t.range; cells = adds_commute t.cells (spell cells) (spell others) i; cover = raised_commute t.cover marks positions g h k i; status = t.status }
+taking_commutes t cells others marks positions g f h k = λ i. record {
+  range = t.range;
+  cells = adds_commute t.cells (spell cells) (spell others) i;
+  cover = raised_commute t.cover marks positions g h k i;
+  reach = raised_commute t.reach marks positions f h k i;
+  status = t.status;
+}
 
-taking_repeats : (t : TabletStateValue) (cells : Entries) (marks : Positions) → Rise t.cover → Rise marks → taking (taking t cells marks) cells marks ≡ taking t cells marks
-taking_repeats t cells marks g h = λ i. record { range = t.range; cells = adds_repeat t.cells (spell cells) i; cover = raised_repeat t.cover marks g h i; status = t.status }
+taking_repeats : (t : TabletStateValue) (cells : Entries) (marks : Positions) → Rise t.cover → Rise t.reach → Rise marks → taking (taking t cells marks) cells marks ≡ taking t cells marks
+taking_repeats t cells marks g f h = λ i. record {
+  range = t.range;
+  cells = adds_repeat t.cells (spell cells) i;
+  cover = raised_repeat t.cover marks g h i;
+  reach = raised_repeat t.reach marks f h i;
+  status = t.status;
+}
 
 -- a join of keys in the range is taken, and another is not
 taken_in : (t : TabletStateValue) (cells : Entries) (marks : Positions) → lie_in t.range cells ≡ true → stepped t (Join cells marks) ≡ taking t cells marks
@@ -65,47 +76,47 @@ left_out : (t : TabletStateValue) (cells : Entries) (marks : Positions) → lie_
 left_out t cells marks outside = ap (λ b. after_step t (if b then Ok (taking t cells marks) else Err WrongRange)) outside
 
 commute_by : (t : TabletStateValue) (cells others : Entries) (marks positions : Positions) (a b : Bool) → lie_in t.range cells ≡ a → lie_in t.range others ≡ b
-    → Rise t.cover → Rise marks → Rise positions
+    → Rise t.cover → Rise t.reach → Rise marks → Rise positions
     → stepped (stepped t (Join cells marks)) (Join others positions) ≡ stepped (stepped t (Join others positions)) (Join cells marks)
-commute_by t cells others marks positions true true x y g h k =
+commute_by t cells others marks positions true true x y g f h k =
     ap (λ t. stepped t (Join others positions)) (taken_in t cells marks x) ∙ taken_in (taking t cells marks) others positions y
-    ∙ taking_commutes t cells others marks positions g h k
+    ∙ taking_commutes t cells others marks positions g f h k
     ∙ sym (ap (λ t. stepped t (Join cells marks)) (taken_in t others positions y) ∙ taken_in (taking t others positions) cells marks x)
-commute_by t cells others marks positions true false x y g h k =
+commute_by t cells others marks positions true false x y g f h k =
     ap (λ t. stepped t (Join others positions)) (taken_in t cells marks x) ∙ left_out (taking t cells marks) others positions y
     ∙ sym (ap (λ t. stepped t (Join cells marks)) (left_out t others positions y) ∙ taken_in t cells marks x)
-commute_by t cells others marks positions false true x y g h k =
+commute_by t cells others marks positions false true x y g f h k =
     ap (λ t. stepped t (Join others positions)) (left_out t cells marks x) ∙ taken_in t others positions y
     ∙ sym (ap (λ t. stepped t (Join cells marks)) (taken_in t others positions y) ∙ left_out (taking t others positions) cells marks x)
-commute_by t cells others marks positions false false x y g h k =
+commute_by t cells others marks positions false false x y g f h k =
     ap (λ t. stepped t (Join others positions)) (left_out t cells marks x) ∙ left_out t others positions y
     ∙ sym (ap (λ t. stepped t (Join cells marks)) (left_out t others positions y) ∙ left_out t cells marks x)
 
-pub joins_commute : (t : TabletStateValue) (cells others : Entries) (marks positions : Positions) → Rise t.cover → Rise marks → Rise positions
+pub joins_commute : (t : TabletStateValue) (cells others : Entries) (marks positions : Positions) → Rise t.cover → Rise t.reach → Rise marks → Rise positions
     → stepped (stepped t (Join cells marks)) (Join others positions) ≡ stepped (stepped t (Join others positions)) (Join cells marks)
 joins_commute t cells others marks positions =
     commute_by t cells others marks positions (lie_in t.range cells) (lie_in t.range others) refl refl
 
-repeat_by : (t : TabletStateValue) (cells : Entries) (marks : Positions) (a : Bool) → lie_in t.range cells ≡ a → Rise t.cover → Rise marks
+repeat_by : (t : TabletStateValue) (cells : Entries) (marks : Positions) (a : Bool) → lie_in t.range cells ≡ a → Rise t.cover → Rise t.reach → Rise marks
     → stepped (stepped t (Join cells marks)) (Join cells marks) ≡ stepped t (Join cells marks)
-repeat_by t cells marks true x g h =
+repeat_by t cells marks true x g f h =
     ap (λ t. stepped t (Join cells marks)) (taken_in t cells marks x) ∙ taken_in (taking t cells marks) cells marks x
-    ∙ taking_repeats t cells marks g h ∙ sym (taken_in t cells marks x)
-repeat_by t cells marks false x g h = ap (λ t. stepped t (Join cells marks)) (left_out t cells marks x)
+    ∙ taking_repeats t cells marks g f h ∙ sym (taken_in t cells marks x)
+repeat_by t cells marks false x g f h = ap (λ t. stepped t (Join cells marks)) (left_out t cells marks x)
 
-pub joins_repeat : (t : TabletStateValue) (cells : Entries) (marks : Positions) → Rise t.cover → Rise marks
+pub joins_repeat : (t : TabletStateValue) (cells : Entries) (marks : Positions) → Rise t.cover → Rise t.reach → Rise marks
     → stepped (stepped t (Join cells marks)) (Join cells marks) ≡ stepped t (Join cells marks)
 joins_repeat t cells marks = repeat_by t cells marks (lie_in t.range cells) refl
 
-later_by : (t : TabletStateValue) (cells : Entries) (marks later : Positions) (a : Bool) → lie_in t.range cells ≡ a → Rise t.cover → raised marks later ≡ later
+later_by : (t : TabletStateValue) (cells : Entries) (marks later : Positions) (a : Bool) → lie_in t.range cells ≡ a → Rise t.cover → Rise t.reach → raised marks later ≡ later
     → stepped (stepped t (Join cells marks)) (Join cells later) ≡ stepped t (Join cells later)
-later_by t cells marks later true x g past =
+later_by t cells marks later true x g f past =
     ap (λ t. stepped t (Join cells later)) (taken_in t cells marks x) ∙ taken_in (taking t cells marks) cells later x
-    ∙ (λ i. record { range = t.range; cells = adds_repeat t.cells (spell cells) i; cover = raised_past t.cover marks later g past i; status = t.status })
+    ∙ (λ i. record { range = t.range; cells = adds_repeat t.cells (spell cells) i; cover = raised_past t.cover marks later g past i; reach = raised_past t.reach marks later f past i; status = t.status })
     ∙ sym (taken_in t cells later x)
-later_by t cells marks later false x g past = ap (λ t. stepped t (Join cells later)) (left_out t cells marks x)
+later_by t cells marks later false x g f past = ap (λ t. stepped t (Join cells later)) (left_out t cells marks x)
 
 -- the same cells joined again, with marks that are nowhere below
-pub later_join_alone : (t : TabletStateValue) (cells : Entries) (marks later : Positions) → Rise t.cover → raised marks later ≡ later
+pub later_join_alone : (t : TabletStateValue) (cells : Entries) (marks later : Positions) → Rise t.cover → Rise t.reach → raised marks later ≡ later
     → stepped (stepped t (Join cells marks)) (Join cells later) ≡ stepped t (Join cells later)
 later_join_alone t cells marks later = later_by t cells marks later (lie_in t.range cells) refl

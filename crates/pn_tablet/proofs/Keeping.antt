@@ -3,8 +3,7 @@ use Rattle.std.proofs.Common.{◌≡◌, ℕ, Bool, true, false, cond, List, [],
 use Rattle.std.specs.Ordering.{eq_by_cmp}
 use Rattle.std.specs.List.{AllByRecursion}
 use Rattle.std.specs.FinMap.{find}
-use Rattle.pn_join.specs.Marks.{Positions, are_positions, raised}
-use Rattle.pn_join.proofs.MarksFacts.{are_positions-raised}
+use Rattle.pn_join.specs.Marks.{Positions, are_positions}
 use Rattle.pn_join.specs.Tables.{optional_joined}
 use Rattle.pn_record.specs.declared.image.Image.{Image}
 use Rattle.pn_record.specs.Order.{bytes_cmp}
@@ -61,13 +60,12 @@ joined_inside range old more new joins inside inside_too =
     (λ c. found_inside range old e.0 c inside) (λ c. found_inside range more e.0 c inside_too) (sym at ∙ joins.joined e.0))
 
 -- what a tablet takes keeps it a tablet
-pub kept : {range : Ends} {old more new : Entries} {cover higher spare_too : Positions} {status next : Status} {spare : Option Positions}
-    → (marks : Positions) → IsTablet range old cover status spare → are_positions marks ≡ true → lie_in range more ≡ true → Joins old more new → new ≡ adds old (spell more)
-    → higher ≡ raised cover marks → spare_too ≡ higher → are_positions (needed next) ≡ true → IsTablet range new higher next (Some spare_too)
-kept {range = range} {old = old} {more = more} {new = new} {cover = cover} marks was lawful inside joins is higher_is same needs = record {
+pub kept : {range : Ends} {old more new : Entries} {reach farther copied : Positions} {status next : Status} {spare : Option Positions}
+    → IsTablet range old reach status spare → lie_in range more ≡ true → Joins old more new → new ≡ adds old (spell more)
+    → copied ≡ farther → are_positions (needed next) ≡ true → IsTablet range new farther next (Some copied)
+kept {range = range} {old = old} {more = more} {new = new} was inside joins is same needs = record {
   inside = joined_inside range old more new joins was.inside inside;
   spelled = is ∙ spelled_adds old (spell more) ∙ ap (λ m. table_of (spell m)) (sym is);
-  positions = ap are_positions higher_is ∙ are_positions-raised cover marks was.positions lawful;
   needed_positions = needs;
   has_need = same;
 }
@@ -75,26 +73,24 @@ kept {range = range} {old = old} {more = more} {new = new} {cover = cover} marks
 pub emptied : (cells : Entries) → cells ≡ [] → cells ≡ table_of (spell cells)
 emptied cells none = none ∙ spelled_nil ∙ ap (λ m. table_of (spell m)) (sym none)
 
--- a loss takes the spare copy of the cover as the need
-pub lost_spare : {range : Ends} {old new : Entries} {cover need : Positions} {status : Status} {spare after : Option Positions}
-    → IsTablet range old cover status spare → new ≡ [] → spare ≡ Some need → after ≡ None → IsTablet range new cover (Recovering need) after
-lost_spare {range = range} {new = new} {cover = cover} {need = need} {status = status} was none some taken =
-    let same : need ≡ cover = subst (λ s. HasNeed s cover status) some was.has_need in
+-- a loss takes the spare copy of the reach as the need
+pub lost_spare : {range : Ends} {old new : Entries} {reach need : Positions} {status : Status} {spare after : Option Positions}
+    → IsTablet range old reach status spare → are_positions reach ≡ true → new ≡ [] → spare ≡ Some need → after ≡ None → IsTablet range new reach (Recovering need) after
+lost_spare {range = range} {new = new} {reach = reach} {need = need} {status = status} was positions none some taken =
+    let same : need ≡ reach = subst (λ s. HasNeed s reach status) some was.has_need in
     record {
       inside = subst (λ m. lie_in range m ≡ true) (sym none) refl;
       spelled = emptied new none;
-      positions = was.positions;
-      needed_positions = ap are_positions same ∙ was.positions;
-      has_need = subst (λ s. HasNeed s cover (Recovering need)) (sym taken) (ap Recovering same);
+      needed_positions = ap are_positions same ∙ positions;
+      has_need = subst (λ s. HasNeed s reach (Recovering need)) (sym taken) (ap Recovering same);
     }
 
 -- a loss right after another keeps its need
-pub lost_again : {range : Ends} {old new : Entries} {cover : Positions} {status : Status} {spare after : Option Positions}
-    → IsTablet range old cover status spare → new ≡ [] → spare ≡ None → after ≡ None → IsTablet range new cover status after
-lost_again {range = range} {new = new} {cover = cover} {status = status} was none some taken = record {
+pub lost_again : {range : Ends} {old new : Entries} {reach : Positions} {status : Status} {spare after : Option Positions}
+    → IsTablet range old reach status spare → new ≡ [] → spare ≡ None → after ≡ None → IsTablet range new reach status after
+lost_again {range = range} {new = new} {reach = reach} {status = status} was none some taken = record {
   inside = subst (λ m. lie_in range m ≡ true) (sym none) refl;
   spelled = emptied new none;
-  positions = was.positions;
   needed_positions = was.needed_positions;
-  has_need = subst (λ s. HasNeed s cover status) (sym taken) (subst (λ s. HasNeed s cover status) some was.has_need);
+  has_need = subst (λ s. HasNeed s reach status) (sym taken) (subst (λ s. HasNeed s reach status) some was.has_need);
 }

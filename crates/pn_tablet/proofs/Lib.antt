@@ -22,9 +22,11 @@ pub mod Joined
 pub mod Keeping
 pub mod LayoutFacts
 pub mod LineFaults
+pub mod Progressing
 pub mod Recovery
 pub mod SameSpelling
 pub mod SpelledImages
 pub mod Stepping
 pub mod TabletLaws
 pub mod Told
+pub mod Within

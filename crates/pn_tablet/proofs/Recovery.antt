@@ -84,15 +84,16 @@ copied_back own was images all key =
     (subst (NotOlder (cells was key)) (sym now) (brought_back (cells was key) s (cells images key) (all_absorbed key was images all)))
 
 pub adoption_brings_back : (upto : Positions → List Image) → Grows upto → (t after : TabletStateValue) (joins : List TabletOp) (copy : TabletCopyValue) → AreJoins joins
-    → Rise t.cover → Rise copy.marks → t.cells ≡ table_of (upto t.cover) → copy.cells ≡ table_of (upto copy.marks)
+    → Rise t.reach → Rise copy.marks → (images : List Image) → t.cells ≡ table_of images → ((image : Image) → Contains images image → Contains (upto t.reach) image)
+    → copy.cells ≡ table_of (upto copy.marks)
     → step (fold stepped (stepped t Lose) joins) (Adopt copy) ≡ Ok after
     → (key : List ℕ) → NotOlder (find bytes_cmp key t.cells) (find bytes_cmp key after.cells)
-adoption_brings_back upto grows t after joins copy are g h was copied is key =
+adoption_brings_back upto grows t after joins copy are g h images was held copied is key =
     let before = fold stepped (lost t) joins in
     let known = adopted before copy after is in
-    let needs : before.status ≡ Recovering t.cover = joins_leave (lost t) (Recovering t.cover) joins refl are in
-    let reaches = nothing_short copy.marks t.cover (ap (λ status. lacking status copy.marks) (sym needs) ∙ known.reaches) in
+    let needs : before.status ≡ Recovering t.reach = joins_leave (lost t) (Recovering t.reach) joins refl are in
+    let reaches = nothing_short copy.marks t.reach (ap (λ status. lacking status copy.marks) (sym needs) ∙ known.reaches) in
     subst (λ m. NotOlder (find bytes_cmp key m) (find bytes_cmp key after.cells)) (sym was)
-    (subst (λ (a : TabletStateValue). NotOlder (find bytes_cmp key (table_of (upto t.cover))) (find bytes_cmp key a.cells)) (sym known.taken)
-    (subst (λ m. NotOlder (find bytes_cmp key (table_of (upto t.cover))) (find bytes_cmp key (adds before.cells (spell m)))) (sym copied)
-    (copied_back before.cells (upto t.cover) (upto copy.marks) (grows copy.marks t.cover h g reaches) key)))
+    (subst (λ (a : TabletStateValue). NotOlder (find bytes_cmp key (table_of images)) (find bytes_cmp key a.cells)) (sym known.taken)
+    (subst (λ m. NotOlder (find bytes_cmp key (table_of images)) (find bytes_cmp key (adds before.cells (spell m)))) (sym copied)
+    (copied_back before.cells images (upto copy.marks) (λ image there. grows copy.marks t.reach h g reaches image (held image there)) key)))

@@ -29,16 +29,16 @@ one_range a b same = λ i. (
   same_end a.1 b.1 (second_true (option_eq bytes_eq a.0 b.0) (option_eq bytes_eq a.1 b.1) same) i,
 )
 
-pub join_step : (t : TabletStateValue) (cells new : Entries) (marks higher : Positions) → lie_in t.range cells ≡ true → new ≡ adds t.cells (spell cells) → higher ≡ raised t.cover marks
-    → step t (Join cells marks) ≡ Ok (record { range = t.range; cells = new; cover = higher; status = t.status })
-join_step t cells new marks higher inside is is_too =
+pub join_step : (t : TabletStateValue) (cells new : Entries) (marks higher farther : Positions) → lie_in t.range cells ≡ true → new ≡ adds t.cells (spell cells) → higher ≡ raised t.cover marks → farther ≡ raised t.reach marks
+    → step t (Join cells marks) ≡ Ok (record { range = t.range; cells = new; cover = higher; reach = farther; status = t.status })
+join_step t cells new marks higher farther inside is cover_is reach_is =
     ap (λ b. if b then Ok (taking t cells marks) else Err WrongRange) inside
-    ∙ (λ i. Ok (record { range = t.range; cells = sym is i; cover = sym is_too i; status = t.status }))
+    ∙ (λ i. Ok (record { range = t.range; cells = sym is i; cover = sym cover_is i; reach = sym reach_is i; status = t.status }))
 
-pub adopt_step : (t : TabletStateValue) (copy : TabletCopyValue) (new : Entries) (higher : Positions) → same_range t.range copy.range ≡ true → lacking t.status copy.marks ≡ None
-    → new ≡ adds t.cells (spell copy.cells) → higher ≡ raised t.cover copy.marks
-    → step t (Adopt copy) ≡ Ok (record { range = t.range; cells = new; cover = higher; status = Serving })
-adopt_step t copy new higher same none is is_too =
+pub adopt_step : (t : TabletStateValue) (copy : TabletCopyValue) (new : Entries) (higher farther : Positions) → same_range t.range copy.range ≡ true → lacking t.status copy.marks ≡ None
+    → new ≡ adds t.cells (spell copy.cells) → higher ≡ raised t.cover copy.marks → farther ≡ raised t.reach copy.marks
+    → step t (Adopt copy) ≡ Ok (record { range = t.range; cells = new; cover = higher; reach = farther; status = Serving })
+adopt_step t copy new higher farther same none is cover_is reach_is =
     ap (λ b. if b then adopting t copy (lacking t.status copy.marks) else Err WrongRange) same
     ∙ ap (adopting t copy) none
-    ∙ (λ i. Ok (record { range = t.range; cells = sym is i; cover = sym is_too i; status = Serving }))
+    ∙ (λ i. Ok (record { range = t.range; cells = sym is i; cover = sym cover_is i; reach = sym reach_is i; status = Serving }))

@@ -64,6 +64,15 @@ never_falls t (Adopt copy) =
     by_step (λ after. Reaches after.cover t.cover) t (step t (Adopt copy)) (same_reaches t.cover)
     (λ after is. subst (λ a. Reaches a.cover t.cover) (sym (adopted t copy after is).taken) (raised_reaches t.cover copy.marks))
 
+pub reach_never_falls : (t : TabletStateValue) (op : TabletOp) → Reaches (stepped t op).reach t.reach
+reach_never_falls t (Join cells marks) =
+    by_step (λ after. Reaches after.reach t.reach) t (step t (Join cells marks)) (same_reaches t.reach)
+    (λ after is. subst (λ a. Reaches a.reach t.reach) (sym (joined_is t cells marks after is)) (raised_reaches t.reach marks))
+reach_never_falls t Lose = same_reaches t.reach
+reach_never_falls t (Adopt copy) =
+    by_step (λ after. Reaches after.reach t.reach) t (step t (Adopt copy)) (same_reaches t.reach)
+    (λ after is. subst (λ a. Reaches a.reach t.reach) (sym (adopted t copy after is).taken) (raised_reaches t.reach copy.marks))
+
 itself_not_older : (o : Option CellValue) → NotOlder o o
 itself_not_older None = tt
 itself_not_older (Some cell) = joined_not_older (Some cell) None

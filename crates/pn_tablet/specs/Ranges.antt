@@ -29,3 +29,7 @@ in_range ends key = is_from ends.0 key && is_before ends.1 key
 abbrev pub are_ends : Ends → Bool
 are_ends (None, to) = true
 are_ends (Some from, to) = is_before to from
+
+-- each range begins before the other ends; ranges that are open below always meet
+abbrev pub meet : Ends → Ends → Bool
+meet a b = are_ends (a.0, b.1) && are_ends (b.0, a.1)

@@ -14,13 +14,13 @@ use Rattle.pn_tablet.specs.declared.op.TabletOp.TheVariants.{Join, Lose, Adopt}
 use Rattle.pn_tablet.specs.declared.fault.OpFault.{OpFault}
 use Rattle.pn_tablet.specs.declared.fault.OpFault.TheVariants.{WrongRange, TooOld, Memory}
 
--- a join adds the images that the cells spell, and its marks raise the cover
+-- a join adds the images that the cells spell, and its marks raise the cover and the reach
 abbrev pub taking : TabletStateValue → Entries → Positions → TabletStateValue
-taking tablet cells marks = record tablet { cells = adds tablet.cells (spell cells); cover = raised tablet.cover marks }
+taking tablet cells marks = record tablet { cells = adds tablet.cells (spell cells); cover = raised tablet.cover marks; reach = raised tablet.reach marks }
 
--- a loss removes the cells and keeps the cover; the tablet needs a copy that reaches it
+-- a loss removes the cells and keeps the cover and the reach; the tablet needs a copy that reaches the reach
 abbrev pub lost : TabletStateValue → TabletStateValue
-lost tablet = record tablet { cells = []; status = Recovering tablet.cover }
+lost tablet = record tablet { cells = []; status = Recovering tablet.reach }
 
 -- an adoption adds a copy, and the tablet serves, unless the copy falls short of the tablet's need
 abbrev pub adopting : TabletStateValue → TabletCopyValue → Option Short → Result TabletStateValue OpFault

@@ -1,9 +1,10 @@
 //! Copies of a tablet.
 
-ghost use Rattle.pn_tablet.specs.Copying.{copy_of, is_memory};
+ghost use Rattle.std.specs.Prelude.{◌≡◌};
+ghost use Rattle.pn_tablet.specs.Copying.{copy_of, copy_short, is_memory};
 ghost use Rattle.pn_tablet.specs.Refusals.{Answers};
 
-use crate::needs::first_short;
+use crate::needs::{Short, first_short};
 use crate::{CopyFault, Range, Status, TabletState};
 use pn_join::{Dup, Marks};
 use pn_record::Records;
@@ -33,17 +34,18 @@ impl Model for TabletCopy {
 }
 
 impl TabletState {
-    /// A copy of a tablet that serves and whose cover reaches the need. It copies keys and shares contents.
+    /// A copy of a tablet that serves and whose cover reaches the need and the tablet's own reach. It copies keys and
+    /// shares contents.
     ///
     /// `Recovering` exactly where the tablet recovers; otherwise `Behind`, with the first stream that falls short,
-    /// exactly where the cover does not reach the need.
+    /// exactly where the cover does not reach the need; otherwise so where it does not reach the tablet's reach.
     pub fn copy(&self, need: &Marks) -> Result<TabletCopy, CopyFault>
         ensures exact { Answers is_memory result (copy_of self.now need.now) }
     {
         if let Status::Recovering { .. } = self.status() {
             return Err(CopyFault::Recovering);
         }
-        if let Some(short) = first_short(self.cover(), need) {
+        if let Some(short) = self.copy_short(need) {
             return Err(CopyFault::Behind {
                 stream: short.stream,
                 has: short.has,
@@ -55,5 +57,15 @@ impl TabletState {
             marks: self.cover().dup()?,
             cells: self.cells().dup()?,
         })
+    }
+
+    // The first stream at which the cover falls short of the need, or else of the tablet's reach.
+    fn copy_short(&self, need: &Marks) -> Option<Short>
+        ensures { result ≡ copy_short self.now need.now }
+    {
+        match first_short(self.cover(), need) {
+            Some(short) => Some(short),
+            None => first_short(self.cover(), self.reach()),
+        }
     }
 }

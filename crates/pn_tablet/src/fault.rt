@@ -31,8 +31,8 @@ pub enum CopyFault {
     /// The tablet is recovering.
     #[error("recovering")]
     Recovering,
-    /// The tablet's cover does not reach the need: the first stream that falls short, the tablet's position, 0 for
-    /// none, and the one wanted.
+    /// The tablet's cover does not reach the need, or the tablet's reach: the first stream that falls short, the cover's
+    /// position, 0 for none, and the one wanted.
     #[error("behind: the tablet has {has} of stream {name}, and {wanted} are wanted", name = .stream.as_str())]
     Behind {
         stream: StreamName,

@@ -1,6 +1,6 @@
 //! The laws of tablets, as contracts. A call does nothing.
 
-ghost use Rattle.std.specs.Prelude.{◌≡◌, ℕ, List, Ok, fold};
+ghost use Rattle.std.specs.Prelude.{◌≡◌, ℕ, List, Ok, fold, Contains};
 ghost use Rattle.std.specs.FinMap.{find};
 ghost use Rattle.pn_join.specs.Prelude.{Positions, Reaches, raised};
 ghost use Rattle.pn_record.specs.declared.image.Image.{Image};
@@ -13,9 +13,10 @@ ghost use Rattle.pn_tablet.specs.declared.op.TabletOp.{TabletOp};
 ghost use Rattle.pn_tablet.specs.declared.op.TabletOp.TheVariants.{Join, Lose, Adopt};
 ghost use Rattle.pn_tablet.specs.declared.state.Status.TheVariants.{Serving};
 
-/// No operation lowers the cover.
+/// No operation lowers the cover or the reach.
 pub fn cover_never_falls()
-    ensures { (tablet : TabletStateValue) (op : TabletOp) → Reaches (stepped tablet op).cover tablet.cover }
+    ensures cover { (tablet : TabletStateValue) (op : TabletOp) → Reaches (stepped tablet op).cover tablet.cover }
+    ensures reach { (tablet : TabletStateValue) (op : TabletOp) → Reaches (stepped tablet op).reach tablet.reach }
 {}
 
 /// Only a loss removes a record or leaves it at an older version, and after a loss the tablet does not serve.
@@ -29,16 +30,16 @@ pub fn nothing_but_a_loss_goes_back()
 /// Two joins give one tablet in either order, even where one is refused.
 pub fn joins_commute()
     ensures { (tablet : TabletStateValue) (cells others : Entries) (marks positions : Positions)
-        → Rise tablet.cover → Rise marks → Rise positions
+        → Rise tablet.cover → Rise tablet.reach → Rise marks → Rise positions
         → stepped (stepped tablet (Join cells marks)) (Join others positions)
         ≡ stepped (stepped tablet (Join others positions)) (Join cells marks) }
 {}
 
 /// A repeated join changes nothing. With later marks, it leaves what it alone would have left.
 pub fn joins_repeat_without_effect()
-    ensures later { (tablet : TabletStateValue) (cells : Entries) (marks later : Positions) → Rise tablet.cover → raised marks later ≡ later
+    ensures later { (tablet : TabletStateValue) (cells : Entries) (marks later : Positions) → Rise tablet.cover → Rise tablet.reach → raised marks later ≡ later
         → stepped (stepped tablet (Join cells marks)) (Join cells later) ≡ stepped tablet (Join cells later) }
-    ensures same { (tablet : TabletStateValue) (cells : Entries) (marks : Positions) → Rise tablet.cover → Rise marks
+    ensures same { (tablet : TabletStateValue) (cells : Entries) (marks : Positions) → Rise tablet.cover → Rise tablet.reach → Rise marks
         → stepped (stepped tablet (Join cells marks)) (Join cells marks) ≡ stepped tablet (Join cells marks) }
 {}
 
@@ -46,8 +47,9 @@ pub fn joins_repeat_without_effect()
 pub fn an_adoption_brings_back_what_was_lost()
     ensures { (upto : Positions → List Image) → Grows upto
         → (tablet after : TabletStateValue) (joins : List TabletOp) (copy : TabletCopyValue) → AreJoins joins
-        → Rise tablet.cover → Rise copy.marks
-        → tablet.cells ≡ table_of (upto tablet.cover) → copy.cells ≡ table_of (upto copy.marks)
+        → Rise tablet.reach → Rise copy.marks
+        → (images : List Image) → tablet.cells ≡ table_of images → ((image : Image) → Contains images image → Contains (upto tablet.reach) image)
+        → copy.cells ≡ table_of (upto copy.marks)
         → step (fold stepped (stepped tablet Lose) joins) (Adopt copy) ≡ Ok after
         → (key : List ℕ) → NotOlder (find bytes_cmp key tablet.cells) (find bytes_cmp key after.cells) }
 {}

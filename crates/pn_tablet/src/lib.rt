@@ -18,6 +18,7 @@ mod layout;
 pub mod layout_laws;
 mod needs;
 mod op;
+mod progress;
 mod range;
 mod state;
 
@@ -27,6 +28,7 @@ pub use copy_fault::CopyTextFault;
 pub use copy_reading::read_copy;
 pub use copy_writing::write_copy;
 pub use fault::{CopyFault, OpFault};
+pub use inside::cells_within;
 pub use layout::{Layout, LayoutFault};
 pub use op::TabletOp;
 pub use range::Range;

@@ -7,9 +7,9 @@ use pn_record::Records;
 /// One event of a tablet.
 #[derive(Drop)]
 pub enum TabletOp {
-    /// Cells are joined into the tablet's, and the marks raise its cover, even while it recovers.
+    /// Cells are joined into the tablet's, and the marks raise its cover and its reach, even while it recovers.
     Join { cells: Records, marks: Marks },
-    /// The tablet loses its records. It then recovers, and needs a copy that reaches its cover.
+    /// The tablet loses its records. It then recovers, and needs a copy that reaches its reach.
     Lose,
     /// A copy of the tablet is joined in, and the tablet serves again.
     Adopt(TabletCopy),

@@ -7,7 +7,7 @@ ghost use Rattle.std.specs.Ordering.{eq_of_both, on};
 ghost use Rattle.std.specs.Cmp.{partial_equiv_from_equiv};
 ghost use Rattle.std.specs.Cmp.Rules.{comparing};
 ghost use Rattle.std.proofs.Common.{rules};
-ghost use Rattle.pn_tablet.specs.Ranges.{is_from, is_before, in_range, are_ends};
+ghost use Rattle.pn_tablet.specs.Ranges.{is_from, is_before, in_range, are_ends, meet};
 
 use pn_join::{Dup, NoMemory};
 use pn_record::Key;
@@ -79,6 +79,13 @@ impl Range {
     {
         is_from(self.from(), key) && is_before(self.to(), key)
     }
+
+    /// Whether each range begins before the other ends.
+    pub fn meets(&self, other: &Range) -> bool
+        ensures { result ≡ meet self.now other.now }
+    {
+        are_ends(self.from(), other.to()) && are_ends(other.from(), self.to())
+    }
 }
 
 fn is_from(from: Option<&Key>, key: &Key) -> bool
@@ -96,6 +103,15 @@ fn is_before(to: Option<&Key>, key: &Key) -> bool
     match to {
         None => true,
         Some(to) => key < to,
+    }
+}
+
+fn are_ends(from: Option<&Key>, to: Option<&Key>) -> bool
+    ensures { result ≡ are_ends (option_copied from.entry, option_copied to.entry) }
+{
+    match from {
+        None => true,
+        Some(from) => is_before(to, from),
     }
 }
 

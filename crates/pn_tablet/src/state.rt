@@ -15,8 +15,9 @@ mod parts;
 use crate::change::{add_told, room_for};
 use crate::inside::lie_in;
 use crate::needs::{Short, first_short};
+use crate::progress::Progress;
 use crate::{Change, OpFault, Range, TabletCopy, TabletOp};
-use pn_join::{Dup, Marks, NoMemory, raise};
+use pn_join::{Dup, Marks, NoMemory};
 use pn_record::{Records, join_and_tell, join_records};
 use std::alloc::Global;
 use std::marker::Model;
@@ -28,13 +29,13 @@ pub enum Status {
     Recovering { need: Marks },
 }
 
-/// A tablet: a range of keys, the cells of its records, the last position taken from each stream, and whether it
+/// A tablet: a range of keys, the cells of its records, the positions up to which it took streams, and whether it
 /// serves.
 #[derive(Drop)]
 pub struct TabletState {
     range: Range,
     cells: Records,
-    cover: Marks,
+    progress: Progress,
     status: Status,
     spare: Option<Marks>,
     alloc: Global,
@@ -51,9 +52,9 @@ impl Model for TabletState {
 
     ghost use Rattle.pn_tablet.specs.Tablets.{IsTablet};
 
-    ghost view = { λ state. record { range = state.range; cells = state.cells; cover = state.cover; status = state.status } };
+    ghost view = { λ state. record { range = state.range; cells = state.cells; cover = state.progress.cover; reach = state.progress.reach; status = state.status } };
 
-    ghost invariant = { λ state. IsTablet state.range state.cells state.cover state.status state.spare };
+    ghost invariant = { λ state. IsTablet state.range state.cells state.progress.reach state.status state.spare };
 }
 
 impl TabletState {
@@ -64,7 +65,7 @@ impl TabletState {
         TabletState {
             range,
             cells: Records::new(alloc),
-            cover: Marks::new(alloc),
+            progress: Progress::new(alloc),
             status: Status::Serving,
             spare: Some(Marks::new(alloc)),
             alloc,
@@ -112,10 +113,10 @@ impl TabletState {
             return Err(OpFault::WrongRange);
         }
         let mut changes = room_for(self.alloc, cells.len())?;
-        let (cover, spare) = raised_by(&self.cover, marks)?;
+        let (progress, spare) = raised_by(&self.progress, marks)?;
         let told = join_and_tell(&mut self.cells, cells)?;
         add_told(&mut changes, told);
-        self.cover = cover;
+        self.progress = progress;
         self.spare = Some(spare);
         Ok(changes)
     }
@@ -123,6 +124,8 @@ impl TabletState {
     fn lose(&mut self)
         ensures { self.new ≡ lost self.old }
     {
+        // A call on the progress tells the checker that its positions are those of messages.
+        let _ = self.progress.reach();
         self.cells = Records::new(self.alloc);
         if let Some(need) = self.spare.take() {
             self.status = Status::Recovering { need };
@@ -144,9 +147,9 @@ impl TabletState {
                 needs: short.wanted,
             });
         }
-        let (cover, spare) = raised_by(&self.cover, &copy.marks)?;
+        let (progress, spare) = raised_by(&self.progress, &copy.marks)?;
         join_records(&mut self.cells, &copy.cells)?;
-        self.cover = cover;
+        self.progress = progress;
         self.spare = Some(spare);
         self.status = Status::Serving;
         Ok(())
@@ -163,13 +166,13 @@ impl TabletState {
     }
 }
 
-// The cover raised by the marks, and a copy of it, which a later loss takes as the need.
-fn raised_by(cover: &Marks, marks: &Marks) -> Result<(Marks, Marks), NoMemory>
-    ensures { IfOk result (λ covers. (covers.0 ≡ raised cover.now marks.now) × (covers.1 ≡ raised cover.now marks.now)) }
+// The progress raised by the marks, and a copy of its reach, which a later loss takes as the need.
+fn raised_by(progress: &Progress, marks: &Marks) -> Result<(Progress, Marks), NoMemory>
+    requires { IsTrue (are_positions marks.now) }
+    ensures { IfOk result (λ both. (both.0.cover ≡ raised progress.now.cover marks.now) × ((both.0.reach ≡ raised progress.now.reach marks.now) × (both.1 ≡ both.0.reach))) }
 {
-    let mut higher = cover.dup()?;
-    raise(&mut higher, marks)?;
-    let spare = higher.dup()?;
+    let higher = progress.raised_by(marks)?;
+    let spare = higher.reach().dup()?;
     Ok((higher, spare))
 }
 
@@ -181,9 +184,9 @@ impl Dup for TabletState {
         Ok(TabletState {
             range: self.range.dup()?,
             cells: self.cells.dup()?,
-            cover: self.cover.dup()?,
+            progress: self.progress.dup()?,
             status: self.status.dup()?,
-            spare: Some(self.cover.dup()?),
+            spare: Some(self.progress.reach().dup()?),
             alloc: self.alloc,
         })
     }

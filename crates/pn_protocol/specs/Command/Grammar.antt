@@ -8,8 +8,8 @@ use Rattle.pn_record.specs.Sets.{Stamp}
 use Rattle.pn_record.specs.Writing.{version_data}
 use Rattle.pn_scan.specs.QueryReading.{shape_in}
 use Rattle.pn_protocol.specs.Command.Limits.{is_command}
-use Rattle.pn_protocol.specs.Command.Meaning.{CommandValue, adopt, copy, deliver, get, lose, marks, notices, read, scan, tablets}
-use Rattle.pn_protocol.specs.Command.Json.{command_data, adopt_command, copy_command, deliver_command, get_command, lose_command, notices_command, read_command, scan_command}
+use Rattle.pn_protocol.specs.Command.Meaning.{CommandValue, adopt, copy, deliver, get, lose, marks, notices, read, relayout, scan, tablets}
+use Rattle.pn_protocol.specs.Command.Json.{command_data, adopt_command, copy_command, deliver_command, get_command, lose_command, notices_command, read_command, relayout_command, scan_command}
 
 -- what a copy has to reach; nothing may also be missing or null
 abbrev pub IsNeed : Option Data → Positions → Type 0
@@ -31,6 +31,7 @@ Says d (lose tablet) = d ≡ lose_command tablet
 Says d marks = d ≡ command_data (codes "marks") no_members
 Says d (notices since) = d ≡ notices_command since
 Says d (read key version) = (others : Members) × IsRequired others version × (d ≡ read_command key others)
+Says d (relayout bounds) = d ≡ relayout_command bounds
 Says d (scan query) = (asked : Data) × (shape_in asked ≡ Ok query) × (d ≡ scan_command asked)
 Says d tablets = d ≡ command_data (codes "tablets") no_members
 

@@ -4,6 +4,7 @@ use Rattle.serde_json.specs.Data.{Data, number, string, array, object, unsigned,
 use Rattle.serde_json.specs.View.{items_of}
 use Rattle.pn_record.specs.Writing.{image_data}
 use Rattle.pn_stream.specs.Positions.{DeliveryValue}
+use Rattle.pn_tablet.specs.Layouts.{Bounds}
 
 -- a delivery: the position of its first image, its images, and its stream
 abbrev pub delivery_data : DeliveryValue → Data
@@ -50,6 +51,12 @@ notices_command since = command_data (codes "notices") (member (codes "since") (
 -- a `read` command, with the members after its key
 abbrev pub read_command : List ℕ → Members → Data
 read_command key others = command_data (codes "read") (member (codes "key") (string key) others)
+
+-- a `relayout` command, whose bounds come before `do`
+abbrev pub relayout_command : Bounds → Data
+relayout_command bounds =
+    object (member (codes "bounds") (array (items_of (map string bounds)))
+    (member (codes "do") (string (codes "relayout")) no_members))
 
 -- a `scan` command, with the value of its query
 abbrev pub scan_command : Data → Data

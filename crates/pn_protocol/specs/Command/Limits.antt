@@ -9,7 +9,8 @@ use Rattle.pn_record.specs.Sets.{Stamp}
 use Rattle.pn_region.specs.Log.{last_number}
 use Rattle.pn_scan.specs.Queries.{is_query}
 use Rattle.pn_stream.specs.Positions.{DeliveryValue, are_positions}
-use Rattle.pn_protocol.specs.Command.Meaning.{CommandValue, adopt, copy, deliver, get, notices, read, scan}
+use Rattle.pn_tablet.specs.Limits.{max_bounds}
+use Rattle.pn_protocol.specs.Command.Meaning.{CommandValue, adopt, copy, deliver, get, notices, read, relayout, scan}
 
 -- the most batches of a command
 abbrev pub max_batches : ℕ
@@ -45,7 +46,7 @@ abbrev pub may_be_required : Option Stamp → Bool
 may_be_required None = true
 may_be_required (Some version) = is_version version
 
--- the parts of a command keep their limits
+-- the parts of a command keep their limits; whether bounds rise is asked where they are used
 abbrev pub is_command : CommandValue → Bool
 is_command (adopt lines) = may_announce lines
 is_command (copy need tablet) = list_all is_mark need
@@ -53,5 +54,6 @@ is_command (deliver deliveries) = are_few max_batches deliveries && list_all is_
 is_command (get keys) = are_few max_keys keys && list_all is_key keys
 is_command (notices since) = may_be_asked since
 is_command (read key version) = is_key key && may_be_required version
+is_command (relayout bounds) = nat_le (length bounds) max_bounds && list_all is_key bounds
 is_command (scan query) = is_query query
 is_command command = true

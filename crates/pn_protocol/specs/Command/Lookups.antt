@@ -25,7 +25,7 @@ AsksForRecords said = ⊥
 unfoldable pub get_in : Members → Data → Result CommandValue Refusal
 get_in members d = do
   items ← member_as as_array (BadShape Keys) (get (codes "keys") d)
-  keys ← each_in key_shape items
+  keys ← each_in (key_shape Keys) items
   named ← named_alone (codes "do" ∷ codes "keys" ∷ []) members
   fit ← keys_fit keys
   Ok (command.get keys)

@@ -4,11 +4,12 @@ use Rattle.pn_join.specs.Marks.{Positions}
 use Rattle.pn_record.specs.Sets.{Stamp}
 use Rattle.pn_scan.specs.Queries.{QueryValue}
 use Rattle.pn_stream.specs.Positions.{DeliveryValue}
+use Rattle.pn_tablet.specs.Layouts.{Bounds}
 use Rattle.pn_protocol.specs.declared.command.Command.{Command}
-use Rattle.pn_protocol.specs.declared.command.Command.TheVariants.{Adopt, Copy, Deliver, Get, Lose, Marks, Notices, Read, Scan, Tablets}
+use Rattle.pn_protocol.specs.declared.command.Command.TheVariants.{Adopt, Copy, Deliver, Get, Lose, Marks, Notices, Read, Relayout, Scan, Tablets}
 
 -- a command, with its parts: lines to adopt; need and tablet; deliveries; keys; tablet; the number after which
--- notices are wanted; key and required version; query
+-- notices are wanted; key and required version; bounds; query
 pub data CommandValue : Type 0 where
   adopt : ℕ → CommandValue
   copy : Positions → ℕ → CommandValue
@@ -18,6 +19,7 @@ pub data CommandValue : Type 0 where
   marks : CommandValue
   notices : ℕ → CommandValue
   read : List ℕ → Option Stamp → CommandValue
+  relayout : Bounds → CommandValue
   scan : QueryValue → CommandValue
   tablets : CommandValue
 
@@ -31,5 +33,6 @@ command_value (Lose tablet) = lose tablet
 command_value Marks = marks
 command_value (Notices since) = notices since
 command_value (Read key version) = read key version
+command_value (Relayout bounds) = relayout bounds.items
 command_value (Scan query) = scan query
 command_value Tablets = tablets

@@ -9,10 +9,11 @@ use Rattle.pn_protocol.specs.Command.Meaning.{CommandValue, marks, tablets}
 use Rattle.pn_protocol.specs.Command.Words.{word_in}
 use Rattle.pn_protocol.specs.Command.Notices.{notices_in}
 use Rattle.pn_protocol.specs.Command.Recovery.{adopt_in, copy_in, lose_in}
+use Rattle.pn_protocol.specs.Command.Relayouts.{relayout_in}
 use Rattle.pn_protocol.specs.declared.command.parse.Allowed.{Allowed}
 use Rattle.pn_protocol.specs.declared.command.parse.Allowed.TheVariants.{All, Lookups}
 use Rattle.pn_protocol.specs.declared.command.word.CommandWord.{CommandWord}
-use Rattle.pn_protocol.specs.declared.command.word.CommandWord.TheVariants.{Adopt, Copy, Deliver, Get, Lose, Marks, Notices, Read, Scan, Tablets}
+use Rattle.pn_protocol.specs.declared.command.word.CommandWord.TheVariants.{Adopt, Copy, Deliver, Get, Lose, Marks, Notices, Read, Relayout, Scan, Tablets}
 use Rattle.pn_protocol.specs.declared.refusal.Part.TheVariants.{Whole, Do}
 use Rattle.pn_protocol.specs.declared.refusal.Refusal.{Refusal}
 use Rattle.pn_protocol.specs.declared.refusal.Refusal.TheVariants.{BadShape, ReadOnly}
@@ -30,6 +31,7 @@ command_as Lose members d = lose_in members d
 command_as Marks members d = alone_in marks members
 command_as Notices members d = notices_in members d
 command_as Read members d = read_in members d
+command_as Relayout members d = relayout_in members d
 command_as Scan members d = scan_in members d
 command_as Tablets members d = alone_in tablets members
 
@@ -58,8 +60,8 @@ allowed_in allowed d = do
 abbrev pub command_in : Data → Result CommandValue Refusal
 command_in d = allowed_in All d
 
--- memory may run out: the value is a command, or says `deliver` or `get`, whose batches or keys are gathered before
--- their ranges are checked
+-- memory may run out: the value is a command, or says `deliver`, `get` or `relayout`, whose batches, keys or bounds are
+-- gathered before their ranges are checked
 abbrev pub TakesMemory : Allowed → Data → Type 0
 TakesMemory allowed d =
-    IsOk (allowed_in allowed d) ⊎ (get (codes "do") d ≡ Some (string (codes "deliver"))) ⊎ (get (codes "do") d ≡ Some (string (codes "get")))
+    IsOk (allowed_in allowed d) ⊎ (get (codes "do") d ≡ Some (string (codes "deliver"))) ⊎ (get (codes "do") d ≡ Some (string (codes "get"))) ⊎ (get (codes "do") d ≡ Some (string (codes "relayout")))

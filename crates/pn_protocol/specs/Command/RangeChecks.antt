@@ -1,5 +1,5 @@
 -- The ranges of a line's parts, one after another.
-use Rattle.std.specs.Prelude.{ℕ, Bool, if◌then◌else◌, List, [], ◌∷◌, length, Option, Some, None, Result, Ok, Err}
+use Rattle.std.specs.Prelude.{ℕ, Bool, nat_le, if◌then◌else◌, List, [], ◌∷◌, length, Option, Some, None, Result, Ok, Err}
 use Rattle.pn_join.specs.Naming.{is_name}
 use Rattle.pn_json.specs.Answers.{◌>>=◌, fault_as}
 use Rattle.pn_record.specs.Grammar.{ranges_in}
@@ -7,9 +7,10 @@ use Rattle.pn_record.specs.declared.image.Image.{Image}
 use Rattle.pn_record.specs.Limits.{is_key, is_version}
 use Rattle.pn_record.specs.Sets.{Stamp}
 use Rattle.pn_stream.specs.Positions.{DeliveryValue, are_positions}
+use Rattle.pn_tablet.specs.Limits.{max_bounds}
 use Rattle.pn_protocol.specs.Command.Limits.{max_batches, max_keys, are_few}
 use Rattle.pn_protocol.specs.declared.refusal.Part.{Part}
-use Rattle.pn_protocol.specs.declared.refusal.Part.TheVariants.{Batches, First, Keys, Stream, Version}
+use Rattle.pn_protocol.specs.declared.refusal.Part.TheVariants.{Batches, Bounds, First, Keys, Stream, Version}
 use Rattle.pn_protocol.specs.declared.refusal.Part.TheVariants as part
 use Rattle.pn_protocol.specs.declared.refusal.Refusal.{Refusal}
 use Rattle.pn_protocol.specs.declared.refusal.Refusal.TheVariants.{OutOfRange}
@@ -43,14 +44,20 @@ batches_fit batches = do
   each_fits batch_fits batches
 
 -- one of several keys, of 1 to 256 bytes
-abbrev pub key_fits : List ℕ → Result (Unit {0}) Refusal
-key_fits key = fits Keys (is_key key)
+abbrev pub key_fits : Part → List ℕ → Result (Unit {0}) Refusal
+key_fits part key = fits part (is_key key)
 
 -- 1 to 100 keys in their ranges
 unfoldable pub keys_fit : List (List ℕ) → Result (Unit {0}) Refusal
 keys_fit keys = do
   count ← fits Keys (are_few max_keys keys)
-  each_fits key_fits keys
+  each_fits (key_fits Keys) keys
+
+-- at most 63 bounds in their ranges
+unfoldable pub bounds_fit : List (List ℕ) → Result (Unit {0}) Refusal
+bounds_fit bounds = do
+  count ← fits Bounds (nat_le (length bounds) max_bounds)
+  each_fits (key_fits Bounds) bounds
 
 -- the version that is required, if one is, in its ranges
 abbrev pub fitting_version : Option Stamp → Result (Option Stamp) Refusal

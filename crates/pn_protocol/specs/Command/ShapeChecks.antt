@@ -9,7 +9,8 @@ use Rattle.pn_record.specs.Grammar.{numbers_in, shape_in}
 use Rattle.pn_record.specs.declared.image.Image.{Image}
 use Rattle.pn_record.specs.Sets.{Stamp}
 use Rattle.pn_stream.specs.Positions.{DeliveryValue}
-use Rattle.pn_protocol.specs.declared.refusal.Part.TheVariants.{Batches, First, Images, Keys, Stream, Version, Other}
+use Rattle.pn_protocol.specs.declared.refusal.Part.{Part}
+use Rattle.pn_protocol.specs.declared.refusal.Part.TheVariants.{Batches, First, Images, Stream, Version, Other}
 use Rattle.pn_protocol.specs.declared.refusal.Part.TheVariants as part
 use Rattle.pn_protocol.specs.declared.refusal.Refusal.{Refusal}
 use Rattle.pn_protocol.specs.declared.refusal.Refusal.TheVariants.{BadShape}
@@ -33,9 +34,9 @@ batch_shape d = do
   named ← named_alone (codes "first" ∷ codes "images" ∷ codes "stream" ∷ []) members
   Ok (record { stream = stream; first = first; images = images })
 
--- a text among the keys
-abbrev pub key_shape : Data → Result (List ℕ) Refusal
-key_shape d = ok_or (as_str d) (BadShape Keys)
+-- a text among keys of this part
+abbrev pub key_shape : Part → Data → Result (List ℕ) Refusal
+key_shape part d = ok_or (as_str d) (BadShape part)
 
 -- the version that a value requires, or none where it is null
 abbrev pub required_in : Data → Option (Option Stamp)

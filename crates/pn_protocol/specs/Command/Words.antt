@@ -4,7 +4,7 @@ use Rattle.std.specs.Str.{bytes_eq}
 use Rattle.serde_json.specs.Data.{Data}
 use Rattle.serde_json.specs.Find.{as_str}
 use Rattle.pn_protocol.specs.declared.command.word.CommandWord.{CommandWord}
-use Rattle.pn_protocol.specs.declared.command.word.CommandWord.TheVariants.{Adopt, Copy, Deliver, Get, Lose, Marks, Notices, Read, Scan, Tablets}
+use Rattle.pn_protocol.specs.declared.command.word.CommandWord.TheVariants.{Adopt, Copy, Deliver, Get, Lose, Marks, Notices, Read, Relayout, Scan, Tablets}
 
 -- the word that a text is
 abbrev pub word_of : List ℕ → Option CommandWord
@@ -17,8 +17,9 @@ word_of text =
     (if bytes_eq text (codes "marks") then Some Marks else
     (if bytes_eq text (codes "notices") then Some Notices else
     (if bytes_eq text (codes "read") then Some Read else
+    (if bytes_eq text (codes "relayout") then Some Relayout else
     (if bytes_eq text (codes "scan") then Some Scan else
-    (if bytes_eq text (codes "tablets") then Some Tablets else None)))))))))
+    (if bytes_eq text (codes "tablets") then Some Tablets else None))))))))))
 
 -- the word that a value is
 abbrev pub word_in : Data → Option CommandWord

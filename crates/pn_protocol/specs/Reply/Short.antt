@@ -3,7 +3,7 @@ use Rattle.std.specs.Prelude.{ℕ, List, ◌++◌, codes, decimal}
 use Rattle.serde_json.specs.Data.{Data, number, string, object, unsigned, Members, no_members, member}
 use Rattle.pn_record.specs.Words.{word_of}
 use Rattle.pn_protocol.specs.declared.refusal.Part.{Part}
-use Rattle.pn_protocol.specs.declared.refusal.Part.TheVariants.{Whole, Do, Batches, First, Images, Key, Keys, Lines, Need, Stream, Query, Since, Tablet, Version, Other, Image}
+use Rattle.pn_protocol.specs.declared.refusal.Part.TheVariants.{Whole, Do, Batches, Bounds, First, Images, Key, Keys, Lines, Need, Stream, Query, Since, Tablet, Version, Other, Image}
 use Rattle.pn_protocol.specs.declared.refusal.Refusal.{Refusal}
 use Rattle.pn_protocol.specs.Reply.Errors.{error_data}
 use Rattle.pn_protocol.specs.declared.refusal.Refusal.TheVariants.{TooLong, NotJson, BadShape, ReadOnly, OutOfRange, Memory}
@@ -13,6 +13,7 @@ abbrev pub part_word : Part → List ℕ
 part_word Whole = codes "whole"
 part_word Do = codes "do"
 part_word Batches = codes "batches"
+part_word Bounds = codes "bounds"
 part_word First = codes "first"
 part_word Images = codes "images"
 part_word Key = codes "key"
@@ -44,8 +45,8 @@ refusal_data Memory = error_data (codes "memory") no_members
 abbrev pub number_data : List ℕ → ℕ → Data
 number_data name count = object (member name (number (unsigned count)) no_members)
 
--- the replies to a delivery (changed records), an adoption and a loss (the tablet), and a copy (the lines that
--- follow)
+-- the replies to a delivery (changed records), an adoption and a loss (the tablet), a copy (the lines that follow),
+-- and a change of layout (how many tablets there are)
 unfoldable pub changed_data : ℕ → Data
 changed_data count = number_data (codes "changed") count
 
@@ -57,6 +58,9 @@ lost_data tablet = number_data (codes "lost") tablet
 
 unfoldable pub lines_data : ℕ → Data
 lines_data count = number_data (codes "lines") count
+
+unfoldable pub relaid_data : ℕ → Data
+relaid_data count = number_data (codes "tablets") count
 
 -- the last line of a server: `served` and the number of sessions
 abbrev pub served_line : ℕ → List ℕ

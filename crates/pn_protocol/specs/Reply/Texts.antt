@@ -1,9 +1,9 @@
 -- The bytes of replies.
 use Rattle.std.specs.Prelude.{ℕ, Bool, true, false, List, [], ◌++◌, string_bytes}
 use Rattle.pn_protocol.specs.declared.reply.Reply.{Reply}
-use Rattle.pn_protocol.specs.declared.reply.Reply.TheVariants.{Adopted, Changed, Copied, Lost, Silent, Text, Refused, NotTaken}
+use Rattle.pn_protocol.specs.declared.reply.Reply.TheVariants.{Adopted, Changed, Copied, Lost, Relaid, Silent, Text, Refused, NotTaken}
 use Rattle.pn_json.specs.Lines.{line_of}
-use Rattle.pn_protocol.specs.Reply.Short.{refusal_data, adopted_data, changed_data, lines_data, lost_data}
+use Rattle.pn_protocol.specs.Reply.Short.{refusal_data, adopted_data, changed_data, lines_data, lost_data, relaid_data}
 
 -- the bytes of a reply
 abbrev pub reply_text : Reply → List ℕ
@@ -11,6 +11,7 @@ reply_text (Adopted tablet) = line_of (adopted_data tablet)
 reply_text (Changed count) = line_of (changed_data count)
 reply_text (Copied lines text) = line_of (lines_data lines) ++ string_bytes text
 reply_text (Lost tablet) = line_of (lost_data tablet)
+reply_text (Relaid count) = line_of (relaid_data count)
 reply_text Silent = []
 reply_text (Text text) = text.items
 reply_text (Refused refusal) = line_of (refusal_data refusal)

@@ -1,11 +1,11 @@
 //! Builds deliveries and keys from checked values.
 
 ghost use Rattle.std.specs.Prelude.{◌≡◌, option_map, IfOk, IsOk, IsTrue, Ok};
+ghost use Rattle.std.specs.List.{list_all};
 ghost use Rattle.serde_json.specs.View.{view, items_view};
 ghost use Rattle.pn_json.specs.Prelude.{seen, texts, each_in};
 ghost use Rattle.pn_record.specs.Prelude.{image_in, is_key, text_at};
 ghost use Rattle.pn_protocol.specs.Command.BatchParts.{batch_in, number_at, items_at as items_there};
-ghost use Rattle.pn_protocol.specs.Command.RangeChecks.{keys_fit};
 
 use pn_join::{Name, NoMemory};
 use pn_json::{items_from, member_from};
@@ -76,9 +76,8 @@ fn built_images(alloc: Global, values: Vec<Value>) -> Result<Vec<Image>, NoMemor
 }
 
 /// The keys of the texts, each copied once.
-#[tactic(auto, unfolding(crate::specs::Command::RangeChecks::keys_fit))]
 pub(crate) fn built_keys(alloc: Global, from: &[&str]) -> Result<Vec<Key>, NoMemory>
-    requires { keys_fit (texts from.now) ≡ Ok tt }
+    requires { IsTrue (list_all is_key (texts from.now)) }
     ensures { IfOk result (λ keys. keys.items ≡ texts from.now) }
 {
     let mut keys = Vec::with_capacity(alloc, from.len())?;

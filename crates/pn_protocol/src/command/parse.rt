@@ -17,6 +17,7 @@ use crate::command::notices::notices_of;
 use crate::command::ranges::check_batches;
 use crate::command::records::{get_of, read_of, scan_of};
 use crate::command::recovery::{adopt_of, copy_of, lose_of};
+use crate::command::relayout::relayout_of;
 use crate::command::shapes::{batches_of, check_members};
 use crate::command::word::{CommandWord, word_of};
 use crate::{Command, Part, Refusal};
@@ -79,7 +80,7 @@ fn allowed_command(alloc: Global, line: &[u8], allowed: Allowed) -> Result<Comma
     command_in(alloc, value, allowed)
 }
 
-// Reads a value as a command. Memory runs out only for a command, or while batches or keys are gathered.
+// Reads a value as a command. Memory runs out only for a command, or while batches, keys or bounds are gathered.
 #[tactic(auto, unfolding(crate::specs::Command::Objects::allowed_in, crate::specs::Command::BatchParts::deliver_at))]
 fn command_in(alloc: Global, value: Value, allowed: Allowed) -> Result<Command, Refusal>
     ensures exact { ShowsUnless Refusal.Memory command_value result (allowed_in allowed (view value)) }
@@ -97,6 +98,7 @@ fn command_in(alloc: Global, value: Value, allowed: Allowed) -> Result<Command, 
         CommandWord::Marks => alone(members, Command::Marks),
         CommandWord::Notices => notices_of(members, &value),
         CommandWord::Read => read_of(alloc, members, &value),
+        CommandWord::Relayout => relayout_of(alloc, members, &value),
         CommandWord::Scan => scan_of(alloc, members, &value),
         CommandWord::Tablets => alone(members, Command::Tablets),
     }

@@ -3,7 +3,7 @@
 ghost use Rattle.std.specs.Prelude.{◌≡◌, IsErrOf};
 ghost use Rattle.pn_json.specs.Prelude.{texts};
 ghost use Rattle.pn_record.specs.Prelude.{is_key};
-ghost use Rattle.pn_protocol.specs.Command.RangeChecks.{fits, each_fits, image_fits, batch_fits, batches_fit, keys_fit};
+ghost use Rattle.pn_protocol.specs.Command.RangeChecks.{fits, each_fits, image_fits, batch_fits, batches_fit, bounds_fit, key_fits, keys_fit};
 
 use crate::command::batch::BatchShape;
 use crate::{Part, Refusal};
@@ -14,6 +14,9 @@ use pn_stream::positions_fit;
 
 /// The most batches of a command.
 const MAX_BATCHES: usize = 64;
+
+/// The most bounds of a layout.
+const MAX_BOUNDS: usize = 63;
 
 /// The most keys of a command.
 const MAX_KEYS: usize = 100;
@@ -72,8 +75,25 @@ pub(crate) fn check_keys(keys: &[&str]) -> Result<(), Refusal>
     if keys.is_empty() || keys.len() > MAX_KEYS {
         return Err(Refusal::OutOfRange(Part::Keys));
     }
+    check_each_key(keys, Part::Keys)
+}
+
+/// Checks that there are at most 63 bounds, each of 1 to 256 bytes.
+#[tactic(auto, unfolding(crate::specs::Command::RangeChecks::bounds_fit))]
+pub(crate) fn check_bounds(bounds: &[&str]) -> Result<(), Refusal>
+    ensures { result ≡ bounds_fit (texts bounds.now) }
+{
+    if bounds.len() > MAX_BOUNDS {
+        return Err(Refusal::OutOfRange(Part::Bounds));
+    }
+    check_each_key(bounds, Part::Bounds)
+}
+
+fn check_each_key(keys: &[&str], part: Part) -> Result<(), Refusal>
+    ensures { result ≡ each_fits (key_fits part) (texts keys.now) }
+{
     for key in keys {
-        check_key(key, Part::Keys)?;
+        check_key(key, part)?;
     }
     Ok(())
 }

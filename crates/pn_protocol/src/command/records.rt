@@ -30,7 +30,7 @@ impl From<QueryFault> for Refusal {
     }
 }
 
-#[tactic(auto, unfolding(crate::specs::Command::Lookups::get_in))]
+#[tactic(auto, using(crate::proofs::CommandLimits::are_keys), unfolding(crate::specs::Command::Lookups::get_in))]
 pub(crate) fn get_of(
     alloc: Global,
     members: &Map<String, Value>,
@@ -39,7 +39,7 @@ pub(crate) fn get_of(
     ensures { ShowsUnless Refusal.Memory command_value result (get_in (members_view members.now.entries) (view value.now)) }
 {
     let items = items_of(value.get("keys"), Refusal::BadShape(Part::Keys))?;
-    let keys = key_texts(alloc, items)?;
+    let keys = key_texts(alloc, items, Part::Keys)?;
     check_members(members, &["do", "keys"])?;
     check_keys(&keys)?;
     Ok(Command::Get(built_keys(alloc, &keys)?))

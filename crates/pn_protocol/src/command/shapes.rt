@@ -68,19 +68,23 @@ pub(crate) fn batches_of(alloc: Global, items: &[Value]) -> Result<Vec<BatchShap
     Ok(batches)
 }
 
-fn key_text(value: &Value) -> Result<&str, Refusal>
-    ensures { Shows (λ text. text.now) result (key_shape (view value.now)) }
+fn key_text(value: &Value, part: Part) -> Result<&str, Refusal>
+    ensures { Shows (λ text. text.now) result (key_shape part (view value.now)) }
 {
-    value.as_str().ok_or(Refusal::BadShape(Part::Keys))
+    value.as_str().ok_or(Refusal::BadShape(part))
 }
 
-/// The texts of `keys`.
-pub(crate) fn key_texts<'v>(alloc: Global, items: &'v [Value]) -> Result<Vec<&'v str>, Refusal>
-    ensures { ShowsUnless Refusal.Memory (λ keys. texts keys.items) result (each_in key_shape (items_view items.now)) }
+/// The texts of an array of keys. The part names the fault.
+pub(crate) fn key_texts<'v>(
+    alloc: Global,
+    items: &'v [Value],
+    part: Part,
+) -> Result<Vec<&'v str>, Refusal>
+    ensures { ShowsUnless Refusal.Memory (λ keys. texts keys.items) result (each_in (key_shape part) (items_view items.now)) }
 {
     let mut keys = room(alloc, items.len())?;
     for item in items {
-        keys.push_reserved(key_text(item)?);
+        keys.push_reserved(key_text(item, part)?);
     }
     Ok(keys)
 }

@@ -19,6 +19,7 @@ pub(crate) enum CommandWord {
     Marks,
     Notices,
     Read,
+    Relayout,
     Scan,
     Tablets,
 }
@@ -36,6 +37,7 @@ impl CommandWord {
             "marks" => Some(CommandWord::Marks),
             "notices" => Some(CommandWord::Notices),
             "read" => Some(CommandWord::Read),
+            "relayout" => Some(CommandWord::Relayout),
             "scan" => Some(CommandWord::Scan),
             "tablets" => Some(CommandWord::Tablets),
             _ => None,

@@ -1,4 +1,4 @@
-//! Replies to lookups, copies and adoptions. Out of memory, the reply is that refusal.
+//! Replies to lookups, copies, adoptions and changes of layout. Out of memory, the reply is that refusal.
 
 ghost use Rattle.std.specs.Prelude.{◌≡◌, MatchResult, IfOk};
 ghost use Rattle.std.specs.List.{count_by};
@@ -8,16 +8,17 @@ ghost use Rattle.pn_protocol.specs.declared.refusal.Refusal.TheVariants.{Memory 
 ghost use Rattle.pn_protocol.specs.Reply.Answers.{ShowsFound, ShowsCopy, ShowsCopyOf};
 ghost use Rattle.pn_protocol.specs.Reply.Record.{get_data, read_data};
 ghost use Rattle.pn_protocol.specs.Reply.Recovery.{is_newline};
-ghost use Rattle.pn_protocol.specs.Reply.Refusals.{Refuses, RefusesBy, TellsBadText, TellsNoCopy, TellsNotAdopted};
+ghost use Rattle.pn_protocol.specs.Reply.Refusals.{Refuses, RefusesBy, TellsBadText, TellsNoCopy, TellsNotAdopted, TellsNotRelaid};
 ghost use Rattle.pn_protocol.specs.Reply.Scan.{scan_data};
 
 use crate::reply::record::{get_reply, read_reply};
 use crate::{
-    Refusal, Reply, bad_text_reply, no_copy_reply, not_adopted_reply, refused_reply, scan_reply,
+    Refusal, Reply, bad_text_reply, no_copy_reply, not_adopted_reply, not_relaid_reply,
+    refused_reply, scan_reply,
 };
 use pn_join::NoMemory;
 use pn_record::{Cell, Key};
-use pn_region::AdoptFault;
+use pn_region::{AdoptFault, RelayoutFault};
 use pn_scan::{Page, ScanFault};
 use pn_tablet::{CopyFault, CopyTextFault, TabletCopy, write_copy};
 use std::alloc::Global;
@@ -152,6 +153,22 @@ fn not_adopted_by(fault: &AdoptFault, text: Result<Vec<u8>, NoMemory>) -> Reply
     ensures { RefusesBy AdoptFault.Memory fault.now text result }
 {
     if let AdoptFault::Memory = fault {
+        return Reply::Refused(Refusal::Memory);
+    }
+    not_taken(text)
+}
+
+/// Refuses a change of layout.
+pub fn not_relaid(alloc: Global, fault: &RelayoutFault) -> Reply
+    ensures { TellsNotRelaid fault.now result }
+{
+    not_relaid_by(fault, not_relaid_reply(alloc, fault))
+}
+
+fn not_relaid_by(fault: &RelayoutFault, text: Result<Vec<u8>, NoMemory>) -> Reply
+    ensures { RefusesBy RelayoutFault.Memory fault.now text result }
+{
+    if let RelayoutFault::Memory = fault {
         return Reply::Refused(Refusal::Memory);
     }
     not_taken(text)

@@ -5,10 +5,11 @@ ghost use Rattle.pn_json.specs.Prelude.{line_of};
 ghost use Rattle.pn_protocol.specs.Reply.Faults.{fault_data};
 ghost use Rattle.pn_protocol.specs.Reply.Lookups.{refused_data};
 ghost use Rattle.pn_protocol.specs.Reply.Recovery.{bad_text_data, no_copy_data, not_adopted_data};
+ghost use Rattle.pn_protocol.specs.Reply.Relayouts.{not_relaid_data};
 
 use crate::reply::errors::{ErrorDetails, error_reply};
 use pn_join::NoMemory;
-use pn_region::{AdoptFault, RoundFault};
+use pn_region::{AdoptFault, RelayoutFault, RoundFault};
 use pn_scan::ScanFault;
 use pn_tablet::{CopyFault, CopyTextFault};
 use std::alloc::Global;
@@ -118,5 +119,19 @@ pub fn not_adopted_reply(alloc: Global, fault: &AdoptFault) -> Result<Vec<u8>, N
             },
         ),
         AdoptFault::Memory => error_reply(alloc, "memory", ErrorDetails::Nothing),
+    }
+}
+
+/// The reply to a change of layout that was refused, as `{"error":"still-recovering","tablet":0}`.
+pub fn not_relaid_reply(alloc: Global, fault: &RelayoutFault) -> Result<Vec<u8>, NoMemory>
+    ensures { IfOk result (λ text. text.items ≡ line_of (not_relaid_data fault.now)) }
+{
+    match fault {
+        RelayoutFault::StillRecovering(tablet) => error_reply(
+            alloc,
+            "still-recovering",
+            ErrorDetails::Tablet(*tablet as u64),
+        ),
+        RelayoutFault::Memory => error_reply(alloc, "memory", ErrorDetails::Nothing),
     }
 }

@@ -2,7 +2,7 @@
 
 ghost use Rattle.std.specs.Prelude.{◌≡◌, ◌+◌, ◌≤◌, [], ◌++◌, codes, decimal, length};
 ghost use Rattle.pn_json.specs.Prelude.{line_of};
-ghost use Rattle.pn_protocol.specs.Reply.Short.{refusal_data, adopted_data, changed_data, lines_data, lost_data, served_line};
+ghost use Rattle.pn_protocol.specs.Reply.Short.{refusal_data, adopted_data, changed_data, lines_data, lost_data, relaid_data, served_line};
 
 use crate::Refusal;
 use std::marker::Model;
@@ -120,6 +120,14 @@ pub fn lines_reply(count: u64) -> ShortReply
     ensures { result ≡ line_of (lines_data count) }
 {
     number_reply("{\"lines\":", count)
+}
+
+/// The reply to a change of layout, `{"tablets":N}`: the number of tablets.
+#[tactic(auto, unfolding(pn_json::specs::Lines::line_of, crate::specs::Reply::Short::relaid_data, serde_json::proofs::OnLiterals::serde_json_on_literals))]
+pub fn relaid_reply(count: u64) -> ShortReply
+    ensures { result ≡ line_of (relaid_data count) }
+{
+    number_reply("{\"tablets\":", count)
 }
 
 /// The last line of a server, `served N`: the number of sessions.

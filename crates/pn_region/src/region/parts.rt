@@ -61,4 +61,5 @@ fn is_sound(tablet: &TabletState)
 {
     let _ = tablet.range();
     let _ = tablet.cells();
+    let _ = tablet.reach();
 }

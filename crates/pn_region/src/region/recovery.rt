@@ -16,9 +16,9 @@ use pn_tablet::{CopyFault, Range, TabletCopy, TabletOp};
 
 impl Region {
     /// Loses the records of a tablet, whose number is below the layout's count. The tablet then recovers: it
-    /// needs a copy that reaches its cover.
+    /// needs a copy that reaches its reach.
     ///
-    /// Cover and marks stay, and the log has a break.
+    /// Cover, reach and marks stay, and the log has a break.
     pub fn lose(&mut self, tablet: usize)
         requires { tablet ≤ length self.old.state.layout }
         ensures state { self.new.state ≡ losing self.old.state tablet }
@@ -53,7 +53,7 @@ impl Region {
     /// cells. Keys are copied, contents are shared.
     ///
     /// `Recovering` comes exactly where the tablet is recovering; else `Behind` exactly where its cover does not
-    /// reach the need, with the first stream that falls short. `NoEntry` never comes.
+    /// reach the need or its reach, with the first stream that falls short. `NoEntry` never comes.
     pub fn copy(&self, tablet: usize, need: &Marks) -> Result<TabletCopy, CopyFault>
         requires { tablet ≤ length self.now.state.layout }
         ensures exact { IsSomeAnd (slice_get self.now.state.tablets tablet) (λ state. Answers is_no_copy_memory result (copy_of state need.now)) }

@@ -8,7 +8,7 @@ use Rattle.pn_record.specs.CellMap.{Entries}
 use Rattle.pn_record.specs.Coding.{shown_code}
 use Rattle.pn_tablet.specs.Ranges.{Ends}
 use Rattle.pn_tablet.specs.Copies.{TabletCopyValue}
-use Rattle.pn_tablet.specs.Tablets.{TabletStateValue}
+use Rattle.pn_tablet.specs.Tablets.{TabletStateValue, ProgressValue}
 use Rattle.pn_tablet.specs.declared.state.Status.{Status}
 use Rattle.pn_tablet.specs.declared.state.Status.TheVariants.{Serving, Recovering}
 
@@ -40,9 +40,17 @@ status_code = code_by (Option Positions) (coded_option positions_code) need_of s
 -- a tablet as pairs
 abbrev pub tablet_code : Coded TabletStateValue
 tablet_code =
-    code_by ((Ends × Entries) × (Positions × Status)) (coded× (coded× ends_code entries_code) (coded× positions_code status_code))
-    (λ t. ((t.range, t.cells), (t.cover, t.status)))
-    (λ p. record { range = p.0.0; cells = p.0.1; cover = p.1.0; status = p.1.1 })
+    code_by ((Ends × Entries) × ((Positions × Positions) × Status)) (coded× (coded× ends_code entries_code) (coded× (coded× positions_code positions_code) status_code))
+    (λ t. ((t.range, t.cells), ((t.cover, t.reach), t.status)))
+    (λ p. record { range = p.0.0; cells = p.0.1; cover = p.1.0.0; reach = p.1.0.1; status = p.1.1 })
+    (λ _. refl)
+
+-- a cover and a reach as a pair
+abbrev pub progress_code : Coded ProgressValue
+progress_code =
+    code_by (Positions × Positions) (coded× positions_code positions_code)
+    (λ p. (p.cover, p.reach))
+    (λ p. record { cover = p.0; reach = p.1 })
     (λ _. refl)
 
 -- a copy as pairs

@@ -1,17 +1,48 @@
 //! The parts of a tablet.
 
-ghost use Rattle.std.specs.Prelude.{◌≡◌, IsTrue};
+ghost use Rattle.std.specs.Prelude.{◌≡◌, IsTrue, IfOk};
 ghost use Rattle.pn_record.specs.Prelude.{spell, table_of};
-ghost use Rattle.pn_join.specs.Prelude.{are_positions};
+ghost use Rattle.pn_join.specs.Prelude.{Reaches, are_positions};
 ghost use Rattle.pn_tablet.specs.Needs.{needed};
 ghost use Rattle.pn_tablet.specs.Tablets.{lie_in};
+ghost use Rattle.pn_tablet.specs.declared.state.Status.TheVariants.{Serving};
 
 use super::{Status, TabletState};
 use crate::Range;
-use pn_join::Marks;
+use crate::progress::Progress;
+use pn_join::{Dup, Marks, NoMemory};
 use pn_record::Records;
+use std::alloc::Global;
 
 impl TabletState {
+    /// A tablet that serves with these cells, whose keys lie in the range, this cover, and this reach, which reaches the
+    /// cover. All positions are from 1 to 10^15.
+    pub fn of_parts(
+        alloc: Global,
+        range: Range,
+        cells: Records,
+        cover: Marks,
+        reach: Marks,
+    ) -> Result<TabletState, NoMemory>
+        requires inside { IsTrue (lie_in range cells) }
+        requires reached { Reaches reach cover }
+        requires positions { IsTrue (are_positions cover) }
+        requires reach_positions { IsTrue (are_positions reach) }
+        ensures { IfOk result (λ tablet. tablet ≡ record { range = range; cells = cells; cover = cover; reach = reach; status = Serving }) }
+    {
+        // A call on the cells tells the checker that the contents of each rise.
+        let _ = cells.iter();
+        let spare = reach.dup()?;
+        Ok(TabletState {
+            range,
+            cells,
+            progress: Progress::of_parts(cover, reach),
+            status: Status::Serving,
+            spare: Some(spare),
+            alloc,
+        })
+    }
+
     /// The range of its keys.
     pub fn range(&self) -> &Range
         ensures range { result.now ≡ self.now.range }
@@ -28,12 +59,21 @@ impl TabletState {
         &self.cells
     }
 
-    /// The last position taken from each stream.
+    /// The positions up to which all cells took streams.
     pub fn cover(&self) -> &Marks
         ensures cover { result.now ≡ self.now.cover }
         ensures positions { IsTrue (are_positions self.now.cover) }
     {
-        &self.cover
+        self.progress.cover()
+    }
+
+    /// The positions up to which any cells took streams, nowhere less than the cover.
+    pub fn reach(&self) -> &Marks
+        ensures reach { result.now ≡ self.now.reach }
+        ensures positions { IsTrue (are_positions self.now.reach) }
+        ensures reached { Reaches self.now.reach self.now.cover }
+    {
+        self.progress.reach()
     }
 
     /// Whether it serves.

@@ -9,7 +9,7 @@ use Rattle.pn_protocol.proofs.command.shapes.key_texts.Given as goal
 
 abbrev pub invariant-loop-item : goal.invariant-loop-item
 invariant-loop-item l = record {
-  so_far : each_in key_shape (items_view l.items) ≡ onto (texts l.keys.items) (each_in key_shape (items_view (drop l.item-index l.items)));
+  so_far : each_in (key_shape l.part) (items_view l.items) ≡ onto (texts l.keys.items) (each_in (key_shape l.part) (items_view (drop l.item-index l.items)));
   count : vec_len l.keys ≡ l.item-index;
   room : vec_capacity l.keys ≡ length l.items;
 }

@@ -15,24 +15,23 @@ use Rattle.pn_tablet.proofs.state.TabletState.join.Goals as goal
 pub invariant_of-self-2 : goal.invariant_of-self-2
 invariant_of-self-2 c =
     let joins = c.in_ok-told.ensures in
-    kept c.args.marks.now c.self.invariant
-    c.requires
+    kept c.self.invariant
     (sym c.lie_in.ensures ∙ c.if-not-lie_in.false)
     (record { rises = joins.rising.1; rising = joins.rising.0; joined = joins.joined })
     (held_adds c.self.inside.cells c.join_and_tell.new.records (spell c.args.cells.now) joins.rising.0 joins.spelled)
-    c.in_ok-cover.ensures.0
-    (c.in_ok-cover.ensures.1 ∙ sym c.in_ok-cover.ensures.0)
+    c.in_ok-progress.ensures.1.1
     c.self.invariant.needed_positions
 
 pub returns-clause-ok : goal.returns-clause-ok
 returns-clause-ok c =
     let joins = c.in_ok-told.ensures in
-    let tablet : TabletStateValue = record { range = c.self.inside.range; cells = c.self.inside.cells; cover = c.self.inside.cover; status = c.self.inside.status } in
+    let tablet : TabletStateValue = record { range = c.self.inside.range; cells = c.self.inside.cells; cover = c.self.inside.progress.cover; reach = c.self.inside.progress.reach; status = c.self.inside.status } in
     ap (λ (t : TabletStateValue). step t (Join c.args.cells.now c.args.marks.now)) (sym c.self.view_is)
-    ∙ join_step tablet c.args.cells.now c.join_and_tell.new.records c.args.marks.now c.in_ok-cover.cover
+    ∙ join_step tablet c.args.cells.now c.join_and_tell.new.records c.args.marks.now c.in_ok-progress.progress.cover c.in_ok-progress.progress.reach
     (sym c.lie_in.ensures ∙ c.if-not-lie_in.false)
     (held_adds c.self.inside.cells c.join_and_tell.new.records (spell c.args.cells.now) joins.rising.0 joins.spelled)
-    c.in_ok-cover.ensures.0
+    c.in_ok-progress.ensures.0
+    c.in_ok-progress.ensures.1.0
 
 pub returns-clause-changes : goal.returns-clause-changes
 returns-clause-changes c =

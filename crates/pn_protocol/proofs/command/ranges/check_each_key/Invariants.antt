@@ -2,7 +2,7 @@
 use Rattle.std.proofs.Common.{◌≡◌, drop}
 use Rattle.pn_json.specs.Members.{texts}
 use Rattle.pn_protocol.specs.Command.RangeChecks.{each_fits, key_fits}
-use Rattle.pn_protocol.proofs.command.ranges.check_keys.Given as goal
+use Rattle.pn_protocol.proofs.command.ranges.check_each_key.Given as goal
 
 abbrev pub invariant-loop-key : goal.invariant-loop-key
-invariant-loop-key l = each_fits key_fits (texts l.keys) ≡ each_fits key_fits (texts (drop l.key-index l.keys))
+invariant-loop-key l = each_fits (key_fits l.part) (texts l.keys) ≡ each_fits (key_fits l.part) (texts (drop l.key-index l.keys))

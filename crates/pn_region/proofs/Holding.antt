@@ -1,0 +1,151 @@
+-- Tablets that hold what was taken.
+use Rattle.std.proofs.Common.{◌≡◌, true, List, [], ◌∷◌, ◌++◌, None, sym, ap, ◌∙◌, subst, ◌⊎◌, inl, inr, Contains}
+use Rattle.std.proofs.lemmas.List.Elements.{Contains-append_left, Contains-append_right}
+use Rattle.pn_record.specs.CellMap.{adds}
+use Rattle.pn_record.proofs.CellMaps.{table_of-nil}
+use Rattle.pn_tablet.specs.Needs.{needed}
+use Rattle.pn_tablet.specs.Steps.{taking}
+use Rattle.pn_tablet.specs.declared.state.Status.{Status}
+use Rattle.pn_apply.proofs.ReduceLaws.{range_joins}
+use Rattle.pn_region.specs.Honest.{IsHonestCopy}
+use Rattle.pn_region.specs.Relayouts.{made_of}
+use Rattle.pn_region.specs.Taken.{CoverTells, HoldsTaken}
+use Rattle.pn_region.proofs.Common.{AllByRecursion, Positions, Image, spell, Entries, table_of, BrokerRecord, up_to, DeliveryValue, TabletCopyValue, lacking, Ends, in_range, lost, TabletStateValue, Serving, all_images, images_in, AreIn, RegionValue, IsTabletOf, IsRegion, AllServe}
+use Rattle.pn_region.proofs.Covers.{among_more, among_new, without_none, cover_rules}
+use Rattle.pn_region.proofs.EventRules.{none, Rules}
+use Rattle.pn_region.proofs.Faith.{left_so}
+use Rattle.pn_region.proofs.FaithfulCopies.{need_reached, none_lacked}
+use Rattle.pn_region.proofs.InRange.{from_images_in, to_images_in}
+use Rattle.pn_region.proofs.Relaying.{part_at}
+use Rattle.pn_region.proofs.TakenImages.{by_part, one_of}
+use Rattle.pn_region.proofs.United.{united, from_united, to_united, united_cells}
+use Rattle.pn_region.proofs.UpTo.{up_to_more}
+
+module _ (broker : BrokerRecord) (taken left : List Image) where
+  -- a tablet that holds what was taken lacks nothing of it where it serves
+  pub holds_all : (t : TabletStateValue) (holds : HoldsTaken broker taken left t) → t.status ≡ Serving → (image : Image) → Contains taken image → in_range t.range image.key ≡ true → Contains holds.images image
+  holds_all t holds serves image there lies =
+      none_lacked broker image
+      (subst (λ (status : Status). Contains holds.images image ⊎ Contains (up_to broker (needed status)) image) serves (holds.all image there lies))
+
+  -- where nothing in its range is taken
+  itself_holds : (more maybe : List Image) (t : TabletStateValue) → ((image : Image) → Contains more image → in_range t.range image.key ≡ true → ⊥) → HoldsTaken broker taken left t → HoldsTaken broker (taken ++ more) (left ++ maybe) t
+  itself_holds more maybe t apart holds = record {
+    images = holds.images;
+    cells = holds.cells;
+    all = λ image there lies. by_part taken more image (λ old. holds.all image old lies) (λ new. absurd (apart image new lies)) there;
+    no_others = λ image there lies. among_more taken left more maybe image (holds.no_others image there lies);
+  }
+
+  -- in a round
+  round_holds : (deliveries : List DeliveryValue) (marks next : Positions) (more maybe : List Image) (r : Ends) (t : TabletStateValue) → IsTabletOf marks r t → AreIn more (all_images deliveries) → AreIn (all_images deliveries) (more ++ maybe)
+      → HoldsTaken broker taken left t → HoldsTaken broker (taken ++ more) (left ++ maybe) (taking t (table_of (images_in r (all_images deliveries))) next)
+  round_holds deliveries marks next more maybe r t is of to holds =
+      let images = all_images deliveries in
+      record {
+        images = holds.images ++ images;
+        cells =
+            ap (λ (cells : Entries). adds cells (spell (table_of (images_in r images)))) (holds.cells ∙ ap (λ (range : Ends). table_of (images_in range holds.images)) is.range)
+            ∙ range_joins r holds.images images
+            ∙ ap (λ (range : Ends). table_of (images_in range (holds.images ++ images))) (sym is.range);
+        all = λ image there lies.
+            by_part taken more image (λ old. left_so (Contains-append_left holds.images images image) (holds.all image old lies)) (λ new. inl (Contains-append_right holds.images images image (of image new))) there;
+        no_others = λ image there lies.
+            by_part holds.images images image (λ old. among_more taken left more maybe image (holds.no_others image old lies)) (λ new. among_new taken left more maybe image (to image new)) there;
+      }
+
+  -- in a loss: what was taken is up to the reach, which is the need
+  lost_holds : (t : TabletStateValue) → CoverTells broker taken left t → HoldsTaken broker (taken ++ []) (left ++ []) (lost t)
+  lost_holds t tells = record {
+    images = [];
+    cells = sym table_of-nil;
+    all = λ image there lies. inr (tells.all image (without_none taken image there) lies);
+    no_others = λ image there lies. none image there;
+  }
+
+  -- in the adoption of an honest copy
+  module _ (copy : TabletCopyValue) (honest : IsHonestCopy broker copy) (t : TabletStateValue) (ranged : t.range ≡ copy.range) (lacks : lacking t.status copy.marks ≡ None) (holds : HoldsTaken broker taken left t) where
+    abbrev copied : List Image
+    copied = up_to broker copy.marks
+
+    abbrev more : List Image
+    more = images_in copy.range copied
+
+    not_needed : (image : Image) → Contains holds.images image ⊎ Contains (up_to broker (needed t.status)) image → Contains (holds.images ++ copied) image
+    not_needed image (inl there) = Contains-append_left holds.images copied image there
+    not_needed image (inr needs) = Contains-append_right holds.images copied image (up_to_more broker copy.marks (needed t.status) (need_reached t.status copy.marks lacks) image needs)
+
+    adopted_holds : HoldsTaken broker (taken ++ more) (left ++ []) (record (taking t copy.cells copy.marks) { status = Serving })
+    adopted_holds = record {
+      images = holds.images ++ copied;
+      cells =
+          (λ i. adds (holds.cells i) (spell ((honest ∙ ap (λ (range : Ends). table_of (images_in range copied)) (sym ranged)) i)))
+          ∙ range_joins t.range holds.images copied;
+      all = λ image there lies.
+          inl (by_part taken more image (λ old. not_needed image (holds.all image old lies)) (λ new. Contains-append_right holds.images copied image (from_images_in copy.range copied image new).there) there);
+      no_others = λ image there lies.
+          by_part holds.images copied image (λ old. among_more taken left more [] image (holds.no_others image old lies))
+          (λ new. among_new taken left more [] image
+          (Contains-append_left more [] image (to_images_in copy.range copied image new (ap (λ (ends : Ends). in_range ends image.key) (sym ranged) ∙ lies)))) there;
+    }
+
+  -- in a tablet that is made of others
+  module _ (region : RegionValue) (is : IsRegion region) (serve : AllServe region) (hold : AllByRecursion (HoldsTaken broker taken left) region.tablets) where
+    abbrev own : (t : TabletStateValue) → HoldsTaken broker taken left t → List Image
+    own t holds = holds.images
+
+    abbrev all_own : List Image
+    all_own = united (HoldsTaken broker taken left) own region.tablets hold
+
+    made_holds : (r : Ends) → HoldsTaken broker (taken ++ []) (left ++ []) (made_of region.tablets r)
+    made_holds r = record {
+      images = all_own;
+      cells = united_cells (HoldsTaken broker taken left) own region hold is (λ t holds. holds.cells) r;
+      all = λ image there lies.
+          let part = part_at region is r image.key lies in
+          let serves = one_of (λ (t : TabletStateValue). t.status ≡ Serving) region.tablets part.1.n part.0 serve part.1.there in
+          inl (to_united (HoldsTaken broker taken left) own region.tablets hold part.1.n part.0 part.1.there image (λ holds. holds_all part.0 holds serves image (without_none taken image there) part.1.lies) part.1.lies);
+      no_others = λ image there lies.
+          let of = from_united (HoldsTaken broker taken left) own region.tablets hold image there in
+          among_more taken left [] [] image (of.is.no_others image of.there of.lies);
+    }
+
+-- its reach and its cover tell what was taken, and it holds that
+pub record IsTold (broker : BrokerRecord) (taken left : List Image) (t : TabletStateValue) : Type 0 where
+  pub tells : CoverTells broker taken left t
+  pub holds : HoldsTaken broker taken left t
+
+pub all_tell : (broker : BrokerRecord) (taken left : List Image) (ts : List TabletStateValue) → AllByRecursion (IsTold broker taken left) ts → AllByRecursion (CoverTells broker taken left) ts
+all_tell broker taken left [] told = tt
+all_tell broker taken left (t ∷ ts) told = (told.0.tells, all_tell broker taken left ts told.1)
+
+pub all_hold : (broker : BrokerRecord) (taken left : List Image) (ts : List TabletStateValue) → AllByRecursion (IsTold broker taken left) ts → AllByRecursion (HoldsTaken broker taken left) ts
+all_hold broker taken left [] told = tt
+all_hold broker taken left (t ∷ ts) told = (told.0.holds, all_hold broker taken left ts told.1)
+
+pub all_told : (broker : BrokerRecord) (taken left : List Image) (ts : List TabletStateValue) → AllByRecursion (CoverTells broker taken left) ts → AllByRecursion (HoldsTaken broker taken left) ts → AllByRecursion (IsTold broker taken left) ts
+all_told broker taken left [] tell hold = tt
+all_told broker taken left (t ∷ ts) tell hold = (record { tells = tell.0; holds = hold.0 }, all_told broker taken left ts tell.1 hold.1)
+
+pub told_rules : (broker : BrokerRecord) → Rules broker (IsTold broker)
+told_rules broker =
+    let covers = cover_rules broker in
+    record {
+      itself = λ taken left more maybe t apart told. record {
+        tells = covers.itself taken left more maybe t apart told.tells;
+        holds = itself_holds broker taken left more maybe t apart told.holds;
+      };
+      takes = λ marks next deliveries honest accepted taken left more maybe r t is of to told. record {
+        tells = covers.takes marks next deliveries honest accepted taken left more maybe r t is of to told.tells;
+        holds = round_holds broker taken left deliveries marks next more maybe r t is of to told.holds;
+      };
+      loses = λ taken left t told. record { tells = covers.loses taken left t told.tells; holds = lost_holds broker taken left t told.tells };
+      adopts = λ copy honest taken left t ranged lacks told. record {
+        tells = covers.adopts copy honest taken left t ranged lacks told.tells;
+        holds = adopted_holds broker taken left copy honest t ranged lacks told.holds;
+      };
+      relays = λ region is serve taken left told r. record {
+        tells = covers.relays region is serve taken left (all_tell broker taken left region.tablets told) r;
+        holds = made_holds broker taken left region is serve (all_hold broker taken left region.tablets told) r;
+      };
+    }
