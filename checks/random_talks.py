@@ -2,7 +2,8 @@
 import json
 import random
 
-from random_values import (BATCH, KEYS, MANY_KEYS, bent, bounds_of, damaged, image, line_of, no_json, query)
+from random_values import (BATCH, KEYS, MANY_KEYS, NO_BOUNDS, bent, bounds_of, damaged, image, line_of, no_json, other_bounds,
+                           query)
 from slow import Region, greater, text_of
 from slow_copies import read_copy
 from slow_lines import Json, Refused, command_of
@@ -11,6 +12,7 @@ TABLETS = [1, 1, 2, 3, 3, 64]
 WORKERS = [1, 2, 3, 5, 16]
 MESSAGES = 40
 LONG = 0.005
+RELAID = 1 / 3
 
 
 class Talk:
@@ -46,6 +48,7 @@ class Meeting:
 
     def __init__(self, seed: int, events: int, is_stored: bool = False) -> None:
         self.rng = rng = random.Random(seed)
+        self.is_relaid = rng.random() < RELAID
         tablets = rng.choice(TABLETS)
         self.keys = MANY_KEYS if tablets == 64 else KEYS
         self.long = 0 if is_stored else LONG
@@ -100,6 +103,28 @@ class Meeting:
         if "lines" in head:
             self.copies.append([line.encode() for line in lines])
         return [line.encode() for line in lines]
+
+    def bounds(self) -> list[str]:
+        """The bounds of the first region's tablets."""
+        return [tablet.ends[0] for tablet in self.first.region.tablets[1:]]
+
+    def follow(self) -> None:
+        """The second region gets the tablets of the first."""
+        if [tablet.ends for tablet in self.second.region.tablets] != [tablet.ends for tablet in self.first.region.tablets]:
+            self.second.ask(do="relayout", bounds=self.bounds())
+
+    def relay(self) -> None:
+        """Other tablets, the same anew, or bounds that are none. The second region mostly follows the first."""
+        rng = self.rng
+        if rng.random() < 0.15:
+            self.first.ask(do="relayout", bounds=rng.choice(NO_BOUNDS))
+        self.first.ask(do="relayout", bounds=self.bounds() if rng.random() < 0.1 else other_bounds(rng, self.keys))
+        if rng.random() < 0.6:
+            self.first.ask(do=rng.choice(["copy", "copy", "lose"]), tablet=self.tablet())
+        if rng.random() < 0.7:
+            self.follow()
+        elif rng.random() < 0.5:
+            self.second.ask(do="relayout", bounds=other_bounds(rng, self.keys))
 
     def adopt(self, lines: list[bytes]) -> None:
         talk = self.first
@@ -165,13 +190,14 @@ class Meeting:
             return talk.say(no_json(rng, {"do": "marks"}, rng.random() < 10 * self.long))
         batches = [self.batch(name, 0, False) for name in rng.choices(list(self.streams), k=rng.randrange(1, 3))]
         whole = rng.choice([{"do": "deliver", "batches": batches}, {"do": "deliver", "batches": batches},
-                            {"do": "adopt", "lines": 3}, {"do": "lose", "tablet": 0}, self.question(talk)])
+                            {"do": "adopt", "lines": 3}, {"do": "lose", "tablet": 0}, self.question(talk),
+                            {"bounds": ["a", "b"], "do": "relayout"}])
         line = line_of(rng, bent(rng, whole))
         try:
             word = command_of(line, len(talk.region.tablets))["do"]
         except Refused:
             word = None
-        if word not in ("adopt", "deliver", "lose"):
+        if word not in ("adopt", "deliver", "lose", "relayout"):
             talk.say(line)
 
     def ask(self, talk: Talk) -> None:
@@ -197,6 +223,8 @@ class Meeting:
             self.first.ask(do="lose", tablet=self.tablet())
         else:
             self.recover()
+        if self.is_relaid and self.rng.random() < (0.2 if way < 6 else 0.6):
+            self.relay()
         for talk in (self.first, self.first, self.second):
             self.ask(talk)
 
@@ -204,11 +232,12 @@ class Meeting:
         """Brings all that the first region took into the second, and the copies of this into what the first has lost."""
         last = self.first.region.marks
         for tablet in self.first.region.tablets:
-            last = greater(last, tablet.cover)
+            last = greater(last, tablet.reach)
         for name, at in sorted(last.items()):
             has = self.second.region.marks.get(name, 0)
             if has < at:
                 self.deliver(self.second, [{"first": has + 1, "images": self.streams[name][has:at], "stream": name}])
+        self.follow()
         for number, tablet in enumerate(self.first.region.tablets):
             if tablet.need is not None:
                 self.adopt(self.copied(number, tablet.need))
@@ -228,6 +257,8 @@ class Meeting:
                 marks[name] += len(images[:some])
                 images = images[some:]
             self.deliver(self.again, batches)
+            if self.is_relaid and rng.random() < 0.2:
+                self.again.ask(do="relayout", bounds=other_bounds(rng, self.keys))
 
     def close(self) -> None:
         """Asks the first and the third region the same, which they have to answer alike."""

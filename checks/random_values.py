@@ -10,12 +10,14 @@ MANY_KEYS = [f"{number:03}" for number in range(128)]
 FIELDS = [{}, {"v": "x"}, {"v": "xy"}, {"v": ""}, {"u": "x", "v": "y"}, {"u": ""}, {"u": "", "v": "x"}, {"u": "x"}, {"uu": ""},
           {"w": "\u00e9\n\""}]
 MASTERS = ["w", "w", "u", "-", "0"]
-WORDS = ["adopt", "copy", "deliver", "get", "lose", "marks", "notices", "read", "scan", "tablets", "fly"]
+WORDS = ["adopt", "copy", "deliver", "get", "lose", "marks", "notices", "read", "relayout", "scan", "tablets", "fly"]
 ODD = [None, True, False, 0, 1, -1, 1.5, 1000.0, 2**64 - 1, 2**64, 10**15, 10**15 + 1, 10**18, 10**18 + 1, "", "k", "W", "x" * 33,
        "x" * 65, "x" * 256, "x" * 257, [], [1], [1, 2], [1, 0, 0], [0, 1], [10**15, 10**15], {}, {"v": "x"}, {"v": 7},
        {"EAST": 5}, {"east": 0}, [["has", "v"]] * 17, [["has", ""]], [["is", "v"]], [["eq", "v"]], [["has", "v", "x"]]]
 LARGE = ["x" * 4_097, {f"{number}": "" for number in range(65)}, {"u": "x" * 4_096, "v": "x" * 4_096}]
+NO_BOUNDS = [[""], ["a", ""], ["x" * 257], ["b", "a"], ["a", "a"], ["a", "b", "b"], MANY_KEYS[:64], [*MANY_KEYS[:62], "0"]]
 EDGES = {
+    "bounds": [*NO_BOUNDS, [], MANY_KEYS[:63]],
     "batches": [[], [{"first": 1, "images": [], "stream": "s"}] * 65], "fields": LARGE, "first": [0, 10**15, 10**15 + 1],
     "key": ["", "x" * 257], "keys": [[], [""], ["a"] * 101, ["a"] * 100], "lines": [0, 1_000_001], "master": ["", "W", "x" * 33],
     "need": [{"EAST": 5}, {"east": 0}, {"east": 10**15 + 1}], "since": [10**18, 10**18 + 1], "stream": ["", "E", "x" * 33],
@@ -33,6 +35,13 @@ def bounds_of(rng: random.Random, tablets: int) -> list[str]:
     if tablets == 64:
         return MANY_KEYS[2::2]
     return sorted(rng.sample([key for key in [*KEYS, "bb", "cb"] if " " not in key], tablets - 1))
+
+
+def other_bounds(rng: random.Random, keys: list[str]) -> list[str]:
+    """Bounds among keys, beside them, and at the lowest key that there is."""
+    if keys is MANY_KEYS and rng.random() < 0.4:
+        return rng.choice([[], bounds_of(rng, 64)])
+    return sorted(rng.sample([*keys, "\0", "bb", "cb"], rng.choice([0, 0, 1, 1, 2, 3, 5])))
 
 
 def image(rng: random.Random, keys: list[str], place: int) -> Json:

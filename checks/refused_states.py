@@ -17,7 +17,7 @@ Command = tuple[bytes, ...]
 
 def state_of(region: Region) -> str:
     """A text that tells one region from another."""
-    tablets = [[tablet.records(), tablet.cover, tablet.need] for tablet in region.tablets]
+    tablets = [[tablet.ends, tablet.records(), tablet.cover, tablet.reach, tablet.need] for tablet in region.tablets]
     return text_of([tablets, region.marks, region.log])
 
 

@@ -4,9 +4,10 @@ docs/formats.md says what it has to reply.
 """
 import copy
 import json
+import functools
 from collections.abc import Callable
 
-from slow_copies import Content, Ends, content_of, is_in, read_copy
+from slow_copies import Content, Ends, content_of, is_in, meet, read_copy
 from slow_lines import MAX_LINE_BYTES, Json, Refused, command_of
 
 MAX_STREAMS = 16
@@ -25,6 +26,11 @@ def text_of(value: Json) -> str:
 def greater(one: Marks, other: Marks) -> Marks:
     """Of each stream the greater position."""
     return {name: max(one.get(name, 0), other.get(name, 0)) for name in sorted({*one, *other})}
+
+
+def lesser(one: Marks, other: Marks) -> Marks:
+    """Of each stream of both the lesser position."""
+    return {name: min(one[name], other[name]) for name in sorted({*one} & {*other})}
 
 
 def shortfall(has: Marks, wanted: Marks) -> tuple[str, int, int] | None:
@@ -70,12 +76,14 @@ def is_shown(record: Record, conditions: list[list[str]]) -> bool:
 
 
 class Tablet:
-    """The images of a range of keys. What it needs is None where it serves."""
+    """The images of a range of keys, and how far each stream was taken into all of it and into any part. What it needs is None
+    where it serves."""
 
     def __init__(self, ends: Ends) -> None:
         self.ends = ends
         self.images: list[Json] = []
         self.cover: Marks = {}
+        self.reach: Marks = {}
         self.need: Marks | None = None
 
     def records(self) -> dict[str, Record]:
@@ -89,7 +97,7 @@ class Tablet:
         """Joins the images of its range, and answers which records changed."""
         before = self.records()
         self.images = self.images + [image for image in images if is_in(self.ends, image["key"])]
-        self.cover = greater(self.cover, marks)
+        self.cover, self.reach = greater(self.cover, marks), greater(self.reach, marks)
         after = self.records()
         return [(key, before[key][0] if key in before else None, after[key][0])
                 for key in after if before.get(key) != after[key]]
@@ -100,6 +108,15 @@ class Tablet:
         marks = [{"at": at, "stream": name} for name, at in sorted(self.cover.items())]
         head = {"copy": 1, "from": self.ends[0], "to": self.ends[1]}
         return list(map(text_of, [head, *marks, *images, {"end": len(marks) + len(images)}]))
+
+
+def made_of(tablets: list[Tablet], ends: Ends) -> Tablet:
+    """A tablet that serves a range with what others have."""
+    made, parts = Tablet(ends), [tablet for tablet in tablets if meet(tablet.ends, ends)]
+    made.images = [image for tablet in tablets for image in tablet.images if is_in(ends, image["key"])]
+    made.cover = functools.reduce(lesser, [part.cover for part in parts])
+    made.reach = functools.reduce(greater, [part.reach for part in parts])
+    return made
 
 
 class Region:
@@ -176,13 +193,13 @@ class Region:
 
     def lose(self, number: int) -> Json:
         tablet = self.tablets[number]
-        tablet.images, tablet.need = [], tablet.cover
+        tablet.images, tablet.need = [], tablet.reach
         self.log = [*self.log, None]
         return {"lost": number}
 
     def copy(self, number: int, need: Marks) -> list[str]:
         tablet = self.serving(number)
-        short = shortfall(tablet.cover, need)
+        short = shortfall(tablet.cover, need) or shortfall(tablet.cover, tablet.reach)
         if short:
             raise Refused("behind", stream=short[0], has=short[1], wanted=short[2])
         return tablet.copy_lines()
@@ -200,6 +217,13 @@ class Region:
         tablet.need = None
         self.log = [*self.log, None]
         return {"adopted": numbers[0]}
+
+    def relayout(self, bounds: list[str]) -> Json:
+        lost = [number for number, tablet in enumerate(self.tablets) if tablet.need is not None]
+        if lost:
+            raise Refused("still-recovering", tablet=lost[0])
+        self.tablets = [made_of(self.tablets, ends) for ends in zip([None, *bounds], [*bounds, None])]
+        return {"tablets": len(self.tablets)}
 
     def notices(self, since: int) -> Json:
         last = len(self.log)
@@ -228,6 +252,7 @@ class Region:
             "lose": lambda: self.lose(command["tablet"]), "marks": lambda: {"marks": self.marks},
             "notices": lambda: self.notices(command["since"]), "scan": lambda: self.scan(command["query"]),
             "read": lambda: self.read(command["key"], command.get("version")), "tablets": self.shown_tablets,
+            "relayout": lambda: self.relayout(command["bounds"]),
         }[word]())
 
     def end_text(self) -> str:

@@ -55,6 +55,12 @@ def is_in(ends: Ends, key: str) -> bool:
     return (start is None or start <= key) and (end is None or key < end)
 
 
+def meet(one: Ends, other: Ends) -> bool:
+    """Whether two ranges have a key in common. Those without a lower end always have: no key is below the empty one."""
+    pairs = [(one[0], other[1]), (other[0], one[1])]
+    return all(start is None or end is None or start < end for start, end in pairs)
+
+
 def is_after(image: Json, last: Json) -> bool:
     if image["key"] == last["key"]:
         return image["version"] == last["version"] and content_of(last) < content_of(image)

@@ -2,6 +2,7 @@
 import json
 import re
 from collections.abc import Iterable
+from operator import lt
 from typing import Any
 
 MAX_LINE_BYTES = 65_536
@@ -13,7 +14,7 @@ IMAGE_NAMES = {"deleted", "fields", "key", "master", "version"}
 QUERY_NAMES = {"after", "from", "limit", "to", "where"}
 MEMBERS = {
     "adopt": ["lines"], "copy": ["need", "tablet"], "deliver": ["batches"], "get": ["keys"], "lose": ["tablet"],
-    "marks": [], "notices": ["since"], "read": ["key", "version"], "scan": ["query"], "tablets": [],
+    "marks": [], "notices": ["since"], "read": ["key", "version"], "relayout": ["bounds"], "scan": ["query"], "tablets": [],
 }
 
 
@@ -175,7 +176,7 @@ def check_shape(member: str, value: Json) -> None:
         shaped(isinstance(value, list), member)
         for batch in value:
             check_batch_shape(batch)
-    elif member == "keys":
+    elif member in ("bounds", "keys"):
         shaped(isinstance(value, list) and are_texts(value), member)
     elif member == "key":
         shaped(isinstance(value, str), member)
@@ -194,6 +195,8 @@ def check_range(member: str, value: Json, tablets: int) -> None:
         ranged(1 <= len(value) <= 64, member)
         for batch in value:
             check_batch_range(batch)
+    elif member == "bounds":
+        ranged(len(value) <= 63 and all(map(is_key, value)) and all(map(lt, value, value[1:])), member)
     elif member == "keys":
         ranged(1 <= len(value) <= 100 and all(map(is_key, value)), member)
     elif member == "key":
