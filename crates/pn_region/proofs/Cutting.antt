@@ -1,5 +1,5 @@
 -- The cells of tablets in a range, one tablet after another.
-use Rattle.std.proofs.Common.{◌≡◌, ℕ, zero, suc, ◌+◌, ◌-◌, ◌<◌, ◌≤◌, Bool, true, false, cond, List, [], ◌∷◌, ◌++◌, length, take, drop, get_or, refl, sym, ap, ◌∙◌, subst, arith, append-nil, IsTrue}
+use Rattle.std.proofs.Common.{◌≡◌, ℕ, zero, suc, ◌+◌, ◌-◌, ◌<◌, true, false, cond, List, [], ◌∷◌, ◌++◌, length, take, drop, get_or, refl, sym, ap, ◌∙◌, subst, arith, append-nil, IsTrue}
 use Rattle.std.specs.Prelude.{slice_range}
 use Rattle.std.proofs.lemmas.Grind.{flat_map-append}
 use Rattle.std.proofs.lemmas.List.{take_all, take_more}
@@ -60,11 +60,8 @@ first_rise r ts i rise =
 pub whole_slice : (es : Entries) (n : ℕ) → n ≡ length es → slice_range es 0 n ≡ es
 whole_slice es n is = take_all (n - 0) es (omega (arith, is))
 
-module _ (r : Ends) (ts : List TabletStateValue) (i : ℕ) (t : TabletStateValue) (within : i < length ts) (is : t ≡ get_or ts i t) (so_far own more : Entries) (n : ℕ)
-    (before : so_far ≡ entries_that (in_range r) (cells_of (take i ts))) (cut : more ≡ entries_that (in_range r) own) (cells : own ≡ t.cells) (count : n ≡ length more) where
-  -- with its cells in the range, those of the tablet are there too
-  pub followed : so_far ++ slice_range more 0 n ≡ entries_that (in_range r) (cells_of (take (i + 1) ts))
-  followed = (λ j. before j ++ (whole_slice more n count ∙ cut ∙ ap (entries_that (in_range r)) cells) j) ∙ sym (cells_more r ts i t within (sym is))
-
-  pub followed_rise : IsTrue (is_sorted bytes_cmp (cells_of ts)) → IsTrue (is_sorted bytes_cmp (so_far ++ slice_range more 0 n))
-  followed_rise rise = subst (λ (es : Entries). IsTrue (is_sorted bytes_cmp es)) (sym followed) (first_rise r ts (i + 1) rise)
+-- with those of one tablet more they rise too
+pub more_rise : (r : Ends) (ts : List TabletStateValue) (i : ℕ) (t : TabletStateValue) → i < length ts → t ≡ get_or ts i t → (so_far : Entries) → so_far ≡ entries_that (in_range r) (cells_of (take i ts))
+    → IsTrue (is_sorted bytes_cmp (cells_of ts)) → IsTrue (is_sorted bytes_cmp (so_far ++ entries_that (in_range r) t.cells))
+more_rise r ts i t within is so_far before rise =
+    subst (λ (es : Entries). IsTrue (is_sorted bytes_cmp es)) (cells_more r ts i t within (sym is) ∙ ap (λ (es : Entries). es ++ entries_that (in_range r) t.cells) (sym before)) (first_rise r ts (i + 1) rise)

@@ -8,11 +8,12 @@ use Rattle.pn_region.specs.Events.{RegionEvent, round, half_round, loss, adoptio
 use Rattle.pn_region.specs.Held.{HoldsStill}
 use Rattle.pn_region.specs.Relayouts.{made_of}
 use Rattle.pn_region.specs.Taken.{KeepsLayout, KeepLayout}
-use Rattle.pn_region.proofs.Common.{find, AllByRecursion, IsSome, Positions, Reaches, position_of, bytes_cmp, spell, Entries, Bounds, tablet_of, TabletCopyValue, lacking, Ends, after_step, stepped, TabletStateValue, lie_in, same_range, WrongRange, Short, TabletOp, Join, Lose, Adopt, Serving, RegionValue, AreTabletsOf, IsRegion}
+use Rattle.pn_region.proofs.Common.{find, IsSome, Positions, Reaches, position_of, bytes_cmp, spell, Entries, Bounds, tablet_of, TabletCopyValue, lacking, Ends, after_step, stepped, TabletStateValue, lie_in, same_range, WrongRange, Short, TabletOp, Join, Lose, Adopt, Serving, RegionValue, AreTabletsOf, IsRegion}
 use Rattle.pn_region.proofs.EventSteps.{adopts, takes, event_is, Moves, each_at, each_moves, each_after, Grows, grows_itself, grows_then}
 use Rattle.pn_region.proofs.KeyTablets.{has_tablet}
 use Rattle.pn_region.proofs.Relaying.{relays, part_at, new_at}
 use Rattle.pn_region.proofs.StillHeld.{itself_held, added_held}
+use Rattle.pn_region.proofs.TakenImages.{one_of}
 
 join_stays : (t : TabletStateValue) (cells : Entries) (marks : Positions) (b : Bool) → (after_step t (if b then Ok (taking t cells marks) else Err WrongRange)).range ≡ t.range
 join_stays t cells marks true = refl
@@ -103,14 +104,6 @@ same_number event old new key u keeps leads there = ap (λ (bounds : Bounds). sl
 pub one_found : (t u : TabletStateValue) (found : Option TabletStateValue) → found ≡ Some t → found ≡ Some u → t ≡ u
 one_found t u found is is_too = cc
 
--- what holds of all holds of the one at a place
-pub all_at : (P : TabletStateValue → Type 0) (ts : List TabletStateValue) (n : ℕ) (t : TabletStateValue) → AllByRecursion P ts → slice_get ts n ≡ Some t → P t
-all_at P [] n t all there = cc
-all_at P (u ∷ ts) zero t all there =
-    let same : u ≡ t = cc in
-    subst P same all.0
-all_at P (u ∷ ts) (suc n) t all there = all_at P ts n t all.1 there
-
 -- in another layout it has the same record, and a reach that is not below
 pub record IsRelaidAt (key : List ℕ) (t u : TabletStateValue) : Type 0 where
   pub cell : find bytes_cmp key u.cells ≡ find bytes_cmp key t.cells
@@ -129,7 +122,7 @@ relaid_at old new bounds key t u is leads there there_too =
     (subst (λ (before : TabletStateValue). IsRelaidAt key before now) same_part (record {
       cell = part.1.cell;
       reach = part.1.reach;
-      served = all_at (λ (tablet : TabletStateValue). tablet.status ≡ Serving) old.tablets part.1.n part.0 known.served part.1.there;
+      served = one_of (λ (tablet : TabletStateValue). tablet.status ≡ Serving) old.tablets part.1.n part.0 known.served part.1.there;
     }))
 
 event_reach_at : (key : List ℕ) (event : RegionEvent) (old new : RegionValue) (t u : TabletStateValue) → IsRegion old → LeadsTo event old new → at_key old key ≡ Some t → at_key new key ≡ Some u → Reaches u.reach t.reach

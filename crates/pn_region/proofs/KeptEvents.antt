@@ -8,12 +8,13 @@ use Rattle.pn_region.specs.Honest.{IsHonestCopy}
 use Rattle.pn_region.specs.Rounds as rounds
 use Rattle.pn_region.specs.Taken.{KeepsLayout}
 use Rattle.pn_region.proofs.Common.{find, Positions, Image, bytes_cmp, CellValue, BrokerRecord, TabletCopyValue, tablet_of, tablet_ends, Ends, in_range, stepped, TabletStateValue, TabletOp, Join, Lose, Adopt, Serving, Recovering, AreOldOrStepped, all_images, join_in, ranges, IsFaithful, AreFaithful, stepped_at, RegionValue, AreTabletsOf, IsRegion}
-use Rattle.pn_region.proofs.Events.{by_layout, at_key, same_number, all_at, one_found, relaid_at, IsRelaidAt, found_at_key, spelled_at}
+use Rattle.pn_region.proofs.Events.{by_layout, at_key, same_number, one_found, relaid_at, IsRelaidAt, found_at_key, spelled_at}
 use Rattle.pn_region.proofs.EventSteps.{adopts, takes, event_is, Each, each_at}
 use Rattle.pn_region.proofs.HalfRounds.{half_so}
 use Rattle.pn_region.proofs.KeptRecords.{NeedsAll, Has, Keeps, Brings, one_keeps, kept_itself, kept_held, copy_brings}
 use Rattle.pn_region.proofs.KeyTablets.{range_at}
 use Rattle.pn_region.proofs.RoundEnds.{taken_half}
+use Rattle.pn_region.proofs.TakenImages.{one_of}
 
 -- ---- what an honest event does to each tablet
 
@@ -121,6 +122,6 @@ pub events_held : (broker : BrokerRecord) (events : List RegionEvent) (old new :
     → at_key old key ≡ Some t → at_key new key ≡ Some u → u.status ≡ Serving → HoldsStill (find bytes_cmp key t.cells) (find bytes_cmp key u.cells)
 events_held broker events old new key t u is faithful honest lead there there_too serves =
     let was = find bytes_cmp key t.cells in
-    let own = all_at (IsFaithful broker) old.tablets (tablet_of old.layout key) t faithful there in
+    let own = one_of (IsFaithful broker) old.tablets (tablet_of old.layout key) t faithful there in
     kept_held key was t.reach u serves
     (events_keep broker key was t.reach (λ copy honest_too. copy_brings broker key t copy own honest_too) events old new t u is honest lead there there_too (kept_itself key t))

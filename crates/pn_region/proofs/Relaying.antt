@@ -1,12 +1,11 @@
 -- Regions after a change of layout.
-use Rattle.std.proofs.Common.{◌≡◌, ℕ, zero, suc, ◌+◌, ◌<◌, ◌≤◌, Bool, true, false, cond, nat_lt, List, [], ◌∷◌, length, map, get_or, slice_get, Option, Some, None, Ok, refl, sym, ap, ◌∙◌, subst, arith, is_lt, IsTrue}
+use Rattle.std.proofs.Common.{◌≡◌, ℕ, zero, suc, ◌+◌, ◌<◌, ◌≤◌, Bool, true, false, cond, nat_lt, List, [], ◌∷◌, length, map, get_or, slice_get, Option, Some, None, Ok, refl, sym, ap, ◌∙◌, subst, arith, is_lt}
 use Rattle.std.specs.List.{position_or_len}
 use Rattle.std.proofs.lemmas.Bool.Decides.{nat_tests}
 use Rattle.std.proofs.lemmas.Cmp.{nat_list_cmp_total, tied_itself}
 use Rattle.std.proofs.lemmas.List.Folds.{flat_map-map}
 use Rattle.std.proofs.lemmas.List.Sums.{fails_before_first}
 use Rattle.pn_record.proofs.CellMaps.{spelled_table}
-use Rattle.pn_record.proofs.HeldRecords.{tied_keys}
 use Rattle.pn_tablet.specs.Laws.{IsSpelled}
 use Rattle.pn_tablet.specs.Ranges.{is_below, is_before, are_ends, meet}
 use Rattle.pn_tablet.specs.declared.state.Status.{Status}
@@ -14,7 +13,8 @@ use Rattle.pn_tablet.proofs.LayoutFacts.{key_in_tablet, tablet_of_within, ends_i
 use Rattle.pn_apply.proofs.Cuts.{all_pieces}
 use Rattle.pn_apply.proofs.Tables.{entries_that, table_that, all_that}
 use Rattle.pn_region.specs.Relayouts.{made_of, parts_of, relaid, relaid_unless, relaying, is_recovering, first_recovering}
-use Rattle.pn_region.proofs.Common.{eq_by_cmp, find, IsSome, AllByRecursion, range_with_len, Positions, Reaches, bytes_cmp, CellValue, spell, Entries, table_of, Bounds, IsLayout, Ends, in_range, lie_in, tablet_of, tablet_ends, TabletStateValue, Serving, Recovering, ranges, RegionValue, IsTabletOf, AreTabletsOf, IsRegion, all_cells, AllServe}
+use Rattle.pn_region.proofs.Common.{find, IsSome, AllByRecursion, range_with_len, Reaches, bytes_cmp, spell, Bounds, IsLayout, Ends, in_range, tablet_of, tablet_ends, TabletStateValue, Serving, Recovering, ranges, RegionValue, IsTabletOf, AreTabletsOf, IsRegion, all_cells, AllServe}
+use Rattle.pn_region.proofs.FoundIn.{found_in}
 use Rattle.pn_region.proofs.KeyTablets.{range_at, has_tablet, has_its_cell}
 use Rattle.pn_region.proofs.Meeting.{both_in_meet}
 use Rattle.pn_region.proofs.NewRegion.{tablet_count}
@@ -89,26 +89,6 @@ has_key_by region key (Some t) is there some = record {
 has_key : (region : RegionValue) (key : List ℕ) → IsRegion region → HasKey region key
 has_key region key is = has_key_by region key (slice_get region.tablets (tablet_of region.layout key)) is refl (has_tablet region key is)
 
-passed_over : (t : Bool) (x : CellValue) (all rest : Option CellValue) → (t ≡ true → ⊥) → rest ≡ all → rest ≡ cond t (Some x) all
-passed_over true x all rest other is = absurd (other refl)
-passed_over false x all rest other is = is
-
-fails_not : (b : Bool) → b ≡ true → b ≡ false → ⊥
-fails_not true is is_not = cc
-fails_not false is is_not = cc
-
--- a key that passes is found as before
-find_kept : (test : List ℕ → Bool) (key : List ℕ) (es : Entries) → test key ≡ true → find bytes_cmp key (entries_that test es) ≡ find bytes_cmp key es
-find_kept test key [] passes = refl
-find_kept test key (e ∷ es) passes =
-    let tied = eq_by_cmp bytes_cmp key e.0 in
-    let later = find_kept test key es passes in
-    elim (test e.0) as (λ b. test e.0 ≡ b → find bytes_cmp key (cond b (e ∷ entries_that test es) (entries_that test es)) ≡ cond tied (Some e.1) (find bytes_cmp key es)) [
-      | true ↦ λ is. ap (λ (rest : Option CellValue). cond tied (Some e.1) rest) later
-      | false ↦ λ is.
-          passed_over tied e.1 (find bytes_cmp key es) (find bytes_cmp key (entries_that test es)) (λ same. fails_not (test e.0) (ap test (sym (tied_keys key e.0 same)) ∙ passes) is) later
-    ] refl
-
 -- the old tablet of a key of a new range: one of its parts
 pub record IsPartAt (region : RegionValue) (r : Ends) (key : List ℕ) (part : TabletStateValue) : Type 0 where
   pub n : ℕ
@@ -123,16 +103,18 @@ pub part_at : (region : RegionValue) → IsRegion region → (r : Ends) (key : L
 part_at region is r key lies =
     let has = has_key region key is in
     let n = tablet_of region.layout key in
-    let kept = kept_at (λ (t : TabletStateValue). meet t.range r) region.tablets n has.tablet has.there (both_in_meet has.tablet.range r key has.lies lies) in
-    (has.tablet, record {
-      n = n;
-      number = refl;
-      there = has.there;
-      lies = has.lies;
-      cover = least_below (parts_of region.tablets r) kept.0 has.tablet kept.1;
-      reach = greatest_above (parts_of region.tablets r) kept.0 has.tablet kept.1;
-      cell = find_kept (in_range r) key (all_cells region) lies ∙ sym (has_its_cell region key has.tablet is has.there);
-    })
+    let kept = kept_at (λ (t : TabletStateValue). meet t.range r) region.tablets n has.tablet has.there (both_in_meet has.tablet.range r key has.lies lies) in (
+      has.tablet,
+      record {
+        n = n;
+        number = refl;
+        there = has.there;
+        lies = has.lies;
+        cover = least_below (parts_of region.tablets r) kept.0 has.tablet kept.1;
+        reach = greatest_above (parts_of region.tablets r) kept.0 has.tablet kept.1;
+        cell = found_in r key (all_cells region) lies ∙ sym (has_its_cell region key has.tablet is has.there);
+      },
+    )
 
 mapped_at : {A B : Type 0} (f : A → B) (xs : List A) (n : ℕ) (x : A) → slice_get xs n ≡ Some x → slice_get (map f xs) n ≡ Some (f x)
 mapped_at f [] n x there = cc

@@ -3,7 +3,7 @@ use Rattle.std.proofs.Common.{◌≡◌, ℕ, zero, suc, true, false, cond, List
 use Rattle.std.proofs.lemmas.List.Elements.{Contains-append_left, Contains-append_right, filter-append}
 use Rattle.pn_apply.proofs.Tables.{entries_that, table_that}
 use Rattle.pn_region.specs.Relayouts.{made_of}
-use Rattle.pn_region.proofs.Common.{AllByRecursion, Positions, Image, Entries, table_of, Ends, in_range, TabletStateValue, images_in, ranges, RegionValue, AreTabletsOf, IsRegion}
+use Rattle.pn_region.proofs.Common.{AllByRecursion, Positions, Image, table_of, Ends, in_range, TabletStateValue, images_in, ranges, RegionValue, AreTabletsOf, IsRegion}
 use Rattle.pn_region.proofs.Apart.{Outside, Apart, ranges_apart}
 use Rattle.pn_region.proofs.InRange.{from_images_in, to_images_in}
 use Rattle.pn_region.proofs.Pieces.{not_in}

@@ -1,12 +1,12 @@
 //! Changes of a region's layout.
 
-ghost use Rattle.std.specs.Prelude.{◌≡◌, map, filter, Ok, IsTrue, IfOk, IfErr, OnOk, OnErr, option_map, unwrap_or};
+ghost use Rattle.std.specs.Prelude.{◌≡◌, ◌++◌, map, filter, Ok, IsTrue, IfOk, IfErr, OnOk, OnErr, option_map, unwrap_or};
 ghost use Rattle.std.specs.FinMap.{is_sorted};
 ghost use Rattle.std.specs.List.{flat_map};
 ghost use Rattle.pn_join.specs.Marks.{least as least_of};
-ghost use Rattle.pn_join.specs.Prelude.{Reaches, are_positions};
+ghost use Rattle.pn_join.specs.Prelude.{Reaches, are_positions, raised};
 ghost use Rattle.pn_record.specs.Prelude.{bytes_cmp};
-ghost use Rattle.pn_tablet.specs.Prelude.{in_range, Refuses};
+ghost use Rattle.pn_tablet.specs.Prelude.{in_range, lie_in, meet, Refuses};
 ghost use Rattle.pn_apply.specs.Prelude.{ranges};
 ghost use Rattle.pn_region.specs.Relayouts.{relaying, made_of, parts_of, least_cover, greatest_reach, first_recovering as first_that_recovers, is_recovering, is_memory};
 
@@ -95,12 +95,29 @@ fn cells_in(alloc: Global, tablets: &[TabletState], range: &Range) -> Result<Rec
 {
     let mut cells = Records::new(alloc);
     for tablet in tablets {
-        if tablet.range().meets(range) {
-            let more = cells_within(range, tablet.cells())?;
-            cells = cells.followed_by(&more, 0, more.len())?;
+        if is_part(tablet, range) {
+            cells = with_cells(cells, tablet, range)?;
         }
     }
     Ok(cells)
+}
+
+fn is_part(tablet: &TabletState, range: &Range) -> bool
+    ensures part { result ≡ meet tablet.now.range range.now }
+    ensures inside { IsTrue (lie_in tablet.now.range tablet.now.cells) }
+{
+    tablet.range().meets(range)
+}
+
+// The cells, and after them those of the tablet in the range.
+#[tactic(auto, using(crate::proofs::Cutting::whole_slice))]
+fn with_cells(cells: Records, tablet: &TabletState, range: &Range) -> Result<Records, NoMemory>
+    requires { IsTrue (is_sorted bytes_cmp (cells ++ filter (λ entry. in_range range.now entry.0) tablet.now.cells)) }
+    ensures { IfOk result (λ both. both ≡ cells ++ filter (λ entry. in_range range.now entry.0) tablet.now.cells) }
+{
+    let more = cells_within(range, tablet.cells())?;
+    let both = cells.followed_by(&more, 0, more.len())?;
+    Ok(both)
 }
 
 // The least of the covers of the range's parts, per stream.
@@ -110,7 +127,7 @@ fn cover_of(alloc: Global, tablets: &[TabletState], range: &Range) -> Result<Mar
 {
     let mut least: Option<Marks> = None;
     for tablet in tablets {
-        if tablet.range().meets(range) {
+        if is_part(tablet, range) {
             least = Some(with_cover(least, tablet.cover())?);
         }
     }
@@ -138,9 +155,18 @@ fn reach_of(alloc: Global, tablets: &[TabletState], range: &Range) -> Result<Mar
 {
     let mut reach = Marks::new(alloc);
     for tablet in tablets {
-        if tablet.range().meets(range) {
-            raise(&mut reach, tablet.reach())?;
+        if is_part(tablet, range) {
+            raise_to(&mut reach, tablet)?;
         }
     }
     Ok(reach)
+}
+
+// Raises the reach to the tablet's, where it is less.
+fn raise_to(reach: &mut Marks, tablet: &TabletState) -> Result<(), NoMemory>
+    ensures ok { OnOk result (reach.new ≡ raised reach.old tablet.now.reach) }
+    ensures positions { IsTrue (are_positions tablet.now.reach) }
+    ensures reached { Reaches tablet.now.reach tablet.now.cover }
+{
+    raise(reach, tablet.reach())
 }
