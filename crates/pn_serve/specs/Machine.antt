@@ -7,5 +7,6 @@ pub mod Modes
 pub mod Outcomes
 pub mod PartRounds
 pub mod Recovering
+pub mod Relaying
 pub mod Turns
 pub mod Ways

@@ -10,6 +10,7 @@ ghost use Rattle.pn_serve.specs.Machine.Ways.{HandlesTo, LastsBy};
 
 pub(crate) mod adoption;
 pub(crate) mod command_reader;
+pub(crate) mod layouts;
 pub(crate) mod line_handler;
 pub(crate) mod lookups;
 pub(crate) mod script_handler;
@@ -17,6 +18,7 @@ pub(crate) mod tablets;
 
 use crate::machine::adoption::{Announced, adopt, finish, go_on};
 use crate::machine::command_reader::CommandReader;
+use crate::machine::layouts::relayout;
 use crate::machine::lookups::{get, notices, read, scan};
 use crate::machine::tablets::{copy, lose};
 use pn_apply::Open;
@@ -145,6 +147,7 @@ fn obey<R: Threads + Sync>(
         Command::Marks => Handled::Obeyed(shown(marks_reply(alloc, region.marks()))),
         Command::Notices { since } => Handled::Obeyed(notices(alloc, region, since)),
         Command::Read { key, version } => Handled::Obeyed(read(alloc, region, &key, version)),
+        Command::Relayout(bounds) => Handled::Obeyed(relayout(alloc, region, bounds)),
         Command::Scan(query) => Handled::Obeyed(scan(alloc, region, &query)),
         Command::Tablets => Handled::Obeyed(shown(tablets_reply(alloc, region))),
     }

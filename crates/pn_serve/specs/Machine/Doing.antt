@@ -9,9 +9,11 @@ use Rattle.pn_region.specs.Rounds.{changed}
 use Rattle.pn_region.specs.Rounds.{round as taken_round}
 use Rattle.pn_region.specs.declared.fault.RoundFault.{RoundFault}
 use Rattle.pn_scan.specs.declared.fault.ScanFault.{ScanFault}
-use Rattle.pn_protocol.specs.Command.Meaning.{CommandValue, adopt, copy, deliver, get, lose, marks, notices, read, scan, tablets}
+use Rattle.pn_tablet.specs.Layouts.{layout_of}
+use Rattle.pn_protocol.specs.Command.Meaning.{CommandValue, adopt, copy, deliver, get, lose, marks, notices, read, relayout, scan, tablets}
 use Rattle.pn_serve.specs.Machine.Outcomes.{announced, Machine, Turn, silent, showing}
 use Rattle.pn_serve.specs.Machine.Recovering.{losing_it, copying}
+use Rattle.pn_serve.specs.Machine.Relaying.{relaying_it}
 use Rattle.pn_protocol.specs.Reply.Faults.{fault_data}
 use Rattle.pn_protocol.specs.Reply.Lookups.{refused_data}
 use Rattle.pn_protocol.specs.Reply.Marks.{shown_marks}
@@ -45,5 +47,6 @@ doing machine (lose tablet) = losing_it machine tablet
 doing machine marks = showing machine (line_of (shown_marks machine.region.marks))
 doing machine (notices since) = showing machine (line_of (since_data machine.log since))
 doing machine (read key version) = looking machine (read_data key) (read_in machine.region key version)
+doing machine (relayout bounds) = relaying_it machine (layout_of bounds)
 doing machine (scan query) = looking machine scan_data (page_in machine.region query)
 doing machine tablets = showing machine (line_of (tablets_data machine.region.tablets))

@@ -15,7 +15,7 @@ use Rattle.pn_region.specs.Recovery.{adopting}
 use Rattle.pn_region.specs.declared.fault.RoundFault.{RoundFault}
 use Rattle.pn_protocol.specs.declared.refusal.Refusal.{Refusal}
 use Rattle.pn_protocol.specs.Command.Lines.{command_at}
-use Rattle.pn_protocol.specs.Command.Meaning.{CommandValue, deliver, lose}
+use Rattle.pn_protocol.specs.Command.Meaning.{CommandValue, deliver, lose, relayout}
 use Rattle.pn_serve.specs.Machine.Announced.{unless_call, with_line}
 use Rattle.pn_serve.specs.Machine.Outcomes.{Outcome, line, round, Mode, idle, announced, Machine, Turn, logged}
 use Rattle.pn_serve.specs.Machine.Recovering.{adopted}
@@ -41,6 +41,7 @@ happened_by machine line said = []
 happened_by machine (round which) (Ok (deliver deliveries)) = half_happened deliveries (some_tablet which machine.region.tablets) (new_marks machine.region.marks deliveries)
 happened_by machine outcome (Ok (deliver deliveries)) = unless_refused (turn_of machine outcome (Ok (deliver deliveries))) (events.round deliveries)
 happened_by machine outcome (Ok (lose tablet)) = unless_refused (turn_of machine outcome (Ok (lose tablet))) (events.loss tablet)
+happened_by machine outcome (Ok (relayout bounds)) = unless_refused (turn_of machine outcome (Ok (relayout bounds))) (events.relayout bounds)
 happened_by machine outcome said = []
 
 -- what happens by an announced text, if it is a copy and memory did not run out

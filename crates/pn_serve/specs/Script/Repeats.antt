@@ -38,7 +38,7 @@ abbrev pub IsAcceptedAtEnd : Machine → Option InputEnd → List DeliveryValue 
 IsAcceptedAtEnd machine None deliveries = ⊥
 IsAcceptedAtEnd machine (Some end) deliveries = IsAcceptedLast machine end deliveries
 
--- one of the lines, or the last one without newline, delivers this and is accepted; no loss or adoption comes before it
+-- one of the lines, or the last one without newline, delivers this and is accepted; no loss, adoption or change of layout comes before it
 abbrev pub IsRepeated : Machine → List ToldLine → Option InputEnd → List DeliveryValue → Type 0
 IsRepeated machine [] end deliveries = IsAcceptedAtEnd machine end deliveries
 IsRepeated machine (line ∷ lines) end deliveries =

@@ -6,7 +6,7 @@ use Rattle.pn_region.specs.Events.{AreHonestEvents}
 use Rattle.pn_region.specs.Laws.{AreIn}
 use Rattle.pn_region.specs.Regions.{RegionValue}
 use Rattle.pn_region.specs.Serving.{AllServe}
-use Rattle.pn_region.specs.Taken.{all_taken, all_left, AreRounds}
+use Rattle.pn_region.specs.Taken.{all_taken, all_left, LoseNothing}
 use Rattle.pn_serve.specs.Machine.Outcomes.{idle, serving}
 use Rattle.pn_serve.specs.Script.Happened.{happened}
 use Rattle.pn_serve.specs.Script.Inputs.{Input, after_input, region_after}
@@ -21,7 +21,7 @@ AllRetried broker region input = AreIn (all_left (happened region input)) (taken
 
 -- no tablet was lost and no copy adopted
 abbrev pub NothingLost : RegionValue → Input → Type 0
-NothingLost region input = AreRounds (happened region input)
+NothingLost region input = LoseNothing (happened region input)
 
 -- the deliveries of rounds that were not refused, and the adopted copies, are honest about what brokers published
 abbrev pub AllHonest : BrokerRecord → RegionValue → Input → Type 0

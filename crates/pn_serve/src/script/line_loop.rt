@@ -21,7 +21,9 @@ use crate::script::blocks::Blocks;
 use crate::{Counts, RunFault};
 use pn_join::NoMemory;
 use pn_line::{ENDLESS, LineBuffer, LineEnd, Sink, Source, WriteFault, read_line};
-use pn_protocol::{Reply, adopted_reply, changed_reply, lines_reply, lost_reply, refusal_reply};
+use pn_protocol::{
+    Reply, adopted_reply, changed_reply, lines_reply, lost_reply, refusal_reply, relaid_reply,
+};
 use std::alloc::Global;
 use std::marker::Model;
 
@@ -249,6 +251,7 @@ fn push_reply<W: Sink>(reply: &Reply, blocks: &mut Blocks, output: &mut W) -> Re
         Reply::Changed(count) => blocks.push(output, changed_reply(*count).as_bytes()),
         Reply::Copied { lines, text } => push_copy(*lines, text, blocks, output),
         Reply::Lost(tablet) => blocks.push(output, lost_reply(*tablet).as_bytes()),
+        Reply::Relaid(count) => blocks.push(output, relaid_reply(*count).as_bytes()),
         Reply::Silent => Ok(()),
         Reply::Text(text) | Reply::NotTaken(text) => blocks.push(output, text),
         Reply::Refused(refusal) => blocks.push(output, refusal_reply(refusal).as_bytes()),

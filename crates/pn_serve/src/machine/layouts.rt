@@ -1,0 +1,34 @@
+//! Answers to changes of the layout.
+
+ghost use Rattle.std.specs.Prelude.{length, ◌+◌};
+ghost use Rattle.pn_protocol.specs.Prelude.{relayout as relayout_asked};
+ghost use Rattle.pn_region.specs.Relayouts.{relaying};
+ghost use Rattle.pn_serve.specs.Machine.Outcomes.{waiting};
+ghost use Rattle.pn_serve.specs.Machine.Relaying.{relaid_turn};
+ghost use Rattle.pn_serve.specs.Machine.Answers.{Obeys};
+ghost use Rattle.pn_serve.specs.Machine.Ways.{ComesTo};
+
+use pn_protocol::{Part, Refusal, Reply, not_relaid};
+use pn_record::Key;
+use pn_region::Region;
+use pn_tablet::Layout;
+use std::alloc::Global;
+
+pub(crate) fn relayout(alloc: Global, region: &mut Region, bounds: Vec<Key>) -> Reply
+    ensures { Obeys (waiting region.old) (relayout_asked bounds.items) (waiting region.new) result }
+{
+    match Layout::new(bounds) {
+        Ok(layout) => relaid(alloc, region, layout),
+        Err(_) => Reply::Refused(Refusal::OutOfRange(Part::Bounds)),
+    }
+}
+
+fn relaid(alloc: Global, region: &mut Region, layout: Layout) -> Reply
+    ensures { ComesTo (relaid_turn (waiting region.old) (length layout + 1) (relaying region.old.state layout)) region.old region.new result }
+{
+    let count = layout.count() as u64;
+    match region.relayout(layout) {
+        Ok(()) => Reply::Relaid(count),
+        Err(fault) => not_relaid(alloc, &fault),
+    }
+}
