@@ -1,4 +1,4 @@
-"""Writes the Markdown of this project's documents as a page for `man`: headings, paragraphs, lists, tables and examples."""
+"""Writes the Markdown of this project's documents as a page for `man`: headings, paragraphs, lists, tables and examples, without pictures."""
 
 from __future__ import annotations
 
@@ -52,7 +52,7 @@ def line_of(text: str) -> str:
 
 
 def _kind_of(line: str, before: str) -> str:
-    for kind, begins in (("head", r"#+ "), ("table", r"\|"), ("item", r"- "), ("code", r" {4}")):
+    for kind, begins in (("head", r"#+ "), ("table", r"\|"), ("item", r"- "), ("code", r" {4}"), ("picture", r"!\[")):
         if re.match(begins, line) and not (kind == "code" and before == "item"):
             return kind
     return "item" if before == "item" and line.startswith("  ") else "text"
@@ -110,7 +110,7 @@ def _body_of(block: Block) -> Iterator[str]:
     elif block.kind == "table":
         head, _, *rows = (cells_of(line) for line in block.lines)
         yield from _list_of(rows) if len(head) == 2 else (".PP", *_table_of(head, rows))
-    else:
+    elif block.kind != "picture":
         yield ".PP"
         yield line_of(inline(" ".join(line.strip() for line in block.lines)))
 

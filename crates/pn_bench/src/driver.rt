@@ -17,7 +17,7 @@ use std::thread::{Threads, join_mut};
 use std::time::{Duration, Instant};
 
 /// How many messages are read at a time.
-const IN_BATCH: usize = 1_000;
+pub const IN_BATCH: usize = 1_000;
 
 /// How often the readers read every key while rounds are measured.
 const PASSES: usize = 8;
@@ -64,7 +64,7 @@ fn time_store<R: Clock + Threads + Wait + Sync, S: Source + Drop>(
     let keys = load(rt, alloc, store, &mut stream, plan.records)?;
     let mut runners = runners_of(alloc, readers, &keys)?;
     let reads = time_reads(rt, store, &mut runners, &keys)?;
-    let mut last = last_rounds(alloc, &mut stream, plan)?;
+    let mut last = next_rounds(alloc, &mut stream, plan.rounds, plan.in_round)?;
     let rounds = if plan.way == Way::Busy {
         // On four processors the writer then has one of its own.
         let _idle = runners.pop();
@@ -98,15 +98,16 @@ fn load<R: Threads + Wait + Sync, S: Source + Drop>(
     Some(keys)
 }
 
-// The last rounds of a plan, of which the first is to be popped first.
-fn last_rounds<S: Source + Drop>(
+/// The next rounds, each of so many messages. The first is to be popped first.
+pub fn next_rounds<S: Source + Drop>(
     alloc: Global,
     stream: &mut StreamReader<S>,
-    plan: Plan,
+    count: usize,
+    in_round: usize,
 ) -> Option<Vec<Vec<Delivery>>> {
     let mut rounds = Vec::new(alloc);
-    for _ in 0..plan.rounds {
-        let round = next_deliveries(alloc, stream, plan.in_round)?;
+    for _ in 0..count {
+        let round = next_deliveries(alloc, stream, in_round)?;
         rounds.push(round).ok()?;
     }
     rounds.reverse();

@@ -4,15 +4,20 @@
 //! a live region that is read during its rounds too.
 //!
 //! It says on standard error how many microseconds reading each key once took, and the rounds.
+//!
+//! With `relayout` for WAY it builds a plain region of sixteen tablets and changes its layout, with so many rounds before and
+//! after that. It says the microseconds of building, of a change, the change back, and the rounds, and the leaves.
 #![tactic(auto)]
 
 mod driver;
+mod layouts;
 mod plan;
 mod readers;
 mod store;
 
 use crate::driver::time;
-use crate::plan::Plan;
+use crate::layouts::time_layouts;
+use crate::plan::{Plan, Way};
 use pn_join::Name;
 use pn_stream::StreamReader;
 use std::io::BufReader;
@@ -28,6 +33,15 @@ fn main(rt: HostRuntime) -> io::Result<()> {
         return println!(rt; "no plan");
     };
     let stream = StreamReader::new(rt.alloc(), name, 0, input);
+    if plan.way == Way::Relayout {
+        let Some(laid) = time_layouts(&rt, rt.alloc(), stream, plan) else {
+            return println!(rt; "no time");
+        };
+        eprintln!(rt; "{} {} {} microseconds", laid.built, laid.there, laid.back)?;
+        eprintln!(rt; "{} {} microseconds", laid.before, laid.after)?;
+        eprintln!(rt; "{} {} leaves", laid.leaves, laid.leaves_after)?;
+        return println!(rt; "{} records, {} rounds", plan.records, plan.rounds);
+    }
     let Some(took) = time(&rt, rt.alloc(), stream, plan) else {
         return println!(rt; "no time");
     };

@@ -12,6 +12,8 @@ pub enum Way {
     Live,
     /// A live region, which three threads read.
     Busy,
+    /// A plain region, whose layout changes.
+    Relayout,
 }
 
 impl Way {
@@ -20,6 +22,7 @@ impl Way {
             "plain" => Some(Way::Plain),
             "live" => Some(Way::Live),
             "busy" => Some(Way::Busy),
+            "relayout" => Some(Way::Relayout),
             _ => None,
         }
     }

@@ -6,13 +6,13 @@ use Rattle.pn_stream.specs.Positions.{DeliveryValue}
 use Rattle.pn_tablet.specs.Layouts.{Bounds, IsLayout}
 use Rattle.pn_tablet.specs.declared.op.TabletOp.TheVariants.{Lose}
 use Rattle.pn_apply.specs.Reducing.{ranges}
-use Rattle.pn_region.specs.Events.{RegionEvent, round, half_round, loss, adoption, LeadsTo, AllLeadTo, AreHonestEvents}
+use Rattle.pn_region.specs.Events.{RegionEvent, round, half_round, loss, adoption, relayout, LeadsTo, AllLeadTo, AreHonestEvents}
 use Rattle.pn_region.specs.Laws.{AreIn}
 use Rattle.pn_region.specs.Logged.{LoggedRegion, breaking}
 use Rattle.pn_region.specs.Regions.{RegionValue, new_region, all_cells}
 use Rattle.pn_region.specs.Rising.{AllRise}
 use Rattle.pn_region.specs.Serving.{AllServe}
-use Rattle.pn_region.specs.Taken.{all_taken, all_left, AreRounds}
+use Rattle.pn_region.specs.Taken.{all_taken, all_left, IsRound, AreRounds, LosesNothing, LoseNothing}
 use Rattle.pn_region.proofs.EventImages.{taken_together, rounds_together}
 use Rattle.pn_region.proofs.Repeats.{makes_up}
 use Rattle.pn_region.proofs.RisingRegions.{new_region_rises, event_rises}
@@ -31,11 +31,24 @@ one_leads (round deliveries) old new did = did.0
 one_leads (half_round deliveries) old new did = did.1
 one_leads (loss tablet) old new did = ap core did ∙ core_after old tablet Lose (appended_at tablet Lose old.tablets) refl (breaking old.log)
 one_leads (adoption copy) old new did = record { tablet = did.1.tablet; lawful = did.0; adopted = did.1.adopted }
+one_leads (relayout bounds) old new did = absurd did
 
 pub all_lead : (events : List RegionEvent) (old new : LiveRegionValue) → AllLeadLive events old new → AllLeadTo events (core old) (core new)
 all_lead [] old new same = same
 all_lead (event ∷ events) old new did =
     (core did.1, subst (λ (r : RegionValue). LeadsTo event r (core did.1)) did.2 (one_leads event did.0 did.1 did.3), all_lead events did.1 new did.4)
+
+-- rounds lose nothing
+round_loses_nothing : (event : RegionEvent) → IsRound event → LosesNothing event
+round_loses_nothing (round deliveries) is = tt
+round_loses_nothing (half_round deliveries) is = tt
+round_loses_nothing (loss tablet) is = absurd is
+round_loses_nothing (adoption copy) is = absurd is
+round_loses_nothing (relayout bounds) is = absurd is
+
+rounds_lose_nothing : (events : List RegionEvent) → AreRounds events → LoseNothing events
+rounds_lose_nothing [] are = tt
+rounds_lose_nothing (event ∷ events) are = (round_loses_nothing event are.0, rounds_lose_nothing events are.1)
 
 module _ (broker : BrokerRecord) (bounds : Bounds) (events : List RegionEvent) (opened live : LiveRegionValue) (closed : LoggedRegion)
     (lawful : IsLayout bounds) (new : IsNewLive bounds opened) (led : AllLeadLive events opened live) (is : closed.state ≡ core live) where
@@ -48,7 +61,7 @@ module _ (broker : BrokerRecord) (bounds : Bounds) (events : List RegionEvent) (
   honest_calls honest serve again = taken_together broker bounds events closed.state lawful leads honest serve again
 
   pub round_calls : AreRounds events → AreIn (all_left events) (all_taken broker events) → all_cells closed.state ≡ table_of (all_taken broker events)
-  round_calls are again = rounds_together broker bounds events closed.state lawful leads are again
+  round_calls are again = rounds_together broker bounds events closed.state lawful leads (rounds_lose_nothing events are) again
 
 -- a repeated round makes up for a failed one
 pub live_makes_up : (start failed later end : LiveRegionValue) (deliveries : List DeliveryValue) (events : List RegionEvent)

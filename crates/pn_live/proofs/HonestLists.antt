@@ -31,12 +31,13 @@ use Rattle.pn_region.specs.Regions.{IsRegion}
 use Rattle.pn_region.specs.Rounds as rounds
 use Rattle.pn_region.specs.Rounds.{joins}
 use Rattle.pn_region.specs.declared.fault.RoundFault.{RoundFault}
-use Rattle.pn_region.proofs.Events.{event_faithful, up_to_more}
 use Rattle.pn_region.proofs.Faith.{brought}
 use Rattle.pn_region.proofs.FaithfulCopies.{serving_has_all}
+use Rattle.pn_region.proofs.FaithfulEvents.{event_faithful}
 use Rattle.pn_region.proofs.InRange.{more_in, to_images_in}
 use Rattle.pn_region.proofs.RoundSteps.{new_reached}
 use Rattle.pn_region.proofs.StillHeld.{more_held}
+use Rattle.pn_region.proofs.UpTo.{up_to_more}
 use Rattle.pn_live.specs.Honest.{IsHonestList, AreHonestTablets}
 use Rattle.pn_live.specs.Laws.{HasImage}
 use Rattle.pn_live.specs.LiveRegions.{LiveRegionValue, core, publishing, IsHalfPublished}
@@ -44,6 +45,7 @@ use Rattle.pn_live.specs.PublishedTablets.{PublishedTabletValue, state_at, AreNe
 use Rattle.pn_live.specs.Recovery.{appended_at, publishing_at, Adopts}
 use Rattle.pn_live.specs.TabletReaders.{TabletReaderValue, Finds, Learns, KnowsMore}
 use Rattle.pn_live.proofs.ListLaws.{fold_on, range_kept}
+use Rattle.pn_live.proofs.OneReach.{one_reach}
 use Rattle.pn_live.proofs.OneTablet.{core_after}
 use Rattle.pn_live.proofs.Prefixes.{begins_itself, begins_on}
 use Rattle.pn_live.proofs.TabletReaderLaws.{has_image, found_alone}
@@ -136,7 +138,7 @@ module _ (broker : BrokerRecord) where
       nothing (op ∷ first) more is = absurd (cc is)
 
       empty_faithful : (range : Ends) → IsFaithful broker (empty_tablet range)
-      empty_faithful range = record { images = []; cells = sym table_of-nil; published = λ image there. absurd (omega (arith, there.1)); all = λ image there. absurd (omega (arith, there.1)) }
+      empty_faithful range = record { images = []; cells = sym table_of-nil; published = λ image there. absurd (omega (arith, there.1)); all = λ image there lies. absurd (omega (arith, there.1)) }
 
   module _ (old new : LiveRegionValue) (is : IsRegion (core old)) (honest : AreHonestTablets broker old.tablets) where
     pub round_honest : (deliveries : List DeliveryValue) → AreHonest broker deliveries → rounds.round (core old) deliveries ≡ Ok (core new) → new.tablets ≡ publishing old deliveries new.marks → AreHonestTablets broker new.tablets
@@ -182,7 +184,9 @@ module _ (broker : BrokerRecord) where
   found_all later last now found honest serves =
       let faithful = subst (IsFaithful broker) (sym found.state) (honest last.seen (begins_itself last.seen)) in
       let range : now.range ≡ last.range = ap (λ (t : TabletStateValue). t.range) found.state ∙ range_kept (empty_tablet last.range) last.seen in
-      serving_has_all broker now faithful serves ∙ ap (λ (r : Ends). table_of (images_in r (up_to broker now.cover))) range
+      let reached : Reaches now.cover now.reach =
+      subst (λ (t : TabletStateValue). Reaches t.cover t.reach) (sym found.state) (one_reach last.range last.seen) in
+      serving_has_all broker now faithful serves reached ∙ ap (λ (r : Ends). table_of (images_in r (up_to broker now.cover))) range
 
   -- a longer list leads to no smaller cover
   cover_begins : (range : Ends) (first list : List TabletOp) → IsPrefix first list → Reaches (state_of range list).cover (state_of range first).cover

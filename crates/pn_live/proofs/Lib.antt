@@ -14,6 +14,7 @@ pub mod Getting
 pub mod Opening
 pub mod Closing
 pub mod OneTablet
+pub mod OneReach
 pub mod Adopting
 pub mod Rounds
 pub mod Taken

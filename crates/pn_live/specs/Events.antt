@@ -2,7 +2,7 @@
 use Rattle.std.specs.Prelude.{◌≡◌, List, [], ◌∷◌, Ok}
 use Rattle.pn_tablet.specs.Copies.{IsCopy}
 use Rattle.pn_tablet.specs.declared.op.TabletOp.TheVariants.{Lose}
-use Rattle.pn_region.specs.Events.{RegionEvent, round, half_round, loss, adoption}
+use Rattle.pn_region.specs.Events.{RegionEvent, round, half_round, loss, adoption, relayout}
 use Rattle.pn_region.specs.Rounds as rounds
 use Rattle.pn_live.specs.LiveRegions.{LiveRegionValue, core, publishing, IsHalfPublished}
 use Rattle.pn_live.specs.Recovery.{publishing_at, Adopts}
@@ -13,6 +13,7 @@ LeadsLive (round deliveries) old new = (rounds.round (core old) deliveries ≡ O
 LeadsLive (half_round deliveries) old new = IsHalfPublished old deliveries new × rounds.IsHalfTaken (core old) deliveries (core new)
 LeadsLive (loss tablet) old new = new ≡ publishing_at old tablet Lose
 LeadsLive (adoption copy) old new = IsCopy copy.range copy.marks copy.cells × Adopts copy old new
+LeadsLive (relayout bounds) old new = ⊥
 
 -- calls did the events, one after another; other calls may lie between, which published nothing and kept the marks
 abbrev pub AllLeadLive : List RegionEvent → LiveRegionValue → LiveRegionValue → Type 0

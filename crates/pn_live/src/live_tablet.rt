@@ -79,14 +79,9 @@ impl LiveTablet {
         requires { (0 < readers) × (readers < 2 ^ 32) }
         ensures { IfOk result (λ tablet. (state_in tablet ≡ empty_tablet range) × (published tablet ≡ [])) }
     {
-        let state = TabletState::new(alloc, range);
         let (counter, latest) = open_book();
-        let empty = shown_as(&state, &latest)?;
-        let first = empty.dup()?;
-        let second = empty.dup()?;
-        let mut writer: PairWriter = Writer::new(alloc, first, second, readers)?;
-        // (the pair's rule knows a tablet once a state is published)
-        show(rt, &mut writer, empty);
+        let empty = shown_as(TabletState::new(alloc, range), &latest);
+        let writer = pair_of(rt, alloc, empty, readers)?;
         let settled = latest.again();
         Ok(LiveTablet {
             writer,
@@ -182,18 +177,32 @@ impl LiveTablet {
     }
 }
 
-// A copy of an empty tablet's state, to be shown.
-fn shown_as(
-    state: &TabletState,
-    position: &PublishPosition<TabletOp>,
-) -> Result<PublishedState, NoMemory>
-    requires empty { state.now ≡ empty_tablet state.now.range }
+// An empty tablet's state, to be shown.
+fn shown_as(state: TabletState, position: &PublishPosition<TabletOp>) -> PublishedState
+    requires empty { state ≡ empty_tablet state.range }
     requires none { position.now.seen.log ≡ [] }
-    ensures { IfOk result (λ shown. (shown.state ≡ state.now) × (shown.position ≡ position.now)) }
+    ensures { (result.state ≡ state) × (result.position ≡ position.now) }
 {
-    let state = state.dup()?;
     let position = position.again();
-    Ok(PublishedState { state, position })
+    PublishedState { state, position }
+}
+
+// A pair that shows the state, with room for `readers` readers.
+fn pair_of<R: Wait>(
+    rt: &R,
+    alloc: Global,
+    shown: PublishedState,
+    readers: usize,
+) -> Result<PairWriter, NoMemory>
+    requires { (0 < readers) × (readers < 2 ^ 32) }
+    ensures { IfOk result (λ writer. (writer.desk.shown.value ≡ shown) × (view writer.desk.place ≡ Some shown)) }
+{
+    let first = shown.dup()?;
+    let second = shown.dup()?;
+    let mut writer: PairWriter = Writer::new(alloc, first, second, readers)?;
+    // (the pair's rule knows a tablet once a state is published)
+    show(rt, &mut writer, shown);
+    Ok(writer)
 }
 
 // The join that the state before the operation lacks. Other operations leave a state of no use.

@@ -111,4 +111,5 @@ fn is_sound(state: &TabletState)
 {
     let _ = state.range();
     let _ = state.cells();
+    let _ = state.reach();
 }

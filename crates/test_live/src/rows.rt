@@ -149,11 +149,12 @@ fn open_all<R: Wait>(rt: &R, alloc: Global) -> Option<(LiveRegion, Vec<LiveReade
     opened(rt, alloc, layout(alloc, "")?, READERS).ok()
 }
 
-// The number of the key's version in the region that is closed at the end, with all its readers.
+// The number of the key's version in the region that is closed at the end, with all its readers, and laid out anew.
 fn learnt<R: Threads + Wait + Sync>(rt: &R, alloc: Global) -> Option<u64> {
     let (mut live, mut readers) = open_all(rt, alloc)?;
     let went_well = learns(rt, alloc, &mut live, &mut readers);
-    let region = closed(rt, live, readers).ok()?;
+    let mut region = closed(rt, live, readers).ok()?;
+    region.relayout(layout(alloc, "m")?).ok()?;
     if went_well {
         number_in(alloc, &region)
     } else {

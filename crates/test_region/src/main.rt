@@ -1,14 +1,16 @@
 //! Cases of `pn_apply` and `pn_region`, a line each, of what the stored scripts of `test_rows` cannot say.
 //!
-//! `reduce` and `round` work eight tablets by some workers, and show how often the gate was entered with each; `faults` shows fault
-//! texts. `stdout` has what must be answered.
+//! `reduce` and `round` work eight tablets by some workers, and show how often the gate was entered with each; `relayout` shows
+//! the keys of tablets of other bounds, and `faults` fault texts. `stdout` has what must be answered.
 #![tactic(auto)]
 
 mod counting;
+mod layouts;
 mod work;
 
+use layouts::relaid;
 use pn_join::{Name, NoMemory};
-use pn_region::{AdoptFault, RoundFault};
+use pn_region::{AdoptFault, RelayoutFault, RoundFault};
 use std::alloc::Global;
 use std::test::Fail;
 use std::thread::Threads;
@@ -22,6 +24,7 @@ fn main(rt: HostRuntime) -> Result<(), Fail> {
 fn answer<R: Threads + Sync>(rt: &R, alloc: Global, line: &str) -> Result<String, Fail> {
     match line.split_once(' ') {
         Some(("reduce", workers)) => Ok(reduced(rt, alloc, workers).ok_or(NoMemory)?),
+        Some(("relayout", bounds)) => Ok(relaid(rt, alloc, bounds).ok_or(NoMemory)?),
         Some((_, workers)) => Ok(round(rt, alloc, workers).ok_or(NoMemory)?),
         None => faults(alloc),
     }
@@ -34,7 +37,11 @@ fn faults(alloc: Global) -> Result<String, Fail> {
         got: 9,
     };
     let (many, memory) = (RoundFault::TooManyStreams, RoundFault::Memory);
-    Ok(format!(in alloc; "{gap}; {many}; {memory}; {}", adopt_faults(alloc)?)?)
+    let relayout = RelayoutFault::Memory;
+    Ok(format!(in alloc;
+        "{gap}; {many}; {memory}; {}; {relayout}",
+        adopt_faults(alloc)?
+    )?)
 }
 
 fn adopt_faults(alloc: Global) -> Result<String, Fail> {

@@ -13,9 +13,9 @@ use std::thread::Threads;
 use test_kit::{deliveries, layout};
 
 /// A key of each tablet, and the bounds between them.
-const KEYS: &str = "a b c d e f g h";
+pub(crate) const KEYS: &str = "a b c d e f g h";
 
-const BOUNDS: &str = "b c d e f g h";
+pub(crate) const BOUNDS: &str = "b c d e f g h";
 
 // A number from 1 to 16.
 fn workers_of(word: &str) -> Option<usize>

@@ -1,4 +1,4 @@
-//! Cases of `pn_tablet`, a line each: `layout`, `copy` and `faults`, and damaged copies by `prefixes` and `crossed`.
+//! Cases of `pn_tablet`, a line each: `layout`, `copy`, `parts` (of a copy) and `faults`, and damaged copies by `prefixes` and `crossed`.
 //!
 //! A newline of a copy is written `|`, and `~3~ab~` is `ababab`. `stdout` has what must be answered.
 #![tactic(auto)]
@@ -7,11 +7,13 @@ mod copies;
 mod damaged;
 mod fault_texts;
 mod layouts;
+mod parts;
 
 use copies::copy;
 use damaged::{crossed, prefixes};
 use fault_texts::faults;
 use layouts::layout;
+use parts::parts;
 use std::test::Fail;
 use test_kit::answer_lines;
 
@@ -22,6 +24,7 @@ fn main(rt: HostRuntime) -> Result<(), Fail> {
         Some(("copy", text)) => copy(alloc, text),
         Some(("prefixes", text)) => prefixes(alloc, text),
         Some(("crossed", text)) => crossed(alloc, text),
+        Some(("parts", text)) => parts(alloc, text),
         _ => faults(alloc),
     })
 }
