@@ -11,7 +11,7 @@ use Rattle.pn_protocol.specs.declared.reply.Reply.TheVariants.{Silent, Refused}
 use Rattle.pn_protocol.specs.declared.refusal.Refusal.{Refusal}
 use Rattle.pn_protocol.specs.declared.refusal.Refusal.TheVariants.{TooLong, NotJson, BadShape, ReadOnly, OutOfRange, Memory}
 use Rattle.pn_protocol.specs.Command.Lines.{command_at, is_too_long}
-use Rattle.pn_protocol.specs.Command.Meaning.{CommandValue, adopt, copy, deliver, get, lose, marks, notices, read, scan, tablets}
+use Rattle.pn_protocol.specs.Command.Meaning.{CommandValue, adopt, copy, deliver, get, lose, marks, notices, read, relayout, scan, tablets}
 use Rattle.pn_serve.specs.Machine.Announced.{unless_call, with_line}
 use Rattle.pn_serve.specs.Machine.Modes.{bytes_of, with_mode, IsDone}
 use Rattle.pn_serve.specs.Machine.Outcomes.{Outcome, done, line, call, round, announced, Machine, Turn, waiting, refusing, silent}
@@ -132,6 +132,7 @@ alone machine outcome (lose tablet) is = refl
 alone machine outcome marks is = refl
 alone machine outcome (notices since) is = refl
 alone machine outcome (read key version) is = refl
+alone machine outcome (relayout bounds) is = refl
 alone machine outcome (scan query) is = refl
 alone machine outcome tablets is = refl
 

@@ -1,33 +1,38 @@
 -- What happens by lines, and by the end, leads from the region before them to the region after them.
-use Rattle.std.proofs.Common.{◌≡◌, ℕ, ◌-◌, nat_le, Bool, true, false, if◌then◌else◌, List, [], ◌∷◌, ◌++◌, refl, ap, subst}
+use Rattle.std.proofs.Common.{◌≡◌, ℕ, ◌+◌, ◌-◌, nat_le, Bool, true, false, if◌then◌else◌, List, [], ◌∷◌, ◌++◌, length, refl, sym, ap, subst}
 use Rattle.std.specs.Prelude.{Result, Ok, Err, Option, Some, None, slice_get}
 use Rattle.pn_join.specs.Marks.{Positions}
 use Rattle.pn_stream.specs.Positions.{DeliveryValue}
 use Rattle.pn_tablet.specs.Copies.{TabletCopyValue, IsCopy}
 use Rattle.pn_tablet.specs.Copying.{copy_of}
 use Rattle.pn_tablet.specs.CopyReading.{copy_at}
+use Rattle.pn_tablet.specs.Layouts.{Bounds, IsLayout, layout_of}
 use Rattle.pn_tablet.specs.Tablets.{TabletStateValue}
 use Rattle.pn_tablet.specs.declared.copy_fault.CopyTextFault.{CopyTextFault}
 use Rattle.pn_tablet.specs.declared.fault.CopyFault.{CopyFault}
+use Rattle.pn_tablet.specs.declared.layout.LayoutFault.{LayoutFault}
 use Rattle.pn_region.specs.Events as events
 use Rattle.pn_region.specs.Events.{RegionEvent, LeadsTo, AllLeadTo}
 use Rattle.pn_region.specs.Logged.{LoggedRegion, breaking}
 use Rattle.pn_region.specs.Marking.{new_marks}
 use Rattle.pn_region.specs.Recovery.{losing, adopting}
 use Rattle.pn_region.specs.Regions.{RegionValue, IsRegion}
+use Rattle.pn_region.specs.Relayouts.{relaying}
 use Rattle.pn_region.specs.Rounds.{IsHalfTaken, round as taken_round}
 use Rattle.pn_tablet.specs.declared.fault.OpFault.{OpFault as AdoptFault}
+use Rattle.pn_region.specs.declared.fault.RelayoutFault.{RelayoutFault}
 use Rattle.pn_region.specs.declared.fault.RoundFault.{RoundFault}
 use Rattle.pn_region.proofs.EventSteps.{events_are}
 use Rattle.pn_json.specs.Lines.{line_of}
 use Rattle.pn_protocol.specs.declared.refusal.Refusal.{Refusal}
-use Rattle.pn_protocol.specs.Command.Meaning.{CommandValue, adopt, copy, deliver, get, lose, marks, notices, read, scan, tablets}
+use Rattle.pn_protocol.specs.Command.Meaning.{CommandValue, adopt, copy, deliver, get, lose, marks, notices, read, relayout, scan, tablets}
 use Rattle.pn_protocol.specs.Command.Lines.{command_at}
 use Rattle.pn_serve.specs.Machine.Announced.{unless_call, with_line}
 use Rattle.pn_serve.specs.Machine.Doing.{delivering}
 use Rattle.pn_serve.specs.Machine.Outcomes.{Outcome, done, line, call, round, Mode, idle, announced, Machine, Turn, logged, silent}
 use Rattle.pn_serve.specs.Machine.PartRounds.{partly_marked}
 use Rattle.pn_serve.specs.Machine.Recovering.{at_tablet, showing_copy, copying, losing_it, adopted, adopting_read, adopting_text}
+use Rattle.pn_serve.specs.Machine.Relaying.{relaid_turn, relaying_it}
 use Rattle.pn_serve.specs.Machine.LastTurns.{last_of, end_in, end_turn}
 use Rattle.pn_serve.specs.Machine.Turns.{turn_of, outcome_at, turn_in, turn}
 use Rattle.pn_protocol.specs.Reply.Short.{lost_data}
@@ -37,6 +42,7 @@ use Rattle.pn_serve.specs.Script.Inputs.{InputEnd, Input, ended, after_input}
 use Rattle.pn_serve.specs.Script.Written.{first_outcome, later_outcomes, machine_after}
 use Rattle.pn_serve.proofs.PartRounds.{partly_is, partly_none}
 use Rattle.pn_serve.proofs.ReadCopies.{read_is}
+use Rattle.pn_serve.proofs.Relaying.{lawful_bounds}
 
 -- no event leads nowhere, and one event to what it leads to
 abbrev pub OneLeads : List RegionEvent → RegionValue → RegionValue → Type 0
@@ -84,6 +90,22 @@ found_leads m tablet (Some state) = refl
 loss_leads : (m : Machine) (tablet : ℕ) → OneLeads (unless_refused (losing_it m tablet) (events.loss tablet)) m.region (losing_it m tablet).machine.region
 loss_leads m tablet = found_leads m tablet (slice_get m.region.tablets tablet)
 
+relaid_leads : (m : Machine) (bounds : Bounds) (count : ℕ) (right : Result RegionValue RelayoutFault) → IsLayout bounds → relaying m.region bounds ≡ right
+    → OneLeads (unless_refused (relaid_turn m count right) (events.relayout bounds)) m.region (relaid_turn m count right).machine.region
+relaid_leads m bounds count (Ok after) lawful is = record { lawful = lawful; relaid = is }
+relaid_leads m bounds count (Err fault) lawful is = refl
+
+relaid_by : (m : Machine) (bounds : Bounds) (right : Result Bounds LayoutFault) → layout_of bounds ≡ right
+    → OneLeads (unless_refused (relaying_it m right) (events.relayout bounds)) m.region (relaying_it m right).machine.region
+relaid_by m bounds (Err fault) is = refl
+relaid_by m bounds (Ok layout) is =
+    let lawful = lawful_bounds bounds layout is in
+    subst (λ (b : Bounds). OneLeads (unless_refused (relaying_it m (Ok b)) (events.relayout bounds)) m.region (relaying_it m (Ok b)).machine.region) (sym lawful.0)
+    (relaid_leads m bounds (length bounds + 1) (relaying m.region bounds) lawful.1 refl)
+
+relay_leads : (m : Machine) (bounds : Bounds) → OneLeads (unless_refused (relaying_it m (layout_of bounds)) (events.relayout bounds)) m.region (relaying_it m (layout_of bounds)).machine.region
+relay_leads m bounds = relaid_by m bounds (layout_of bounds) refl
+
 done_leads : (m : Machine) (said : Result CommandValue Refusal) → OneLeads (happened_by m done said) m.region (turn_of m done said).machine.region
 done_leads m (Ok (adopt lines)) = refl
 done_leads m (Ok (copy need tablet)) = copy_stays m need tablet
@@ -93,6 +115,7 @@ done_leads m (Ok (lose tablet)) = loss_leads m tablet
 done_leads m (Ok marks) = refl
 done_leads m (Ok (notices since)) = refl
 done_leads m (Ok (read key version)) = refl
+done_leads m (Ok (relayout bounds)) = relay_leads m bounds
 done_leads m (Ok (scan query)) = refl
 done_leads m (Ok tablets) = refl
 done_leads m (Err refusal) = refl
@@ -106,6 +129,7 @@ call_leads m (Ok (lose tablet)) = loss_leads m tablet
 call_leads m (Ok marks) = refl
 call_leads m (Ok (notices since)) = refl
 call_leads m (Ok (read key version)) = refl
+call_leads m (Ok (relayout bounds)) = refl
 call_leads m (Ok (scan query)) = refl
 call_leads m (Ok tablets) = refl
 call_leads m (Err refusal) = refl
@@ -119,6 +143,7 @@ partly_leads m flags (Ok (lose tablet)) is = loss_leads m tablet
 partly_leads m flags (Ok marks) is = refl
 partly_leads m flags (Ok (notices since)) is = refl
 partly_leads m flags (Ok (read key version)) is = refl
+partly_leads m flags (Ok (relayout bounds)) is = relay_leads m bounds
 partly_leads m flags (Ok (scan query)) is = refl
 partly_leads m flags (Ok tablets) is = refl
 partly_leads m flags (Err refusal) is = refl
@@ -183,6 +208,9 @@ last_leads m (round flags) (Ok (notices since)) is = partly_leads m flags (Ok (n
 last_leads m done (Ok (read key version)) is = done_leads m (Ok (read key version))
 last_leads m call (Ok (read key version)) is = call_leads m (Ok (read key version))
 last_leads m (round flags) (Ok (read key version)) is = partly_leads m flags (Ok (read key version)) is
+last_leads m done (Ok (relayout bounds)) is = done_leads m (Ok (relayout bounds))
+last_leads m call (Ok (relayout bounds)) is = call_leads m (Ok (relayout bounds))
+last_leads m (round flags) (Ok (relayout bounds)) is = partly_leads m flags (Ok (relayout bounds)) is
 last_leads m done (Ok (scan query)) is = done_leads m (Ok (scan query))
 last_leads m call (Ok (scan query)) is = call_leads m (Ok (scan query))
 last_leads m (round flags) (Ok (scan query)) is = partly_leads m flags (Ok (scan query)) is

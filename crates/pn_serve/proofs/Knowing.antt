@@ -9,7 +9,7 @@ use Rattle.pn_live.proofs.Knowing.{all_know_themselves, all_know_on, looks_know,
 use Rattle.pn_protocol.specs.declared.refusal.Refusal.{Refusal}
 use Rattle.pn_protocol.specs.declared.reply.Reply.{Reply}
 use Rattle.pn_protocol.specs.Command.Lines.{lookup_at}
-use Rattle.pn_protocol.specs.Command.Meaning.{CommandValue, adopt, copy, deliver, get, lose, marks, notices, read, scan, tablets}
+use Rattle.pn_protocol.specs.Command.Meaning.{CommandValue, adopt, copy, deliver, get, lose, marks, notices, read, relayout, scan, tablets}
 use Rattle.pn_serve.specs.Session.Knowing.{KnowsNoLess}
 use Rattle.pn_serve.specs.Session.Lines.{LooksUp, Tells, AnswersLine}
 
@@ -43,6 +43,7 @@ command_knows old new (deliver deliveries) reply refuses = knows_same old new re
 command_knows old new (lose tablet) reply refuses = knows_same old new refuses.0
 command_knows old new marks reply refuses = knows_same old new refuses.0
 command_knows old new (notices since) reply refuses = knows_same old new refuses.0
+command_knows old new (relayout bounds) reply refuses = knows_same old new refuses.0
 command_knows old new tablets reply refuses = knows_same old new refuses.0
 
 said_knows : (old new : LiveReaderValue) (said : Result CommandValue Refusal) (reply : Reply) → Tells old said new reply → KnowsNoLess old new

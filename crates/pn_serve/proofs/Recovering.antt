@@ -24,7 +24,7 @@ use Rattle.pn_tablet.specs.declared.fault.OpFault.{OpFault as AdoptFault}
 use Rattle.pn_tablet.specs.declared.fault.OpFault.TheVariants as adoption
 use Rattle.pn_region.proofs.NewRegion.{tablet_count}
 use Rattle.pn_protocol.specs.declared.reply.Reply.{Reply}
-use Rattle.pn_protocol.specs.declared.reply.Reply.TheVariants.{Adopted, Changed, Copied, Lost, Silent, Text, Refused, NotTaken}
+use Rattle.pn_protocol.specs.declared.reply.Reply.TheVariants.{Adopted, Changed, Copied, Lost, Relaid, Silent, Text, Refused, NotTaken}
 use Rattle.pn_protocol.specs.declared.refusal.Part.TheVariants.{Tablet}
 use Rattle.pn_protocol.specs.declared.refusal.Refusal.TheVariants.{OutOfRange, Memory}
 use Rattle.pn_protocol.specs.Command.Meaning.{CommandValue, copy, lose}
@@ -45,19 +45,20 @@ abbrev telling : LoggedRegion → Data → Turn
 telling region said = record { machine = waiting region; reply = line_of said; refused = true }
 
 -- a refusal was answered, or memory ran out
-told : (turn : Turn) (old new : LoggedRegion) (right : Type 0) (said : Data) (reply : Reply) → new ≡ old → (right → turn ≡ telling old said) → Tells right said reply → ComesTo turn old new reply
+pub told : (turn : Turn) (old new : LoggedRegion) (right : Type 0) (said : Data) (reply : Reply) → new ≡ old → (right → turn ≡ telling old said) → Tells right said reply → ComesTo turn old new reply
 told turn old new right said (NotTaken text) same is (knows, says) =
     inl (ap (λ (t : Turn). t.machine) (is knows) ∙ ap waiting (sym same), ap (λ (t : Turn). t.reply) (is knows) ∙ sym says, ap (λ (t : Turn). t.refused) (is knows))
 told turn old new right said (Adopted tablet) same is tells = inr (same, tells)
 told turn old new right said (Changed count) same is tells = inr (same, tells)
 told turn old new right said (Copied lines text) same is tells = inr (same, tells)
 told turn old new right said (Lost tablet) same is tells = inr (same, tells)
+told turn old new right said (Relaid count) same is tells = inr (same, tells)
 told turn old new right said Silent same is tells = inr (same, tells)
 told turn old new right said (Text text) same is tells = inr (same, tells)
 told turn old new right said (Refused refusal) same is tells = inr (same, tells)
 
 -- a turn that other turns come to
-came_as : (one other : Turn) (old new : LoggedRegion) (reply : Reply) → one ≡ other → ComesTo other old new reply → ComesTo one old new reply
+pub came_as : (one other : Turn) (old new : LoggedRegion) (reply : Reply) → one ≡ other → ComesTo other old new reply → ComesTo one old new reply
 came_as one other old new reply same comes = subst (λ (t : Turn). ComesTo t old new reply) (sym same) comes
 
 -- ---- adoptions
@@ -136,6 +137,7 @@ module _ (region : LoggedRegion) (need : Positions) (tablet : ℕ) (state : Tabl
   copied_there copied (Adopted tablet) is shows = out _ shows
   copied_there copied (Changed count) is shows = out _ shows
   copied_there copied (Lost tablet) is shows = out _ shows
+  copied_there copied (Relaid count) is shows = out _ shows
   copied_there copied Silent is shows = out _ shows
   copied_there copied (Text text) is shows = out _ shows
   copied_there copied (Refused refusal) is shows = out _ shows
@@ -155,6 +157,7 @@ module _ (region : LoggedRegion) (need : Positions) (tablet : ℕ) (state : Tabl
   not_copied_there fault (Changed count) right tells = out _ tells
   not_copied_there fault (Copied lines text) right tells = out _ tells
   not_copied_there fault (Lost tablet) right tells = out _ tells
+  not_copied_there fault (Relaid count) right tells = out _ tells
   not_copied_there fault Silent right tells = out _ tells
   not_copied_there fault (Text text) right tells = out _ tells
   not_copied_there fault (Refused refusal) right tells = out _ tells

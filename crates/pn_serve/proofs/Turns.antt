@@ -19,7 +19,7 @@ use Rattle.pn_region.specs.Regions.{RegionValue}
 use Rattle.pn_region.specs.Rounds.{joins, changed, IsHalfTaken, round as taken_round}
 use Rattle.pn_region.specs.declared.fault.RoundFault.{RoundFault}
 use Rattle.pn_protocol.specs.declared.reply.Reply.{Reply}
-use Rattle.pn_protocol.specs.declared.reply.Reply.TheVariants.{Adopted, Changed, Copied, Lost, Silent, Text, Refused, NotTaken}
+use Rattle.pn_protocol.specs.declared.reply.Reply.TheVariants.{Adopted, Changed, Copied, Lost, Relaid, Silent, Text, Refused, NotTaken}
 use Rattle.pn_protocol.specs.declared.refusal.Refusal.{Refusal}
 use Rattle.pn_protocol.specs.declared.refusal.Refusal.TheVariants.{TooLong, NotJson, BadShape, ReadOnly, OutOfRange, Memory}
 use Rattle.pn_protocol.specs.Command.Meaning.{CommandValue, deliver}
@@ -173,6 +173,7 @@ module _ {A : Type 0} (region : LoggedRegion) (command : CommandValue) (show : A
   turned_why fault (Changed count) is says = no_memory (Changed count) says
   turned_why fault (Copied lines text) is says = no_memory (Copied lines text) says
   turned_why fault (Lost tablet) is says = no_memory (Lost tablet) says
+  turned_why fault (Relaid count) is says = no_memory (Relaid count) says
   turned_why fault Silent is says = no_memory Silent says
   turned_why fault (Text text) is says = no_memory (Text text) says
   turned_why fault (Refused refusal) is says = no_memory (Refused refusal) says
@@ -185,6 +186,7 @@ module _ {A : Type 0} (region : LoggedRegion) (command : CommandValue) (show : A
   turned_shown seen (Ok found) (Changed count) is shows = no_memory (Changed count) shows
   turned_shown seen (Ok found) (Copied lines text) is shows = no_memory (Copied lines text) shows
   turned_shown seen (Ok found) (Lost tablet) is shows = no_memory (Lost tablet) shows
+  turned_shown seen (Ok found) (Relaid count) is shows = no_memory (Relaid count) shows
   turned_shown seen (Ok found) Silent is shows = no_memory Silent shows
   turned_shown seen (Ok found) (Refused refusal) is shows = no_memory (Refused refusal) shows
   turned_shown seen (Ok found) (NotTaken text) is shows = no_memory (NotTaken text) shows
