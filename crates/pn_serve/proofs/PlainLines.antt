@@ -1,5 +1,5 @@
 -- Inputs without losses and adoptions.
-use Rattle.std.proofs.Common.{◌≡◌, ℕ, Bool, true, false, List, [], ◌∷◌, ◌++◌, refl, sym, subst}
+use Rattle.std.proofs.Common.{◌≡◌, ℕ, ◌+◌, Bool, true, false, List, [], ◌∷◌, ◌++◌, length, refl, sym, subst}
 use Rattle.std.specs.Prelude.{Result, Ok, Err, Option, Some, None, slice_get}
 use Rattle.std.proofs.lemmas.List.Elements.{All-head, All-tail, All-nil, All-cons}
 use Rattle.pn_line.specs.Text.{last_line}
@@ -8,22 +8,26 @@ use Rattle.pn_stream.specs.Brokers.{BrokerRecord}
 use Rattle.pn_stream.specs.Positions.{DeliveryValue}
 use Rattle.pn_tablet.specs.Copies.{TabletCopyValue}
 use Rattle.pn_tablet.specs.Copying.{copy_of}
-use Rattle.pn_tablet.specs.Layouts.{Bounds}
+use Rattle.pn_tablet.specs.Layouts.{Bounds, layout_of}
 use Rattle.pn_tablet.specs.Tablets.{TabletStateValue}
 use Rattle.pn_tablet.specs.declared.fault.CopyFault.{CopyFault}
+use Rattle.pn_tablet.specs.declared.layout.LayoutFault.{LayoutFault}
 use Rattle.pn_region.specs.Events as events
 use Rattle.pn_region.specs.Events.{RegionEvent}
 use Rattle.pn_region.specs.Marking.{new_marks}
 use Rattle.pn_region.specs.Regions.{RegionValue, new_region}
+use Rattle.pn_region.specs.Relayouts.{relaying}
 use Rattle.pn_region.specs.Rounds.{round as taken_round}
-use Rattle.pn_region.specs.Taken.{taken_by, all_taken, IsRound, AreRounds}
+use Rattle.pn_region.specs.Taken.{taken_by, all_taken, LosesNothing, LoseNothing}
+use Rattle.pn_region.specs.declared.fault.RelayoutFault.{RelayoutFault}
 use Rattle.pn_region.specs.declared.fault.RoundFault.{RoundFault}
 use Rattle.pn_protocol.specs.declared.refusal.Refusal.{Refusal}
-use Rattle.pn_protocol.specs.Command.Meaning.{CommandValue, adopt, copy, deliver, get, lose, marks, notices, read, scan, tablets}
+use Rattle.pn_protocol.specs.Command.Meaning.{CommandValue, adopt, copy, deliver, get, lose, marks, notices, read, relayout, scan, tablets}
 use Rattle.pn_protocol.specs.Command.Lines.{command_at}
 use Rattle.pn_serve.specs.Machine.Doing.{delivering}
 use Rattle.pn_serve.specs.Machine.Outcomes.{Outcome, done, line, call, round, Mode, idle, Machine, Turn, serving}
 use Rattle.pn_serve.specs.Machine.Recovering.{at_tablet, showing_copy, copying}
+use Rattle.pn_serve.specs.Machine.Relaying.{relaid_turn, relaying_it}
 use Rattle.pn_serve.specs.Machine.LastTurns.{last_of, end_in, end_turn}
 use Rattle.pn_serve.specs.Machine.Turns.{turn_of, outcome_at, turn_in, turn}
 use Rattle.pn_serve.specs.Script.Events.{unless_refused, some_tablet, half_happened, happened_by, happened_in, happened_from}
@@ -33,27 +37,28 @@ use Rattle.pn_serve.specs.Script.Losses.{KeepsTablets, NoLosses}
 use Rattle.pn_serve.specs.Script.Taken.{taken, NothingLost, Waits}
 use Rattle.pn_serve.specs.Script.Written.{first_outcome, later_outcomes, machine_after}
 
--- ---- of rounds the record of brokers says nothing
+-- ---- of what loses nothing the record of brokers says nothing
 
-taken_alike : (broker other : BrokerRecord) (event : RegionEvent) → IsRound event → taken_by broker event ≡ taken_by other event
+taken_alike : (broker other : BrokerRecord) (event : RegionEvent) → LosesNothing event → taken_by broker event ≡ taken_by other event
 taken_alike broker other (events.round deliveries) one = refl
 taken_alike broker other (events.half_round deliveries) one = refl
 taken_alike broker other (events.loss tablet) one = absurd one
 taken_alike broker other (events.adoption given) one = absurd one
+taken_alike broker other (events.relayout bounds) one = refl
 
-all_alike : (broker other : BrokerRecord) (happens : List RegionEvent) → AreRounds happens → all_taken broker happens ≡ all_taken other happens
-all_alike broker other [] rounds = refl
-all_alike broker other (event ∷ happens) rounds = λ i. taken_alike broker other event rounds.0 i ++ all_alike broker other happens rounds.1 i
+all_alike : (broker other : BrokerRecord) (happens : List RegionEvent) → LoseNothing happens → all_taken broker happens ≡ all_taken other happens
+all_alike broker other [] none = refl
+all_alike broker other (event ∷ happens) none = λ i. taken_alike broker other event none.0 i ++ all_alike broker other happens none.1 i
 
 pub any_record : (bounds : Bounds) (broker other : BrokerRecord) (input : Input) → NothingLost (new_region bounds) input
     → taken broker (new_region bounds) input ≡ taken other (new_region bounds) input
-any_record bounds broker other input rounds = all_alike broker other (happened (new_region bounds) input) rounds
+any_record bounds broker other input none = all_alike broker other (happened (new_region bounds) input) none
 
 -- ---- lines that say no loss and no adoption
 
--- rounds alone happened, and a command is waited for
+-- nothing was lost, and a command is waited for
 pub record Plain (happens : List RegionEvent) (turn : Turn) : Type 0 where
-  pub rounds : AreRounds happens
+  pub none : LoseNothing happens
   pub waits : turn.machine.mode ≡ idle
 
 shown_waits : (m : Machine) (tablet : ℕ) (right : Result TabletCopyValue CopyFault) → m.mode ≡ idle → (showing_copy m tablet right).machine.mode ≡ idle
@@ -68,17 +73,25 @@ copy_waits m need tablet waits = at (slice_get m.region.tablets tablet)
     at (Some state) = shown_waits m tablet (copy_of state need) waits
 
 quiet : (turn : Turn) → turn.machine.mode ≡ idle → Plain [] turn
-quiet turn waits = record { rounds = tt; waits = waits }
+quiet turn waits = record { none = tt; waits = waits }
 
 round_plain : (m : Machine) (deliveries : List DeliveryValue) (right : Result RegionValue RoundFault) → m.mode ≡ idle → Plain (unless_refused (delivering m right) (events.round deliveries)) (delivering m right)
-round_plain m deliveries (Ok after) waits = record { rounds = (tt, tt); waits = waits }
-round_plain m deliveries (Err fault) waits = record { rounds = tt; waits = waits }
+round_plain m deliveries (Ok after) waits = record { none = (tt, tt); waits = waits }
+round_plain m deliveries (Err fault) waits = record { none = tt; waits = waits }
 
-half_rounds : (deliveries : List DeliveryValue) (some : Bool) (right : Result Positions RoundFault) → AreRounds (half_happened deliveries some right)
-half_rounds deliveries true (Ok next) = (tt, tt)
-half_rounds deliveries true (Err fault) = tt
-half_rounds deliveries false (Ok next) = tt
-half_rounds deliveries false (Err fault) = tt
+relaid_plain : (m : Machine) (asked : Bounds) (count : ℕ) (right : Result RegionValue RelayoutFault) → m.mode ≡ idle → Plain (unless_refused (relaid_turn m count right) (events.relayout asked)) (relaid_turn m count right)
+relaid_plain m asked count (Ok after) waits = record { none = (tt, tt); waits = waits }
+relaid_plain m asked count (Err fault) waits = record { none = tt; waits = waits }
+
+layout_plain : (m : Machine) (asked : Bounds) (right : Result Bounds LayoutFault) → m.mode ≡ idle → Plain (unless_refused (relaying_it m right) (events.relayout asked)) (relaying_it m right)
+layout_plain m asked (Ok bounds) waits = relaid_plain m asked (length bounds + 1) (relaying m.region bounds) waits
+layout_plain m asked (Err fault) waits = record { none = tt; waits = waits }
+
+half_loses : (deliveries : List DeliveryValue) (some : Bool) (right : Result Positions RoundFault) → LoseNothing (half_happened deliveries some right)
+half_loses deliveries true (Ok next) = (tt, tt)
+half_loses deliveries true (Err fault) = tt
+half_loses deliveries false (Ok next) = tt
+half_loses deliveries false (Err fault) = tt
 
 -- what no line says
 abbrev Keeping : List ℕ → Type 0
@@ -94,6 +107,7 @@ module _ (m : Machine) (waits : m.mode ≡ idle) where
   done_plain (Ok marks) stay = quiet _ waits
   done_plain (Ok (notices since)) stay = quiet _ waits
   done_plain (Ok (read key version)) stay = quiet _ waits
+  done_plain (Ok (relayout bounds)) stay = layout_plain m bounds (layout_of bounds) waits
   done_plain (Ok (scan query)) stay = quiet _ waits
   done_plain (Ok tablets) stay = quiet _ waits
   done_plain (Err refusal) stay = quiet _ waits
@@ -107,6 +121,7 @@ module _ (m : Machine) (waits : m.mode ≡ idle) where
   call_plain (Ok marks) stay = quiet _ waits
   call_plain (Ok (notices since)) stay = quiet _ waits
   call_plain (Ok (read key version)) stay = quiet _ waits
+  call_plain (Ok (relayout bounds)) stay = quiet _ waits
   call_plain (Ok (scan query)) stay = quiet _ waits
   call_plain (Ok tablets) stay = quiet _ waits
   call_plain (Err refusal) stay = quiet _ waits
@@ -114,12 +129,13 @@ module _ (m : Machine) (waits : m.mode ≡ idle) where
   partly_plain : (flags : List Bool) (said : Result CommandValue Refusal) → KeepsTablets said → Plain (happened_by m (round flags) said) (turn_of m (round flags) said)
   partly_plain flags (Ok (adopt lines)) stay = absurd stay
   partly_plain flags (Ok (copy need tablet)) stay = quiet _ (copy_waits m need tablet waits)
-  partly_plain flags (Ok (deliver deliveries)) stay = record { rounds = half_rounds deliveries (some_tablet flags m.region.tablets) (new_marks m.region.marks deliveries); waits = waits }
+  partly_plain flags (Ok (deliver deliveries)) stay = record { none = half_loses deliveries (some_tablet flags m.region.tablets) (new_marks m.region.marks deliveries); waits = waits }
   partly_plain flags (Ok (get keys)) stay = quiet _ waits
   partly_plain flags (Ok (lose tablet)) stay = absurd stay
   partly_plain flags (Ok marks) stay = quiet _ waits
   partly_plain flags (Ok (notices since)) stay = quiet _ waits
   partly_plain flags (Ok (read key version)) stay = quiet _ waits
+  partly_plain flags (Ok (relayout bounds)) stay = layout_plain m bounds (layout_of bounds) waits
   partly_plain flags (Ok (scan query)) stay = quiet _ waits
   partly_plain flags (Ok tablets) stay = quiet _ waits
   partly_plain flags (Err refusal) stay = quiet _ waits
@@ -161,6 +177,9 @@ module _ (m : Machine) (waits : m.mode ≡ idle) where
   last_plain done (Ok (read key version)) stay = done_plain (Ok (read key version)) stay
   last_plain call (Ok (read key version)) stay = call_plain (Ok (read key version)) stay
   last_plain (round flags) (Ok (read key version)) stay = partly_plain flags (Ok (read key version)) stay
+  last_plain done (Ok (relayout bounds)) stay = done_plain (Ok (relayout bounds)) stay
+  last_plain call (Ok (relayout bounds)) stay = call_plain (Ok (relayout bounds)) stay
+  last_plain (round flags) (Ok (relayout bounds)) stay = partly_plain flags (Ok (relayout bounds)) stay
   last_plain done (Ok (scan query)) stay = done_plain (Ok (scan query)) stay
   last_plain call (Ok (scan query)) stay = call_plain (Ok (scan query)) stay
   last_plain (round flags) (Ok (scan query)) stay = partly_plain flags (Ok (scan query)) stay
@@ -179,21 +198,21 @@ module _ (m : Machine) (waits : m.mode ≡ idle) where
   end_plain outcome part stay =
       subst (λ (mode : Mode). Plain (happened_after mode m outcome part) (end_in mode m outcome part)) (sym waits) (after_plain outcome part stay)
 
-  ended_plain : (end : Option InputEnd) → NoLosses (line_at_end end) → AreRounds (happened_at_end m end) × ((ended m end).mode ≡ idle)
+  ended_plain : (end : Option InputEnd) → NoLosses (line_at_end end) → LoseNothing (happened_at_end m end) × ((ended m end).mode ≡ idle)
   ended_plain None stay = (tt, waits)
-  ended_plain (Some end) stay = let plain = end_plain end.outcome end.part stay in (plain.rounds, plain.waits)
+  ended_plain (Some end) stay = let plain = end_plain end.outcome end.part stay in (plain.none, plain.waits)
 
-rounds_too : (first later : List RegionEvent) → AreRounds first → AreRounds later → AreRounds (first ++ later)
-rounds_too [] later rounds more = more
-rounds_too (event ∷ first) later rounds more = (rounds.0, rounds_too first later rounds.1 more)
+none_too : (first later : List RegionEvent) → LoseNothing first → LoseNothing later → LoseNothing (first ++ later)
+none_too [] later none more = more
+none_too (event ∷ first) later none more = (none.0, none_too first later none.1 more)
 
-lines_plain : (m : Machine) (lines : List (List ℕ)) (outcomes : List Outcome) → m.mode ≡ idle → NoLosses lines → AreRounds (happened_from m lines outcomes) × ((machine_after m lines outcomes).mode ≡ idle)
+lines_plain : (m : Machine) (lines : List (List ℕ)) (outcomes : List Outcome) → m.mode ≡ idle → NoLosses lines → LoseNothing (happened_from m lines outcomes) × ((machine_after m lines outcomes).mode ≡ idle)
 lines_plain m [] outcomes waits stay = (tt, waits)
 lines_plain m (text ∷ lines) outcomes waits stay =
     let outcome = first_outcome outcomes in
     let first = line_plain m waits outcome text (All-head Keeping text lines stay) in
     let later = lines_plain (turn m outcome text).machine lines (later_outcomes outcomes) first.waits (All-tail Keeping text lines stay) in
-    (rounds_too (happened_in m.mode m outcome text) (happened_from (turn m outcome text).machine lines (later_outcomes outcomes)) first.rounds later.0, later.1)
+    (none_too (happened_in m.mode m outcome text) (happened_from (turn m outcome text).machine lines (later_outcomes outcomes)) first.none later.0, later.1)
 
 -- what all lines of two lists keep, those of each keep
 both_keep : (lines more : List (List ℕ)) → NoLosses (lines ++ more) → NoLosses lines × NoLosses more
@@ -208,4 +227,4 @@ nothing_lost bounds input stay =
     let keep = both_keep input.lines (line_at_end input.end) stay in
     let lines = lines_plain first input.lines input.outcomes refl keep.0 in
     let last = ended_plain (machine_after first input.lines input.outcomes) lines.1 input.end keep.1 in
-    (rounds_too (happened_from first input.lines input.outcomes) (happened_at_end (machine_after first input.lines input.outcomes) input.end) lines.0 last.0, last.1)
+    (none_too (happened_from first input.lines input.outcomes) (happened_at_end (machine_after first input.lines input.outcomes) input.end) lines.0 last.0, last.1)

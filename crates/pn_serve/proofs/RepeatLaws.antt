@@ -12,7 +12,7 @@ use Rattle.pn_region.specs.Rounds.{taking}
 use Rattle.pn_region.specs.declared.fault.RoundFault.{RoundFault}
 use Rattle.pn_protocol.specs.declared.refusal.Refusal.{Refusal}
 use Rattle.pn_protocol.specs.Command.Lines.{command_at}
-use Rattle.pn_protocol.specs.Command.Meaning.{CommandValue, adopt, copy, deliver, get, lose, marks, notices, read, scan, tablets}
+use Rattle.pn_protocol.specs.Command.Meaning.{CommandValue, adopt, copy, deliver, get, lose, marks, notices, read, relayout, scan, tablets}
 use Rattle.pn_serve.specs.Machine.Announced.{unless_call, with_line}
 use Rattle.pn_serve.specs.Machine.Doing.{delivering}
 use Rattle.pn_serve.specs.Machine.LastTurns.{last_of, end_in, end_turn}
@@ -80,6 +80,9 @@ module _ (m n : Machine) (same : Same m n) where
   last_same done (Ok (read key version)) = same
   last_same call (Ok (read key version)) = same
   last_same (round flags) (Ok (read key version)) = same
+  last_same done (Ok (relayout bounds)) = said_same done (Ok (relayout bounds))
+  last_same call (Ok (relayout bounds)) = said_same call (Ok (relayout bounds))
+  last_same (round flags) (Ok (relayout bounds)) = said_same (round flags) (Ok (relayout bounds))
   last_same done (Ok (scan query)) = same
   last_same call (Ok (scan query)) = same
   last_same (round flags) (Ok (scan query)) = same

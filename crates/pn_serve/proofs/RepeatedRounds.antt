@@ -18,11 +18,12 @@ use Rattle.pn_apply.specs.Reducing.{all_images, images_in, join_in, joins_of, ra
 use Rattle.pn_region.specs.Marking.{new_marks}
 use Rattle.pn_region.specs.Recovery.{losing, stepping}
 use Rattle.pn_region.specs.Regions.{RegionValue}
+use Rattle.pn_region.specs.Relayouts.{relaid}
 use Rattle.pn_region.specs.Rising.{AllRise}
 use Rattle.pn_region.specs.Rounds.{taking, joins}
 use Rattle.pn_region.specs.Taken.{IsRound}
 use Rattle.pn_region.specs.declared.fault.RoundFault.{RoundFault}
-use Rattle.pn_region.proofs.HalfAhead.{CoversRise, all_joins_rise, join_rises, all_on, made_up}
+use Rattle.pn_region.proofs.HalfAhead.{MarksRise, tablets_rise, all_rise, all_joins_rise, all_on, made_up}
 use Rattle.pn_region.proofs.RisingMarks.{IsBelow, below_then, new_rise, new_above, new_both}
 use Rattle.pn_serve.specs.Machine.PartRounds.{some_stepped, partly_marked}
 use Rattle.pn_serve.proofs.LineSteps.{SameFace, SameFaces, Carries}
@@ -134,6 +135,7 @@ look_carries = record {
   takes_some = λ a b deliveries flags next alike is. look_takes_some a b deliveries next alike flags;
   loses = λ a b tablet alike one. absurd one;
   adopts = λ a b given tablet alike one. absurd one;
+  relays = λ a b bounds alike one. absurd one;
 }
 
 -- ---- regions of which one took part of a round
@@ -155,6 +157,9 @@ module _ (deliveries : List DeliveryValue) where
     rise_first : Rise ahead.first
     rise_first = new_rise ahead.base ahead.first deliveries ahead.accepted ahead.rise_base
 
+    tablets_were : MarksRise b.tablets
+    tablets_were = tablets_rise b ahead.rise
+
     module _ (more : List DeliveryValue) (next : Positions) (is : new_marks a.marks more ≡ Ok next) where
       is_too : new_marks b.marks more ≡ Ok next
       is_too = ap (λ (at : Positions). new_marks at more) (sym ahead.marks) ∙ is
@@ -175,11 +180,11 @@ module _ (deliveries : List DeliveryValue) where
         layout = ahead.layout;
         marks = refl;
         tablets = subst (λ (layout : Bounds). Both (all_stepped b.tablets (joins b more next)) (all_stepped a.tablets (joins_of layout next (all_images more)))) (sym ahead.layout) (
-            all_on ahead.first (all_images deliveries) rise_first next (all_images more) rise_next (ranges b.layout) b.tablets a.tablets ahead.rise.covers ahead.tablets);
-        rise = record { marks = rise_next; covers = all_joins_rise next (all_images more) (ranges b.layout) b.tablets ahead.rise.covers };
+            all_on ahead.first (all_images deliveries) rise_first next (all_images more) rise_next (ranges b.layout) b.tablets a.tablets tablets_were ahead.tablets);
+        rise = all_rise (taking b more next) rise_next (all_joins_rise next (all_images more) (ranges b.layout) b.tablets tablets_were);
       }
 
-      some_on : (flags : List Bool) (rs : List Ends) (ts us : List TabletStateValue) → CoversRise ts → AreOldOrStepped ts (map (join_in ahead.first (all_images deliveries)) rs) us
+      some_on : (flags : List Bool) (rs : List Ends) (ts us : List TabletStateValue) → MarksRise ts → AreOldOrStepped ts (map (join_in ahead.first (all_images deliveries)) rs) us
           → AreOldOrStepped (some_stepped flags ts (map (join_in next (all_images more)) rs)) (map (join_in ahead.first (all_images deliveries)) rs) (some_stepped flags us (map (join_in next (all_images more)) rs))
       some_on [] rs ts us rise half = half
       some_on (flag ∷ flags) [] [] [] rise half = tt
@@ -191,11 +196,11 @@ module _ (deliveries : List DeliveryValue) where
           ((all_on ahead.first (all_images deliveries) rise_first next (all_images more) rise_next (r ∷ []) (t ∷ []) (u ∷ []) (rise.0, tt) (half.0, tt)).0, some_on flags rs ts us rise.1 half.1)
       some_on (false ∷ flags) (r ∷ rs) (t ∷ ts) (u ∷ us) rise half = (half.0, some_on flags rs ts us rise.1 half.1)
 
-      some_rise : (flags : List Bool) (rs : List Ends) (ts : List TabletStateValue) → CoversRise ts → CoversRise (some_stepped flags ts (map (join_in next (all_images more)) rs))
+      some_rise : (flags : List Bool) (rs : List Ends) (ts : List TabletStateValue) → MarksRise ts → MarksRise (some_stepped flags ts (map (join_in next (all_images more)) rs))
       some_rise [] rs ts rise = rise
       some_rise (flag ∷ flags) rs [] rise = tt
       some_rise (flag ∷ flags) [] (t ∷ ts) rise = rise
-      some_rise (true ∷ flags) (r ∷ rs) (t ∷ ts) rise = (join_rises t (table_of (images_in r (all_images more))) next rise.0, some_rise flags rs ts rise.1)
+      some_rise (true ∷ flags) (r ∷ rs) (t ∷ ts) rise = ((all_joins_rise next (all_images more) (r ∷ []) (t ∷ []) (rise.0, tt)).0, some_rise flags rs ts rise.1)
       some_rise (false ∷ flags) (r ∷ rs) (t ∷ ts) rise = (rise.0, some_rise flags rs ts rise.1)
 
       ahead_takes_some : (flags : List Bool) → RunsAhead (partly_marked a more flags (Ok next)) (partly_marked b more flags (Ok next))
@@ -208,8 +213,8 @@ module _ (deliveries : List DeliveryValue) where
         layout = ahead.layout;
         marks = ahead.marks;
         tablets = subst (λ (layout : Bounds). Both (some_stepped flags b.tablets (joins b more next)) (some_stepped flags a.tablets (joins_of layout next (all_images more)))) (sym ahead.layout) (
-            some_on flags (ranges b.layout) b.tablets a.tablets ahead.rise.covers ahead.tablets);
-        rise = record { marks = ahead.rise.marks; covers = some_rise flags (ranges b.layout) b.tablets ahead.rise.covers };
+            some_on flags (ranges b.layout) b.tablets a.tablets tablets_were ahead.tablets);
+        rise = all_rise (partly_marked b more flags (Ok next)) ahead.rise.marks (some_rise flags (ranges b.layout) b.tablets tablets_were);
       }
 
     -- the round itself makes both the same
@@ -218,7 +223,7 @@ module _ (deliveries : List DeliveryValue) where
         let again = is_too deliveries last is in
         let rise_last = rise_next deliveries last is in
         let above = new_both ahead.base b.marks ahead.first last deliveries ahead.accepted again ahead.rise_base ahead.rise.marks ahead.below in
-        let made = made_up ahead.first (all_images deliveries) rise_first last rise_last above (ranges b.layout) b.tablets a.tablets ahead.rise.covers ahead.tablets in
+        let made = made_up ahead.first (all_images deliveries) rise_first last rise_last above (ranges b.layout) b.tablets a.tablets tablets_were ahead.tablets in
         (λ i. record { layout = ahead.layout i; tablets = all_stepped a.tablets (joins_of (ahead.layout i) last (all_images deliveries)); marks = last })
         ∙ (λ i. record { layout = b.layout; tablets = made i; marks = last })
 
@@ -233,6 +238,7 @@ module _ (deliveries : List DeliveryValue) where
     takes_some = λ a b more flags next ahead is. ahead_takes_some a b ahead more next is flags;
     loses = λ a b tablet ahead one. absurd one;
     adopts = λ a b given tablet ahead one. absurd one;
+    relays = λ a b bounds ahead one. absurd one;
   }
 
 -- ---- equal regions
@@ -245,4 +251,5 @@ equal_carries = record {
   takes_some = λ a b deliveries flags next same is. ap (λ (r : RegionValue). partly_marked r deliveries flags (Ok next)) same;
   loses = λ a b tablet same any. ap (λ (r : RegionValue). losing r tablet) same;
   adopts = λ a b given tablet same any. ap (λ (r : RegionValue). stepping r tablet (Adopt given)) same;
+  relays = λ a b bounds same any. ap (λ (r : RegionValue). relaid r bounds) same;
 }

@@ -1,30 +1,35 @@
 -- Machines with the same region, which wait for the same, reply alike to lines that ask for no notices.
-use Rattle.std.proofs.Common.{◌≡◌, ℕ, ◌-◌, nat_le, Bool, true, false, if◌then◌else◌, List, [], ◌∷◌, refl, ◌∙◌}
+use Rattle.std.proofs.Common.{◌≡◌, ℕ, ◌+◌, ◌-◌, nat_le, Bool, true, false, if◌then◌else◌, List, [], ◌∷◌, length, refl, ◌∙◌}
 use Rattle.std.specs.Prelude.{Result, Ok, Err, Option, Some, None, slice_get}
 use Rattle.pn_join.specs.Marks.{Positions}
 use Rattle.pn_tablet.specs.Copies.{TabletCopyValue}
 use Rattle.pn_tablet.specs.Copying.{copy_of}
 use Rattle.pn_tablet.specs.CopyReading.{copy_at}
+use Rattle.pn_tablet.specs.Layouts.{Bounds, layout_of}
 use Rattle.pn_tablet.specs.Tablets.{TabletStateValue}
 use Rattle.pn_tablet.specs.declared.copy_fault.CopyTextFault.{CopyTextFault}
 use Rattle.pn_tablet.specs.declared.fault.CopyFault.{CopyFault}
+use Rattle.pn_tablet.specs.declared.layout.LayoutFault.{LayoutFault}
 use Rattle.pn_tablet.specs.declared.fault.OpFault.{OpFault as AdoptFault}
 use Rattle.pn_region.specs.Logged.{breaking}
 use Rattle.pn_region.specs.Recovery.{losing, adopting}
 use Rattle.pn_region.specs.Regions.{RegionValue}
+use Rattle.pn_region.specs.Relayouts.{relaying}
 use Rattle.pn_region.specs.Rounds.{round as taken_round}
 use Rattle.pn_region.specs.declared.entry.Entry.{Entry}
+use Rattle.pn_region.specs.declared.fault.RelayoutFault.{RelayoutFault}
 use Rattle.pn_region.specs.declared.fault.RoundFault.{RoundFault}
 use Rattle.pn_json.specs.Lines.{line_of}
 use Rattle.pn_protocol.specs.declared.refusal.Refusal.{Refusal}
 use Rattle.pn_protocol.specs.Command.Lines.{command_at}
-use Rattle.pn_protocol.specs.Command.Meaning.{CommandValue, adopt, copy, deliver, get, lose, marks, notices, read, scan, tablets}
+use Rattle.pn_protocol.specs.Command.Meaning.{CommandValue, adopt, copy, deliver, get, lose, marks, notices, read, relayout, scan, tablets}
 use Rattle.pn_protocol.specs.Reply.Short.{lost_data}
 use Rattle.pn_serve.specs.Machine.Announced.{unless_call, with_line}
 use Rattle.pn_serve.specs.Machine.Doing.{delivering}
 use Rattle.pn_serve.specs.Machine.LastTurns.{obeying_last, last_of, end_in, end_turn}
 use Rattle.pn_serve.specs.Machine.Outcomes.{Outcome, done, line, call, round, Mode, idle, announced, Machine, Turn, logged, silent}
 use Rattle.pn_serve.specs.Machine.Recovering.{at_tablet, showing_copy, copying, losing_it, adopted, adopting_read, adopting_text}
+use Rattle.pn_serve.specs.Machine.Relaying.{relaid_turn, relaying_it}
 use Rattle.pn_serve.specs.Machine.Turns.{obeying, turn_of, outcome_at, turn_in, turn}
 use Rattle.pn_serve.specs.Script.Lines.{AsksNoNotices}
 use Rattle.pn_serve.proofs.RepeatLaws.{Same}
@@ -65,6 +70,14 @@ module _ (mode : Mode) (region : RegionValue) (log others : List Entry) where
   loss_replies : (tablet : ℕ) → Replies (losing_it m tablet) (losing_it n tablet)
   loss_replies tablet = loss_by tablet (slice_get region.tablets tablet)
 
+  relaid_replies : (count : ℕ) (right : Result RegionValue RelayoutFault) → Replies (relaid_turn m count right) (relaid_turn n count right)
+  relaid_replies count (Ok after) = refl
+  relaid_replies count (Err fault) = refl
+
+  layout_replies : (right : Result Bounds LayoutFault) → Replies (relaying_it m right) (relaying_it n right)
+  layout_replies (Ok bounds) = relaid_replies (length bounds + 1) (relaying region bounds)
+  layout_replies (Err fault) = refl
+
   obey_replies : (outcome : Outcome) (command : CommandValue) → AsksNoNotices (Ok command) → Replies (obeying m outcome command) (obeying n outcome command)
   obey_replies done (adopt lines) free = refl
   obey_replies line (adopt lines) free = refl
@@ -95,6 +108,10 @@ module _ (mode : Mode) (region : RegionValue) (log others : List Entry) where
   obey_replies line (read key version) free = refl
   obey_replies call (read key version) free = refl
   obey_replies (round flags) (read key version) free = refl
+  obey_replies done (relayout bounds) free = layout_replies (layout_of bounds)
+  obey_replies line (relayout bounds) free = layout_replies (layout_of bounds)
+  obey_replies call (relayout bounds) free = refl
+  obey_replies (round flags) (relayout bounds) free = layout_replies (layout_of bounds)
   obey_replies done (scan query) free = refl
   obey_replies line (scan query) free = refl
   obey_replies call (scan query) free = refl
@@ -143,6 +160,7 @@ module _ (mode : Mode) (region : RegionValue) (log others : List Entry) where
   obey_last_replies outcome marks free = obey_replies outcome marks free
   obey_last_replies outcome (notices since) free = absurd free
   obey_last_replies outcome (read key version) free = obey_replies outcome (read key version) free
+  obey_last_replies outcome (relayout bounds) free = obey_replies outcome (relayout bounds) free
   obey_last_replies outcome (scan query) free = obey_replies outcome (scan query) free
   obey_last_replies outcome tablets free = obey_replies outcome tablets free
 

@@ -6,17 +6,18 @@ use Rattle.pn_record.specs.Order.{bytes_cmp}
 use Rattle.pn_record.specs.CellMap.{Entries, table_of}
 use Rattle.pn_stream.specs.Brokers.{BrokerRecord}
 use Rattle.pn_tablet.specs.Layouts.{Bounds, IsLayout}
-use Rattle.pn_region.specs.Events.{RegionEvent, round, half_round, loss, adoption, LeadsTo, AllLeadTo, AreHonestEvents}
+use Rattle.pn_region.specs.Events.{RegionEvent, round, half_round, loss, adoption, relayout as other_layout, LeadsTo, AllLeadTo, AreHonestEvents}
 use Rattle.pn_region.specs.Held.{HoldsStill}
 use Rattle.pn_region.specs.Regions.{RegionValue, IsRegion, new_region, all_cells}
 use Rattle.pn_region.specs.Serving.{AllServe, ServesAt}
-use Rattle.pn_region.specs.Taken.{IsRound, AreRounds}
+use Rattle.pn_region.specs.Taken.{LosesNothing, LoseNothing}
 use Rattle.pn_region.proofs.EventImages.{taken_together, rounds_together, alike}
-use Rattle.pn_region.proofs.Events.{events_faithful}
+use Rattle.pn_region.proofs.FaithfulEvents.{events_faithful}
 use Rattle.pn_region.proofs.EventSteps.{takes, events_are}
 use Rattle.pn_region.proofs.Faith.{new_faithful}
 use Rattle.pn_region.proofs.NewRegion.{new_is}
 use Rattle.pn_region.proofs.ReadLaws.{read_of_all, get_of_all, page_of_all}
+use Rattle.pn_region.proofs.Relaying.{relays}
 use Rattle.pn_region.proofs.ServedRecords.{event_record, events_record}
 use Rattle.pn_region.proofs.ServingTablets.{new_serves, taken_serves, half_serves}
 use Rattle.pn_region.proofs.StillHeld.{itself_held}
@@ -28,7 +29,7 @@ use Rattle.serde_json.specs.Data.{Data}
 use Rattle.pn_json.specs.Lines.{line_of}
 use Rattle.pn_protocol.specs.declared.refusal.Refusal.{Refusal}
 use Rattle.pn_protocol.specs.declared.refusal.Refusal.TheVariants.{Memory}
-use Rattle.pn_protocol.specs.Command.Meaning.{CommandValue, adopt, copy, deliver, get, lose, marks, notices, read, scan, tablets}
+use Rattle.pn_protocol.specs.Command.Meaning.{CommandValue, adopt, copy, deliver, get, lose, marks, notices, read, relayout, scan, tablets}
 use Rattle.pn_protocol.specs.Command.Lines.{command_at}
 use Rattle.pn_protocol.specs.Command.Lookups.{AsksForRecords}
 use Rattle.pn_serve.specs.Machine.Doing.{found_data, looking}
@@ -49,18 +50,19 @@ use Rattle.pn_serve.proofs.Happened.{OneLeads, line_leads, end_leads, input_lead
 pub new_one : (bounds : Bounds) → IsLayout bounds → IsRegion (new_region bounds)
 new_one bounds lawful = new_is bounds (new_region bounds).tablets [] lawful refl refl
 
--- rounds leave tablets serving
-round_serves : (event : RegionEvent) (old new : RegionValue) → IsRound event → LeadsTo event old new → AllServe old → AllServe new
-round_serves (round deliveries) old new one leads serve =
+-- what loses nothing leaves tablets serving
+event_serves : (event : RegionEvent) (old new : RegionValue) → LosesNothing event → LeadsTo event old new → AllServe old → AllServe new
+event_serves (round deliveries) old new one leads serve =
     let took = takes old deliveries new leads in
     subst AllServe (sym took.is) (taken_serves old deliveries took.marks serve)
-round_serves (half_round deliveries) old new one leads serve = half_serves old new deliveries serve leads
-round_serves (loss n) old new one leads serve = absurd one
-round_serves (adoption given) old new one leads serve = absurd one
+event_serves (half_round deliveries) old new one leads serve = half_serves old new deliveries serve leads
+event_serves (loss n) old new one leads serve = absurd one
+event_serves (adoption given) old new one leads serve = absurd one
+event_serves (other_layout bounds) old new one leads serve = (relays old new bounds leads.relaid).serve
 
-rounds_serve : (events : List RegionEvent) (old new : RegionValue) → AreRounds events → AllLeadTo events old new → AllServe old → AllServe new
-rounds_serve [] old new rounds lead serve = subst AllServe (sym lead) serve
-rounds_serve (event ∷ events) old new rounds lead serve = rounds_serve events lead.0 new rounds.1 lead.2 (round_serves event old lead.0 rounds.0 lead.1 serve)
+events_serve : (events : List RegionEvent) (old new : RegionValue) → LoseNothing events → AllLeadTo events old new → AllServe old → AllServe new
+events_serve [] old new none lead serve = subst AllServe (sym lead) serve
+events_serve (event ∷ events) old new none lead serve = events_serve events lead.0 new none.1 lead.2 (event_serves event old lead.0 none.0 lead.1 serve)
 
 -- an input of a new region
 module _ (broker : BrokerRecord) (bounds : Bounds) (lawful : IsLayout bounds) (input : Input) where
@@ -74,7 +76,7 @@ module _ (broker : BrokerRecord) (bounds : Bounds) (lawful : IsLayout bounds) (i
   after_is = events_are (happened (new_region bounds) input) (new_region bounds) after (new_one bounds lawful) lead_after
 
   whole_serves : NothingLost (new_region bounds) input ⊎ (AllHonest broker (new_region bounds) input × AllServe after) → AllServe after
-  whole_serves (inl rounds) = rounds_serve (happened (new_region bounds) input) (new_region bounds) after rounds lead_after (new_serves bounds)
+  whole_serves (inl none) = events_serve (happened (new_region bounds) input) (new_region bounds) after none lead_after (new_serves bounds)
   whole_serves (inr honest) = honest.1
 
   pub serves : Settled broker (new_region bounds) input → AllServe after
@@ -82,7 +84,7 @@ module _ (broker : BrokerRecord) (bounds : Bounds) (lawful : IsLayout bounds) (i
 
   pub held_records : Settled broker (new_region bounds) input → all_cells after ≡ table_of (taken broker (new_region bounds) input)
   held_records settled = elim settled.whole [
-    | inl rounds ↦ rounds_together broker bounds (happened (new_region bounds) input) after lawful lead_after rounds settled.retried
+    | inl none ↦ rounds_together broker bounds (happened (new_region bounds) input) after lawful lead_after none settled.retried
     | inr honest ↦ taken_together broker bounds (happened (new_region bounds) input) after lawful lead_after honest.0 honest.1 settled.retried
   ]
 
@@ -120,6 +122,7 @@ look_alike m n (Ok marks) looks is too same = absurd looks
 look_alike m n (Ok (read key version)) looks is too same =
     found_alike m n (read_data key) _ _
     (read_of_all m.region is.0 is.1 key version ∙ ap (λ (cells : Entries). unless_behind version (find bytes_cmp key cells)) same ∙ sym (read_of_all n.region too.0 too.1 key version))
+look_alike m n (Ok (relayout bounds)) looks is too same = absurd looks
 look_alike m n (Ok (scan query)) looks is too same =
     found_alike m n scan_data _ _
     (page_of_all m.region is.0 is.1 query ∙ ap (λ (cells : Entries). Ok (first_page query (shown_rows query cells))) same ∙ sym (page_of_all n.region too.0 too.1 query))
@@ -144,6 +147,7 @@ as_it_says m call said asks = called said asks
     called (Ok (notices since)) asks = absurd asks
     called (Ok marks) asks = absurd asks
     called (Ok (read key version)) asks = inl refl
+    called (Ok (relayout bounds)) asks = absurd asks
     called (Ok (scan query)) asks = inl refl
     called (Ok tablets) asks = absurd asks
     called (Err refusal) asks = absurd asks
@@ -158,6 +162,7 @@ as_it_says m (in_part flags) said asks = partly said asks
     partly (Ok (notices since)) asks = absurd asks
     partly (Ok marks) asks = absurd asks
     partly (Ok (read key version)) asks = inr refl
+    partly (Ok (relayout bounds)) asks = absurd asks
     partly (Ok (scan query)) asks = inr refl
     partly (Ok tablets) asks = absurd asks
     partly (Err refusal) asks = absurd asks
@@ -170,6 +175,7 @@ last_alike m outcome (Ok (deliver deliveries)) asks = absurd asks
 last_alike m outcome (Ok (lose tablet)) asks = absurd asks
 last_alike m outcome (Ok (notices since)) asks = absurd asks
 last_alike m outcome (Ok marks) asks = absurd asks
+last_alike m outcome (Ok (relayout bounds)) asks = absurd asks
 last_alike m outcome (Ok tablets) asks = absurd asks
 last_alike m outcome (Err refusal) asks = absurd asks
 last_alike m done (Ok (get keys)) asks = refl
