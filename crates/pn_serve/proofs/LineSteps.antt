@@ -1,91 +1,45 @@
 -- What a line does to two machines whose regions are alike.
-use Rattle.std.proofs.Common.{◌≡◌, ℕ, zero, suc, ◌+◌, ◌-◌, nat_le, nat_lt, Bool, true, false, cond, not, if◌then◌else◌, List, [], ◌∷◌, length, take, refl, sym, ap, subst}
+use Rattle.std.proofs.Common.{◌≡◌, ℕ, ◌+◌, ◌-◌, nat_le, Bool, true, false, if◌then◌else◌, List, [], ◌∷◌, length, take, refl, sym, ap, subst}
 use Rattle.std.specs.Prelude.{Result, Ok, Err, Option, Some, None, slice_get}
-use Rattle.std.specs.List.{AllByRecursion, list_any, prefix_len}
-use Rattle.std.specs.Option.{option_and_then}
+use Rattle.std.specs.List.{AllByRecursion, list_any}
 use Rattle.std.specs.Result.{result_map_both}
 use Rattle.pn_join.specs.Marks.{Positions}
 use Rattle.pn_stream.specs.Positions.{DeliveryValue}
 use Rattle.pn_tablet.specs.Copies.{TabletCopyValue}
 use Rattle.pn_tablet.specs.Copying.{copy_of}
 use Rattle.pn_tablet.specs.CopyReading.{copy_at}
-use Rattle.pn_tablet.specs.Needs.{lacking}
-use Rattle.pn_tablet.specs.Tablets.{TabletStateValue, same_range}
+use Rattle.pn_tablet.specs.Layouts.{Bounds, layout_of}
+use Rattle.pn_tablet.specs.Tablets.{TabletStateValue}
 use Rattle.pn_tablet.specs.declared.copy_fault.CopyTextFault.{CopyTextFault}
 use Rattle.pn_tablet.specs.declared.fault.CopyFault.{CopyFault}
+use Rattle.pn_tablet.specs.declared.layout.LayoutFault.{LayoutFault}
 use Rattle.pn_tablet.specs.declared.needs.Short.{Short}
 use Rattle.pn_tablet.specs.declared.op.TabletOp.TheVariants.{Adopt}
-use Rattle.pn_tablet.specs.declared.state.Status.{Status}
 use Rattle.pn_region.specs.Events as events
 use Rattle.pn_region.specs.Events.{RegionEvent}
 use Rattle.pn_region.specs.Logged.{breaking}
 use Rattle.pn_region.specs.Marking.{new_marks}
 use Rattle.pn_region.specs.Recovery.{losing, stepping, tablet_for, lacks, adopting_unless, adopting_by}
 use Rattle.pn_region.specs.Regions.{RegionValue}
+use Rattle.pn_region.specs.Relayouts.{first_recovering, relaid_unless, relaid}
 use Rattle.pn_region.specs.Rounds.{taking}
 use Rattle.pn_region.specs.declared.fault.RoundFault.{RoundFault}
-use Rattle.pn_region.proofs.EventSteps.{Each}
 use Rattle.pn_json.specs.Lines.{line_of}
 use Rattle.pn_protocol.specs.declared.refusal.Refusal.{Refusal}
 use Rattle.pn_protocol.specs.Command.Lines.{command_at}
-use Rattle.pn_protocol.specs.Command.Meaning.{CommandValue, adopt, copy, deliver, get, lose, marks, notices, read, scan, tablets}
+use Rattle.pn_protocol.specs.Command.Meaning.{CommandValue, adopt, copy, deliver, get, lose, marks, notices, read, relayout, scan, tablets}
 use Rattle.pn_protocol.specs.Reply.Short.{lost_data}
 use Rattle.pn_serve.specs.Machine.Announced.{unless_call, with_line}
 use Rattle.pn_serve.specs.Machine.Doing.{delivering}
 use Rattle.pn_serve.specs.Machine.Outcomes.{Outcome, done, line, call, round, Mode, idle, announced, Machine, Turn, logged, silent}
 use Rattle.pn_serve.specs.Machine.PartRounds.{partly_marked}
 use Rattle.pn_serve.specs.Machine.Recovering.{at_tablet, showing_copy, copying, losing_it, adopted, adopting_read, adopting_text}
+use Rattle.pn_serve.specs.Machine.Relaying.{relaid_turn, relaying_it}
 use Rattle.pn_serve.specs.Machine.Turns.{turn_of, outcome_at, turn_in, turn}
 use Rattle.pn_serve.specs.Script.Events.{unless_refused, some_tablet, half_happened, happened_by, happened_by_copy, happened_by_text, happened_in}
-
--- ---- tablets of the same ranges, which serve or need the same
-
-abbrev pub SameFace : TabletStateValue → TabletStateValue → Type 0
-SameFace t u = (t.range ≡ u.range) × (t.status ≡ u.status)
-
-abbrev pub SameFaces : List TabletStateValue → List TabletStateValue → Type 0
-SameFaces ts us = Each SameFace ts us
-
-same_count : (ts us : List TabletStateValue) → SameFaces ts us → length ts ≡ length us
-same_count [] [] faces = refl
-same_count [] (u ∷ us) faces = absurd faces
-same_count (t ∷ ts) [] faces = absurd faces
-same_count (t ∷ ts) (u ∷ us) faces = ap suc (same_count ts us faces.1)
-
-abbrev other_range : TabletCopyValue → TabletStateValue → Bool
-other_range given state = not (same_range state.range given.range)
-
-same_first : (given : TabletCopyValue) (ts us : List TabletStateValue) → SameFaces ts us → prefix_len (other_range given) ts ≡ prefix_len (other_range given) us
-same_first given [] [] faces = refl
-same_first given [] (u ∷ us) faces = absurd faces
-same_first given (t ∷ ts) [] faces = absurd faces
-same_first given (t ∷ ts) (u ∷ us) faces = λ i. cond (not (same_range (faces.0.0 i) given.range)) (1 + same_first given ts us faces.1 i) 0
-
-same_place : (given : TabletCopyValue) (a b : RegionValue) → SameFaces a.tablets b.tablets → tablet_for a given ≡ tablet_for b given
-same_place given a b faces =
-    let first = same_first given a.tablets b.tablets faces in
-    λ i. cond (nat_lt (first i) (same_count a.tablets b.tablets faces i)) (Some (first i)) None
-
-lack_at : (given : TabletCopyValue) (n : ℕ) (ts us : List TabletStateValue) → SameFaces ts us
-    → option_and_then (λ (s : TabletStateValue). lacking s.status given.marks) (slice_get ts n) ≡ option_and_then (λ (s : TabletStateValue). lacking s.status given.marks) (slice_get us n)
-lack_at given n [] [] faces = refl
-lack_at given n [] (u ∷ us) faces = absurd faces
-lack_at given n (t ∷ ts) [] faces = absurd faces
-lack_at given zero (t ∷ ts) (u ∷ us) faces = ap (λ (s : Status). lacking s given.marks) faces.0.1
-lack_at given (suc n) (t ∷ ts) (u ∷ us) faces = lack_at given n ts us faces.1
-
--- both are there, or neither is
-abbrev BothThere : Option TabletStateValue → Option TabletStateValue → Type 0
-BothThere None None = Unit {0}
-BothThere (Some t) (Some u) = Unit {0}
-BothThere _ _ = ⊥
-
-both_at : (n : ℕ) (ts us : List TabletStateValue) → SameFaces ts us → BothThere (slice_get ts n) (slice_get us n)
-both_at n [] [] faces = tt
-both_at n [] (u ∷ us) faces = absurd faces
-both_at n (t ∷ ts) [] faces = absurd faces
-both_at zero (t ∷ ts) (u ∷ us) faces = tt
-both_at (suc n) (t ∷ ts) (u ∷ us) faces = both_at n ts us faces.1
+use Rattle.pn_serve.proofs.Relaying.{lawful_bounds}
+use Rattle.pn_serve.proofs.TabletFaces.{same_count, same_place, lack_at, BothThere, both_at, same_recovering}
+pub use Rattle.pn_serve.proofs.TabletFaces.{SameFace, SameFaces}
 
 -- ---- a relation of regions that events carry on, if they are of a kind
 
@@ -97,6 +51,7 @@ pub record Carries (R : RegionValue → RegionValue → Type 0) (Is : RegionEven
       → R (partly_marked a deliveries flags (Ok next)) (partly_marked b deliveries flags (Ok next))
   pub loses : (a b : RegionValue) (tablet : ℕ) → R a b → Is (events.loss tablet) → R (losing a tablet) (losing b tablet)
   pub adopts : (a b : RegionValue) (given : TabletCopyValue) (tablet : ℕ) → R a b → Is (events.adoption given) → R (stepping a tablet (Adopt given)) (stepping b tablet (Adopt given))
+  pub relays : (a b : RegionValue) (bounds : Bounds) → R a b → Is (events.relayout bounds) → R (relaid a bounds) (relaid b bounds)
 
 -- two machines wait for the same, and their regions are related
 pub record Alike (R : RegionValue → RegionValue → Type 0) (m n : Machine) : Type 0 where
@@ -163,6 +118,32 @@ module _ (R : RegionValue → RegionValue → Type 0) (Is : RegionEvent → Type
         → Steps R (unless_refused (losing_it m tablet) (events.loss tablet)) (unless_refused (losing_it n tablet) (events.loss tablet)) (losing_it m tablet) (losing_it n tablet)
     loss_steps tablet all = loss_by tablet (slice_get m.region.tablets tablet) (slice_get n.region.tablets tablet) (both_at tablet m.region.tablets n.region.tablets (carries.faces m.region n.region alike.region)) all
 
+    abbrev relaid_found : Machine → Bounds → Option ℕ → Turn
+    relaid_found k bounds found = relaid_turn k (length bounds + 1) (relaid_unless k.region bounds found)
+
+    relaid_by : (bounds : Bounds) (found : Option ℕ) → AllByRecursion Is (unless_refused (relaid_found m bounds found) (events.relayout bounds))
+        → Steps R (unless_refused (relaid_found m bounds found) (events.relayout bounds)) (unless_refused (relaid_found n bounds found) (events.relayout bounds)) (relaid_found m bounds found) (relaid_found n bounds found)
+    relaid_by bounds None all = record { machines = record { region = carries.relays m.region n.region bounds alike.region all.0; mode = alike.mode }; same = refl }
+    relaid_by bounds (Some tablet) all = quiet _ _ refl refl
+
+    -- what bounds do by the layout that they are
+    abbrev Relays : Bounds → Result Bounds LayoutFault → Type 0
+    Relays bounds right = AllByRecursion Is (unless_refused (relaying_it m right) (events.relayout bounds))
+        → Steps R (unless_refused (relaying_it m right) (events.relayout bounds)) (unless_refused (relaying_it n right) (events.relayout bounds)) (relaying_it m right) (relaying_it n right)
+
+    relaid_steps : (bounds : Bounds) → Relays bounds (Ok bounds)
+    relaid_steps bounds all =
+        let found = first_recovering m.region.tablets in
+        subst (λ (other : Option ℕ). Steps R (unless_refused (relaid_found m bounds found) (events.relayout bounds)) (unless_refused (relaid_found n bounds other) (events.relayout bounds)) (relaid_found m bounds found) (relaid_found n bounds other))
+        (same_recovering m.region.tablets n.region.tablets (carries.faces m.region n.region alike.region)) (relaid_by bounds found all)
+
+    relay_by : (bounds : Bounds) (right : Result Bounds LayoutFault) → layout_of bounds ≡ right → Relays bounds right
+    relay_by bounds (Err fault) is = λ all. quiet _ _ refl refl
+    relay_by bounds (Ok layout) is = subst (λ (b : Bounds). Relays bounds (Ok b)) (sym (lawful_bounds bounds layout is).0) (relaid_steps bounds)
+
+    relay_steps : (bounds : Bounds) → Relays bounds (layout_of bounds)
+    relay_steps bounds = relay_by bounds (layout_of bounds) refl
+
   shown_stays : (k : Machine) (tablet : ℕ) (right : Result TabletCopyValue CopyFault) → (showing_copy k tablet right).machine ≡ k
   shown_stays k tablet (Ok given) = refl
   shown_stays k tablet (Err fault) = refl
@@ -184,6 +165,7 @@ module _ (R : RegionValue → RegionValue → Type 0) (Is : RegionEvent → Type
     done_steps (Ok marks) all = quiet m n alike _ _ refl refl
     done_steps (Ok (notices since)) all = quiet m n alike _ _ refl refl
     done_steps (Ok (read key version)) all = quiet m n alike _ _ refl refl
+    done_steps (Ok (relayout bounds)) all = relay_steps m n alike bounds all
     done_steps (Ok (scan query)) all = quiet m n alike _ _ refl refl
     done_steps (Ok tablets) all = quiet m n alike _ _ refl refl
     done_steps (Err refusal) all = quiet m n alike _ _ refl refl
@@ -197,6 +179,7 @@ module _ (R : RegionValue → RegionValue → Type 0) (Is : RegionEvent → Type
     call_steps (Ok marks) all = quiet m n alike _ _ refl refl
     call_steps (Ok (notices since)) all = quiet m n alike _ _ refl refl
     call_steps (Ok (read key version)) all = quiet m n alike _ _ refl refl
+    call_steps (Ok (relayout bounds)) all = quiet m n alike _ _ refl refl
     call_steps (Ok (scan query)) all = quiet m n alike _ _ refl refl
     call_steps (Ok tablets) all = quiet m n alike _ _ refl refl
     call_steps (Err refusal) all = quiet m n alike _ _ refl refl
@@ -211,6 +194,7 @@ module _ (R : RegionValue → RegionValue → Type 0) (Is : RegionEvent → Type
     partly_steps flags (Ok marks) all = quiet m n alike _ _ refl refl
     partly_steps flags (Ok (notices since)) all = quiet m n alike _ _ refl refl
     partly_steps flags (Ok (read key version)) all = quiet m n alike _ _ refl refl
+    partly_steps flags (Ok (relayout bounds)) all = relay_steps m n alike bounds all
     partly_steps flags (Ok (scan query)) all = quiet m n alike _ _ refl refl
     partly_steps flags (Ok tablets) all = quiet m n alike _ _ refl refl
     partly_steps flags (Err refusal) all = quiet m n alike _ _ refl refl
