@@ -1,5 +1,5 @@
 -- Changes of the layout, by what the program did.
-use Rattle.std.proofs.Common.{◌≡◌, ◌≢◌, ℕ, ◌+◌, nat_lt, Bool, true, false, cond, length, inl, inr, refl, sym, ap, ◌∙◌, subst, arith}
+use Rattle.std.proofs.Common.{◌≡◌, ◌≢◌, ℕ, ◌+◌, nat_lt, true, false, cond, length, inl, inr, refl, sym, ap, ◌∙◌, subst, arith}
 use Rattle.std.proofs.lemmas.Bool.Decides.{nat_tests}
 use Rattle.std.specs.Prelude.{Result, Ok, Err, Option, Some, None}
 use Rattle.pn_tablet.specs.Layouts.{Bounds, IsLayout, first_fall, rising_layout, layout_of}
@@ -16,8 +16,8 @@ use Rattle.pn_region.specs.declared.fault.RelayoutFault.TheVariants as fault_of
 use Rattle.pn_protocol.specs.declared.reply.Reply.{Reply}
 use Rattle.pn_protocol.specs.declared.reply.Reply.TheVariants.{Relaid, Refused}
 use Rattle.pn_protocol.specs.declared.refusal.Part.TheVariants as part
-use Rattle.pn_protocol.specs.declared.refusal.Refusal.TheVariants.{OutOfRange, Memory}
-use Rattle.pn_protocol.specs.Command.Meaning.{CommandValue, relayout}
+use Rattle.pn_protocol.specs.declared.refusal.Refusal.TheVariants.{OutOfRange}
+use Rattle.pn_protocol.specs.Command.Meaning.{relayout}
 use Rattle.pn_protocol.specs.Reply.Refusals.{TellsNotRelaid}
 use Rattle.pn_protocol.specs.Reply.Relayouts.{not_relaid_data}
 use Rattle.pn_serve.specs.Machine.Answers.{Obeys}

@@ -6,7 +6,6 @@ use Rattle.std.specs.Option.{option_and_then}
 use Rattle.pn_tablet.specs.Copies.{TabletCopyValue}
 use Rattle.pn_tablet.specs.Needs.{lacking}
 use Rattle.pn_tablet.specs.Tablets.{TabletStateValue, same_range}
-use Rattle.pn_tablet.specs.declared.needs.Short.{Short}
 use Rattle.pn_tablet.specs.declared.state.Status.{Status}
 use Rattle.pn_region.specs.Recovery.{tablet_for}
 use Rattle.pn_region.specs.Regions.{RegionValue}

@@ -4,7 +4,7 @@ use Rattle.pn_serve.proofs.Relaying.{relaid_obeys, relaid_not}
 use Rattle.pn_serve.proofs.machine.layouts.relayout.Goals as goal
 
 pub returns-in-Ok : goal.returns-in-Ok
-returns-in-Ok g c = relaid_obeys _ _ c.args.bounds.items _ _ (sym c.new.ensures ∙ c.in-Ok.is) c.relaid.ensures
+returns-in-Ok c = relaid_obeys _ _ c.args.bounds.items _ _ (sym c.new.ensures ∙ c.in-Ok.is) c.relaid.ensures
 
 pub returns-in-Err : goal.returns-in-Err
-returns-in-Err g c = relaid_not _ c.args.bounds.items _ (sym c.new.ensures ∙ c.in-Err.is)
+returns-in-Err c = relaid_not _ c.args.bounds.items _ (sym c.new.ensures ∙ c.in-Err.is)
