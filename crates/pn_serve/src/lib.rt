@@ -13,7 +13,7 @@ mod settings;
 
 pub use arguments::laws::numbers_are_as_written;
 pub use arguments::plan;
-pub use arguments::plans::{Plan, PlanFault};
+pub use arguments::plans::{Place, Plan, PlanFault, Service};
 pub use laws::regions_converge;
 pub use machine::line_handler::LineHandler;
 pub use page_laws::{
