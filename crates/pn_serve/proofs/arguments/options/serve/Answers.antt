@@ -1,8 +1,9 @@
 -- Each option is added to those before it.
-use Rattle.std.proofs.Common.{◌≡◌, ◌∙◌, ◌||◌, Bool, false, ap, ap₂, rules}
+use Rattle.std.proofs.Common.{◌≡◌, ◌∙◌, ◌||◌, Bool, false, ap, ap₂}
 use Rattle.std.proofs.lemmas.Result.{IfOk-weaker}
 use Rattle.clap.specs.Simple.{app_of_fields, with_rule}
-use Rattle.clap.specs.declared.builder.command.Command.TheViews.{out-Command}
+use Rattle.clap.specs.declared.builder.command.Command.{Command}
+use Rattle.clap.specs.declared.builder.command.Command.TheOpen.{Command-F}
 use Rattle.pn_serve.proofs.arguments.options.serve.Goals as goal
 
 pub returns-clause-app : goal.returns-clause-app
@@ -25,7 +26,7 @@ neither a b one other = ap₂ (λ (x y : Bool). x || y) one other
 
 pub returns-clause-local : goal.returns-clause-local
 returns-clause-local c =
-    let none : (out-Command c.after_help.result).has_globals ≡ false = search rules in
+    let none = ap (λ (f : Command-F Command). f.has_globals) c.after_help.ensures ∙ (ap (λ (f : Command-F Command). f.has_globals) c.about.ensures ∙ c.new.ensures.local) in
     let one = c.in_ok-arg.ensures.globals ∙ neither _ _ none c.bounds.ensures.local in
     let two = c.in_ok-arg-2.ensures.globals ∙ neither _ _ one c.workers.ensures.local in
     let three = c.in_ok-arg-3.ensures.globals ∙ neither _ _ two c.sessions.ensures.local in
