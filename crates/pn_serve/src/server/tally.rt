@@ -1,0 +1,29 @@
+//! A number that one thread raises while others look at it.
+
+use std::sync::atomic::{AtomicU64, Ordering};
+
+/// A number that is shared.
+#[derive(Drop)]
+pub struct Tally(AtomicU64);
+
+impl Tally {
+    /// Zero.
+    pub fn new() -> Tally {
+        Tally(AtomicU64::new(0))
+    }
+
+    /// Adds one.
+    pub fn count(&self) {
+        let _ = self.0.fetch_add(1, Ordering::SeqCst);
+    }
+
+    /// Puts another number in its place.
+    pub fn set(&self, number: u64) {
+        self.0.store(number, Ordering::SeqCst);
+    }
+
+    /// The number.
+    pub fn number(&self) -> u64 {
+        self.0.load(Ordering::SeqCst)
+    }
+}
