@@ -2,8 +2,8 @@
 
 use crate::gate::Gate;
 use crate::inbox::Inbox;
-use mio::net::TcpStream;
-use std::net::TcpListener;
+use crate::listener::Listener;
+use crate::socket::Socket;
 use std::sync::{Arc, Wait};
 use std::time::{Clock, Duration};
 use std::{io, thread};
@@ -14,7 +14,7 @@ const RETRY: u64 = 10;
 /// Accepts sockets for as long as the program runs, each once a place is free.
 pub(crate) fn accept_all<R: Wait + Clock>(
     rt: &R,
-    listener: &TcpListener,
+    listener: &Listener,
     gate: &Gate,
     inboxes: &[Arc<Inbox>],
 ) {
@@ -29,14 +29,23 @@ pub(crate) fn accept_all<R: Wait + Clock>(
     }
 }
 
-fn accept_into<R: Wait>(rt: &R, listener: &TcpListener, inbox: &Inbox) -> io::Result<()> {
+fn accept_into<R: Wait>(rt: &R, listener: &Listener, inbox: &Inbox) -> io::Result<()> {
     inbox.put(rt, accept_one(listener)?)
 }
 
-/// Accepts one socket, which answers in place of waiting.
-pub(crate) fn accept_one(listener: &TcpListener) -> io::Result<TcpStream> {
-    let (stream, _) = listener.accept()?;
-    stream.set_nodelay(true)?;
-    stream.set_nonblocking(true)?;
-    Ok(TcpStream::from_std(stream))
+// Accepts one socket, which answers in place of waiting.
+fn accept_one(listener: &Listener) -> io::Result<Socket> {
+    let socket = listener.accept()?;
+    socket.answer_at_once()?;
+    Ok(socket)
+}
+
+/// Tells the session threads of each second for as long as the program runs.
+pub(crate) fn tell_seconds<R: Wait + Clock>(rt: &R, inboxes: &[Arc<Inbox>]) {
+    for _ in rt.forever() {
+        thread::sleep(rt, Duration::from_secs(1));
+        for inbox in inboxes.iter() {
+            let _ = inbox.tell_second(rt);
+        }
+    }
 }

@@ -70,7 +70,7 @@ impl Feeds {
     /// Counts a round.
     pub(crate) fn count_round(&self) {
         if let Some(rounds) = &self.rounds {
-            rounds.count();
+            rounds.add(1);
         }
     }
 

@@ -1,4 +1,4 @@
-//! A number that one thread raises while others look at it.
+//! A number that some threads change while others look at it.
 
 use std::sync::atomic::{AtomicU64, Ordering};
 
@@ -12,9 +12,14 @@ impl Tally {
         Tally(AtomicU64::new(0))
     }
 
-    /// Adds one.
-    pub fn count(&self) {
-        let _ = self.0.fetch_add(1, Ordering::SeqCst);
+    /// Makes it greater.
+    pub fn add(&self, more: u64) {
+        let _ = self.0.fetch_add(more, Ordering::SeqCst);
+    }
+
+    /// Makes it less.
+    pub fn take_away(&self, less: u64) {
+        let _ = self.0.fetch_sub(less, Ordering::SeqCst);
     }
 
     /// Puts another number in its place.
