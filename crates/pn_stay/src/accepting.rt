@@ -11,6 +11,9 @@ use std::{io, thread};
 /// How many milliseconds it waits after the system refused a socket, as where no descriptor is left.
 const RETRY: u64 = 10;
 
+/// How many milliseconds a quarter of a second has.
+const QUARTER: u64 = 250;
+
 /// Accepts sockets for as long as the program runs, each once a place is free.
 pub(crate) fn accept_all<R: Wait + Clock>(
     rt: &R,
@@ -40,12 +43,12 @@ fn accept_one(listener: &Listener) -> io::Result<Socket> {
     Ok(socket)
 }
 
-/// Tells the session threads of each second for as long as the program runs.
-pub(crate) fn tell_seconds<R: Wait + Clock>(rt: &R, inboxes: &[Arc<Inbox>]) {
+/// Tells the session threads of each quarter of a second for as long as the program runs.
+pub(crate) fn tell_quarters<R: Wait + Clock>(rt: &R, inboxes: &[Arc<Inbox>]) {
     for _ in rt.forever() {
-        thread::sleep(rt, Duration::from_secs(1));
+        thread::sleep(rt, Duration::from_millis(QUARTER));
         for inbox in inboxes.iter() {
-            let _ = inbox.tell_second(rt);
+            let _ = inbox.tell_quarter(rt);
         }
     }
 }

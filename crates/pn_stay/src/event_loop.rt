@@ -20,6 +20,9 @@ use std::{io, mem};
 /// How many events one wait gives at most.
 const EVENTS: usize = 1_024;
 
+/// How many quarters a second has.
+const QUARTERS: u32 = 4;
+
 /// The token of the inbox.
 pub(crate) const INBOX: Token = Token(usize::MAX);
 
@@ -31,7 +34,7 @@ pub(crate) struct EventLoop {
     events: Events,
     desk: Desk,
     guests: Slab<Guest>,
-    // How many whole seconds a client may be idle.
+    // How many quarters of a second a client may be idle.
     idle: Option<u32>,
     watch: Arc<Watch>,
     // The keys of clients that are to have a turn, each once. A key may have passed to another client since.
@@ -41,7 +44,7 @@ pub(crate) struct EventLoop {
 }
 
 impl EventLoop {
-    /// A loop with no connection. Clients may be idle for so many whole seconds.
+    /// A loop with no connection. Clients may be idle for so many seconds.
     pub(crate) fn new(
         alloc: Global,
         poll: Poll,
@@ -57,7 +60,10 @@ impl EventLoop {
             events: Events::with_capacity(alloc, EVENTS)?,
             desk,
             guests: Slab::new(alloc),
-            idle,
+            idle: match idle {
+                Some(seconds) => Some(seconds.saturating_mul(QUARTERS)),
+                None => None,
+            },
             watch,
             ready: Vec::new(alloc),
             spare: Vec::new(alloc),
@@ -144,22 +150,22 @@ impl EventLoop {
         }
     }
 
-    // Once a second ends the clients that are idle for too long. One that is held up is to try again: it may have
+    // Four times a second ends the clients that are idle for too long. One that is held up is to try again: it may have
     // taken too little for the system to tell of it.
     fn end_idle<R: Wait>(&mut self, rt: &R, inbox: &Inbox) {
         let Some(idle) = self.idle else { return };
-        if !inbox.take_second(rt) {
+        if !inbox.take_quarter(rt) {
             return;
         }
         for key in 0..self.guests.capacity() {
-            if self.is_over(key, idle) {
+            if self.is_too_idle(key, idle) {
                 self.end(rt, inbox, key);
             }
         }
     }
 
     // Whether the client of a key is idle for too long.
-    fn is_over(&mut self, key: usize, idle: u32) -> bool {
+    fn is_too_idle(&mut self, key: usize, idle: u32) -> bool {
         let Some(guest) = self.guests.get_mut(key) else {
             return false;
         };

@@ -50,7 +50,7 @@ impl Guest {
         pause
     }
 
-    /// A second is over. Whether the client sent nothing and took nothing for as many whole seconds as this.
+    /// A quarter of a second is over. Whether the client sent nothing and took nothing for as many as this.
     pub(crate) fn is_over(&mut self, most: u32) -> bool {
         self.quiet.is_over(most)
     }

@@ -20,7 +20,7 @@ pub(crate) struct Inbox {
 #[derive(Drop)]
 struct Held {
     sockets: Vec<Socket>,
-    is_second_over: bool,
+    is_quarter_over: bool,
     is_closed: bool,
 }
 
@@ -41,7 +41,7 @@ impl Inbox {
             alloc,
             held: Mutex::new(Held {
                 sockets: Vec::new(alloc),
-                is_second_over: false,
+                is_quarter_over: false,
                 is_closed: false,
             }),
             waker,
@@ -60,15 +60,15 @@ impl Inbox {
         mem::replace(&mut self.held.lock(rt).sockets, Vec::new(self.alloc))
     }
 
-    /// Says that a second is over, and wakes the thread.
-    pub(crate) fn tell_second<R: Wait>(&self, rt: &R) -> io::Result<()> {
-        self.held.lock(rt).is_second_over = true;
+    /// Says that a quarter of a second is over, and wakes the thread.
+    pub(crate) fn tell_quarter<R: Wait>(&self, rt: &R) -> io::Result<()> {
+        self.held.lock(rt).is_quarter_over = true;
         self.waker.wake()
     }
 
-    /// Whether a second is over since this was asked last.
-    pub(crate) fn take_second<R: Wait>(&self, rt: &R) -> bool {
-        mem::replace(&mut self.held.lock(rt).is_second_over, false)
+    /// Whether a quarter of a second is over since this was asked last.
+    pub(crate) fn take_quarter<R: Wait>(&self, rt: &R) -> bool {
+        mem::replace(&mut self.held.lock(rt).is_quarter_over, false)
     }
 
     /// Says that no socket comes any more, and wakes the thread.

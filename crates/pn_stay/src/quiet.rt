@@ -1,14 +1,14 @@
 //! How long a client sends nothing and takes nothing.
 
 ghost use Rattle.std.specs.Prelude.{◌≡◌, ◌||◌, ◌≤◌, ◌↔◌, true, IsTrue};
-ghost use Rattle.pn_stay.specs.Quiet.{new_quiet, after_second};
+ghost use Rattle.pn_stay.specs.Quiet.{new_quiet, after_quarter};
 
 use std::marker::Model;
 
-/// Seconds in which nothing went over a socket.
+/// Quarters of a second in which nothing went over a socket.
 #[derive(Drop)]
 pub struct Quiet {
-    seconds: u32,
+    quarters: u32,
     has_moved: bool,
 }
 
@@ -17,7 +17,7 @@ impl Model for Quiet {
 
     ghost Value = { QuietValue };
 
-    ghost view = { λ quiet. record { seconds = quiet.seconds; has_moved = quiet.has_moved } };
+    ghost view = { λ quiet. record { quarters = quiet.quarters; has_moved = quiet.has_moved } };
 }
 
 impl Quiet {
@@ -26,7 +26,7 @@ impl Quiet {
         ensures { result ≡ new_quiet }
     {
         Quiet {
-            seconds: 0,
+            quarters: 0,
             has_moved: true,
         }
     }
@@ -38,17 +38,17 @@ impl Quiet {
         self.has_moved |= has_moved;
     }
 
-    /// A second is over. Whether nothing went over the socket for as many whole seconds as this.
+    /// A quarter is over. Whether nothing went over the socket for as many whole quarters as this.
     pub fn is_over(&mut self, most: u32) -> bool
-        ensures after { self.new ≡ after_second self.old }
-        ensures over { IsTrue result ↔ (most ≤ self.new.seconds) }
+        ensures after { self.new ≡ after_quarter self.old }
+        ensures over { IsTrue result ↔ (most ≤ self.new.quarters) }
     {
-        self.seconds = if self.has_moved {
+        self.quarters = if self.has_moved {
             0
         } else {
-            self.seconds.saturating_add(1)
+            self.quarters.saturating_add(1)
         };
         self.has_moved = false;
-        most <= self.seconds
+        most <= self.quarters
     }
 }

@@ -1,11 +1,11 @@
-//! The session threads of a server that stays, the thread that accepts their connections, and the one that counts seconds.
+//! The session threads of a server that stays, the thread that accepts their connections, and the one that tells them the time.
 
 ghost use Rattle.std.specs.Prelude.{◌≡◌, ◌+◌, ◌≤◌, vec_len, vec_capacity, All, IfOk};
 ghost use Rattle.pn_live.specs.Prelude.{tablets_in, tablets_of};
 ghost use Rattle.pn_serve.specs.Server.Sessions.{AllRead};
 ghost use Rattle.pn_serve.specs.Session.Knowing.{KnowsNoLess};
 
-use crate::accepting::{accept_all, tell_seconds};
+use crate::accepting::{accept_all, tell_quarters};
 use crate::event_loop::{EventLoop, INBOX};
 use crate::gate::Gate;
 use crate::house::House;
@@ -66,7 +66,7 @@ struct Lobby {
     watch: Arc<Watch>,
 }
 
-// Starts the thread that accepts connections, and where clients may not be idle the one that counts seconds.
+// Starts the thread that accepts connections, and where clients may not be idle the one that tells the time.
 fn begin_accepting<R>(
     rt: &R,
     lobby: Lobby,
@@ -80,7 +80,7 @@ where
     if lobby.idle.is_some() {
         let told = Arc::try_clone(&inboxes)?;
         let host = *rt;
-        thread::spawn(rt, move || tell_seconds(&host, &told))?;
+        thread::spawn(rt, move || tell_quarters(&host, &told))?;
     }
     let gate = lobby.gate;
     let host = *rt;
