@@ -1,7 +1,7 @@
 -- Faults of writers.
 use Rattle.std.specs.Prelude.{◌≡◌}
 use Rattle.std.specs.IoError.{error_kind}
-use Rattle.std.specs.declared.io.error.kind.ErrorKind.TheVariants.{WouldBlock as would_block}
+use Rattle.std.specs.declared.io.ErrorKind.TheVariants.{WouldBlock as would_block}
 use Rattle.pn_line.specs.declared.writing.WriteFault.{WriteFault}
 use Rattle.pn_line.specs.declared.writing.WriteFault.TheVariants.{Failed, TookNothing}
 
