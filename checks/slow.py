@@ -177,7 +177,7 @@ class Region:
     def scan(self, query: Json) -> Json:
         start, end, after = query.get("from"), query.get("to"), query.get("after")
         limit, conditions = query.get("limit", 100), query.get("where", [])
-        first = max(self.tablet_of(key) for key in (start or "\0", after or "\0"))
+        first = max((self.tablet_of(key) for key in (start, after) if key is not None), default=0)
         rows = []
         for number in range(first, len(self.tablets)):
             below = self.tablets[number].ends[0]
