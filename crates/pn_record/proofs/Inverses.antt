@@ -5,7 +5,7 @@ use Rattle.serde_json.specs.Data.{Data, null, boolean, number, string, array, ob
 use Rattle.serde_json.specs.Find.{as_str, as_array}
 use Rattle.pn_json.specs.Members.{whole_number}
 use Rattle.pn_json.proofs.Inverses.{and_then_some, map_some, array_from_as_array, number_from_whole}
-use Rattle.pn_record.specs.BodyGrammar.{all_texts, fields_of}
+use Rattle.pn_record.specs.BodyGrammar.{all_values, fields_of}
 use Rattle.pn_record.specs.Grammar.{two_numbers, numbers_in}
 use Rattle.pn_record.specs.Writing.{version_data, fields_data}
 
@@ -35,8 +35,8 @@ text_again (array es) is = cc
 text_again (object ns) is = cc
 
 -- members that are texts alone are those of their fields
-pub fields_data-fields_of : (ms : Members) → all_texts ms ≡ true → fields_data (fields_of ms) ≡ ms
+pub fields_data-fields_of : (ms : Members) → all_values ms ≡ true → fields_data (fields_of ms) ≡ ms
 fields_data-fields_of no_members is = refl
 fields_data-fields_of (member name d ms) is =
-    let parts = and_parts (is_some (as_str d)) (all_texts ms) is in
+    let parts = and_parts (is_some (as_str d)) (all_values ms) is in
     rw (text_again d parts.0, fields_data-fields_of ms parts.1) refl

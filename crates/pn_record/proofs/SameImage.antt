@@ -9,7 +9,7 @@ use Rattle.serde_json.specs.View.{members_view}
 use Rattle.serde_json.specs.declared.value.Value.{Value}
 use Rattle.pn_record.specs.Limits.{Field}
 use Rattle.pn_json.specs.Members.{only_named}
-use Rattle.pn_record.specs.BodyGrammar.{all_texts, fields_of}
+use Rattle.pn_record.specs.BodyGrammar.{all_values, fields_of}
 use Rattle.pn_record.specs.Grammar.{image_members, shape_in, image_in}
 use Rattle.pn_record.specs.Writing.{version_data, fields_data, body_data, image_data}
 use Rattle.pn_record.specs.Canonical.{IsImage}
@@ -71,9 +71,9 @@ pub shape_found : (ms : Members) (image : Image) → Rise ms → shape_in (objec
 shape_found ms image rise is =
     ap object (same_members ms (members_of image) rise (members_rise image image.content.0) (same_found ms (members_of image) image (holds ms image is) (image_holds image)))
 
-all_texts-fields_data : (fields : List Field) → all_texts (fields_data fields) ≡ true
-all_texts-fields_data [] = refl
-all_texts-fields_data (field ∷ fields) = all_texts-fields_data fields
+all_values-fields_data : (fields : List Field) → all_values (fields_data fields) ≡ true
+all_values-fields_data [] = refl
+all_values-fields_data (field ∷ fields) = all_values-fields_data fields
 
 pub fields_of-fields_data : (fields : List Field) → fields_of (fields_data fields) ≡ fields
 fields_of-fields_data [] = refl
@@ -82,7 +82,7 @@ fields_of-fields_data (field ∷ fields) = ap (λ fs. field ∷ fs) (fields_of-f
 shape_again_of : (key master : List ℕ) (version : ℕ × ℕ) (f : Option (List Field)) → let image : Image = record { key = key; version = version; content = (f, master) } in shape_in (image_data image) ≡ Ok image
 unfolding shape_in
 shape_again_of key master version None = refl
-shape_again_of key master version (Some fields) = rw (all_texts-fields_data fields, fields_of-fields_data fields) refl
+shape_again_of key master version (Some fields) = rw (all_values-fields_data fields, fields_of-fields_data fields) refl
 
 -- the JSON of an image has its shape
 pub shape_again : (image : Image) → shape_in (image_data image) ≡ Ok image
