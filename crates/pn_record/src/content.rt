@@ -99,7 +99,7 @@ fn fits(field: &(String, Value)) -> bool
 
 /// Whether a name and a value keep the limits of a field.
 pub fn is_field(name: &str, value: ValueRef<'_>) -> bool
-    ensures { result ≡ one_fits (name.now, shown_ref value) }
+    ensures { result ≡ one_fits (name.now, shown_ref value.entry) }
 {
     !name.is_empty() && name.len() <= MAX_FIELD_NAME_BYTES && value.fits()
 }
