@@ -137,7 +137,7 @@ fn write_condition(writer: &mut Writer, condition: &Condition) -> Result<(), NoM
 }
 
 fn write_operand(writer: &mut Writer, value: Option<ValueRef<'_>>) -> Result<(), NoMemory>
-    ensures { OnOk result (Appends writer.old writer.new (operand_tokens value)) }
+    ensures { OnOk result (Appends writer.old writer.new (operand_tokens value.entry)) }
 {
     if let Some(value) = value {
         write_field_value(writer, value)?;

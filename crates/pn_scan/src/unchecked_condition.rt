@@ -83,7 +83,7 @@ fn comparing<'v>(
     field: &'v str,
     value: ValueRef<'v>,
 ) -> Option<UncheckedCondition<'v>>
-    ensures { result ≡ comparing_of word.now field.now (shown_ref value) }
+    ensures { result ≡ comparing_of word.now field.now (shown_ref value.entry) }
 {
     let asked = match (word, value) {
         ("eq", value) => Asked::Eq(value),
