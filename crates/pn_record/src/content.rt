@@ -7,8 +7,8 @@ ghost use Rattle.pn_record.specs.Bodies.{is_body, is_body as body_fits, fields_f
 ghost use Rattle.pn_record.specs.Limits.{is_field as one_fits};
 ghost use Rattle.pn_record.specs.Showing.{shown_body, shown_field, shown_ref, shown_value};
 
-use crate::limits::{MAX_FIELD_BYTES, MAX_FIELD_NAME_BYTES, MAX_FIELDS};
 use crate::ValueRef;
+use crate::limits::{MAX_FIELD_BYTES, MAX_FIELD_NAME_BYTES, MAX_FIELDS};
 use pn_join::{Name, NoMemory};
 use std::marker::Model;
 
@@ -99,7 +99,7 @@ fn fits(field: &(String, Value)) -> bool
 
 /// Whether a name and a value keep the limits of a field.
 pub fn is_field(name: &str, value: ValueRef<'_>) -> bool
-    ensures { result ≡ one_fits (name.now, shown_ref value) }
+    ensures { result ≡ one_fits (name.now, shown_ref value.entry) }
 {
     !name.is_empty() && name.len() <= MAX_FIELD_NAME_BYTES && value.fits()
 }

@@ -33,6 +33,6 @@ pub use content::{Body, Content, Value, is_field};
 pub use fault::{ImageFault, Member};
 pub use image::Image;
 pub use key::{Key, KeyFault};
-pub use value_ref::{ValueRef, value_of};
 pub use records::{Records, join_and_tell, join_records, take_image};
+pub use value_ref::{ValueRef, value_of};
 pub use version::Version;

@@ -48,7 +48,7 @@ impl Eq for Value {
 impl PartialOrd for Value {
     ghost partial_cmp = { as_partial_cmp (on shown_value value_cmp) };
 
-    ghost laws = { partial_order_from_own_ties (Prim.search (comparing, rules)) (Prim.search (comparing, rules)) };
+    ghost laws = { partial_order_from_own_ties (Prim.search (comparing, rules, shown_cmp_total)) (Prim.search (comparing, rules)) };
 
     fn partial_cmp(&self, other: &Value) -> Option<Ordering> {
         Some(self.cmp(other))

@@ -35,7 +35,7 @@ pub fn value_of(value: &serde_json::Value) -> Option<ValueRef<'_>>
 impl<'v> ValueRef<'v> {
     /// Whether a text has at most 4,096 bytes. A number always fits.
     pub fn fits(self) -> bool
-        ensures { result ≡ is_value (shown_ref self) }
+        ensures { result ≡ is_value (shown_ref self.entry) }
     {
         match self {
             ValueRef::Number(_) => true,
@@ -45,7 +45,7 @@ impl<'v> ValueRef<'v> {
 
     /// The bytes that the value counts: 20 for a number.
     pub fn size(self) -> usize
-        ensures { result ≡ value_size (shown_ref self) }
+        ensures { result ≡ value_size (shown_ref self.entry) }
     {
         match self {
             ValueRef::Number(_) => NUMBER_BYTES,
@@ -55,7 +55,7 @@ impl<'v> ValueRef<'v> {
 
     /// The value, with a text of its own.
     pub fn to_value(self, alloc: Global) -> Result<Value, NoMemory>
-        ensures { IfOk result (λ value. shown_value value ≡ self) }
+        ensures { IfOk result (λ value. shown_value value ≡ shown_ref self.entry) }
     {
         match self {
             ValueRef::Number(number) => Ok(Value::Number(number)),

@@ -85,7 +85,7 @@ fn write_field(writer: &mut Writer, field: &(String, Value)) -> Result<(), NoMem
 
 /// Writes the value of a field: a number or a text.
 pub fn write_field_value(writer: &mut Writer, value: ValueRef<'_>) -> Result<(), NoMemory>
-    ensures { OnOk result (Appends writer.old writer.new (value_tokens (value_data (shown_ref value)))) }
+    ensures { OnOk result (Appends writer.old writer.new (value_tokens (value_data (shown_ref value.entry)))) }
 {
     match value {
         ValueRef::Number(number) => writer.i64(number)?,

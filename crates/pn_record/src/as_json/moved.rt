@@ -1,6 +1,6 @@
 //! Images, moved out of parsed values.
 
-ghost use Rattle.std.specs.Prelude.{◌≡◌, map, option_map, Ok, IfOk, IsOk, IsTrue};
+ghost use Rattle.std.specs.Prelude.{◌≡◌, map, Some, option_map, string_bytes, Ok, IfOk, IsOk, IsTrue};
 ghost use Rattle.serde_json.specs.View.{view, members_view};
 ghost use Rattle.pn_json.specs.Prelude.{seen};
 ghost use Rattle.pn_record.specs.Bodies.{names_rise as all_rise};
@@ -81,11 +81,17 @@ fn fields_from(
 fn field_value_from(alloc: Global, value: Value) -> FieldValue
     ensures { shown_value result ≡ value_or_empty (view value) }
 {
-    if let Value::String(text) = value {
-        return FieldValue::Text(text);
-    }
     match signed_number_of(&value) {
         Some(number) => FieldValue::Number(number),
-        None => FieldValue::Text(String::new(alloc)),
+        None => FieldValue::Text(text_from(alloc, value)),
+    }
+}
+
+fn text_from(alloc: Global, value: Value) -> String
+    ensures { string_bytes result ≡ text_at (Some (view value)) }
+{
+    match value {
+        Value::String(text) => text,
+        _ => String::new(alloc),
     }
 }

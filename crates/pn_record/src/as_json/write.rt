@@ -124,7 +124,7 @@ fn fields_value(alloc: Global, fields: &[(String, FieldValue)]) -> Result<Value,
 }
 
 fn field_json(alloc: Global, value: ValueRef<'_>) -> Result<Value, NoMemory>
-    ensures { IfOk result (λ json. view json ≡ value_data (shown_ref value)) }
+    ensures { IfOk result (λ json. view json ≡ value_data (shown_ref value.entry)) }
 {
     match value {
         ValueRef::Number(number) => Ok(Value::from(number)),
