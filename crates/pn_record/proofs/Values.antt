@@ -1,12 +1,14 @@
 -- The value of a field as JSON, and what is read of it.
-use Rattle.std.proofs.Common.{◌≡◌, ℤ, pos, negsuc, ◌^◌, [], length, Bool, true, false, ◌&&◌, cond, Some, None, option_map, unwrap_or, is_some, leb, nat_lt, refl, sym, ap, ◌∙◌}
-use Rattle.std.proofs.lemmas.Bool.{and_parts}
+use Rattle.std.proofs.Common.{◌≡◌, ℤ, pos, negsuc, ◌^◌, [], length, Bool, true, false, ◌&&◌, cond, Some, None, option_map, unwrap_or, is_some, leb, nat_lt, refl, sym, ap, ◌∙◌, arith}
+use Rattle.std.proofs.lemmas.Bool.{and_parts, ltb-true}
 use Rattle.std.specs.Fmt.{signed_decimal}
 use Rattle.serde_json.specs.Data.{unsigned, negative, float, Data, null, boolean, number, string, array, object}
 use Rattle.serde_json.specs.Find.{of_integer}
-use Rattle.serde_json.specs.Written.{number_text}
+use Rattle.serde_json.specs.Read.{number_of, of_json}
+use Rattle.serde_json.specs.Written.{number_text, outline}
+use Rattle.serde_json.proofs.Numbers.{number_of-decimal, number_of-negative}
 use Rattle.pn_record.specs.BodyGrammar.{value_in, value_or_empty}
-use Rattle.pn_record.specs.Limits.{FieldValue, number_value, text_value, Field, is_value, is_field}
+use Rattle.pn_record.specs.Limits.{FieldValue, number_value, text_value, Field, is_number, is_value, is_field}
 use Rattle.pn_record.specs.Writing.{value_data}
 
 in_range_again : (b : Bool) (z : ℤ) → is_some (option_map number_value (cond b (Some z) None)) ≡ true → value_data (unwrap_or (option_map number_value (cond b (Some z) None)) (text_value [])) ≡ number (of_integer z)
@@ -42,3 +44,12 @@ field_value field is = (and_parts (leb 1 (length field.0) && leb (length field.0
 pub number_text-of_integer : (z : ℤ) → number_text (of_integer z) ≡ signed_decimal z
 number_text-of_integer (pos n) = refl
 number_text-of_integer (negsuc n) = refl
+
+small_number : (z : ℤ) → is_number z ≡ true → number_of (number_text (of_integer z)) ≡ Some (of_integer z)
+small_number (pos n) is = number_of-decimal n (omega (arith, ltb-true n (2 ^ 63) is))
+small_number (negsuc n) is = number_of-negative n (ltb-true n (2 ^ 63) is)
+
+-- and the text of a value that fits is of that value
+pub of_json-value : (value : FieldValue) → is_value value ≡ true → of_json (outline (value_data value)) ≡ Some (value_data value)
+of_json-value (number_value z) is = ap (option_map number) (small_number z is)
+of_json-value (text_value text) is = refl
