@@ -1,6 +1,5 @@
 -- One field more is looked at.
-use Rattle.std.proofs.Common.{true, sym, ap, ◌∙◌}
-use Rattle.std.proofs.lemmas.List.{take_all}
+use Rattle.std.proofs.Common.{sym, ap, ◌∙◌}
 use Rattle.pn_record.specs.Numbers.{have_number}
 use Rattle.pn_record.specs.Showing.{shown_field}
 use Rattle.pn_record.proofs.FieldSteps.{number_here, no_number_more, all_taken}
