@@ -1,8 +1,10 @@
 //! `pnuts`: answers a script, or serves streams.
 #![tactic(auto)]
 
+mod places;
 mod served;
 mod staying;
+mod streams;
 
 use crate::served::serve_streams;
 use crate::staying::{Begun, begin_to_stay, go_on};
@@ -29,27 +31,32 @@ fn main(rt: HostRuntime) -> ExitCode {
         Ok(
             Plan::Serve {
                 settings,
-                sessions,
-                port,
-                stay,
+                service,
                 streams,
             },
-        ) => match stay {
+        ) => match service.stay {
             Some(connections) => {
-                match begin_to_stay(&rt, settings, sessions, port, connections, streams) {
-                    Ok(Begun { server, feeds }) => {
+                match begin_to_stay(&rt, settings, &service, connections, streams) {
+                    Ok(
+                        Begun {
+                            server,
+                            feeds,
+                            rounds,
+                        },
+                    ) => {
                         let mut server = server;
-                        let read = server.read_feeds(&rt, rt.alloc(), feeds);
-                        go_on(&rt, server, read)
+                        let read = server.read_feeds(&rt, rt.alloc(), feeds, rounds);
+                        go_on(&rt, &service.place, server, read)
                     }
                     Err(status) => status,
                 }
             }
-            None => serve_streams(&rt, settings, sessions, port, streams),
+            None => serve_streams(&rt, settings, &service, streams),
         },
-        Ok(Plan::Help(text)) => show(&rt, text.as_str()),
+        Ok(Plan::Help(text) | Plan::Version(text)) => show(&rt, text.as_str()),
         Err(PlanFault::Words(text)) => refuse(&rt, text.as_str()),
         Err(PlanFault::Bounds) => refuse(&rt, "pnuts: bounds\n"),
+        Err(PlanFault::Address) => refuse(&rt, "pnuts: address\n"),
         Err(PlanFault::Stream) => refuse(&rt, "pnuts: stream\n"),
         Err(PlanFault::Memory) => fail(&rt, "memory"),
     }
