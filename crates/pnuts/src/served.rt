@@ -4,7 +4,7 @@ ghost use Rattle.std.specs.Prelude.{◌≡◌, ◌≤◌, vec_len, IfOk};
 ghost use Rattle.pn_live.specs.Prelude.{max_readers};
 
 use crate::places::{begin_to_tell, leave, listen};
-use crate::streams::{FileSource, Opened, opened, tell_unopened};
+use crate::streams::{FileSource, Opened, open_all, tell_unopened};
 use crate::{fail, fail_about};
 use pn_join::Name;
 use pn_serve::{ServeFault, Service, Settings, serve};
@@ -42,7 +42,7 @@ where
         + 'static,
     requires { (1 ≤ service.now.sessions) × (service.now.sessions ≤ max_readers) }
 {
-    let opened = match opened(rt, rt.alloc(), streams, service.is_progress_told) {
+    let opened = match open_all(rt, rt.alloc(), streams, service.is_progress_told) {
         Ok(opened) => opened,
         Err(unopened) => return tell_unopened(rt, unopened),
     };

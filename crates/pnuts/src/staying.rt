@@ -7,7 +7,7 @@ ghost use Rattle.pn_serve.specs.Server.Reading.{IsAnew};
 use crate::fail;
 use crate::places::{begin_to_tell, leave, listen};
 use crate::served::tell;
-use crate::streams::{FileSource, Opened, open_file, opened, tell_unopened};
+use crate::streams::{FileSource, Opened, open_all, open_file, tell_unopened};
 use pn_join::Name;
 use pn_serve::{Feed, Origin, Place, ServeFault, Service, Settings, Tally};
 use pn_stay::{House, StayingServer, Taken, before_others};
@@ -51,7 +51,7 @@ where
         + 'static,
     requires { (1 ≤ service.now.sessions) × (service.now.sessions ≤ max_readers) }
 {
-    let opened = match opened(rt, rt.alloc(), streams, service.is_progress_told) {
+    let opened = match open_all(rt, rt.alloc(), streams, service.is_progress_told) {
         Ok(opened) => opened,
         Err(unopened) => return Err(tell_unopened(rt, unopened)),
     };

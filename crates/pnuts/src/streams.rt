@@ -49,7 +49,7 @@ pub(crate) fn tell_unopened(rt: &impl Eprint, unopened: Unopened) -> ExitCode {
 }
 
 /// Opens the files of the streams in their order. What is taken from them is counted where somebody looks at it.
-pub(crate) fn opened<R: Files<File = File>>(
+pub(crate) fn open_all<R: Files<File = File>>(
     rt: &R,
     alloc: Global,
     streams: Vec<(Name, String)>,
