@@ -3,4 +3,4 @@ use Rattle.std.proofs.Common.{◌≡◌, vec_len, length}
 use Rattle.pnuts.proofs.served.streams_of.Given as goal
 
 abbrev pub invariant-loop-one : goal.invariant-loop-one
-invariant-loop-one g l = vec_len l.streams ≡ length l.yielded
+invariant-loop-one l = vec_len l.streams ≡ length l.yielded
