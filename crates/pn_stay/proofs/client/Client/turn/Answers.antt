@@ -15,4 +15,4 @@ returns-in-Ended-clause-turns g c shared start continues =
     let same : c.args.self.now ≡ c.replace-connection.result = search rules in
     let ends = c.in-Ended.ensures.turns shared start
     (subst (λ (k : Connection). Continues g.M.LineHandler.makes g.M.LineHandler.ends shared start (g.R.Read.remaining c.args.input.now) (g.W.Sink.contents c.args.output.now) c.args.machine.now k) same continues) in
-    (c.in-Ended.field-0, ends)
+    (c.in-Ended.field-0, ends.0, ends.1)
