@@ -3,57 +3,44 @@
 ghost use Rattle.std.specs.Prelude.{◌≡◌, ◌≤◌, vec_len, IfOk};
 ghost use Rattle.pn_live.specs.Prelude.{max_readers};
 
-use crate::places::{begin_to_tell, leave, listen};
-use crate::streams::{FileSource, Opened, open_all, tell_unopened};
+use crate::places::leave;
+use crate::streams::{FileSource, Opened};
 use crate::{fail, fail_about};
-use pn_join::Name;
 use pn_serve::{ServeFault, Service, Settings, serve};
 use pn_stay::{House, before_others};
 use pn_stream::StreamReader;
 use std::alloc::{AllocError, Global};
 use std::fs::File;
 use std::io;
-use std::net::{Net, TcpListener, TcpStream};
 use std::process::ExitCode;
 use std::rt::Files;
 use std::sync::Wait;
 use std::thread::Threads;
-use std::time::Clock;
 
-/// Opens the streams, listens, and serves.
+/// Serves the streams that were opened, where it is listened.
 pub(crate) fn serve_streams<R>(
     rt: &R,
     settings: Settings,
     service: &Service,
-    streams: Vec<(Name, String)>,
+    house: &House,
+    opened: Vec<Opened>,
 ) -> ExitCode
 where
     R: AllocGlobal
         + Files<File = File>
-        + Net<Listener = TcpListener, Stream = TcpStream>
         + Print
         + Eprint
         + Threads
         + Wait
-        + Clock
         + Sync
         + Copy
         + Send
         + 'static,
     requires { (1 ≤ service.now.sessions) × (service.now.sessions ≤ max_readers) }
 {
-    let opened = match open_all(rt, rt.alloc(), streams, service.is_progress_told) {
-        Ok(opened) => opened,
-        Err(unopened) => return tell_unopened(rt, unopened),
-    };
-    match listen(rt, rt.alloc(), service, &opened) {
-        Ok(house) => {
-            let status = serve_in(rt, settings, service, &house, opened);
-            leave(rt, &service.place);
-            status
-        }
-        Err(status) => status,
-    }
+    let status = serve_in(rt, settings, service, house, opened);
+    leave(rt, &service.place);
+    status
 }
 
 fn serve_in<R>(
@@ -70,7 +57,6 @@ where
         + Eprint
         + Threads
         + Wait
-        + Clock
         + Sync
         + Copy
         + Send
@@ -80,9 +66,6 @@ where
     let Ok(streams) = streams_of(rt.alloc(), opened) else {
         return fail(rt, "memory");
     };
-    if begin_to_tell(rt, rt.alloc(), service, house).is_err() {
-        return fail(rt, "cannot start");
-    }
     let mut out = io::writer(rt);
     let served = serve(
         rt,

@@ -5,16 +5,16 @@ ghost use Rattle.pn_live.specs.Prelude.{max_readers};
 ghost use Rattle.pn_serve.specs.Server.Reading.{IsAnew};
 
 use crate::fail;
-use crate::places::{begin_to_tell, leave, listen};
+use crate::places::leave;
 use crate::served::tell;
-use crate::streams::{FileSource, Opened, open_all, open_file, tell_unopened};
+use crate::streams::{FileSource, Opened, open_file};
 use pn_join::Name;
 use pn_serve::{Feed, Origin, Place, ServeFault, Service, Settings, Tally};
 use pn_stay::{House, StayingServer, Taken, before_others};
 use pn_stream::StreamReader;
 use std::alloc::{AllocError, Global};
 use std::fs::File;
-use std::net::{Net, TcpListener, TcpStream};
+use std::net::Net;
 use std::process::ExitCode;
 use std::rt::Files;
 use std::sync::{Arc, Wait};
@@ -28,19 +28,19 @@ pub(crate) struct Begun<R: Files<File = File> + Eprint + Drop> {
     pub(crate) rounds: Option<Arc<Tally>>,
 }
 
-/// Opens the streams, listens, and begins to answer. Else it tells why not.
+/// Begins to answer where it is listened. Else it tells why not.
 pub(crate) fn begin_to_stay<R>(
     rt: &R,
     settings: Settings,
     service: &Service,
     connections: u32,
-    streams: Vec<(Name, String)>,
+    house: House,
+    opened: Vec<Opened>,
 ) -> Result<Begun<R>, ExitCode>
 where
     R: AllocGlobal
         + Files<File = File>
-        + Net<Listener = TcpListener, Stream = TcpStream>
-        + Print
+        + Net
         + Eprint
         + Threads
         + Wait
@@ -51,11 +51,6 @@ where
         + 'static,
     requires { (1 ≤ service.now.sessions) × (service.now.sessions ≤ max_readers) }
 {
-    let opened = match open_all(rt, rt.alloc(), streams, service.is_progress_told) {
-        Ok(opened) => opened,
-        Err(unopened) => return Err(tell_unopened(rt, unopened)),
-    };
-    let house = listen(rt, rt.alloc(), service, &opened)?;
     match begin_in(rt, settings, service, connections, house, opened) {
         Ok(begun) => Ok(begun),
         Err(fault) => {
@@ -90,9 +85,6 @@ where
     let Ok(feeds) = feeds_of(rt, rt.alloc(), opened, service.is_progress_told) else {
         return Err(ServeFault::Start);
     };
-    if begin_to_tell(rt, rt.alloc(), service, &house).is_err() {
-        return Err(ServeFault::Start);
-    }
     let rounds = rounds_of(&house);
     let server = StayingServer::start(
         rt,
