@@ -5,7 +5,9 @@ use Rattle.mio.specs.contracts.poll.Poll as poll
 use Rattle.pn_join.specs.contracts.marks.name.Name as name
 use Rattle.pn_live.proofs.Crossing.Readers.{reader_send}
 use Rattle.pn_serve.specs.contracts.server.tally.Tally as tally
+use Rattle.pn_stay.specs.contracts.house.House as house
 use Rattle.pn_stay.specs.contracts.inbox.Inbox as inbox
+use Rattle.pn_stay.specs.contracts.listener.Listener as listener
 use Rattle.pn_stay.specs.contracts.server.sessions.Session as session
 use Rattle.pn_stay.specs.contracts.watch.StreamWatch as stream
 use Rattle.pn_stay.specs.contracts.watch.Taken as taken
@@ -40,6 +42,12 @@ watch_send = search (sendable, crosses, tally_send, tally_sync, taken_send, take
 
 pub watch_sync : IsSync watch.the_row
 watch_sync = search (sendable, crosses, tally_send, tally_sync, taken_send, taken_sync, stream_sync) depth 40 fits 20000
+
+pub listener_send : IsSend listener.the_row
+listener_send = search (sendable, crosses) depth 40 fits 20000
+
+pub house_send : IsSend house.the_row
+house_send = search (sendable, crosses, listener_send, watch_send, watch_sync) depth 40 fits 20000
 
 poll_send : IsSend poll.the_row
 poll_send = search (sendable, crosses) depth 40 fits 20000
