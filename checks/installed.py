@@ -26,9 +26,12 @@ FILES = {
 
 # A line that is typed, and the words that bash makes of it: the last word stands for all its completions.
 COMPLETIONS = {
-    "pnuts ": ["pnuts", "--help", "-h", "replay", "serve"],
+    "pnuts ": ["pnuts", "--help", "--version", "-V", "-h", "replay", "serve"],
     "pnuts s": ["pnuts", "serve"],
     "pnuts serve --b": ["pnuts", "serve", "--bounds"],
+    "pnuts serve --s": ["pnuts", "serve", "--sessions", "--socket", "--stay"],
+    "pnuts serve --socket m": ["pnuts", "serve", "--socket", "messages"],
+    "pnuts serve --stay --idle ": ["pnuts", "serve", "--stay", "--idle"],
     "pnuts replay --w": ["pnuts", "replay", "--workers"],
     "pnuts serve --workers ": ["pnuts", "serve", "--workers"],
     "pnuts serve east=": ["pnuts", "serve", "east=a folder", "messages"],

@@ -3,6 +3,7 @@ import contextlib
 import itertools
 import os
 import random
+import select
 import socket
 import statistics
 import struct
@@ -253,16 +254,11 @@ def check_silent(program: str, room: str) -> None:
         same("what a silent one is sent", silent.reply(), b"")
         same("what one with half a line is sent", half.reply(), b"")
         same("the slow one was sent something", slowly > CHUNK, True)
-        until("one that takes nothing is ended", lambda: has_ended(deaf.socket), 5)
+        until("one that takes nothing is ended", lambda: has_ended(deaf.socket), 20)
 
 
 def has_ended(connection: socket.socket) -> bool:
-    """Whether the other side has gone. What it has sent is read."""
-    try:
-        while connection.recv(CHUNK):
-            pass
-    except BlockingIOError:
-        return False
-    except ConnectionResetError:
-        pass
-    return True
+    """Whether the other side has gone. What it has sent is not read: a client that takes it is not silent."""
+    poll = select.poll()
+    poll.register(connection, select.POLLRDHUP)
+    return bool(poll.poll(0))

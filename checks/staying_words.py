@@ -102,7 +102,7 @@ def check_unix_socket(program: str, room: str) -> None:
 
 def serves_and_ends(program: str, east: str, path: str) -> None:
     """Without --stay one session over the socket, and the end."""
-    process = subprocess.Popen([program, "serve", "--socket", path, f"east={east}"], stdout=subprocess.PIPE, stderr=subprocess.PIPE)
+    process = subprocess.Popen([program, "serve", "--sessions", "1", "--socket", path, f"east={east}"], stdout=subprocess.PIPE, stderr=subprocess.PIPE)
     same("the first line", process.stdout.readline()[:13], b"listening on ")
     with connected(path) as client:
         client.wait_for("k001", row_of("k001", 0, "x"))

@@ -1,7 +1,8 @@
 -- What `clap` takes has a command, and what a command says is a plan or a fault of its options.
 use Rattle.std.proofs.Common.{◌≡◌, ◌⊎◌, inl, inr, ℕ, Bool, true, false, cond, List, [], ◌∷◌, Option, Some, None, Result, Ok, Err, String, refl, subst, is_some, arith}
-use Rattle.std.specs.Prelude.{◌≤◌, IfErr, IfOk, IsSome, codes, max, min}
+use Rattle.std.specs.Prelude.{◌≤◌, IfErr, IfOk, IsSome, max, min}
 use Rattle.std.specs.Option.{ok_or}
+use Rattle.std.specs.declared.net.ip_addr.IpAddr.{IpAddr}
 use Rattle.std.specs.declared.alloc.Global.{Global}
 use Rattle.clap.specs.Kinds.{Kinds, or_else, IsAmong}
 use Rattle.clap.specs.Faults.{check_fault, defaults_fault, entered_fault, fault_of, settle_fault, walk_fault, is_simple_and_free}
@@ -12,20 +13,19 @@ use Rattle.clap.specs.declared.parser.matches.ArgMatches.{ArgMatches}
 use Rattle.clap.specs.Walk.{Row, Text, Walk, finished, nothing_held, settled, walk, walk_from}
 use Rattle.serde_json.specs.Data.{Data, Items, no_items, item}
 use Rattle.serde_json.specs.Find.{as_array, as_str}
-use Rattle.pn_json.specs.Answers.{◌>>=◌, ShowsUnless}
+use Rattle.pn_json.specs.Answers.{◌>>=◌}
 use Rattle.pn_json.specs.Members.{each_in}
 use Rattle.pn_json.proofs.Inverses.{bind_ok}
 use Rattle.pn_record.specs.Limits.{is_key}
 use Rattle.pn_record.specs.Reading.{reading}
 use Rattle.pn_tablet.specs.Layouts.{Bounds, layout_of}
 use Rattle.pn_tablet.specs.declared.layout.LayoutFault.{LayoutFault}
-use Rattle.pn_serve.specs.Settings.{SettingsValue}
 use Rattle.pn_serve.specs.Arguments.Bounds.{bounds_in, key_in, or_bounds}
 use Rattle.pn_serve.specs.Arguments.Options.{program}
-use Rattle.pn_serve.specs.Arguments.Plans.{Answers, HasSessions, Plans}
-use Rattle.pn_serve.specs.Arguments.Commands.{number_at, plan_in, replay_in, serve_in, settings_in}
-use Rattle.pn_serve.specs.Arguments.PlanValues.{help, plan_value, serve}
-use Rattle.pn_serve.specs.Arguments.Streams.{StreamValue, each_stream, names_differ, stream_in, streams_in}
+use Rattle.pn_serve.specs.Arguments.Plans.{Answers, Gives, HasSessions, Plans, Says}
+use Rattle.pn_serve.specs.Arguments.Commands.{plan_in, replay_in, serve_in, service_in, settings_in}
+use Rattle.pn_serve.specs.Arguments.PlanValues.{PlanValue, help, plan_value, replay, serve, version}
+use Rattle.pn_serve.specs.Arguments.Streams.{each_stream, names_differ, stream_in, streams_in}
 use Rattle.pn_serve.specs.declared.arguments.plans.Plan.{Plan}
 use Rattle.pn_serve.specs.declared.arguments.plans.Plan.TheVariants as plan
 use Rattle.pn_serve.specs.declared.arguments.plans.PlanFault.{PlanFault}
@@ -81,11 +81,14 @@ pub answered : (words : List Text) (kind : ErrorKind) → (kind ≡ error.OutOfM
     → (result : Result Plan PlanFault) → Answers kind result → Plans words result
 answered words kind (inl memory) (Ok (plan.Help text)) is = absurd (cc)
 answered words kind (inr among) (Ok (plan.Help text)) is = subst (λ (k : ErrorKind). IsAmong k (fault_of program words)) is among
+answered words kind (inl memory) (Ok (plan.Version text)) is = absurd (cc)
+answered words kind (inr among) (Ok (plan.Version text)) is = subst (λ (k : ErrorKind). IsAmong k (fault_of program words)) is among
 answered words kind has (Ok (plan.Replay settings)) is = absurd is
-answered words kind has (Ok (plan.Serve settings sessions port stay streams)) is = absurd is
-answered words kind (inl memory) (Err (fault.Words text)) is = absurd (is.1 memory)
-answered words kind (inr among) (Err (fault.Words text)) is = record { kind = kind; among = among; other = is.0 }
+answered words kind has (Ok (plan.Serve settings service streams)) is = absurd is
+answered words kind (inl memory) (Err (fault.Words text)) is = absurd (is.2 memory)
+answered words kind (inr among) (Err (fault.Words text)) is = record { kind = kind; among = among; no_help = is.0; no_version = is.1 }
 answered words kind has (Err fault.Bounds) is = absurd is
+answered words kind has (Err fault.Address) is = absurd is
 answered words kind has (Err fault.Stream) is = absurd is
 answered words kind has (Err fault.Memory) is = tt
 
@@ -144,8 +147,13 @@ streams_of : (words : List (List ℕ)) → IfErr (streams_in words) IsOfOption
 unfolding streams_in
 streams_of words = unless_many _ _ (then_of_option (each_stream words) _ (each_of words) (λ streams. stream_or (names_differ streams) streams))
 
-serve_of : (options : List Row) → IfErr (serve_in options) IsOfOption
-serve_of options = then_of_option (settings_in options) _ (settings_of options) (λ settings. then_of_option (streams_in _) _ (streams_of _) (λ streams. tt))
+address_or : (written : Option IpAddr) → IfErr (ok_or written fault.Address) IsOfOption
+address_or None = tt
+address_or (Some address) = tt
+
+serve_of : (written : Option IpAddr) (options : List Row) → IfErr (serve_in written options) IsOfOption
+serve_of written options = then_of_option (settings_in options) _ (settings_of options) (λ settings. then_of_option (ok_or written fault.Address) _ (address_or written)
+    (λ address. then_of_option (streams_in _) _ (streams_of _) (λ streams. tt)))
 
 replay_of : (options : List Row) → IfErr (replay_in options) IsOfOption
 replay_of options = then_of_option (settings_in options) _ (settings_of options) (λ settings. tt)
@@ -154,63 +162,63 @@ one_of_both : {A : Type 0} (b : Bool) (r s : Result A PlanFault) → IfErr r IsO
 one_of_both true r s one other = one
 one_of_both false r s one other = other
 
-no_words : (command : Text × List Row) (text : String Global) → plan_in command ≡ Err (fault.Words text) → ⊥
-no_words command text e = subst (λ r. IfErr r IsOfOption) e (one_of_both _ _ _ (serve_of command.1) (replay_of command.1))
+no_words : (written : Option IpAddr) (command : Text × List Row) (text : String Global) → plan_in written command ≡ Err (fault.Words text) → ⊥
+no_words written command text e = subst (λ r. IfErr r IsOfOption) e (one_of_both _ _ _ (serve_of written command.1) (replay_of command.1))
 
--- ---- and its plan is no help
+-- ---- and its plan is a script's, or to serve with 1 to 16 sessions
 
-serve_helps : (options : List Row) → serve_in options ≡ Ok help → ⊥
-serve_helps options e =
-    let one = bind_ok (settings_in options) _ help e in
-    let two = bind_ok (streams_in _) _ help one.2 in
-    let last = two.2 in cc
-
-replay_helps : (options : List Row) → replay_in options ≡ Ok help → ⊥
-replay_helps options e =
-    let one = bind_ok (settings_in options) _ help e in
-    let last = one.2 in cc
-
-neither_helps : (b : Bool) (options : List Row) → cond b (serve_in options) (replay_in options) ≡ Ok help → ⊥
-neither_helps true options e = serve_helps options e
-neither_helps false options e = replay_helps options e
-
--- ---- a command's plan is that of the words
-
-pub planned : (words : List Text) → fault_of program words ≡ [] → (command : Text × List Row) → subcommand_of program words ≡ Some command
-    → (result : Result Plan PlanFault) → ShowsUnless fault.Memory plan_value result (plan_in command) → Plans words result
-planned words taken command found (Ok (plan.Replay settings)) shows = record { taken = taken; command = command; found = found; means = shows }
-planned words taken command found (Ok (plan.Serve settings sessions port stay streams)) shows = record { taken = taken; command = command; found = found; means = shows }
-planned words taken command found (Ok (plan.Help text)) shows = absurd (neither_helps _ command.1 shows)
-planned words taken command found (Err (fault.Words text)) shows = absurd (no_words command text (shows (λ e. cc)))
-planned words taken command found (Err fault.Bounds) shows = record { taken = taken; command = command; found = found; means = shows (λ e. cc) }
-planned words taken command found (Err fault.Stream) shows = record { taken = taken; command = command; found = found; means = shows (λ e. cc) }
-planned words taken command found (Err fault.Memory) shows = tt
-
--- ---- and a plan to serve has 1 to 16 sessions
+-- a plan of a script, or to serve with a few sessions
+abbrev IsPlanned : PlanValue → Type 0
+IsPlanned (replay settings) = Unit {0}
+IsPlanned (serve settings service streams) = (1 ≤ service.sessions) × (service.sessions ≤ 16)
+IsPlanned help = ⊥
+IsPlanned version = ⊥
 
 in_range : (n : ℕ) → (1 ≤ max 1 (min n 16)) × (max 1 (min n 16) ≤ 16)
 in_range n = (omega arith, omega arith)
 
-serves : (options : List Row) (settings : SettingsValue) (sessions port : ℕ) (stay : Option ℕ) (streams : List StreamValue) → serve_in options ≡ Ok (serve settings sessions port stay streams) → (1 ≤ sessions) × (sessions ≤ 16)
-serves options settings sessions port stay streams e =
-    let one = bind_ok (settings_in options) _ (serve settings sessions port stay streams) e in
-    let two = bind_ok (streams_in _) _ (serve settings sessions port stay streams) one.2 in
-    let last = two.2 in
-    let same : number_at (codes "sessions") 16 options ≡ sessions = cc in
-    subst (λ (n : ℕ). (1 ≤ n) × (n ≤ 16)) same (in_range _)
+serve_plans : (written : Option IpAddr) (options : List Row) (value : PlanValue) → serve_in written options ≡ Ok value → IsPlanned value
+serve_plans written options value e =
+    let one = bind_ok (settings_in options) _ value e in
+    let two = bind_ok (ok_or written fault.Address) _ value one.2 in
+    let three = bind_ok (streams_in _) _ value two.2 in
+    let last = three.2 in
+    let same : serve one.0 (service_in two.0 options) three.0 ≡ value = cc in
+    subst IsPlanned same (in_range _)
 
-replays_not : (options : List Row) (settings : SettingsValue) (sessions port : ℕ) (stay : Option ℕ) (streams : List StreamValue) → replay_in options ≡ Ok (serve settings sessions port stay streams) → ⊥
-replays_not options settings sessions port stay streams e =
-    let one = bind_ok (settings_in options) _ (serve settings sessions port stay streams) e in
-    let last = one.2 in cc
+replay_plans : (options : List Row) (value : PlanValue) → replay_in options ≡ Ok value → IsPlanned value
+replay_plans options value e =
+    let one = bind_ok (settings_in options) _ value e in
+    let last = one.2 in
+    let same : replay one.0 ≡ value = cc in
+    subst IsPlanned same tt
 
-either_serves : (b : Bool) (options : List Row) (settings : SettingsValue) (sessions port : ℕ) (stay : Option ℕ) (streams : List StreamValue) → cond b (serve_in options) (replay_in options) ≡ Ok (serve settings sessions port stay streams)
-    → (1 ≤ sessions) × (sessions ≤ 16)
-either_serves true options settings sessions port stay streams e = serves options settings sessions port stay streams e
-either_serves false options settings sessions port stay streams e = absurd (replays_not options settings sessions port stay streams e)
+plans : (b : Bool) (written : Option IpAddr) (options : List Row) (value : PlanValue) → cond b (serve_in written options) (replay_in options) ≡ Ok value → IsPlanned value
+plans true written options value e = serve_plans written options value e
+plans false written options value e = replay_plans options value e
+
+-- ---- a command's plan is that of the words
+
+says : (words : List Text) → fault_of program words ≡ [] → (command : Text × List Row) → subcommand_of program words ≡ Some command
+    → (result : Result Plan PlanFault) (gives : Gives command result) (said : Result PlanValue PlanFault) → plan_in gives.written command ≡ said → Says words said
+says words taken command found result gives said means =
+    record { taken = taken; command = command; found = found; written = gives.written; reads = gives.reads; means = means }
+
+pub planned : (words : List Text) → fault_of program words ≡ [] → (command : Text × List Row) → subcommand_of program words ≡ Some command
+    → (result : Result Plan PlanFault) → Gives command result → Plans words result
+planned words taken command found (Ok (plan.Replay settings)) gives = says words taken command found _ gives _ gives.shows
+planned words taken command found (Ok (plan.Serve settings service streams)) gives = says words taken command found _ gives _ gives.shows
+planned words taken command found (Ok (plan.Help text)) gives = absurd (plans _ gives.written command.1 help gives.shows)
+planned words taken command found (Ok (plan.Version text)) gives = absurd (plans _ gives.written command.1 version gives.shows)
+planned words taken command found (Err (fault.Words text)) gives = absurd (no_words gives.written command text (gives.shows (λ e. cc)))
+planned words taken command found (Err fault.Bounds) gives = says words taken command found _ gives _ (gives.shows (λ e. cc))
+planned words taken command found (Err fault.Address) gives = says words taken command found _ gives _ (gives.shows (λ e. cc))
+planned words taken command found (Err fault.Stream) gives = says words taken command found _ gives _ (gives.shows (λ e. cc))
+planned words taken command found (Err fault.Memory) gives = tt
 
 pub has_sessions : (words : List Text) (result : Result Plan PlanFault) → Plans words result → IfOk result HasSessions
 has_sessions words (Ok (plan.Replay settings)) is = tt
-has_sessions words (Ok (plan.Serve settings sessions port stay streams)) is = either_serves _ is.command.1 settings sessions port stay _ is.means
+has_sessions words (Ok (plan.Serve settings service streams)) is = plans _ is.written is.command.1 (plan_value (plan.Serve settings service streams)) is.means
 has_sessions words (Ok (plan.Help text)) is = tt
+has_sessions words (Ok (plan.Version text)) is = tt
 has_sessions words (Err found) is = tt

@@ -1,4 +1,4 @@
-//! Reads streams into a live region while sessions over TCP are answered from it.
+//! Reads streams into a live region while sessions are answered from it.
 
 ghost use Rattle.std.specs.Prelude.{◌≡◌, ◌≢◌, ◌≤◌, map, vec_len, vec_capacity, All, Ok, Err, IfOk, IfErr, IsOk, OnOk, OnErr, IsErrOf, IsTrue, IsFalse, MatchResult};
 ghost use Rattle.std.specs.Io.KnownBytes.{Appends, Keeps};
@@ -21,12 +21,13 @@ mod messages;
 mod reports;
 mod rounds;
 mod streams;
+mod tally;
 
 use crate::Settings;
 use crate::server::connections::{StartedSessions, begin_sessions};
 use crate::server::rounds::take_rounds;
 use crate::server::streams::{Feeding, Feeds, Reading, begin_reading, end_reading};
-pub use connections::{ComesBack, Running, end_sessions};
+pub use connections::{ComesBack, Door, Running, end_sessions};
 pub use fault::ServeFault;
 pub use feeding::{Feed, Origin, read_feeds};
 use pn_join::{Marks, NoMemory};
@@ -37,9 +38,9 @@ use pn_region::Region;
 use pn_stream::StreamReader;
 use pn_tablet::Layout;
 use std::alloc::Global;
-use std::net::TcpListener;
 use std::sync::Wait;
 use std::thread::Threads;
+pub use tally::Tally;
 
 /// A live region and its readers.
 struct Opened {
@@ -52,10 +53,10 @@ struct Opened {
 ///
 /// After a fault of a stream or a round, the sessions are still served. A session's fault ends that session alone.
 /// Faults come in the order of `ServeFault`.
-pub fn serve<R, S, W>(
+pub fn serve<R, L, S, W>(
     rt: &R,
     alloc: Global,
-    listener: &TcpListener,
+    listener: &L,
     settings: Settings,
     sessions: usize,
     streams: Vec<StreamReader<S>>,
@@ -63,6 +64,7 @@ pub fn serve<R, S, W>(
 ) -> Result<(), ServeFault>
 where
     R: Threads + Wait + Sync + Copy + Send + 'static,
+    L: Door + Drop + Send + 'static,
     S: Source + Drop + Send + 'static,
     W: Sink,
     requires { (1 ≤ sessions) × (sessions ≤ max_readers) }
@@ -93,16 +95,17 @@ fn conclude<W: Sink>(served: Result<usize, ServeFault>, out: &mut W) -> Result<(
 }
 
 // Serves over a new live region, and closes it. Answers how many readers came back.
-fn serve_region<R, S>(
+fn serve_region<R, L, S>(
     rt: &R,
     alloc: Global,
-    listener: &TcpListener,
+    listener: &L,
     settings: Settings,
     sessions: usize,
     streams: Vec<StreamReader<S>>,
 ) -> Result<usize, ServeFault>
 where
     R: Threads + Wait + Sync + Copy + Send + 'static,
+    L: Door + Drop + Send + 'static,
     S: Source + Drop + Send + 'static,
     requires { (1 ≤ sessions) × (sessions ≤ max_readers) }
     ensures ends { EndsRegion S.left settings.layout streams.items result }
@@ -166,16 +169,17 @@ fn end(
 }
 
 // Reads the streams while the sessions are served, and takes the readers back from the sessions.
-fn serve_all<R, S>(
+fn serve_all<R, L, S>(
     rt: &R,
     alloc: Global,
-    listener: &TcpListener,
+    listener: &L,
     opened: &mut Opened,
     workers: usize,
     streams: Vec<StreamReader<S>>,
 ) -> Result<(), ServeFault>
 where
     R: Threads + Wait + Sync + Copy + Send + 'static,
+    L: Door + Drop + Send + 'static,
     S: Source + Drop + Send + 'static,
     requires workers { (1 ≤ workers) × (workers ≤ max_workers) }
     requires own { AllRead (tablets_in opened.old.live) opened.old.readers.items }
@@ -189,6 +193,8 @@ where
         is_refused,
     } = begin_sessions(rt, alloc, listener, &opened.live, &mut opened.readers);
     let Reading { feeds, threads } = reading;
+    let mut feeds = feeds;
+    feeds.rounds = listener.rounds();
     let read = take_all(rt, alloc, &mut opened.live, workers, &feeds, is_refused);
     feeds.close(rt);
     end_sessions(rt, &opened.live, running, &mut opened.readers);

@@ -1,8 +1,9 @@
 //! Replies that wait until a socket takes them.
 
-ghost use Rattle.std.specs.Prelude.{◌≡◌, ◌<◌, ◌↔◌, ◌++◌, [], length, IfOk, OnOk, OnErr, IsTrue};
+ghost use Rattle.std.specs.Prelude.{◌≡◌, ◌<◌, ◌↔◌, ◌++◌, [], length, IfOk, IfErr, OnOk, OnErr, IsTrue, MatchBool};
 ghost use Rattle.std.specs.Io.KnownBytes.{Keeps};
 ghost use Rattle.pn_line.specs.Sent.{AppendsPrefix, Sends};
+ghost use Rattle.pn_stay.specs.Faults.{WouldBlock};
 
 use crate::waiting::is_wait;
 use pn_line::{Sink, WriteFault};
@@ -70,6 +71,7 @@ impl Backlog {
         ensures all { IfOk result (λ sent. (sent ≡ Sent.All) ↔ (self.new ≡ [])) }
         ensures err { OnErr result (AppendsPrefix (W.contents writer.old) (W.contents writer.new) self.old) }
         ensures fault { OnErr result W.may_fail }
+        ensures stops { IfErr result (λ fault. ¬ (WouldBlock fault)) }
     {
         'writes: while !self.is_empty() {
             if let Err(fault) = self.send_once(writer) {
@@ -106,7 +108,8 @@ impl Backlog {
 
 // A writer that would block takes no more for now. Another fault stays.
 fn blocked(fault: WriteFault) -> Result<Sent, WriteFault>
-    ensures { IfOk result (λ sent. sent ≡ Sent.Waits) }
+    ensures waits { IfOk result (λ sent. (sent ≡ Sent.Waits) × WouldBlock fault) }
+    ensures stays { IfErr result (λ found. (found ≡ fault) × (¬ (WouldBlock fault))) }
 {
     if would_block(&fault) {
         return Ok(Sent::Waits);
@@ -114,7 +117,9 @@ fn blocked(fault: WriteFault) -> Result<Sent, WriteFault>
     Err(fault)
 }
 
-fn would_block(fault: &WriteFault) -> bool {
+fn would_block(fault: &WriteFault) -> bool
+    ensures { MatchBool result (WouldBlock fault.now) (¬ (WouldBlock fault.now)) }
+{
     match fault {
         WriteFault::Failed(error) => is_wait(error),
         WriteFault::TookNothing => false,

@@ -1,45 +1,65 @@
-//! A client of a session thread: its socket, and its connection between two turns.
+//! A client's connection, which stays in its place between two turns.
 
-ghost use Rattle.std.specs.Prelude.{◌≡◌};
+ghost use Rattle.std.specs.Prelude.{◌≡◌, Bool, IfSome};
+ghost use Rattle.pn_serve.specs.Lines.States.{Start};
 ghost use Rattle.pn_serve.specs.Session.Knowing.{KnowsNoLess};
+ghost use Rattle.pn_stay.specs.Kept.{nothing_kept};
+ghost use Rattle.pn_stay.specs.Others.{Passes};
+ghost use Rattle.pn_stay.specs.Turns.{Continues, Pauses, TurnsOn};
+ghost use Rattle.pn_stay.specs.declared.connection.Connection.TheVariants as connection;
 
 use crate::connection::{Connection, Pause, Turned};
 use crate::desk::Desk;
-use mio::net::TcpStream;
+use pn_line::Sink;
 use pn_serve::LineHandler;
 use std::alloc::Global;
+use std::io::Read;
+use std::marker::Model;
 use std::mem;
 
-/// A socket and its connection.
+/// A connection that is in its place.
 #[derive(Drop)]
-pub(crate) struct Client {
+pub struct Client {
     alloc: Global,
-    stream: TcpStream,
     connection: Connection,
-    /// Whether it is to have a turn.
-    pub(crate) is_ready: bool,
+}
+
+impl Model for Client {
+    ghost use Rattle.pn_stay.specs.declared.connection.Connection.{Connection};
+
+    ghost Value = { Connection };
+
+    ghost view = { λ client. client.connection };
 }
 
 impl Client {
-    /// A client of which nothing was read.
-    pub(crate) fn new(alloc: Global, stream: TcpStream) -> Client {
+    /// A client of whom nothing was read.
+    pub fn new(alloc: Global) -> Client
+        ensures { result ≡ connection.Answering nothing_kept }
+    {
         Client {
             alloc,
-            stream,
             connection: Connection::new(alloc),
-            is_ready: false,
         }
     }
 
-    /// One turn, after which it is not ready. None where the connection has ended.
-    pub(crate) fn turn<M: LineHandler>(&mut self, desk: &mut Desk, machine: &mut M) -> Option<Pause>
+    /// One turn of the connection. None where it has ended.
+    pub fn turn<M: LineHandler, R: Read, W: Sink>(
+        &mut self,
+        desk: &mut Desk,
+        machine: &mut M,
+        input: &mut R,
+        output: &mut W,
+    ) -> Option<Pause>
         requires ready { M.ready }
+        ensures turns { (shared : Bool) (start : Start M) → Continues M.makes M.ends shared start (R.remaining input.old) (W.contents output.old) machine.old self.old
+            → TurnsOn M.makes M.ends shared start (R.remaining input.new) (W.contents output.new) machine.new self.new result }
+        ensures pauses { IfSome result (Pauses self.new) }
+        ensures passes { Passes M.makes M.ends machine.old machine.new }
         ensures knows { KnowsNoLess (M.reader machine.old) (M.reader machine.new) }
     {
-        self.is_ready = false;
         let connection = mem::replace(&mut self.connection, Connection::new(self.alloc));
-        let stream = &self.stream;
-        match connection.turn(desk, machine, &mut &*stream, &mut &*stream) {
+        match connection.turn(desk, machine, input, output) {
             Turned::Goes(connection, pause) => {
                 self.connection = connection;
                 Some(pause)

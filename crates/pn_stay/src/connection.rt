@@ -1,13 +1,13 @@
 //! Connections: each is answered as a session is, in turns, between which it keeps as little as it can.
 
-ghost use Rattle.std.specs.Prelude.{◌≡◌, Bool, [], IfOk, OnErr};
+ghost use Rattle.std.specs.Prelude.{◌≡◌, ◌↔◌, Bool, [], IfOk, OnErr};
 ghost use Rattle.pn_serve.specs.Lines.States.{Start};
 ghost use Rattle.pn_line.specs.Sent.{AppendsPrefix, Sends};
 ghost use Rattle.pn_stay.specs.Kept.{nothing_kept};
 ghost use Rattle.pn_stay.specs.Others.{Passes};
 ghost use Rattle.pn_stay.specs.Standing.{StandsIn};
 ghost use Rattle.pn_stay.specs.declared.connection.Connection.TheVariants as connection;
-ghost use Rattle.pn_stay.specs.Turns.{Continues, TurnsTo};
+ghost use Rattle.pn_stay.specs.Turns.{Continues, PausesWell, TurnsTo};
 ghost use Rattle.pn_serve.specs.Session.Knowing.{KnowsNoLess};
 
 mod keeping;
@@ -116,6 +116,7 @@ impl Connection {
         requires ready { M.ready }
         ensures turns { (shared : Bool) (start : Start M) → Continues M.makes M.ends shared start (R.remaining input.old) (W.contents output.old) machine.old self
             → TurnsTo M.makes M.ends shared start (R.remaining input.new) (W.contents output.new) machine.new result }
+        ensures pauses { PausesWell result }
         ensures passes { Passes M.makes M.ends machine.old machine.new }
         ensures knows { KnowsNoLess (M.reader machine.old) (M.reader machine.new) }
     {
@@ -137,6 +138,7 @@ fn send_first<M: LineHandler, R: Read, W: Sink>(
     requires ready { M.ready }
     ensures turns { (shared : Bool) (start : Start M) → StandsIn M.makes M.ends shared start (R.remaining input.old) (W.contents output.old) machine.old kept
         → TurnsTo M.makes M.ends shared start (R.remaining input.new) (W.contents output.new) machine.new result }
+    ensures pauses { PausesWell result }
     ensures passes { Passes M.makes M.ends machine.old machine.new }
     ensures knows { KnowsNoLess (M.reader machine.old) (M.reader machine.new) }
 {
@@ -153,6 +155,7 @@ impl Answering {
     fn send<W: Sink>(&mut self, output: &mut W) -> Result<Sent, WriteFault>
         ensures ok { IfOk result (λ _. Sends (W.contents output.old) (W.contents output.new) self.old.waits self.new.waits []) }
         ensures err { OnErr result (AppendsPrefix (W.contents output.old) (W.contents output.new) self.old.waits) }
+        ensures all { IfOk result (λ sent. (sent ≡ Sent.All) ↔ (self.new.waits ≡ [])) }
         ensures same { self.new ≡ record self.old { waits = self.new.waits } }
     {
         self.backlog.send(output)
@@ -170,11 +173,15 @@ fn answer_some<M: LineHandler, R: Read, W: Sink>(
     requires ready { M.ready }
     ensures turns { (shared : Bool) (start : Start M) → StandsIn M.makes M.ends shared start (R.remaining input.old) (W.contents output.old) machine.old kept
         → TurnsTo M.makes M.ends shared start (R.remaining input.new) (W.contents output.new) machine.new result }
+    ensures pauses { PausesWell result }
     ensures passes { Passes M.makes M.ends machine.old machine.new }
     ensures knows { KnowsNoLess (M.reader machine.old) (M.reader machine.new) }
 {
     let alloc = kept.alloc;
     let mut backlog = kept.lay_out(desk);
+    let before = desk.lines.counts().lines;
     let step = take_steps(desk, machine, &mut backlog, input);
+    let more = desk.lines.counts().lines.saturating_sub(before);
+    desk.answered = desk.answered.saturating_add(more as u64);
     finish::<M, W>(alloc, desk, backlog, step, output)
 }

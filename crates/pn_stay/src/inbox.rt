@@ -1,8 +1,8 @@
 //! The inbox of a session thread: sockets that were accepted for it.
 
 use crate::gate::Gate;
+use crate::socket::Socket;
 use mio::Waker;
-use mio::net::TcpStream;
 use std::alloc::Global;
 use std::sync::{Arc, Mutex, Wait};
 use std::{io, mem};
@@ -19,16 +19,17 @@ pub(crate) struct Inbox {
 // What an inbox holds.
 #[derive(Drop)]
 struct Held {
-    streams: Vec<TcpStream>,
+    sockets: Vec<Socket>,
+    is_quarter_over: bool,
     is_closed: bool,
 }
 
 impl Held {
-    fn put(&mut self, stream: TcpStream) -> io::Result<()> {
+    fn put(&mut self, socket: Socket) -> io::Result<()> {
         if self.is_closed {
             return Err(io::Error::from(io::ErrorKind::NotConnected));
         }
-        self.streams.push(stream)?;
+        self.sockets.push(socket)?;
         Ok(())
     }
 }
@@ -39,7 +40,8 @@ impl Inbox {
         Inbox {
             alloc,
             held: Mutex::new(Held {
-                streams: Vec::new(alloc),
+                sockets: Vec::new(alloc),
+                is_quarter_over: false,
                 is_closed: false,
             }),
             waker,
@@ -48,14 +50,25 @@ impl Inbox {
     }
 
     /// Leaves a socket, and wakes the thread. An error drops the socket.
-    pub(crate) fn put<R: Wait>(&self, rt: &R, stream: TcpStream) -> io::Result<()> {
-        self.held.lock(rt).put(stream)?;
+    pub(crate) fn put<R: Wait>(&self, rt: &R, socket: Socket) -> io::Result<()> {
+        self.held.lock(rt).put(socket)?;
         self.waker.wake()
     }
 
     /// Takes all sockets.
-    pub(crate) fn take<R: Wait>(&self, rt: &R) -> Vec<TcpStream> {
-        mem::replace(&mut self.held.lock(rt).streams, Vec::new(self.alloc))
+    pub(crate) fn take<R: Wait>(&self, rt: &R) -> Vec<Socket> {
+        mem::replace(&mut self.held.lock(rt).sockets, Vec::new(self.alloc))
+    }
+
+    /// Says that a quarter of a second is over, and wakes the thread.
+    pub(crate) fn tell_quarter<R: Wait>(&self, rt: &R) -> io::Result<()> {
+        self.held.lock(rt).is_quarter_over = true;
+        self.waker.wake()
+    }
+
+    /// Whether a quarter of a second is over since this was asked last.
+    pub(crate) fn take_quarter<R: Wait>(&self, rt: &R) -> bool {
+        mem::replace(&mut self.held.lock(rt).is_quarter_over, false)
     }
 
     /// Says that no socket comes any more, and wakes the thread.
@@ -67,7 +80,7 @@ impl Inbox {
     /// Whether no socket comes any more, and all were taken.
     pub(crate) fn is_closed<R: Wait>(&self, rt: &R) -> bool {
         let held = self.held.lock(rt);
-        held.is_closed && held.streams.is_empty()
+        held.is_closed && held.sockets.is_empty()
     }
 
     /// Tells that a connection has ended.

@@ -7,16 +7,17 @@ ghost use Rattle.pn_serve.specs.Server.Sessions.{AllRead};
 
 mod sessions;
 
+use crate::house::House;
 use crate::server::sessions::begin;
 use pn_line::Source;
 use pn_live::{LiveReader, LiveRegion};
 use pn_serve::{
-    Feed, Origin, Running, ServeFault, Settings, close, end_sessions, open, read_feeds,
+    Feed, Origin, Running, ServeFault, Settings, Tally, close, end_sessions, open, read_feeds,
 };
 use std::alloc::Global;
 use std::marker::Model;
-use std::net::{Net, TcpListener};
-use std::sync::Wait;
+use std::net::Net;
+use std::sync::{Arc, Wait};
 use std::thread::Threads;
 use std::time::Clock;
 
@@ -32,17 +33,15 @@ pub struct StayingServer {
 impl Model for StayingServer {
     ghost use Rattle.std.specs.Prelude.{◌≡◌, ◌+◌, ◌≤◌, vec_len, vec_capacity, All};
     ghost use Rattle.pn_apply.specs.Prelude.{max_workers};
-    ghost use Rattle.pn_live.specs.LiveRegions.{LiveRegionValue};
     ghost use Rattle.pn_live.specs.Prelude.{tablets_in, tablets_of};
     ghost use Rattle.pn_serve.specs.Server.Sessions.{AllRead};
+    ghost use Rattle.pn_stay.specs.Staying.{StayingValue, staying_code};
 
-    ghost Value = { LiveRegionValue };
+    ghost Value = { StayingValue };
 
-    ghost use Rattle.pn_live.specs.Proofs.Coding.{live_code};
+    ghost coded = { staying_code };
 
-    ghost coded = { live_code };
-
-    ghost view = { λ server. server.live };
+    ghost view = { λ server. record { live = server.live; threads = vec_len server.running } };
 
     ghost invariant = { λ server. (1 ≤ server.workers) × (server.workers ≤ max_workers)
         × All (λ session. tablets_of session.promise.0.value ≡ tablets_in server.live) server.running.items
@@ -55,7 +54,7 @@ impl StayingServer {
     pub fn start<R>(
         rt: &R,
         alloc: Global,
-        listener: TcpListener,
+        house: House,
         settings: Settings,
         sessions: usize,
         connections: usize,
@@ -63,12 +62,13 @@ impl StayingServer {
     where
         R: Threads + Wait + Net + Clock + Sync + Copy + Send + 'static,
         requires { (1 ≤ sessions) × (sessions ≤ max_readers) }
-        ensures { IfOk result (λ server. IsNewLive settings.layout server) }
+        ensures is_new { IfOk result (λ server. IsNewLive settings.layout server.live) }
+        ensures threads { IfOk result (λ server. server.threads ≡ sessions) }
     {
         let (layout, workers) = settings.into_parts();
         let (live, readers) = open(rt, alloc, layout, sessions)?;
         let mut readers = readers;
-        match begin(rt, alloc, listener, connections, &live, &mut readers) {
+        match begin(rt, alloc, house, connections, &live, &mut readers) {
             Ok(running) => Ok(StayingServer {
                 live,
                 workers,
@@ -82,20 +82,23 @@ impl StayingServer {
         }
     }
 
-    /// Reads streams until all have ended. Connections are answered meanwhile, and after a fault too.
+    /// Reads streams until all have ended. Connections are answered meanwhile, and after a fault too. Rounds are
+    /// counted where somebody looks at it.
     pub fn read_feeds<R, S, O>(
         &mut self,
         rt: &R,
         alloc: Global,
         feeds: Vec<Feed<S, O>>,
+        rounds: Option<Arc<Tally>>,
     ) -> Result<(), ServeFault>
     where
         R: Threads + Wait + Sync + Copy + Send + 'static,
         S: Source + Drop + Send + 'static,
         O: Origin<S> + Drop + Send + 'static,
-        ensures { ReadsFeeds (vec_len feeds) self.old self.new result }
+        ensures reads { ReadsFeeds (vec_len feeds) self.old.live self.new.live result }
+        ensures threads { self.new.threads ≡ self.old.threads }
     {
-        read_feeds(rt, alloc, &mut self.live, self.workers, feeds)
+        read_feeds(rt, alloc, &mut self.live, self.workers, feeds, rounds)
     }
 
     /// Waits for the threads, which end where the system tells nothing more of sockets, and closes the region.

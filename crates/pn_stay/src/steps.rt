@@ -47,6 +47,7 @@ pub(crate) fn take_steps<M: LineHandler, R: Read>(
     requires few { desk.old.lines.counts.lines ≤ MAX_LINES }
     ensures steps { (shared : Bool) (start : Start M) (written : Option (List ℕ)) → StandsIn M.makes M.ends shared start (R.remaining input.old) written machine.old (at_desk desk.old backlog.old)
         → StepsTo M.makes M.ends shared start (R.remaining input.new) written machine.new (at_desk desk.new backlog.new) result }
+    ensures empty { result ≡ Step.Waits → desk.new.room ≡ [] }
     ensures few { GoesOn result → desk.new.lines.counts.lines ≤ MAX_LINES }
     ensures line { GoesOn result → IsLine desk.new.lines.line }
     ensures passes { Passes M.makes M.ends machine.old machine.new }
@@ -76,6 +77,7 @@ fn take_step<M: LineHandler, R: Read>(
     requires few { desk.old.lines.counts.lines ≤ MAX_LINES }
     ensures steps { (shared : Bool) (start : Start M) (written : Option (List ℕ)) → StandsIn M.makes M.ends shared start (R.remaining input.old) written machine.old (at_desk desk.old backlog.old)
         → StepsTo M.makes M.ends shared start (R.remaining input.new) written machine.new (at_desk desk.new backlog.new) result }
+    ensures empty { result ≡ Step.Waits → desk.new.room ≡ [] }
     ensures few { GoesOn result → desk.new.lines.counts.lines ≤ MAX_LINES }
     ensures line { GoesOn result → IsLine desk.new.lines.line }
     ensures passes { Passes M.makes M.ends machine.old machine.new }
@@ -111,6 +113,7 @@ fn read_more<M: LineHandler, R: Read>(
     requires empty { desk.old.room ≡ [] }
     ensures steps { (shared : Bool) (start : Start M) (written : Option (List ℕ)) → StandsIn M.makes M.ends shared start (R.remaining input.old) written machine.old (at_desk desk.old backlog.old)
         → StepsTo M.makes M.ends shared start (R.remaining input.new) written machine.new (at_desk desk.new backlog.new) result }
+    ensures empty { result ≡ Step.Waits → desk.new.room ≡ [] }
     ensures few { GoesOn result → desk.new.lines.counts.lines ≤ MAX_LINES }
     ensures line { GoesOn result → desk.new.lines.line ≡ desk.old.lines.line }
     ensures passes { Passes M.makes M.ends machine.old machine.new }
@@ -140,6 +143,7 @@ fn look_further<M: LineHandler, R: Read>(
     requires all { desk.old.lines.counts.lines ≡ MAX_LINES }
     ensures steps { (shared : Bool) (start : Start M) (written : Option (List ℕ)) → StandsIn M.makes M.ends shared start (R.remaining input.old) written machine.old (at_desk desk.old backlog.old)
         → StepsTo M.makes M.ends shared start (R.remaining input.new) written machine.new (at_desk desk.new backlog.new) result }
+    ensures empty { result ≡ Step.Waits → desk.new.room ≡ [] }
     ensures few { GoesOn result → desk.new.lines.counts.lines ≤ MAX_LINES }
     ensures line { GoesOn result → desk.new.lines.line ≡ desk.old.lines.line }
     ensures passes { Passes M.makes M.ends machine.old machine.new }
@@ -164,6 +168,7 @@ fn look_for_more<M: LineHandler, R: Read>(
     requires empty { desk.old.room ≡ [] }
     ensures steps { (shared : Bool) (start : Start M) (written : Option (List ℕ)) → StandsIn M.makes M.ends shared start (R.remaining input.old) written machine.old (at_desk desk.old backlog.old)
         → StepsTo M.makes M.ends shared start (R.remaining input.new) written machine.new (at_desk desk.new backlog.new) result }
+    ensures empty { result ≡ Step.Waits → desk.new.room ≡ [] }
     ensures few { GoesOn result → desk.new.lines.counts.lines ≤ MAX_LINES }
     ensures line { GoesOn result → desk.new.lines.line ≡ desk.old.lines.line }
     ensures passes { Passes M.makes M.ends machine.old machine.new }

@@ -4,47 +4,43 @@ ghost use Rattle.std.specs.Prelude.{◌≡◌, ◌≤◌, vec_len, IfOk, IfSome}
 ghost use Rattle.pn_live.specs.Prelude.{max_readers};
 ghost use Rattle.pn_serve.specs.Server.Reading.{IsAnew};
 
-use crate::served::{STREAM_ROOM, Unopened, listen, tell, tell_unopened};
-use crate::{fail, fail_about};
-use pn_join::{Dup, Name};
-use pn_serve::{Feed, Origin, ServeFault, Settings};
-use pn_stay::StayingServer;
+use crate::fail;
+use crate::places::leave;
+use crate::served::tell;
+use crate::streams::{FileSource, Opened, open_file};
+use pn_join::Name;
+use pn_serve::{Feed, Origin, Place, ServeFault, Service, Settings, Tally};
+use pn_stay::{House, StayingServer, Taken, before_others};
 use pn_stream::StreamReader;
-use std::alloc::Global;
+use std::alloc::{AllocError, Global};
 use std::fs::File;
-use std::io;
-use std::io::BufReader;
-use std::net::{Net, TcpListener, TcpStream};
-use std::os::unix::fs::FileTypeExt;
+use std::net::Net;
 use std::process::ExitCode;
 use std::rt::Files;
-use std::sync::Wait;
+use std::sync::{Arc, Wait};
 use std::thread::Threads;
 use std::time::Clock;
 
-// The file of a stream, and its messages.
-type Stream = StreamReader<BufReader<File>>;
-
-/// A server that listens, and the streams that it is to read.
+/// A server that listens, the streams that it is to read, and where its rounds are counted.
 pub(crate) struct Begun<R: Files<File = File> + Eprint + Drop> {
     pub(crate) server: StayingServer,
     pub(crate) feeds: Vec<FileFeed<R>>,
+    pub(crate) rounds: Option<Arc<Tally>>,
 }
 
-/// Opens the streams, listens, and begins to answer. Else it tells why not.
+/// Begins to answer where it is listened. Else it tells why not.
 pub(crate) fn begin_to_stay<R>(
     rt: &R,
     settings: Settings,
-    sessions: usize,
-    port: u16,
+    service: &Service,
     connections: u32,
-    streams: Vec<(Name, String)>,
+    house: House,
+    opened: Vec<Opened>,
 ) -> Result<Begun<R>, ExitCode>
 where
     R: AllocGlobal
         + Files<File = File>
-        + Net<Listener = TcpListener, Stream = TcpStream>
-        + Print
+        + Net
         + Eprint
         + Threads
         + Wait
@@ -53,34 +49,69 @@ where
         + Copy
         + Send
         + 'static,
-    requires { (1 ≤ sessions) × (sessions ≤ max_readers) }
+    requires { (1 ≤ service.now.sessions) × (service.now.sessions ≤ max_readers) }
 {
-    let feeds = match opened(rt, rt.alloc(), streams) {
-        Ok(feeds) => feeds,
-        Err(unopened) => return Err(tell_unopened(rt, unopened)),
-    };
-    let Ok(listener) = listen(rt, port) else {
-        return Err(fail(rt, "cannot listen"));
-    };
-    if println!(rt; "listening on 127.0.0.1:{port}").is_err() {
-        return Err(fail(rt, "write"));
+    match begin_in(rt, settings, service, connections, house, opened) {
+        Ok(begun) => Ok(begun),
+        Err(fault) => {
+            leave(rt, &service.place);
+            Err(tell(rt, fault))
+        }
     }
-    match StayingServer::start(
+}
+
+fn begin_in<R>(
+    rt: &R,
+    settings: Settings,
+    service: &Service,
+    connections: u32,
+    house: House,
+    opened: Vec<Opened>,
+) -> Result<Begun<R>, ServeFault>
+where
+    R: AllocGlobal
+        + Files<File = File>
+        + Net
+        + Eprint
+        + Threads
+        + Wait
+        + Clock
+        + Sync
+        + Copy
+        + Send
+        + 'static,
+    requires { (1 ≤ service.now.sessions) × (service.now.sessions ≤ max_readers) }
+{
+    let Ok(feeds) = feeds_of(rt, rt.alloc(), opened, service.is_progress_told) else {
+        return Err(ServeFault::Start);
+    };
+    let rounds = rounds_of(&house);
+    let server = StayingServer::start(
         rt,
         rt.alloc(),
-        listener,
+        house,
         settings,
-        sessions,
+        service.sessions,
         connections as usize,
-    ) {
-        Ok(server) => Ok(Begun { server, feeds }),
-        Err(fault) => Err(tell(rt, fault)),
+    )?;
+    Ok(Begun {
+        server,
+        feeds,
+        rounds,
+    })
+}
+
+fn rounds_of(house: &House) -> Option<Arc<Tally>> {
+    match Arc::try_clone(&house.watch.rounds) {
+        Ok(rounds) => Some(rounds),
+        Err(_) => None,
     }
 }
 
 /// Tells of a fault of the reading, and answers until a signal ends the program.
-pub(crate) fn go_on<R: Threads + Wait + Eprint>(
+pub(crate) fn go_on<R: Threads + Wait + Eprint + Files>(
     rt: &R,
+    place: &Place,
     server: StayingServer,
     read: Result<(), ServeFault>,
 ) -> ExitCode {
@@ -88,10 +119,11 @@ pub(crate) fn go_on<R: Threads + Wait + Eprint>(
         let _ = tell(rt, fault);
     }
     server.wait(rt);
+    leave(rt, place);
     fail(rt, "cannot serve")
 }
 
-// The path of a stream's file, and whether it is a FIFO.
+// The path of a stream's file, whether it is a FIFO, and where what is taken from it is counted.
 #[derive(Drop)]
 pub(crate) struct FileOrigin<R> {
     rt: R,
@@ -99,6 +131,9 @@ pub(crate) struct FileOrigin<R> {
     name: Name,
     path: String,
     is_fifo: bool,
+    taken: Option<Arc<Taken>>,
+    // What goes before each of its lines on standard error.
+    before: &'static str,
 }
 
 impl<R> FileOrigin<R>
@@ -106,21 +141,35 @@ where
     R: Files<File = File> + Eprint + Drop,
 {
     fn say(&self, how: &str) {
-        let _ = eprintln!(self.rt; "pnuts: stream {}{how}", self.name.as_str());
+        let _ = eprintln!(self.rt; "{}pnuts: stream {}{how}", self.before, self.name.as_str());
+    }
+
+    // Its next messages are the first ones.
+    fn count_anew(&self) {
+        if let Some(taken) = &self.taken {
+            taken.clear();
+        }
     }
 }
 
-impl<R> Origin<BufReader<File>> for FileOrigin<R>
+impl<R> Origin<FileSource> for FileOrigin<R>
 where
     R: Files<File = File> + Eprint + Drop,
 {
-    fn open_again(&mut self) -> Option<Stream> {
+    fn open_again(&mut self) -> Option<StreamReader<FileSource>> {
         self.say(" ended");
         if !self.is_fifo {
             return None;
         }
-        match open_file(&self.rt, self.alloc, &self.name, self.path.as_str()) {
+        match open_file(
+            &self.rt,
+            self.alloc,
+            &self.name,
+            self.path.as_str(),
+            &self.taken,
+        ) {
             Ok((stream, _)) => {
+                self.count_anew();
                 self.say(" begins again");
                 Some(stream)
             }
@@ -136,36 +185,40 @@ where
     }
 }
 
-pub(crate) type FileFeed<R> = Feed<BufReader<File>, FileOrigin<R>>;
+pub(crate) type FileFeed<R> = Feed<FileSource, FileOrigin<R>>;
 
-// Opens the files of the streams in their order.
-fn opened<R: Files<File = File> + Eprint + Copy + Drop>(
+// The streams, with where they come from.
+fn feeds_of<R: Files<File = File> + Eprint + Copy + Drop>(
     rt: &R,
     alloc: Global,
-    streams: Vec<(Name, String)>,
-) -> Result<Vec<FileFeed<R>>, Unopened>
-    ensures { IfOk result (λ opened. vec_len opened ≡ vec_len streams) }
+    opened: Vec<Opened>,
+    is_progress_told: bool,
+) -> Result<Vec<FileFeed<R>>, AllocError>
+    ensures { IfOk result (λ feeds. vec_len feeds ≡ vec_len opened) }
 {
-    let Ok(mut opened) = Vec::with_capacity(alloc, streams.len()) else {
-        return Err(Unopened::Memory);
-    };
-    for (name, path) in streams {
-        let feed = open_one(rt, alloc, name, path)?;
-        if opened.push(feed).is_err() {
-            return Err(Unopened::Memory);
-        }
+    let before = before_others(is_progress_told);
+    let mut feeds = Vec::with_capacity(alloc, opened.len())?;
+    for one in opened {
+        feeds.push(feed_of(rt, alloc, one, before))?;
     }
-    Ok(opened)
+    Ok(feeds)
 }
 
-fn open_one<R: Files<File = File> + Eprint + Copy + Drop>(
+fn feed_of<R: Files<File = File> + Eprint + Copy + Drop>(
     rt: &R,
     alloc: Global,
-    name: Name,
-    path: String,
-) -> Result<FileFeed<R>, Unopened> {
-    let (stream, is_fifo) = open_file(rt, alloc, &name, path.as_str())?;
-    Ok(Feed {
+    opened: Opened,
+    before: &'static str,
+) -> FileFeed<R> {
+    let Opened {
+        name,
+        path,
+        stream,
+        taken,
+        is_fifo,
+        ..
+    } = opened;
+    Feed {
         stream,
         origin: FileOrigin {
             rt: *rt,
@@ -173,37 +226,8 @@ fn open_one<R: Files<File = File> + Eprint + Copy + Drop>(
             name,
             path,
             is_fifo,
+            taken,
+            before,
         },
-    })
-}
-
-// Opens a file from its first message on. Whether it is a FIFO.
-fn open_file<R: Files<File = File>>(
-    rt: &R,
-    alloc: Global,
-    name: &Name,
-    path: &str,
-) -> Result<(Stream, bool), Unopened>
-    ensures { IfOk result (λ opened. IsAnew opened.0) }
-{
-    let Ok(file) = File::open(rt, path) else {
-        return Err(Unopened::File(same_name(name)));
-    };
-    let is_fifo = is_fifo(&file).unwrap_or(false);
-    let Ok(source) = BufReader::with_capacity(alloc, STREAM_ROOM, file) else {
-        return Err(Unopened::Memory);
-    };
-    Ok((
-        StreamReader::new(alloc, same_name(name), 0, source),
-        is_fifo,
-    ))
-}
-
-fn is_fifo(file: &File) -> io::Result<bool> {
-    Ok(file.metadata()?.file_type().is_fifo())
-}
-
-fn same_name(name: &Name) -> Name {
-    let Ok(name) = name.dup() else { unreachable!() };
-    name
+    }
 }

@@ -1,7 +1,10 @@
 -- What `serve` and `replay` say with their options.
-use Rattle.std.specs.Prelude.{ℕ, if◌then◌else◌, List, [], codes, Option, Some, None, unwrap_or, option_and_then, min, max, Result, Ok}
+use Rattle.std.specs.Prelude.{ℕ, Bool, ◌==◌, if◌then◌else◌, List, [], length, codes, Option, Some, None, unwrap_or, option_and_then, min, max, Result, Ok}
+use Rattle.std.specs.Net.Grammar.{IsIpText}
+use Rattle.std.specs.Option.{ok_or}
 use Rattle.std.specs.Str.{bytes_eq}
 use Rattle.std.specs.Str.Parse.{digits_value, without_leading_plus}
+use Rattle.std.specs.declared.net.ip_addr.IpAddr.{IpAddr}
 use Rattle.clap.specs.ValueTests.{is_unsigned_in}
 use Rattle.clap.specs.Words.{Row, Text, all_of, first_of, one_of}
 use Rattle.pn_json.specs.Answers.{◌>>=◌}
@@ -9,7 +12,8 @@ use Rattle.pn_serve.specs.Settings.{SettingsValue}
 use Rattle.pn_serve.specs.Arguments.Bounds.{bounds_in}
 use Rattle.pn_serve.specs.Arguments.Streams.{streams_in}
 use Rattle.pn_serve.specs.declared.arguments.plans.PlanFault.{PlanFault}
-use Rattle.pn_serve.specs.Arguments.PlanValues.{PlanValue, replay, serve}
+use Rattle.pn_serve.specs.declared.arguments.plans.PlanFault.TheVariants as fault
+use Rattle.pn_serve.specs.Arguments.PlanValues.{PlaceValue, PlanValue, ServiceValue, path, port, replay, serve}
 
 -- the number that decimal digits write, in 16 bits
 abbrev pub number_in : Text → Option ℕ
@@ -29,23 +33,64 @@ count_in text =
 abbrev pub count_at : Text → ℕ → List Row → ℕ
 count_at name most options = max 1 (min (unwrap_or (option_and_then count_in (one_of name options)) 1) most)
 
+-- the text of an option, which is empty where there is none
+abbrev pub text_at : Text → List Row → Text
+text_at name options = unwrap_or (first_of name options) []
+
+-- an option is absent, or its text is empty
+abbrev pub is_absent : Text → List Row → Bool
+is_absent name options = length (text_at name options) == 0
+
+-- an option without value is given
+abbrev pub is_set : Text → List Row → Bool
+is_set name options = bytes_eq (text_at name options) (codes "true")
+
 -- the connections of a server that stays
 abbrev pub stay_in : List Row → Option ℕ
-stay_in options =
-    if bytes_eq (unwrap_or (first_of (codes "stay") options) []) (codes "true") then Some (count_at (codes "connections") 65536 options) else None
+stay_in options = if is_set (codes "stay") options then Some (count_at (codes "connections") 65536 options) else None
+
+-- the seconds after which an idle client is ended
+abbrev pub idle_in : List Row → Option ℕ
+idle_in options = if is_absent (codes "idle") options then None else Some (count_at (codes "idle") 86400 options)
+
+-- a Unix socket, or else the port at this address
+abbrev pub place_in : IpAddr → List Row → PlaceValue
+place_in address options =
+    if is_absent (codes "socket") options then port address (number_at (codes "port") 65535 options)
+    else path (text_at (codes "socket") options)
+
+-- how sessions are served
+abbrev pub service_in : IpAddr → List Row → ServiceValue
+service_in address options = record {
+  sessions = number_at (codes "sessions") 16 options;
+  place = place_in address options;
+  stay = stay_in options;
+  idle = idle_in options;
+  is_progress_told = is_set (codes "progress") options;
+}
+
+-- the text of the address that is listened at
+abbrev pub listens_at : List Row → Text
+listens_at options = text_at (codes "listen") options
+
+-- the address that a text writes, or none where it writes none
+abbrev pub Spells : Text → Option IpAddr → Type 0
+Spells text None = (address : IpAddr) → ¬ (IsIpText text address)
+Spells text (Some address) = IsIpText text address
 
 -- the layout and the workers that options say
 abbrev pub settings_in : List Row → Result SettingsValue PlanFault
 settings_in options = do
-  layout ← bounds_in (unwrap_or (first_of (codes "bounds") options) [])
+  layout ← bounds_in (text_at (codes "bounds") options)
   Ok (record { layout = layout; workers = number_at (codes "workers") 16 options })
 
--- what the options of `serve` say
-abbrev pub serve_in : List Row → Result PlanValue PlanFault
-serve_in options = do
+-- what the options of `serve` say, where the text of the address writes this
+abbrev pub serve_in : Option IpAddr → List Row → Result PlanValue PlanFault
+serve_in written options = do
   settings ← settings_in options
+  address ← ok_or written fault.Address
   streams ← streams_in (unwrap_or (all_of (codes "streams") options) [])
-  Ok (serve settings (number_at (codes "sessions") 16 options) (number_at (codes "port") 65535 options) (stay_in options) streams)
+  Ok (serve settings (service_in address options) streams)
 
 -- what the options of `replay` say
 abbrev pub replay_in : List Row → Result PlanValue PlanFault
@@ -53,6 +98,10 @@ replay_in options = do
   settings ← settings_in options
   Ok (replay settings)
 
--- what a command says with its options
-abbrev pub plan_in : Text × List Row → Result PlanValue PlanFault
-plan_in command = if bytes_eq command.0 (codes "serve") then serve_in command.1 else replay_in command.1
+-- the command is `serve`
+abbrev pub is_serve : Text × List Row → Bool
+is_serve command = bytes_eq command.0 (codes "serve")
+
+-- what a command says with its options, where the text of the address writes this
+abbrev pub plan_in : Option IpAddr → Text × List Row → Result PlanValue PlanFault
+plan_in written command = if is_serve command then serve_in written command.1 else replay_in command.1

@@ -2,6 +2,7 @@
 use Rattle.std.specs.Prelude.{ℕ, [], ◌∷◌, true, codes, Some, pos}
 use Rattle.clap.specs.Words.{App, Rule, Text, new_app, new_rule, with_rule, with_subcommand}
 use Rattle.clap.specs.declared.builder.action.ArgAction.TheVariants.{Append, SetTrue}
+use Rattle.clap.specs.declared.builder.value_parser.ValueParser.{ValueParser}
 use Rattle.clap.specs.declared.builder.value_parser.ValueParser.TheVariants as values
 
 -- an option with one value, and its default
@@ -32,6 +33,26 @@ port_option = number_option (codes "port") (codes "7070") 65535
 abbrev pub stay_flag : Rule
 stay_flag = record (new_rule (codes "stay")) { long = Some (codes "stay"); action = Some SetTrue }
 
+-- the address that is listened at
+abbrev pub listen_option : Rule
+listen_option = option_of (codes "listen") (codes "127.0.0.1")
+
+-- an option with one value, and none where it is absent
+abbrev pub plain_option : Text → ValueParser → Rule
+plain_option name parser = record (new_rule name) { long = Some name; value_names = 1; parser = Some parser }
+
+-- the Unix socket that is listened on
+abbrev pub socket_option : Rule
+socket_option = plain_option (codes "socket") values.NonEmptyString
+
+-- after how many seconds an idle client is ended
+abbrev pub idle_option : Rule
+idle_option = plain_option (codes "idle") (values.Signed (pos 1) (pos 86400))
+
+-- whether it is told how far it is
+abbrev pub progress_flag : Rule
+progress_flag = record (new_rule (codes "progress")) { long = Some (codes "progress"); action = Some SetTrue }
+
 -- how many connections are served at once
 abbrev pub connections_option : Rule
 connections_option = number_option (codes "connections") (codes "1024") 65536
@@ -44,15 +65,19 @@ streams_words = record (new_rule (codes "streams")) { value_names = 1; action = 
 abbrev pub replay : App
 replay = with_rule (with_rule (new_app (codes "replay")) bounds_option) workers_option
 
+-- where and how long sessions are served
+abbrev pub with_service : App → App
+with_service app =
+    with_rule (with_rule (with_rule (with_rule (with_rule (with_rule (with_rule (with_rule app sessions_option) listen_option) port_option) socket_option) stay_flag) connections_option) idle_option) progress_flag
+
 -- streams are read while sessions are served
 abbrev pub serve : App
-serve =
-    with_rule (with_rule (with_rule (with_rule (with_rule (with_rule (with_rule (new_app (codes "serve")) bounds_option) workers_option) sessions_option) port_option) stay_flag) connections_option) streams_words
+serve = with_rule (with_service (with_rule (with_rule (new_app (codes "serve")) bounds_option) workers_option)) streams_words
 
--- the program, which needs a command
+-- the program, which needs a command, and has a version
 abbrev pub named : App
 named = record (new_app (codes "pnuts")) {
-  top = record (new_app (codes "pnuts")).top { subcommand_required = true; disable_help_subcommand = true };
+  top = record (new_app (codes "pnuts")).top { has_version = true; subcommand_required = true; disable_help_subcommand = true };
 }
 
 -- the program with its commands

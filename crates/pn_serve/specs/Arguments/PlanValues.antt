@@ -1,18 +1,53 @@
 -- Plans of the program.
-use Rattle.std.specs.Prelude.{ℕ, List, map, Option}
+use Rattle.std.specs.Prelude.{ℕ, Bool, List, map, string_bytes, Option}
+use Rattle.std.specs.declared.net.ip_addr.IpAddr.{IpAddr}
 use Rattle.pn_serve.specs.Settings.{SettingsValue}
 use Rattle.pn_serve.specs.Arguments.Streams.{StreamValue, stream_value}
+use Rattle.pn_serve.specs.declared.arguments.plans.Place.{Place}
+use Rattle.pn_serve.specs.declared.arguments.plans.Place.TheVariants as place
 use Rattle.pn_serve.specs.declared.arguments.plans.Plan.{Plan}
 use Rattle.pn_serve.specs.declared.arguments.plans.Plan.TheVariants as plan
+use Rattle.pn_serve.specs.declared.arguments.plans.Service.{Service}
 
--- a script; or the settings, sessions, port, connections of a server that stays, and streams to serve; or help
+-- an address and a port, or the path of a Unix socket
+pub data PlaceValue : Type 0 where
+  port : IpAddr → ℕ → PlaceValue
+  path : List ℕ → PlaceValue
+
+-- the sessions, where it is listened, the connections of a server that stays, the seconds of a client that is idle, and
+-- whether progress is told
+pub record ServiceValue : Type 0 where
+  pub sessions : ℕ
+  pub place : PlaceValue
+  pub stay : Option ℕ
+  pub idle : Option ℕ
+  pub is_progress_told : Bool
+
+-- a script; or the settings, the service and the streams to serve; or help, or the version
 pub data PlanValue : Type 0 where
   replay : SettingsValue → PlanValue
-  serve : SettingsValue → ℕ → ℕ → Option ℕ → List StreamValue → PlanValue
+  serve : SettingsValue → ServiceValue → List StreamValue → PlanValue
   help : PlanValue
+  version : PlanValue
+
+-- where a plan listens
+abbrev pub place_value : Place → PlaceValue
+place_value (place.Port address number) = port address number
+place_value (place.Path text) = path (string_bytes text)
+
+-- how a plan serves
+abbrev pub service_value : Service → ServiceValue
+service_value service = record {
+  sessions = service.sessions;
+  place = place_value service.place;
+  stay = service.stay;
+  idle = service.idle;
+  is_progress_told = service.is_progress_told;
+}
 
 -- what a plan of the program says
 abbrev pub plan_value : Plan → PlanValue
 plan_value (plan.Replay settings) = replay settings
-plan_value (plan.Serve settings sessions port stay streams) = serve settings sessions port stay (map stream_value streams.items)
+plan_value (plan.Serve settings service streams) = serve settings (service_value service) (map stream_value streams.items)
 plan_value (plan.Help text) = help
+plan_value (plan.Version text) = version

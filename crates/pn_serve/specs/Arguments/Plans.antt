@@ -1,8 +1,9 @@
 -- What arguments plan, or why they are refused.
-use Rattle.std.specs.Prelude.{◌≡◌, ◌≢◌, ◌≤◌, ⊤, List, [], Some, Result, Ok, Err}
+use Rattle.std.specs.Prelude.{◌≡◌, ◌≢◌, ◌≤◌, ⊤, true, List, [], Option, Some, Result, Ok, Err}
+use Rattle.std.specs.declared.net.ip_addr.IpAddr.{IpAddr}
 use Rattle.clap.specs.Words.{IsAmong, Row, Text, fault_of, subcommand_of}
 use Rattle.clap.specs.declared.error.kind.ErrorKind.{ErrorKind}
-use Rattle.clap.specs.declared.error.kind.ErrorKind.TheVariants.{DisplayHelp, OutOfMemory}
+use Rattle.clap.specs.declared.error.kind.ErrorKind.TheVariants.{DisplayHelp, DisplayVersion, OutOfMemory}
 use Rattle.pn_live.specs.Limits.{max_readers}
 use Rattle.pn_serve.specs.Arguments.Options.{program}
 use Rattle.pn_serve.specs.declared.arguments.plans.Plan.{Plan}
@@ -10,24 +11,39 @@ use Rattle.pn_serve.specs.declared.arguments.plans.Plan.TheVariants as plan
 use Rattle.pn_serve.specs.declared.arguments.plans.PlanFault.{PlanFault}
 use Rattle.pn_serve.specs.declared.arguments.plans.PlanFault.TheVariants as fault
 use Rattle.pn_serve.specs.Arguments.PlanValues.{PlanValue, plan_value}
-use Rattle.pn_serve.specs.Arguments.Commands.{plan_in}
+use Rattle.pn_serve.specs.Arguments.Commands.{Spells, is_serve, listens_at, plan_in}
+use Rattle.pn_json.specs.Answers.{ShowsUnless}
+
+-- what the text of the address writes, of a command that listens
+abbrev pub Reads : Text × List Row → Option IpAddr → Type 0
+Reads command written = is_serve command ≡ true → Spells (listens_at command.1) written
+
+-- a command and its options give this plan, or their first fault
+pub record Gives (command : Text × List Row) (result : Result Plan PlanFault) : Type 0 where
+  pub written : Option IpAddr
+  pub reads : Reads command written
+  pub shows : ShowsUnless fault.Memory plan_value result (plan_in written command)
 
 -- `clap` accepts the arguments, and their command says this
 pub record Says (words : List Text) (said : Result PlanValue PlanFault) : Type 0 where
   pub taken : fault_of program words ≡ []
   pub command : Text × List Row
   pub found : subcommand_of program words ≡ Some command
-  pub means : plan_in command ≡ said
+  pub written : Option IpAddr
+  pub reads : Reads command written
+  pub means : plan_in written command ≡ said
 
--- `clap` refuses the arguments, and they do not ask for help
+-- `clap` refuses the arguments, and they ask neither for help nor for the version
 pub record IsRefused (words : List Text) : Type 0 where
   pub kind : ErrorKind
   pub among : IsAmong kind (fault_of program words)
-  pub other : kind ≢ DisplayHelp
+  pub no_help : kind ≢ DisplayHelp
+  pub no_version : kind ≢ DisplayVersion
 
 -- what the arguments plan, or their first fault
 abbrev pub Plans : List Text → Result Plan PlanFault → Type 0
 Plans words (Ok (plan.Help text)) = IsAmong DisplayHelp (fault_of program words)
+Plans words (Ok (plan.Version text)) = IsAmong DisplayVersion (fault_of program words)
 Plans words (Ok planned) = Says words (Ok (plan_value planned))
 Plans words (Err (fault.Words text)) = IsRefused words
 Plans words (Err fault.Memory) = ⊤
@@ -36,12 +52,13 @@ Plans words (Err found) = Says words (Err found)
 -- what is answered if `clap` accepts no arguments
 abbrev pub Answers : ErrorKind → Result Plan PlanFault → Type 0
 Answers kind (Ok (plan.Help text)) = kind ≡ DisplayHelp
+Answers kind (Ok (plan.Version text)) = kind ≡ DisplayVersion
 Answers kind (Ok planned) = ⊥
-Answers kind (Err (fault.Words text)) = (kind ≢ DisplayHelp) × (kind ≢ OutOfMemory)
+Answers kind (Err (fault.Words text)) = (kind ≢ DisplayHelp) × (kind ≢ DisplayVersion) × (kind ≢ OutOfMemory)
 Answers kind (Err fault.Memory) = ⊤
 Answers kind (Err found) = ⊥
 
 -- a plan to serve has 1 to 16 sessions
 abbrev pub HasSessions : Plan → Type 0
-HasSessions (plan.Serve settings sessions port stay streams) = (1 ≤ sessions) × (sessions ≤ max_readers)
+HasSessions (plan.Serve settings service streams) = (1 ≤ service.sessions) × (service.sessions ≤ max_readers)
 HasSessions planned = ⊤

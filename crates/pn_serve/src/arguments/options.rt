@@ -4,12 +4,34 @@ ghost use Rattle.std.specs.Prelude.{◌≡◌, ◌≤◌, [], false, unwrap_or, 
 ghost use Rattle.clap.specs.Words.{app_of, first_of, found_of, rows_of, rule_of};
 ghost use Rattle.clap.specs.declared.builder.command.Command.TheViews.{out-Command};
 ghost use Rattle.clap.specs.declared.builder.value_parser.ValueParser.TheVariants as values;
-ghost use Rattle.pn_serve.specs.Arguments.Options.{bounds_option, connections_option, port_option, program, replay as replay_app, serve as serve_app, sessions_option, stay_flag, streams_words, workers_option};
+ghost use Rattle.pn_serve.specs.Arguments.Options.{bounds_option, connections_option, idle_option, listen_option, port_option, program, progress_flag, replay as replay_app, serve as serve_app, sessions_option, socket_option, stay_flag, streams_words, workers_option};
 ghost use Rattle.pn_serve.specs.Arguments.Commands.{count_at, number_at};
 
 use clap::builder::ValueParser;
 use clap::{Arg, ArgAction, ArgMatches, Command, value_parser};
 use std::alloc::{AllocError, Global};
+
+/// The version that `--version` says.
+const VERSION: &str = "0.1.0";
+
+/// The examples of `pnuts --help`.
+const EXAMPLES: &str = "\
+Examples:
+  pnuts replay < script
+  pnuts serve --stay --socket /run/pnuts/socket east=/run/pnuts/east";
+
+/// The examples of `pnuts replay --help`.
+const REPLAY_EXAMPLES: &str = "\
+Examples:
+  echo '{\"do\":\"marks\"}' | pnuts replay
+  pnuts replay --bounds '[\"g\",\"p\"]' --workers 3 < script";
+
+/// The examples of `pnuts serve --help`.
+const SERVE_EXAMPLES: &str = "\
+Examples:
+  pnuts serve --sessions 2 --bounds '[\"g\",\"p\"]' --workers 3 east=east.log west=west.log
+  pnuts serve --stay --connections 64 --listen ::1 --port 7071 east=/run/pnuts/east
+  pnuts serve --stay --socket /run/pnuts/socket --idle 60 --progress east=/run/pnuts/east";
 
 /// The program's commands and options.
 pub(crate) fn command<'w>(alloc: Global) -> Result<Command<'w>, AllocError>
@@ -17,6 +39,8 @@ pub(crate) fn command<'w>(alloc: Global) -> Result<Command<'w>, AllocError>
 {
     let command = Command::new(alloc, "pnuts")
         .about("A read region of a replicated record store")
+        .version(VERSION)
+        .after_help(EXAMPLES)
         .subcommand_required(true)
         .disable_help_subcommand(true);
     command
@@ -30,6 +54,7 @@ fn replay<'w>(alloc: Global) -> Result<Command<'w>, AllocError>
 {
     Command::new(alloc, "replay")
         .about("Answers the script on standard input, a reply a line, on standard output")
+        .after_help(REPLAY_EXAMPLES)
         .arg(bounds(alloc))?
         .arg(workers(alloc))
 }
@@ -39,13 +64,18 @@ fn serve<'w>(alloc: Global) -> Result<Command<'w>, AllocError>
     ensures local { IfOk result (λ command. (out-Command command).has_globals ≡ false) }
 {
     Command::new(alloc, "serve")
-        .about("Reads streams from files while it serves sessions on 127.0.0.1")
+        .about("Reads streams from files while it serves sessions over TCP or a Unix socket")
+        .after_help(SERVE_EXAMPLES)
         .arg(bounds(alloc))?
         .arg(workers(alloc))?
         .arg(sessions(alloc))?
+        .arg(listen(alloc))?
         .arg(port(alloc))?
+        .arg(socket(alloc))?
         .arg(stay(alloc))?
         .arg(connections(alloc))?
+        .arg(idle(alloc))?
+        .arg(progress(alloc))?
         .arg(streams(alloc))
 }
 
@@ -86,6 +116,17 @@ fn sessions<'w>(alloc: Global) -> Arg<'w>
         .help("How many sessions are served: 1 to 16")
 }
 
+fn listen<'w>(alloc: Global) -> Arg<'w>
+    ensures rule { rule_of result ≡ listen_option }
+    ensures local { result.global ≡ false }
+{
+    Arg::new(alloc, "listen")
+        .long("listen")
+        .value_name("ADDRESS")
+        .default_value("127.0.0.1")
+        .help("The address that is listened at, of IPv4 or IPv6")
+}
+
 fn port<'w>(alloc: Global) -> Arg<'w>
     ensures rule { rule_of result ≡ port_option }
     ensures local { result.global ≡ false }
@@ -96,6 +137,17 @@ fn port<'w>(alloc: Global) -> Arg<'w>
         .default_value("7070")
         .value_parser(one_to_65_535())
         .help("The port that is listened on")
+}
+
+fn socket<'w>(alloc: Global) -> Arg<'w>
+    ensures rule { rule_of result ≡ socket_option }
+    ensures local { result.global ≡ false }
+{
+    Arg::new(alloc, "socket")
+        .long("socket")
+        .value_name("PATH")
+        .value_parser(ValueParser::NonEmptyString)
+        .help("A Unix socket that is listened on in place of a port; only its owner may connect")
 }
 
 fn stay<'w>(alloc: Global) -> Arg<'w>
@@ -118,6 +170,27 @@ fn connections<'w>(alloc: Global) -> Arg<'w>
         .default_value("1024")
         .value_parser(one_to_65_536())
         .help("With --stay: how many connections are served at once: 1 to 65536")
+}
+
+fn idle<'w>(alloc: Global) -> Arg<'w>
+    ensures rule { rule_of result ≡ idle_option }
+    ensures local { result.global ≡ false }
+{
+    Arg::new(alloc, "idle")
+        .long("idle")
+        .value_name("SECONDS")
+        .value_parser(one_to_86_400())
+        .help("Ends a client that sends nothing and takes nothing for so long: 1 to 86400")
+}
+
+fn progress<'w>(alloc: Global) -> Arg<'w>
+    ensures rule { rule_of result ≡ progress_flag }
+    ensures local { result.global ≡ false }
+{
+    Arg::new(alloc, "progress")
+        .long("progress")
+        .action(ArgAction::SetTrue)
+        .help("Says on standard error how far it is, once a second while something changes")
 }
 
 fn streams<'w>(alloc: Global) -> Arg<'w>
@@ -147,6 +220,12 @@ fn one_to_65_536<'w>() -> ValueParser<'w>
     ensures { result ≡ values.Signed (pos 1) (pos 65536) }
 {
     value_parser!(u32).range(1..=65_536)
+}
+
+fn one_to_86_400<'w>() -> ValueParser<'w>
+    ensures { result ≡ values.Signed (pos 1) (pos 86400) }
+{
+    value_parser!(u32).range(1..=86_400)
 }
 
 /// The number of an option, from 1 to the most that `clap` lets through.

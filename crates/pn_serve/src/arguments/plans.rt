@@ -6,6 +6,7 @@ ghost use Rattle.pn_serve.specs.declared.arguments.plans.PlanFault.TheVariants.{
 use crate::Settings;
 use pn_join::Name;
 use std::alloc::AllocError;
+use std::net::IpAddr;
 use thiserror::Error;
 
 /// What the program's arguments ask for.
@@ -13,20 +14,40 @@ use thiserror::Error;
 pub enum Plan {
     /// Answer a script.
     Replay(Settings),
-    /// Read streams while sessions are served on a port.
+    /// Read streams while sessions are served.
     Serve {
         settings: Settings,
-        /// 1 to 16.
-        sessions: usize,
-        /// 1 to 65,535.
-        port: u16,
-        /// With `--stay`, how many connections are served at once: 1 to 65,536.
-        stay: Option<u32>,
+        service: Service,
         /// The names of 1 to 16 streams, each once, with the paths of their files.
         streams: Vec<(Name, String)>,
     },
     /// Show this help.
     Help(String),
+    /// Show the version.
+    Version(String),
+}
+
+/// How sessions are served.
+#[derive(Debug, Drop)]
+pub struct Service {
+    /// 1 to 16.
+    pub sessions: usize,
+    pub place: Place,
+    /// With `--stay`, how many connections are served at once: 1 to 65,536.
+    pub stay: Option<u32>,
+    /// After how many seconds a client that sends nothing and takes nothing is ended: 1 to 86,400.
+    pub idle: Option<u32>,
+    /// Whether standard error is told each second how far it is.
+    pub is_progress_told: bool,
+}
+
+/// Where it is listened.
+#[derive(Debug, Drop)]
+pub enum Place {
+    /// At an address, and a port from 1 to 65,535.
+    Port(IpAddr, u16),
+    /// At a Unix socket with this path.
+    Path(String),
 }
 
 /// Why arguments are refused.
@@ -38,6 +59,9 @@ pub enum PlanFault {
     /// The bounds are not a JSON array of rising keys.
     #[error("bounds")]
     Bounds,
+    /// The address is none of IPv4 or IPv6.
+    #[error("address")]
+    Address,
     /// A stream has no `=`, no name, no path or another's name, or there are more than 16.
     #[error("stream")]
     Stream,

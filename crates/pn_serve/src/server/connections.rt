@@ -1,20 +1,38 @@
-//! Sessions over TCP, each in its own thread, which gives its reader back.
+//! Sessions, each in its own thread, which gives its reader back.
 
 ghost use Rattle.std.specs.Prelude.{◌≡◌, ◌+◌, ◌≤◌, [], length, vec_len, vec_capacity, All, IfOk, IsFalse};
 ghost use Rattle.pn_live.specs.Prelude.{tablets_in, tablets_of};
 ghost use Rattle.pn_serve.specs.Server.Sessions.{AllRead};
 
+use crate::server::tally::Tally;
 use crate::session;
 use pn_live::{LiveReader, LiveRegion};
 use std::alloc::Global;
 use std::io::BufReader;
 use std::net::TcpListener;
 use std::snapshot::Snapshot;
+use std::sync::Arc;
 use std::thread::{Promise, PromisedHandle, Threads};
 use std::{io, thread};
 
 /// How many bytes of a session are read at a time.
 const SESSION_ROOM: usize = 65_536;
+
+/// Where the clients of sessions come from.
+pub trait Door: Drop {
+    ghost use Rattle.std.specs.Prelude.{◌≡◌};
+    ghost use Rattle.pn_live.specs.Prelude.{tablets_of};
+
+    /// Another handle of the same door, for another thread.
+    fn again(&self) -> io::Result<Self>;
+
+    /// Waits for a client, and answers its lines from a reader.
+    fn answer_client(&self, alloc: Global, reader: &mut LiveReader) -> io::Result<()>
+        ensures { tablets_of reader.new ≡ tablets_of reader.old };
+
+    /// The count of rounds, where somebody looks at it.
+    fn rounds(&self) -> Option<Arc<Tally>>;
+}
 
 /// Promises that the reader comes back: it reads the same tablets.
 #[derive(Drop)]
@@ -38,10 +56,10 @@ pub(crate) struct StartedSessions {
 }
 
 /// Starts a session for each reader, until one is refused. Its reader is dropped.
-pub(crate) fn begin_sessions<R: Threads>(
+pub(crate) fn begin_sessions<R: Threads, L: Door + Drop + Send + 'static>(
     rt: &R,
     alloc: Global,
-    listener: &TcpListener,
+    listener: &L,
     live: &LiveRegion,
     readers: &mut Vec<LiveReader>,
 ) -> StartedSessions
@@ -72,36 +90,44 @@ pub(crate) fn begin_sessions<R: Threads>(
     }
 }
 
-fn begin_session<R: Threads>(
+fn begin_session<R: Threads, L: Door + Drop + Send + 'static>(
     rt: &R,
     alloc: Global,
-    listener: &TcpListener,
+    listener: &L,
     reader: LiveReader,
 ) -> io::Result<Running>
     ensures { IfOk result (λ session. tablets_of session.promise.0.value ≡ tablets_of reader) }
 {
-    let listener = listener.try_clone()?;
+    let listener = listener.again()?;
     let promise = ComesBack(Snapshot::of(&reader));
     Ok(thread::spawn_with(rt, promise, move || { serve_one(alloc, listener, reader) })?)
 }
 
 // Serves one connection, and gives the reader back.
-fn serve_one(alloc: Global, listener: TcpListener, reader: LiveReader) -> LiveReader
+fn serve_one<L: Door + Drop>(alloc: Global, listener: L, reader: LiveReader) -> LiveReader
     ensures { tablets_of result ≡ tablets_of reader }
 {
     let mut reader = reader;
-    let _ = answer_client(alloc, &listener, &mut reader);
+    let _ = listener.answer_client(alloc, &mut reader);
     reader
 }
 
-fn answer_client(alloc: Global, listener: &TcpListener, reader: &mut LiveReader) -> io::Result<()>
-    ensures { tablets_of reader.new ≡ tablets_of reader.old }
-{
-    let (stream, _) = listener.accept()?;
-    stream.set_nodelay(true)?;
-    let mut input = BufReader::with_capacity(alloc, SESSION_ROOM, &stream)?;
-    let _ = session(alloc, reader, &mut input, &mut &stream);
-    Ok(())
+impl Door for TcpListener {
+    fn again(&self) -> io::Result<TcpListener> {
+        self.try_clone()
+    }
+
+    fn answer_client(&self, alloc: Global, reader: &mut LiveReader) -> io::Result<()> {
+        let (stream, _) = self.accept()?;
+        stream.set_nodelay(true)?;
+        let mut input = BufReader::with_capacity(alloc, SESSION_ROOM, &stream)?;
+        let _ = session(alloc, reader, &mut input, &mut &stream);
+        Ok(())
+    }
+
+    fn rounds(&self) -> Option<Arc<Tally>> {
+        None
+    }
 }
 
 /// Waits for the sessions, and takes their readers back.

@@ -11,6 +11,7 @@ use crate::server::mailbox::Mailbox;
 use crate::server::reports::{Report, name_of, next_report};
 use crate::server::rounds::take_rounds;
 use crate::server::streams::{Feeds, Place};
+use crate::server::tally::Tally;
 use pn_line::Source;
 use pn_live::LiveRegion;
 use pn_stream::StreamReader;
@@ -41,13 +42,15 @@ pub struct Feed<S: Source + Drop, O: Origin<S> + Drop> {
 }
 
 /// Reads streams into a live region until all have ended, at most 1,000 messages of each a round. A stream's fault
-/// ends that stream alone. The fault is `Start`, or `Round`, after which no stream is read.
+/// ends that stream alone. The fault is `Start`, or `Round`, after which no stream is read. Rounds are counted where
+/// somebody looks at it.
 pub fn read_feeds<R, S, O>(
     rt: &R,
     alloc: Global,
     live: &mut LiveRegion,
     workers: usize,
     feeds: Vec<Feed<S, O>>,
+    rounds: Option<Arc<Tally>>,
 ) -> Result<(), ServeFault>
 where
     R: Threads + Wait + Sync + Copy + Send + 'static,
@@ -57,7 +60,7 @@ where
     ensures reads { ReadsFeeds (vec_len feeds) live.old live.new result }
     ensures same { tablets_in live.new ≡ tablets_in live.old }
 {
-    let Ok(begun) = begin_feeding(rt, alloc, feeds) else {
+    let Ok(begun) = begin_feeding(rt, alloc, feeds, rounds) else {
         return Err(ServeFault::Start);
     };
     let read = take_rounds(rt, alloc, live, workers, &begun);
@@ -70,6 +73,7 @@ fn begin_feeding<R, S, O>(
     rt: &R,
     alloc: Global,
     feeds: Vec<Feed<S, O>>,
+    rounds: Option<Arc<Tally>>,
 ) -> Result<Feeds, AllocError>
 where
     R: Threads + Wait + Copy + Send + 'static,
@@ -80,6 +84,7 @@ where
     let mut begun = Feeds {
         places: Vec::with_capacity(alloc, feeds.len())?,
         bell: Arc::new(alloc, Bell::new())?,
+        rounds,
     };
     for feed in feeds {
         if let Err(fault) = begin_one(rt, alloc, &mut begun, feed) {

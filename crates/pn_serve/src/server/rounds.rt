@@ -54,6 +54,7 @@ pub(crate) fn take_rounds<R: Threads + Wait + Sync>(
         feeds.wait(rt);
         let gathered = gather(rt, alloc, feeds)?;
         let ended = take_gathered(rt, live, workers, gathered)?;
+        feeds.count_round();
         reading = reading.saturating_sub(ended);
     }
     unreachable!()

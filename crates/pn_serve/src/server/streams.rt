@@ -9,6 +9,7 @@ use crate::ServeFault;
 use crate::server::bell::Bell;
 use crate::server::mailbox::Mailbox;
 use crate::server::reports::{name_of, next_report};
+use crate::server::tally::Tally;
 use pn_join::{Marks, StreamName};
 use pn_line::Source;
 use pn_stream::StreamReader;
@@ -45,11 +46,12 @@ pub(crate) struct Place {
     pub(crate) mailbox: Arc<Mailbox>,
 }
 
-/// The places of the streams, and the bell that their threads ring.
+/// The places of the streams, the bell that their threads ring, and the count of rounds where somebody looks at it.
 #[derive(Drop)]
 pub(crate) struct Feeds {
     pub(crate) places: Vec<Place>,
     pub(crate) bell: Arc<Bell>,
+    pub(crate) rounds: Option<Arc<Tally>>,
 }
 
 impl Feeds {
@@ -63,6 +65,13 @@ impl Feeds {
     /// Waits until a report is left, or was left since the last call.
     pub(crate) fn wait<R: Wait>(&self, rt: &R) {
         self.bell.wait(rt);
+    }
+
+    /// Counts a round.
+    pub(crate) fn count_round(&self) {
+        if let Some(rounds) = &self.rounds {
+            rounds.add(1);
+        }
     }
 
     /// Ends the reading. Each thread ends after its current wait for messages.
@@ -114,6 +123,7 @@ where
         feeds: Feeds {
             places: Vec::with_capacity(alloc, streams.len())?,
             bell: Arc::new(alloc, Bell::new())?,
+            rounds: None,
         },
         threads: Vec::with_capacity(alloc, streams.len())?,
     };

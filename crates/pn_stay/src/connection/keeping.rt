@@ -1,11 +1,13 @@
 //! What a connection keeps is laid out on a desk, and taken from it.
 
-ghost use Rattle.std.specs.Prelude.{◌≡◌, ◌+◌, ◌≤◌, ℕ, Bool, List, [], ◌++◌, Option, length, vec_len, IfOk};
+ghost use Rattle.std.specs.Prelude.{◌≡◌, ◌≢◌, ◌+◌, ◌≤◌, ℕ, Bool, List, [], ◌++◌, Option, length, vec_len, IfOk};
 ghost use Rattle.pn_line.specs.Line.{so_far};
 ghost use Rattle.pn_serve.specs.Lines.States.{Start};
 ghost use Rattle.pn_stay.specs.Kept.{line_in, IsLine, SameInput};
 ghost use Rattle.pn_stay.specs.Standing.{StandsIn};
-ghost use Rattle.pn_stay.specs.Turns.{at_desk, TurnsTo};
+ghost use Rattle.pn_stay.specs.Turns.{at_desk, GoesOnSoon, IsPause, PausesWell, TurnsTo};
+ghost use Rattle.pn_stay.specs.declared.connection.Pause.TheVariants as pauses;
+ghost use Rattle.pn_stay.specs.declared.steps.Step.TheVariants as steps;
 
 use crate::backlog::Backlog;
 use crate::connection::{Answering, Closing, Connection, Pause, Turned};
@@ -60,6 +62,9 @@ pub(super) fn keep<M: LineHandler>(
     requires few { desk.old.lines.counts.lines ≤ MAX_LINES }
     requires line { IsLine desk.old.lines.line }
     requires none { desk.old.lines.waits ≡ [] }
+    requires pause { IsPause pause backlog }
+    ensures pauses { PausesWell result }
+    ensures soon { pause ≢ pauses.Input → GoesOnSoon steps.Next result }
     ensures turns { (shared : Bool) (start : Start M) (left written : Option (List ℕ)) (machine : M) → StandsIn M.makes M.ends shared start left written machine (at_desk desk.old backlog)
         → TurnsTo M.makes M.ends shared start left written machine result }
 {

@@ -1,10 +1,11 @@
 //! After the lines of a turn: their replies are sent, and the connection goes on or ends.
 
-ghost use Rattle.std.specs.Prelude.{◌≡◌, ◌≤◌, ℕ, Bool, List, [], Option};
+ghost use Rattle.std.specs.Prelude.{◌≡◌, ◌≢◌, ◌≤◌, ℕ, Bool, List, [], Option};
 ghost use Rattle.pn_serve.specs.Lines.States.{Start};
 ghost use Rattle.pn_stay.specs.Kept.{IsLine};
 ghost use Rattle.pn_stay.specs.Standing.{StandsIn};
-ghost use Rattle.pn_stay.specs.Turns.{at_desk, Continues, GoesOn, StepsTo, TurnsTo};
+ghost use Rattle.pn_stay.specs.Turns.{at_desk, Continues, GoesOn, GoesOnSoon, PausesWell, StepsTo, TurnsTo};
+ghost use Rattle.pn_stay.specs.declared.connection.Pause.TheVariants as pauses;
 ghost use Rattle.pn_stay.specs.declared.connection.Connection.TheVariants as connection;
 
 use crate::backlog::{Backlog, Sent};
@@ -28,6 +29,8 @@ pub(super) fn finish<M: LineHandler, W: Sink>(
     requires line { GoesOn step → IsLine desk.old.lines.line }
     ensures turns { (shared : Bool) (start : Start M) (left : Option (List ℕ)) (machine : M) → StepsTo M.makes M.ends shared start left (W.contents output.old) machine (at_desk desk.old backlog) step
         → TurnsTo M.makes M.ends shared start left (W.contents output.new) machine result }
+    ensures pauses { PausesWell result }
+    ensures soon { GoesOnSoon step result }
 {
     let mut backlog = backlog;
     match desk.lines.flush(&mut backlog) {
@@ -49,6 +52,8 @@ fn conclude<M: LineHandler, W: Sink>(
     requires none { desk.old.lines.waits ≡ [] }
     ensures turns { (shared : Bool) (start : Start M) (left : Option (List ℕ)) (machine : M) → StepsTo M.makes M.ends shared start left (W.contents output.old) machine (at_desk desk.old backlog) step
         → TurnsTo M.makes M.ends shared start left (W.contents output.new) machine result }
+    ensures pauses { PausesWell result }
+    ensures soon { GoesOnSoon step result }
 {
     match step {
         Step::Next => go_on::<M, W>(alloc, desk, backlog, Pause::Turn, output),
@@ -62,6 +67,7 @@ fn conclude<M: LineHandler, W: Sink>(
 pub(super) fn send_rest<M: LineHandler, W: Sink>(closing: Closing, output: &mut W) -> Turned
     ensures turns { (shared : Bool) (start : Start M) (left : Option (List ℕ)) (machine : M) → Continues M.makes M.ends shared start left (W.contents output.old) machine (connection.Closing closing)
         → TurnsTo M.makes M.ends shared start left (W.contents output.new) machine result }
+    ensures pauses { PausesWell result }
 {
     let Closing { backlog, ended } = closing;
     let mut backlog = backlog;
@@ -86,8 +92,11 @@ fn go_on<M: LineHandler, W: Sink>(
     requires few { desk.old.lines.counts.lines ≤ MAX_LINES }
     requires line { IsLine desk.old.lines.line }
     requires none { desk.old.lines.waits ≡ [] }
+    requires pause { pause ≢ pauses.Output }
     ensures turns { (shared : Bool) (start : Start M) (left : Option (List ℕ)) (machine : M) → StandsIn M.makes M.ends shared start left (W.contents output.old) machine (at_desk desk.old backlog)
         → TurnsTo M.makes M.ends shared start left (W.contents output.new) machine result }
+    ensures pauses { PausesWell result }
+    ensures soon { pause ≢ pauses.Input → GoesOnSoon Step.Next result }
 {
     let mut backlog = backlog;
     match backlog.send(output) {

@@ -1,19 +1,22 @@
-//! The session threads of a server that stays, and the thread that accepts their connections.
+//! The session threads of a server that stays, the thread that accepts their connections, and the one that tells them the time.
 
 ghost use Rattle.std.specs.Prelude.{◌≡◌, ◌+◌, ◌≤◌, vec_len, vec_capacity, All, IfOk};
 ghost use Rattle.pn_live.specs.Prelude.{tablets_in, tablets_of};
 ghost use Rattle.pn_serve.specs.Server.Sessions.{AllRead};
 ghost use Rattle.pn_serve.specs.Session.Knowing.{KnowsNoLess};
 
-use crate::accepting::accept_all;
+use crate::accepting::{accept_all, tell_quarters};
 use crate::event_loop::{EventLoop, INBOX};
 use crate::gate::Gate;
+use crate::house::House;
 use crate::inbox::Inbox;
+use crate::listener::Listener;
+use crate::watch::Watch;
 use mio::{Poll, Waker};
 use pn_live::{LiveReader, LiveRegion};
 use pn_serve::{ComesBack, Running};
 use std::alloc::Global;
-use std::net::{Net, TcpListener};
+use std::net::Net;
 use std::snapshot::Snapshot;
 use std::sync::{Arc, Wait};
 use std::thread::Threads;
@@ -24,7 +27,7 @@ use std::{io, thread};
 pub(super) fn begin<R>(
     rt: &R,
     alloc: Global,
-    listener: TcpListener,
+    house: House,
     connections: usize,
     live: &LiveRegion,
     readers: &mut Vec<LiveReader>,
@@ -35,22 +38,62 @@ where
     ensures running { IfOk result (λ running. All (λ session. tablets_of session.promise.0.value ≡ tablets_in live.now) running.items) }
     ensures readers { AllRead (tablets_in live.now) readers.new.items }
     ensures room { IfOk result (λ running. vec_len running + vec_len readers.new ≤ vec_capacity readers.new) }
+    ensures all { IfOk result (λ running. vec_len running ≡ vec_len readers.old) }
 {
-    let gate = Arc::new(alloc, Gate::new(connections))?;
+    let House {
+        listener,
+        idle,
+        watch,
+    } = house;
+    let lobby = Lobby {
+        alloc,
+        gate: Arc::new(alloc, Gate::new(connections))?,
+        idle,
+        watch,
+    };
     let mut inboxes = Vec::new(alloc);
-    let running = begin_sessions(rt, alloc, &gate, &mut inboxes, live, readers)?;
+    let running = begin_sessions(rt, &lobby, &mut inboxes, live, readers)?;
+    begin_accepting(rt, lobby, listener, inboxes)?;
+    Ok(running)
+}
+
+// What the threads share.
+#[derive(Drop)]
+struct Lobby {
+    alloc: Global,
+    gate: Arc<Gate>,
+    idle: Option<u32>,
+    watch: Arc<Watch>,
+}
+
+// Starts the thread that accepts connections, and where clients may not be idle the one that tells the time.
+fn begin_accepting<R>(
+    rt: &R,
+    lobby: Lobby,
+    listener: Listener,
+    inboxes: Vec<Arc<Inbox>>,
+) -> io::Result<()>
+where
+    R: Threads + Wait + Clock + Copy + Send + 'static,
+{
+    let inboxes = Arc::new(lobby.alloc, inboxes)?;
+    if lobby.idle.is_some() {
+        let told = Arc::try_clone(&inboxes)?;
+        let host = *rt;
+        thread::spawn(rt, move || tell_quarters(&host, &told))?;
+    }
+    let gate = lobby.gate;
     let host = *rt;
     thread::spawn(rt, move || {
         accept_all(&host, &listener, &gate, &inboxes)
     })?;
-    Ok(running)
+    Ok(())
 }
 
 // Starts a thread for each reader, until one is refused. Its reader is dropped.
 fn begin_sessions<R>(
     rt: &R,
-    alloc: Global,
-    gate: &Arc<Gate>,
+    lobby: &Lobby,
     inboxes: &mut Vec<Arc<Inbox>>,
     live: &LiveRegion,
     readers: &mut Vec<LiveReader>,
@@ -61,10 +104,11 @@ where
     ensures running { IfOk result (λ running. All (λ session. tablets_of session.promise.0.value ≡ tablets_in live.now) running.items) }
     ensures readers { AllRead (tablets_in live.now) readers.new.items }
     ensures room { IfOk result (λ running. vec_len running + vec_len readers.new ≤ vec_capacity readers.new) }
+    ensures all { IfOk result (λ running. vec_len running ≡ vec_len readers.old) }
 {
-    let mut running = Vec::with_capacity(alloc, readers.len())?;
+    let mut running = Vec::with_capacity(lobby.alloc, readers.len())?;
     while let Some(reader) = readers.pop() {
-        let session = begin_session(rt, alloc, gate, inboxes, reader)?;
+        let session = begin_session(rt, lobby, inboxes, reader)?;
         running.push_reserved(session);
     }
     Ok(running)
@@ -73,8 +117,7 @@ where
 // Starts the thread of a reader, and adds its inbox.
 fn begin_session<R>(
     rt: &R,
-    alloc: Global,
-    gate: &Arc<Gate>,
+    lobby: &Lobby,
     inboxes: &mut Vec<Arc<Inbox>>,
     reader: LiveReader,
 ) -> io::Result<Running>
@@ -83,12 +126,14 @@ where
     ensures { IfOk result (λ session. tablets_of session.promise.0.value ≡ tablets_of reader) }
 {
     let poll = Poll::new(rt)?;
-    let inbox = new_inbox(alloc, &poll, gate)?;
+    let inbox = new_inbox(lobby, &poll)?;
     inboxes.push(Arc::try_clone(&inbox)?)?;
     let promise = ComesBack(Snapshot::of(&reader));
     let session = Session {
-        alloc,
+        alloc: lobby.alloc,
         poll,
+        idle: lobby.idle,
+        watch: Arc::try_clone(&lobby.watch)?,
         inbox,
         reader,
     };
@@ -96,10 +141,10 @@ where
 }
 
 // An inbox that wakes who waits at the poll.
-fn new_inbox(alloc: Global, poll: &Poll, gate: &Arc<Gate>) -> io::Result<Arc<Inbox>> {
+fn new_inbox(lobby: &Lobby, poll: &Poll) -> io::Result<Arc<Inbox>> {
     let waker = Waker::new(poll.registry(), INBOX)?;
-    let gate = Arc::try_clone(gate)?;
-    Ok(Arc::new(alloc, Inbox::new(alloc, waker, gate))?)
+    let gate = Arc::try_clone(&lobby.gate)?;
+    Ok(Arc::new(lobby.alloc, Inbox::new(lobby.alloc, waker, gate))?)
 }
 
 // What a session thread begins with.
@@ -107,6 +152,8 @@ fn new_inbox(alloc: Global, poll: &Poll, gate: &Arc<Gate>) -> io::Result<Arc<Inb
 struct Session {
     alloc: Global,
     poll: Poll,
+    idle: Option<u32>,
+    watch: Arc<Watch>,
     inbox: Arc<Inbox>,
     reader: LiveReader,
 }
@@ -152,23 +199,29 @@ fn answer_all<R: Wait>(rt: &R, session: Session) -> LiveReader
     let Session {
         alloc,
         poll,
+        idle,
+        watch,
         inbox,
         reader,
     } = session;
     let mut reader = reader;
-    let _ = run(rt, alloc, poll, &inbox, &mut reader);
+    let _ = run(
+        rt,
+        EventLoop::new(alloc, poll, idle, watch),
+        &inbox,
+        &mut reader,
+    );
     let _ = inbox.close(rt);
     reader
 }
 
 fn run<R: Wait>(
     rt: &R,
-    alloc: Global,
-    poll: Poll,
+    begun: io::Result<EventLoop>,
     inbox: &Inbox,
     reader: &mut LiveReader,
 ) -> io::Result<()>
     ensures { KnowsNoLess reader.old reader.new }
 {
-    EventLoop::new(alloc, poll)?.run(rt, inbox, reader)
+    begun?.run(rt, inbox, reader)
 }

@@ -6,5 +6,5 @@ use Rattle.pn_serve.proofs.arguments.options.replay.Goals as goal
 
 pub returns-clause-app : goal.returns-clause-app
 returns-clause-app c =
-    let first = c.in_ok-arg.ensures.shape c.bounds.ensures.local ∙ ap₂ with_rule (ap app_of_fields c.about.ensures ∙ c.new.ensures.app) c.bounds.ensures.rule in
+    let first = c.in_ok-arg.ensures.shape c.bounds.ensures.local ∙ ap₂ with_rule (ap app_of_fields c.after_help.ensures ∙ (ap app_of_fields c.about.ensures ∙ c.new.ensures.app)) c.bounds.ensures.rule in
     IfOk-weaker c.arg-2.result _ _ (λ r adds. adds.shape c.workers.ensures.local ∙ ap₂ with_rule first c.workers.ensures.rule) c.arg-2.ensures

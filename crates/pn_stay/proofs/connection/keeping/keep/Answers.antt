@@ -5,18 +5,14 @@ use Rattle.pn_stay.specs.Turns.{at_desk}
 use Rattle.pn_stay.proofs.Stepping.{Steps-same, Steps-read, Ends-waiting, none_after}
 use Rattle.pn_stay.proofs.connection.keeping.keep.Goals as goal
 
-pub returns-in-Ok : goal.returns-in-Ok
-returns-in-Ok g c = record {
-  turns = λ shared start left written machine stands.
-      Steps-same g.M.LineHandler.makes g.M.LineHandler.ends shared start left written machine (at_desk c.args.desk.now c.args.backlog) _ stands c.in-Ok.ensures.same
-      (sym (none_after c.args.backlog c.args.desk.now.lines.waits c.requires.none)) c.counts-counts.ensures.counts;
-}
+pub returns-in-Ok-clause-turns : goal.returns-in-Ok-clause-turns
+returns-in-Ok-clause-turns g c = λ shared start left written machine stands.
+    Steps-same g.M.LineHandler.makes g.M.LineHandler.ends shared start left written machine (at_desk c.args.desk.now c.args.backlog) _ stands c.in-Ok.ensures.same
+    (sym (none_after c.args.backlog c.args.desk.now.lines.waits c.requires.none)) c.counts-counts.ensures.counts
 
-pub returns-in-Err : goal.returns-in-Err
-returns-in-Err g c = record {
-  turns = λ shared start left written machine stands. (
-    c.args.desk.now.room,
-    Ends-waiting g.M.LineHandler.makes g.M.LineHandler.ends shared start left written machine c.args.desk.now.room c.args.backlog c.args.desk.now.lines.waits _ c.requires.none
-        (Steps-read g.M.LineHandler.makes g.M.LineHandler.ends shared start left left written machine (at_desk c.args.desk.now c.args.backlog) stands (Keeps-refl left)),
-  );
-}
+pub returns-in-Err-clause-turns : goal.returns-in-Err-clause-turns
+returns-in-Err-clause-turns g c = λ shared start left written machine stands. (
+  c.args.desk.now.room,
+  Ends-waiting g.M.LineHandler.makes g.M.LineHandler.ends shared start left written machine c.args.desk.now.room c.args.backlog c.args.desk.now.lines.waits _ c.requires.none
+      (Steps-read g.M.LineHandler.makes g.M.LineHandler.ends shared start left left written machine (at_desk c.args.desk.now c.args.backlog) stands (Keeps-refl left)),
+)

@@ -1,0 +1,105 @@
+//! Listening sockets, at a port or at a path.
+
+use crate::socket::Socket;
+use libc::net::listen;
+use mio::net::UnixStream as Caller;
+use std::fs::{Files, Permissions};
+use std::net::{IpAddr, Net, SocketAddr, TcpListener, TcpStream};
+use std::os::fd::{AsFd, AsRawFd, OwnedFd};
+use std::os::unix::fs::{FileTypeExt, PermissionsExt};
+use std::os::unix::net;
+use std::os::unix::net::UnixListener;
+use std::{fs, io};
+
+/// Who may use the file of a Unix socket: its owner alone.
+const MODE: u32 = 0o600;
+
+/// As many clients may wait as the system allows.
+const BACKLOG: i32 = -1;
+
+/// A socket that is listened on.
+#[derive(Drop)]
+pub enum Listener {
+    Tcp(TcpListener),
+    Unix(UnixListener),
+}
+
+impl Listener {
+    /// Listens at a port of an address.
+    pub fn at_port<R: Net<Listener = TcpListener, Stream = TcpStream>>(
+        rt: &R,
+        address: IpAddr,
+        port: u16,
+    ) -> io::Result<Listener> {
+        Ok(Listener::Tcp(TcpListener::bind(rt, SocketAddr::from((address, port)))?))
+    }
+
+    /// Listens at a path. A socket there is replaced where nobody listens on it.
+    pub fn at_path<R: Files + Net>(rt: &R, path: &str) -> io::Result<Listener> {
+        match bind(rt, path) {
+            Ok(listener) => Ok(listener),
+            Err(error) => {
+                if error.kind() != io::ErrorKind::AddrInUse || !is_stale(rt, path)? {
+                    return Err(error);
+                }
+                fs::remove_file(rt, path)?;
+                bind(rt, path)
+            }
+        }
+    }
+
+    /// Another handle of the same socket.
+    pub(crate) fn again(&self) -> io::Result<Listener> {
+        match self {
+            Listener::Tcp(listener) => Ok(Listener::Tcp(listener.try_clone()?)),
+            Listener::Unix(listener) => Ok(Listener::Unix(listener.try_clone()?)),
+        }
+    }
+
+    /// Waits for a client.
+    pub(crate) fn accept(&self) -> io::Result<Socket> {
+        match self {
+            Listener::Tcp(listener) => {
+                let (stream, _) = listener.accept()?;
+                stream.set_nodelay(true)?;
+                Ok(Socket::Tcp(stream))
+            }
+            Listener::Unix(listener) => {
+                let (stream, _) = listener.accept()?;
+                Ok(Socket::Unix(stream))
+            }
+        }
+    }
+}
+
+// Nobody connects before the file has its mode, since the socket listens only then.
+fn bind<R: Files + Net>(rt: &R, path: &str) -> io::Result<Listener> {
+    let socket = rt.unix_socket()?;
+    rt.bind_unix(socket.as_fd(), &net::SocketAddr::from_pathname(path)?)?;
+    match begin_to_listen(rt, path, socket) {
+        Ok(listener) => Ok(Listener::Unix(listener)),
+        Err(error) => {
+            let _ = fs::remove_file(rt, path);
+            Err(error)
+        }
+    }
+}
+
+fn begin_to_listen<R: Files>(rt: &R, path: &str, socket: OwnedFd) -> io::Result<UnixListener> {
+    fs::set_permissions(rt, path, Permissions::from_mode(MODE))?;
+    if listen(socket.as_raw_fd(), BACKLOG) != 0 {
+        return Err(io::Error::from(io::ErrorKind::AddrInUse));
+    }
+    Ok(UnixListener::from(socket))
+}
+
+// Whether a path is that of a socket on which nobody listens.
+fn is_stale<R: Files + Net>(rt: &R, path: &str) -> io::Result<bool> {
+    if !rt.symlink_metadata(path)?.file_type().is_socket() {
+        return Ok(false);
+    }
+    match Caller::connect(rt, path) {
+        Ok(_) => Ok(false),
+        Err(error) => Ok(error.kind() == io::ErrorKind::ConnectionRefused),
+    }
+}

@@ -1,0 +1,95 @@
+//! What a client is told at a port or at a path.
+
+use std::alloc::Global;
+use std::io;
+use std::io::{BufRead, BufReader, Write};
+use std::net::{Net, SocketAddr, TcpListener, TcpStream};
+use std::os::unix::net;
+
+const ROW: &str =
+    "{\"row\":{\"contents\":[{\"fields\":{\"v\":\"x\"},\"master\":\"w\"}],\"key\":\"k\",\"state\":\"one\",\"version\":[1,0]}}\n";
+
+const NO_ROW: &str = "{\"row\":null}\n";
+
+/// How often a client asks at most until its record is there.
+const MAX_TURNS: u64 = 100_000;
+
+/// Where a server is.
+#[derive(Clone, Copy, Drop)]
+pub(crate) enum At {
+    Port(SocketAddr),
+    Path(&'static str),
+}
+
+/// What a client was told.
+#[derive(Clone, Copy, Debug, PartialEq, Eq)]
+pub(crate) enum Told {
+    /// The record.
+    Row,
+    /// The record, and then the end for a client that is idle.
+    RowAndEnd,
+    /// That there is no record, to the last turn.
+    NoRow,
+    /// Anything else.
+    Other,
+}
+
+/// Asks for the record until it is there. A client that stays then waits for its end.
+pub(crate) fn talk<R>(rt: &R, alloc: Global, at: At, stays: bool) -> io::Result<Told>
+where
+    R: Net<Listener = TcpListener, Stream = TcpStream>,
+{
+    match at {
+        At::Port(at) => {
+            let mut stream = TcpStream::connect(rt, at)?;
+            let mut replies = BufReader::new(alloc, stream.try_clone()?)?;
+            ask_all(alloc, &mut stream, &mut replies, stays)
+        }
+        At::Path(path) => {
+            let mut stream = rt.connect_unix(&net::SocketAddr::from_pathname(path)?)?;
+            let mut replies = BufReader::new(alloc, stream.try_clone()?)?;
+            ask_all(alloc, &mut stream, &mut replies, stays)
+        }
+    }
+}
+
+fn ask_all<O: Write, I: BufRead>(
+    alloc: Global,
+    sender: &mut O,
+    replies: &mut I,
+    stays: bool,
+) -> io::Result<Told> {
+    for _ in 0..MAX_TURNS {
+        let told = ask(alloc, sender, replies)?;
+        if told == Told::Row && stays {
+            return end(alloc, replies);
+        }
+        if told != Told::NoRow {
+            return Ok(told);
+        }
+    }
+    Ok(Told::NoRow)
+}
+
+fn ask<O: Write, I: BufRead>(alloc: Global, sender: &mut O, replies: &mut I) -> io::Result<Told> {
+    sender.write_all(b"{\"do\":\"read\",\"key\":\"k\"}\n")?;
+    let mut reply = String::new(alloc);
+    replies.read_line(&mut reply)?;
+    Ok(if reply.as_str() == ROW {
+        Told::Row
+    } else if reply.as_str() == NO_ROW {
+        Told::NoRow
+    } else {
+        Told::Other
+    })
+}
+
+// Waits for what comes unasked, which is to be the end.
+fn end<I: BufRead>(alloc: Global, replies: &mut I) -> io::Result<Told> {
+    let mut rest = String::new(alloc);
+    if replies.read_line(&mut rest)? == 0 {
+        Ok(Told::RowAndEnd)
+    } else {
+        Ok(Told::Other)
+    }
+}
