@@ -54,7 +54,7 @@ impl Form {
 pub(crate) fn form_of(cells: &Records) -> Form
     ensures { result ≡ written_form (spell cells.now) }
 {
-    for (_, cell) in cells.iter() {
+    for (_key, cell) in cells.iter() {
         if holds_number(cell) {
             return Form::Numbers;
         }
