@@ -15,16 +15,16 @@ pub returns-then-holds_number : goal.returns-then-holds_number
 returns-then-holds_number c =
     let e : List ℕ × CellValue = (c.in-Some._key.now, c.in-Some.cell.now) in
     let es : Entries = c.next.new.self in
-    let left : c.loop-cell.cell-iterator ≡ e ∷ es = search rules in
+    let left : c.loop-key._key-iterator ≡ e ∷ es = search rules in
     let here : list_any holds_number (keys e.1.1) ≡ true = sym c.holds_number.ensures ∙ c.if-holds_number.true in
     let all : list_any holds (spell c.args.cells.now) ≡ true =
-    sym c.loop-cell.invariant ∙ ap (λ (l : Entries). list_any holds (spell l)) left ∙ cell_holds e es ∙ ap (λ b. b || list_any holds (spell es)) here in
+    sym c.loop-key.invariant ∙ ap (λ (l : Entries). list_any holds (spell l)) left ∙ cell_holds e es ∙ ap (λ b. b || list_any holds (spell es)) here in
     ap (λ b. cond b Numbers Texts) (sym all)
 
-pub loop-cell-preserved : goal.loop-cell-preserved
-loop-cell-preserved c =
+pub loop-key-preserved : goal.loop-key-preserved
+loop-key-preserved c =
     let e : List ℕ × CellValue = (c.in-Some._key.now, c.in-Some.cell.now) in
     let es : Entries = c.next.new.self in
-    let left : c.loop-cell.cell-iterator ≡ e ∷ es = search rules in
+    let left : c.loop-key._key-iterator ≡ e ∷ es = search rules in
     let none : list_any holds_number (keys e.1.1) ≡ false = sym c.holds_number.ensures ∙ c.if-holds_number.false in
-    ap (λ b. b || list_any holds (spell es)) (sym none) ∙ sym (cell_holds e es) ∙ ap (λ (l : Entries). list_any holds (spell l)) (sym left) ∙ c.loop-cell.invariant
+    ap (λ b. b || list_any holds (spell es)) (sym none) ∙ sym (cell_holds e es) ∙ ap (λ (l : Entries). list_any holds (spell l)) (sym left) ∙ c.loop-key.invariant

@@ -5,5 +5,5 @@ use Rattle.pn_record.specs.Cells.{spell}
 use Rattle.pn_tablet.proofs.FormLines.{holds}
 use Rattle.pn_tablet.proofs.form.form_of.Given as goal
 
-abbrev pub invariant-loop-cell : goal.invariant-loop-cell
-invariant-loop-cell l = list_any holds (spell l.cell-iterator) ≡ list_any holds (spell l.cells)
+abbrev pub invariant-loop-key : goal.invariant-loop-key
+invariant-loop-key l = list_any holds (spell l._key-iterator) ≡ list_any holds (spell l.cells)
