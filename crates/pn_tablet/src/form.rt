@@ -65,7 +65,5 @@ pub(crate) fn form_of(cells: &Records) -> Form
 fn holds_number(cell: &Cell) -> bool
     ensures { result ≡ list_any content_holds_number (keys cell.now.1) }
 {
-    cell.contents()
-        .iter()
-        .any(|content| content.holds_number())
+    cell.contents().iter().any(|content| content.holds_number())
 }
