@@ -18,14 +18,14 @@ seen value = option_map (λ v. view v.now) value
 abbrev pub whole_number : Data → Option ℕ
 whole_number d = option_and_then as_u64 (as_number d)
 
--- the number, if it is whole, has a sign or none, and fits 64 bits with a sign
+-- the whole number, if it fits 64 bits with a sign
 abbrev pub signed_in : Num → Option ℤ
 signed_in (unsigned n) = if nat_lt n (2 ^ 63) then Some (pos n) else None
 signed_in (negative (pos n)) = None
 signed_in (negative (negsuc n)) = if nat_lt n (2 ^ 63) then Some (negsuc n) else None
 signed_in (float x) = None
 
--- a whole number of -2^63 or more, and below 2^63
+-- a whole number, from -2^63 on and below 2^63
 abbrev pub signed_number : Data → Option ℤ
 signed_number d = option_and_then signed_in (as_number d)
 

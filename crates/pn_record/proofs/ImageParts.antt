@@ -1,7 +1,5 @@
 -- The members of a value that is an image.
-use Rattle.std.proofs.Common.{◌≡◌, List, length, codes, true, ◌&&◌, leb, Option, Some, None, Result, Ok, Err, IsOk, IsTrue, refl, sym, ap, ◌∙◌}
-use Rattle.std.proofs.lemmas.Bool.{and_parts}
-use Rattle.std.specs.List.{list_all}
+use Rattle.std.proofs.Common.{◌≡◌, List, codes, true, Option, Some, None, Result, Ok, Err, IsOk, IsTrue, refl, sym, ap, ◌∙◌}
 use Rattle.std.specs.Option.{ok_or}
 use Rattle.serde_json.specs.Data.{Data, object, Members}
 use Rattle.serde_json.specs.Find.{get, as_object}
@@ -9,13 +7,13 @@ use Rattle.pn_json.specs.Answers.{fault_as}
 use Rattle.pn_json.proofs.Inverses.{bind_ok, ok_or_ok, passed, object_from_as_object}
 use Rattle.pn_join.specs.Naming.{is_name}
 use Rattle.pn_record.specs.BodyGrammar.{body_fits}
-use Rattle.pn_record.specs.Limits.{Field, is_field, is_key, is_version, max_fields}
+use Rattle.pn_record.specs.Limits.{Field, is_key, is_version}
 use Rattle.pn_record.specs.Grammar.{shape_in, ranges_in, image_in}
 use Rattle.pn_record.specs.Parts.{text_at, numbers_at, fields_at}
 use Rattle.pn_record.specs.declared.fault.Member.TheVariants as fault
 use Rattle.pn_record.specs.declared.image.Image.{Image}
 use Rattle.pn_record.proofs.ReadImages.{named_ok}
-use Rattle.pn_record.proofs.SameImage.{fields_of-fields_data}
+use Rattle.pn_record.proofs.SameImage.{each_fits, fields_of-fields_data}
 use Rattle.pn_record.proofs.ShapeParts.{Holds, holds, at_fields}
 
 -- the image put together from the members
@@ -36,9 +34,7 @@ pub record IsOfParts (d : Data) : Type 0 where
 
 fields_again : (f : Option (List Field)) → body_fits f ≡ true → fields_at (at_fields f) ≡ f
 fields_again None fit = refl
-fields_again (Some fields) fit =
-    let count = and_parts (leb (length fields) max_fields && list_all is_field fields) _ fit in
-    ap Some (fields_of-fields_data fields (and_parts _ (list_all is_field fields) count.0).1)
+fields_again (Some fields) fit = ap Some (fields_of-fields_data fields (each_fits fields fit))
 
 parts_held : (ms : Members) (image : Image) → body_fits image.content.0 ≡ true → Holds ms image → parts (object ms) ≡ image
 parts_held ms image fit held = rw (held.key, held.master, held.version, held.fields, fields_again image.content.0 fit) refl

@@ -88,17 +88,16 @@ fields_of-fields_data (field ∷ fields) fit =
     let parts = and_parts (is_field field) (list_all is_field fields) fit in
     rw (value_in-value_data field.1 (field_value field parts.0), fields_of-fields_data fields parts.1) refl
 
-each_fits : (fields : List Field) → is_body (Some fields) ≡ true → list_all is_field fields ≡ true
-each_fits fields is =
-    let fits = and_parts (fields_fit fields) (names_rise fields) is in
-    let together = and_parts (leb (length fields) 64 && list_all is_field fields) (leb (sum_by field_size fields) 8192) fits.0 in
+pub each_fits : (fields : List Field) → fields_fit fields ≡ true → list_all is_field fields ≡ true
+each_fits fields fit =
+    let together = and_parts (leb (length fields) 64 && list_all is_field fields) (leb (sum_by field_size fields) 8192) fit in
     (and_parts (leb (length fields) 64) (list_all is_field fields) together.0).1
 
 shape_again_of : (key master : List ℕ) (version : ℕ × ℕ) (f : Option (List Field)) → is_body f ≡ true → let image : Image = record { key = key; version = version; content = (f, master) } in shape_in (image_data image) ≡ Ok image
 unfolding shape_in
 shape_again_of key master version None fits = refl
 shape_again_of key master version (Some fields) fits =
-    let each = each_fits fields fits in rw (all_values-fields_data fields each, fields_of-fields_data fields each) refl
+    let each = each_fits fields (and_parts (fields_fit fields) (names_rise fields) fits).0 in rw (all_values-fields_data fields each, fields_of-fields_data fields each) refl
 
 -- the JSON of an image has its shape
 pub shape_again : (image : Image) → is_image image ≡ true → shape_in (image_data image) ≡ Ok image

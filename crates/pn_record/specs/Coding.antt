@@ -1,18 +1,19 @@
 -- An encoding of contents that differs for different ones.
-use Rattle.std.specs.Prelude.{◌≡◌, ℕ, ℤ, List, ◌⊎◌, inl, inr, refl}
+use Rattle.std.specs.Prelude.{◌≡◌, ℕ, ℤ, List, ◌⊎◌}
+use Rattle.std.proofs.Common.{inl, inr, refl}
 use Rattle.std.specs.Coded.{Coded, code_by, coded×, coded⊎, coded_list, coded_option, coded_ℕ, coded_ℤ}
 use Rattle.pn_record.specs.Limits.{FieldValue, number_value, text_value, Field, ContentValue}
 
 -- the number on the left, the text on the right
-abbrev apart : FieldValue → ℤ ⊎ List ℕ
+abbrev pub apart : FieldValue → ℤ ⊎ List ℕ
 apart (number_value z) = inl z
 apart (text_value text) = inr text
 
-abbrev together : ℤ ⊎ List ℕ → FieldValue
+abbrev pub together : ℤ ⊎ List ℕ → FieldValue
 together (inl z) = number_value z
 together (inr text) = text_value text
 
-together_again : (value : FieldValue) → together (apart value) ≡ value
+pub together_again : (value : FieldValue) → together (apart value) ≡ value
 together_again (number_value z) = refl
 together_again (text_value text) = refl
 

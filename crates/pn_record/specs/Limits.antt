@@ -19,7 +19,7 @@ max_field_name_bytes = 64
 abbrev pub max_text_bytes : ℕ
 max_text_bytes = 4096
 
--- how many bytes a number counts
+-- the bytes that a number counts
 abbrev pub number_bytes : ℕ
 number_bytes = 20
 
@@ -55,7 +55,7 @@ Field = List ℕ × FieldValue
 abbrev pub ContentValue : Type 0
 ContentValue = Option (List Field) × List ℕ
 
--- the number has 64 bits, its sign included
+-- the number fits 64 bits, its sign included
 abbrev pub is_number : ℤ → Bool
 is_number (pos n) = nat_lt n (2 ^ 63)
 is_number (negsuc n) = nat_lt n (2 ^ 63)

@@ -15,7 +15,7 @@ version_cmp a b = ordering_then (nat_cmp a.0 b.0) (nat_cmp a.1 b.1)
 abbrev pub bytes_cmp : List ℕ → List ℕ → Ordering
 bytes_cmp = slice_cmp nat_cmp
 
--- numbers as numbers before all texts, which are ordered by their bytes
+-- numbers before all texts; numbers by value, and texts by their bytes
 abbrev pub value_cmp : FieldValue → FieldValue → Ordering
 value_cmp (number_value a) (number_value b) = int_cmp a b
 value_cmp (number_value a) (text_value b) = Less

@@ -1,5 +1,5 @@
 -- Bodies and fields as a contract shows them.
-use Rattle.std.specs.Prelude.{ℕ, List, map, Option, Some, None, String, string_bytes}
+use Rattle.std.specs.Prelude.{List, map, Option, Some, None, String, string_bytes}
 use Rattle.std.specs.declared.alloc.Global.{Global}
 use Rattle.pn_record.specs.declared.content.Value.{Value}
 use Rattle.pn_record.specs.declared.content.Value.TheVariants.{Number, Text}

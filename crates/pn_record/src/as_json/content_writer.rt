@@ -48,7 +48,8 @@ pub fn write_content(writer: &mut Writer, content: &Content) -> Result<(), NoMem
     Ok(())
 }
 
-fn write_body(writer: &mut Writer, body: &Body) -> Result<(), NoMemory>
+/// Writes a body as a member: `"fields":{..}` or `"deleted":true`.
+pub fn write_body(writer: &mut Writer, body: &Body) -> Result<(), NoMemory>
     ensures { OnOk result (Appends writer.old writer.new (body_tokens (shown_body body.now))) }
 {
     match body {

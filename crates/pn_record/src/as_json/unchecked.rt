@@ -90,7 +90,7 @@ fn fields_of<'v>(
     is_deleted: bool,
     value: Option<&'v Value>,
 ) -> Result<Option<&'v Map<String, Value>>, Member>
-    ensures texts { Shows seen_fields result (fields_in is_deleted (seen value.entry)) }
+    ensures shown { Shows seen_fields result (fields_in is_deleted (seen value.entry)) }
     ensures rising { IfOk result (λ fields. IsTrue (body_rises (seen_fields fields))) }
 {
     match (is_deleted, value) {
