@@ -77,6 +77,7 @@ shape_found d query is =
     let named = bind_ok (no_others query_members BadShape members.0) _ query conditions.2 in
     let made : record { from = from.0; to = to.0; after = after.0; conditions = conditions.0; limit = limit.0 } ≡ query = cc named.2 in
     let whole : d ≡ object members.0 = object_from_as_object d members.0 (ok_or_ok (as_object d) BadShape members.0 members.1) in
+    let given = where_found _ conditions.0 (ap (λ d. conditions_in (get (codes "where") d)) (sym whole) ∙ conditions.1) in
     rw (← made) (
       members.0,
       whole,
@@ -85,7 +86,8 @@ shape_found d query is =
       key_found _ from.0 (ap (λ d. key_in (get (codes "from") d)) (sym whole) ∙ from.1),
       limit_found _ limit.0 (ap (λ d. limit_in (get (codes "limit") d)) (sym whole) ∙ limit.1),
       key_found _ to.0 (ap (λ d. key_in (get (codes "to") d)) (sym whole) ∙ to.1),
-      where_found _ conditions.0 (ap (λ d. conditions_in (get (codes "where") d)) (sym whole) ∙ conditions.1),
+      given.0,
+      given.1,
     )
 
 shape_again : (d : Data) (query : QueryValue) → IsObjectOf d query → shape_in d ≡ Ok query
