@@ -1,13 +1,12 @@
 -- Fields that a loop tests and counts one by one.
-use Rattle.std.proofs.Common.{◌≡◌, ℕ, ◌+◌, ◌<◌, ◌≤◌, ◌||◌, true, false, List, [], ◌∷◌, ◌++◌, length, get_or, take, map, sym, ap, ◌∙◌, arith}
+use Rattle.std.proofs.Common.{◌≡◌, ℕ, ◌+◌, ◌<◌, ◌≤◌, true, false, List, [], ◌∷◌, ◌++◌, length, get_or, take, map, sym, ap, ◌∙◌, arith}
 use Rattle.std.specs.List.{list_all, sum_by}
-use Rattle.std.proofs.lemmas.List.{get_or-map, length-map, map-append, take_all, take_more}
-use Rattle.std.proofs.lemmas.List.Folds.{list_all_more, list_all_at, list_any_more, list_any_at}
+use Rattle.std.proofs.lemmas.List.{get_or-map, length-map, map-append, take_more}
+use Rattle.std.proofs.lemmas.List.Folds.{list_all_more, list_all_at}
 use Rattle.std.proofs.lemmas.List.Sums.{sum_by_more}
 use Rattle.std.proofs.lemmas.Bool.Decides.{nat_tests}
 use Rattle.pn_record.specs.Bodies.{field_size, fields_fit}
 use Rattle.pn_record.specs.Limits.{Field, is_field}
-use Rattle.pn_record.specs.Numbers.{is_numeric, have_number}
 
 module _ {Y : Type 0} (f : Y → Field) (ys : List Y) (i : ℕ) (y : Y) (here : y ≡ get_or ys i y) (inside : i < length ys) where
   at_i : get_or (map f ys) i (f y) ≡ f y
@@ -37,16 +36,3 @@ module _ {Y : Type 0} (f : Y → Field) (ys : List Y) (i : ℕ) (y : Y) (here : 
   pub copied_more : (zs : List Y) (z : Y) → map f zs ≡ take i (map f ys) → f z ≡ f y → map f (zs ++ z ∷ []) ≡ take (i + 1) (map f ys)
   copied_more zs z so_far one =
       map-append f zs (z ∷ []) ∙ (λ j. so_far j ++ (one ∙ sym at_i) j ∷ []) ∙ sym (take_more (map f ys) i (f y) within)
-
-  -- a number among the fields
-  pub number_here : is_numeric (f y).1 ≡ true → have_number (map f ys) ≡ true
-  number_here is = list_any_at (λ (field : Field). is_numeric field.1) (map f ys) i (f y) within (ap (λ (field : Field). is_numeric field.1) at_i ∙ is)
-
-  -- and none so far, with one more that is none
-  pub no_number_more : have_number (take i (map f ys)) ≡ false → is_numeric (f y).1 ≡ false → have_number (take (i + 1) (map f ys)) ≡ false
-  no_number_more none one =
-      list_any_more (λ (field : Field). is_numeric field.1) (map f ys) i (f y) within
-      ∙ (λ j. none j || (ap (λ (field : Field). is_numeric field.1) at_i ∙ one) j)
-
-pub all_taken : {Y : Type 0} (f : Y → Field) (ys : List Y) (i : ℕ) → length ys ≤ i → take i (map f ys) ≡ map f ys
-all_taken f ys i all = take_all i (map f ys) (omega (arith, length-map ys f, all))

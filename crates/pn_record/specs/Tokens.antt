@@ -1,7 +1,7 @@
 -- The tokens of fields, bodies and marks, each as a member of an object.
 use Rattle.std.specs.Prelude.{ℕ, true, List, codes, Option, Some, None}
 use Rattle.json.specs.Token.{Token}
-use Rattle.serde_json.specs.Data.{boolean, number, string, object, unsigned}
+use Rattle.serde_json.specs.Data.{boolean, number, object, unsigned}
 use Rattle.pn_json.specs.Tokens.{member_tokens}
 use Rattle.pn_record.specs.Limits.{Field}
 use Rattle.pn_record.specs.Writing.{value_data, fields_data}
