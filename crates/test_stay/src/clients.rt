@@ -69,9 +69,10 @@ pub(crate) fn room(alloc: Global, text: &str) -> Result<String, Fail> {
 
 /// The lines and bytes that were counted of a source, under the name of a stream.
 pub(crate) fn counted(alloc: Global, text: &str) -> Result<String, Fail> {
+    let text = text.replace(alloc, '|', "\n")?;
     let taken = Arc::new(alloc, Taken::new())?;
     let watch = watch_of(alloc, Arc::try_clone(&taken)?)?;
-    let mut source = Counted::new(InMemory::new(text.as_bytes()), Some(taken));
+    let mut source = Counted::new(InMemory::new(text.as_str().as_bytes()), Some(taken));
     let mut line = LineBuffer::new(alloc)?;
     for _ in 0..TURNS {
         if source.take_some(&mut line)? == Piece::NoMore {
