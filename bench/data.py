@@ -6,6 +6,7 @@ with other fields, or a deletion. Some lines are delivered twice. Fields have 10
 import dataclasses
 import json
 import random
+from collections.abc import Callable
 
 WORDS = "amber birch cedar delta ember fjord grove haven inlet jetty karst ledge marsh north oasis pines quarry river stone".split()
 PLAIN_WORDS = WORDS[:15] + ["\u00e9tang"]
@@ -63,6 +64,13 @@ def new_image(key: str) -> str:
     return text_of({"fields": texts, "key": key, "master": "home", "version": [1, len(key)]})
 
 
+def image_of_values(key: str, kind: type) -> str:
+    """An image of ten fields of six to ten digits, as texts or as numbers."""
+    rng = random.Random(key)
+    values = {f"field-{at}": kind(rng.randint(10**5, 10**10 - 1)) for at in range(10)}
+    return text_of({"fields": values, "key": key, "master": "home", "version": [1, len(key)]})
+
+
 def new_keys(count: int) -> list[str]:
     """So many keys in a mixed order."""
     keys = [f"record-{at:08}" for at in range(count)]
@@ -75,11 +83,11 @@ def bounds(count: int, tablets: int) -> list[str]:
     return ["--bounds", text_of([f"record-{count * at // tablets:08}" for at in range(1, tablets)])]
 
 
-def new_deliveries(count: int, in_line: int = IMAGES_IN_LINE) -> bytes:
+def new_deliveries(count: int, in_line: int = IMAGES_IN_LINE, image: Callable[[str], str] = new_image) -> bytes:
     """A script that delivers images of new keys."""
     keys, lines = new_keys(count), []
     for at in range(0, count, in_line):
-        images = [Image("east", at + 1 + place, new_image(key)) for place, key in enumerate(keys[at : at + in_line])]
+        images = [Image("east", at + 1 + place, image(key)) for place, key in enumerate(keys[at : at + in_line])]
         lines.append(delivery(images))
     return b"".join(lines)
 

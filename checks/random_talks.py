@@ -3,7 +3,7 @@ import json
 import random
 
 from random_values import (BATCH, KEYS, MANY_KEYS, NO_BOUNDS, bent, bounds_of, damaged, image, line_of, no_json, other_bounds,
-                           query)
+                           query, spelled)
 from slow import Region, greater, text_of
 from slow_copies import read_copy
 from slow_lines import Json, Refused, command_of
@@ -11,8 +11,10 @@ from slow_lines import Json, Refused, command_of
 TABLETS = [1, 1, 2, 3, 3, 64]
 WORKERS = [1, 2, 3, 5, 16]
 MESSAGES = 40
+FIRST_FORM, SECOND_FORM = b'{"copy":1,', b'{"copy":2,'
 LONG = 0.005
 RELAID = 1 / 3
+NUMBERED = 1 / 3
 
 
 class Talk:
@@ -48,12 +50,12 @@ class Meeting:
 
     def __init__(self, seed: int, events: int, is_stored: bool = False) -> None:
         self.rng = rng = random.Random(seed)
-        self.is_relaid = rng.random() < RELAID
+        self.is_relaid, self.is_numbered = rng.random() < RELAID, rng.random() < NUMBERED
         tablets = rng.choice(TABLETS)
         self.keys = MANY_KEYS if tablets == 64 else KEYS
         self.long = 0 if is_stored else LONG
         names = ["east", "west"] if rng.random() < 0.8 else [f"s{number:02}" for number in range(18)]
-        self.streams = {name: [image(rng, self.keys, place) for place in range(MESSAGES)] for name in names}
+        self.streams = {name: [image(rng, self.keys, place, self.is_numbered) for place in range(MESSAGES)] for name in names}
         bounds = bounds_of(rng, tablets)
         self.first = Talk(rng, f"random-{seed}-first", bounds)
         self.second = Talk(rng, f"random-{seed}-second", bounds)
@@ -128,6 +130,8 @@ class Meeting:
 
     def adopt(self, lines: list[bytes]) -> None:
         talk = self.first
+        if lines[0].startswith(FIRST_FORM) and self.rng.random() < 0.1:
+            lines = [lines[0].replace(FIRST_FORM, SECOND_FORM), *lines[1:]]
         talk.ask(do="adopt", lines=len(lines))
         for line in lines:
             reply = talk.say(line)
@@ -159,6 +163,9 @@ class Meeting:
         if lines and ends not in [tablet.ends for tablet in self.first.region.tablets]:
             self.adopt(lines)
 
+    def query(self) -> Json:
+        return query(self.rng, self.keys, self.is_numbered)
+
     def walk(self, talk: Talk, asked: Json, most: int = 6) -> list[bytes]:
         """Scans page after page."""
         lines = []
@@ -180,7 +187,7 @@ class Meeting:
             lambda: {"do": "copy", "need": rng.choice([None, {"east": 2, "west": 9}]), "tablet": self.tablet()},
             lambda: {"do": rng.choice(["marks", "tablets"] if len(self.keys) < 20 else ["marks"])},
             lambda: {"do": "read", "key": rng.choice(self.keys), "version": [1, rng.randrange(6)]},
-            lambda: {"do": "scan", "query": query(rng, self.keys)},
+            lambda: {"do": "scan", "query": self.query()},
         ])()
 
     def fault(self, talk: Talk) -> str | None:
@@ -188,17 +195,21 @@ class Meeting:
         rng = self.rng
         if rng.random() < 0.2:
             return talk.say(no_json(rng, {"do": "marks"}, rng.random() < 10 * self.long))
+        if self.is_numbered and rng.random() < 0.4:
+            return self.say_harmless(talk, line_of(rng, spelled(rng)))
         batches = [self.batch(name, 0, False) for name in rng.choices(list(self.streams), k=rng.randrange(1, 3))]
         whole = rng.choice([{"do": "deliver", "batches": batches}, {"do": "deliver", "batches": batches},
                             {"do": "adopt", "lines": 3}, {"do": "lose", "tablet": 0}, self.question(talk),
                             {"bounds": ["a", "b"], "do": "relayout"}])
-        line = line_of(rng, bent(rng, whole))
+        return self.say_harmless(talk, line_of(rng, bent(rng, whole)))
+
+    def say_harmless(self, talk: Talk, line: bytes) -> str | None:
+        """Says a line that changes nothing."""
         try:
             word = command_of(line, len(talk.region.tablets))["do"]
         except Refused:
             word = None
-        if word not in ("adopt", "deliver", "lose", "relayout"):
-            talk.say(line)
+        return None if word in ("adopt", "deliver", "lose", "relayout") else talk.say(line)
 
     def ask(self, talk: Talk) -> None:
         """Something that changes nothing."""
@@ -206,7 +217,7 @@ class Meeting:
         if way == 0:
             self.read(talk)
         elif way <= 2:
-            self.walk(talk, query(self.rng, self.keys))
+            self.walk(talk, self.query())
         elif way <= 4:
             self.fault(talk)
         else:
@@ -266,7 +277,7 @@ class Meeting:
         for line in lines:
             self.first.say(line)
         for _ in range(4):
-            lines += self.walk(self.first, query(self.rng, self.keys))
+            lines += self.walk(self.first, self.query())
         for line in lines:
             self.again.say(line)
         self.closing = len(lines)

@@ -7,7 +7,7 @@ import json
 import functools
 from collections.abc import Callable
 
-from slow_copies import Content, Ends, content_of, is_in, meet, read_copy
+from slow_copies import Content, Ends, Value, comparable, content_of, has_number, is_in, meet, read_copy
 from slow_lines import MAX_LINE_BYTES, Json, Refused, command_of
 
 MAX_STREAMS = 16
@@ -51,7 +51,9 @@ def record_of(images: list[Json]) -> Record:
 
 def shown_content(content: Content) -> Json:
     kind, fields, master = content
-    return {"deleted": True, "master": master} if kind == 0 else {"fields": dict(fields), "master": master}
+    if kind == 0:
+        return {"deleted": True, "master": master}
+    return {"fields": {name: value for name, (_, value) in fields}, "master": master}
 
 
 def row_of(key: str, record: Record) -> Json:
@@ -61,16 +63,18 @@ def row_of(key: str, record: Record) -> Json:
     return {"contents": list(map(shown_content, contents)), "key": key, "state": state, "version": version}
 
 
-def is_met(condition: list[str], fields: dict[str, str]) -> bool:
-    word, field, *text = condition
-    if field not in fields:
+def is_met(condition: list[str | int], fields: dict[str, Value]) -> bool:
+    word, field, *operand = condition
+    if field not in fields or word == "has":
+        return field in fields
+    asked, has = comparable(operand[0]), fields[field]
+    if asked[0] != has[0]:
         return False
-    has = fields[field]
-    return {"has": lambda: True, "eq": lambda: has == text[0], "lt": lambda: has < text[0],
-            "gt": lambda: has > text[0], "prefix": lambda: has.startswith(text[0])}[word]()
+    return {"eq": lambda: has == asked, "lt": lambda: has < asked, "gt": lambda: has > asked,
+            "prefix": lambda: has[1].startswith(asked[1])}[word]()
 
 
-def is_shown(record: Record, conditions: list[list[str]]) -> bool:
+def is_shown(record: Record, conditions: list[list[str | int]]) -> bool:
     return any(kind == 1 and all(is_met(condition, dict(fields)) for condition in conditions)
                for kind, fields, _ in record[1])
 
@@ -106,7 +110,7 @@ class Tablet:
         images = [{"key": key, "version": record[0], **shown_content(content)}
                   for key, record in self.records().items() for content in record[1]]
         marks = [{"at": at, "stream": name} for name, at in sorted(self.cover.items())]
-        head = {"copy": 1, "from": self.ends[0], "to": self.ends[1]}
+        head = {"copy": 2 if any(map(has_number, images)) else 1, "from": self.ends[0], "to": self.ends[1]}
         return list(map(text_of, [head, *marks, *images, {"end": len(marks) + len(images)}]))
 
 

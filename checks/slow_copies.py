@@ -1,18 +1,28 @@
 """Copies of tablets, read line by line from their text."""
-from slow_lines import (MAX_LINE_BYTES, Json, Refused, check_image_range, check_image_shape, is_key, is_name, is_position,
-                        is_whole, json_of)
+from slow_lines import (MAX_LINE_BYTES, Json, Refused, check_image_range, check_image_shape, is_key, is_name, is_number,
+                        is_position, is_whole, json_of)
 
 
+# Whether a value is a text, and then the value: numbers compare with numbers, and come before all texts.
+Value = tuple[int, int | str]
 # Whether it has fields, then these and the master: contents compare in content order.
-Content = tuple[int, list[tuple[str, str]], str]
+Content = tuple[int, list[tuple[str, Value]], str]
 Ends = tuple[str | None, str | None]
+
+
+def comparable(value: int | str) -> Value:
+    return (1 if isinstance(value, str) else 0), value
 
 
 def content_of(image: Json) -> Content:
     """What an image says beside key and version."""
     if "deleted" in image:
         return (0, [], image["master"])
-    return (1, sorted(image["fields"].items()), image["master"])
+    return (1, sorted((name, comparable(value)) for name, value in image["fields"].items()), image["master"])
+
+
+def has_number(image: Json) -> bool:
+    return any(map(is_number, image.get("fields", {}).values()))
 
 
 def is_end(value: Json) -> bool:
@@ -24,7 +34,7 @@ def range_of(value: Json) -> Ends | None:
     if not isinstance(value, dict) or set(value) != {"copy", "from", "to"}:
         return None
     start, end = value["from"], value["to"]
-    if not is_whole(value["copy"]) or value["copy"] != 1 or not is_end(start) or not is_end(end):
+    if not is_whole(value["copy"]) or value["copy"] not in (1, 2) or not is_end(start) or not is_end(end):
         return None
     if start is not None and end is not None and not start < end:
         return None
@@ -80,6 +90,8 @@ def check_line(value: Json, number: int, copy: Json) -> None:
     """Refuses a line that is neither a mark nor an image, or comes at a wrong place."""
     if not (is_mark(value) and not copy["images"]) and not is_image(value):
         raise Refused("bad-line", line=number)
+    if copy["form"] == 1 and has_number(value):
+        raise Refused("bad-line", line=number)
     if "at" in value:
         if any(value["stream"] <= name for name in copy["marks"]):
             raise Refused("not-rising", line=number)
@@ -94,9 +106,11 @@ def read_copy(text: bytes) -> Json:
     *lines, rest = text.split(b"\n")
     if not lines:
         raise Refused("truncated")
-    copy = {"ends": range_of(value_of(lines[0], 1)), "marks": {}, "images": []}
+    head = value_of(lines[0], 1)
+    copy = {"ends": range_of(head), "marks": {}, "images": []}
     if copy["ends"] is None:
         raise Refused("bad-line", line=1)
+    copy["form"] = head["copy"]
     for number, line in enumerate(lines[1:], 2):
         value = value_of(line, number)
         if is_last(value):

@@ -1,5 +1,6 @@
 """Lines as commands, images and queries, or as refusals, in the order of the tables of docs/formats.md."""
 import json
+import math
 import re
 from collections.abc import Iterable
 from operator import lt
@@ -8,6 +9,7 @@ from typing import Any
 MAX_LINE_BYTES = 65_536
 LAST = 10**15
 LAST_NOTICE = 10**18
+NUMBER_BYTES = 20
 DEEPEST = 127
 NAME = re.compile(r"[a-z0-9-]{1,32}\Z")
 IMAGE_NAMES = {"deleted", "fields", "key", "master", "version"}
@@ -40,8 +42,16 @@ def ranged(is_right: bool, member: str) -> None:
         raise Refused("out-of-range", member=member)
 
 
+def real(digits: str) -> float:
+    if math.isinf(float(digits)):
+        raise ValueError(digits)
+    return float(digits)
+
+
 def whole_or_other(digits: str) -> int | float:
-    return int(digits) if digits.isdigit() and int(digits) < 2**64 else float(digits)
+    """A whole number of 64 bits, with a sign or without one, as its text says it: `-0` is none."""
+    number = int(digits)
+    return number if digits != "-0" and -2**63 <= number < 2**64 else real(digits)
 
 
 def no_constant(word: str) -> None:
@@ -54,9 +64,9 @@ def depth_of(value: Json) -> int:
 
 
 def json_of(line: bytes) -> Json:
-    """The JSON value of a line, in which a number that is no whole number is a float."""
+    """The JSON value of a line, in which a number that is no whole number of 64 bits is a float."""
     try:
-        value = json.loads(line.decode(), parse_int=whole_or_other, parse_constant=no_constant)
+        value = json.loads(line.decode(), parse_int=whole_or_other, parse_float=real, parse_constant=no_constant)
         json.dumps(value, ensure_ascii=False).encode()
         if depth_of(value) > DEEPEST:
             raise ValueError("too deep")
@@ -70,7 +80,16 @@ def size(text: str) -> int:
 
 
 def is_whole(value: Json) -> bool:
-    return type(value) is int
+    return type(value) is int and value >= 0
+
+
+def is_number(value: Json) -> bool:
+    """Whether it is a whole number of 64 bits, its sign included."""
+    return type(value) is int and value < 2**63
+
+
+def is_value(value: Json) -> bool:
+    return isinstance(value, str) or is_number(value)
 
 
 def is_key(text: str) -> bool:
@@ -102,17 +121,21 @@ def check_image_shape(value: Json) -> None:
     shaped(value.get("deleted", True) is True, "deleted")
     shaped(("deleted" in value) != ("fields" in value), "fields")
     if "fields" in value:
-        shaped(isinstance(value["fields"], dict) and are_texts(value["fields"].values()), "fields")
+        shaped(isinstance(value["fields"], dict) and all(map(is_value, value["fields"].values())), "fields")
     shaped(isinstance(value.get("key"), str), "key")
     shaped(isinstance(value.get("master"), str), "master")
     shaped(is_pair(value.get("version")), "version")
     shaped(set(value) <= IMAGE_NAMES, "other")
 
 
-def are_fields(fields: dict[str, str]) -> bool:
-    total = sum(size(name) + size(text) for name, text in fields.items())
+def value_size(value: str | int) -> int:
+    return size(value) if isinstance(value, str) else NUMBER_BYTES
+
+
+def are_fields(fields: dict[str, str | int]) -> bool:
+    total = sum(size(name) + value_size(value) for name, value in fields.items())
     names = all(1 <= size(name) <= 64 for name in fields)
-    return len(fields) <= 64 and total <= 8_192 and names and all(size(text) <= 4_096 for text in fields.values())
+    return len(fields) <= 64 and total <= 8_192 and names and all(value_size(value) <= 4_096 for value in fields.values())
 
 
 def check_image_range(image: Json) -> None:
@@ -141,9 +164,11 @@ def check_batch_range(batch: Json) -> None:
 
 
 def is_condition(value: Json) -> bool:
-    if not isinstance(value, list) or not value or not are_texts(value):
+    if not isinstance(value, list) or len(value) not in (2, 3) or not are_texts(value[:2]):
         return False
-    return len(value) == (2 if value[0] == "has" else 3) and value[0] in ("has", "eq", "lt", "gt", "prefix")
+    if len(value) == 2:
+        return value[0] == "has"
+    return value[0] in ("eq", "lt", "gt") and is_value(value[2]) or value[0] == "prefix" and isinstance(value[2], str)
 
 
 def is_query_shape(value: Json) -> bool:
@@ -159,7 +184,7 @@ def is_query(value: Json) -> bool:
     conditions = value.get("where", [])
     ends = all(value.get(name) is None or is_key(value[name]) for name in ("after", "from", "to"))
     fields = all(1 <= size(condition[1]) <= 64 for condition in conditions)
-    texts = all(size(text) <= 4_096 for condition in conditions for text in condition[2:])
+    texts = all(value_size(operand) <= 4_096 for condition in conditions for operand in condition[2:])
     return ends and 1 <= value.get("limit", 100) <= 1_000 and len(conditions) <= 16 and fields and texts
 
 

@@ -11,7 +11,7 @@ class Bodies(unittest.TestCase):
     """Bodies, and the lines that they give."""
 
     def test_lines(self) -> None:
-        for body in (b'{"a":1}', b"[]", b' {"a" : "\xc3\xa9"} ', b'"\\ud83d\\ude00"', b"1.5", b"[" * 126 + b"]" * 126, b'"[[[[\\"{"'):
+        for body in (b'{"a":1}', b"[]", b' {"a" : "\xc3\xa9"} ', b'"\\ud83d\\ude00"', b"1.5", b"-0", b"[" * 126 + b"]" * 126, b'"[[[[\\"{"'):
             with self.subTest(body):
                 self.assertEqual(line_of(7, body), b'{"at":7,"image":' + body + b"}\n")
 

@@ -118,7 +118,7 @@ class VectorsOfARegion(unittest.TestCase):
 def _wait_for(connection: socket.socket, lines: Any, key: str) -> None:
     """Until the region has taken its streams, of which this is the last key."""
     for _ in range(1000):
-        connection.sendall(requests.read(key).line + requests.copy(0, {"west": 2}).line)
+        connection.sendall(requests.read(key).line + requests.copy(0, {"west": 5}).line)
         row, copied = json.loads(lines.readline()), json.loads(lines.readline())
         for _ in range(copied.get("lines", 0)):
             lines.readline()

@@ -1,10 +1,10 @@
 -- The members of values, each by its kind.
-use Rattle.std.specs.Prelude.{ℕ, Bool, true, ◌&&◌, if◌then◌else◌, List, [], ◌∷◌, map, Option, option_map, option_and_then, Result, Ok, Err}
+use Rattle.std.specs.Prelude.{ℕ, ℤ, pos, negsuc, ◌^◌, nat_lt, Bool, true, ◌&&◌, if◌then◌else◌, List, [], ◌∷◌, map, Option, Some, None, option_map, option_and_then, Result, Ok, Err}
 use Rattle.std.specs.Borrow.{Bor}
 use Rattle.std.specs.List.{list_any}
 use Rattle.std.specs.Option.{ok_or}
 use Rattle.std.specs.Str.{bytes_eq}
-use Rattle.serde_json.specs.Data.{Data, Items, no_items, item, Members, no_members, member}
+use Rattle.serde_json.specs.Data.{Num, unsigned, negative, float, Data, Items, no_items, item, Members, no_members, member}
 use Rattle.serde_json.specs.Find.{as_number, as_u64}
 use Rattle.serde_json.specs.View.{view}
 use Rattle.serde_json.specs.declared.value.Value.{Value}
@@ -17,6 +17,17 @@ seen value = option_map (λ v. view v.now) value
 -- a whole number, below 2^64
 abbrev pub whole_number : Data → Option ℕ
 whole_number d = option_and_then as_u64 (as_number d)
+
+-- the whole number, if it fits 64 bits with a sign
+abbrev pub signed_in : Num → Option ℤ
+signed_in (unsigned n) = if nat_lt n (2 ^ 63) then Some (pos n) else None
+signed_in (negative (pos n)) = None
+signed_in (negative (negsuc n)) = if nat_lt n (2 ^ 63) then Some (negsuc n) else None
+signed_in (float x) = None
+
+-- a whole number, from -2^63 on and below 2^63
+abbrev pub signed_number : Data → Option ℤ
+signed_number d = option_and_then signed_in (as_number d)
 
 -- the content of a value of a kind, or the fault if it is absent or of another kind
 abbrev pub member_as : {A F : Type 0} → (Data → Option A) → F → Option Data → Result A F

@@ -2,9 +2,9 @@
 
 ghost use Rattle.std.specs.Prelude.{◌≡◌};
 ghost use Rattle.serde_json.specs.Find.{as_str, as_array, as_object};
-ghost use Rattle.serde_json.specs.View.{items_view, members_view};
+ghost use Rattle.serde_json.specs.View.{view, items_view, members_view};
 ghost use Rattle.pn_json.specs.Answers.{Shows};
-ghost use Rattle.pn_json.specs.Members.{seen, whole_number, member_as};
+ghost use Rattle.pn_json.specs.Members.{seen, signed_number, whole_number, member_as};
 
 use serde_json::{Map, Value};
 
@@ -20,6 +20,17 @@ pub fn whole_number_of<F: Drop>(value: Option<&Value>, fault: F) -> Result<u64, 
     ensures { result ≡ member_as whole_number fault (seen value.entry) }
 {
     value.and_then(Value::as_u64).ok_or(fault)
+}
+
+/// The whole number of 64 bits with a sign that the value is: no fraction, no exponent, no `-0`.
+pub fn signed_number_of(value: &Value) -> Option<i64>
+    ensures { result ≡ signed_number (view value.now) }
+{
+    let number = value.as_i64()?;
+    if number < 0 || value.is_u64() {
+        return Some(number);
+    }
+    None
 }
 
 /// The items of the array that the value is, or the fault otherwise.

@@ -1,5 +1,6 @@
 -- A value that is read as a command is the JSON of that command, and that JSON is read as the command.
 use Rattle.std.proofs.Common.{◌≡◌, inl, inr, ℕ, List, [], ◌∷◌, map, codes, true, Option, Some, None, Ok, refl, sym, ap, ◌∙◌, subst}
+use Rattle.std.specs.List.{list_all}
 use Rattle.std.specs.Option.{ok_or}
 use Rattle.serde_json.specs.Data.{Data, number, string, array, object, unsigned, Members, no_members, member}
 use Rattle.serde_json.specs.Find.{get, get_member, as_str, as_array, as_object}
@@ -19,7 +20,7 @@ use Rattle.pn_protocol.specs.Command.Deliveries.{deliver_in}
 use Rattle.pn_protocol.specs.Command.Lookups.{get_in, read_in, scan_in}
 use Rattle.pn_protocol.specs.Command.Overview.{alone_in}
 use Rattle.pn_protocol.specs.Command.Objects.{command_as, allowed_in, command_in}
-use Rattle.pn_protocol.specs.Command.Limits.{may_announce, may_be_asked, may_be_required, is_command}
+use Rattle.pn_protocol.specs.Command.Limits.{may_announce, may_be_asked, may_be_required, is_delivery, is_command}
 use Rattle.pn_protocol.specs.Command.Meaning.{CommandValue, adopt, copy, deliver, lose, marks, notices, read, relayout, scan, tablets}
 use Rattle.pn_protocol.specs.Command.Meaning as meaning
 use Rattle.pn_protocol.specs.Command.Needs.{need_at, need_shape}
@@ -39,7 +40,7 @@ use Rattle.pn_protocol.proofs.CommandLimits.{fits_true, deliver_members, deliver
 use Rattle.pn_protocol.proofs.EachFits.{as_ok}
 use Rattle.pn_json.proofs.MembersByName.{SameAt, same_by_name}
 use Rattle.pn_record.proofs.ReadInOrder.{InOrder}
-use Rattle.pn_protocol.proofs.CommandParts.{text_at, number_at, array_at, object_of, names_of, are_named, rises, in_order, each_found, each_again, array_in_order, batch_found, batch_again, text_of, word_at, key_found, key_again, after_key, version_required, query_there}
+use Rattle.pn_protocol.proofs.CommandParts.{text_at, number_at, array_at, object_of, names_of, are_named, rises, in_order, each_found, each_again, each_kept_again, array_in_order, batch_found, batch_again, text_of, word_at, key_found, key_again, after_key, version_required, query_there}
 
 -- what the members of a word's object say
 module _ (ms : Members) (order : InOrder (object ms)) where
@@ -250,7 +251,9 @@ says_again : (d : Data) (command : CommandValue) → Says d command → is_comma
 unfolding allowed_in deliver_in get_in lose_in relayout_in alone_in
 says_again d (adopt lines) says keeps = ap command_in says ∙ adopt_again lines keeps
 says_again d (copy need tablet) (said, is, says) keeps = ap command_in says ∙ copy_again said need tablet (need_again said need is keeps)
-says_again d (deliver deliveries) says keeps = ap command_in says ∙ rw (each_again batch_shape delivery_data batch_again deliveries, deliveries_again deliveries keeps) refl
+says_again d (deliver deliveries) says keeps =
+    let parts = and_parts _ (list_all is_delivery deliveries) keeps in
+    ap command_in says ∙ rw (each_kept_again batch_shape delivery_data is_delivery batch_again deliveries parts.1, deliveries_again deliveries keeps) refl
 says_again d (meaning.get keys) says keeps = ap command_in says ∙ rw (each_again (key_shape Keys) string (key_again Keys) keys, keys_again keys keeps) refl
 says_again d (lose tablet) says keeps = ap command_in says
 says_again d marks says keeps = ap command_in says

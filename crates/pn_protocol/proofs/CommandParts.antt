@@ -1,11 +1,15 @@
 -- What the parts of a command are read of, and what is read of them.
-use Rattle.std.proofs.Common.{◌≡◌, inl, inr, ℕ, List, [], ◌∷◌, map, codes, Bool, true, false, cond, Option, Some, None, option_map, Result, Ok, IsTrue, bytes_eq, refl, sym, ap, ◌∙◌, subst}
+use Rattle.std.proofs.Common.{◌≡◌, inl, inr, ℕ, List, [], ◌∷◌, length, map, codes, Bool, true, false, ◌&&◌, cond, Option, Some, None, option_map, Result, Ok, IsTrue, bytes_eq, refl, sym, ap, ◌∙◌, subst}
+use Rattle.std.proofs.lemmas.Bool.{and_parts}
 use Rattle.std.proofs.lemmas.Slice.Eq.{bytes_eq-Decides}
+use Rattle.std.specs.List.{list_all}
 use Rattle.std.specs.Option.{ok_or}
 use Rattle.serde_json.specs.Data.{Data, null, boolean, number, string, array, object, unsigned, Items, no_items, item, Members, no_members, member}
 use Rattle.serde_json.specs.Find.{get, get_member, as_str, as_array, as_object}
 use Rattle.serde_json.specs.View.{items_of}
 use Rattle.pn_json.specs.Members.{whole_number, member_as, each_in, only_named}
+use Rattle.pn_join.specs.Naming.{is_name}
+use Rattle.pn_record.specs.Canonical.{is_image}
 use Rattle.pn_record.specs.Grammar.{numbers_in, shape_in}
 use Rattle.pn_record.specs.Writing.{image_data}
 use Rattle.pn_record.specs.declared.image.Image.{Image}
@@ -18,9 +22,10 @@ use Rattle.pn_record.specs.Sets.{Stamp}
 use Rattle.pn_json.proofs.LookUps.{Rise}
 use Rattle.pn_record.proofs.ReadImages.{shape_in_order}
 use Rattle.pn_record.proofs.SameImage.{shape_again}
-use Rattle.pn_stream.specs.Positions.{DeliveryValue}
+use Rattle.pn_stream.specs.Positions.{DeliveryValue, are_positions}
 use Rattle.pn_protocol.specs.Command.Json.{delivery_data}
 use Rattle.pn_protocol.specs.Command.Grammar.{IsRequired}
+use Rattle.pn_protocol.specs.Command.Limits.{is_delivery}
 use Rattle.pn_protocol.specs.Command.Queries.{query_at}
 use Rattle.pn_protocol.specs.Command.ShapeChecks.{named_alone, image_shape, batch_shape, key_shape, required_in, version_shape}
 use Rattle.pn_protocol.specs.Command.Words.{word_of, word_in}
@@ -97,8 +102,16 @@ pub each_again : {A : Type 0} (kind : Data → Result A Refusal) (written : A �
 each_again kind written one [] = refl
 each_again kind written one (x ∷ xs) = rw (one x, each_again kind written one xs) refl
 
-image_again : (image : Image) → image_shape (image_data image) ≡ Ok image
-image_again image = rw (shape_again image) refl
+-- the same of those that keep their limits
+pub each_kept_again : {A : Type 0} (kind : Data → Result A Refusal) (written : A → Data) (test : A → Bool) → ((a : A) → test a ≡ true → kind (written a) ≡ Ok a)
+    → (xs : List A) → list_all test xs ≡ true → each_in kind (items_of (map written xs)) ≡ Ok xs
+each_kept_again kind written test one [] keeps = refl
+each_kept_again kind written test one (x ∷ xs) keeps =
+    let parts = and_parts (test x) (list_all test xs) keeps in
+    rw (one x parts.0, each_kept_again kind written test one xs parts.1) refl
+
+image_again : (image : Image) → is_image image ≡ true → image_shape (image_data image) ≡ Ok image
+image_again image keeps = rw (shape_again image keeps) refl
 
 pub array_in_order : (name : List ℕ) (ms : Members) (ds : Items) → MembersInOrder ms → get_member name ms ≡ Some (array ds) → ItemsInOrder ds
 array_in_order name ms ds order is = in_order-at name ms (array ds) order is
@@ -128,9 +141,11 @@ batch_found d batch order is =
     (ap (get (codes "stream")) (sym whole) ∙ text_at Stream _ stream.0 stream.1) in
     subst (λ b. d ≡ delivery_data b) same (subst (λ e. e ≡ delivery_data (record { stream = stream.0; first = first.0; images = images.0 })) (sym whole) found)
 
-pub batch_again : (batch : DeliveryValue) → batch_shape (delivery_data batch) ≡ Ok batch
+pub batch_again : (batch : DeliveryValue) → is_delivery batch ≡ true → batch_shape (delivery_data batch) ≡ Ok batch
 unfolding batch_shape
-batch_again batch = rw (each_again image_shape image_data image_again batch.images) refl
+batch_again batch keeps =
+    let parts = and_parts (is_name batch.stream && are_positions batch.first (length batch.images)) (list_all is_image batch.images) keeps in
+    rw (each_kept_again image_shape image_data is_image image_again batch.images parts.1) refl
 
 -- the text of a word
 abbrev pub text_of : CommandWord → List ℕ

@@ -1,22 +1,29 @@
 -- The text of an image's JSON: it has no float, it is flat, and it is short.
-use Rattle.std.proofs.Common.{◌≡◌, ℕ, ◌+◌, ◌*◌, ◌^◌, ◌<◌, ◌≤◌, List, [], ◌∷◌, ◌++◌, length, codes, Bool, true, false, ◌&&◌, cond, Option, Some, None, decimal, leb, ltb, refl, arith, length-append}
-use Rattle.std.proofs.lemmas.Bool.{and_parts, leb-true}
+use Rattle.std.proofs.Common.{◌≡◌, ℕ, suc, ℤ, pos, negsuc, ◌+◌, ◌*◌, ◌^◌, ◌<◌, ◌≤◌, List, [], ◌∷◌, ◌++◌, length, codes, Bool, true, false, ◌&&◌, cond, Option, Some, None, decimal, leb, ltb, refl, arith, length-append}
+use Rattle.std.proofs.lemmas.Bool.{and_parts, leb-true, ltb-true}
 use Rattle.std.proofs.lemmas.List.Sums.{sum_by-cons}
 use Rattle.std.proofs.lemmas.Fmt.{length-decimal-le}
 use Rattle.std.specs.List.{sum_by, list_all}
 use Rattle.json.specs.Print.{escape_byte, escape_letter, escape, quoted}
 use Rattle.serde_json.specs.Data.{string, object, Members, no_members, member, depth, members_depth}
-use Rattle.serde_json.specs.Written.{has_float, members_have_float, compact_text, members_text, comma_if}
+use Rattle.serde_json.specs.Find.{of_integer}
+use Rattle.serde_json.specs.Written.{number_text, has_float, members_have_float, compact_text, members_text, comma_if}
 use Rattle.pn_join.specs.Naming.{is_name, is_name_byte}
-use Rattle.pn_record.specs.Bodies.{field_size, is_body, is_content, fields_fit, names_rise}
-use Rattle.pn_record.specs.Limits.{Field, is_field, is_key, is_version}
-use Rattle.pn_record.specs.Writing.{version_data, fields_data, body_data, image_data}
+use Rattle.pn_record.specs.Bodies.{value_size, field_size, is_body, is_content, fields_fit, names_rise}
+use Rattle.pn_record.specs.Limits.{FieldValue, number_value, text_value, Field, is_number, is_value, is_field, is_key, is_version}
+use Rattle.pn_record.specs.Writing.{value_data, version_data, fields_data, body_data, image_data}
 use Rattle.pn_record.specs.Canonical.{is_image}
 use Rattle.pn_record.specs.declared.image.Image.{Image}
+use Rattle.pn_record.proofs.Values.{field_value}
+
+value_has_no_float : (value : FieldValue) → has_float (value_data value) ≡ false
+value_has_no_float (number_value (pos n)) = refl
+value_has_no_float (number_value (negsuc n)) = refl
+value_has_no_float (text_value text) = refl
 
 fields_have_no_float : (fields : List Field) → members_have_float (fields_data fields) ≡ false
 fields_have_no_float [] = refl
-fields_have_no_float (field ∷ fields) = fields_have_no_float fields
+fields_have_no_float (field ∷ fields) = rw (value_has_no_float field.1) (fields_have_no_float fields)
 
 body_has_no_float : (f : Option (List Field)) (rest : Members) → members_have_float rest ≡ false → members_have_float (body_data f rest) ≡ false
 body_has_no_float None rest none = none
@@ -25,9 +32,13 @@ body_has_no_float (Some fields) rest none = rw (fields_have_no_float fields) non
 pub has_float-image_data : (image : Image) → has_float (image_data image) ≡ false
 has_float-image_data image = body_has_no_float image.content.0 _ refl
 
+value_depth : (value : FieldValue) → depth (value_data value) ≡ 0
+value_depth (number_value z) = refl
+value_depth (text_value text) = refl
+
 fields_depth : (fields : List Field) → members_depth (fields_data fields) ≤ 0
 fields_depth [] = omega arith
-fields_depth (field ∷ fields) = omega (arith, fields_depth fields)
+fields_depth (field ∷ fields) = omega (arith, value_depth field.1, fields_depth fields)
 
 body_depth : (f : Option (List Field)) (rest : Members) → members_depth rest ≤ 1 → members_depth (body_data f rest) ≤ 1
 body_depth None rest flat = omega arith
@@ -56,16 +67,30 @@ pub length-comma_if : (later : Bool) → length (comma_if later) ≤ 1
 length-comma_if true = omega arith
 length-comma_if false = omega arith
 
--- a member whose value is a text, before other text
-pub length_member : (later : Bool) (name text rest : List ℕ) → length (comma_if later ++ (quoted name ++ 58 ∷ (quoted text ++ rest))) ≤ 6 * length name + 6 * length text + 6 + length rest
+-- a member, before other text
+length_member : (later : Bool) (name text rest : List ℕ) → length (comma_if later ++ (quoted name ++ 58 ∷ (text ++ rest))) ≤ 6 * length name + length text + 4 + length rest
 length_member later name text rest =
-    omega (arith, length-append (comma_if later) (quoted name ++ 58 ∷ (quoted text ++ rest)), length-append (quoted name) (58 ∷ (quoted text ++ rest)), length-append (quoted text) rest, length-comma_if later, length-quoted name, length-quoted text)
+    omega (arith, length-append (comma_if later) (quoted name ++ 58 ∷ (text ++ rest)), length-append (quoted name) (58 ∷ (text ++ rest)), length-append text rest, length-comma_if later, length-quoted name)
 
-length_fields : (later : Bool) (fields : List Field) → length (members_text later (fields_data fields)) ≤ 6 * sum_by field_size fields + 6 * length fields + 1
-length_fields true [] = omega arith
-length_fields false [] = omega arith
-length_fields later (field ∷ fields) =
-    omega (arith, length_member later field.0 field.1 (members_text true (fields_data fields)), length_fields true fields, sum_by-cons field_size field fields)
+digits : (n : ℕ) → n ≤ 2 ^ 63 → length (decimal n) ≤ 19
+digits n small = length-decimal-le 19 n (omega arith) (omega arith) (omega arith)
+
+-- a number of 64 bits has at most the 20 characters that it counts
+length_whole : (z : ℤ) → is_number z ≡ true → length (number_text (of_integer z)) ≤ 20
+length_whole (pos n) is = omega (arith, digits n (omega (arith, ltb-true n (2 ^ 63) is)))
+length_whole (negsuc n) is = omega (arith, digits (suc n) (omega (arith, ltb-true n (2 ^ 63) is)))
+
+length_value : (value : FieldValue) → is_value value ≡ true → length (compact_text (value_data value)) ≤ 6 * value_size value + 2
+length_value (number_value z) is = omega (arith, length_whole z is)
+length_value (text_value text) is = length-quoted text
+
+length_fields : (later : Bool) (fields : List Field) → list_all is_field fields ≡ true → length (members_text later (fields_data fields)) ≤ 6 * sum_by field_size fields + 6 * length fields + 1
+length_fields true [] fit = omega arith
+length_fields false [] fit = omega arith
+length_fields later (field ∷ fields) fit =
+    let parts = and_parts (is_field field) (list_all is_field fields) fit in
+    let text = compact_text (value_data field.1) in
+    omega (arith, length_member later field.0 text (members_text true (fields_data fields)), length_value field.1 (field_value field parts.0), length_fields true fields parts.1, sum_by-cons field_size field fields)
 
 -- a member whose value is an array of two, at the end of an object
 length_pair : (name a b : List ℕ) → length (44 ∷ (quoted name ++ 58 ∷ ((91 ∷ (a ++ 44 ∷ (b ++ 93 ∷ []))) ++ 125 ∷ []))) ≤ 6 * length name + 8 + length a + length b
@@ -93,7 +118,7 @@ length_rest image key master version =
     let long_key = and_parts (leb 1 (length image.key)) (leb (length image.key) 256) key in
     let long_name = and_parts (leb 1 (length image.content.1) && leb (length image.content.1) 32) (list_all is_name_byte image.content.1) master in
     let long_master = and_parts (leb 1 (length image.content.1)) (leb (length image.content.1) 32) long_name.0 in
-    omega (arith, length_member true (codes "key") image.key middle, length_member true (codes "master") image.content.1 last, length_version image.version version, leb-true _ _ long_key.1, leb-true _ _ long_master.1)
+    omega (arith, length_member true (codes "key") (quoted image.key) middle, length_member true (codes "master") (quoted image.content.1) last, length-quoted image.key, length-quoted image.content.1, length_version image.version version, leb-true _ _ long_key.1, leb-true _ _ long_master.1)
 
 length_body : (f : Option (List Field)) (rest : Members) → is_body f ≡ true → length (members_text true rest) ≤ 1900 → length (compact_text (object (body_data f rest))) < 52000
 length_body None rest is short =
@@ -105,7 +130,7 @@ length_body (Some fields) rest is short =
     let fits = and_parts (fields_fit fields) (names_rise fields) is in
     let together = and_parts (leb (length fields) 64 && list_all is_field fields) (leb (sum_by field_size fields) 8192) fits.0 in
     let few = and_parts (leb (length fields) 64) (list_all is_field fields) together.0 in
-    omega (arith, length-append (quoted (codes "fields")) (58 ∷ ((123 ∷ inside) ++ after)), length-append inside after, length-quoted (codes "fields"), length_fields false fields, leb-true _ _ few.0, leb-true _ _ together.1)
+    omega (arith, length-append (quoted (codes "fields")) (58 ∷ ((123 ∷ inside) ++ after)), length-append inside after, length-quoted (codes "fields"), length_fields false fields few.1, leb-true _ _ few.0, leb-true _ _ together.1)
 
 -- the text of an image's JSON is short
 pub length-image_data : (image : Image) → is_image image ≡ true → length (compact_text (image_data image)) < 52000

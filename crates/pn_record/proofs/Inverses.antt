@@ -1,13 +1,14 @@
 -- What a look into a version or into fields found, the value is.
-use Rattle.std.proofs.Common.{◌≡◌, ℕ, [], true, Some, unwrap_or, is_some, refl, ap, ◌∙◌}
+use Rattle.std.proofs.Common.{◌≡◌, ℕ, true, Some, is_some, refl, ap, ◌∙◌}
 use Rattle.std.proofs.lemmas.Bool.{and_parts}
-use Rattle.serde_json.specs.Data.{Data, null, boolean, number, string, array, object, unsigned, Items, no_items, item, Members, no_members, member}
-use Rattle.serde_json.specs.Find.{as_str, as_array}
+use Rattle.serde_json.specs.Data.{Data, number, array, unsigned, Items, no_items, item, Members, no_members, member}
+use Rattle.serde_json.specs.Find.{as_array}
 use Rattle.pn_json.specs.Members.{whole_number}
 use Rattle.pn_json.proofs.Inverses.{and_then_some, map_some, array_from_as_array, number_from_whole}
-use Rattle.pn_record.specs.BodyGrammar.{all_texts, fields_of}
+use Rattle.pn_record.specs.BodyGrammar.{value_in, all_values, fields_of}
 use Rattle.pn_record.specs.Grammar.{two_numbers, numbers_in}
 use Rattle.pn_record.specs.Writing.{version_data, fields_data}
+use Rattle.pn_record.proofs.Values.{value_again}
 
 items_from_two : (ds : Items) (v : ℕ × ℕ) → two_numbers ds ≡ Some v → array ds ≡ version_data v
 items_from_two no_items v is = cc
@@ -26,17 +27,9 @@ version_from_numbers d v is =
     let found = and_then_some (as_array d) two_numbers v is in
     array_from_as_array d found.0 found.1 ∙ items_from_two found.0 v found.2
 
-text_again : (d : Data) → is_some (as_str d) ≡ true → string (unwrap_or (as_str d) []) ≡ d
-text_again null is = cc
-text_again (boolean b) is = cc
-text_again (number n) is = cc
-text_again (string t) is = refl
-text_again (array es) is = cc
-text_again (object ns) is = cc
-
--- members that are texts alone are those of their fields
-pub fields_data-fields_of : (ms : Members) → all_texts ms ≡ true → fields_data (fields_of ms) ≡ ms
+-- members that are values of fields alone are those of their fields
+pub fields_data-fields_of : (ms : Members) → all_values ms ≡ true → fields_data (fields_of ms) ≡ ms
 fields_data-fields_of no_members is = refl
 fields_data-fields_of (member name d ms) is =
-    let parts = and_parts (is_some (as_str d)) (all_texts ms) is in
-    rw (text_again d parts.0, fields_data-fields_of ms parts.1) refl
+    let parts = and_parts (is_some (value_in d)) (all_values ms) is in
+    rw (value_again d parts.0, fields_data-fields_of ms parts.1) refl

@@ -22,4 +22,5 @@ pub mod Reordering
 pub mod SameImage
 pub mod ShapeParts
 pub mod Sorted
+pub mod Values
 pub mod Written

@@ -7,12 +7,12 @@ use Rattle.std.specs.Cmp.Lexicographic.{slice_cmp}
 use Rattle.std.specs.FinMap.{is_sorted}
 use Rattle.std.specs.FinMap.Entries.{below_all}
 use Rattle.std.specs.Ordering.{is_lt, ordering_reverse}
-use Rattle.serde_json.specs.Data.{Data, Members, member, no_members, string, number, unsigned, put}
+use Rattle.serde_json.specs.Data.{Data, Members, member, no_members, number, unsigned, put}
 use Rattle.pn_join.specs.Marks.{Positions, name_cmp}
 use Rattle.pn_record.specs.Bodies.{names_rise}
 use Rattle.pn_record.specs.Marks.{positions_data}
 use Rattle.pn_record.specs.Showing.{shown_field, shown_value}
-use Rattle.pn_record.specs.Writing.{fields_data}
+use Rattle.pn_record.specs.Writing.{value_data, fields_data}
 use Rattle.pn_record.specs.declared.content.Value.{Value}
 
 less : (o : Ordering) → is_lt o ≡ true → o ≡ Less
@@ -44,11 +44,11 @@ module _ {X : Type 0} where
 
 -- the same of the fields that a program holds
 pub put_next_shown : (fields : List (String Global × Value)) (i : ℕ) (field : String Global × Value) → i < length fields → field ≡ get_or fields i field → IsTrue (names_rise (map shown_field fields))
-    → put (string_bytes field.0) (string (shown_value field.1)) (fields_data (take i (map shown_field fields))) ≡ fields_data (take (i + 1) (map shown_field fields))
+    → put (string_bytes field.0) (value_data (shown_value field.1)) (fields_data (take i (map shown_field fields))) ≡ fields_data (take (i + 1) (map shown_field fields))
 put_next_shown fields i field within is rising =
     let inside : i < length (map shown_field fields) = simp length-map within in
     let here : shown_field field ≡ get_or (map shown_field fields) i (shown_field field) = ap shown_field is ∙ sym (get_or-map shown_field fields i field (shown_field field) within) in
-    rw add-one (put_next string fields_data refl (λ e es. refl) (map shown_field fields) i (shown_field field) inside here rising)
+    rw add-one (put_next value_data fields_data refl (λ e es. refl) (map shown_field fields) i (shown_field field) inside here rising)
 
 -- the members after all entries were put to them, one after another
 abbrev pub put_all : Members → Positions → Members

@@ -1,23 +1,27 @@
 -- A value that has the shape of an image is the JSON of that image, and that JSON has its shape.
-use Rattle.std.proofs.Common.{◌≡◌, ℕ, List, [], ◌∷◌, codes, true, false, Option, Some, None, Ok, String, Global, string_cmp, bytes_eq, refl, sym, ap, ◌∙◌}
-use Rattle.std.specs.List.{list_any}
+use Rattle.std.proofs.Common.{◌≡◌, ℕ, List, [], ◌∷◌, length, codes, true, false, ◌&&◌, leb, Option, Some, None, Ok, String, Global, string_cmp, bytes_eq, refl, sym, ap, ◌∙◌}
+use Rattle.std.proofs.lemmas.Bool.{and_parts}
+use Rattle.std.specs.List.{list_all, list_any, sum_by}
 use Rattle.std.specs.List.Sorted.{IsStrictlySortedBy}
 use Rattle.std.specs.Map.{keys_of}
 use Rattle.serde_json.specs.Data.{Data, string, object, Members, no_members, member}
 use Rattle.serde_json.specs.Find.{get_member, as_object}
 use Rattle.serde_json.specs.View.{members_view}
 use Rattle.serde_json.specs.declared.value.Value.{Value}
-use Rattle.pn_record.specs.Limits.{Field}
+use Rattle.pn_join.specs.Naming.{is_name}
+use Rattle.pn_record.specs.Bodies.{field_size, is_body, is_content, fields_fit, names_rise}
+use Rattle.pn_record.specs.Limits.{Field, is_field, is_key, is_version}
 use Rattle.pn_json.specs.Members.{only_named}
-use Rattle.pn_record.specs.BodyGrammar.{all_texts, fields_of}
+use Rattle.pn_record.specs.BodyGrammar.{all_values, fields_of}
 use Rattle.pn_record.specs.Grammar.{image_members, shape_in, image_in}
 use Rattle.pn_record.specs.Writing.{version_data, fields_data, body_data, image_data}
-use Rattle.pn_record.specs.Canonical.{IsImage}
+use Rattle.pn_record.specs.Canonical.{is_image, IsImage}
 use Rattle.pn_record.specs.declared.image.Image.{Image}
 use Rattle.pn_json.proofs.LookUps.{Rise, Rise-map, get_member-member, get_member-unnamed, same_members, or_elsewhere}
 use Rattle.pn_json.proofs.Inverses.{object_from_as_object}
 use Rattle.pn_record.proofs.Limiting.{in_ranges}
 use Rattle.pn_record.proofs.ShapeParts.{Holds, holds, at_deleted, at_fields}
+use Rattle.pn_record.proofs.Values.{value_in-value_data, field_value}
 
 -- the members of an image's JSON
 abbrev members_of : Image → Members
@@ -71,22 +75,36 @@ pub shape_found : (ms : Members) (image : Image) → Rise ms → shape_in (objec
 shape_found ms image rise is =
     ap object (same_members ms (members_of image) rise (members_rise image image.content.0) (same_found ms (members_of image) image (holds ms image is) (image_holds image)))
 
-all_texts-fields_data : (fields : List Field) → all_texts (fields_data fields) ≡ true
-all_texts-fields_data [] = refl
-all_texts-fields_data (field ∷ fields) = all_texts-fields_data fields
+all_values-fields_data : (fields : List Field) → list_all is_field fields ≡ true → all_values (fields_data fields) ≡ true
+all_values-fields_data [] fit = refl
+all_values-fields_data (field ∷ fields) fit =
+    let parts = and_parts (is_field field) (list_all is_field fields) fit in
+    rw (value_in-value_data field.1 (field_value field parts.0)) (all_values-fields_data fields parts.1)
 
-pub fields_of-fields_data : (fields : List Field) → fields_of (fields_data fields) ≡ fields
-fields_of-fields_data [] = refl
-fields_of-fields_data (field ∷ fields) = ap (λ fs. field ∷ fs) (fields_of-fields_data fields)
+-- fields that fit are those of their members
+pub fields_of-fields_data : (fields : List Field) → list_all is_field fields ≡ true → fields_of (fields_data fields) ≡ fields
+fields_of-fields_data [] fit = refl
+fields_of-fields_data (field ∷ fields) fit =
+    let parts = and_parts (is_field field) (list_all is_field fields) fit in
+    rw (value_in-value_data field.1 (field_value field parts.0), fields_of-fields_data fields parts.1) refl
 
-shape_again_of : (key master : List ℕ) (version : ℕ × ℕ) (f : Option (List Field)) → let image : Image = record { key = key; version = version; content = (f, master) } in shape_in (image_data image) ≡ Ok image
+pub each_fits : (fields : List Field) → fields_fit fields ≡ true → list_all is_field fields ≡ true
+each_fits fields fit =
+    let together = and_parts (leb (length fields) 64 && list_all is_field fields) (leb (sum_by field_size fields) 8192) fit in
+    (and_parts (leb (length fields) 64) (list_all is_field fields) together.0).1
+
+shape_again_of : (key master : List ℕ) (version : ℕ × ℕ) (f : Option (List Field)) → is_body f ≡ true → let image : Image = record { key = key; version = version; content = (f, master) } in shape_in (image_data image) ≡ Ok image
 unfolding shape_in
-shape_again_of key master version None = refl
-shape_again_of key master version (Some fields) = rw (all_texts-fields_data fields, fields_of-fields_data fields) refl
+shape_again_of key master version None fits = refl
+shape_again_of key master version (Some fields) fits =
+    let each = each_fits fields (and_parts (fields_fit fields) (names_rise fields) fits).0 in rw (all_values-fields_data fields each, fields_of-fields_data fields each) refl
 
 -- the JSON of an image has its shape
-pub shape_again : (image : Image) → shape_in (image_data image) ≡ Ok image
-shape_again image = shape_again_of image.key image.content.1 image.version image.content.0
+pub shape_again : (image : Image) → is_image image ≡ true → shape_in (image_data image) ≡ Ok image
+shape_again image is =
+    let content = (and_parts (is_key image.key && is_version image.version) (is_content image.content) is).1 in
+    let body = (and_parts (is_body image.content.0) (is_name image.content.1) content).0 in
+    shape_again_of image.key image.content.1 image.version image.content.0 body
 
 -- the same of a value that a map holds
 pub shape_found_in : (d : Data) (entries : List (String Global × Value)) (image : Image) → Some (members_view entries) ≡ as_object d → IsStrictlySortedBy string_cmp (keys_of entries) → shape_in d ≡ Ok image
@@ -98,4 +116,4 @@ shape_found_in d entries image members ordered is =
 -- an image's value is read as the image
 pub image_again : (d : Data) (image : Image) → IsImage d image → image_in d ≡ Ok image
 unfolding image_in
-image_again d image is = rw (is.value, shape_again image, in_ranges image is.limits) refl
+image_again d image is = rw (is.value, shape_again image is.limits, in_ranges image is.limits) refl

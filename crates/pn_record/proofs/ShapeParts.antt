@@ -4,7 +4,7 @@ use Rattle.serde_json.specs.Data.{Data, boolean, string, object, Members}
 use Rattle.serde_json.specs.Find.{get_member, as_bool, as_object, as_str}
 use Rattle.pn_record.specs.Limits.{Field}
 use Rattle.pn_json.specs.Members.{only_named, member_as, no_others}
-use Rattle.pn_record.specs.BodyGrammar.{all_texts, fields_of, deleted_in, object_fields, fields_in}
+use Rattle.pn_record.specs.BodyGrammar.{all_values, fields_of, deleted_in, object_fields, fields_in}
 use Rattle.pn_record.specs.Grammar.{numbers_in, image_members, shape_in}
 use Rattle.pn_record.specs.Writing.{version_data, fields_data}
 use Rattle.pn_record.specs.declared.image.Image.{Image}
@@ -37,9 +37,9 @@ deleted_ok None false is = refl
 deleted_ok (Some d) true is = ap Some (true_from_as_bool d (guard_ok (unwrap_or (as_bool d) false) true true _ is).0)
 deleted_ok (Some d) false is = let found = guard_ok (unwrap_or (as_bool d) false) true false _ is in absurd (cc)
 
-object_fields_ok : (o : Option Members) (f : Option (List Field)) → object_fields o ≡ Ok f → (ms : Members) × (o ≡ Some ms) × (f ≡ Some (fields_of ms)) × (all_texts ms ≡ true)
+object_fields_ok : (o : Option Members) (f : Option (List Field)) → object_fields o ≡ Ok f → (ms : Members) × (o ≡ Some ms) × (f ≡ Some (fields_of ms)) × (all_values ms ≡ true)
 object_fields_ok None f is = absurd (cc)
-object_fields_ok (Some ms) f is = let found = guard_ok (all_texts ms) (Some (fields_of ms)) f Fields is in (ms, refl, sym found.1, found.0)
+object_fields_ok (Some ms) f is = let found = guard_ok (all_values ms) (Some (fields_of ms)) f Fields is in (ms, refl, sym found.1, found.0)
 
 body_ok : (o p : Option Data) (b : Bool) (f : Option (List Field)) → deleted_in o ≡ Ok b → fields_in b p ≡ Ok f → (o ≡ at_deleted f) × (p ≡ at_fields f)
 body_ok o None true f there is = let e : f ≡ None = cc in rw e (deleted_ok o true there, refl)

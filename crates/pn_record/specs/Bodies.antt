@@ -5,11 +5,16 @@ use Rattle.std.specs.FinMap.{is_sorted}
 use Rattle.std.specs.Ordering.{nat_cmp}
 use Rattle.std.specs.Cmp.Lexicographic.{slice_cmp}
 use Rattle.pn_join.specs.Naming.{is_name}
-use Rattle.pn_record.specs.Limits.{Field, ContentValue, is_field, max_fields, max_field_bytes}
+use Rattle.pn_record.specs.Limits.{FieldValue, number_value, text_value, Field, ContentValue, is_field, number_bytes, max_fields, max_field_bytes}
 
--- how many bytes a field's name and text have together
+-- how many bytes a value counts
+abbrev pub value_size : FieldValue → ℕ
+value_size (number_value z) = number_bytes
+value_size (text_value text) = length text
+
+-- how many bytes a field's name and value count together
 abbrev pub field_size : Field → ℕ
-field_size field = length field.0 + length field.1
+field_size field = length field.0 + value_size field.1
 
 -- not too many fields, and not too many bytes together
 abbrev pub fields_fit : List Field → Bool

@@ -10,6 +10,7 @@ pub mod Held
 pub mod Laws
 pub mod Limits
 pub mod Marks
+pub mod Numbers
 pub mod Older
 pub mod Order
 pub mod Parts

@@ -1,5 +1,5 @@
 -- The limits of versions, keys and fields.
-use Rattle.std.specs.Prelude.{ℕ, ◌^◌, Bool, ◌&&◌, nat_le, List, length, Option}
+use Rattle.std.specs.Prelude.{ℕ, ℤ, pos, negsuc, ◌^◌, Bool, ◌&&◌, nat_le, nat_lt, List, length, Option}
 use Rattle.pn_line.specs.Line as line
 
 -- the greatest generation and number of a version, and the last position of a stream
@@ -18,6 +18,10 @@ max_field_name_bytes = 64
 
 abbrev pub max_text_bytes : ℕ
 max_text_bytes = 4096
+
+-- the bytes that a number counts
+abbrev pub number_bytes : ℕ
+number_bytes = 20
 
 -- the most fields, and the most bytes of all together
 abbrev pub max_fields : ℕ
@@ -38,14 +42,29 @@ is_version version = nat_le 1 version.0 && nat_le version.0 greatest && nat_le v
 abbrev pub is_key : List ℕ → Bool
 is_key bytes = nat_le 1 (length bytes) && nat_le (length bytes) max_key_bytes
 
--- a field: its name and its text
+-- what a field has: a whole number, or the bytes of a text
+pub data FieldValue : Type 0 where
+  number_value : ℤ → FieldValue
+  text_value : List ℕ → FieldValue
+
+-- a field: its name and its value
 abbrev pub Field : Type 0
-Field = List ℕ × List ℕ
+Field = List ℕ × FieldValue
 
 -- a content: its fields, or none for a deletion, and its master
 abbrev pub ContentValue : Type 0
 ContentValue = Option (List Field) × List ℕ
 
--- the name is not empty, and neither name nor text is too long
+-- the number fits 64 bits, its sign included
+abbrev pub is_number : ℤ → Bool
+is_number (pos n) = nat_lt n (2 ^ 63)
+is_number (negsuc n) = nat_lt n (2 ^ 63)
+
+-- a number of 64 bits, or a text that is not too long
+abbrev pub is_value : FieldValue → Bool
+is_value (number_value z) = is_number z
+is_value (text_value text) = nat_le (length text) max_text_bytes
+
+-- the name is not empty and not too long, and the value keeps its limits
 abbrev pub is_field : Field → Bool
-is_field field = nat_le 1 (length field.0) && nat_le (length field.0) max_field_name_bytes && nat_le (length field.1) max_text_bytes
+is_field field = nat_le 1 (length field.0) && nat_le (length field.0) max_field_name_bytes && is_value field.1

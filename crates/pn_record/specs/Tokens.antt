@@ -1,14 +1,14 @@
 -- The tokens of fields, bodies and marks, each as a member of an object.
 use Rattle.std.specs.Prelude.{ℕ, true, List, codes, Option, Some, None}
 use Rattle.json.specs.Token.{Token}
-use Rattle.serde_json.specs.Data.{boolean, number, string, object, unsigned}
+use Rattle.serde_json.specs.Data.{boolean, number, object, unsigned}
 use Rattle.pn_json.specs.Tokens.{member_tokens}
 use Rattle.pn_record.specs.Limits.{Field}
-use Rattle.pn_record.specs.Writing.{fields_data}
+use Rattle.pn_record.specs.Writing.{value_data, fields_data}
 
 -- a field
 abbrev pub field_tokens : Field → List Token
-field_tokens field = member_tokens field.0 (string field.1)
+field_tokens field = member_tokens field.0 (value_data field.1)
 
 -- the member `fields`, or `deleted` for a deletion
 abbrev pub body_tokens : Option (List Field) → List Token

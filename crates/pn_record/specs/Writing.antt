@@ -1,17 +1,23 @@
 -- The JSON values of versions, contents and images.
 use Rattle.std.specs.Prelude.{ℕ, true, List, [], ◌∷◌, codes, Option, Some, None}
 use Rattle.serde_json.specs.Data.{Data, boolean, number, string, array, object, unsigned, no_items, item, Members, no_members, member}
-use Rattle.pn_record.specs.Limits.{Field, ContentValue}
+use Rattle.serde_json.specs.Find.{of_integer}
+use Rattle.pn_record.specs.Limits.{FieldValue, number_value, text_value, Field, ContentValue}
 use Rattle.pn_record.specs.declared.image.Image.{Image}
 
 -- the two numbers
 abbrev pub version_data : ℕ × ℕ → Data
 version_data version = array (item (number (unsigned version.0)) (item (number (unsigned version.1)) no_items))
 
+-- a number or a text
+abbrev pub value_data : FieldValue → Data
+value_data (number_value z) = number (of_integer z)
+value_data (text_value text) = string text
+
 -- a member for each field
 abbrev pub fields_data : List Field → Members
 fields_data [] = no_members
-fields_data (field ∷ fields) = member field.0 (string field.1) (fields_data fields)
+fields_data (field ∷ fields) = member field.0 (value_data field.1) (fields_data fields)
 
 -- `fields`, or `deleted` for a deletion, before other members
 abbrev pub body_data : Option (List Field) → Members → Members

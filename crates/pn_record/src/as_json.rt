@@ -9,7 +9,9 @@ mod read;
 mod unchecked;
 mod write;
 
-pub use content_writer::{write_content, write_contents, write_version};
+pub use content_writer::{
+    write_body, write_content, write_contents, write_field_value, write_version,
+};
 pub use marks::{marks_of, marks_value};
 pub use marks_writer::write_marks;
 pub use moved::image_from;

@@ -5,15 +5,18 @@ ghost use Rattle.std.specs.Ordering.{is_lt, nat_cmp};
 ghost use Rattle.std.specs.Cmp.Lexicographic.{slice_cmp};
 ghost use Rattle.pn_record.specs.Bodies.{is_body, is_body as body_fits, fields_fit as all_fit, names_rise as all_rise};
 ghost use Rattle.pn_record.specs.Limits.{is_field as one_fits};
-ghost use Rattle.pn_record.specs.Showing.{shown_body, shown_field, shown_value};
+ghost use Rattle.pn_record.specs.Showing.{shown_body, shown_field, shown_ref, shown_value};
 
-use crate::limits::{MAX_FIELD_BYTES, MAX_FIELD_NAME_BYTES, MAX_FIELDS, MAX_TEXT_BYTES};
+use crate::ValueRef;
+use crate::limits::{MAX_FIELD_BYTES, MAX_FIELD_NAME_BYTES, MAX_FIELDS};
 use pn_join::{Name, NoMemory};
 use std::marker::Model;
 
 /// The value of a field.
 #[derive(Debug, Drop)]
 pub enum Value {
+    /// A whole number. It counts 20 bytes.
+    Number(i64),
     /// At most 4,096 bytes.
     Text(String),
 }
@@ -83,7 +86,7 @@ fn fields_fit(fields: &[(String, Value)]) -> bool
         if !fits(field) {
             return false;
         }
-        bytes += field.0.len() + field.1.len();
+        bytes += field.0.len() + field.1.as_ref().size();
     }
     bytes <= MAX_FIELD_BYTES
 }
@@ -91,14 +94,14 @@ fn fields_fit(fields: &[(String, Value)]) -> bool
 fn fits(field: &(String, Value)) -> bool
     ensures { result ≡ one_fits (shown_field field.now) }
 {
-    is_field(field.0.as_str(), field.1.as_str())
+    is_field(field.0.as_str(), field.1.as_ref())
 }
 
-/// Whether a name and a text keep the limits of a field.
-pub fn is_field(name: &str, text: &str) -> bool
-    ensures { result ≡ one_fits (name.now, text.now) }
+/// Whether a name and a value keep the limits of a field.
+pub fn is_field(name: &str, value: ValueRef<'_>) -> bool
+    ensures { result ≡ one_fits (name.now, shown_ref value.entry) }
 {
-    !name.is_empty() && name.len() <= MAX_FIELD_NAME_BYTES && text.len() <= MAX_TEXT_BYTES
+    !name.is_empty() && name.len() <= MAX_FIELD_NAME_BYTES && value.fits()
 }
 
 fn names_rise(fields: &[(String, Value)]) -> bool
@@ -119,27 +122,13 @@ fn is_below(field: &(String, Value), next: &(String, Value)) -> bool
 }
 
 impl Value {
-    /// The value as text.
-    pub fn as_str(&self) -> &str
-        ensures { result.now ≡ shown_value self.now }
-    {
-        match self {
-            Value::Text(text) => text.as_str(),
-        }
-    }
-
     /// An equal value.
     pub fn copy(&self) -> Result<Value, NoMemory>
         ensures { IfOk result (λ copy. shown_value copy ≡ shown_value self.now) }
     {
         match self {
+            Value::Number(number) => Ok(Value::Number(*number)),
             Value::Text(text) => Ok(Value::Text(text.clone()?)),
         }
-    }
-
-    fn len(&self) -> usize
-        ensures { result ≡ length (shown_value self.now) }
-    {
-        self.as_str().len()
     }
 }

@@ -15,5 +15,8 @@ pub const MAX_FIELD_NAME_BYTES: usize = 64;
 /// The longest text of a field, in bytes.
 pub const MAX_TEXT_BYTES: usize = 4_096;
 
-/// The most bytes of the names and texts of all fields together.
+/// The bytes that a number counts.
+pub const NUMBER_BYTES: usize = 20;
+
+/// The most bytes that the names and values of all fields count together.
 pub const MAX_FIELD_BYTES: usize = 8_192;

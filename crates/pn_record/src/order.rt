@@ -7,9 +7,9 @@ ghost use Rattle.std.specs.Cmp.{eq_by_cmp_equiv, partial_equiv_from_equiv, parti
 ghost use Rattle.std.specs.Cmp.Rules.{comparing};
 ghost use Rattle.std.specs.Cmp.Lexicographic.{slice_cmp};
 ghost use Rattle.std.proofs.Common.{rules};
-ghost use Rattle.pn_record.specs.Order.{bytes_cmp, field_cmp, body_cmp, content_cmp};
+ghost use Rattle.pn_record.specs.Order.{value_cmp, field_cmp, body_cmp, content_cmp};
 ghost use Rattle.pn_record.specs.Showing.{shown_value, shown_field, shown_body};
-ghost use Rattle.pn_record.specs.Laws.Totals.{content_cmp_total, value_cmp_total};
+ghost use Rattle.pn_record.specs.Laws.Totals.{content_cmp_total, shown_cmp_total};
 
 use crate::{Body, Content, Value};
 use std::cmp::Ordering;
@@ -32,9 +32,9 @@ fn compare_fields(fields: &[(String, Value)], others: &[(String, Value)]) -> Ord
 }
 
 impl PartialEq for Value {
-    ghost eq = { eq_by_cmp (on shown_value bytes_cmp) };
+    ghost eq = { eq_by_cmp (on shown_value value_cmp) };
 
-    ghost laws = { partial_equiv_from_equiv (eq_by_cmp_equiv value_cmp_total) };
+    ghost laws = { partial_equiv_from_equiv (eq_by_cmp_equiv shown_cmp_total) };
 
     fn eq(&self, other: &Value) -> bool {
         self.cmp(other).is_eq()
@@ -42,13 +42,13 @@ impl PartialEq for Value {
 }
 
 impl Eq for Value {
-    ghost laws = { eq_by_cmp_equiv value_cmp_total };
+    ghost laws = { eq_by_cmp_equiv shown_cmp_total };
 }
 
 impl PartialOrd for Value {
-    ghost partial_cmp = { as_partial_cmp (on shown_value bytes_cmp) };
+    ghost partial_cmp = { as_partial_cmp (on shown_value value_cmp) };
 
-    ghost laws = { partial_order_from_own_ties (Prim.search (comparing, rules)) (Prim.search (comparing, rules)) };
+    ghost laws = { partial_order_from_own_ties (Prim.search (comparing, rules, shown_cmp_total)) (Prim.search (comparing, rules)) };
 
     fn partial_cmp(&self, other: &Value) -> Option<Ordering> {
         Some(self.cmp(other))
@@ -56,18 +56,21 @@ impl PartialOrd for Value {
 }
 
 impl Ord for Value {
-    ghost cmp = { on shown_value bytes_cmp };
+    ghost cmp = { on shown_value value_cmp };
 
-    ghost total = { value_cmp_total };
+    ghost total = { shown_cmp_total };
 
     ghost matches_partial_cmp = { Prim.search (comparing, rules) };
 
     ghost matches_eq = { Prim.search (comparing, rules) };
 
     fn cmp(&self, other: &Value) -> Ordering {
-        let Value::Text(text) = self;
-        let Value::Text(other) = other;
-        text.cmp(other)
+        match (self, other) {
+            (Value::Number(number), Value::Number(other)) => number.cmp(other),
+            (Value::Number(_), Value::Text(_)) => Ordering::Less,
+            (Value::Text(_), Value::Number(_)) => Ordering::Greater,
+            (Value::Text(text), Value::Text(other)) => text.cmp(other),
+        }
     }
 }
 

@@ -12,6 +12,7 @@ pub mod Numbers
 pub mod PageEnds
 pub mod QueryFaults
 pub mod RisingPages
+pub mod SameConditions
 pub mod SameQuery
 pub mod Scans
 pub mod Searches

@@ -1,7 +1,7 @@
 -- Queries, their conditions and their limits.
 use Rattle.std.specs.Prelude.{ℕ, Bool, true, ◌&&◌, nat_le, List, [], length, Option, Some, None, string_bytes}
 use Rattle.std.specs.List.{list_all}
-use Rattle.pn_record.specs.Limits.{is_field, is_key}
+use Rattle.pn_record.specs.Limits.{FieldValue, number_value, text_value, is_number, is_field, is_key}
 use Rattle.pn_record.specs.Showing.{shown_value}
 use Rattle.pn_scan.specs.declared.condition.Condition.{Condition}
 use Rattle.pn_scan.specs.declared.condition.Condition.TheVariants.{Has, Eq, Lt, Gt, Prefix}
@@ -13,12 +13,12 @@ max_page_rows = 1000
 abbrev pub max_conditions : ℕ
 max_conditions = 16
 
--- a condition on the field of a name: it is there, or its value is equal, less, greater, or begins with this one
+-- a condition on the field of a name: it is there, or its value is equal, less or greater, or begins with this text
 pub data ConditionValue : Type 0 where
   has : List ℕ → ConditionValue
-  eq : List ℕ → List ℕ → ConditionValue
-  lt : List ℕ → List ℕ → ConditionValue
-  gt : List ℕ → List ℕ → ConditionValue
+  eq : List ℕ → FieldValue → ConditionValue
+  lt : List ℕ → FieldValue → ConditionValue
+  gt : List ℕ → FieldValue → ConditionValue
   prefix : List ℕ → List ℕ → ConditionValue
 
 -- keys at least `from`, below `to` and above `after`, whose records meet all conditions
@@ -29,21 +29,34 @@ pub record QueryValue : Type 0 where
   pub conditions : List ConditionValue
   pub limit : ℕ
 
--- the value of a condition of the program
+-- the condition as contracts show it
 abbrev pub shown_condition : Condition → ConditionValue
 shown_condition (Has field) = has (string_bytes field)
 shown_condition (Eq field value) = eq (string_bytes field) (shown_value value)
 shown_condition (Lt field value) = lt (string_bytes field) (shown_value value)
 shown_condition (Gt field value) = gt (string_bytes field) (shown_value value)
-shown_condition (Prefix field value) = prefix (string_bytes field) (shown_value value)
+shown_condition (Prefix field value) = prefix (string_bytes field) (string_bytes value)
 
 -- the field's name and the value keep the limits of fields
 abbrev pub is_condition : ConditionValue → Bool
-is_condition (has field) = is_field (field, [])
+is_condition (has field) = is_field (field, text_value [])
 is_condition (eq field value) = is_field (field, value)
 is_condition (lt field value) = is_field (field, value)
 is_condition (gt field value) = is_field (field, value)
-is_condition (prefix field value) = is_field (field, value)
+is_condition (prefix field value) = is_field (field, text_value value)
+
+-- the value, where it is a number, has 64 bits
+abbrev pub number_fits : FieldValue → Bool
+number_fits (number_value z) = is_number z
+number_fits (text_value text) = true
+
+-- its value, where that is a number, has 64 bits
+abbrev pub operand_fits : ConditionValue → Bool
+operand_fits (has field) = true
+operand_fits (eq field value) = number_fits value
+operand_fits (lt field value) = number_fits value
+operand_fits (gt field value) = number_fits value
+operand_fits (prefix field value) = true
 
 -- a limit of 1 to 1,000 rows
 abbrev pub is_limit : ℕ → Bool

@@ -3,9 +3,13 @@ use Rattle.std.specs.Prelude.{◌≡◌, ℕ, Bool, true, ◌&&◌, nat_le, List
 use Rattle.std.specs.Borrow.{Bor}
 use Rattle.std.specs.List.{flat_map, list_all}
 use Rattle.std.specs.Option.{option_to_list}
-use Rattle.json.specs.Token.{Token, string}
+use Rattle.json.specs.Token.{Token}
 use Rattle.serde_json.specs.View.{view}
 use Rattle.serde_json.specs.declared.value.Value.{Value}
+use Rattle.pn_json.specs.Tokens.{value_tokens}
+use Rattle.pn_record.specs.Showing.{shown_ref}
+use Rattle.pn_record.specs.Writing.{value_data}
+use Rattle.pn_record.specs.declared.value_ref.ValueRef.{ValueRef}
 use Rattle.pn_scan.specs.Queries.{ConditionValue, is_condition, max_conditions, shown_condition}
 use Rattle.pn_scan.specs.declared.condition.Condition.{Condition}
 use Rattle.pn_scan.specs.ConditionReading.{condition_in}
@@ -37,10 +41,6 @@ pub record AreParsed (values : List Value) (fit : Bool) (made : Option (List Con
 abbrev pub seen_text : Option (Bor (List ℕ)) → Option (List ℕ)
 seen_text text = option_map (λ t. t.now) text
 
--- the texts of a word, a field's name and a value, if there is one
-abbrev pub parts_texts : List ℕ → List ℕ → Option (List ℕ) → List (List ℕ)
-parts_texts word field value = word ∷ field ∷ option_to_list value
-
 -- the tokens of a value, if there is one
-abbrev pub operand_tokens : Option (List ℕ) → List Token
-operand_tokens value = map string (option_to_list value)
+abbrev pub operand_tokens : Option ValueRef → List Token
+operand_tokens value = flat_map (λ v. value_tokens (value_data (shown_ref v))) (option_to_list value)

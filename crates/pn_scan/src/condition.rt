@@ -1,19 +1,17 @@
 //! Conditions on the fields of records.
 
-ghost use Rattle.std.specs.Prelude.{◌≡◌, map, IfOk};
+ghost use Rattle.std.specs.Prelude.{◌≡◌, map, option_map, IfOk};
 ghost use Rattle.std.specs.List.{list_all};
-ghost use Rattle.pn_record.specs.Prelude.{is_field as in_field, shown_value};
+ghost use Rattle.pn_record.specs.Prelude.{shown_ref};
 ghost use Rattle.pn_scan.specs.Queries.{is_condition as in_condition, shown_condition};
-ghost use Rattle.pn_scan.specs.QueryJson.{condition_texts};
-ghost use Rattle.pn_scan.specs.UncheckedQueries.{parts_texts, seen_text};
+ghost use Rattle.pn_scan.specs.QueryJson.{condition_data, parts_data};
 
 use pn_join::NoMemory;
-use pn_record::Value;
-use pn_record::limits::{MAX_FIELD_NAME_BYTES, MAX_TEXT_BYTES};
+use pn_record::{Value, ValueRef, is_field};
 use std::alloc::Global;
 
-/// A condition on one field of a record. A record without the field does not meet it. Values are compared by their
-/// bytes.
+/// A condition on one field of a record. A record without the field does not meet it. Texts are compared by their
+/// bytes, numbers by value, and a text with a number never.
 #[derive(Debug, Drop)]
 pub enum Condition {
     /// The record has the field.
@@ -24,11 +22,11 @@ pub enum Condition {
     Lt { field: String, value: Value },
     /// The field's value is greater than this one.
     Gt { field: String, value: Value },
-    /// The field's value begins with this one.
-    Prefix { field: String, value: Value },
+    /// The field's value is a text that begins with this one.
+    Prefix { field: String, value: String },
 }
 
-/// Whether each condition names a field of 1 to 64 bytes and has a value of at most 4,096.
+/// Whether each condition names a field of 1 to 64 bytes and has a number or a text of at most 4,096.
 pub(crate) fn are_conditions(conditions: &[Condition]) -> bool
     ensures { result ≡ list_all in_condition (map shown_condition conditions.now) }
 {
@@ -45,41 +43,30 @@ fn is_condition(condition: &Condition) -> bool
     ensures { result ≡ in_condition (shown_condition condition.now) }
 {
     match condition {
-        Condition::Has { field } => is_field(field.as_str(), ""),
-        Condition::Eq { field, value } => is_field(field.as_str(), value_text(value)),
-        Condition::Lt { field, value } => is_field(field.as_str(), value_text(value)),
-        Condition::Gt { field, value } => is_field(field.as_str(), value_text(value)),
-        Condition::Prefix { field, value } => is_field(field.as_str(), value_text(value)),
+        Condition::Has { field } => is_field(field.as_str(), ValueRef::Text("")),
+        Condition::Eq { field, value } => is_field(field.as_str(), value.as_ref()),
+        Condition::Lt { field, value } => is_field(field.as_str(), value.as_ref()),
+        Condition::Gt { field, value } => is_field(field.as_str(), value.as_ref()),
+        Condition::Prefix { field, value } =>
+            is_field(field.as_str(), ValueRef::Text(value.as_str())),
     }
 }
 
 /// The word of a condition, the field's name, and the value, if it has one.
-pub(crate) fn parts_of(condition: &Condition) -> (&str, &str, Option<&str>)
-    ensures { condition_texts (shown_condition condition.now) ≡ parts_texts result.0.now result.1.now (seen_text result.2) }
+pub(crate) fn parts_of(condition: &Condition) -> (&str, &str, Option<ValueRef<'_>>)
+    ensures { condition_data (shown_condition condition.now) ≡ parts_data result.0.now result.1.now (option_map shown_ref result.2) }
 {
     match condition {
         Condition::Has { field } => ("has", field.as_str(), None),
-        Condition::Eq { field, value } => ("eq", field.as_str(), Some(value_text(value))),
-        Condition::Lt { field, value } => ("lt", field.as_str(), Some(value_text(value))),
-        Condition::Gt { field, value } => ("gt", field.as_str(), Some(value_text(value))),
-        Condition::Prefix { field, value } => ("prefix", field.as_str(), Some(value_text(value))),
+        Condition::Eq { field, value } => ("eq", field.as_str(), Some(value.as_ref())),
+        Condition::Lt { field, value } => ("lt", field.as_str(), Some(value.as_ref())),
+        Condition::Gt { field, value } => ("gt", field.as_str(), Some(value.as_ref())),
+        Condition::Prefix { field, value } => (
+            "prefix",
+            field.as_str(),
+            Some(ValueRef::Text(value.as_str())),
+        ),
     }
-}
-
-/// The text of a field's value.
-pub(crate) fn value_text(value: &Value) -> &str
-    ensures { result.now ≡ shown_value value.now }
-{
-    match value {
-        Value::Text(text) => text.as_str(),
-    }
-}
-
-/// Whether a name and a text keep the limits of a field.
-pub(crate) fn is_field(name: &str, text: &str) -> bool
-    ensures { result ≡ in_field (name.now, text.now) }
-{
-    !name.is_empty() && name.len() <= MAX_FIELD_NAME_BYTES && text.len() <= MAX_TEXT_BYTES
 }
 
 pub(crate) fn copied_conditions(
@@ -104,27 +91,19 @@ fn copied_condition(condition: &Condition) -> Result<Condition, NoMemory>
         },
         Condition::Eq { field, value } => Condition::Eq {
             field: field.clone()?,
-            value: copied_value(value)?,
+            value: value.copy()?,
         },
         Condition::Lt { field, value } => Condition::Lt {
             field: field.clone()?,
-            value: copied_value(value)?,
+            value: value.copy()?,
         },
         Condition::Gt { field, value } => Condition::Gt {
             field: field.clone()?,
-            value: copied_value(value)?,
+            value: value.copy()?,
         },
         Condition::Prefix { field, value } => Condition::Prefix {
             field: field.clone()?,
-            value: copied_value(value)?,
+            value: value.clone()?,
         },
     })
-}
-
-fn copied_value(value: &Value) -> Result<Value, NoMemory>
-    ensures { IfOk result (λ copy. shown_value copy ≡ shown_value value.now) }
-{
-    match value {
-        Value::Text(text) => Ok(Value::Text(text.clone()?)),
-    }
 }

@@ -41,7 +41,7 @@ impl Model for Query {
 
 impl Query {
     /// None above 16 conditions, where one breaks its limits, or where `limit` is not from 1 to 1,000. A field has 1
-    /// to 64 bytes, a value at most 4,096.
+    /// to 64 bytes, a text at most 4,096.
     pub fn new(
         from: Option<Key>,
         to: Option<Key>,

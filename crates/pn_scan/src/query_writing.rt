@@ -8,14 +8,14 @@ ghost use Rattle.pn_json.specs.Prelude.{Appends, member_tokens, value_tokens};
 ghost use Rattle.pn_scan.specs.Queries.{is_end, is_query, shown_condition};
 ghost use Rattle.pn_scan.specs.QueryJson.{condition_data, conditions_data, key_data, query_data};
 ghost use Rattle.pn_scan.specs.QueryReading.{query_in};
-ghost use Rattle.pn_scan.specs.UncheckedQueries.{seen_text, operand_tokens};
+ghost use Rattle.pn_scan.specs.UncheckedQueries.{operand_tokens};
 
 use crate::condition::parts_of;
 use crate::{Condition, Query};
 use json::Writer;
 use pn_join::NoMemory;
 use pn_json::{write_null_member, write_number_member, write_text_member};
-use pn_record::Key;
+use pn_record::{Key, ValueRef, write_field_value};
 use serde_json::{Map, Value, json};
 use std::alloc::Global;
 
@@ -83,7 +83,8 @@ fn condition_value(alloc: Global, condition: &Condition) -> Result<Value, NoMemo
     let (word, field, value) = parts_of(condition);
     match value {
         None => Ok(json!(in alloc; [word, field])?),
-        Some(value) => Ok(json!(in alloc; [word, field, value])?),
+        Some(ValueRef::Number(number)) => Ok(json!(in alloc; [word, field, number])?),
+        Some(ValueRef::Text(text)) => Ok(json!(in alloc; [word, field, text])?),
     }
 }
 
@@ -135,11 +136,11 @@ fn write_condition(writer: &mut Writer, condition: &Condition) -> Result<(), NoM
     Ok(())
 }
 
-fn write_operand(writer: &mut Writer, value: Option<&str>) -> Result<(), NoMemory>
-    ensures { OnOk result (Appends writer.old writer.new (operand_tokens (seen_text value.entry))) }
+fn write_operand(writer: &mut Writer, value: Option<ValueRef<'_>>) -> Result<(), NoMemory>
+    ensures { OnOk result (Appends writer.old writer.new (operand_tokens value.entry)) }
 {
     if let Some(value) = value {
-        writer.string(value)?;
+        write_field_value(writer, value)?;
     }
     Ok(())
 }

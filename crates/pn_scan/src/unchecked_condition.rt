@@ -2,44 +2,42 @@
 
 ghost use Rattle.std.specs.Prelude.{◌≡◌, IfOk};
 ghost use Rattle.serde_json.specs.View.{view, items_view};
-ghost use Rattle.pn_record.specs.Prelude.{shown_value};
+ghost use Rattle.pn_record.specs.Prelude.{shown_ref};
 ghost use Rattle.pn_scan.specs.Queries.{shown_condition, is_condition};
-ghost use Rattle.pn_scan.specs.ConditionWords.{lone_word as lone_word_of, comparing_word as comparing_word_of};
+ghost use Rattle.pn_scan.specs.ConditionWords.{lone_condition as lone_of, comparing_condition as comparing_of};
 ghost use Rattle.pn_scan.specs.ConditionReading.{condition_in, lone_in, comparing_in};
 
 use crate::Condition;
-use crate::condition::is_field;
 use pn_join::NoMemory;
-use pn_record::Value as FieldValue;
+use pn_record::{ValueRef, is_field, value_of};
 use serde_json::Value;
 use std::alloc::Global;
 use std::marker::Model;
 
-/// The first word of a condition.
+/// What a condition asks of a field.
 #[derive(Clone, Copy)]
-pub(crate) enum ConditionWord {
+pub(crate) enum Asked<'v> {
     Has,
-    Eq,
-    Lt,
-    Gt,
-    Prefix,
+    Eq(ValueRef<'v>),
+    Lt(ValueRef<'v>),
+    Gt(ValueRef<'v>),
+    Prefix(&'v str),
 }
 
-/// The parts of a condition. After `Has` there is no value.
+/// A field's name, and what is asked of the field.
 #[derive(Drop)]
 pub(crate) struct UncheckedCondition<'v> {
-    word: ConditionWord,
     field: &'v str,
-    value: &'v str,
+    asked: Asked<'v>,
 }
 
 impl<'v> Model for UncheckedCondition<'v> {
     ghost use Rattle.pn_scan.specs.Queries.{ConditionValue};
-    ghost use Rattle.pn_scan.specs.ConditionWords.{condition_as};
+    ghost use Rattle.pn_scan.specs.ConditionWords.{asked_of};
 
     ghost Value = { ConditionValue };
 
-    ghost view = { λ c. condition_as c.word c.field.now c.value.now };
+    ghost view = { λ c. asked_of c.field.now c.asked };
 }
 
 /// The condition that a value is, if it has the shape of one.
@@ -56,11 +54,7 @@ fn lone_condition(parts: &[Value]) -> Option<UncheckedCondition<'_>>
     let [word, field] = parts else {
         return None;
     };
-    Some(UncheckedCondition {
-        word: lone_word(word.as_str()?)?,
-        field: field.as_str()?,
-        value: "",
-    })
+    lone(word.as_str()?, field.as_str()?)
 }
 
 fn comparing_condition(parts: &[Value]) -> Option<UncheckedCondition<'_>>
@@ -69,43 +63,47 @@ fn comparing_condition(parts: &[Value]) -> Option<UncheckedCondition<'_>>
     let [word, field, value] = parts else {
         return None;
     };
-    Some(UncheckedCondition {
-        word: comparing_word(word.as_str()?)?,
-        field: field.as_str()?,
-        value: value.as_str()?,
-    })
+    comparing(word.as_str()?, field.as_str()?, value_of(value)?)
 }
 
-fn lone_word(word: &str) -> Option<ConditionWord>
-    ensures { result ≡ lone_word_of word.now }
+fn lone<'v>(word: &str, field: &'v str) -> Option<UncheckedCondition<'v>>
+    ensures { result ≡ lone_of word.now field.now }
 {
     match word {
-        "has" => Some(ConditionWord::Has),
+        "has" => Some(UncheckedCondition {
+            field,
+            asked: Asked::Has,
+        }),
         _ => None,
     }
 }
 
-fn comparing_word(word: &str) -> Option<ConditionWord>
-    ensures { result ≡ comparing_word_of word.now }
+fn comparing<'v>(
+    word: &str,
+    field: &'v str,
+    value: ValueRef<'v>,
+) -> Option<UncheckedCondition<'v>>
+    ensures { result ≡ comparing_of word.now field.now (shown_ref value.entry) }
 {
-    match word {
-        "eq" => Some(ConditionWord::Eq),
-        "lt" => Some(ConditionWord::Lt),
-        "gt" => Some(ConditionWord::Gt),
-        "prefix" => Some(ConditionWord::Prefix),
-        _ => None,
-    }
+    let asked = match (word, value) {
+        ("eq", value) => Asked::Eq(value),
+        ("lt", value) => Asked::Lt(value),
+        ("gt", value) => Asked::Gt(value),
+        ("prefix", ValueRef::Text(text)) => Asked::Prefix(text),
+        _ => return None,
+    };
+    Some(UncheckedCondition { field, asked })
 }
 
 impl UncheckedCondition<'_> {
-    /// Whether it names a field of 1 to 64 bytes and has a value of at most 4,096.
+    /// Whether it names a field of 1 to 64 bytes and has a number or a text of at most 4,096.
     pub(crate) fn fits(&self) -> bool
         ensures { result ≡ is_condition self.now }
     {
-        match self.word {
-            ConditionWord::Has => is_field(self.field, ""),
-            ConditionWord::Eq | ConditionWord::Lt | ConditionWord::Gt | ConditionWord::Prefix =>
-                is_field(self.field, self.value),
+        match self.asked {
+            Asked::Has => is_field(self.field, ValueRef::Text("")),
+            Asked::Eq(value) | Asked::Lt(value) | Asked::Gt(value) => is_field(self.field, value),
+            Asked::Prefix(text) => is_field(self.field, ValueRef::Text(text)),
         }
     }
 
@@ -114,30 +112,24 @@ impl UncheckedCondition<'_> {
         ensures { IfOk result (λ copy. shown_condition copy ≡ self.now) }
     {
         let field = String::from_str(alloc, self.field)?;
-        Ok(match self.word {
-            ConditionWord::Has => Condition::Has { field },
-            ConditionWord::Eq => Condition::Eq {
+        Ok(match self.asked {
+            Asked::Has => Condition::Has { field },
+            Asked::Eq(value) => Condition::Eq {
                 field,
-                value: text_value(alloc, self.value)?,
+                value: value.to_value(alloc)?,
             },
-            ConditionWord::Lt => Condition::Lt {
+            Asked::Lt(value) => Condition::Lt {
                 field,
-                value: text_value(alloc, self.value)?,
+                value: value.to_value(alloc)?,
             },
-            ConditionWord::Gt => Condition::Gt {
+            Asked::Gt(value) => Condition::Gt {
                 field,
-                value: text_value(alloc, self.value)?,
+                value: value.to_value(alloc)?,
             },
-            ConditionWord::Prefix => Condition::Prefix {
+            Asked::Prefix(text) => Condition::Prefix {
                 field,
-                value: text_value(alloc, self.value)?,
+                value: String::from_str(alloc, text)?,
             },
         })
     }
-}
-
-fn text_value(alloc: Global, text: &str) -> Result<FieldValue, NoMemory>
-    ensures { IfOk result (λ value. shown_value value ≡ text.now) }
-{
-    Ok(FieldValue::Text(String::from_str(alloc, text)?))
 }

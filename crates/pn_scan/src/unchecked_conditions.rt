@@ -120,7 +120,7 @@ fn pushed(
 }
 
 impl UncheckedConditions<'_> {
-    /// Whether they are at most 16, each on a field of 1 to 64 bytes and with a value of at most 4,096.
+    /// Whether they are at most 16, each on a field of 1 to 64 bytes and with a number or a text of at most 4,096.
     pub(crate) fn fit(&self) -> bool
         ensures { result ≡ (nat_le (length self.now) max_conditions && list_all is_condition self.now) }
     {

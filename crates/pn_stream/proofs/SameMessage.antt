@@ -52,10 +52,10 @@ message_found d entries value message members ordered named at image is =
     let is_image : get_member (codes "image") ms ≡ Some (image_data message.1) = ap (get (codes "image")) (sym whole) ∙ image ∙ ap Some is in
     whole ∙ ap object (two_members ms (number (unsigned message.0)) (image_data message.1) (Rise-map entries ordered) named is_at is_image)
 
--- the JSON of a message has its shape
-shape_again_of : (at : ℕ) (message : Message) → shape_in (message_data message) ≡ Ok message
+-- the JSON of a message whose image keeps its limits has its shape
+shape_again_of : (at : ℕ) (message : Message) → is_image message.1 ≡ true → shape_in (message_data message) ≡ Ok message
 unfolding shape_in
-shape_again_of at message = rw (shape_again message.1) refl
+shape_again_of at message keeps = rw (shape_again message.1 keeps) refl
 
 -- a message whose shape breaks no range
 pub message_fits : (d : Data) (message : Message) → d ≡ message_data message → body_rises message.1.content.0 ≡ true → ranges_in message ≡ Ok tt → IsMessage d message
@@ -118,7 +118,7 @@ image_moved d value (Ok image) found at right =
 -- a message's value is read as the message
 pub message_again : (d : Data) (message : Message) → IsMessage d message → message_in d ≡ Ok message
 unfolding message_in ranges_in
-message_again d message is = rw (is.value, shape_again_of message.0 message, is.position, in_ranges message.1 is.limits) refl
+message_again d message is = rw (is.value, shape_again_of message.0 message is.limits, is.position, in_ranges message.1 is.limits) refl
 
 -- a message's line is read as the message
 pub message_line_again : (line : List ℕ) (message : Message) → IsMessageLine line message → message_at line ≡ Ok message

@@ -17,6 +17,7 @@ use Rattle.pn_tablet.specs.CopyReading.{pieces_of, with_mark, with_image, read_o
 use Rattle.pn_tablet.specs.CopyTexts.{images_rise, mark_line}
 use Rattle.pn_tablet.specs.Drafts.{DraftValue, begun}
 use Rattle.pn_tablet.specs.Ranges.{Ends, in_range}
+use Rattle.pn_tablet.specs.declared.form.Form.{Form}
 use Rattle.pn_tablet.specs.declared.copy_line.CopyLine.TheVariants.{Mark, Record}
 use Rattle.pn_tablet.specs.declared.copy_fault.CopyTextFault.TheVariants.{BadLine}
 use Rattle.pn_tablet.proofs.CopyGrammar.{rise_after, all_inside, first_after, sorted_after}
@@ -37,13 +38,13 @@ some_then : (lines : List (List ℕ)) (rest : List ℕ) → (piece : List ℕ) �
 some_then [] rest = pieces_of-some rest
 some_then (line ∷ lines) rest = (line, lines ++ pieces_of rest, refl)
 
-module _ (range : Ends) (marks : Positions) (rest : List ℕ) where
-  images_read : (n : ℕ) (done : List Image) (last : Option Image) (images : List Image) (lines : List (List ℕ)) → AreLines lines (map Record images) → rise_after last images ≡ true → all_inside range images ≡ true
-      → read_on n (record { range = range; marks = marks; cells = table_of done; last = last }) (lines ++ pieces_of rest)
-      ≡ read_on (n + length lines) (record { range = range; marks = marks; cells = table_of (done ++ images); last = last_with last images }) (pieces_of rest)
+module _ (form : Form) (range : Ends) (marks : Positions) (rest : List ℕ) where
+  images_read : (n : ℕ) (done : List Image) (last : Option Image) (images : List Image) (lines : List (List ℕ)) → AreLines form lines (map Record images) → rise_after last images ≡ true → all_inside range images ≡ true
+      → read_on form n (record { range = range; marks = marks; cells = table_of done; last = last }) (lines ++ pieces_of rest)
+      ≡ read_on form (n + length lines) (record { range = range; marks = marks; cells = table_of (done ++ images); last = last_with last images }) (pieces_of rest)
   images_read n done last [] [] are rise inside =
       let same : n ≡ n + 0 = omega arith in
-      λ i. read_on (same i) (record { range = range; marks = marks; cells = table_of (sym (append-nil done) i); last = last }) (pieces_of rest)
+      λ i. read_on form (same i) (record { range = range; marks = marks; cells = table_of (sym (append-nil done) i); last = last }) (pieces_of rest)
   images_read n done last [] (line ∷ lines) are rise inside = absurd are
   images_read n done last (image ∷ images) [] are rise inside = absurd are
   images_read n done last (image ∷ images) (line ∷ lines) are rise inside =
@@ -55,18 +56,18 @@ module _ (range : Ends) (marks : Positions) (rest : List ℕ) where
       let longer : DraftValue = record { range = range; marks = marks; cells = table_of (done ++ image ∷ []); last = Some image } in
       let taken : with_image n draft image ≡ Ok longer = rw (within.0, later.0, grown) refl in
       let number : n + 1 + length lines ≡ n + suc (length lines) = omega arith in
-      read_on-cons n draft line piece (lines ++ pieces_of rest) more is
-      ∙ then_ok _ _ (Record image) (line_at-again (BadLine n) line (Record image) are.0)
-      ∙ then_ok (with_image n draft image) (λ d. read_on (n + 1) d (lines ++ pieces_of rest)) longer taken
+      read_on-cons form n draft line piece (lines ++ pieces_of rest) more is
+      ∙ then_ok _ _ (Record image) (line_at-again (BadLine n) form line (Record image) are.0)
+      ∙ then_ok (with_image n draft image) (λ d. read_on form (n + 1) d (lines ++ pieces_of rest)) longer taken
       ∙ images_read (n + 1) (done ++ image ∷ []) (Some image) images lines are.1 later.1 within.1
-      ∙ (λ i. read_on (number i) (record { range = range; marks = marks; cells = table_of (append_assoc done (image ∷ []) images i); last = last_with (Some image) images }) (pieces_of rest))
+      ∙ (λ i. read_on form (number i) (record { range = range; marks = marks; cells = table_of (append_assoc done (image ∷ []) images i); last = last_with (Some image) images }) (pieces_of rest))
 
-module _ (range : Ends) (rest : List ℕ) (images : List Image) (rise : images_rise images ≡ true) (inside : all_inside range images ≡ true) where
-  marks_read : (n : ℕ) (marks more : Positions) (lines : List (List ℕ)) → AreLines lines (map mark_line more ++ map Record images) → is_sorted name_cmp (marks ++ more) ≡ true
-      → read_on n (drafted range marks []) (lines ++ pieces_of rest) ≡ read_on (n + length lines) (drafted range (marks ++ more) images) (pieces_of rest)
+module _ (form : Form) (range : Ends) (rest : List ℕ) (images : List Image) (rise : images_rise images ≡ true) (inside : all_inside range images ≡ true) where
+  marks_read : (n : ℕ) (marks more : Positions) (lines : List (List ℕ)) → AreLines form lines (map mark_line more ++ map Record images) → is_sorted name_cmp (marks ++ more) ≡ true
+      → read_on form n (drafted range marks []) (lines ++ pieces_of rest) ≡ read_on form (n + length lines) (drafted range (marks ++ more) images) (pieces_of rest)
   marks_read n marks [] lines are sorted =
-      images_read range marks rest n [] None images lines are rise inside
-      ∙ ap (λ all. read_on (n + length lines) (drafted range all images) (pieces_of rest)) (sym (append-nil marks))
+      images_read form range marks rest n [] None images lines are rise inside
+      ∙ ap (λ all. read_on form (n + length lines) (drafted range all images) (pieces_of rest)) (sym (append-nil marks))
   marks_read n marks (mark ∷ more) [] are sorted = absurd are
   marks_read n marks (mark ∷ more) (line ∷ lines) are sorted =
       let draft : DraftValue = drafted range marks [] in
@@ -74,25 +75,25 @@ module _ (range : Ends) (rest : List ℕ) (images : List Image) (rise : images_r
       let longer : DraftValue = drafted range (marks ++ mark ∷ []) [] in
       let taken : with_mark n draft (mark.0, mark.1) ≡ Ok longer = rw (sorted_after marks mark more sorted) refl in
       let number : n + 1 + length lines ≡ n + suc (length lines) = omega arith in
-      read_on-cons n draft line piece (lines ++ pieces_of rest) others is
-      ∙ then_ok _ _ (Mark mark.0 mark.1) (line_at-again (BadLine n) line (Mark mark.0 mark.1) are.0)
-      ∙ then_ok (with_mark n draft (mark.0, mark.1)) (λ d. read_on (n + 1) d (lines ++ pieces_of rest)) longer taken
+      read_on-cons form n draft line piece (lines ++ pieces_of rest) others is
+      ∙ then_ok _ _ (Mark mark.0 mark.1) (line_at-again (BadLine n) form line (Mark mark.0 mark.1) are.0)
+      ∙ then_ok (with_mark n draft (mark.0, mark.1)) (λ d. read_on form (n + 1) d (lines ++ pieces_of rest)) longer taken
       ∙ marks_read (n + 1) (marks ++ mark ∷ []) more lines are.1 (ap (is_sorted name_cmp) (append_assoc marks (mark ∷ []) more) ∙ sorted)
-      ∙ (λ i. read_on (number i) (drafted range (append_assoc marks (mark ∷ []) more i) images) (pieces_of rest))
+      ∙ (λ i. read_on form (number i) (drafted range (append_assoc marks (mark ∷ []) more i) images) (pieces_of rest))
 
 -- after lines that begin a copy, what is left of the text is read on
-pub begun_read : (lines : List (List ℕ)) (range : Ends) (marks : Positions) (images : List Image) (rest : List ℕ) → All IsUnbroken lines → Begin lines range marks images
-    → copy_at (text_of lines ++ rest) ≡ read_on (length lines + 1) (drafted range marks images) (pieces_of rest)
+pub begun_read : (lines : List (List ℕ)) (form : Form) (range : Ends) (marks : Positions) (images : List Image) (rest : List ℕ) → All IsUnbroken lines → Begin lines form range marks images
+    → copy_at (text_of lines ++ rest) ≡ read_on form (length lines + 1) (drafted range marks images) (pieces_of rest)
 unfolding copy_at
-begun_read lines range marks images rest unbroken is =
+begun_read lines form range marks images rest unbroken is =
     let (piece, more, some) = some_then is.later rest in
     let number : 2 + length is.later ≡ length lines + 1 = omega (arith, ap length is.lines_are) in
     ap copy_in (pieces_of-text lines rest unbroken ∙ ap (λ ls. ls ++ pieces_of rest) is.lines_are ∙ ap (λ ps. is.head ∷ ps) some)
-    ∙ then_ok (head_at (BadLine 1) is.head) (λ range. read_on 2 (begun range) (piece ∷ more)) range (head_at-again (BadLine 1) is.head range is.head_is)
-    ∙ ap (read_on 2 (begun range)) (sym some)
-    ∙ ap (λ cells. read_on 2 (record { range = range; marks = []; cells = cells; last = None }) (is.later ++ pieces_of rest)) (sym table_of-nil)
-    ∙ marks_read range rest images is.images_rise is.inside 2 [] marks is.later is.later_are is.names_rise
-    ∙ ap (λ n. read_on n (drafted range marks images) (pieces_of rest)) number
+    ∙ then_ok (head_at (BadLine 1) is.head) (λ read. read_on read.0 2 (begun read.1) (piece ∷ more)) (form, range) (head_at-again (BadLine 1) is.head (form, range) is.head_is)
+    ∙ ap (read_on form 2 (begun range)) (sym some)
+    ∙ ap (λ cells. read_on form 2 (record { range = range; marks = []; cells = cells; last = None }) (is.later ++ pieces_of rest)) (sym table_of-nil)
+    ∙ marks_read form range rest images is.images_rise is.inside 2 [] marks is.later is.later_are is.names_rise
+    ∙ ap (λ n. read_on form n (drafted range marks images) (pieces_of rest)) number
 
 -- ---- a line of a text
 
@@ -112,9 +113,9 @@ text_cut lines line rest =
     ∙ ap (λ t. text_of lines ++ t) (append_assoc line (10 ∷ []) rest)
 
 -- the reading comes to the line, with what the lines before it say
-pub reached : (text : List ℕ) (n : ℕ) (at : Reaches text n) → copy_at text ≡ read_on n (drafted at.range at.marks at.images) (at.line ∷ pieces_of at.rest)
+pub reached : (text : List ℕ) (n : ℕ) (at : Reaches text n) → copy_at text ≡ read_on at.form n (drafted at.range at.marks at.images) (at.line ∷ pieces_of at.rest)
 reached text n at =
     ap copy_at (at.cut.text_is ∙ text_cut at.lines at.line at.rest)
-    ∙ begun_read at.lines at.range at.marks at.images (at.line ++ 10 ∷ at.rest) (front_unbroken at.lines at.line at.cut.unbroken) at.begin
-    ∙ ap (λ m. read_on m (drafted at.range at.marks at.images) (pieces_of (at.line ++ 10 ∷ at.rest))) (sym at.number)
-    ∙ ap (read_on n (drafted at.range at.marks at.images)) (pieces_of-line at.line at.rest (last_unbroken at.lines at.line at.cut.unbroken))
+    ∙ begun_read at.lines at.form at.range at.marks at.images (at.line ++ 10 ∷ at.rest) (front_unbroken at.lines at.line at.cut.unbroken) at.begin
+    ∙ ap (λ m. read_on at.form m (drafted at.range at.marks at.images) (pieces_of (at.line ++ 10 ∷ at.rest))) (sym at.number)
+    ∙ ap (read_on at.form n (drafted at.range at.marks at.images)) (pieces_of-line at.line at.rest (last_unbroken at.lines at.line at.cut.unbroken))

@@ -21,14 +21,16 @@ use Rattle.pn_record.specs.Reading.{IsLine}
 use Rattle.pn_record.specs.Writing.{image_data}
 use Rattle.pn_record.specs.Laws.Totals.{bytes_cmp_total, content_cmp_total}
 use Rattle.pn_tablet.specs.Copies.{TabletCopyValue}
-use Rattle.pn_tablet.specs.CopyLines.{IsHead, IsValue, AreLines}
+use Rattle.pn_tablet.specs.CopyLines.{Head, IsHead, IsValue, AreLines}
 use Rattle.pn_tablet.specs.CopyTexts.{comes_after, images_rise, mark_line, lines_after_head, IsCopyText}
-use Rattle.pn_tablet.specs.Ranges.{Ends}
+use Rattle.pn_tablet.specs.declared.form.Form.{Form}
+use Rattle.pn_tablet.specs.declared.form.Form.TheVariants.{Numbers}
 use Rattle.pn_tablet.specs.declared.copy_line.CopyLine.{CopyLine}
 use Rattle.pn_tablet.specs.declared.copy_line.CopyLine.TheVariants.{Mark, Record, End}
 use Rattle.pn_tablet.specs.declared.copy_fault.CopyTextFault.TheVariants.{Truncated}
 use Rattle.pn_tablet.proofs.CopyLineCounts.{same_lines}
 use Rattle.pn_tablet.proofs.CopyValues.{line_at-again}
+use Rattle.pn_tablet.proofs.FormLines.{lines_in, held_all}
 
 -- ---- the order of lines
 
@@ -116,33 +118,33 @@ lines_ordered (mark ∷ marks) images count sorted rise =
 record Follow (one other : List ℕ) : Type 0 where
   pub first : CopyLine
   pub second : CopyLine
-  pub one_is : IsLine IsValue one first
-  pub other_is : IsLine IsValue other second
+  pub one_is : IsLine (IsValue Numbers) one first
+  pub other_is : IsLine (IsValue Numbers) other second
   pub comes : Comes first second
 
-found_after : (between after : List (List ℕ)) (one other : List ℕ) (first : CopyLine) (says : List CopyLine) → IsLine IsValue one first → AreLines (between ++ other ∷ after) says
+found_after : (between after : List (List ℕ)) (one other : List ℕ) (first : CopyLine) (says : List CopyLine) → IsLine (IsValue Numbers) one first → AreLines Numbers (between ++ other ∷ after) says
     → AllByRecursion (Comes first) says → Follow one other
 found_after [] after one other first [] is are all = absurd are
 found_after [] after one other first (second ∷ says) is are all = record { first = first; second = second; one_is = is; other_is = are.0; comes = all.0 }
 found_after (line ∷ between) after one other first [] is are all = absurd are
 found_after (line ∷ between) after one other first (second ∷ says) is are all = found_after between after one other first says is are.1 all.1
 
-follow_in : (before between after : List (List ℕ)) (one other : List ℕ) (says : List CopyLine) → AreLines (before ++ one ∷ (between ++ other ∷ after)) says → Ordered says → Follow one other
+follow_in : (before between after : List (List ℕ)) (one other : List ℕ) (says : List CopyLine) → AreLines Numbers (before ++ one ∷ (between ++ other ∷ after)) says → Ordered says → Follow one other
 follow_in [] between after one other [] are order = absurd are
 follow_in [] between after one other (first ∷ says) are order = found_after between after one other first says are.0 are.1 order.0
 follow_in (line ∷ before) between after one other [] are order = absurd are
 follow_in (line ∷ before) between after one other (first ∷ says) are order = follow_in before between after one other says are.1 order.1
 
 -- a text is one line of a copy
-pub says_one : (line : List ℕ) (says other : CopyLine) → IsLine IsValue line says → IsLine IsValue line other → says ≡ other
-says_one line says other first second =
-    let same = sym (line_at-again Truncated line says first) ∙ line_at-again Truncated line other second in
+pub says_one : (form : Form) (line : List ℕ) (says other : CopyLine) → IsLine (IsValue form) line says → IsLine (IsValue form) line other → says ≡ other
+says_one form line says other first second =
+    let same = sym (line_at-again Truncated form line says first) ∙ line_at-again Truncated form line other second in
     cc
 
 apart : (one other : List ℕ) → Follow one other → Follow other one → ⊥
 apart one other first second =
-    let same_one = says_one one first.first second.second first.one_is second.other_is in
-    let same_other = says_one other first.second second.first first.other_is second.one_is in
+    let same_one = says_one Numbers one first.first second.second first.one_is second.other_is in
+    let same_other = says_one Numbers other first.second second.first first.other_is second.one_is in
     one_way first.first first.second first.comes
     (subst (λ (says : CopyLine). Comes first.second says) (sym same_one) (subst (λ (says : CopyLine). Comes says second.second) (sym same_other) second.comes))
 
@@ -155,14 +157,14 @@ image_names_none : (key master : List ℕ) (version : ℕ × ℕ) (fields : Opti
 image_names_none key master version None = refl
 image_names_none key master version (Some fields) = refl
 
-value_names_none : (d : Data) (says : CopyLine) → IsValue d says → names_copy d ≡ false
+value_names_none : (d : Data) (says : CopyLine) → IsValue Numbers d says → names_copy d ≡ false
 value_names_none d (Mark name position) is = ap names_copy is.0
-value_names_none d (Record image) is = ap names_copy is.value ∙ image_names_none image.key image.content.1 image.version image.content.0
+value_names_none d (Record image) is = ap names_copy is.0.value ∙ image_names_none image.key image.content.1 image.version image.content.0
 value_names_none d (End count) is = ap names_copy is
 
 -- the head is no other line
-no_head : (line : List ℕ) (range : Ends) (says : CopyLine) → IsLine IsHead line range → IsLine IsValue line says → ⊥
-no_head line range says head is =
+no_head : (line : List ℕ) (read : Head) (says : CopyLine) → IsLine IsHead line read → IsLine (IsValue Numbers) line says → ⊥
+no_head line read says head is =
     let both : Some head.value ≡ Some is.value = sym head.read ∙ is.read in
     let same : head.value ≡ is.value = cc in
     let named : names_copy head.value ≡ true = ap names_copy head.spelled.value in
@@ -170,22 +172,23 @@ no_head line range says head is =
 
 -- ---- the lines of texts that spell copies
 
-found_in : (between after : List (List ℕ)) (other : List ℕ) (says : List CopyLine) → AreLines (between ++ other ∷ after) says → (one : CopyLine) × IsLine IsValue other one
+found_in : (between after : List (List ℕ)) (other : List ℕ) (says : List CopyLine) → AreLines Numbers (between ++ other ∷ after) says → (one : CopyLine) × IsLine (IsValue Numbers) other one
 found_in [] after other [] are = absurd are
 found_in [] after other (one ∷ says) are = (one, are.0)
 found_in (line ∷ between) after other [] are = absurd are
 found_in (line ∷ between) after other (one ∷ says) are = found_in between after other says are.1
 
 own_order : (lines : List (List ℕ)) (head : List ℕ) (copy : TabletCopyValue) (is : IsCopyText (text_of (head ∷ lines)) copy) → All IsUnbroken (head ∷ lines)
-    → (range : Ends) × IsLine IsHead head range × (says : List CopyLine) × AreLines lines says × Ordered says
+    → (read : Head) × IsLine IsHead head read × (says : List CopyLine) × AreLines Numbers lines says × Ordered says
 own_order lines head copy is unbroken =
     let same = same_lines (head ∷ lines) copy unbroken is in
     let same_head : head ≡ is.head = cc in
     let same_rest : lines ≡ is.lines = cc in (
-      copy.range,
-      subst (λ (line : List ℕ). IsLine IsHead line copy.range) (sym same_head) is.head_is,
+      (is.form, copy.range),
+      subst (λ (line : List ℕ). IsLine IsHead line (is.form, copy.range)) (sym same_head) is.head_is,
       lines_after_head copy.marks is.images,
-      subst (λ (rest : List (List ℕ)). AreLines rest (lines_after_head copy.marks is.images)) (sym same_rest) is.lines_are,
+      subst (λ (rest : List (List ℕ)). AreLines Numbers rest (lines_after_head copy.marks is.images)) (sym same_rest)
+          (lines_in is.form Numbers is.lines (lines_after_head copy.marks is.images) is.lines_are (held_all (lines_after_head copy.marks is.images))),
       lines_ordered copy.marks is.images (length copy.marks + length is.images) is.names_rise is.images_rise,
     )
 

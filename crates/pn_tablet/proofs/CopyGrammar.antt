@@ -20,6 +20,7 @@ use Rattle.pn_tablet.specs.CopyReading.{is_over, with_mark, with_image, ended, a
 use Rattle.pn_tablet.specs.CopyTexts.{comes_after, images_rise}
 use Rattle.pn_tablet.specs.Drafts.{DraftValue, whole}
 use Rattle.pn_tablet.specs.Ranges.{Ends, in_range}
+use Rattle.pn_tablet.specs.declared.form.Form.{Form}
 use Rattle.pn_tablet.specs.declared.copy_line.CopyLine.{CopyLine}
 use Rattle.pn_tablet.specs.declared.copy_line.CopyLine.TheVariants.{Mark, Record, End}
 use Rattle.pn_tablet.specs.declared.copy_fault.CopyTextFault.TheVariants.{BadLine, OutsideRange, NotRising, BadEnd}
@@ -55,17 +56,17 @@ draft_with range marks done last = record { range = range; marks = marks; cells 
 counted : (n : ℕ) (count : ℕ) → count ≡ n - 2 → (count == n - 2) ≡ true
 counted n count is = eq-eqb count (n - 2) is
 
-module _ (range : Ends) (marks : Positions) where
+module _ (form : Form) (range : Ends) (marks : Positions) where
   images_again : (n : ℕ) (done : List Image) (last : Option Image) (images : List Image) (lines : List (List ℕ)) (count : ℕ) → 2 ≤ n → count ≡ n - 2 + length images
-      → AreLines lines (map Record images ++ End count ∷ []) → rise_after last images ≡ true → all_inside range images ≡ true
-      → read_on n (record { range = range; marks = marks; cells = table_of done; last = last }) (lines ++ [] ∷ []) ≡ Ok (record { range = range; marks = marks; cells = table_of (done ++ images) })
+      → AreLines form lines (map Record images ++ End count ∷ []) → rise_after last images ≡ true → all_inside range images ≡ true
+      → read_on form n (record { range = range; marks = marks; cells = table_of done; last = last }) (lines ++ [] ∷ []) ≡ Ok (record { range = range; marks = marks; cells = table_of (done ++ images) })
   images_again n done last [] [] count some counts are rise inside = absurd are
   images_again n done last [] (line ∷ next ∷ lines) count some counts are rise inside = absurd are.1
   images_again n done last [] (line ∷ []) count some counts are rise inside =
       let draft : DraftValue = record { range = range; marks = marks; cells = table_of done; last = last } in
       let right : (count == n - 2) ≡ true = eq-eqb count (n - 2) (omega (arith, counts)) in
-      read_on-cons n draft line [] ([] ∷ []) [] refl
-      ∙ then_ok _ _ (End count) (line_at-again (BadLine n) line (End count) are.0)
+      read_on-cons form n draft line [] ([] ∷ []) [] refl
+      ∙ then_ok _ _ (End count) (line_at-again (BadLine n) form line (End count) are.0)
       ∙ rw right (ap (λ images. Ok (record { range = range; marks = marks; cells = table_of images })) (sym (append-nil done)))
   images_again n done last (image ∷ images) [] count some counts are rise inside = absurd are
   images_again n done last (image ∷ images) (line ∷ lines) count some counts are rise inside =
@@ -76,9 +77,9 @@ module _ (range : Ends) (marks : Positions) where
       let grown : adds (table_of done) (image ∷ []) ≡ table_of (done ++ image ∷ []) = adds-table_of done (image ∷ []) in
       let longer : DraftValue = record { range = range; marks = marks; cells = table_of (done ++ image ∷ []); last = Some image } in
       let taken : with_image n draft image ≡ Ok longer = rw (within.0, later.0, grown) refl in
-      read_on-cons n draft line piece (lines ++ [] ∷ []) more is
-      ∙ then_ok _ _ (Record image) (line_at-again (BadLine n) line (Record image) are.0)
-      ∙ then_ok (with_image n draft image) (λ d. read_on (n + 1) d (lines ++ [] ∷ [])) longer taken
+      read_on-cons form n draft line piece (lines ++ [] ∷ []) more is
+      ∙ then_ok _ _ (Record image) (line_at-again (BadLine n) form line (Record image) are.0)
+      ∙ then_ok (with_image n draft image) (λ d. read_on form (n + 1) d (lines ++ [] ∷ [])) longer taken
       ∙ images_again (n + 1) (done ++ image ∷ []) (Some image) images lines count (omega (arith, some)) (omega (arith, counts, some)) are.1 later.1 within.1
       ∙ ap (λ all. Ok (record { range = range; marks = marks; cells = table_of all })) (append_assoc done (image ∷ []) images)
 
@@ -92,13 +93,13 @@ sorted_after (first ∷ marks) mark rest sorted =
     below_there [] below = (and_parts (is_lt (name_cmp first.0 mark.0)) (below_all name_cmp first.0 rest) below).0
     below_there (other ∷ others) below = below_there others (and_parts (is_lt (name_cmp first.0 other.0)) (below_all name_cmp first.0 (others ++ mark ∷ rest)) below).1
 
-module _ (range : Ends) (images : List Image) (rise : images_rise images ≡ true) (inside : all_inside range images ≡ true) where
+module _ (form : Form) (range : Ends) (images : List Image) (rise : images_rise images ≡ true) (inside : all_inside range images ≡ true) where
   pub lines_again : (n : ℕ) (marks more : Positions) (lines : List (List ℕ)) (count : ℕ) → 2 ≤ n → count ≡ n - 2 + (length more + length images)
-      → AreLines lines (lines_with more images count) → is_sorted name_cmp (marks ++ more) ≡ true
-      → read_on n (record { range = range; marks = marks; cells = []; last = None }) (lines ++ [] ∷ []) ≡ Ok (record { range = range; marks = marks ++ more; cells = table_of images })
+      → AreLines form lines (lines_with more images count) → is_sorted name_cmp (marks ++ more) ≡ true
+      → read_on form n (record { range = range; marks = marks; cells = []; last = None }) (lines ++ [] ∷ []) ≡ Ok (record { range = range; marks = marks ++ more; cells = table_of images })
   lines_again n marks [] lines count some counts are sorted =
-      ap (λ cells. read_on n (record { range = range; marks = marks; cells = cells; last = None }) (lines ++ [] ∷ [])) (sym table_of-nil)
-      ∙ images_again range marks n [] None images lines count some (omega (arith, counts)) are rise inside
+      ap (λ cells. read_on form n (record { range = range; marks = marks; cells = cells; last = None }) (lines ++ [] ∷ [])) (sym table_of-nil)
+      ∙ images_again form range marks n [] None images lines count some (omega (arith, counts)) are rise inside
       ∙ ap (λ all. Ok (record { range = range; marks = all; cells = table_of images })) (sym (append-nil marks))
   lines_again n marks (mark ∷ more) [] count some counts are sorted = absurd are
   lines_again n marks (mark ∷ more) (line ∷ lines) count some counts are sorted =
@@ -106,9 +107,9 @@ module _ (range : Ends) (images : List Image) (rise : images_rise images ≡ tru
       let (piece, rest, is) = some_after lines in
       let longer : DraftValue = record { range = range; marks = marks ++ mark ∷ []; cells = []; last = None } in
       let taken : with_mark n draft (mark.0, mark.1) ≡ Ok longer = rw (sorted_after marks mark more sorted) refl in
-      read_on-cons n draft line piece (lines ++ [] ∷ []) rest is
-      ∙ then_ok _ _ (Mark mark.0 mark.1) (line_at-again (BadLine n) line (Mark mark.0 mark.1) are.0)
-      ∙ then_ok (with_mark n draft (mark.0, mark.1)) (λ d. read_on (n + 1) d (lines ++ [] ∷ [])) longer taken
+      read_on-cons form n draft line piece (lines ++ [] ∷ []) rest is
+      ∙ then_ok _ _ (Mark mark.0 mark.1) (line_at-again (BadLine n) form line (Mark mark.0 mark.1) are.0)
+      ∙ then_ok (with_mark n draft (mark.0, mark.1)) (λ d. read_on form (n + 1) d (lines ++ [] ∷ [])) longer taken
       ∙ lines_again (n + 1) (marks ++ mark ∷ []) more lines count (omega (arith, some)) (omega (arith, counts, some)) are.1
       (ap (is_sorted name_cmp) (append_assoc marks (mark ∷ []) more) ∙ sorted)
       ∙ ap (λ all. Ok (record { range = range; marks = all; cells = table_of images })) (append_assoc marks (mark ∷ []) more)
@@ -129,12 +130,12 @@ sorted_push (first ∷ marks) name n sorted later =
         and_from _ _ parts.0 (below_push others parts.1 less)
 
 -- the pieces are those of lines of marks, images and an end, which make the copy of what was read before them
-pub record Follow (n : ℕ) (draft : DraftValue) (done : List Image) (pieces : List (List ℕ)) (copy : TabletCopyValue) : Type 0 where
+pub record Follow (form : Form) (n : ℕ) (draft : DraftValue) (done : List Image) (pieces : List (List ℕ)) (copy : TabletCopyValue) : Type 0 where
   pub lines : List (List ℕ)
   pub marks : Positions
   pub images : List Image
   pub pieces_are : pieces ≡ lines ++ [] ∷ []
-  pub lines_are : AreLines lines (lines_with marks images (n - 2 + (length marks + length images)))
+  pub lines_are : AreLines form lines (lines_with marks images (n - 2 + (length marks + length images)))
   pub no_marks : is_some draft.last ≡ true → marks ≡ []
   pub sorted : is_sorted name_cmp draft.marks ≡ true → is_sorted name_cmp (draft.marks ++ marks) ≡ true
   pub rise : rise_after draft.last images ≡ true
@@ -151,9 +152,9 @@ after_first : (last : Option Image) (image : Image) (images : List Image) → op
 after_first None image images later rise = rise
 after_first (Some last) image images later rise = and_from _ _ later rise
 
-module _ (n : ℕ) (draft : DraftValue) (done : List Image) (line : List ℕ) (pieces : List (List ℕ)) (copy : TabletCopyValue) (some : 2 ≤ n) (cells_are : draft.cells ≡ table_of done)
-    (next : (longer : DraftValue) (more : List Image) → longer.cells ≡ table_of more → read_on (n + 1) longer pieces ≡ Ok copy → Follow (n + 1) longer more pieces copy) where
-  follow_end : (count : ℕ) → IsLine IsValue line (End count) → ended n draft count (is_over pieces) ≡ Ok copy → Follow n draft done (line ∷ pieces) copy
+module _ (form : Form) (n : ℕ) (draft : DraftValue) (done : List Image) (line : List ℕ) (pieces : List (List ℕ)) (copy : TabletCopyValue) (some : 2 ≤ n) (cells_are : draft.cells ≡ table_of done)
+    (next : (longer : DraftValue) (more : List Image) → longer.cells ≡ table_of more → read_on form (n + 1) longer pieces ≡ Ok copy → Follow form (n + 1) longer more pieces copy) where
+  follow_end : (count : ℕ) → IsLine (IsValue form) line (End count) → ended n draft count (is_over pieces) ≡ Ok copy → Follow form n draft done (line ∷ pieces) copy
   follow_end count line_is is =
       let parts = guard_ok (count == n - 2 && is_over pieces) (whole draft) copy BadEnd is in
       let tests = and_parts (count == n - 2) (is_over pieces) parts.0 in
@@ -163,7 +164,7 @@ module _ (n : ℕ) (draft : DraftValue) (done : List Image) (line : List ℕ) (p
         marks = [];
         images = [];
         pieces_are = ap (λ l. line ∷ l) (over_is pieces tests.1);
-        lines_are = (subst (λ m. IsLine IsValue line (End m)) counts line_is, tt);
+        lines_are = (subst (λ m. IsLine (IsValue form) line (End m)) counts line_is, tt);
         no_marks = λ _. refl;
         sorted = λ sorted. ap (is_sorted name_cmp) (append-nil draft.marks) ∙ sorted;
         rise = rise_none draft.last;
@@ -175,13 +176,13 @@ module _ (n : ℕ) (draft : DraftValue) (done : List Image) (line : List ℕ) (p
       rise_none None = refl
       rise_none (Some last) = refl
 
-  follow_mark : (name : List ℕ) (position : ℕ) → IsLine IsValue line (Mark name position) → (with_mark n draft (name, position) >>= (λ longer. read_on (n + 1) longer pieces)) ≡ Ok copy → Follow n draft done (line ∷ pieces) copy
+  follow_mark : (name : List ℕ) (position : ℕ) → IsLine (IsValue form) line (Mark name position) → (with_mark n draft (name, position) >>= (λ longer. read_on form (n + 1) longer pieces)) ≡ Ok copy → Follow form n draft done (line ∷ pieces) copy
   follow_mark name position line_is is =
       let taken = bind_ok (with_mark n draft (name, position)) _ copy is in
       let no_image = no_fault (is_some draft.last) (BadLine n) _ taken.0 taken.1 in
       let later = guard_ok (is_after_all draft.marks name) (record draft { marks = draft.marks ++ (name, position) ∷ [] }) taken.0 (NotRising n) no_image.1 in
       let longer : DraftValue = record draft { marks = draft.marks ++ (name, position) ∷ [] } in
-      let f = next longer done cells_are (ap (λ (d : DraftValue). read_on (n + 1) d pieces) later.1 ∙ taken.2) in
+      let f = next longer done cells_are (ap (λ (d : DraftValue). read_on form (n + 1) d pieces) later.1 ∙ taken.2) in
       let joined : (draft.marks ++ (name, position) ∷ []) ++ f.marks ≡ draft.marks ++ (name, position) ∷ f.marks = append_assoc draft.marks ((name, position) ∷ []) f.marks in
       let counts : n + 1 - 2 + (length f.marks + length f.images) ≡ n - 2 + (suc (length f.marks) + length f.images) = omega (arith, some) in
       record {
@@ -189,7 +190,7 @@ module _ (n : ℕ) (draft : DraftValue) (done : List Image) (line : List ℕ) (p
         marks = (name, position) ∷ f.marks;
         images = f.images;
         pieces_are = ap (λ l. line ∷ l) f.pieces_are;
-        lines_are = (line_is, subst (λ count. AreLines f.lines (lines_with f.marks f.images count)) counts f.lines_are);
+        lines_are = (line_is, subst (λ count. AreLines form f.lines (lines_with f.marks f.images count)) counts f.lines_are);
         no_marks = λ image. absurd (false≢true (sym no_image.0 ∙ image));
         sorted = λ sorted. ap (is_sorted name_cmp) (sym joined) ∙ f.sorted (sorted_push draft.marks name position sorted later.0);
         rise = f.rise;
@@ -197,13 +198,13 @@ module _ (n : ℕ) (draft : DraftValue) (done : List Image) (line : List ℕ) (p
         copy_is = f.copy_is ∙ ap (λ (all : Positions). record { range = draft.range; marks = all; cells = table_of (done ++ f.images) }) joined;
       }
 
-  follow_image : (image : Image) → IsLine IsValue line (Record image) → (with_image n draft image >>= (λ longer. read_on (n + 1) longer pieces)) ≡ Ok copy → Follow n draft done (line ∷ pieces) copy
+  follow_image : (image : Image) → IsLine (IsValue form) line (Record image) → (with_image n draft image >>= (λ longer. read_on form (n + 1) longer pieces)) ≡ Ok copy → Follow form n draft done (line ∷ pieces) copy
   follow_image image line_is is =
       let taken = bind_ok (with_image n draft image) _ copy is in
       let here = passed (in_range draft.range image.key) (OutsideRange n) _ taken.0 taken.1 in
       let later = guard_ok (option_map_or (λ last. comes_after last image) draft.last true) (record draft { cells = adds draft.cells (image ∷ []); last = Some image }) taken.0 (NotRising n) here.1 in
       let longer : DraftValue = record draft { cells = adds draft.cells (image ∷ []); last = Some image } in
-      let f = next longer (done ++ image ∷ []) (ap (λ cells. adds cells (image ∷ [])) cells_are ∙ adds-table_of done (image ∷ [])) (ap (λ (d : DraftValue). read_on (n + 1) d pieces) later.1 ∙ taken.2) in
+      let f = next longer (done ++ image ∷ []) (ap (λ cells. adds cells (image ∷ [])) cells_are ∙ adds-table_of done (image ∷ [])) (ap (λ (d : DraftValue). read_on form (n + 1) d pieces) later.1 ∙ taken.2) in
       let none : f.marks ≡ [] = f.no_marks refl in
       let counts : n + 1 - 2 + (0 + length f.images) ≡ n - 2 + (0 + suc (length f.images)) = omega (arith, some) in
       record {
@@ -211,7 +212,7 @@ module _ (n : ℕ) (draft : DraftValue) (done : List Image) (line : List ℕ) (p
         marks = [];
         images = image ∷ f.images;
         pieces_are = ap (λ l. line ∷ l) f.pieces_are;
-        lines_are = (line_is, subst (λ count. AreLines f.lines (lines_with [] f.images count)) counts (subst (λ marks. AreLines f.lines (lines_with marks f.images (n + 1 - 2 + (length marks + length f.images)))) none f.lines_are));
+        lines_are = (line_is, subst (λ count. AreLines form f.lines (lines_with [] f.images count)) counts (subst (λ marks. AreLines form f.lines (lines_with marks f.images (n + 1 - 2 + (length marks + length f.images)))) none f.lines_are));
         no_marks = λ _. refl;
         sorted = λ sorted. ap (is_sorted name_cmp) (append-nil draft.marks) ∙ sorted;
         rise = after_first draft.last image f.images later.0 f.rise;
@@ -219,17 +220,17 @@ module _ (n : ℕ) (draft : DraftValue) (done : List Image) (line : List ℕ) (p
         copy_is = f.copy_is ∙ (λ i. record { range = draft.range; marks = draft.marks ++ none i; cells = table_of (append_assoc done (image ∷ []) f.images i) });
       }
 
-  follow_line : (says : CopyLine) → IsLine IsValue line says → after n draft (λ longer. read_on (n + 1) longer pieces) (is_over pieces) says ≡ Ok copy → Follow n draft done (line ∷ pieces) copy
+  follow_line : (says : CopyLine) → IsLine (IsValue form) line says → after n draft (λ longer. read_on form (n + 1) longer pieces) (is_over pieces) says ≡ Ok copy → Follow form n draft done (line ∷ pieces) copy
   follow_line (Mark name position) line_is is = follow_mark name position line_is is
   follow_line (Record image) line_is is = follow_image image line_is is
   follow_line (End count) line_is is = follow_end count line_is is
 
-pub follow : (n : ℕ) (draft : DraftValue) (done : List Image) (pieces : List (List ℕ)) (copy : TabletCopyValue) → 2 ≤ n → draft.cells ≡ table_of done → read_on n draft pieces ≡ Ok copy → Follow n draft done pieces copy
+pub follow : (form : Form) (n : ℕ) (draft : DraftValue) (done : List Image) (pieces : List (List ℕ)) (copy : TabletCopyValue) → 2 ≤ n → draft.cells ≡ table_of done → read_on form n draft pieces ≡ Ok copy → Follow form n draft done pieces copy
 unfolding read_on
-follow n draft done [] copy some cells_are is = absurd (cc)
-follow n draft done (part ∷ []) copy some cells_are is = absurd (cc)
-follow n draft done (line ∷ piece ∷ pieces) copy some cells_are is =
-    let said = bind_ok (line_at (BadLine n) line) (after n draft (λ longer. read_on (n + 1) longer (piece ∷ pieces)) (is_over (piece ∷ pieces))) copy is in
-    follow_line n draft done line (piece ∷ pieces) copy some cells_are
-    (λ longer more cells. follow (n + 1) longer more (piece ∷ pieces) copy (omega (arith, some)) cells)
-    said.0 (line_at-found (BadLine n) line said.0 said.1) said.2
+follow form n draft done [] copy some cells_are is = absurd (cc)
+follow form n draft done (part ∷ []) copy some cells_are is = absurd (cc)
+follow form n draft done (line ∷ piece ∷ pieces) copy some cells_are is =
+    let said = bind_ok (line_at form (BadLine n) line) (after n draft (λ longer. read_on form (n + 1) longer (piece ∷ pieces)) (is_over (piece ∷ pieces))) copy is in
+    follow_line form n draft done line (piece ∷ pieces) copy some cells_are
+    (λ longer more cells. follow form (n + 1) longer more (piece ∷ pieces) copy (omega (arith, some)) cells)
+    said.0 (line_at-found (BadLine n) form line said.0 said.1) said.2

@@ -8,17 +8,18 @@ use Rattle.pn_record.specs.Cells.{spell}
 use Rattle.pn_tablet.specs.Copies.{TabletCopyValue}
 use Rattle.pn_tablet.specs.CopyLines.{AreLines}
 use Rattle.pn_tablet.specs.CopyTexts.{lines_after_head, IsCopyText}
+use Rattle.pn_tablet.specs.declared.form.Form.{Form}
 use Rattle.pn_tablet.specs.declared.copy_line.CopyLine.{CopyLine}
 use Rattle.pn_tablet.proofs.SameSpelling.{spelled_again}
 
 lines_again : (lines : List (List ℕ)) → All IsUnbroken lines → lines_of (text_of lines) ≡ lines
 lines_again lines unbroken = ap lines_of (sym (append-nil (text_of lines))) ∙ lines_of-text lines [] unbroken ∙ ap (λ rest. lines ++ rest) lines_of-nil ∙ append-nil lines
 
-pub as_many : (lines : List (List ℕ)) (says : List CopyLine) → AreLines lines says → length lines ≡ length says
-as_many [] [] are = refl
-as_many [] (line ∷ says) are = absurd are
-as_many (line ∷ lines) [] are = absurd are
-as_many (line ∷ lines) (first ∷ says) are = ap suc (as_many lines says are.1)
+pub as_many : (form : Form) (lines : List (List ℕ)) (says : List CopyLine) → AreLines form lines says → length lines ≡ length says
+as_many form [] [] are = refl
+as_many form [] (line ∷ says) are = absurd are
+as_many form (line ∷ lines) [] are = absurd are
+as_many form (line ∷ lines) (first ∷ says) are = ap suc (as_many form lines says are.1)
 
 -- the lines of a copy's text are its head and the lines after it
 pub same_lines : (lines : List (List ℕ)) (copy : TabletCopyValue) → All IsUnbroken lines → (is : IsCopyText (text_of lines) copy) → lines ≡ is.head ∷ is.lines
@@ -28,7 +29,7 @@ same_lines lines copy unbroken is = sym (lines_again lines unbroken) ∙ ap line
 lines_counted : (lines : List (List ℕ)) (copy : TabletCopyValue) → All IsUnbroken lines → IsCopyText (text_of lines) copy → length lines ≡ suc (length (lines_after_head copy.marks (spell copy.cells)))
 lines_counted lines copy unbroken is =
     let images = sym (spelled_again is.images is.images_rise) ∙ ap spell (sym is.cells) in
-    ap length (same_lines lines copy unbroken is) ∙ ap suc (as_many is.lines (lines_after_head copy.marks is.images) is.lines_are ∙ ap (λ images. length (lines_after_head copy.marks images)) images)
+    ap length (same_lines lines copy unbroken is) ∙ ap suc (as_many is.form is.lines (lines_after_head copy.marks is.images) is.lines_are ∙ ap (λ images. length (lines_after_head copy.marks images)) images)
 
 pub same_count : (one other : List (List ℕ)) (copy : TabletCopyValue) → All IsUnbroken one → All IsUnbroken other → IsCopyText (text_of one) copy → IsCopyText (text_of other) copy → length one ≡ length other
 same_count one other copy one_lines other_lines first second = lines_counted one copy one_lines first ∙ sym (lines_counted other copy other_lines second)

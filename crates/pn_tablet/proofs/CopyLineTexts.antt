@@ -1,11 +1,11 @@
 -- The text of a value has no newline, and that of a line of a copy is short.
-use Rattle.std.proofs.Common.{◌≡◌, ◌≢◌, ℕ, ◌+◌, ◌/◌, ◌%◌, ◌^◌, ◌<◌, ◌≤◌, ◌==◌, ◌||◌, List, [], ◌∷◌, ◌++◌, length, codes, Bool, true, false, not, cond, ◌&&◌, Option, Some, None, decimal, ltb, leb, refl, sym, ap, ◌∙◌, arith, length-append}
-use Rattle.std.proofs.lemmas.Bool.{and_parts, false≢true, ltb-false, leb-true}
+use Rattle.std.proofs.Common.{◌≡◌, ◌≢◌, ℕ, suc, pos, negsuc, ◌+◌, ◌/◌, ◌%◌, ◌^◌, ◌<◌, ◌≤◌, ◌==◌, ◌||◌, List, [], ◌∷◌, ◌++◌, length, codes, Bool, true, false, not, cond, ◌&&◌, Option, Some, None, decimal, ltb, leb, refl, sym, ap, ◌∙◌, arith, length-append}
+use Rattle.std.proofs.lemmas.Bool.{and_parts, false≢true, ltb-false, ltb-true, leb-true}
 use Rattle.std.proofs.lemmas.Fmt.{decimal_is_IsNumeral, length-decimal-le}
 use Rattle.std.proofs.lemmas.List.Elements.{All-nil, All-cons, All-append, All-from_get_or}
 use Rattle.std.proofs.lemmas.Str.Parse.{digit_at}
 use Rattle.std.specs.Char.{digit_char}
-use Rattle.std.specs.List.{list_all}
+use Rattle.std.specs.List.{list_all, sum_by}
 use Rattle.json.specs.Print.{escape_byte, escape_letter, escape, quoted}
 use Rattle.serde_json.specs.Data.{Data, null, boolean, number, string, array, object, unsigned, negative, float, Items, no_items, item, Members, no_members, member}
 use Rattle.serde_json.specs.Written.{compact_text, items_text, members_text, comma_if}
@@ -14,12 +14,16 @@ use Rattle.pn_join.specs.Naming.{is_name, is_name_byte}
 use Rattle.pn_line.specs.Reads.{IsUnbroken}
 use Rattle.pn_record.specs.declared.image.Image.{Image}
 use Rattle.pn_record.specs.Canonical.{is_image}
-use Rattle.pn_record.specs.Bodies.{is_content}
-use Rattle.pn_record.specs.Limits.{Field, is_key, is_version, greatest}
+use Rattle.pn_record.specs.Bodies.{field_size, fields_fit, names_rise, is_body, is_content}
+use Rattle.pn_record.specs.Limits.{FieldValue, number_value, text_value, Field, is_value, is_field, is_key, is_version, greatest}
 use Rattle.pn_record.specs.Marks.{is_mark}
-use Rattle.pn_record.specs.Writing.{fields_data, body_data, image_data}
+use Rattle.pn_record.specs.Writing.{value_data, fields_data, body_data, image_data}
 use Rattle.pn_record.proofs.ImageText.{length-quoted}
+use Rattle.pn_record.proofs.Values.{field_value}
 use Rattle.pn_tablet.specs.CopyLines.{key_data, head_data, mark_data, end_data, is_end}
+use Rattle.pn_tablet.specs.Forms.{form_number}
+use Rattle.pn_tablet.specs.declared.form.Form.{Form}
+use Rattle.pn_tablet.specs.declared.form.Form.TheVariants.{Texts, Numbers}
 
 also : (x : ℕ) (xs : List ℕ) → x ≢ 10 → IsUnbroken xs → IsUnbroken (x ∷ xs)
 also x xs other unbroken = All-cons (λ b. b ≢ 10) x xs other unbroken
@@ -85,13 +89,14 @@ decimal-unbroken n small =
 
 -- ---- values
 
--- all numbers are whole, and below 2^64
+-- all numbers are whole, and fit 64 bits
 abbrev mutual
   pub Small : Data → Type 0
   Small null = Unit {0}
   Small (boolean b) = Unit {0}
   Small (number (unsigned n)) = n < 2 ^ 64
-  Small (number (negative z)) = ⊥
+  Small (number (negative (pos n))) = ⊥
+  Small (number (negative (negsuc n))) = n < 2 ^ 63
   Small (number (float x)) = ⊥
   Small (string s) = Unit {0}
   Small (array ds) = SmallItems ds
@@ -115,7 +120,8 @@ mutual
   text-unbroken (boolean true) small = literal (116 ∷ 114 ∷ 117 ∷ 101 ∷ []) refl
   text-unbroken (boolean false) small = literal (102 ∷ 97 ∷ 108 ∷ 115 ∷ 101 ∷ []) refl
   text-unbroken (number (unsigned n)) small = decimal-unbroken n small
-  text-unbroken (number (negative z)) small = absurd small
+  text-unbroken (number (negative (pos n))) small = absurd small
+  text-unbroken (number (negative (negsuc n))) small = also 45 (decimal (suc n)) (λ e. omega (arith, e)) (decimal-unbroken (suc n) (omega (arith, small)))
   text-unbroken (number (float x)) small = absurd small
   text-unbroken (string s) small = quoted-unbroken s
   text-unbroken (array ds) small = also 91 (items_text false ds) (λ e. omega (arith, e)) (items-unbroken false ds small)
@@ -135,13 +141,27 @@ mutual
       (also 58 (compact_text d ++ members_text true ms) (λ e. omega (arith, e))
       (both (compact_text d) (members_text true ms) (text-unbroken d small.0) (members-unbroken true ms small.1))))
 
-small_fields : (fields : List Field) → SmallMembers (fields_data fields)
-small_fields [] = tt
-small_fields (field ∷ fields) = (tt, small_fields fields)
+small_value : (value : FieldValue) → is_value value ≡ true → Small (value_data value)
+small_value (number_value (pos n)) is = omega (arith, ltb-true n (2 ^ 63) is)
+small_value (number_value (negsuc n)) is = ltb-true n (2 ^ 63) is
+small_value (text_value text) is = tt
 
-small_body : (f : Option (List Field)) (rest : Members) → SmallMembers rest → SmallMembers (body_data f rest)
-small_body None rest small = (tt, small)
-small_body (Some fields) rest small = (small_fields fields, small)
+small_fields : (fields : List Field) → list_all is_field fields ≡ true → SmallMembers (fields_data fields)
+small_fields [] fit = tt
+small_fields (field ∷ fields) fit =
+    let parts = and_parts (is_field field) (list_all is_field fields) fit in
+    (small_value field.1 (field_value field parts.0), small_fields fields parts.1)
+
+-- each field of a body that fits is a field
+pub fields_are : (fields : List Field) → is_body (Some fields) ≡ true → list_all is_field fields ≡ true
+fields_are fields is =
+    let fits = and_parts (fields_fit fields) (names_rise fields) is in
+    let together = and_parts (leb (length fields) 64 && list_all is_field fields) (leb (sum_by field_size fields) 8192) fits.0 in
+    (and_parts (leb (length fields) 64) (list_all is_field fields) together.0).1
+
+small_body : (f : Option (List Field)) (rest : Members) → is_body f ≡ true → SmallMembers rest → SmallMembers (body_data f rest)
+small_body None rest is small = (tt, small)
+small_body (Some fields) rest is small = (small_fields fields (fields_are fields is), small)
 
 below_word : (n : ℕ) → leb n greatest ≡ true → n < 2 ^ 64
 below_word n is = omega (arith, leb-true n greatest is)
@@ -156,7 +176,8 @@ pub small_image : (image : Image) → is_image image ≡ true → Small (image_d
 small_image image is =
     let parts = and_parts (is_key image.key && is_version image.version) (is_content image.content) is in
     let version = below_version image.version (and_parts (is_key image.key) (is_version image.version) parts.0).1 in
-    small_body image.content.0 _ (tt, (tt, ((version.0, (version.1, tt)), tt)))
+    let body = (and_parts (is_body image.content.0) (is_name image.content.1) parts.1).0 in
+    small_body image.content.0 _ body (tt, (tt, ((version.0, (version.1, tt)), tt)))
 
 pub small_mark : (name : List ℕ) (position : ℕ) → is_mark (name, position) ≡ true → Small (mark_data (name, position))
 small_mark name position is =
@@ -168,8 +189,12 @@ small_key : (key : Option (List ℕ)) → Small (key_data key)
 small_key None = tt
 small_key (Some key) = tt
 
-pub small_head : (from to : Option (List ℕ)) → Small (head_data (from, to))
-small_head from to = (omega arith, (small_key from, (small_key to, tt)))
+pub small_form : (form : Form) → form_number form < 2 ^ 64
+small_form Texts = omega arith
+small_form Numbers = omega arith
+
+pub small_head : (form : Form) (from to : Option (List ℕ)) → Small (head_data (form, (from, to)))
+small_head form from to = (small_form form, (small_key from, (small_key to, tt)))
 
 -- ---- lengths
 
@@ -204,16 +229,16 @@ short_key : (key : Option (List ℕ)) → is_end key ≡ true → length (compac
 short_key None is = omega arith
 short_key (Some key) is = let size = and_parts (leb 1 (length key)) (leb (length key) 256) is in omega (arith, length-quoted key, leb-true (length key) 256 size.1)
 
-pub short_head : (from to : Option (List ℕ)) → is_end from ≡ true → is_end to ≡ true → length (compact_text (head_data (from, to))) ≤ 65536
-short_head from to from_is to_is =
+pub short_head : (form : Form) (from to : Option (List ℕ)) → is_end from ≡ true → is_end to ≡ true → length (compact_text (head_data (form, (from, to)))) ≤ 65536
+short_head form from to from_is to_is =
     let last = compact_text (key_data to) ++ 125 ∷ [] in
     let to_part = quoted (codes "to") ++ 58 ∷ last in
     let from_text = compact_text (key_data from) in
     let from_part = quoted (codes "from") ++ 58 ∷ (from_text ++ 44 ∷ to_part) in
     omega (
       arith,
-      length-append (quoted (codes "copy")) (58 ∷ (decimal 1 ++ 44 ∷ from_part)),
-      length-append (decimal 1) (44 ∷ from_part),
+      length-append (quoted (codes "copy")) (58 ∷ (decimal (form_number form) ++ 44 ∷ from_part)),
+      length-append (decimal (form_number form)) (44 ∷ from_part),
       length-append (quoted (codes "from")) (58 ∷ (from_text ++ 44 ∷ to_part)),
       length-append from_text (44 ∷ to_part),
       length-append (quoted (codes "to")) (58 ∷ last),
@@ -221,7 +246,7 @@ short_head from to from_is to_is =
       length-quoted (codes "copy"),
       length-quoted (codes "from"),
       length-quoted (codes "to"),
-      short_number 1 (omega arith),
+      short_number (form_number form) (small_form form),
       short_key from from_is,
       short_key to to_is,
     )

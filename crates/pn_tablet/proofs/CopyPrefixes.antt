@@ -11,6 +11,7 @@ use Rattle.pn_tablet.specs.CopyLineReading.{head_at, line_at}
 use Rattle.pn_tablet.specs.CopyReading.{pieces_of, is_over, with_mark, with_image, after, read_on, copy_in, copy_at}
 use Rattle.pn_tablet.specs.CopyTexts.{IsCopyText}
 use Rattle.pn_tablet.specs.Drafts.{DraftValue, begun, whole}
+use Rattle.pn_tablet.specs.declared.form.Form.{Form}
 use Rattle.pn_tablet.specs.declared.copy_line.CopyLine.{CopyLine}
 use Rattle.pn_tablet.specs.declared.copy_line.CopyLine.TheVariants.{Mark, Record, End}
 use Rattle.pn_tablet.specs.declared.copy_fault.CopyTextFault.{CopyTextFault}
@@ -42,44 +43,44 @@ some_there : (lines : List (List ℕ)) → (piece : List ℕ) × (more : List (L
 some_there [] = ([], [], refl)
 some_there (line ∷ lines) = (line, lines ++ [] ∷ [], refl)
 
-module _ (n : ℕ) (draft : DraftValue) (line : List ℕ) (lines more : List (List ℕ)) (copy : TabletCopyValue) (front : AreFront lines more)
-    (next : (longer : DraftValue) → read_on (n + 1) longer (lines ++ [] ∷ []) ≡ Ok copy → read_on (n + 1) longer more ≡ Err Truncated) where
-  cut_line : (says : CopyLine) → line_at (BadLine n) line ≡ Ok says → after n draft (λ longer. read_on (n + 1) longer (lines ++ [] ∷ [])) (is_over (lines ++ [] ∷ [])) says ≡ Ok copy
-      → read_on n draft (line ∷ more) ≡ Err Truncated
+module _ (form : Form) (n : ℕ) (draft : DraftValue) (line : List ℕ) (lines more : List (List ℕ)) (copy : TabletCopyValue) (front : AreFront lines more)
+    (next : (longer : DraftValue) → read_on form (n + 1) longer (lines ++ [] ∷ []) ≡ Ok copy → read_on form (n + 1) longer more ≡ Err Truncated) where
+  cut_line : (says : CopyLine) → line_at form (BadLine n) line ≡ Ok says → after n draft (λ longer. read_on form (n + 1) longer (lines ++ [] ∷ [])) (is_over (lines ++ [] ∷ [])) says ≡ Ok copy
+      → read_on form n draft (line ∷ more) ≡ Err Truncated
   cut_line (Mark name position) said is =
       let (piece, rest, there) = front_some lines more front in
-      let taken = bind_ok (with_mark n draft (name, position)) (λ longer. read_on (n + 1) longer (lines ++ [] ∷ [])) copy is in
-      read_on-cons n draft line piece more rest there ∙ then_ok _ _ (Mark name position) said
-      ∙ then_ok (with_mark n draft (name, position)) (λ longer. read_on (n + 1) longer more) taken.0 taken.1 ∙ next taken.0 taken.2
+      let taken = bind_ok (with_mark n draft (name, position)) (λ longer. read_on form (n + 1) longer (lines ++ [] ∷ [])) copy is in
+      read_on-cons form n draft line piece more rest there ∙ then_ok _ _ (Mark name position) said
+      ∙ then_ok (with_mark n draft (name, position)) (λ longer. read_on form (n + 1) longer more) taken.0 taken.1 ∙ next taken.0 taken.2
   cut_line (Record image) said is =
       let (piece, rest, there) = front_some lines more front in
-      let taken = bind_ok (with_image n draft image) (λ longer. read_on (n + 1) longer (lines ++ [] ∷ [])) copy is in
-      read_on-cons n draft line piece more rest there ∙ then_ok _ _ (Record image) said
-      ∙ then_ok (with_image n draft image) (λ longer. read_on (n + 1) longer more) taken.0 taken.1 ∙ next taken.0 taken.2
+      let taken = bind_ok (with_image n draft image) (λ longer. read_on form (n + 1) longer (lines ++ [] ∷ [])) copy is in
+      read_on-cons form n draft line piece more rest there ∙ then_ok _ _ (Record image) said
+      ∙ then_ok (with_image n draft image) (λ longer. read_on form (n + 1) longer more) taken.0 taken.1 ∙ next taken.0 taken.2
   cut_line (End count) said is =
       let parts = guard_ok (count == n - 2 && is_over (lines ++ [] ∷ [])) (whole draft) copy BadEnd is in
       absurd (false≢true (sym (not_over lines more front) ∙ (and_parts (count == n - 2) (is_over (lines ++ [] ∷ [])) parts.0).1))
 
-cut_on : (n : ℕ) (draft : DraftValue) (lines pieces : List (List ℕ)) (copy : TabletCopyValue) → AreFront lines pieces → read_on n draft (lines ++ [] ∷ []) ≡ Ok copy → read_on n draft pieces ≡ Err Truncated
-cut_on n draft [] pieces copy front is = absurd front
-cut_on n draft (line ∷ lines) pieces copy (inl last) is = read_on-last n draft pieces last.0 last.1
-cut_on n draft (line ∷ lines) pieces copy (inr first) is =
+cut_on : (form : Form) (n : ℕ) (draft : DraftValue) (lines pieces : List (List ℕ)) (copy : TabletCopyValue) → AreFront lines pieces → read_on form n draft (lines ++ [] ∷ []) ≡ Ok copy → read_on form n draft pieces ≡ Err Truncated
+cut_on form n draft [] pieces copy front is = absurd front
+cut_on form n draft (line ∷ lines) pieces copy (inl last) is = read_on-last form n draft pieces last.0 last.1
+cut_on form n draft (line ∷ lines) pieces copy (inr first) is =
     let (piece, rest, there) = some_there lines in
-    let said = bind_ok (line_at (BadLine n) line) (after n draft (λ longer. read_on (n + 1) longer (lines ++ [] ∷ [])) (is_over (lines ++ [] ∷ []))) copy (sym (read_on-cons n draft line piece (lines ++ [] ∷ []) rest there) ∙ is) in
-    ap (read_on n draft) first.1
-    ∙ cut_line n draft line lines first.0 copy first.2 (λ longer. cut_on (n + 1) longer lines first.0 copy first.2) said.0 said.1 said.2
+    let said = bind_ok (line_at form (BadLine n) line) (after n draft (λ longer. read_on form (n + 1) longer (lines ++ [] ∷ [])) (is_over (lines ++ [] ∷ []))) copy (sym (read_on-cons form n draft line piece (lines ++ [] ∷ []) rest there) ∙ is) in
+    ap (read_on form n draft) first.1
+    ∙ cut_line form n draft line lines first.0 copy first.2 (λ longer. cut_on form (n + 1) longer lines first.0 copy first.2) said.0 said.1 said.2
 
 cut_in : (head : List ℕ) (lines pieces : List (List ℕ)) (copy : TabletCopyValue) → AreFront (head ∷ lines) pieces → copy_in (head ∷ (lines ++ [] ∷ [])) ≡ Ok copy → copy_in pieces ≡ Err Truncated
 cut_in head lines pieces copy (inl last) is = ap copy_in last.1
 cut_in head lines pieces copy (inr first) is =
     let (piece, rest, there) = some_there lines in
-    let range = bind_ok (head_at (BadLine 1) head) (λ range. read_on 2 (begun range) (lines ++ [] ∷ [])) copy (sym (head_on head (lines ++ [] ∷ []) piece rest there) ∙ is) in
+    let read = bind_ok (head_at (BadLine 1) head) (λ read. read_on read.0 2 (begun read.1) (lines ++ [] ∷ [])) copy (sym (head_on head (lines ++ [] ∷ []) piece rest there) ∙ is) in
     let (next, more, some) = front_some lines first.0 first.2 in
     ap copy_in first.1 ∙ head_on head first.0 next more some
-    ∙ then_ok (head_at (BadLine 1) head) (λ range. read_on 2 (begun range) first.0) range.0 range.1
-    ∙ cut_on 2 (begun range.0) lines first.0 copy first.2 range.2
+    ∙ then_ok (head_at (BadLine 1) head) (λ read. read_on read.0 2 (begun read.1) first.0) read.0 read.1
+    ∙ cut_on read.0.0 2 (begun read.0.1) lines first.0 copy first.2 read.2
   where
-    head_on : (head : List ℕ) (pieces : List (List ℕ)) (piece : List ℕ) (more : List (List ℕ)) → pieces ≡ piece ∷ more → copy_in (head ∷ pieces) ≡ (head_at (BadLine 1) head >>= (λ range. read_on 2 (begun range) pieces))
+    head_on : (head : List ℕ) (pieces : List (List ℕ)) (piece : List ℕ) (more : List (List ℕ)) → pieces ≡ piece ∷ more → copy_in (head ∷ pieces) ≡ (head_at (BadLine 1) head >>= (λ read. read_on read.0 2 (begun read.1) pieces))
     head_on head pieces piece more is = rw is refl
 
 -- ---- the pieces of a front

@@ -8,8 +8,9 @@ use Rattle.pn_tablet.specs.CopyFaults.{is_memory}
 use Rattle.pn_tablet.specs.CopyLineReading.{head_at, line_at}
 use Rattle.pn_tablet.specs.CopyReading.{pieces_of, is_over, after, read_on, copy_in, copy_at}
 use Rattle.pn_tablet.specs.Drafts.{DraftValue, begun}
-use Rattle.pn_tablet.specs.Ranges.{Ends}
+use Rattle.pn_tablet.specs.CopyLines.{Head}
 use Rattle.pn_tablet.specs.Refusals.{Answers, Refuses}
+use Rattle.pn_tablet.specs.declared.form.Form.{Form}
 use Rattle.pn_tablet.specs.declared.copy_line.CopyLine.{CopyLine}
 use Rattle.pn_tablet.specs.declared.copy_line.CopyLine.TheVariants.{Mark}
 use Rattle.pn_tablet.specs.declared.copy_fault.CopyTextFault.{CopyTextFault}
@@ -18,29 +19,29 @@ use Rattle.pn_tablet.proofs.CopyPieces.{pieces_of-some}
 use Rattle.pn_tablet.proofs.CopyValues.{line_at-found}
 
 -- what a line that is followed by pieces comes to
-pub read_on-cons : (n : ℕ) (draft : DraftValue) (line piece : List ℕ) (pieces more : List (List ℕ)) → pieces ≡ piece ∷ more
-    → read_on n draft (line ∷ pieces) ≡ (line_at (BadLine n) line >>= after n draft (λ longer. read_on (n + 1) longer pieces) (is_over pieces))
+pub read_on-cons : (form : Form) (n : ℕ) (draft : DraftValue) (line piece : List ℕ) (pieces more : List (List ℕ)) → pieces ≡ piece ∷ more
+    → read_on form n draft (line ∷ pieces) ≡ (line_at form (BadLine n) line >>= after n draft (λ longer. read_on form (n + 1) longer pieces) (is_over pieces))
 unfolding read_on
-read_on-cons n draft line piece pieces more is = rw is refl
+read_on-cons form n draft line piece pieces more is = rw is refl
 
-module _ (n : ℕ) (draft : DraftValue) (pieces : List (List ℕ)) (line rest : List ℕ) (cut : pieces ≡ line ∷ pieces_of rest) where
-  step : read_on n draft pieces ≡ (line_at (BadLine n) line >>= after n draft (λ longer. read_on (n + 1) longer (pieces_of rest)) (is_over (pieces_of rest)))
+module _ (form : Form) (n : ℕ) (draft : DraftValue) (pieces : List (List ℕ)) (line rest : List ℕ) (cut : pieces ≡ line ∷ pieces_of rest) where
+  step : read_on form n draft pieces ≡ (line_at form (BadLine n) line >>= after n draft (λ longer. read_on form (n + 1) longer (pieces_of rest)) (is_over (pieces_of rest)))
   step =
       let (piece, more, is) = pieces_of-some rest in
-      ap (read_on n draft) cut ∙ read_on-cons n draft line piece (pieces_of rest) more is
+      ap (read_on form n draft) cut ∙ read_on-cons form n draft line piece (pieces_of rest) more is
 
   -- a line that has no meaning there ends the reading
-  pub read_on-bad : (fault : CopyTextFault) → line_at (BadLine n) line ≡ Err fault → read_on n draft pieces ≡ Err fault
+  pub read_on-bad : (fault : CopyTextFault) → line_at form (BadLine n) line ≡ Err fault → read_on form n draft pieces ≡ Err fault
   read_on-bad fault is = step ∙ rw is refl
 
   -- and one that has is taken
-  pub read_on-said : (says : CopyLine) → line_at (BadLine n) line ≡ Ok says → read_on n draft pieces ≡ after n draft (λ longer. read_on (n + 1) longer (pieces_of rest)) (is_over (pieces_of rest)) says
+  pub read_on-said : (says : CopyLine) → line_at form (BadLine n) line ≡ Ok says → read_on form n draft pieces ≡ after n draft (λ longer. read_on form (n + 1) longer (pieces_of rest)) (is_over (pieces_of rest)) says
   read_on-said says is = step ∙ rw is refl
 
 -- a text without a whole line is cut off
-pub read_on-last : (n : ℕ) (draft : DraftValue) (pieces : List (List ℕ)) (part : List ℕ) → pieces ≡ part ∷ [] → read_on n draft pieces ≡ Err Truncated
+pub read_on-last : (form : Form) (n : ℕ) (draft : DraftValue) (pieces : List (List ℕ)) (part : List ℕ) → pieces ≡ part ∷ [] → read_on form n draft pieces ≡ Err Truncated
 unfolding read_on
-read_on-last n draft pieces part is = rw is refl
+read_on-last form n draft pieces part is = rw is refl
 
 pub then_ok : {A B E : Type 0} (read : Result A E) (next : A → Result B E) (a : A) → read ≡ Ok a → (read >>= next) ≡ next a
 then_ok read next a is = rw is refl
@@ -70,16 +71,16 @@ unless_memory (Ok value) right is = is
 unless_memory (Err fault) right is = refused_right fault right is
 
 -- the position of a mark that a line says is one of a message
-pub mark_position : (fault : CopyTextFault) (line name : List ℕ) (position : ℕ) → line_at fault line ≡ Ok (Mark name position) → is_position position ≡ true
-mark_position fault line name position is = (and_parts (is_name name) (is_position position) (line_at-found fault line (Mark name position) is).spelled.1).1
+pub mark_position : (form : Form) (fault : CopyTextFault) (line name : List ℕ) (position : ℕ) → line_at form fault line ≡ Ok (Mark name position) → is_position position ≡ true
+mark_position form fault line name position is = (and_parts (is_name name) (is_position position) (line_at-found fault form line (Mark name position) is).spelled.1).1
 
 -- ---- the head
 
-head_on : (head : List ℕ) (pieces : List (List ℕ)) (piece : List ℕ) (more : List (List ℕ)) → pieces ≡ piece ∷ more → copy_in (head ∷ pieces) ≡ (head_at (BadLine 1) head >>= (λ range. read_on 2 (begun range) pieces))
+head_on : (head : List ℕ) (pieces : List (List ℕ)) (piece : List ℕ) (more : List (List ℕ)) → pieces ≡ piece ∷ more → copy_in (head ∷ pieces) ≡ (head_at (BadLine 1) head >>= (λ read. read_on read.0 2 (begun read.1) pieces))
 head_on head pieces piece more is = rw is refl
 
 module _ (text head rest : List ℕ) (cut : pieces_of text ≡ head ∷ pieces_of rest) where
-  begins : copy_at text ≡ (head_at (BadLine 1) head >>= (λ range. read_on 2 (begun range) (pieces_of rest)))
+  begins : copy_at text ≡ (head_at (BadLine 1) head >>= (λ read. read_on read.0 2 (begun read.1) (pieces_of rest)))
   unfolding copy_at
   begins =
       let (piece, more, is) = pieces_of-some rest in
@@ -88,5 +89,5 @@ module _ (text head rest : List ℕ) (cut : pieces_of text ≡ head ∷ pieces_o
   pub copy_at-bad : (fault : CopyTextFault) → head_at (BadLine 1) head ≡ Err fault → copy_at text ≡ Err fault
   copy_at-bad fault is = begins ∙ rw is refl
 
-  pub copy_at-begun : (range : Ends) → head_at (BadLine 1) head ≡ Ok range → copy_at text ≡ read_on 2 (begun range) (pieces_of rest)
-  copy_at-begun range is = begins ∙ rw is refl
+  pub copy_at-begun : (says : Head) → head_at (BadLine 1) head ≡ Ok says → copy_at text ≡ read_on says.0 2 (begun says.1) (pieces_of rest)
+  copy_at-begun says is = begins ∙ rw is refl

@@ -83,9 +83,9 @@ text_again text copy is =
     let pieces : pieces_of text ≡ is.head ∷ (is.lines ++ [] ∷ []) =
     ap pieces_of (is.text_is ∙ sym (append-nil (text_of (is.head ∷ is.lines)))) ∙ pieces_of-text (is.head ∷ is.lines) [] is.unbroken ∙ ap (λ rest. (is.head ∷ is.lines) ++ rest) pieces_of-nil in
     ap copy_in (pieces ∙ ap (λ rest. is.head ∷ rest) after)
-    ∙ then_ok (head_at (BadLine 1) is.head) (λ range. read_on 2 (begun range) (piece ∷ more)) copy.range (head_at-again (BadLine 1) is.head copy.range is.head_is)
-    ∙ ap (read_on 2 (begun copy.range)) (sym after)
-    ∙ lines_again copy.range is.images is.images_rise is.inside 2 [] copy.marks is.lines (length copy.marks + length is.images) (omega arith) (omega arith) is.lines_are is.names_rise
+    ∙ then_ok (head_at (BadLine 1) is.head) (λ read. read_on read.0 2 (begun read.1) (piece ∷ more)) (is.form, copy.range) (head_at-again (BadLine 1) is.head (is.form, copy.range) is.head_is)
+    ∙ ap (read_on is.form 2 (begun copy.range)) (sym after)
+    ∙ lines_again is.form copy.range is.images is.images_rise is.inside 2 [] copy.marks is.lines (length copy.marks + length is.images) (omega arith) (omega arith) is.lines_are is.names_rise
     ∙ ap (λ cells. Ok (record { range = copy.range; marks = copy.marks; cells = cells })) (sym is.cells)
 
 -- what pieces that are read as a copy are
@@ -93,17 +93,18 @@ spelled_by : (text : List ℕ) (pieces : List (List ℕ)) (copy : TabletCopyValu
 spelled_by text [] copy cut is = absurd (cc)
 spelled_by text (part ∷ []) copy cut is = absurd (cc)
 spelled_by text (head ∷ piece ∷ pieces) copy cut is =
-    let range = bind_ok (head_at (BadLine 1) head) (λ range. read_on 2 (begun range) (piece ∷ pieces)) copy is in
-    let f = follow 2 (begun range.0) [] (piece ∷ pieces) copy (omega arith) (sym table_of-nil) range.2 in
+    let read = bind_ok (head_at (BadLine 1) head) (λ read. read_on read.0 2 (begun read.1) (piece ∷ pieces)) copy is in
+    let f = follow read.0.0 2 (begun read.0.1) [] (piece ∷ pieces) copy (omega arith) (sym table_of-nil) read.2 in
     let all : pieces_of text ≡ (head ∷ f.lines) ++ [] ∷ [] = cut ∙ ap (λ rest. head ∷ rest) f.pieces_are in
     rw f.copy_is (record {
+      form = read.0.0;
       head = head;
       lines = f.lines;
       images = f.images;
       text_is = sym (joined-pieces_of text) ∙ ap joined all ∙ joined-lines (head ∷ f.lines);
       unbroken = unbroken-front (head ∷ f.lines) ([] ∷ []) (subst (All IsUnbroken) all (unbroken-pieces_of text));
-      head_is = head_at-found (BadLine 1) head range.0 range.1;
-      lines_are = subst (λ count. AreLines f.lines (lines_with f.marks f.images count)) (zero-add (length f.marks + length f.images)) f.lines_are;
+      head_is = head_at-found (BadLine 1) head read.0 read.1;
+      lines_are = subst (λ count. AreLines read.0.0 f.lines (lines_with f.marks f.images count)) (zero-add (length f.marks + length f.images)) f.lines_are;
       names_rise = f.sorted refl;
       images_rise = f.rise;
       inside = f.inside;

@@ -31,13 +31,17 @@ use Rattle.pn_record.specs.Reading.{reading}
 use Rattle.pn_record.specs.Writing.{image_data}
 use Rattle.pn_record.proofs.ImageText.{depth-image_data, length-image_data}
 use Rattle.pn_tablet.specs.Copies.{TabletCopyValue}
-use Rattle.pn_tablet.specs.CopyLines.{head_data, mark_data, end_data, is_end, is_range, IsHead, IsValue, AreLines}
+use Rattle.pn_tablet.specs.CopyLines.{Head, head_data, mark_data, end_data, is_end, is_range, IsHead, IsValue, AreLines}
 use Rattle.pn_tablet.specs.CopyTexts.{images_rise, mark_line, lines_after_head, IsCopyText}
 use Rattle.pn_tablet.specs.CopyWriting.{line_data, line_text, lines_text, copy_text, IsReadAgain, WritesValue, IsWritten, IsWrittenLine, WritesLines}
+use Rattle.pn_tablet.specs.Forms.{form_of}
 use Rattle.pn_tablet.specs.Ranges.{Ends, in_range, are_ends}
+use Rattle.pn_tablet.specs.declared.form.Form.{Form}
+use Rattle.pn_tablet.specs.declared.form.Form.TheVariants.{Numbers}
 use Rattle.pn_tablet.specs.declared.copy_line.CopyLine.{CopyLine}
 use Rattle.pn_tablet.specs.declared.copy_line.CopyLine.TheVariants.{Mark, Record, End}
 use Rattle.pn_tablet.specs.Tablets.{lie_in}
+use Rattle.pn_tablet.proofs.FormLines.{lines_in, held_written}
 use Rattle.pn_tablet.proofs.SpelledImages.{spelled_own, spell_inside, spell_rises}
 use Rattle.pn_tablet.proofs.CopyValueTexts.{image_again, mark_again, end_again, head_again}
 use Rattle.pn_tablet.proofs.CopyLineTexts.{Small, text-unbroken, small_image, small_mark, small_head, short_end, short_mark, short_head}
@@ -65,27 +69,27 @@ pub mark_written : (old new name : List ℕ) (position : ℕ) → is_name name �
 mark_written old new name position named within =
     let fits : is_mark (name, position) ≡ true = and_from (is_name name) (is_position position) named within in
     let small = small_mark name position fits in
-    one_line old new (Mark name position) (mark_again name position small.0) (omega arith) (λ read. written IsValue (mark_data (name, position)) (Mark name position) read (short_mark name position fits) small (refl, fits))
+    one_line old new (Mark name position) (mark_again name position small.0) (omega arith) (λ read. written (IsValue Numbers) (mark_data (name, position)) (Mark name position) read (short_mark name position fits) small (refl, fits))
 
 pub image_written : (old new : List ℕ) (image : Image) → is_image image ≡ true → WritesValue old new (image_data image) → WritesLines old new (Record image ∷ [])
 image_written old new image fits =
     one_line old new (Record image) (image_again image fits) (depth-image_data image) (λ read.
-    written IsValue (image_data image) (Record image) read (omega (arith, length-image_data image fits)) (small_image image fits) (record { value = refl; limits = fits }))
+    written (IsValue Numbers) (image_data image) (Record image) read (omega (arith, length-image_data image fits)) (small_image image fits) (record { value = refl; limits = fits }, refl))
 
 pub end_written : (old new : List ℕ) (count : ℕ) → count < 2 ^ 64 → WritesValue old new (end_data count) → WritesLines old new (End count ∷ [])
 end_written old new count small =
-    one_line old new (End count) (end_again count small) (omega arith) (λ read. written IsValue (end_data count) (End count) read (short_end count small) (small, tt) refl)
+    one_line old new (End count) (end_again count small) (omega arith) (λ read. written (IsValue Numbers) (end_data count) (End count) read (short_end count small) (small, tt) refl)
 
-shallow_head : (from to : Option (List ℕ)) → depth (head_data (from, to)) ≤ 127
-shallow_head None None = omega arith
-shallow_head None (Some to) = omega arith
-shallow_head (Some from) None = omega arith
-shallow_head (Some from) (Some to) = omega arith
+shallow_head : (form : Form) (from to : Option (List ℕ)) → depth (head_data (form, (from, to))) ≤ 127
+shallow_head form None None = omega arith
+shallow_head form None (Some to) = omega arith
+shallow_head form (Some from) None = omega arith
+shallow_head form (Some from) (Some to) = omega arith
 
-pub head_written : (old new : List ℕ) (range : Ends) → is_end range.0 ≡ true → is_end range.1 ≡ true → are_ends range ≡ true → WritesValue old new (head_data range) → IsWritten IsHead (head_data range) range
-head_written old new range from to order wrote =
+pub head_written : (old new : List ℕ) (form : Form) (range : Ends) → is_end range.0 ≡ true → is_end range.1 ≡ true → are_ends range ≡ true → WritesValue old new (head_data (form, range)) → IsWritten IsHead (head_data (form, range)) (form, range)
+head_written old new form range from to order wrote =
     let fits : is_range range ≡ true = and_from (is_end range.0 && is_end range.1) (are_ends range) (and_from (is_end range.0) (is_end range.1) from to) order in
-    written IsHead (head_data range) range (wrote.1 (head_again range.0 range.1) (shallow_head range.0 range.1)) (short_head range.0 range.1 from to) (small_head range.0 range.1) (record { value = refl; limits = fits })
+    written IsHead (head_data (form, range)) (form, range) (wrote.1 (head_again form range.0 range.1) (shallow_head form range.0 range.1)) (short_head form range.0 range.1 from to) (small_head form range.0 range.1) (record { value = refl; limits = fits })
 
 -- the value that a writer wrote after a text, and its newline, are its line
 pub line_from : {old new : Written} (text out : List ℕ) (d : Data) → old.before ≡ text → old.tokens ≡ [] → Appends old new (value_tokens d)
@@ -132,7 +136,7 @@ unbroken-texts : (says : List CopyLine) → AllByRecursion IsWrittenLine says �
 unbroken-texts [] all = All-nil IsUnbroken
 unbroken-texts (line ∷ says) all = All-cons IsUnbroken (compact_text (line_data line)) (texts says) all.0.unbroken (unbroken-texts says all.1)
 
-are_lines-texts : (says : List CopyLine) → AllByRecursion IsWrittenLine says → AreLines (texts says) says
+are_lines-texts : (says : List CopyLine) → AllByRecursion IsWrittenLine says → AreLines Numbers (texts says) says
 are_lines-texts [] all = tt
 are_lines-texts (line ∷ says) all = (all.0.line, are_lines-texts says all.1)
 
@@ -140,19 +144,24 @@ head_first : (d : Data) (lines : List (List ℕ)) (rest : List ℕ) → rest ≡
 unfolding text_of
 head_first d lines rest is = append_assoc (compact_text d) (10 ∷ []) rest ∙ ap (λ t. compact_text d ++ 10 ∷ t) is
 
+-- the head that is written
+abbrev pub head_of : TabletCopyValue → Head
+head_of copy = (form_of (spell copy.cells), copy.range)
+
 -- lines that were all written spell the copy
-pub copy_spelled : (copy : TabletCopyValue) → IsWritten IsHead (head_data copy.range) copy.range → AllByRecursion IsWrittenLine (lines_after_head copy.marks (spell copy.cells)) → IsTrue (is_sorted name_cmp copy.marks)
+pub copy_spelled : (copy : TabletCopyValue) → IsWritten IsHead (head_data (head_of copy)) (head_of copy) → AllByRecursion IsWrittenLine (lines_after_head copy.marks (spell copy.cells)) → IsTrue (is_sorted name_cmp copy.marks)
     → IsTrue (images_rise (spell copy.cells)) → IsTrue (list_all (λ (image : Image). in_range copy.range image.key) (spell copy.cells)) → copy.cells ≡ table_of (spell copy.cells) → IsCopyText (copy_text copy) copy
 copy_spelled copy head all names rise inside cells =
     let says = lines_after_head copy.marks (spell copy.cells) in
     record {
-      head = compact_text (head_data copy.range);
+      form = form_of (spell copy.cells);
+      head = compact_text (head_data (head_of copy));
       lines = texts says;
       images = spell copy.cells;
-      text_is = head_first (head_data copy.range) (texts says) (lines_text says) (text_of-texts says);
-      unbroken = All-cons IsUnbroken (compact_text (head_data copy.range)) (texts says) head.unbroken (unbroken-texts says all);
+      text_is = head_first (head_data (head_of copy)) (texts says) (lines_text says) (text_of-texts says);
+      unbroken = All-cons IsUnbroken (compact_text (head_data (head_of copy))) (texts says) head.unbroken (unbroken-texts says all);
       head_is = head.line;
-      lines_are = are_lines-texts says all;
+      lines_are = lines_in Numbers (form_of (spell copy.cells)) (texts says) says (are_lines-texts says all) (held_written copy.marks (spell copy.cells));
       names_rise = names;
       images_rise = rise;
       inside = inside;
@@ -201,14 +210,14 @@ cell_room now new e wrote =
 
 -- ---- the parts of the whole text
 
-pub parts_written : (copy : TabletCopyValue) (a b c d : List ℕ) → a ≡ [] ++ line_text (head_data copy.range) → WritesLines a b (map mark_line copy.marks) → WritesLines b c (map Record (spell copy.cells))
+pub parts_written : (copy : TabletCopyValue) (a b c d : List ℕ) → a ≡ [] ++ line_text (head_data (head_of copy)) → WritesLines a b (map mark_line copy.marks) → WritesLines b c (map Record (spell copy.cells))
     → WritesLines c d (End (length copy.marks + length (spell copy.cells)) ∷ []) → (d ≡ copy_text copy) × AllByRecursion IsWrittenLine (lines_after_head copy.marks (spell copy.cells))
 parts_written copy a b c d head marks images end =
     let all = lines_then a b d (map mark_line copy.marks) (map Record (spell copy.cells) ++ End (length copy.marks + length (spell copy.cells)) ∷ []) marks (lines_then b c d (map Record (spell copy.cells)) (End (length copy.marks + length (spell copy.cells)) ∷ []) images end) in
     (all.0 ∙ ap (λ t. t ++ lines_text (lines_after_head copy.marks (spell copy.cells))) head, all.1)
 
 -- a text that was written so spells the copy
-pub whole_spelled : (copy : TabletCopyValue) (text : List ℕ) → text ≡ copy_text copy → IsWritten IsHead (head_data copy.range) copy.range → AllByRecursion IsWrittenLine (lines_after_head copy.marks (spell copy.cells))
+pub whole_spelled : (copy : TabletCopyValue) (text : List ℕ) → text ≡ copy_text copy → IsWritten IsHead (head_data (head_of copy)) (head_of copy) → AllByRecursion IsWrittenLine (lines_after_head copy.marks (spell copy.cells))
     → IsTrue (is_sorted name_cmp copy.marks) → IsTable bytes_cmp HasContents copy.cells → IsTrue (lie_in copy.range copy.cells) → IsCopyText text copy
 whole_spelled copy text is head all names table inside =
     subst (λ (t : List ℕ). IsCopyText t copy) (sym is)
@@ -227,8 +236,8 @@ line_utf8 IsSpelled d meant is = IsUtf8-append (compact_text d) (10 ∷ []) (rea
 
 lines_utf8 : (says : List CopyLine) → AllByRecursion IsWrittenLine says → IsUtf8 (lines_text says)
 lines_utf8 [] all = IsUtf8-nil
-lines_utf8 (line ∷ says) all = IsUtf8-append (line_text (line_data line)) (lines_text says) (line_utf8 IsValue (line_data line) line all.0) (lines_utf8 says all.1)
+lines_utf8 (line ∷ says) all = IsUtf8-append (line_text (line_data line)) (lines_text says) (line_utf8 (IsValue Numbers) (line_data line) line all.0) (lines_utf8 says all.1)
 
 -- a head and lines that were written are UTF-8
-pub text_utf8 : (range : Ends) (says : List CopyLine) → IsWritten IsHead (head_data range) range → AllByRecursion IsWrittenLine says → IsUtf8 (line_text (head_data range) ++ lines_text says)
-text_utf8 range says head all = IsUtf8-append (line_text (head_data range)) (lines_text says) (line_utf8 IsHead (head_data range) range head) (lines_utf8 says all)
+pub text_utf8 : (read : Head) (says : List CopyLine) → IsWritten IsHead (head_data read) read → AllByRecursion IsWrittenLine says → IsUtf8 (line_text (head_data read) ++ lines_text says)
+text_utf8 read says head all = IsUtf8-append (line_text (head_data read)) (lines_text says) (line_utf8 IsHead (head_data read) read head) (lines_utf8 says all)

@@ -16,12 +16,13 @@ use Rattle.pn_record.proofs.CellMaps.{adds-table_of, table_of-nil}
 use Rattle.pn_tablet.specs.Copies.{TabletCopyValue}
 use Rattle.pn_tablet.specs.CopyBeginnings.{Begin, IsCut, Reaches}
 use Rattle.pn_tablet.specs.CopyFaults.{IsCutOff, MayCome, HasBadLine, LeavesRange, HasFall, HasBadEnd}
-use Rattle.pn_tablet.specs.CopyLines.{IsValue, AreLines}
+use Rattle.pn_tablet.specs.CopyLines.{Head, IsValue, AreLines}
 use Rattle.pn_tablet.specs.CopyLineReading.{head_at, line_at}
 use Rattle.pn_tablet.specs.CopyReading.{pieces_of, is_over, after, read_on, copy_in, copy_at}
 use Rattle.pn_tablet.specs.CopyTexts.{comes_after, images_rise, mark_line}
 use Rattle.pn_tablet.specs.Drafts.{DraftValue, begun, whole}
 use Rattle.pn_tablet.specs.Ranges.{Ends, in_range}
+use Rattle.pn_tablet.specs.declared.form.Form.{Form}
 use Rattle.pn_tablet.specs.declared.copy_line.CopyLine.{CopyLine}
 use Rattle.pn_tablet.specs.declared.copy_line.CopyLine.TheVariants.{Mark, Record, End}
 use Rattle.pn_tablet.specs.declared.copy_fault.CopyTextFault.{CopyTextFault}
@@ -77,17 +78,17 @@ inside_push range (first ∷ images) image inside here =
     let parts = and_parts (in_range range first.key) (all_inside range images) inside in
     and_from _ _ parts.0 (inside_push range images image parts.1 here)
 
-lines_push : (lines : List (List ℕ)) (says : List CopyLine) (line : List ℕ) (more : CopyLine) → AreLines lines says → IsLine IsValue line more → AreLines (lines ++ line ∷ []) (says ++ more ∷ [])
-lines_push [] [] line more are is = (is, tt)
-lines_push [] (first ∷ says) line more are is = absurd are
-lines_push (first ∷ lines) [] line more are is = absurd are
-lines_push (first ∷ lines) (one ∷ says) line more are is = (are.0, lines_push lines says line more are.1 is)
+lines_push : (form : Form) (lines : List (List ℕ)) (says : List CopyLine) (line : List ℕ) (more : CopyLine) → AreLines form lines says → IsLine (IsValue form) line more → AreLines form (lines ++ line ∷ []) (says ++ more ∷ [])
+lines_push form [] [] line more are is = (is, tt)
+lines_push form [] (first ∷ says) line more are is = absurd are
+lines_push form (first ∷ lines) [] line more are is = absurd are
+lines_push form (first ∷ lines) (one ∷ says) line more are is = (are.0, lines_push form lines says line more are.1 is)
 
 -- ---- beginnings, one line longer
 
-begin_mark : (lines : List (List ℕ)) (range : Ends) (marks : Positions) (images : List Image) (line name : List ℕ) (position : ℕ) → Begin lines range marks images → images ≡ []
-    → IsLine IsValue line (Mark name position) → is_after_all marks name ≡ true → Begin (lines ++ line ∷ []) range (marks ++ (name, position) ∷ []) images
-begin_mark lines range marks images line name position is none line_is later =
+begin_mark : (lines : List (List ℕ)) (form : Form) (range : Ends) (marks : Positions) (images : List Image) (line name : List ℕ) (position : ℕ) → Begin lines form range marks images → images ≡ []
+    → IsLine (IsValue form) line (Mark name position) → is_after_all marks name ≡ true → Begin (lines ++ line ∷ []) form range (marks ++ (name, position) ∷ []) images
+begin_mark lines form range marks images line name position is none line_is later =
     let before : map mark_line marks ++ map Record images ≡ map mark_line marks = ap (λ all. map mark_line marks ++ map Record all) none ∙ append-nil (map mark_line marks) in
     let now : map mark_line marks ++ Mark name position ∷ [] ≡ map mark_line (marks ++ (name, position) ∷ []) ++ map Record images =
     sym (map-append mark_line marks ((name, position) ∷ [])) ∙ sym (append-nil _) ∙ ap (λ all. map mark_line (marks ++ (name, position) ∷ []) ++ map Record all) (sym none) in
@@ -96,16 +97,16 @@ begin_mark lines range marks images line name position is none line_is later =
       later = is.later ++ line ∷ [];
       lines_are = ap (λ ls. ls ++ line ∷ []) is.lines_are;
       head_is = is.head_is;
-      later_are = subst (AreLines (is.later ++ line ∷ [])) (ap (λ says. says ++ Mark name position ∷ []) before ∙ now) (lines_push is.later _ line (Mark name position) is.later_are line_is);
+      later_are = subst (AreLines form (is.later ++ line ∷ [])) (ap (λ says. says ++ Mark name position ∷ []) before ∙ now) (lines_push form is.later _ line (Mark name position) is.later_are line_is);
       names_rise = sorted_push marks name position is.names_rise later;
       images_rise = is.images_rise;
       inside = is.inside;
     }
 
-begin_image : (lines : List (List ℕ)) (range : Ends) (marks : Positions) (images : List Image) (line : List ℕ) (image : Image) → Begin lines range marks images
-    → IsLine IsValue line (Record image) → in_range range image.key ≡ true → option_map_or (λ last. comes_after last image) (last_with None images) true ≡ true
-    → Begin (lines ++ line ∷ []) range marks (images ++ image ∷ [])
-begin_image lines range marks images line image is line_is here later =
+begin_image : (lines : List (List ℕ)) (form : Form) (range : Ends) (marks : Positions) (images : List Image) (line : List ℕ) (image : Image) → Begin lines form range marks images
+    → IsLine (IsValue form) line (Record image) → in_range range image.key ≡ true → option_map_or (λ last. comes_after last image) (last_with None images) true ≡ true
+    → Begin (lines ++ line ∷ []) form range marks (images ++ image ∷ [])
+begin_image lines form range marks images line image is line_is here later =
     let now : (map mark_line marks ++ map Record images) ++ Record image ∷ [] ≡ map mark_line marks ++ map Record (images ++ image ∷ []) =
     append_assoc (map mark_line marks) (map Record images) (Record image ∷ []) ∙ ap (λ all. map mark_line marks ++ all) (sym (map-append Record images (image ∷ []))) in
     record {
@@ -113,16 +114,16 @@ begin_image lines range marks images line image is line_is here later =
       later = is.later ++ line ∷ [];
       lines_are = ap (λ ls. ls ++ line ∷ []) is.lines_are;
       head_is = is.head_is;
-      later_are = subst (AreLines (is.later ++ line ∷ [])) now (lines_push is.later _ line (Record image) is.later_are line_is);
+      later_are = subst (AreLines form (is.later ++ line ∷ [])) now (lines_push form is.later _ line (Record image) is.later_are line_is);
       names_rise = is.names_rise;
       images_rise = rise_push images image is.images_rise later;
       inside = inside_push range images image is.inside here;
     }
 
 -- a beginning has a line for its head, and one for each mark and image
-pub begin_count : (lines : List (List ℕ)) (range : Ends) (marks : Positions) (images : List Image) → Begin lines range marks images → length lines ≡ length marks + length images + 1
-begin_count lines range marks images is =
-    omega (arith, ap length is.lines_are, as_many is.later _ is.later_are, length-append (map mark_line marks) (map Record images), length-map marks mark_line, length-map images Record)
+pub begin_count : (lines : List (List ℕ)) (form : Form) (range : Ends) (marks : Positions) (images : List Image) → Begin lines form range marks images → length lines ≡ length marks + length images + 1
+begin_count lines form range marks images is =
+    omega (arith, ap length is.lines_are, as_many form is.later _ is.later_are, length-append (map mark_line marks) (map Record images), length-map marks mark_line, length-map images Record)
 
 -- ---- a line, and the lines after it
 
@@ -132,17 +133,17 @@ none_left (b ∷ piece) [] is = absurd (cc)
 none_left [] (next ∷ pieces) is = absurd (cc)
 none_left (b ∷ piece) (next ∷ pieces) is = absurd (cc)
 
-module _ (text : List ℕ) (lines : List (List ℕ)) (range : Ends) (marks : Positions) (images : List Image) (line piece : List ℕ) (more : List (List ℕ))
-    (begin : Begin lines range marks images) (cut : IsCut text lines line (joined (piece ∷ more)))
-    (next : (others : Positions) (later : List Image) → Begin (lines ++ line ∷ []) range others later → IsRight text (read_on (length lines + 1 + 1) (drafted range others later) (piece ∷ more))) where
+module _ (text : List ℕ) (lines : List (List ℕ)) (form : Form) (range : Ends) (marks : Positions) (images : List Image) (line piece : List ℕ) (more : List (List ℕ))
+    (begin : Begin lines form range marks images) (cut : IsCut text lines line (joined (piece ∷ more)))
+    (next : (others : Positions) (later : List Image) → Begin (lines ++ line ∷ []) form range others later → IsRight text (read_on form (length lines + 1 + 1) (drafted range others later) (piece ∷ more))) where
   abbrev here : Reaches text (length lines + 1)
-  here = record { lines = lines; line = line; rest = joined (piece ∷ more); cut = cut; number = refl; range = range; marks = marks; images = images; begin = begin }
+  here = record { lines = lines; line = line; rest = joined (piece ∷ more); cut = cut; number = refl; form = form; range = range; marks = marks; images = images; begin = begin }
 
-  mark_right : (name : List ℕ) (position : ℕ) → IsLine IsValue line (Mark name position) → (some later : Bool) → is_some (last_with None images) ≡ some → is_after_all marks name ≡ later
+  mark_right : (name : List ℕ) (position : ℕ) → IsLine (IsValue form) line (Mark name position) → (some later : Bool) → is_some (last_with None images) ≡ some → is_after_all marks name ≡ later
       → IsRight text ((if some then Err (BadLine (length lines + 1)) else (if later then Ok (record (drafted range marks images) { marks = marks ++ (name, position) ∷ [] }) else Err (NotRising (length lines + 1))))
-      >>= (λ longer. read_on (length lines + 1 + 1) longer (piece ∷ more)))
+      >>= (λ longer. read_on form (length lines + 1 + 1) longer (piece ∷ more)))
   mark_right name position line_is true later is_image is_later =
-      inr (here, λ says is none. absurd (misplaced says (says_one line says (Mark name position) is line_is) none))
+      inr (here, λ says is none. absurd (misplaced says (says_one form line says (Mark name position) is line_is) none))
     where
       some_image : images ≡ [] → ⊥
       some_image none = false≢true (ap (λ all. is_some (last_with None all)) (sym none) ∙ is_image)
@@ -151,41 +152,41 @@ module _ (text : List ℕ) (lines : List (List ℕ)) (range : Ends) (marks : Pos
       misplaced says same may = some_image (subst (MayCome images) same may)
   mark_right name position line_is false true is_image is_later =
       let none = last_none images is_image in
-      next (marks ++ (name, position) ∷ []) images (begin_mark lines range marks images line name position begin none line_is is_later)
+      next (marks ++ (name, position) ∷ []) images (begin_mark lines form range marks images line name position begin none line_is is_later)
   mark_right name position line_is false false is_image is_later =
       (here, Mark name position, line_is, (last_none images is_image, false_from_ne_true _ (λ sorted. false≢true (sym is_later ∙ sorted_after marks (name, position) [] sorted))))
 
-  image_right : (image : Image) → IsLine IsValue line (Record image) → (inside later : Bool) → in_range range image.key ≡ inside → option_map_or (λ last. comes_after last image) (last_with None images) true ≡ later
+  image_right : (image : Image) → IsLine (IsValue form) line (Record image) → (inside later : Bool) → in_range range image.key ≡ inside → option_map_or (λ last. comes_after last image) (last_with None images) true ≡ later
       → IsRight text ((if not inside then Err (OutsideRange (length lines + 1)) else (if later then Ok (record (drafted range marks images) { cells = adds (table_of images) (image ∷ []); last = Some image }) else Err (NotRising (length lines + 1))))
-      >>= (λ longer. read_on (length lines + 1 + 1) longer (piece ∷ more)))
+      >>= (λ longer. read_on form (length lines + 1 + 1) longer (piece ∷ more)))
   image_right image line_is false later is_inside is_later = (here, image, line_is, is_inside)
   image_right image line_is true true is_inside is_later =
       let longer : drafted range marks (images ++ image ∷ []) ≡ record (drafted range marks images) { cells = adds (table_of images) (image ∷ []); last = Some image } =
       λ i. record { range = range; marks = marks; cells = sym (adds-table_of images (image ∷ [])) i; last = last_with-push None images image i } in
-      subst (λ (d : DraftValue). IsRight text (read_on (length lines + 1 + 1) d (piece ∷ more))) longer (next marks (images ++ image ∷ []) (begin_image lines range marks images line image begin line_is is_inside is_later))
+      subst (λ (d : DraftValue). IsRight text (read_on form (length lines + 1 + 1) d (piece ∷ more))) longer (next marks (images ++ image ∷ []) (begin_image lines form range marks images line image begin line_is is_inside is_later))
   image_right image line_is true false is_inside is_later =
       (here, Record image, line_is, (is_inside, false_from_ne_true _ (λ rise. false≢true (sym is_later ∙ rise_last images image rise))))
 
-  end_right : (count : ℕ) → IsLine IsValue line (End count) → (counts over : Bool) → (count == length lines + 1 - 2) ≡ counts → is_over (piece ∷ more) ≡ over
+  end_right : (count : ℕ) → IsLine (IsValue form) line (End count) → (counts over : Bool) → (count == length lines + 1 - 2) ≡ counts → is_over (piece ∷ more) ≡ over
       → IsRight text (if counts && over then Ok (whole (drafted range marks images)) else Err BadEnd)
   end_right count line_is true true counts ends = tt
   end_right count line_is true false counts ends =
       (length lines + 1, here, count, line_is, λ right. false≢true (sym ends ∙ none_left piece more right.1))
   end_right count line_is false over counts ends =
-      (length lines + 1, here, count, line_is, λ right. false≢true (sym counts ∙ eq-eqb count (length lines + 1 - 2) (omega (arith, right.0, begin_count lines range marks images begin))))
+      (length lines + 1, here, count, line_is, λ right. false≢true (sym counts ∙ eq-eqb count (length lines + 1 - 2) (omega (arith, right.0, begin_count lines form range marks images begin))))
 
-  line_right : (says : CopyLine) → IsLine IsValue line says
-      → IsRight text (after (length lines + 1) (drafted range marks images) (λ longer. read_on (length lines + 1 + 1) longer (piece ∷ more)) (is_over (piece ∷ more)) says)
+  line_right : (says : CopyLine) → IsLine (IsValue form) line says
+      → IsRight text (after (length lines + 1) (drafted range marks images) (λ longer. read_on form (length lines + 1 + 1) longer (piece ∷ more)) (is_over (piece ∷ more)) says)
   line_right (Mark name position) line_is = mark_right name position line_is (is_some (last_with None images)) (is_after_all marks name) refl refl
   line_right (Record image) line_is = image_right image line_is (in_range range image.key) (option_map_or (λ last. comes_after last image) (last_with None images) true) refl refl
   line_right (End count) line_is = end_right count line_is (count == length lines + 1 - 2) (is_over (piece ∷ more)) refl refl
 
-  first_right : IsRight text (line_at (BadLine (length lines + 1)) line >>= after (length lines + 1) (drafted range marks images) (λ longer. read_on (length lines + 1 + 1) longer (piece ∷ more)) (is_over (piece ∷ more)))
+  first_right : IsRight text (line_at form (BadLine (length lines + 1)) line >>= after (length lines + 1) (drafted range marks images) (λ longer. read_on form (length lines + 1 + 1) longer (piece ∷ more)) (is_over (piece ∷ more)))
   first_right =
       let n = length lines + 1 in
-      elim (line_or_not (BadLine n) line) as (λ _. IsRight text (line_at (BadLine n) line >>= after n (drafted range marks images) (λ longer. read_on (n + 1) longer (piece ∷ more)) (is_over (piece ∷ more)))) [
-        | inl read ↦ rw read.1 (line_right read.0 (line_at-found (BadLine n) line read.0 read.1))
-        | inr is ↦ rw is (inr (here, λ says line_is may. no_line (sym is ∙ line_at-again (BadLine n) line says line_is)))
+      elim (line_or_not (BadLine n) form line) as (λ _. IsRight text (line_at form (BadLine n) line >>= after n (drafted range marks images) (λ longer. read_on form (n + 1) longer (piece ∷ more)) (is_over (piece ∷ more)))) [
+        | inl read ↦ rw read.1 (line_right read.0 (line_at-found (BadLine n) form line read.0 read.1))
+        | inr is ↦ rw is (inr (here, λ says line_is may. no_line (sym is ∙ line_at-again (BadLine n) form line says line_is)))
       ]
     where
       no_line : {says : CopyLine} → ◌≡◌ {A = Result CopyLine CopyTextFault} (Err (BadLine (length lines + 1))) (Ok says) → ⊥
@@ -194,21 +195,21 @@ module _ (text : List ℕ) (lines : List (List ℕ)) (range : Ends) (marks : Pos
 -- ---- a whole text
 
 -- the lines before the pieces begin a copy
-pub right_on : (text : List ℕ) (lines : List (List ℕ)) (range : Ends) (marks : Positions) (images : List Image) (pieces : List (List ℕ)) → Begin lines range marks images
-    → All IsUnbroken lines → All IsUnbroken pieces → text ≡ text_of lines ++ joined pieces → IsRight text (read_on (length lines + 1) (drafted range marks images) pieces)
+pub right_on : (text : List ℕ) (lines : List (List ℕ)) (form : Form) (range : Ends) (marks : Positions) (images : List Image) (pieces : List (List ℕ)) → Begin lines form range marks images
+    → All IsUnbroken lines → All IsUnbroken pieces → text ≡ text_of lines ++ joined pieces → IsRight text (read_on form (length lines + 1) (drafted range marks images) pieces)
 unfolding read_on
-right_on text lines range marks images [] begin unbroken parts is =
-    record { lines = lines; part = []; text_is = is; unbroken = (unbroken, All-nil (λ x. x ≢ 10)); begin = inr (range, marks, images, begin) }
-right_on text lines range marks images (part ∷ []) begin unbroken parts is =
-    record { lines = lines; part = part; text_is = is; unbroken = (unbroken, All-head IsUnbroken part [] parts); begin = inr (range, marks, images, begin) }
-right_on text lines range marks images (line ∷ piece ∷ more) begin unbroken parts is =
+right_on text lines form range marks images [] begin unbroken parts is =
+    record { lines = lines; part = []; text_is = is; unbroken = (unbroken, All-nil (λ x. x ≢ 10)); begin = inr (form, range, marks, images, begin) }
+right_on text lines form range marks images (part ∷ []) begin unbroken parts is =
+    record { lines = lines; part = part; text_is = is; unbroken = (unbroken, All-head IsUnbroken part [] parts); begin = inr (form, range, marks, images, begin) }
+right_on text lines form range marks images (line ∷ piece ∷ more) begin unbroken parts is =
     let longer : All IsUnbroken (lines ++ line ∷ []) =
     All-append IsUnbroken lines (line ∷ []) unbroken (All-cons IsUnbroken line [] (All-head IsUnbroken line (piece ∷ more) parts) (All-nil IsUnbroken)) in
     let cut : IsCut text lines line (joined (piece ∷ more)) = record { text_is = is ∙ sym (text_cut lines line (joined (piece ∷ more))); unbroken = longer } in
     let number : length (lines ++ line ∷ []) + 1 ≡ length lines + 1 + 1 = omega (arith, length-append lines (line ∷ [])) in
-    first_right text lines range marks images line piece more begin cut (λ others later begun_too.
-    subst (λ n. IsRight text (read_on n (drafted range others later) (piece ∷ more))) number
-    (right_on text (lines ++ line ∷ []) range others later (piece ∷ more) begun_too longer (All-tail IsUnbroken line (piece ∷ more) parts) cut.text_is))
+    first_right text lines form range marks images line piece more begin cut (λ others later begun_too.
+    subst (λ n. IsRight text (read_on form n (drafted range others later) (piece ∷ more))) number
+    (right_on text (lines ++ line ∷ []) form range others later (piece ∷ more) begun_too longer (All-tail IsUnbroken line (piece ∷ more) parts) cut.text_is))
 
 right_in : (text : List ℕ) (pieces : List (List ℕ)) → All IsUnbroken pieces → text ≡ joined pieces → IsRight text (copy_in pieces)
 right_in text [] parts is =
@@ -219,18 +220,18 @@ right_in text (head ∷ piece ∷ more) parts is =
     let unbroken : All IsUnbroken (head ∷ []) = All-cons IsUnbroken head [] (All-head IsUnbroken head (piece ∷ more) parts) (All-nil IsUnbroken) in
     let first : text ≡ text_of (head ∷ []) ++ joined (piece ∷ more) =
     is ∙ ap (λ t. t ++ (head ++ 10 ∷ joined (piece ∷ more))) (sym text_of-nil) ∙ sym (text_cut [] head (joined (piece ∷ more))) in
-    elim (head_or_not (BadLine 1) head) as (λ _. IsRight text (head_at (BadLine 1) head >>= (λ range. read_on 2 (begun range) (piece ∷ more)))) [
+    elim (head_or_not (BadLine 1) head) as (λ _. IsRight text (head_at (BadLine 1) head >>= (λ read. read_on read.0 2 (begun read.1) (piece ∷ more)))) [
       | inl read ↦
-          let begin : Begin (head ∷ []) read.0 [] [] =
+          let begin : Begin (head ∷ []) read.0.0 read.0.1 [] [] =
           record { head = head; later = []; lines_are = refl; head_is = head_at-found (BadLine 1) head read.0 read.1; later_are = tt; names_rise = refl; images_rise = refl; inside = refl } in
-          let none : drafted read.0 [] [] ≡ begun read.0 = λ i. record { range = read.0; marks = []; cells = table_of-nil i; last = None } in
-          rw read.1 (subst (λ (d : DraftValue). IsRight text (read_on 2 d (piece ∷ more))) none (right_on text (head ∷ []) read.0 [] [] (piece ∷ more) begin unbroken (All-tail IsUnbroken head (piece ∷ more) parts) first))
+          let none : drafted read.0.1 [] [] ≡ begun read.0.1 = λ i. record { range = read.0.1; marks = []; cells = table_of-nil i; last = None } in
+          rw read.1 (subst (λ (d : DraftValue). IsRight text (read_on read.0.0 2 d (piece ∷ more))) none (right_on text (head ∷ []) read.0.0 read.0.1 [] [] (piece ∷ more) begin unbroken (All-tail IsUnbroken head (piece ∷ more) parts) first))
       | inr bad ↦
-          rw bad (inl (refl, (head, joined (piece ∷ more), record { text_is = first; unbroken = unbroken }, λ range is_head. no_range (sym bad ∙ head_at-again (BadLine 1) head range is_head))))
+          rw bad (inl (refl, (head, joined (piece ∷ more), record { text_is = first; unbroken = unbroken }, λ says is_head. no_head (sym bad ∙ head_at-again (BadLine 1) head says is_head))))
     ]
   where
-    no_range : {range : Ends} → ◌≡◌ {A = Result Ends CopyTextFault} (Err (BadLine 1)) (Ok range) → ⊥
-    no_range is = cc
+    no_head : {says : Head} → ◌≡◌ {A = Result Head CopyTextFault} (Err (BadLine 1)) (Ok says) → ⊥
+    no_head is = cc
 
 pub right_at : (text : List ℕ) → IsRight text (copy_at text)
 unfolding copy_at

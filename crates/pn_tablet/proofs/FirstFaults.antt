@@ -15,6 +15,7 @@ use Rattle.pn_tablet.specs.CopyReading.{pieces_of, is_over, with_mark, with_imag
 use Rattle.pn_tablet.specs.CopyTexts.{comes_after}
 use Rattle.pn_tablet.specs.Drafts.{DraftValue, whole}
 use Rattle.pn_tablet.specs.Ranges.{Ends, in_range}
+use Rattle.pn_tablet.specs.declared.form.Form.{Form}
 use Rattle.pn_tablet.specs.declared.copy_line.CopyLine.{CopyLine}
 use Rattle.pn_tablet.specs.declared.copy_line.CopyLine.TheVariants.{Mark, Record, End}
 use Rattle.pn_tablet.specs.declared.copy_fault.CopyTextFault.TheVariants.{Truncated, BadLine, OutsideRange, NotRising, BadEnd, Memory}
@@ -34,10 +35,10 @@ module _ (text : List ℕ) (n : ℕ) (at : Reaches text n) where
   draft = drafted at.range at.marks at.images
 
   -- what a line that says this comes to
-  said : (says : CopyLine) → IsLine IsValue at.line says → copy_at text ≡ after n draft (λ longer. read_on (n + 1) longer (pieces_of at.rest)) (is_over (pieces_of at.rest)) says
-  said says is = reached text n at ∙ read_on-said n draft (at.line ∷ pieces_of at.rest) at.line at.rest refl says (line_at-again (BadLine n) at.line says is)
+  said : (says : CopyLine) → IsLine (IsValue at.form) at.line says → copy_at text ≡ after n draft (λ longer. read_on at.form (n + 1) longer (pieces_of at.rest)) (is_over (pieces_of at.rest)) says
+  said says is = reached text n at ∙ read_on-said at.form n draft (at.line ∷ pieces_of at.rest) at.line at.rest refl says (line_at-again (BadLine n) at.form at.line says is)
 
-  misplaced : (says : CopyLine) → IsLine IsValue at.line says → ¬ MayCome at.images says → copy_at text ≡ Err (BadLine n)
+  misplaced : (says : CopyLine) → IsLine (IsValue at.form) at.line says → ¬ MayCome at.images says → copy_at text ≡ Err (BadLine n)
   misplaced (Mark name position) is may =
       let image : is_some (last_with None at.images) ≡ true = true_from_ne_false _ (λ none. may (last_none at.images none)) in
       let refused : with_mark n draft (name, position) ≡ Err (BadLine n) = rw image refl in
@@ -45,19 +46,19 @@ module _ (text : List ℕ) (n : ℕ) (at : Reaches text n) where
   misplaced (Record image) is may = absurd (may tt)
   misplaced (End count) is may = absurd (may tt)
 
-  bad_found : ((says : CopyLine) → IsLine IsValue at.line says → ¬ MayCome at.images says) → copy_at text ≡ Err (BadLine n)
+  bad_found : ((says : CopyLine) → IsLine (IsValue at.form) at.line says → ¬ MayCome at.images says) → copy_at text ≡ Err (BadLine n)
   bad_found may =
-      elim (line_or_not (BadLine n) at.line) as (λ _. copy_at text ≡ Err (BadLine n)) [
-        | inl read ↦ let is = line_at-found (BadLine n) at.line read.0 read.1 in misplaced read.0 is (may read.0 is)
-        | inr is ↦ reached text n at ∙ read_on-bad n draft (at.line ∷ pieces_of at.rest) at.line at.rest refl (BadLine n) is
+      elim (line_or_not (BadLine n) at.form at.line) as (λ _. copy_at text ≡ Err (BadLine n)) [
+        | inl read ↦ let is = line_at-found (BadLine n) at.form at.line read.0 read.1 in misplaced read.0 is (may read.0 is)
+        | inr is ↦ reached text n at ∙ read_on-bad at.form n draft (at.line ∷ pieces_of at.rest) at.line at.rest refl (BadLine n) is
       ]
 
-  outside_found : (image : Image) → IsLine IsValue at.line (Record image) → in_range at.range image.key ≡ false → copy_at text ≡ Err (OutsideRange n)
+  outside_found : (image : Image) → IsLine (IsValue at.form) at.line (Record image) → in_range at.range image.key ≡ false → copy_at text ≡ Err (OutsideRange n)
   outside_found image is outside =
       let refused : with_image n draft image ≡ Err (OutsideRange n) = rw outside refl in
       said (Record image) is ∙ then_err (with_image n draft image) _ (OutsideRange n) refused
 
-  fall_found : (says : CopyLine) → IsLine IsValue at.line says → Falls at.range at.marks at.images says → copy_at text ≡ Err (NotRising n)
+  fall_found : (says : CopyLine) → IsLine (IsValue at.form) at.line says → Falls at.range at.marks at.images says → copy_at text ≡ Err (NotRising n)
   fall_found (Mark name position) is falls =
       let none : is_some (last_with None at.images) ≡ false = ap (λ all. is_some (last_with None all)) falls.0 in
       let early : is_after_all at.marks name ≡ false = false_from_ne_true _ (λ later. false≢true (sym falls.1 ∙ sorted_push at.marks name position at.begin.names_rise later)) in
@@ -70,14 +71,14 @@ module _ (text : List ℕ) (n : ℕ) (at : Reaches text n) where
       said (Record image) is ∙ then_err (with_image n draft image) _ (NotRising n) refused
   fall_found (End count) is falls = absurd falls
 
-  end_found : (count : ℕ) → IsLine IsValue at.line (End count) → ¬ ((count ≡ length at.marks + length at.images) × (at.rest ≡ [])) → copy_at text ≡ Err BadEnd
+  end_found : (count : ℕ) → IsLine (IsValue at.form) at.line (End count) → ¬ ((count ≡ length at.marks + length at.images) × (at.rest ≡ [])) → copy_at text ≡ Err BadEnd
   end_found count is wrong =
       let over = is_over (pieces_of at.rest) in
       let refused : (count == n - 2 && over) ≡ false =
       false_from_ne_true _ (λ both.
       let parts = and_parts (count == n - 2) over both in
       wrong (
-        omega (arith, eqb-true count (n - 2) parts.0, at.number, begin_count at.lines at.range at.marks at.images at.begin),
+        omega (arith, eqb-true count (n - 2) parts.0, at.number, begin_count at.lines at.form at.range at.marks at.images at.begin),
         empty at.rest (eqb-true (length at.rest) 0 (sym (is_over-pieces_of at.rest) ∙ parts.1)),
       )) in
       said (End count) is ∙ ap (λ test. if test then Ok (whole draft) else Err BadEnd) refused
@@ -104,12 +105,12 @@ cut_off_found text is = found is.begin
     last : pieces_of is.part ≡ is.part ∷ []
     last = pieces_of-last is.part is.unbroken.1
 
-    found : ((is.lines ≡ []) ⊎ ((range : Ends) × (marks : Positions) × (images : List Image) × Begin is.lines range marks images)) → copy_at text ≡ Err Truncated
+    found : ((is.lines ≡ []) ⊎ ((form : Form) × (range : Ends) × (marks : Positions) × (images : List Image) × Begin is.lines form range marks images)) → copy_at text ≡ Err Truncated
     found (inl none) =
         ap (λ t. copy_in (pieces_of t)) (is.text_is ∙ ap (λ lines. text_of lines ++ is.part) none ∙ ap (λ t. t ++ is.part) text_of-nil) ∙ ap copy_in last
-    found (inr (range, marks, images, begin)) =
-        ap copy_at is.text_is ∙ begun_read is.lines range marks images is.part is.unbroken.0 begin
-        ∙ read_on-last (length is.lines + 1) (drafted range marks images) (pieces_of is.part) is.part last
+    found (inr (form, range, marks, images, begin)) =
+        ap copy_at is.text_is ∙ begun_read is.lines form range marks images is.part is.unbroken.0 begin
+        ∙ read_on-last form (length is.lines + 1) (drafted range marks images) (pieces_of is.part) is.part last
 
 -- ---- and a fault that is found is there
 

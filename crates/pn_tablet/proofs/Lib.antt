@@ -16,6 +16,7 @@ pub mod Counts
 pub mod Drafting
 pub mod FaultCases
 pub mod FirstFaults
+pub mod FormLines
 pub mod Insides
 pub mod JoinLaws
 pub mod Joined

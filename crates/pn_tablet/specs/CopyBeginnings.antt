@@ -10,15 +10,16 @@ use Rattle.pn_record.specs.Reading.{IsLine}
 use Rattle.pn_tablet.specs.CopyLines.{IsHead, AreLines}
 use Rattle.pn_tablet.specs.CopyTexts.{images_rise, mark_line}
 use Rattle.pn_tablet.specs.Ranges.{Ends, in_range}
+use Rattle.pn_tablet.specs.declared.form.Form.{Form}
 use Rattle.pn_tablet.specs.declared.copy_line.CopyLine.TheVariants.{Record}
 
--- the lines begin a copy: a head, marks whose names rise, and then images that rise and whose keys lie in the range
-pub record Begin (lines : List (List ℕ)) (range : Ends) (marks : Positions) (images : List Image) : Type 0 where
+-- the lines begin a copy of the form: a head, marks whose names rise, and then images that rise and whose keys lie in the range
+pub record Begin (lines : List (List ℕ)) (form : Form) (range : Ends) (marks : Positions) (images : List Image) : Type 0 where
   pub head : List ℕ
   pub later : List (List ℕ)
   pub lines_are : lines ≡ head ∷ later
-  pub head_is : IsLine IsHead head range
-  pub later_are : AreLines later (map mark_line marks ++ map Record images)
+  pub head_is : IsLine IsHead head (form, range)
+  pub later_are : AreLines form later (map mark_line marks ++ map Record images)
   pub names_rise : IsTrue (is_sorted name_cmp marks)
   pub images_rise : IsTrue (images_rise images)
   pub inside : IsTrue (list_all (λ image. in_range range image.key) images)
@@ -35,7 +36,8 @@ pub record Reaches (text : List ℕ) (n : ℕ) : Type 0 where
   pub rest : List ℕ
   pub cut : IsCut text lines line rest
   pub number : n ≡ length lines + 1
+  pub form : Form
   pub range : Ends
   pub marks : Positions
   pub images : List Image
-  pub begin : Begin lines range marks images
+  pub begin : Begin lines form range marks images

@@ -1,5 +1,5 @@
 -- The lines of a copy's text, read one by one.
-use Rattle.std.specs.Prelude.{ℕ, ◌==◌, Bool, ◌&&◌, if◌then◌else◌, List, [], ◌∷◌, codes, Option, None, Some, is_some, Result, Ok, Err}
+use Rattle.std.specs.Prelude.{ℕ, Bool, if◌then◌else◌, List, [], ◌∷◌, codes, Option, None, Some, is_some, Result, Ok, Err}
 use Rattle.std.specs.Option.{ok_or}
 use Rattle.serde_json.specs.Data.{Data, null, string}
 use Rattle.serde_json.specs.Find.{get, as_str, as_object}
@@ -8,8 +8,9 @@ use Rattle.pn_json.specs.Members.{whole_number, member_as, no_others}
 use Rattle.pn_record.specs.Grammar.{image_in}
 use Rattle.pn_record.specs.Marks.{is_mark}
 use Rattle.pn_record.specs.Reading.{value_at}
-use Rattle.pn_tablet.specs.CopyLines.{is_range}
-use Rattle.pn_tablet.specs.Ranges.{Ends}
+use Rattle.pn_tablet.specs.CopyLines.{Head, is_range}
+use Rattle.pn_tablet.specs.Forms.{form_at, may_hold}
+use Rattle.pn_tablet.specs.declared.form.Form.{Form}
 use Rattle.pn_tablet.specs.declared.copy_line.CopyLine.{CopyLine}
 use Rattle.pn_tablet.specs.declared.copy_line.CopyLine.TheVariants.{Mark, Record, End}
 
@@ -28,15 +29,17 @@ end_of null = Some None
 end_of (string key) = Some (Some key)
 end_of _ = None
 
--- the range of a head
-unfoldable pub head_in : {F : Type 0} → F → Data → Result Ends F
+-- the form and the range of a head
+unfoldable pub head_in : {F : Type 0} → F → Data → Result Head F
 head_in fault d = do
   members ← ok_or (as_object d) fault
-  format ← member_as whole_number fault (get (codes "copy") d)
+  number ← member_as whole_number fault (get (codes "copy") d)
   from ← member_as end_of fault (get (codes "from") d)
   to ← member_as end_of fault (get (codes "to") d)
   named ← no_others (codes "copy" ∷ codes "from" ∷ codes "to" ∷ []) fault members
-  if_fits (format == 1 && is_range (from, to)) fault (from, to)
+  form ← ok_or (form_at number) fault
+  range ← if_fits (is_range (from, to)) fault (from, to)
+  Ok (form, range)
 
 -- a mark: a stream's name, and a position of 1 to 10^15
 unfoldable pub mark_in : {F : Type 0} → F → Data → Result CopyLine F
@@ -55,19 +58,19 @@ end_in fault d = do
   named ← no_others (codes "end" ∷ []) fault members
   Ok (End count)
 
--- an image
-unfoldable pub record_in : {F : Type 0} → F → Data → Result CopyLine F
-record_in fault d = do
+-- an image that may stand in a copy of the form
+unfoldable pub record_in : {F : Type 0} → Form → F → Data → Result CopyLine F
+record_in form fault d = do
   image ← or_as fault (image_in d)
-  Ok (Record image)
+  if_fits (may_hold form image) fault (Record image)
 
 -- a line after the head: a mark where it has a member `at`, an end where it has `end`, otherwise an image
-unfoldable pub line_in : {F : Type 0} → F → Data → Result CopyLine F
-line_in fault d = if is_some (get (codes "at") d) then mark_in fault d else (if is_some (get (codes "end") d) then end_in fault d else record_in fault d)
+unfoldable pub line_in : {F : Type 0} → Form → F → Data → Result CopyLine F
+line_in form fault d = if is_some (get (codes "at") d) then mark_in fault d else (if is_some (get (codes "end") d) then end_in fault d else record_in form fault d)
 
--- the range of a head's line, or the fault
-unfoldable pub head_at : {F : Type 0} → F → List ℕ → Result Ends F
+-- the form and the range of a head's line, or the fault
+unfoldable pub head_at : {F : Type 0} → F → List ℕ → Result Head F
 head_at fault line = or_as fault (value_at line) >>= head_in fault
 
-unfoldable pub line_at : {F : Type 0} → F → List ℕ → Result CopyLine F
-line_at fault line = or_as fault (value_at line) >>= line_in fault
+unfoldable pub line_at : {F : Type 0} → Form → F → List ℕ → Result CopyLine F
+line_at form fault line = or_as fault (value_at line) >>= line_in form fault

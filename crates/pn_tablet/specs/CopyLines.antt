@@ -6,7 +6,9 @@ use Rattle.pn_record.specs.Limits.{is_key}
 use Rattle.pn_record.specs.Marks.{is_mark}
 use Rattle.pn_record.specs.Reading.{IsLine}
 use Rattle.pn_record.specs.Canonical.{IsImage}
+use Rattle.pn_tablet.specs.Forms.{form_number, may_hold}
 use Rattle.pn_tablet.specs.Ranges.{Ends, are_ends}
+use Rattle.pn_tablet.specs.declared.form.Form.{Form}
 use Rattle.pn_tablet.specs.declared.copy_line.CopyLine.{CopyLine}
 use Rattle.pn_tablet.specs.declared.copy_line.CopyLine.TheVariants.{Mark, Record, End}
 
@@ -15,12 +17,16 @@ abbrev pub key_data : Option (List ℕ) → Data
 key_data None = null
 key_data (Some key) = string key
 
--- the head: the number of the format, and the two ends of the range
-abbrev pub head_with : Data → Data → Data
-head_with from to = object (member (codes "copy") (number (unsigned 1)) (member (codes "from") from (member (codes "to") to no_members)))
+-- what a head says: the form of the copy, and its range
+abbrev pub Head : Type 0
+Head = Form × Ends
 
-abbrev pub head_data : Ends → Data
-head_data range = head_with (key_data range.0) (key_data range.1)
+-- the head: the number of the form, and the two ends of the range
+abbrev pub head_with : ℕ → Data → Data → Data
+head_with n from to = object (member (codes "copy") (number (unsigned n)) (member (codes "from") from (member (codes "to") to no_members)))
+
+abbrev pub head_data : Head → Data
+head_data head = head_with (form_number head.0) (key_data head.1.0) (key_data head.1.1)
 
 -- a mark: a stream, and the last position taken from it
 abbrev pub mark_data : List ℕ × ℕ → Data
@@ -43,20 +49,20 @@ seen_text text = option_map (λ t. t.now) text
 abbrev pub is_range : Ends → Bool
 is_range range = is_end range.0 && is_end range.1 && are_ends range
 
--- the value is the JSON of the head of a copy of this range
-pub record IsHead (d : Data) (range : Ends) : Type 0 where
-  pub value : d ≡ head_data range
-  pub limits : IsTrue (is_range range)
+-- the value is the JSON of the head of a copy of this form and range
+pub record IsHead (d : Data) (head : Head) : Type 0 where
+  pub value : d ≡ head_data head
+  pub limits : IsTrue (is_range head.1)
 
--- the value is the JSON of this mark, image or end
-abbrev pub IsValue : Data → CopyLine → Type 0
-IsValue d (Mark name position) = (d ≡ mark_data (name, position)) × IsTrue (is_mark (name, position))
-IsValue d (Record image) = IsImage d image
-IsValue d (End count) = d ≡ end_data count
+-- the value is the JSON of this mark, image or end; the image may stand in a copy of the form
+abbrev pub IsValue : Form → Data → CopyLine → Type 0
+IsValue form d (Mark name position) = (d ≡ mark_data (name, position)) × IsTrue (is_mark (name, position))
+IsValue form d (Record image) = IsImage d image × IsTrue (may_hold form image)
+IsValue form d (End count) = d ≡ end_data count
 
 -- the lines are those of these marks, images and ends, one by one
-abbrev pub AreLines : List (List ℕ) → List CopyLine → Type 0
-AreLines [] [] = Unit {0}
-AreLines (line ∷ lines) (says ∷ more) = IsLine IsValue line says × AreLines lines more
-AreLines [] (says ∷ more) = ⊥
-AreLines (line ∷ lines) [] = ⊥
+abbrev pub AreLines : Form → List (List ℕ) → List CopyLine → Type 0
+AreLines form [] [] = Unit {0}
+AreLines form (line ∷ lines) (says ∷ more) = IsLine (IsValue form) line says × AreLines form lines more
+AreLines form [] (says ∷ more) = ⊥
+AreLines form (line ∷ lines) [] = ⊥

@@ -13,6 +13,7 @@ use Rattle.pn_tablet.specs.CopyLineReading.{head_at, line_at}
 use Rattle.pn_tablet.specs.CopyTexts.{comes_after}
 use Rattle.pn_tablet.specs.Drafts.{DraftValue, begun, whole}
 use Rattle.pn_tablet.specs.Ranges.{in_range}
+use Rattle.pn_tablet.specs.declared.form.Form.{Form}
 use Rattle.pn_tablet.specs.declared.copy_line.CopyLine.{CopyLine}
 use Rattle.pn_tablet.specs.declared.copy_line.CopyLine.TheVariants.{Mark, Record, End}
 use Rattle.pn_tablet.specs.declared.copy_fault.CopyTextFault.{CopyTextFault}
@@ -52,17 +53,17 @@ after n draft next over (Record image) = with_image n draft image >>= next
 after n draft next over (End count) = ended n draft count over
 
 -- the copy, from what was read before line n and the pieces from there on
-unfoldable pub read_on : ℕ → DraftValue → List (List ℕ) → Result TabletCopyValue CopyTextFault
-read_on n draft [] = Err Truncated
-read_on n draft (part ∷ []) = Err Truncated
-read_on n draft (line ∷ piece ∷ pieces) =
-    line_at (BadLine n) line >>= after n draft (λ longer. read_on (n + 1) longer (piece ∷ pieces)) (is_over (piece ∷ pieces))
+unfoldable pub read_on : Form → ℕ → DraftValue → List (List ℕ) → Result TabletCopyValue CopyTextFault
+read_on form n draft [] = Err Truncated
+read_on form n draft (part ∷ []) = Err Truncated
+read_on form n draft (line ∷ piece ∷ pieces) =
+    line_at form (BadLine n) line >>= after n draft (λ longer. read_on form (n + 1) longer (piece ∷ pieces)) (is_over (piece ∷ pieces))
 
 -- the copy of a text's pieces
 abbrev pub copy_in : List (List ℕ) → Result TabletCopyValue CopyTextFault
 copy_in [] = Err Truncated
 copy_in (part ∷ []) = Err Truncated
-copy_in (head ∷ piece ∷ pieces) = head_at (BadLine 1) head >>= λ range. read_on 2 (begun range) (piece ∷ pieces)
+copy_in (head ∷ piece ∷ pieces) = head_at (BadLine 1) head >>= λ read. read_on read.0 2 (begun read.1) (piece ∷ pieces)
 
 -- the copy that the text spells, or the fault of the first line that has one
 unfoldable pub copy_at : List ℕ → Result TabletCopyValue CopyTextFault

@@ -13,6 +13,7 @@ use Rattle.pn_record.specs.Reading.{IsLine}
 use Rattle.pn_tablet.specs.Copies.{TabletCopyValue}
 use Rattle.pn_tablet.specs.CopyLines.{IsHead, AreLines}
 use Rattle.pn_tablet.specs.Ranges.{in_range}
+use Rattle.pn_tablet.specs.declared.form.Form.{Form}
 use Rattle.pn_tablet.specs.declared.copy_line.CopyLine.{CopyLine}
 use Rattle.pn_tablet.specs.declared.copy_line.CopyLine.TheVariants.{Mark, Record, End}
 
@@ -36,15 +37,16 @@ mark_line mark = Mark mark.0 mark.1
 abbrev pub lines_after_head : Positions → List Image → List CopyLine
 lines_after_head marks images = map mark_line marks ++ (map Record images ++ End (length marks + length images) ∷ [])
 
--- the text spells the copy: a head, marks whose names rise, images that rise and whose keys lie in the range, and an end
+-- the text spells the copy in one of the forms: a head, marks whose names rise, images that rise and whose keys lie in the range, and an end
 pub record IsCopyText (text : List ℕ) (copy : TabletCopyValue) : Type 0 where
+  pub form : Form
   pub head : List ℕ
   pub lines : List (List ℕ)
   pub images : List Image
   pub text_is : text ≡ text_of (head ∷ lines)
   pub unbroken : All IsUnbroken (head ∷ lines)
-  pub head_is : IsLine IsHead head copy.range
-  pub lines_are : AreLines lines (lines_after_head copy.marks images)
+  pub head_is : IsLine IsHead head (form, copy.range)
+  pub lines_are : AreLines form lines (lines_after_head copy.marks images)
   pub names_rise : IsTrue (is_sorted name_cmp copy.marks)
   pub images_rise : IsTrue (images_rise images)
   pub inside : IsTrue (list_all (λ image. in_range copy.range image.key) images)

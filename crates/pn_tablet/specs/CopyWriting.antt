@@ -11,6 +11,8 @@ use Rattle.pn_record.specs.Writing.{image_data}
 use Rattle.pn_tablet.specs.Copies.{TabletCopyValue}
 use Rattle.pn_tablet.specs.CopyLines.{head_data, mark_data, end_data, IsValue}
 use Rattle.pn_tablet.specs.CopyTexts.{lines_after_head}
+use Rattle.pn_tablet.specs.Forms.{form_of}
+use Rattle.pn_tablet.specs.declared.form.Form.TheVariants.{Numbers}
 use Rattle.pn_tablet.specs.declared.copy_line.CopyLine.{CopyLine}
 use Rattle.pn_tablet.specs.declared.copy_line.CopyLine.TheVariants.{Mark, Record, End}
 
@@ -30,7 +32,7 @@ lines_text says = flat_map (λ line. line_text (line_data line)) says
 
 -- the one spelling of a copy that is written
 abbrev pub copy_text : TabletCopyValue → List ℕ
-copy_text copy = line_text (head_data copy.range) ++ lines_text (lines_after_head copy.marks (spell copy.cells))
+copy_text copy = line_text (head_data (form_of (spell copy.cells), copy.range)) ++ lines_text (lines_after_head copy.marks (spell copy.cells))
 
 -- the value is what its text is read as
 abbrev pub IsReadAgain : Data → Type 0
@@ -45,8 +47,9 @@ pub record IsWritten {A : Type 0} (IsSpelled : Data → A → Type 0) (d : Data)
   pub line : IsLine IsSpelled (compact_text d) meant
   pub unbroken : IsUnbroken (compact_text d)
 
+-- the line may stand in a copy of form 2
 abbrev pub IsWrittenLine : CopyLine → Type 0
-IsWrittenLine line = IsWritten IsValue (line_data line) line
+IsWrittenLine line = IsWritten (IsValue Numbers) (line_data line) line
 
 -- these lines were written, and each is a line of what it means
 abbrev pub WritesLines : List ℕ → List ℕ → List CopyLine → Type 0

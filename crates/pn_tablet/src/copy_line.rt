@@ -7,6 +7,7 @@ ghost use Rattle.pn_record.specs.Prelude.{value_at};
 ghost use Rattle.pn_tablet.specs.CopyLines.{is_end as in_end, is_range, seen_text};
 ghost use Rattle.pn_tablet.specs.CopyLineReading.{end_of as end_spelled, or_as, if_fits, head_in, mark_in, end_in, record_in, line_in, head_at, line_at};
 
+use crate::form::Form;
 use crate::{CopyTextFault, Range};
 use pn_join::{LAST_POSITION, Name, NoMemory, StreamName};
 use pn_json::{check_names, text_of, whole_number_of};
@@ -14,9 +15,6 @@ use pn_record::limits::MAX_KEY_BYTES;
 use pn_record::{Image, ImageFault, Key, KeyFault, image_of, read_value};
 use serde_json::Value;
 use std::alloc::Global;
-
-/// The number of the format, which the head of a copy names.
-pub(crate) const FORMAT: u64 = 1;
 
 /// A line after the head.
 #[derive(Debug, Drop)]
@@ -29,13 +27,13 @@ pub(crate) enum CopyLine {
     End(u64),
 }
 
-/// The range of the head that the line is, or the fault.
+/// The form and the range of the head that the line is, or the fault.
 #[tactic(auto, unfolding(crate::specs::CopyLineReading::head_at))]
 pub(crate) fn read_head(
     alloc: Global,
     line: &[u8],
     fault: CopyTextFault,
-) -> Result<Range, CopyTextFault>
+) -> Result<(Form, Range), CopyTextFault>
     ensures { IsUnless CopyTextFault.Memory result (head_at fault line.now) }
 {
     let value = read_json(alloc, line, fault)?;
@@ -46,13 +44,14 @@ pub(crate) fn read_head(
 #[tactic(auto, unfolding(crate::specs::CopyLineReading::line_at))]
 pub(crate) fn read_line(
     alloc: Global,
+    form: Form,
     line: &[u8],
     fault: CopyTextFault,
 ) -> Result<CopyLine, CopyTextFault>
-    ensures { IsUnless CopyTextFault.Memory result (line_at fault line.now) }
+    ensures { IsUnless CopyTextFault.Memory result (line_at form fault line.now) }
 {
     let value = read_json(alloc, line, fault)?;
-    line_of(alloc, &value, fault)
+    line_of(alloc, form, &value, fault)
 }
 
 // The JSON value of a line, or the fault.
@@ -67,18 +66,21 @@ fn read_json(alloc: Global, line: &[u8], fault: CopyTextFault) -> Result<Value, 
 }
 
 #[tactic(auto, unfolding(crate::specs::CopyLineReading::head_in))]
-fn head_of(alloc: Global, value: &Value, fault: CopyTextFault) -> Result<Range, CopyTextFault>
+fn head_of(
+    alloc: Global,
+    value: &Value,
+    fault: CopyTextFault,
+) -> Result<(Form, Range), CopyTextFault>
     ensures { IsUnless CopyTextFault.Memory result (head_in fault (view value.now)) }
 {
     let members = value.as_object().ok_or(fault)?;
-    let format = whole_number_of(value.get("copy"), fault)?;
+    let number = whole_number_of(value.get("copy"), fault)?;
     let from = end_of(value.get("from"), fault)?;
     let to = end_of(value.get("to"), fault)?;
     check_names(members, &["copy", "from", "to"], fault)?;
-    if format != FORMAT {
-        return Err(fault);
-    }
-    range_of(alloc, from, to, fault)
+    let form = Form::of(number).ok_or(fault)?;
+    let range = range_of(alloc, from, to, fault)?;
+    Ok((form, range))
 }
 
 // An end of a range, borrowed from its value.
@@ -136,15 +138,20 @@ fn key_of(alloc: Global, text: Option<&str>) -> Result<Option<Key>, NoMemory>
 }
 
 #[tactic(auto, unfolding(crate::specs::CopyLineReading::line_in))]
-fn line_of(alloc: Global, value: &Value, fault: CopyTextFault) -> Result<CopyLine, CopyTextFault>
-    ensures { IsUnless CopyTextFault.Memory result (line_in fault (view value.now)) }
+fn line_of(
+    alloc: Global,
+    form: Form,
+    value: &Value,
+    fault: CopyTextFault,
+) -> Result<CopyLine, CopyTextFault>
+    ensures { IsUnless CopyTextFault.Memory result (line_in form fault (view value.now)) }
 {
     if value.get("at").is_some() {
         mark_of(value, fault)
     } else if value.get("end").is_some() {
         end_line_of(value, fault)
     } else {
-        record_of(alloc, value, fault)
+        record_of(alloc, form, value, fault)
     }
 }
 
@@ -173,11 +180,17 @@ fn end_line_of(value: &Value, fault: CopyTextFault) -> Result<CopyLine, CopyText
 }
 
 #[tactic(auto, unfolding(crate::specs::CopyLineReading::record_in))]
-fn record_of(alloc: Global, value: &Value, fault: CopyTextFault) -> Result<CopyLine, CopyTextFault>
-    ensures { IsUnless CopyTextFault.Memory result (record_in fault (view value.now)) }
+fn record_of(
+    alloc: Global,
+    form: Form,
+    value: &Value,
+    fault: CopyTextFault,
+) -> Result<CopyLine, CopyTextFault>
+    ensures { IsUnless CopyTextFault.Memory result (record_in form fault (view value.now)) }
 {
     match image_of(alloc, value) {
-        Ok(image) => Ok(CopyLine::Record(image)),
+        Ok(image) if form.may_hold(&image) => Ok(CopyLine::Record(image)),
+        Ok(_) => Err(fault),
         Err(ImageFault::Memory) => Err(CopyTextFault::Memory),
         Err(_) => Err(fault),
     }

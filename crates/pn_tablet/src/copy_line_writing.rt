@@ -1,30 +1,30 @@
 //! The lines of a copy, each written straight into the text.
 
-ghost use Rattle.std.specs.Prelude.{◌≡◌, ◌∷◌, [], ◌++◌, map, codes, IfOk, OnOk, IsTrue};
+ghost use Rattle.std.specs.Prelude.{◌≡◌, ◌∷◌, [], ◌++◌, IfOk, OnOk, IsTrue};
 ghost use Rattle.std.specs.Option.{option_copied};
-ghost use Rattle.serde_json.specs.Data.{Data, object};
+ghost use Rattle.serde_json.specs.Data.{Data};
 ghost use Rattle.pn_join.specs.Prelude.{is_position};
 ghost use Rattle.pn_json.specs.Prelude.{Appends, member_tokens, value_tokens};
-ghost use Rattle.pn_record.specs.Prelude.{is_image, shown_field, shown_body, body_tokens, field_tokens, fields_data, image_data};
+ghost use Rattle.pn_record.specs.Prelude.{is_image, image_data};
 ghost use Rattle.pn_tablet.specs.CopyLines.{key_data, is_end, head_data, mark_data, end_data, IsHead};
 ghost use Rattle.pn_tablet.specs.CopyWriting.{line_text, IsWritten, WritesValue, WritesLines};
 ghost use Rattle.pn_tablet.specs.Ranges.{are_ends};
 ghost use Rattle.pn_tablet.specs.declared.copy_line.CopyLine.TheVariants.{Mark, Record, End};
 
 use crate::Range;
-use crate::copy_line::FORMAT;
+use crate::form::Form;
 use json::Writer;
 use pn_join::{NoMemory, StreamName};
 use pn_json::{write_null_member, write_number_member, write_text_member};
-use pn_record::{Body, Content, Key, Value, Version, write_version};
+use pn_record::{Content, Key, Version, write_body, write_version};
 
 /// Writes the line of a copy's head.
-pub(crate) fn write_head(text: Vec<u8>, range: &Range) -> Result<Vec<u8>, NoMemory>
-    ensures written { IfOk result (λ new. new.items ≡ text.items ++ line_text (head_data range.now)) }
-    ensures line { OnOk result (IsWritten IsHead (head_data range.now) range.now) }
+pub(crate) fn write_head(text: Vec<u8>, form: Form, range: &Range) -> Result<Vec<u8>, NoMemory>
+    ensures written { IfOk result (λ new. new.items ≡ text.items ++ line_text (head_data (form, range.now))) }
+    ensures line { OnOk result (IsWritten IsHead (head_data (form, range.now)) (form, range.now)) }
 {
     let mut line = Writer::new(text);
-    put_head(&mut line, range)?;
+    put_head(&mut line, form, range)?;
     end_line(line)
 }
 
@@ -75,14 +75,14 @@ fn end_line(line: Writer) -> Result<Vec<u8>, NoMemory>
     Ok(text)
 }
 
-fn put_head(line: &mut Writer, range: &Range) -> Result<(), NoMemory>
-    ensures value { OnOk result (Appends line.old line.new (value_tokens (head_data range.now))) }
+fn put_head(line: &mut Writer, form: Form, range: &Range) -> Result<(), NoMemory>
+    ensures value { OnOk result (Appends line.old line.new (value_tokens (head_data (form, range.now)))) }
     ensures from { OnOk result (IsTrue (is_end range.now.0)) }
     ensures to { OnOk result (IsTrue (is_end range.now.1)) }
     ensures order { OnOk result (IsTrue (are_ends range.now)) }
 {
     line.begin_object()?;
-    write_number_member(line, "copy", FORMAT)?;
+    write_number_member(line, "copy", form.number())?;
     put_key(line, "from", range.from())?;
     put_key(line, "to", range.to())?;
     line.end_object()?;
@@ -121,47 +121,13 @@ fn put_image(
     ensures limits { OnOk result (IsTrue (is_image (record { key = key.now; version = version; content = content.now }))) }
 {
     line.begin_object()?;
-    put_body(line, &content.body)?;
+    write_body(line, &content.body)?;
     write_text_member(line, "key", key.as_str())?;
     write_text_member(line, "master", content.master.as_str())?;
     line.key("version")?;
     write_version(line, version)?;
     line.end_object()?;
     Ok(())
-}
-
-fn put_body(line: &mut Writer, body: &Body) -> Result<(), NoMemory>
-    ensures { OnOk result (Appends line.old line.new (body_tokens (shown_body body.now))) }
-{
-    match body {
-        Body::Fields(fields) => put_fields(line, fields),
-        Body::Deleted => {
-            line.key("deleted")?;
-            line.boolean(true)?;
-            Ok(())
-        }
-    }
-}
-
-fn put_fields(line: &mut Writer, fields: &[(String, Value)]) -> Result<(), NoMemory>
-    ensures { OnOk result (Appends line.old line.new
-        (member_tokens (codes "fields") (object (fields_data (map shown_field fields.now))))) }
-{
-    line.key("fields")?;
-    line.begin_object()?;
-    for field in fields {
-        put_field(line, field)?;
-    }
-    line.end_object()?;
-    Ok(())
-}
-
-fn put_field(line: &mut Writer, field: &(String, Value)) -> Result<(), NoMemory>
-    ensures { OnOk result (Appends line.old line.new (field_tokens (shown_field field.now))) }
-{
-    match &field.1 {
-        Value::Text(text) => write_text_member(line, field.0.as_str(), text.as_str()),
-    }
 }
 
 fn put_end(line: &mut Writer, count: u64) -> Result<(), NoMemory>

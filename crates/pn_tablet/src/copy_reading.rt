@@ -8,6 +8,7 @@ ghost use Rattle.pn_tablet.specs.CopyReading.{pieces_of, read_on, copy_at};
 ghost use Rattle.pn_tablet.specs.CopyTexts.{IsCopyText};
 
 use crate::copy_draft::CopyDraft;
+use crate::form::Form;
 use crate::copy_line::{CopyLine, read_head, read_line};
 use crate::{CopyTextFault, TabletCopy};
 use memchr::memchr;
@@ -36,19 +37,24 @@ fn checked_copy(alloc: Global, text: &[u8]) -> Result<TabletCopy, CopyTextFault>
     let Some((head, rest)) = cut_line(text) else {
         return Err(CopyTextFault::Truncated);
     };
-    let range = read_head(alloc, head, CopyTextFault::BadLine(1))?;
-    read_lines(alloc, CopyDraft::new(alloc, range), rest)
+    let (form, range) = read_head(alloc, head, CopyTextFault::BadLine(1))?;
+    read_lines(alloc, form, CopyDraft::new(alloc, range), rest)
 }
 
 // Reads the lines after the head, from line 2 on.
-fn read_lines(alloc: Global, begun: CopyDraft, text: &[u8]) -> Result<TabletCopy, CopyTextFault>
-    ensures { IsUnless CopyTextFault.Memory result (read_on 2 begun (pieces_of text.now)) }
+fn read_lines(
+    alloc: Global,
+    form: Form,
+    begun: CopyDraft,
+    text: &[u8],
+) -> Result<TabletCopy, CopyTextFault>
+    ensures { IsUnless CopyTextFault.Memory result (read_on form 2 begun (pieces_of text.now)) }
 {
     let mut draft = begun;
     let mut rest = text;
     let mut number = 2;
     'lines: while let Some((line, after)) = cut_line(rest) {
-        match read_line(alloc, line, CopyTextFault::BadLine(number))? {
+        match read_line(alloc, form, line, CopyTextFault::BadLine(number))? {
             CopyLine::Mark(name, position) => draft = draft.with_mark(number, name, position)?,
             CopyLine::Record(image) => draft = draft.with_image(number, image)?,
             CopyLine::End(count) => return draft.ended(number, count, after.is_empty()),

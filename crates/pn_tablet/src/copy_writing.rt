@@ -10,12 +10,13 @@ ghost use Rattle.pn_tablet.specs.declared.copy_line.CopyLine.TheVariants.{Record
 
 use crate::TabletCopy;
 use crate::copy_line_writing::{write_end, write_head, write_image, write_mark};
+use crate::form::form_of;
 use pn_join::{Marks, NoMemory};
 use pn_record::{Cell, Key, Records};
 use std::alloc::Global;
 
-/// The text of a copy: its head, its marks, one line for each content of each record, and its end. It is
-/// read as an equal copy.
+/// The text of a copy: its head, its marks, one line for each content of each record, and its end. It has form 1
+/// where no content holds a number, else form 2, and is read as an equal copy.
 #[tactic(auto, using(crate::proofs::CopyTextFacts::text_again))]
 pub fn write_copy(alloc: Global, copy: &TabletCopy) -> Result<String, NoMemory>
     ensures exact { IfOk result (λ text. string_bytes text ≡ copy_text copy.now) }
@@ -35,7 +36,8 @@ fn write_lines(alloc: Global, copy: &TabletCopy) -> Result<Vec<u8>, NoMemory>
     ensures text { IfOk result (λ text. IsCopyText text.items copy.now) }
     ensures utf8 { IfOk result (λ text. IsUtf8 text.items) }
 {
-    let head = write_head(Vec::new(alloc), &copy.range)?;
+    let form = form_of(&copy.cells);
+    let head = write_head(Vec::new(alloc), form, &copy.range)?;
     let marks = write_marks(head, &copy.marks)?;
     let (cells, images) = write_cells(marks, &copy.cells)?;
     write_end(cells, (copy.marks.len() + images) as u64)

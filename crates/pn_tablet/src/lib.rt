@@ -12,6 +12,7 @@ mod copy_line_writing;
 mod copy_reading;
 mod copy_writing;
 mod fault;
+mod form;
 mod inside;
 pub mod laws;
 mod layout;

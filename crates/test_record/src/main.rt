@@ -1,4 +1,4 @@
-//! Cases of `pn_record`, a line each: `image`, `content`, `version` and `marks` are read and written again; `faults` shows fault texts.
+//! Cases of `pn_record`, a line each: `image`, `content`, `version` and `marks` are read and written again, `value` is described; `faults` shows fault texts.
 //!
 //! In a line `~3~ab~` is `ababab`. `stdout` has what must be answered.
 #![tactic(auto)]
@@ -9,7 +9,7 @@ use pn_record::{ImageFault, KeyFault, Member, read_image, write_image};
 use std::alloc::Global;
 use std::test::Fail;
 use test_kit::{answer_lines, spelled};
-use values::{content, marks, version};
+use values::{content, marks, value, version};
 
 fn main(rt: HostRuntime) -> Result<(), Fail> {
     answer_lines(&rt, |line| answer(rt.alloc(), line))
@@ -20,6 +20,7 @@ fn answer(alloc: Global, line: &str) -> Result<String, Fail> {
     match line.as_str().split_once(' ') {
         Some(("image", text)) => image(alloc, text),
         Some(("content", text)) => content(alloc, text),
+        Some(("value", text)) => value(alloc, text),
         Some(("version", text)) => version(alloc, text),
         Some(("marks", text)) => marks(alloc, text),
         _ => faults(alloc),

@@ -19,7 +19,7 @@ use test_kit::{Pieces, Runs, Stop, Stopping, layout};
 use test_kit_live::{closed, end, hand_back, open_one, opened, take_out};
 
 /// An image, the lines of a session over it, and their replies.
-const IMAGE: &str = r#"{"fields":{"v":"x"},"key":"k","master":"w","version":[1,5]}"#;
+const IMAGE: &str = r#"{"fields":{"n":-7,"v":"x"},"key":"k","master":"w","version":[1,5]}"#;
 
 const LINES: &str = r#"{"do":"read","key":"k"}
 {"do":"get","keys":["k","z"]}
@@ -27,8 +27,8 @@ const LINES: &str = r#"{"do":"read","key":"k"}
 "#;
 
 const REPLIES: &str =
-    r#"{"row":{"contents":[{"fields":{"v":"x"},"master":"w"}],"key":"k","state":"one","version":[1,5]}}
-{"rows":[{"contents":[{"fields":{"v":"x"},"master":"w"}],"key":"k","state":"one","version":[1,5]},null]}
+    r#"{"row":{"contents":[{"fields":{"n":-7,"v":"x"},"master":"w"}],"key":"k","state":"one","version":[1,5]}}
+{"rows":[{"contents":[{"fields":{"n":-7,"v":"x"},"master":"w"}],"key":"k","state":"one","version":[1,5]},null]}
 {"error":"read-only"}
 "#;
 

@@ -8,7 +8,8 @@ from typing import Any
 
 from .errors import ProtocolError
 
-Condition = tuple[str, ...]
+Value = str | int
+Condition = tuple[Value, ...]
 MEMBERS = frozenset(("after", "from", "limit", "to", "where"))
 
 
@@ -17,23 +18,23 @@ def has(field: str) -> Condition:
     return ("has", field)
 
 
-def eq(field: str, value: str) -> Condition:
-    """The field is this text."""
+def eq(field: str, value: Value) -> Condition:
+    """The field is this text, or this number."""
     return ("eq", field, value)
 
 
-def lt(field: str, value: str) -> Condition:
-    """The field is less than this text, by bytes."""
+def lt(field: str, value: Value) -> Condition:
+    """The field is a text less than this one, by bytes, or a number less than this one."""
     return ("lt", field, value)
 
 
-def gt(field: str, value: str) -> Condition:
-    """The field is greater than this text, by bytes."""
+def gt(field: str, value: Value) -> Condition:
+    """The field is a text greater than this one, by bytes, or a number greater than this one."""
     return ("gt", field, value)
 
 
 def prefix(field: str, value: str) -> Condition:
-    """The field begins with this text."""
+    """The field is a text that begins with this one."""
     return ("prefix", field, value)
 
 

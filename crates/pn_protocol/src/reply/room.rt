@@ -3,6 +3,7 @@
 //! All cells are read first, then all fields, then all texts, so that each step loads several pieces at a time.
 
 use pn_join::Name;
+use pn_record::limits::NUMBER_BYTES;
 use pn_record::{Body, Cell, Content, Key, Value};
 use pn_scan::Row;
 use std::sync::atomic::{AtomicUsize, Ordering};
@@ -13,7 +14,7 @@ const OF_ROW: usize = 96;
 /// The bytes of a content without its fields and its master.
 const OF_CONTENT: usize = 32;
 
-/// The bytes of a field without its name and its text.
+/// The bytes of a field without its name and its value.
 const OF_FIELD: usize = 6;
 
 /// The bytes that one memory access loads.
@@ -24,7 +25,7 @@ const CACHE_LINE: usize = 64;
 enum Step {
     /// The contents, for the number of their fields.
     Contents,
-    /// The fields, for the lengths of their names and texts, and the master.
+    /// The fields, for the lengths of their names and values, and the master.
     Fields,
     /// The names and texts, for room for some escapes.
     Texts,
@@ -110,18 +111,28 @@ fn room_of_master(master: &Name) -> usize {
 
 fn lengths_of(fields: &[(String, Value)]) -> usize {
     let mut room = fields.len().wrapping_mul(OF_FIELD);
-    for (name, Value::Text(text)) in fields {
-        room = room.wrapping_add(name.len()).wrapping_add(text.len());
+    for (name, value) in fields {
+        room = room.wrapping_add(name.len()).wrapping_add(length_of(value));
     }
     room
+}
+
+// A number takes at most 20 bytes.
+fn length_of(value: &Value) -> usize {
+    match value {
+        Value::Number(_) => NUMBER_BYTES,
+        Value::Text(text) => text.len(),
+    }
 }
 
 // Reads a byte of each name and of each cache line of each text. Their sum is room for some escapes.
 fn escapes_of(fields: &[(String, Value)]) -> usize {
     let mut seen = 0u8;
-    for (name, Value::Text(text)) in fields {
+    for (name, value) in fields {
         seen |= first_of(name.as_bytes());
-        seen |= lines_of(text.as_bytes());
+        if let Value::Text(text) = value {
+            seen |= lines_of(text.as_bytes());
+        }
     }
     seen as usize
 }

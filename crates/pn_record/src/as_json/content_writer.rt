@@ -4,11 +4,11 @@ ghost use Rattle.std.specs.Prelude.{◌≡◌, map, OnOk};
 ghost use Rattle.serde_json.specs.Data.{array, object};
 ghost use Rattle.serde_json.specs.View.{items_of};
 ghost use Rattle.pn_json.specs.Prelude.{Appends, value_tokens};
-ghost use Rattle.pn_record.specs.Showing.{shown_field, shown_body};
+ghost use Rattle.pn_record.specs.Showing.{shown_ref, shown_field, shown_body};
 ghost use Rattle.pn_record.specs.Tokens.{body_tokens, field_tokens};
-ghost use Rattle.pn_record.specs.Writing.{version_data, content_data, fields_data};
+ghost use Rattle.pn_record.specs.Writing.{value_data, version_data, content_data, fields_data};
 
-use crate::{Body, Content, Value, Version};
+use crate::{Body, Content, Value, ValueRef, Version};
 use json::Writer;
 use pn_join::NoMemory;
 use pn_json::write_text_member;
@@ -48,7 +48,8 @@ pub fn write_content(writer: &mut Writer, content: &Content) -> Result<(), NoMem
     Ok(())
 }
 
-fn write_body(writer: &mut Writer, body: &Body) -> Result<(), NoMemory>
+/// Writes a body as a member: `"fields":{..}` or `"deleted":true`.
+pub fn write_body(writer: &mut Writer, body: &Body) -> Result<(), NoMemory>
     ensures { OnOk result (Appends writer.old writer.new (body_tokens (shown_body body.now))) }
 {
     match body {
@@ -78,7 +79,17 @@ fn write_fields(writer: &mut Writer, fields: &[(String, Value)]) -> Result<(), N
 fn write_field(writer: &mut Writer, field: &(String, Value)) -> Result<(), NoMemory>
     ensures { OnOk result (Appends writer.old writer.new (field_tokens (shown_field field.now))) }
 {
-    match &field.1 {
-        Value::Text(text) => write_text_member(writer, field.0.as_str(), text.as_str()),
+    writer.key(field.0.as_str())?;
+    write_field_value(writer, field.1.as_ref())
+}
+
+/// Writes the value of a field: a number or a text.
+pub fn write_field_value(writer: &mut Writer, value: ValueRef<'_>) -> Result<(), NoMemory>
+    ensures { OnOk result (Appends writer.old writer.new (value_tokens (value_data (shown_ref value.entry)))) }
+{
+    match value {
+        ValueRef::Number(number) => writer.i64(number)?,
+        ValueRef::Text(text) => writer.string(text)?,
     }
+    Ok(())
 }

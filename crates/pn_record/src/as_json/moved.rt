@@ -1,20 +1,20 @@
 //! Images, moved out of parsed values.
 
-ghost use Rattle.std.specs.Prelude.{◌≡◌, map, option_map, string_bytes, Some, Ok, IfOk, IsOk, IsTrue};
+ghost use Rattle.std.specs.Prelude.{◌≡◌, map, Some, option_map, string_bytes, Ok, IfOk, IsOk, IsTrue};
 ghost use Rattle.serde_json.specs.View.{view, members_view};
 ghost use Rattle.pn_json.specs.Prelude.{seen};
 ghost use Rattle.pn_record.specs.Bodies.{names_rise as all_rise};
-ghost use Rattle.pn_record.specs.BodyGrammar.{fields_of};
+ghost use Rattle.pn_record.specs.BodyGrammar.{value_or_empty, fields_of};
 ghost use Rattle.pn_record.specs.Grammar.{image_in};
 ghost use Rattle.pn_record.specs.Limits.{is_key};
 ghost use Rattle.pn_record.specs.Parts.{text_at, numbers_at, fields_at};
 ghost use Rattle.pn_record.specs.Seen.{body_rises};
-ghost use Rattle.pn_record.specs.Showing.{shown_field, shown_body};
+ghost use Rattle.pn_record.specs.Showing.{shown_value, shown_field, shown_body};
 
 use crate::content::Value as FieldValue;
 use crate::{Body, Content, Image, Key, Version, numbers_of};
 use pn_join::{Name, NoMemory};
-use pn_json::member_from;
+use pn_json::{member_from, signed_number_of};
 use serde_json::{Map, Value};
 use std::alloc::Global;
 
@@ -73,9 +73,18 @@ fn fields_from(
 {
     let mut fields = Vec::with_capacity(alloc, members.len())?;
     for (name, value) in members {
-        fields.push((name, FieldValue::Text(text_from(alloc, value))))?;
+        fields.push((name, field_value_from(alloc, value)))?;
     }
     Ok(fields)
+}
+
+fn field_value_from(alloc: Global, value: Value) -> FieldValue
+    ensures { shown_value result ≡ value_or_empty (view value) }
+{
+    match signed_number_of(&value) {
+        Some(number) => FieldValue::Number(number),
+        None => FieldValue::Text(text_from(alloc, value)),
+    }
 }
 
 fn text_from(alloc: Global, value: Value) -> String

@@ -1,15 +1,15 @@
 //! Checks the limits of an image's members in the parsed value.
 
-ghost use Rattle.std.specs.Prelude.{◌≡◌, unwrap_or, []};
-ghost use Rattle.serde_json.specs.Find.{as_str};
+ghost use Rattle.std.specs.Prelude.{◌≡◌};
 ghost use Rattle.serde_json.specs.View.{view, members_view};
 ghost use Rattle.pn_record.specs.Bodies.{fields_fit as all_fit};
-ghost use Rattle.pn_record.specs.BodyGrammar.{fields_of, body_fits as body_in_range};
+ghost use Rattle.pn_record.specs.BodyGrammar.{value_or_empty as value_given, fields_of, body_fits as body_in_range};
 ghost use Rattle.pn_record.specs.Grammar.{ranges_in};
 ghost use Rattle.pn_record.specs.Seen.{seen_fields};
+ghost use Rattle.pn_record.specs.Showing.{shown_ref};
 
 use crate::limits::{MAX_FIELD_BYTES, MAX_FIELDS};
-use crate::{Key, Member, UncheckedImage, Version, is_field};
+use crate::{Key, Member, UncheckedImage, ValueRef, Version, is_field, value_of};
 use pn_join::Name;
 use serde_json::{Map, Value};
 
@@ -54,11 +54,11 @@ fn fields_fit(members: &Map<String, Value>) -> bool
     }
     let mut bytes = 0;
     for (name, value) in members.iter() {
-        let text = field_text(value);
-        if !is_field(name.as_str(), text) {
+        let value = value_or_empty(value);
+        if !is_field(name.as_str(), value) {
             return false;
         }
-        bytes += name.len() + text.len();
+        bytes += name.len() + value.size();
         if bytes > MAX_FIELD_BYTES {
             return false;
         }
@@ -66,8 +66,8 @@ fn fields_fit(members: &Map<String, Value>) -> bool
     true
 }
 
-pub(crate) fn field_text(value: &Value) -> &str
-    ensures { result.now ≡ unwrap_or (as_str (view value.now)) [] }
+pub(crate) fn value_or_empty(value: &Value) -> ValueRef<'_>
+    ensures { shown_ref result ≡ value_given (view value.now) }
 {
-    value.as_str().unwrap_or("")
+    value_of(value).unwrap_or(ValueRef::Text(""))
 }

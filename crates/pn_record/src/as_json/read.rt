@@ -15,7 +15,7 @@ ghost use Rattle.pn_record.specs.Reading.{version_in, value_at, image_at};
 ghost use Rattle.pn_record.specs.Canonical.{IsImage, IsImageLine};
 ghost use Rattle.pn_record.specs.declared.image.Image.{Image as ImageRecord};
 
-use crate::as_json::ranges::field_text;
+use crate::as_json::ranges::value_or_empty;
 use crate::content::Value as FieldValue;
 use crate::{
     Body, Content, Image, ImageFault, Key, Member, UncheckedImage, Version, image_from, numbers_of,
@@ -179,8 +179,8 @@ fn fields_from(
     let mut fields = Vec::with_capacity(alloc, members.len())?;
     for (name, value) in members.iter() {
         let name = String::from_str(alloc, name.as_str())?;
-        let text = String::from_str(alloc, field_text(value))?;
-        fields.push((name, FieldValue::Text(text)))?;
+        let value = value_or_empty(value).to_value(alloc)?;
+        fields.push((name, value))?;
     }
     Ok(fields)
 }

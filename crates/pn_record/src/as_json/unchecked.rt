@@ -4,12 +4,12 @@ ghost use Rattle.std.specs.Prelude.{◌≡◌, string_cmp, IsTrue, IfOk};
 ghost use Rattle.std.specs.BTreeMap.{IsOrdered};
 ghost use Rattle.serde_json.specs.View.{view, items_view, members_view};
 ghost use Rattle.pn_json.specs.Prelude.{seen, member_as, Shows};
-ghost use Rattle.pn_record.specs.BodyGrammar.{all_texts, deleted_in, fields_in};
+ghost use Rattle.pn_record.specs.BodyGrammar.{all_values, deleted_in, fields_in};
 ghost use Rattle.pn_record.specs.Grammar.{numbers_in, two_numbers, shape_in};
 ghost use Rattle.pn_record.specs.Seen.{seen_fields, body_rises};
 ghost use Rattle.pn_record.specs.Writing.{image_data};
 
-use crate::Member;
+use crate::{Member, value_of};
 use pn_json::{check_names, text_of};
 use serde_json::{Map, Value};
 use std::marker::Model;
@@ -90,13 +90,13 @@ fn fields_of<'v>(
     is_deleted: bool,
     value: Option<&'v Value>,
 ) -> Result<Option<&'v Map<String, Value>>, Member>
-    ensures texts { Shows seen_fields result (fields_in is_deleted (seen value.entry)) }
+    ensures shown { Shows seen_fields result (fields_in is_deleted (seen value.entry)) }
     ensures rising { IfOk result (λ fields. IsTrue (body_rises (seen_fields fields))) }
 {
     match (is_deleted, value) {
         (true, None) => Ok(None),
         (false, Some(value)) => match value.as_object() {
-            Some(members) if has_texts_alone(members) => Ok(Some(members)),
+            Some(members) if has_values_alone(members) => Ok(Some(members)),
             _ => Err(Member::Fields),
         },
         _ => Err(Member::Fields),
@@ -109,12 +109,12 @@ fn version_numbers(value: Option<&Value>) -> Result<(u64, u64), Member>
     value.and_then(numbers_of).ok_or(Member::Version)
 }
 
-fn has_texts_alone(members: &Map<String, Value>) -> bool
-    ensures texts { result ≡ all_texts (members_view members.now.entries) }
+fn has_values_alone(members: &Map<String, Value>) -> bool
+    ensures values { result ≡ all_values (members_view members.now.entries) }
     ensures ordered { IsOrdered string_cmp members.now }
 {
     for (_, value) in members.iter() {
-        if !value.is_string() {
+        if value_of(value).is_none() {
             return false;
         }
     }

@@ -6,13 +6,13 @@ ghost use Rattle.serde_json.specs.View.{view};
 ghost use Rattle.serde_json.specs.Written.{compact_text};
 ghost use Rattle.pn_record.specs.Bodies.{names_rise, is_content};
 ghost use Rattle.pn_record.specs.Limits.{is_version};
-ghost use Rattle.pn_record.specs.Showing.{shown_field};
+ghost use Rattle.pn_record.specs.Showing.{shown_ref, shown_field};
 ghost use Rattle.pn_record.specs.Reading.{image_at};
 ghost use Rattle.pn_record.specs.Canonical.{is_image, IsImageLine};
-ghost use Rattle.pn_record.specs.Writing.{version_data, fields_data, content_data, image_data};
+ghost use Rattle.pn_record.specs.Writing.{value_data, version_data, fields_data, content_data, image_data};
 
 use crate::content::Value as FieldValue;
-use crate::{Body, Content, Image, Key, Version};
+use crate::{Body, Content, Image, Key, ValueRef, Version};
 use pn_join::NoMemory;
 use serde_json::{Map, Value, json};
 use std::alloc::Global;
@@ -117,8 +117,17 @@ fn fields_value(alloc: Global, fields: &[(String, FieldValue)]) -> Result<Value,
 {
     let mut members = Map::new(alloc);
     for (name, value) in fields {
-        let text = Value::try_from_str(alloc, value.as_str())?;
-        serde_json::put(&mut members, alloc, name.as_str(), text)?;
+        let value = field_json(alloc, value.as_ref())?;
+        serde_json::put(&mut members, alloc, name.as_str(), value)?;
     }
     Ok(Value::Object(members))
+}
+
+fn field_json(alloc: Global, value: ValueRef<'_>) -> Result<Value, NoMemory>
+    ensures { IfOk result (λ json. view json ≡ value_data (shown_ref value.entry)) }
+{
+    match value {
+        ValueRef::Number(number) => Ok(Value::from(number)),
+        ValueRef::Text(text) => Ok(Value::try_from_str(alloc, text)?),
+    }
 }

@@ -1,7 +1,8 @@
 -- One more field fits and is counted.
-use Rattle.std.proofs.Common.{◌≡◌, true, sym, ◌∙◌, arith}
+use Rattle.std.proofs.Common.{◌≡◌, true, sym, ap, ◌∙◌, arith}
+use Rattle.pn_record.specs.Bodies.{value_size}
 use Rattle.pn_record.specs.Limits.{is_field}
-use Rattle.pn_record.specs.Showing.{shown_field}
+use Rattle.pn_record.specs.Showing.{shown_value, shown_field}
 use Rattle.pn_record.proofs.FieldSteps.{unfit, fit_more, size_more, size_bound}
 use Rattle.pn_record.proofs.content.fields_fit.Goals as goal
 
@@ -16,8 +17,9 @@ loop-field-preserved c =
     let good : is_field (shown_field item) ≡ true = sym c.fits.ensures ∙ c.if-not-fits.false in
     let more = size_more shown_field fields i item c.field-item.is c.loop-field-test.true in
     let bound = size_bound shown_field fields i item c.field-item.is c.loop-field-test.true good in
+    let size : c.size.result ≡ value_size (shown_value item.1) = c.size.ensures ∙ ap value_size c.as_ref.ensures in
     record {
       fit = fit_more shown_field fields i item c.field-item.is c.loop-field-test.true c.loop-field.invariant.fit good;
-      counted = omega arith;
-      bounded = omega arith;
+      counted = omega (arith, size);
+      bounded = omega (arith, size);
     }

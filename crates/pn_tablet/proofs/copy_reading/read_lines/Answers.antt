@@ -13,23 +13,23 @@ pub returns-in_err-name : goal.returns-in_err-name
 returns-in_err-name c =
     handed_on c.from_residual.result _ c.in_err-name.field-0.0 c.from_residual.ensures.1 (λ other.
     c.lines.invariant.reads
-    ∙ read_on-bad c.lines.number c.lines.draft (pieces_of c.lines.rest.now) c.in-Some.line.now c.in-Some.after.now c.in-Some.ensures.0 c.in_err-name.field-0.0 (c.in_err-name.ensures other))
+    ∙ read_on-bad c.args.form c.lines.number c.lines.draft (pieces_of c.lines.rest.now) c.in-Some.line.now c.in-Some.after.now c.in-Some.ensures.0 c.in_err-name.field-0.0 (c.in_err-name.ensures other))
 
 pub with_mark-requires : goal.with_mark-requires
-with_mark-requires c = mark_position (BadLine c.lines.number) c.in-Some.line.now c.in-Mark.name c.in-Mark.position (c.in_ok-name.ensures ∙ ap Ok c.in-Mark.is)
+with_mark-requires c = mark_position c.args.form (BadLine c.lines.number) c.in-Some.line.now c.in-Mark.name c.in-Mark.position (c.in_ok-name.ensures ∙ ap Ok c.in-Mark.is)
 
 pub returns-in_err-draft-in-Mark : goal.returns-in_err-draft-in-Mark
 returns-in_err-draft-in-Mark c =
     handed_on c.from_residual-in_err-draft-in-Mark.result _ c.in_err-draft-in-Mark.field-0.0 c.from_residual-in_err-draft-in-Mark.ensures.1 (λ other.
     c.lines.invariant.reads
-    ∙ read_on-said c.lines.number c.lines.draft (pieces_of c.lines.rest.now) c.in-Some.line.now c.in-Some.after.now c.in-Some.ensures.0 (Mark c.in-Mark.name c.in-Mark.position) (c.in_ok-name.ensures ∙ ap Ok c.in-Mark.is)
+    ∙ read_on-said c.args.form c.lines.number c.lines.draft (pieces_of c.lines.rest.now) c.in-Some.line.now c.in-Some.after.now c.in-Some.ensures.0 (Mark c.in-Mark.name c.in-Mark.position) (c.in_ok-name.ensures ∙ ap Ok c.in-Mark.is)
     ∙ then_err (with_mark c.lines.number c.lines.draft (c.in-Mark.name, c.in-Mark.position)) _ c.in_err-draft-in-Mark.field-0.0 (refused_right c.in_err-draft-in-Mark.field-0.0 _ c.in_err-draft-in-Mark.ensures other))
 
 pub returns-in_err-draft-in-Record : goal.returns-in_err-draft-in-Record
 returns-in_err-draft-in-Record c =
     handed_on c.from_residual-in_err-draft-in-Record.result _ c.in_err-draft-in-Record.field-0.0 c.from_residual-in_err-draft-in-Record.ensures.1 (λ other.
     c.lines.invariant.reads
-    ∙ read_on-said c.lines.number c.lines.draft (pieces_of c.lines.rest.now) c.in-Some.line.now c.in-Some.after.now c.in-Some.ensures.0 (Record c.in-Record.image) (c.in_ok-name.ensures ∙ ap Ok c.in-Record.is)
+    ∙ read_on-said c.args.form c.lines.number c.lines.draft (pieces_of c.lines.rest.now) c.in-Some.line.now c.in-Some.after.now c.in-Some.ensures.0 (Record c.in-Record.image) (c.in_ok-name.ensures ∙ ap Ok c.in-Record.is)
     ∙ then_err (with_image c.lines.number c.lines.draft c.in-Record.image) _ c.in_err-draft-in-Record.field-0.0 (refused_right c.in_err-draft-in-Record.field-0.0 _ c.in_err-draft-in-Record.ensures other))
 
 pub returns-in-End : goal.returns-in-End
@@ -38,7 +38,7 @@ returns-in-End c =
     let over : is_over (pieces_of c.in-Some.after.now) ≡ c.is_empty.result = is_over-pieces_of c.in-Some.after.now ∙ sym empty in
     same_right c.ended.result (ended c.lines.number c.lines.draft c.in-End.count c.is_empty.result) _
     (sym (c.lines.invariant.reads
-    ∙ read_on-said c.lines.number c.lines.draft (pieces_of c.lines.rest.now) c.in-Some.line.now c.in-Some.after.now c.in-Some.ensures.0 (End c.in-End.count) (c.in_ok-name.ensures ∙ ap Ok c.in-End.is)
+    ∙ read_on-said c.args.form c.lines.number c.lines.draft (pieces_of c.lines.rest.now) c.in-Some.line.now c.in-Some.after.now c.in-Some.ensures.0 (End c.in-End.count) (c.in_ok-name.ensures ∙ ap Ok c.in-End.is)
     ∙ ap (ended c.lines.number c.lines.draft c.in-End.count) over))
     (unless_memory _ _ c.ended.ensures)
 
@@ -47,18 +47,18 @@ lines-preserved c = record {
   reads = elim c.match-branch-2.branch [
     | in-Mark+in_ok-draft-in-Mark w ↦
         c.lines.invariant.reads
-        ∙ read_on-said c.lines.number c.lines.draft (pieces_of c.lines.rest.now) c.in-Some.line.now c.in-Some.after.now c.in-Some.ensures.0 (Mark w.in-Mark.name w.in-Mark.position) (c.in_ok-name.ensures ∙ ap Ok w.in-Mark.is)
+        ∙ read_on-said c.args.form c.lines.number c.lines.draft (pieces_of c.lines.rest.now) c.in-Some.line.now c.in-Some.after.now c.in-Some.ensures.0 (Mark w.in-Mark.name w.in-Mark.position) (c.in_ok-name.ensures ∙ ap Ok w.in-Mark.is)
         ∙ then_ok (with_mark c.lines.number c.lines.draft (w.in-Mark.name, w.in-Mark.position)) _ w.in_ok-draft-in-Mark.draft w.in_ok-draft-in-Mark.ensures
-        ∙ ap (λ (d : DraftValue). read_on (c.lines.number + 1) d (pieces_of c.in-Some.after.now)) (sym w.draft-is)
+        ∙ ap (λ (d : DraftValue). read_on c.args.form (c.lines.number + 1) d (pieces_of c.in-Some.after.now)) (sym w.draft-is)
     | in-Record+in_ok-draft-in-Record w ↦
         c.lines.invariant.reads
-        ∙ read_on-said c.lines.number c.lines.draft (pieces_of c.lines.rest.now) c.in-Some.line.now c.in-Some.after.now c.in-Some.ensures.0 (Record w.in-Record.image) (c.in_ok-name.ensures ∙ ap Ok w.in-Record.is)
+        ∙ read_on-said c.args.form c.lines.number c.lines.draft (pieces_of c.lines.rest.now) c.in-Some.line.now c.in-Some.after.now c.in-Some.ensures.0 (Record w.in-Record.image) (c.in_ok-name.ensures ∙ ap Ok w.in-Record.is)
         ∙ then_ok (with_image c.lines.number c.lines.draft w.in-Record.image) _ w.in_ok-draft-in-Record.draft w.in_ok-draft-in-Record.ensures
-        ∙ ap (λ (d : DraftValue). read_on (c.lines.number + 1) d (pieces_of c.in-Some.after.now)) (sym w.draft-is)
+        ∙ ap (λ (d : DraftValue). read_on c.args.form (c.lines.number + 1) d (pieces_of c.in-Some.after.now)) (sym w.draft-is)
   ];
   some = omega (arith, c.lines.invariant.some);
   within = omega (arith, c.in-Some.ensures.1, c.lines.invariant.within);
 }
 
 pub returns : goal.returns
-returns c = λ other. c.lines.invariant.reads ∙ read_on-last c.lines.number c.lines.draft (pieces_of c.lines.rest.now) c.lines.rest.now c.in_default.ensures
+returns c = λ other. c.lines.invariant.reads ∙ read_on-last c.args.form c.lines.number c.lines.draft (pieces_of c.lines.rest.now) c.lines.rest.now c.in_default.ensures

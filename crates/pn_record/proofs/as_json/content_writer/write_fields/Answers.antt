@@ -5,9 +5,8 @@ use Rattle.std.proofs.lemmas.List.{take_all}
 use Rattle.pn_record.specs.Showing.{shown_field}
 use Rattle.pn_record.specs.Tokens.{field_tokens}
 use Rattle.pn_json.proofs.TokenLists.{appends_none, appends_token, appends_both, appends_as, whole_object, one_more}
-use Rattle.serde_json.specs.Data.{string}
 use Rattle.pn_record.specs.Limits.{Field}
-use Rattle.pn_record.specs.Writing.{fields_data}
+use Rattle.pn_record.specs.Writing.{value_data, fields_data}
 use Rattle.pn_record.proofs.as_json.content_writer.write_fields.Goals as goal
 
 pub loop-field-init : goal.loop-field-init
@@ -22,4 +21,4 @@ pub returns : goal.returns
 returns c =
     let fields = c.args.fields.now in
     let all = ap (λ fs. flat_map field_tokens (map shown_field fs)) (take_all c.loop-field.field-index fields c.loop-field-test.false) in
-    whole_object (λ (f : Field). f.0) (λ (f : Field). string f.1) fields_data refl (λ f fs. refl) (map shown_field fields) (appends_token c.in_ok-begin_object.ensures) (appends_as all c.loop-field.invariant) (appends_token c.in_ok-end_object.ensures)
+    whole_object (λ (f : Field). f.0) (λ (f : Field). value_data f.1) fields_data refl (λ f fs. refl) (map shown_field fields) (appends_token c.in_ok-begin_object.ensures) (appends_as all c.loop-field.invariant) (appends_token c.in_ok-end_object.ensures)

@@ -1,9 +1,0 @@
--- What is left is texts alone exactly where all is.
-use Rattle.std.proofs.Common.{◌≡◌}
-use Rattle.serde_json.specs.View.{members_view}
-use Rattle.pn_record.specs.BodyGrammar.{all_texts}
-use Rattle.pn_record.proofs.as_json.unchecked.has_texts_alone.Given as goal
-
-abbrev pub invariant-loop-value : goal.invariant-loop-value
-invariant-loop-value l =
-    all_texts (members_view l.value-iterator) ≡ all_texts (members_view l.members.entries)
