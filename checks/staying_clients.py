@@ -10,7 +10,7 @@ import struct
 import time
 from collections.abc import Callable, Iterator
 
-from served import SECONDS, Client, row_of, same, written
+from served import SECONDS, Client, Served, row_of, same, written
 from staying import CHUNK, KEYS, PAGE, Beside, Staying, Swarm, feed, key_of, messages, until
 
 IDLE, BUSY, TURNS = 10_000, 256, 20_000
@@ -155,14 +155,19 @@ def flood(is_over: Callable[[], bool], port: int, line: bytes, most: int = 0) ->
             same("how many lines of a connection are answered", replies, 1_000_000)
 
 
+def deaf_client(port: int) -> socket.socket:
+    """A connection for a client that reads nothing. What it holds for it is little."""
+    client = socket.socket()
+    client.setsockopt(socket.SOL_SOCKET, socket.SO_RCVBUF, ROOM_BYTES)
+    client.connect(("127.0.0.1", port))
+    client.setblocking(False)
+    return client
+
+
 def never_read(is_over: Callable[[], bool], port: int) -> None:
-    """Clients that send pages until no more is taken, and read nothing. What their sockets hold is little."""
+    """Clients that send pages until no more is taken, and read nothing."""
     with contextlib.ExitStack() as stay:
-        clients = [stay.enter_context(socket.socket()) for _ in range(NEVER_READING)]
-        for client in clients:
-            client.setsockopt(socket.SOL_SOCKET, socket.SO_RCVBUF, ROOM_BYTES)
-            client.connect(("127.0.0.1", port))
-            client.setblocking(False)
+        clients = [stay.enter_context(deaf_client(port)) for _ in range(NEVER_READING)]
         while not is_over():
             for client in clients:
                 with contextlib.suppress(BlockingIOError):
@@ -235,16 +240,16 @@ def check_misbehaving(program: str, room: str) -> None:
 
 
 def check_silent(program: str, room: str) -> None:
-    """With --idle, clients that send nothing or half a line, or take nothing, are ended; those that ask or take are not."""
+    """With --idle, clients that send nothing or half a line, or take nothing, are ended; those that ask or take are not. So is a session."""
     east = written(room, "east", messages(1, 1_000, "x" * 1_000))
     with Staying(program, room, [("east", east)], "--idle", "1") as region, contextlib.ExitStack() as stay:
         stay.enter_context(Client(region.port)).wait_for("k000", row_of("k000", 10, "x" * 1_000))
-        silent, half, deaf, slow, honest = (stay.enter_context(Client(region.port)) for _ in range(5))
+        silent, half, slow, honest = (stay.enter_context(Client(region.port)) for _ in range(4))
         half.send(PAGE[:20])
-        deaf.socket.setblocking(False)
+        deaf = stay.enter_context(deaf_client(region.port))
         with contextlib.suppress(BlockingIOError):
             for _ in range(10_000):
-                deaf.socket.send(PAGE * 100)
+                deaf.send(PAGE * 100)
         start, slowly = time.monotonic(), 0
         slow.send(PAGE * 200)
         while time.monotonic() < start + 4:
@@ -254,7 +259,11 @@ def check_silent(program: str, room: str) -> None:
         same("what a silent one is sent", silent.reply(), b"")
         same("what one with half a line is sent", half.reply(), b"")
         same("the slow one was sent something", slowly > CHUNK, True)
-        until("one that takes nothing is ended", lambda: has_ended(deaf.socket), 20)
+        until("one that takes nothing is ended", lambda: has_ended(deaf), 20)
+    with Served(program, [("east", east)], words=["--idle", "1"]) as served, Client(served.port) as client:
+        client.wait_for("k000", row_of("k000", 10, "x" * 1_000))
+        same("what the silent client of a session is sent", client.reply(), b"")
+        same("how it ends", served.end(), (0, b"served 1\n", b""))
 
 
 def has_ended(connection: socket.socket) -> bool:

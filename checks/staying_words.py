@@ -135,6 +135,18 @@ def check_progress_to_a_file(program: str, room: str) -> None:
         same("a client's line is a change", len(region.said()) > len(before), True)
 
 
+def check_progress_of_sessions(program: str, room: str) -> None:
+    """Without --stay too, until the sessions have ended."""
+    east = written(room, "east", messages(1, KEYS))
+    with Served(program, [("east", east)], words=["--progress"]) as served, Client(served.port) as client:
+        client.wait_for("k001", row_of("k001", 0, "x"))
+        time.sleep(2.5)
+        client.end()
+        status, shown, said = served.end()
+    same("how it ends", (status, shown), (0, b"served 1\n"))
+    same(f"it says that all of the stream was taken: {said!r}", b"pnuts: east %d (" % KEYS in said, True)
+
+
 class Terminal:
     """A terminal's two ends, and what was written to it."""
 
