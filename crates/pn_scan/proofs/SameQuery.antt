@@ -1,11 +1,10 @@
 -- A value has the shape of a query exactly where its members are those of the query.
-use Rattle.std.proofs.Common.{◌≡◌, ◌↔◌, ◌⊎◌, inl, inr, ℕ, true, ◌&&◌, cond, List, [], length, nat_le, codes, Option, Some, None, Ok, Err, IsTrue, refl, sym, ap, ◌∙◌}
+use Rattle.std.proofs.Common.{◌≡◌, ◌↔◌, inl, inr, ℕ, true, ◌&&◌, cond, List, [], length, nat_le, codes, Option, Some, None, Ok, Err, IsTrue, refl, sym, ap, ◌∙◌}
 use Rattle.std.specs.List.{list_all}
 use Rattle.std.specs.Option.{ok_or}
 use Rattle.std.proofs.lemmas.Bool.{and_parts}
 use Rattle.serde_json.specs.Data.{Data, null, boolean, number, string, array, object, unsigned, Members}
 use Rattle.serde_json.specs.Find.{get, get_member, as_object}
-use Rattle.pn_json.specs.Answers.{◌>>=◌}
 use Rattle.pn_json.specs.Members.{whole_number, only_named, no_others}
 use Rattle.pn_json.proofs.Inverses.{bind_ok, guard_ok, ok_or_ok, object_from_as_object, number_from_whole}
 use Rattle.pn_scan.specs.Queries.{ConditionValue, QueryValue, is_end, is_limit, is_condition, max_conditions, query_fits, is_query, operand_fits}
