@@ -12,7 +12,7 @@ use Rattle.json.specs.Tree as tree
 use Rattle.json.specs.Lex.{tokens}
 use Rattle.json.proofs.Printed.Trees.{value-json_tokens}
 use Rattle.serde_json.specs.Data.{Data, null, boolean, number, string, array, object, Items, no_items, item, Members, no_members, member, depth, items_depth, members_depth, put}
-use Rattle.serde_json.specs.Read.{of_json, of_members, read, max_depth}
+use Rattle.serde_json.specs.Read.{of_members, read, max_depth}
 use Rattle.serde_json.specs.Written.{outline, items_outline, members_outline}
 use Rattle.serde_json.proofs.Numbers.{number_of-decimal}
 use Rattle.pn_record.specs.declared.image.Image.{Image}

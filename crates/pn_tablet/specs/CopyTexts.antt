@@ -37,7 +37,7 @@ mark_line mark = Mark mark.0 mark.1
 abbrev pub lines_after_head : Positions → List Image → List CopyLine
 lines_after_head marks images = map mark_line marks ++ (map Record images ++ End (length marks + length images) ∷ [])
 
--- the text spells the copy in one of the forms: a head, marks whose names rise, images that rise and whose keys lie in the range, and an end
+-- the text spells the copy in a form: a head, marks whose names rise, images that rise and whose keys lie in the range, and an end
 pub record IsCopyText (text : List ℕ) (copy : TabletCopyValue) : Type 0 where
   pub form : Form
   pub head : List ℕ

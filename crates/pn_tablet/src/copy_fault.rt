@@ -12,7 +12,7 @@ pub enum CopyTextFault {
     /// The text ends before the newline of its end line.
     #[error("the text of the copy is truncated")]
     Truncated,
-    /// The line is too long, or not allowed at its place.
+    /// The line is too long, not allowed at its place, or has a number in a copy of form 1.
     #[error("line {0} of the copy is bad")]
     BadLine(u64),
     /// The key of the line's image is not in the range of the head.

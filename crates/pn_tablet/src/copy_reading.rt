@@ -16,8 +16,9 @@ use std::alloc::Global;
 
 /// The copy that a text spells, read in one pass. It takes the memory of the copy and of one line.
 ///
-/// The first faulty line decides: `BadLine` above 65,536 bytes, out of place or out of its limits, `OutsideRange`,
-/// `NotRising`, `BadEnd`. `Truncated` where the text ends before, which `Memory` never replaces where it has no newline.
+/// The first faulty line decides: `BadLine` above 65,536 bytes, out of place, out of its limits or with a number in
+/// form 1, `OutsideRange`, `NotRising`, `BadEnd`. `Truncated` where the text ends before, which `Memory` never
+/// replaces where it has no newline.
 pub fn read_copy(alloc: Global, text: &[u8]) -> Result<TabletCopy, CopyTextFault>
     ensures found { IfOk result (λ copy. IsCopyText text.now copy) }
     ensures only { (copy : TabletCopyValue) → IsCopyText text.now copy → IsUnless CopyTextFault.Memory result (Ok copy) }

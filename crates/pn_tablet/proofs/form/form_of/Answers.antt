@@ -6,7 +6,6 @@ use Rattle.pn_record.specs.Cells.{spell}
 use Rattle.pn_record.specs.CellMap.{Entries}
 use Rattle.pn_record.specs.Numbers.{holds_number}
 use Rattle.pn_record.specs.Sets.{CellValue}
-use Rattle.pn_tablet.specs.declared.form.Form.{Form}
 use Rattle.pn_tablet.specs.declared.form.Form.TheVariants.{Texts, Numbers}
 use Rattle.pn_tablet.proofs.FormLines.{holds, cell_holds}
 use Rattle.pn_tablet.proofs.form.form_of.Goals as goal
