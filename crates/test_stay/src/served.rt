@@ -2,12 +2,12 @@
 
 use crate::shown;
 use crate::talks::{At, talk};
-use pn_join::{Name, NoMemory};
+use pn_join::{BadName, Name, NoMemory};
 use pn_line::InMemory;
 use pn_serve::{Feed, Origin, Settings, serve};
 use pn_stay::{House, Listener, StayingServer, Watch};
 use pn_stream::StreamReader;
-use std::alloc::Global;
+use std::alloc::{AllocError, Global};
 use std::fs::Files;
 use std::net::{IpAddr, Ipv4Addr, Net, TcpListener, TcpStream};
 use std::sync::{Arc, Wait};
@@ -41,7 +41,7 @@ fn settings(alloc: Global) -> Result<Settings, NoMemory> {
     Settings::new(layout, 1).ok_or(NoMemory)
 }
 
-fn stream(alloc: Global) -> Result<StreamReader<InMemory<'static>>, Fail> {
+fn stream(alloc: Global) -> Result<StreamReader<InMemory<'static>>, BadName> {
     let source = InMemory::new(FIRST.as_bytes());
     Ok(StreamReader::new(alloc, Name::read(b"east")?, 0, source))
 }
@@ -70,7 +70,7 @@ fn leave<R: Files>(rt: &R, place: &str) -> io::Result<()> {
     Ok(())
 }
 
-fn house_of(alloc: Global, listener: Listener, idle: u32) -> Result<House, Fail> {
+fn house_of(alloc: Global, listener: Listener, idle: u32) -> Result<House, AllocError> {
     Ok(House {
         listener,
         idle: Some(idle),
@@ -140,11 +140,12 @@ where
     let house = house_of(alloc, listener, 1).ok()?;
     let mut feeds = Vec::with_capacity(alloc, 1).ok()?;
     let stream = stream(alloc).ok()?;
-    feeds.push(Feed {
-        stream,
-        origin: Once,
-    })
-    .ok()?;
+    feeds
+        .push(Feed {
+            stream,
+            origin: Once,
+        })
+        .ok()?;
     let rounds = Arc::try_clone(&house.watch.rounds).ok()?;
     let settings = settings(alloc).ok()?;
     let mut server = StayingServer::start(rt, alloc, house, settings, 2, 16).ok()?;

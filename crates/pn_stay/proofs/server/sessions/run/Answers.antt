@@ -2,5 +2,5 @@
 use Rattle.pn_serve.proofs.Knowing.{knows_itself}
 use Rattle.pn_stay.proofs.server.sessions.run.Goals as goal
 
-pub returns-in_err-new : goal.returns-in_err-new
-returns-in_err-new g c = knows_itself _
+pub returns-in_err-begun : goal.returns-in_err-begun
+returns-in_err-begun g c = knows_itself _
