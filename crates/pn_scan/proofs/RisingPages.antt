@@ -10,8 +10,8 @@ use Rattle.pn_tablet.specs.Layouts.{Bounds, IsLayout}
 use Rattle.pn_tablet.specs.Ranges.{is_from, is_before}
 use Rattle.pn_scan.specs.Queries.{QueryValue}
 use Rattle.pn_scan.specs.Shown.{is_after, is_shown, has_shown, shown_rows}
-use Rattle.pn_scan.specs.Candidates.{Look, cells_in, rows_in, is_candidate, visited}
-use Rattle.pn_scan.specs.Pages.{PageValue, first_refusal, first_page}
+use Rattle.pn_scan.specs.Candidates.{Look, cells_in, is_candidate}
+use Rattle.pn_scan.specs.Pages.{PageValue}
 use Rattle.pn_scan.specs.Visits.{IsVisit}
 use Rattle.pn_scan.specs.Walks.{IsSomePage, ArePages, rows_of}
 use Rattle.pn_scan.proofs.Continuing.{Row, last_above, third_true, after_too, rising_kept}

@@ -1,11 +1,10 @@
 -- A value has the shape of a query exactly where its members are those of the query.
-use Rattle.std.proofs.Common.{◌≡◌, ◌↔◌, ◌⊎◌, inl, inr, ℕ, true, ◌&&◌, cond, List, [], length, nat_le, codes, Option, Some, None, Ok, Err, IsTrue, refl, sym, ap, ◌∙◌}
+use Rattle.std.proofs.Common.{◌≡◌, ◌↔◌, inl, inr, ℕ, true, ◌&&◌, cond, List, [], length, nat_le, codes, Option, Some, None, Ok, Err, IsTrue, refl, sym, ap, ◌∙◌}
 use Rattle.std.specs.List.{list_all}
 use Rattle.std.specs.Option.{ok_or}
 use Rattle.std.proofs.lemmas.Bool.{and_parts}
 use Rattle.serde_json.specs.Data.{Data, null, boolean, number, string, array, object, unsigned, Members}
 use Rattle.serde_json.specs.Find.{get, get_member, as_object}
-use Rattle.pn_json.specs.Answers.{◌>>=◌}
 use Rattle.pn_json.specs.Members.{whole_number, only_named, no_others}
 use Rattle.pn_json.proofs.Inverses.{bind_ok, guard_ok, ok_or_ok, object_from_as_object, number_from_whole}
 use Rattle.pn_scan.specs.Queries.{ConditionValue, QueryValue, is_end, is_limit, is_condition, max_conditions, query_fits, is_query, operand_fits}
@@ -77,6 +76,7 @@ shape_found d query is =
     let named = bind_ok (no_others query_members BadShape members.0) _ query conditions.2 in
     let made : record { from = from.0; to = to.0; after = after.0; conditions = conditions.0; limit = limit.0 } ≡ query = cc named.2 in
     let whole : d ≡ object members.0 = object_from_as_object d members.0 (ok_or_ok (as_object d) BadShape members.0 members.1) in
+    let given = where_found _ conditions.0 (ap (λ d. conditions_in (get (codes "where") d)) (sym whole) ∙ conditions.1) in
     rw (← made) (
       members.0,
       whole,
@@ -85,7 +85,8 @@ shape_found d query is =
       key_found _ from.0 (ap (λ d. key_in (get (codes "from") d)) (sym whole) ∙ from.1),
       limit_found _ limit.0 (ap (λ d. limit_in (get (codes "limit") d)) (sym whole) ∙ limit.1),
       key_found _ to.0 (ap (λ d. key_in (get (codes "to") d)) (sym whole) ∙ to.1),
-      where_found _ conditions.0 (ap (λ d. conditions_in (get (codes "where") d)) (sym whole) ∙ conditions.1),
+      given.0,
+      given.1,
     )
 
 shape_again : (d : Data) (query : QueryValue) → IsObjectOf d query → shape_in d ≡ Ok query

@@ -1,5 +1,5 @@
 -- The JSON of queries.
-use Rattle.std.specs.Prelude.{ℕ, List, [], ◌∷◌, map, codes, Option, Some, None}
+use Rattle.std.specs.Prelude.{ℕ, List, ◌∷◌, map, codes, Option, Some, None}
 use Rattle.std.specs.Option.{option_to_list}
 use Rattle.serde_json.specs.Data.{Data, null, number, string, array, object, unsigned, no_members, member}
 use Rattle.serde_json.specs.View.{items_of}

@@ -47,8 +47,10 @@ fn is_condition(condition: &Condition) -> bool
         Condition::Eq { field, value } => is_field(field.as_str(), value.as_ref()),
         Condition::Lt { field, value } => is_field(field.as_str(), value.as_ref()),
         Condition::Gt { field, value } => is_field(field.as_str(), value.as_ref()),
-        Condition::Prefix { field, value } =>
-            is_field(field.as_str(), ValueRef::Text(value.as_str())),
+        Condition::Prefix { field, value } => is_field(
+            field.as_str(),
+            ValueRef::Text(value.as_str()),
+        ),
     }
 }
 

@@ -78,11 +78,7 @@ fn lone<'v>(word: &str, field: &'v str) -> Option<UncheckedCondition<'v>>
     }
 }
 
-fn comparing<'v>(
-    word: &str,
-    field: &'v str,
-    value: ValueRef<'v>,
-) -> Option<UncheckedCondition<'v>>
+fn comparing<'v>(word: &str, field: &'v str, value: ValueRef<'v>) -> Option<UncheckedCondition<'v>>
     ensures { result ≡ comparing_of word.now field.now (shown_ref value.entry) }
 {
     let asked = match (word, value) {

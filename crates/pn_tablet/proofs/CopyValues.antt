@@ -83,6 +83,9 @@ module _ {F : Type 0} (fault : F) where
   head_again : (d : Data) (head : Head) → IsHead d head → head_in fault d ≡ Ok head
   head_again d head is = ap (head_in fault) is.value ∙ head_again_of head.0 head.1.0 head.1.1 is.limits
 
+  head_says : (form : Form) (ends range : Ends) (head : Head) → ends ≡ range → ◌≡◌ {A = Result Head F} (Ok (form, range)) (Ok head) → ◌≡◌ {A = Head} (form, ends) head
+  head_says form ends range head same is = let whole : ◌≡◌ {A = Head} (form, range) head = cc in ap (λ (r : Ends). (form, r)) same ∙ whole
+
   head_found : (d : Data) (head : Head) → InOrder d → head_in fault d ≡ Ok head → IsHead d head
   unfolding head_in
   head_found d head order is =
@@ -95,8 +98,7 @@ module _ {F : Type 0} (fault : F) where
       let form = bind_ok (ok_or (form_at at_copy.0) fault) _ head named.2 in
       let range = bind_ok (if_fits (is_range (from.0, to.0)) fault (from.0, to.0)) _ head form.2 in
       let fits = guard_ok (is_range (from.0, to.0)) (from.0, to.0) range.0 fault range.1 in
-      let same_head : ◌≡◌ {A = Head} (form.0, range.0) head = cc range.2 in
-      let says : ◌≡◌ {A = Head} (form.0, (from.0, to.0)) head = ap (λ (r : Ends). (form.0, r)) fits.1 ∙ same_head in
+      let says = head_says form.0 (from.0, to.0) range.0 head fits.1 range.2 in
       let ms = members.0 in
       let whole : d ≡ object ms = object_from_as_object d ms (ok_or_ok (as_object d) fault ms members.1) in
       let n_is : at_copy.0 ≡ form_number form.0 = form_found at_copy.0 form.0 (ok_or_ok (form_at at_copy.0) fault form.0 form.1) in

@@ -54,7 +54,7 @@ module _ {F : Type 0} (fault : F) where
       then_only (member_as end_of fault (get (codes "to") d)) _ (ok_or-only (option_and_then end_of (get (codes "to") d))) (λ to.
       then_only (no_others names fault members) _ (if_only (only_named names members) tt) (λ named.
       then_only (ok_or (form_at number) fault) _ (ok_or-only (form_at number)) (λ form.
-      then_only (if_fits (is_range (from, to)) fault (from, to)) (λ range. Ok (form, range)) (if_only (is_range (from, to)) (from, to)) (λ range. tt))))))))
+      then_only (if_fits (is_range (from, to)) fault (from, to)) (λ range. Ok (form, range)) (if_only (is_range (from, to)) (from, to)) (λ range. tt)))))))
 
   mark_only : (d : Data) → IsOnly fault (mark_in fault d)
   unfolding mark_in

@@ -8,8 +8,8 @@ ghost use Rattle.pn_tablet.specs.CopyReading.{pieces_of, read_on, copy_at};
 ghost use Rattle.pn_tablet.specs.CopyTexts.{IsCopyText};
 
 use crate::copy_draft::CopyDraft;
-use crate::form::Form;
 use crate::copy_line::{CopyLine, read_head, read_line};
+use crate::form::Form;
 use crate::{CopyTextFault, TabletCopy};
 use memchr::memchr;
 use std::alloc::Global;

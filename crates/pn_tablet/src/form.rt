@@ -54,7 +54,7 @@ impl Form {
 pub(crate) fn form_of(cells: &Records) -> Form
     ensures { result ≡ written_form (spell cells.now) }
 {
-    for (_, cell) in cells.iter() {
+    for (_key, cell) in cells.iter() {
         if holds_number(cell) {
             return Form::Numbers;
         }
@@ -65,7 +65,5 @@ pub(crate) fn form_of(cells: &Records) -> Form
 fn holds_number(cell: &Cell) -> bool
     ensures { result ≡ list_any content_holds_number (keys cell.now.1) }
 {
-    cell.contents()
-        .iter()
-        .any(|content| content.holds_number())
+    cell.contents().iter().any(|content| content.holds_number())
 }

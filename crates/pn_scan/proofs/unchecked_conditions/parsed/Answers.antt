@@ -1,10 +1,7 @@
 -- One value more is a condition, or one is none; at the end all are.
-use Rattle.std.proofs.Common.{◌≡◌, ◌∷◌, [], ◌++◌, map, length, nat_le, take, Option, Some, None, sym, ap, ◌∙◌, subst, arith, rules}
-use Rattle.std.proofs.lemmas.List.{take_all}
-use Rattle.std.specs.Option.{MatchOption}
-use Rattle.pn_scan.specs.Queries.{ConditionValue, max_conditions, shown_condition}
-use Rattle.pn_scan.specs.UncheckedQueries.{conditions_among, are_conditions, all_fit}
-use Rattle.pn_scan.proofs.ConditionLists.{bad_at, one_more_is, one_more_fits, one_more_among, one_more_shown, same_parsed}
+use Rattle.std.proofs.Common.{length, nat_le, sym, ◌∙◌, arith}
+use Rattle.pn_scan.specs.Queries.{max_conditions}
+use Rattle.pn_scan.proofs.ConditionLists.{bad_at, one_more_is, one_more_fits, one_more_shown, same_parsed}
 use Rattle.pn_scan.proofs.unchecked_conditions.parsed.Goals as goal
 
 pub loop-value-preserved : goal.loop-value-preserved

@@ -1,5 +1,5 @@
 -- The values so far are conditions, which keep the limits or not, and those that were made are they.
-use Rattle.std.proofs.Common.{◌≡◌, ◌&&◌, nat_le, map, length, take, option_map, IsTrue, IfSome}
+use Rattle.std.proofs.Common.{◌≡◌, ◌&&◌, nat_le, map, length, take, IsTrue, IfSome}
 use Rattle.pn_scan.specs.Queries.{max_conditions, shown_condition}
 use Rattle.pn_scan.specs.UncheckedQueries.{conditions_among, are_conditions, all_fit}
 use Rattle.pn_scan.proofs.unchecked_conditions.parsed.Given as goal

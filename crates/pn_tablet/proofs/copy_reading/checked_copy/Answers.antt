@@ -14,7 +14,7 @@ returns-in_err-form-clause-exact c =
 pub returns-clause-exact : goal.returns-clause-exact
 returns-clause-exact c =
     same_right c.read_lines.result (read_on c.in_ok-form.form 2 c.new.result (pieces_of c.in-Some.rest.now)) _
-    (sym (copy_at-begun c.args.text.now c.in-Some.head.now c.in-Some.rest.now c.in-Some.ensures.0 c.in_ok-form.field-0 c.in_ok-form.ensures
+    (sym (copy_at-begun c.args.text.now c.in-Some.head.now c.in-Some.rest.now c.in-Some.ensures.0 (c.in_ok-form.form, c.in_ok-form.range) c.in_ok-form.ensures
     ∙ ap (λ (d : DraftValue). read_on c.in_ok-form.form 2 d (pieces_of c.in-Some.rest.now)) (sym c.new.ensures)))
     c.read_lines.ensures
 

@@ -1,5 +1,5 @@
 -- The head, the marks, the images and the end are the whole text.
-use Rattle.std.proofs.Common.{rules, arith, ℕ, ◌+◌, ◌<◌, ◌≤◌, ◌^◌, ◌∷◌, ◌++◌, [], List, length, IsUtf8, ap, sym, ◌∙◌, subst}
+use Rattle.std.proofs.Common.{rules, arith, ◌≡◌, ℕ, ◌+◌, ◌<◌, ◌≤◌, ◌^◌, ◌∷◌, ◌++◌, [], List, length, IsUtf8, ap, sym, ◌∙◌, subst}
 use Rattle.std.proofs.lemmas.Result.{IfOk-weaker}
 use Rattle.pn_record.specs.Cells.{spell}
 use Rattle.pn_tablet.specs.Copies.{TabletCopyValue}
@@ -24,7 +24,7 @@ overflow_add-len c =
 pub returns-clause-exact : goal.returns-clause-exact
 returns-clause-exact c =
     let copy : TabletCopyValue = record { range = c.copy.inside.range; marks = c.copy.inside.marks; cells = c.copy.inside.cells } in
-    let head = c.in_ok-head.ensures.written ∙ (λ i. c.new.ensures.items i ++ line_text (head_data (c.form_of.ensures i, copy.range))) in
+    let head = c.in_ok-head.ensures.written ∙ (λ i. c.new.ensures.items i ++ line_text (head_data (c.form_of-form.ensures i, copy.range))) in
     IfOk-weaker c.write_end.result _ _ (λ text line.
     (parts_written copy _ _ _ text.items head c.in_ok-marks.ensures c.in_ok-cells.ensures.written
     (subst (λ (n : ℕ). WritesLines c.in_ok-cells.cells.items text.items (End n ∷ [])) (λ i. c.len.ensures.count i + c.in_ok-cells.ensures.count i) line)).0 ∙ ap copy_text c.copy.view_is) c.write_end.ensures
@@ -32,18 +32,18 @@ returns-clause-exact c =
 pub returns-clause-text : goal.returns-clause-text
 returns-clause-text c =
     let copy : TabletCopyValue = record { range = c.copy.inside.range; marks = c.copy.inside.marks; cells = c.copy.inside.cells } in
-    let head = c.in_ok-head.ensures.written ∙ (λ i. c.new.ensures.items i ++ line_text (head_data (c.form_of.ensures i, copy.range))) in
+    let head = c.in_ok-head.ensures.written ∙ (λ i. c.new.ensures.items i ++ line_text (head_data (c.form_of-form.ensures i, copy.range))) in
     IfOk-weaker c.write_end.result _ _ (λ text line.
     let written = parts_written copy _ _ _ text.items head c.in_ok-marks.ensures c.in_ok-cells.ensures.written
     (subst (λ (n : ℕ). WritesLines c.in_ok-cells.cells.items text.items (End n ∷ [])) (λ i. c.len.ensures.count i + c.in_ok-cells.ensures.count i) line) in
     subst (IsCopyText text.items) c.copy.view_is
-    (whole_spelled copy text.items written.0 (line_of copy.range c.form_of.result _ c.form_of.ensures c.in_ok-head.ensures.line) written.1 c.len.ensures.rising c.in_ok-cells.ensures.table c.copy.invariant.inside)) c.write_end.ensures
+    (whole_spelled copy text.items written.0 (line_of copy.range c.form_of-form.result _ c.form_of-form.ensures c.in_ok-head.ensures.line) written.1 c.len.ensures.rising c.in_ok-cells.ensures.table c.copy.invariant.inside)) c.write_end.ensures
 
 pub returns-clause-utf8 : goal.returns-clause-utf8
 returns-clause-utf8 c =
     let copy : TabletCopyValue = record { range = c.copy.inside.range; marks = c.copy.inside.marks; cells = c.copy.inside.cells } in
-    let head = c.in_ok-head.ensures.written ∙ (λ i. c.new.ensures.items i ++ line_text (head_data (c.form_of.ensures i, copy.range))) in
+    let head = c.in_ok-head.ensures.written ∙ (λ i. c.new.ensures.items i ++ line_text (head_data (c.form_of-form.ensures i, copy.range))) in
     IfOk-weaker c.write_end.result _ _ (λ text line.
     let written = parts_written copy _ _ _ text.items head c.in_ok-marks.ensures c.in_ok-cells.ensures.written
     (subst (λ (n : ℕ). WritesLines c.in_ok-cells.cells.items text.items (End n ∷ [])) (λ i. c.len.ensures.count i + c.in_ok-cells.ensures.count i) line) in
-    subst IsUtf8 (sym written.0) (text_utf8 (head_of copy) (lines_after_head copy.marks (spell copy.cells)) (line_of copy.range c.form_of.result _ c.form_of.ensures c.in_ok-head.ensures.line) written.1)) c.write_end.ensures
+    subst IsUtf8 (sym written.0) (text_utf8 (head_of copy) (lines_after_head copy.marks (spell copy.cells)) (line_of copy.range c.form_of-form.result _ c.form_of-form.ensures c.in_ok-head.ensures.line) written.1)) c.write_end.ensures
