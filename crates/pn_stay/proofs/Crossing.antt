@@ -23,10 +23,10 @@ tally_send = search (sendable, crosses) depth 40
 tally_sync : IsSync tally.the_row
 tally_sync = search (sendable, crosses) depth 40
 
-taken_send : IsSend taken.the_row
+pub taken_send : IsSend taken.the_row
 taken_send = search (sendable, crosses) depth 40 fits 20000
 
-taken_sync : IsSync taken.the_row
+pub taken_sync : IsSync taken.the_row
 taken_sync = search (sendable, crosses) depth 40 fits 20000
 
 stream_send : IsSend stream.the_row

@@ -3,7 +3,7 @@
 use crate::echo::Echo;
 use crate::{TURNS, pieces_of, shown, takes_of};
 use pn_join::Name;
-use pn_line::{InMemory, LineBuffer, Piece, Sink, Source};
+use pn_line::{InMemory, LineBuffer, LineEnd, Sink, Source, read_line};
 use pn_stay::{
     Backlog, Client, Counted, Desk, Pause, Pieces, Room, Sent, StreamWatch, Taken, Takes, Watch,
 };
@@ -75,7 +75,7 @@ pub(crate) fn counted(alloc: Global, text: &str) -> Result<String, Fail> {
     let mut source = Counted::new(InMemory::new(text.as_str().as_bytes()), Some(taken));
     let mut line = LineBuffer::new(alloc)?;
     for _ in 0..TURNS {
-        if source.take_some(&mut line)? == Piece::NoMore {
+        if read_line(&mut line, &mut source)? == LineEnd::EndOfInput {
             break;
         }
     }
