@@ -137,7 +137,7 @@ fn stay<R>(rt: &R, alloc: Global, listener: Listener) -> Option<()>
 where
     R: Threads + Wait + Net + Clock + Sync + Copy + Send + 'static,
 {
-    let house = house_of(alloc, listener, 1).ok()?;
+    let house = house_of(alloc, listener, 2).ok()?;
     let mut feeds = Vec::with_capacity(alloc, 1).ok()?;
     let stream = stream(alloc).ok()?;
     feeds
