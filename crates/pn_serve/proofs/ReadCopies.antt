@@ -10,10 +10,8 @@ use Rattle.pn_record.specs.CellMap.{Entries, table_of}
 use Rattle.pn_tablet.specs.Copies.{TabletCopyValue, IsCopy}
 use Rattle.pn_tablet.specs.CopyLines.{AreLines}
 use Rattle.pn_tablet.specs.CopyReading.{copy_at}
-use Rattle.pn_tablet.specs.declared.form.Form.{Form}
 use Rattle.pn_tablet.specs.Ranges.{Ends, in_range}
 use Rattle.pn_tablet.specs.Tablets.{lie_in}
-use Rattle.pn_tablet.specs.declared.form.Form.{Form}
 use Rattle.pn_tablet.proofs.CopyGrammar.{lines_with}
 use Rattle.pn_tablet.proofs.CopyTextFacts.{text_found}
 use Rattle.pn_apply.specs.Reducing.{images_in}
@@ -27,7 +25,7 @@ all_in range (image ∷ images) inside =
     ap (λ (b : Bool). cond b (image ∷ images_in range images) (images_in range images)) parts.0 ∙ ap (λ (rest : List Image). image ∷ rest) (all_in range images parts.1)
 
 -- the marks of lines that are read have positions
-read_marks : (form : Form) (lines : List (List ℕ)) (marks : Positions) (images : List Image) (count : ℕ) → AreLines form lines (lines_with marks images count) → are_positions marks ≡ true
+read_marks : (form : _) (lines : List (List ℕ)) (marks : Positions) (images : List Image) (count : ℕ) → AreLines form lines (lines_with marks images count) → are_positions marks ≡ true
 read_marks form lines [] images count are = refl
 read_marks form [] (mark ∷ marks) images count are = absurd are
 read_marks form (line ∷ lines) (mark ∷ marks) images count are =
