@@ -1,6 +1,6 @@
 //! Words, and what they plan.
 
-use pn_serve::{Plan, PlanFault, Settings, plan};
+use pn_serve::{Place, Plan, PlanFault, Service, Settings, plan};
 use std::alloc::{AllocError, Global};
 use std::test::Fail;
 use test_kit::spelled;
@@ -24,18 +24,14 @@ fn plan_text(alloc: Global, planned: &Plan) -> Result<String, Fail> {
     match planned {
         Plan::Replay(settings) => Ok(settings_text(alloc, settings)?),
         Plan::Help(_) => Ok(String::from_str(alloc, "help")?),
+        Plan::Version(_) => Ok(String::from_str(alloc, "version")?),
         Plan::Serve {
             settings,
-            sessions,
-            port,
-            stay,
+            service,
             streams,
         } => {
             let mut text = settings_text(alloc, settings)?;
-            write!(text, ", {sessions} sessions at {port}")?;
-            if let Some(connections) = stay {
-                write!(text, " for {connections} connections")?;
-            }
+            write_service(&mut text, service)?;
             write!(text, ":")?;
             for (name, path) in streams {
                 write!(text, " {}={path}", name.as_str())?;
@@ -43,6 +39,24 @@ fn plan_text(alloc: Global, planned: &Plan) -> Result<String, Fail> {
             Ok(text)
         }
     }
+}
+
+fn write_service(text: &mut String, service: &Service) -> Result<(), AllocError> {
+    let sessions = service.sessions;
+    match &service.place {
+        Place::Port(address, port) => write!(text, ", {sessions} sessions at {address} {port}")?,
+        Place::Path(path) => write!(text, ", {sessions} sessions at {path}")?,
+    }
+    if let Some(connections) = service.stay {
+        write!(text, " for {connections} connections")?;
+    }
+    if let Some(seconds) = service.idle {
+        write!(text, ", idle for {seconds} seconds")?;
+    }
+    if service.is_progress_told {
+        write!(text, ", told")?;
+    }
+    Ok(())
 }
 
 /// What is planned by a line of words, or why it is refused.
