@@ -10,7 +10,7 @@ use Rattle.pn_tablet.specs.declared.op.TabletOp.{TabletOp}
 use Rattle.pn_apply.specs.Applying.{AreJoinsIn, HavePositions, all_stepped, all_changes, AreOldOrStepped, IsSomeOld}
 use Rattle.pn_apply.specs.declared.cut.Span.{Span}
 
--- the span is of so many tablets: enough for its workers, and each with a number
+-- the span is of this many tablets: enough for its workers, and each with a number
 pub record IsSpanOf (tablets : ℕ) (span : Span) : Type 0 where
   pub enough : span.workers ≤ tablets
   pub numbers : span.first + tablets < 2 ^ 64

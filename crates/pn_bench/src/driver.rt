@@ -78,7 +78,7 @@ fn time_store<R: Clock + Threads + Wait + Sync, S: Source + Drop>(
     Some(Took { reads, rounds })
 }
 
-// Takes so many records, and answers their keys.
+// Takes this many records, and answers their keys.
 fn load<R: Threads + Wait + Sync, S: Source + Drop>(
     rt: &R,
     alloc: Global,
@@ -98,7 +98,7 @@ fn load<R: Threads + Wait + Sync, S: Source + Drop>(
     Some(keys)
 }
 
-/// The next rounds, each of so many messages. The first is to be popped first.
+/// The next rounds, each of this many messages. The first is to be popped first.
 pub fn next_rounds<S: Source + Drop>(
     alloc: Global,
     stream: &mut StreamReader<S>,
@@ -114,7 +114,7 @@ pub fn next_rounds<S: Source + Drop>(
     Some(rounds)
 }
 
-// The next messages of a stream, in deliveries of equal counts: so many, or the next multiple of a batch.
+// The next messages of a stream, in deliveries of equal size: their count is this one, or the next multiple of a batch.
 fn next_deliveries<S: Source + Drop>(
     alloc: Global,
     stream: &mut StreamReader<S>,

@@ -5,7 +5,7 @@
 //!
 //! It says on standard error how many microseconds reading each key once took, and the rounds.
 //!
-//! With `relayout` for WAY it builds a plain region of sixteen tablets and changes its layout, with so many rounds before and
+//! With `relayout` for WAY it builds a plain region of sixteen tablets and changes its layout, with ROUNDS rounds before and
 //! after that. It says the microseconds of building, of a change, the change back, and the rounds, and the leaves.
 #![tactic(auto)]
 

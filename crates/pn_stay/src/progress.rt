@@ -166,7 +166,7 @@ fn push_bar(text: &mut String, alloc: Global, stream: &StreamWatch) -> Result<()
     text.push_str(format!(in alloc; "] {}%", part_of(100, taken, size))?.as_str())
 }
 
-// How much of a whole is done, where so many of all its parts are.
+// How much of the whole this part of all makes.
 fn part_of(whole: u64, done: u64, all: u64) -> u64 {
     match whole.saturating_mul(done).checked_div(all) {
         Some(part) => part,

@@ -50,7 +50,7 @@ impl Model for StayingServer {
 }
 
 impl StayingServer {
-    /// Opens a new live region, and begins to accept connections, so many at once. They are answered by 1 to 16 threads.
+    /// Opens a new live region, and begins to accept connections, at most this many at once. They are answered by 1 to 16 threads.
     pub fn start<R>(
         rt: &R,
         alloc: Global,

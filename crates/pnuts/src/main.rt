@@ -11,7 +11,7 @@ mod streams;
 
 use crate::places::{Listening, begin_to_listen, cannot_start};
 use crate::served::serve_streams;
-use crate::staying::{Begun, begin_to_stay, go_on};
+use crate::staying::{Begun, begin_to_stay, cannot_stay, go_on};
 use pn_serve::{Plan, PlanFault, RunFault, Service, Settings, plan, run_to_exit};
 use pn_stay::tell_progress;
 use std::alloc::Global;
@@ -64,7 +64,7 @@ fn main(rt: HostRuntime) -> ExitCode {
             let read = server.read_feeds(&rt, rt.alloc(), feeds, rounds);
             go_on(&rt, &service.place, server, read)
         }
-        Err(status) => status,
+        Err(fault) => cannot_stay(&rt, &service.place, fault),
     }
 }
 

@@ -13,7 +13,7 @@ use std::rt::Files;
 use std::sync::Arc;
 use std::{fs, io};
 
-/// What is listened on, the streams, and what is told of the progress, where that is asked for.
+/// Where it listens, the streams, and what its progress is read from, where progress is to be shown.
 #[derive(Drop)]
 pub(crate) struct Listening {
     pub(crate) house: House,

@@ -17,7 +17,7 @@ use std::rt::Files;
 use std::sync::Wait;
 use std::thread::Threads;
 
-/// Serves the streams that were opened, where it is listened.
+/// Serves the streams that were opened, to the end of its sessions, and ends what it listened on.
 pub(crate) fn serve_streams<R>(
     rt: &R,
     settings: Settings,
@@ -38,32 +38,8 @@ where
         + 'static,
     requires { (1 ≤ service.now.sessions) × (service.now.sessions ≤ max_readers) }
 {
-    let status = serve_in(rt, settings, service, house, opened);
-    leave(rt, &service.place);
-    status
-}
-
-fn serve_in<R>(
-    rt: &R,
-    settings: Settings,
-    service: &Service,
-    house: &House,
-    opened: Vec<Opened>,
-) -> ExitCode
-where
-    R: AllocGlobal
-        + Files<File = File>
-        + Print
-        + Eprint
-        + Threads
-        + Wait
-        + Sync
-        + Copy
-        + Send
-        + 'static,
-    requires { (1 ≤ service.now.sessions) × (service.now.sessions ≤ max_readers) }
-{
     let Ok(streams) = streams_of(rt.alloc(), opened) else {
+        leave(rt, &service.place);
         return fail(rt, "memory");
     };
     let mut out = io::writer(rt);
@@ -77,6 +53,7 @@ where
         &mut out,
     );
     let _ = eprint!(rt; "{}", before_others(service.is_progress_told));
+    leave(rt, &service.place);
     match served {
         Ok(()) => ExitCode::SUCCESS,
         Err(fault) => tell(rt, fault),

@@ -28,39 +28,8 @@ pub(crate) struct Begun<R: Files<File = File> + Eprint + Drop> {
     pub(crate) rounds: Option<Arc<Tally>>,
 }
 
-/// Begins to answer where it is listened. Else it tells why not.
+/// Begins to answer connections.
 pub(crate) fn begin_to_stay<R>(
-    rt: &R,
-    settings: Settings,
-    service: &Service,
-    connections: u32,
-    house: House,
-    opened: Vec<Opened>,
-) -> Result<Begun<R>, ExitCode>
-where
-    R: AllocGlobal
-        + Files<File = File>
-        + Net
-        + Eprint
-        + Threads
-        + Wait
-        + Clock
-        + Sync
-        + Copy
-        + Send
-        + 'static,
-    requires { (1 ≤ service.now.sessions) × (service.now.sessions ≤ max_readers) }
-{
-    match begin_in(rt, settings, service, connections, house, opened) {
-        Ok(begun) => Ok(begun),
-        Err(fault) => {
-            leave(rt, &service.place);
-            Err(tell(rt, fault))
-        }
-    }
-}
-
-fn begin_in<R>(
     rt: &R,
     settings: Settings,
     service: &Service,
@@ -106,6 +75,16 @@ fn rounds_of(house: &House) -> Option<Arc<Tally>> {
         Ok(rounds) => Some(rounds),
         Err(_) => None,
     }
+}
+
+/// Ends what it listened on, and says why it does not stay.
+pub(crate) fn cannot_stay(
+    rt: &(impl Files + Eprint),
+    place: &Place,
+    fault: ServeFault,
+) -> ExitCode {
+    leave(rt, place);
+    tell(rt, fault)
 }
 
 /// Tells of a fault of the reading, and answers until a signal ends the program.

@@ -6,12 +6,13 @@ use pn_line::InMemory;
 use pn_serve::{ServeFault, serve};
 use pn_stream::StreamReader;
 use std::alloc::Global;
-use std::io::{BufRead, BufReader, Write};
+use std::io::BufReader;
 use std::net::{Net, SocketAddr, TcpListener, TcpStream};
 use std::sync::Wait;
 use std::test::Fail;
 use std::thread::Threads;
 use std::{io, str, thread};
+use test_kit::{Answer, ask};
 
 /// The message at position 1, and the one at 2.
 const FIRST: &str =
@@ -19,11 +20,6 @@ const FIRST: &str =
 
 const SECOND: &str =
     "{\"at\":2,\"image\":{\"fields\":{\"v\":\"x\"},\"key\":\"k\",\"master\":\"w\",\"version\":[1,0]}}\n";
-
-const ROW: &str =
-    "{\"row\":{\"contents\":[{\"fields\":{\"v\":\"x\"},\"master\":\"w\"}],\"key\":\"k\",\"state\":\"one\",\"version\":[1,0]}}\n";
-
-const NO_ROW: &str = "{\"row\":null}\n";
 
 /// How often a client asks at most until its record is there, and how often after it.
 const MAX_TURNS: u64 = 100_000;
@@ -49,14 +45,13 @@ fn talk<R: Net<Listener = TcpListener, Stream = TcpStream>>(
     most: u64,
 ) -> io::Result<Told> {
     let stream = TcpStream::connect(rt, at)?;
+    let mut sender = &stream;
     let mut replies = BufReader::new(alloc, &stream)?;
     for _ in 0..most {
-        let told = ask(alloc, &stream, &mut replies)?;
-        if told == Told::Row {
-            return stays(alloc, &stream, &mut replies);
-        }
-        if told == Told::Other {
-            return Ok(told);
+        match ask(alloc, &mut sender, &mut replies)? {
+            Answer::Row => return stays(alloc, &mut sender, &mut replies),
+            Answer::NoRow => {}
+            Answer::Other => return Ok(Told::Other),
         }
     }
     Ok(Told::NoRow)
@@ -64,29 +59,15 @@ fn talk<R: Net<Listener = TcpListener, Stream = TcpStream>>(
 
 fn stays(
     alloc: Global,
-    stream: &TcpStream,
+    sender: &mut &TcpStream,
     replies: &mut BufReader<&TcpStream>,
 ) -> io::Result<Told> {
     for _ in 0..TURNS_AFTER {
-        if ask(alloc, stream, replies)? != Told::Row {
+        if ask(alloc, sender, replies)? != Answer::Row {
             return Ok(Told::Other);
         }
     }
     Ok(Told::Row)
-}
-
-fn ask(alloc: Global, stream: &TcpStream, replies: &mut BufReader<&TcpStream>) -> io::Result<Told> {
-    let mut sender = stream;
-    sender.write_all(b"{\"do\":\"read\",\"key\":\"k\"}\n")?;
-    let mut reply = String::new(alloc);
-    replies.read_line(&mut reply)?;
-    Ok(if reply.as_str() == ROW {
-        Told::Row
-    } else if reply.as_str() == NO_ROW {
-        Told::NoRow
-    } else {
-        Told::Other
-    })
 }
 
 /// Serves one session over a stream whose first message is at this position: how serving ended, what was written, and what the client

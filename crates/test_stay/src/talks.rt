@@ -1,15 +1,11 @@
-//! What a client is told at a port or at a path.
+//! What a client reads at a port or at a path.
 
 use std::alloc::Global;
 use std::io;
 use std::io::{BufRead, BufReader, Write};
 use std::net::{Net, SocketAddr, TcpListener, TcpStream};
 use std::os::unix::net;
-
-const ROW: &str =
-    "{\"row\":{\"contents\":[{\"fields\":{\"v\":\"x\"},\"master\":\"w\"}],\"key\":\"k\",\"state\":\"one\",\"version\":[1,0]}}\n";
-
-const NO_ROW: &str = "{\"row\":null}\n";
+use test_kit::{Answer, ask};
 
 /// How often a client asks at most until its record is there.
 const MAX_TURNS: u64 = 100_000;
@@ -60,28 +56,14 @@ fn ask_all<O: Write, I: BufRead>(
     stays: bool,
 ) -> io::Result<Told> {
     for _ in 0..MAX_TURNS {
-        let told = ask(alloc, sender, replies)?;
-        if told == Told::Row && stays {
-            return end(alloc, replies);
-        }
-        if told != Told::NoRow {
-            return Ok(told);
+        match ask(alloc, sender, replies)? {
+            Answer::Row if stays => return end(alloc, replies),
+            Answer::Row => return Ok(Told::Row),
+            Answer::NoRow => {}
+            Answer::Other => return Ok(Told::Other),
         }
     }
     Ok(Told::NoRow)
-}
-
-fn ask<O: Write, I: BufRead>(alloc: Global, sender: &mut O, replies: &mut I) -> io::Result<Told> {
-    sender.write_all(b"{\"do\":\"read\",\"key\":\"k\"}\n")?;
-    let mut reply = String::new(alloc);
-    replies.read_line(&mut reply)?;
-    Ok(if reply.as_str() == ROW {
-        Told::Row
-    } else if reply.as_str() == NO_ROW {
-        Told::NoRow
-    } else {
-        Told::Other
-    })
 }
 
 // Waits for what comes unasked, which is to be the end.

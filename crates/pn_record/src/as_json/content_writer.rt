@@ -79,8 +79,14 @@ fn write_fields(writer: &mut Writer, fields: &[(String, Value)]) -> Result<(), N
 fn write_field(writer: &mut Writer, field: &(String, Value)) -> Result<(), NoMemory>
     ensures { OnOk result (Appends writer.old writer.new (field_tokens (shown_field field.now))) }
 {
-    writer.key(field.0.as_str())?;
-    write_field_value(writer, field.1.as_ref())
+    match &field.1 {
+        Value::Text(text) => write_text_member(writer, field.0.as_str(), text.as_str()),
+        Value::Number(number) => {
+            writer.key(field.0.as_str())?;
+            writer.i64(*number)?;
+            Ok(())
+        }
+    }
 }
 
 /// Writes the value of a field: a number or a text.

@@ -49,7 +49,7 @@ socket_option = plain_option (codes "socket") values.NonEmptyString
 abbrev pub idle_option : Rule
 idle_option = plain_option (codes "idle") (values.Signed (pos 1) (pos 86400))
 
--- whether it is told how far it is
+-- whether progress is written to standard error
 abbrev pub progress_flag : Rule
 progress_flag = record (new_rule (codes "progress")) { long = Some (codes "progress"); action = Some SetTrue }
 

@@ -6,7 +6,7 @@ use Rattle.pn_serve.specs.Server.Rounds.{GatheredValue, IsSmall, TakesGathered}
 use Rattle.pn_serve.specs.declared.server.fault.ServeFault.{ServeFault}
 use Rattle.pn_serve.specs.declared.server.fault.ServeFault.TheVariants.{Start, Round}
 
--- what was gathered from at most so many streams was taken, round by round
+-- what was gathered from at most this many streams was taken, round by round
 abbrev pub AllTaken : ℕ → LiveRegionValue → List GatheredValue → LiveRegionValue → Type 0
 AllTaken streams old [] new = new ≡ old
 AllTaken streams old (gathered ∷ later) new =

@@ -17,7 +17,7 @@ pub record GatheredValue : Type 0 where
   pub ended : ℕ
   pub fault : Option (List ℕ)
 
--- 1 to 1,000 messages of each of at most so many streams
+-- 1 to 1,000 messages of each of at most this many streams
 pub record IsSmall (streams : ℕ) (gathered : GatheredValue) : Type 0 where
   pub fit : All FitRound gathered.deliveries
   pub few : length gathered.deliveries ≤ streams

@@ -18,7 +18,7 @@ pub record IsAllMessages (position : ℕ) (text : List ℕ) (last : ℕ) : Type 
 abbrev pub IsWholeTo : {S : Type 0} → (S → Option (List ℕ)) → Stream S → ℕ → Type 0
 IsWholeTo left stream last = (stream.fault ≡ None) × IfSome (left stream.source) (λ text. IsAllMessages stream.position (stream.part ++ text) last)
 
--- the stream was read to its end, of which this is told, or it is named
+-- the stream was read to its end, and this is its end, or it is named
 abbrev pub EndsStream : {S : Type 0} → (S → Option (List ℕ)) → Stream S → Result StreamEnd (List ℕ) → Type 0
 EndsStream left stream (Ok end) = (end.name ≡ stream.name) × IsWholeTo left stream end.last
 EndsStream left stream (Err name) = name ≡ stream.name

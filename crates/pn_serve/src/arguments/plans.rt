@@ -37,7 +37,7 @@ pub struct Service {
     pub stay: Option<u32>,
     /// After how many seconds a client that sends nothing and takes nothing is ended: 1 to 86,400.
     pub idle: Option<u32>,
-    /// Whether standard error is told each second how far it is.
+    /// Whether progress is written to standard error each second.
     pub is_progress_told: bool,
 }
 

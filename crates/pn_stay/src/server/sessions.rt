@@ -23,7 +23,7 @@ use std::thread::Threads;
 use std::time::Clock;
 use std::{io, thread};
 
-/// Starts a thread for each reader, and one that accepts connections, so many at once.
+/// Starts a thread for each reader, and one that accepts connections, at most this many at once.
 pub(super) fn begin<R>(
     rt: &R,
     alloc: Global,
