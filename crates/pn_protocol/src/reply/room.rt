@@ -56,22 +56,26 @@ fn step_of_found(cells: &[Option<Cell>], step: Step) -> usize {
 
 /// The room of rows without their escapes, in bytes. The page has already read their contents.
 pub(crate) fn room_of_rows(rows: &[Row]) -> usize {
-    step_of_rows(rows, Step::Fields).wrapping_add(OF_ROW)
+    let mut room = OF_ROW;
+    for row in rows {
+        room = room.wrapping_add(room_of_key(&row.key));
+        room = room.wrapping_add(step_of_cell(Some(&row.cell), Step::Fields));
+    }
+    room
 }
 
 /// Prefetches the rows' names and texts.
 pub(crate) fn prefetch_rows(rows: &[Row]) {
     // (the compiler drops no atomic write, and so none of the reads that it needs)
-    AtomicUsize::new(0).swap(step_of_rows(rows, Step::Texts), Ordering::SeqCst);
+    AtomicUsize::new(0).swap(texts_of_rows(rows), Ordering::SeqCst);
 }
 
-fn step_of_rows(rows: &[Row], step: Step) -> usize {
-    let mut room = 0usize;
+fn texts_of_rows(rows: &[Row]) -> usize {
+    let mut seen = 0usize;
     for row in rows {
-        room = room.wrapping_add(room_of_key(&row.key));
-        room = room.wrapping_add(step_of_cell(Some(&row.cell), step));
+        seen = seen.wrapping_add(step_of_cell(Some(&row.cell), Step::Texts));
     }
-    room
+    seen
 }
 
 /// The room of the row of a record, if there is one, in bytes.
