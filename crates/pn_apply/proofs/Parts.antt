@@ -121,12 +121,12 @@ lists_of lists = map (λ list. list.items) lists
 list_count : (lists : List (Vec Change Global)) (ts : List TabletStateValue) (os : List TabletOp) → AreJoinsIn ts os → lists_of lists ≡ all_changes ts os → length lists ≡ length os
 list_count lists ts os fit is = sym (length-map lists (λ (list : Vec Change Global). list.items)) ∙ ap length is ∙ length-changes ts os fit
 
-fits_room : {E : Type 0} (low high : Result Lists E) (ts us : List TabletStateValue) (os ps : List TabletOp) (room : ℕ) → AreJoinsIn ts os → AreJoinsIn us ps → length os + length ps ≤ room
+both_fit : {E : Type 0} (low high : Result Lists E) (ts us : List TabletStateValue) (os ps : List TabletOp) (most : ℕ) → AreJoinsIn ts os → AreJoinsIn us ps → length os + length ps ≤ most
     → IfOk low (λ lists. lists_of lists.items ≡ all_changes ts os) → IfOk high (λ lists. lists_of lists.items ≡ all_changes us ps)
-    → IfOk low (λ a. IfOk high (λ b. length a.items + length b.items ≤ room))
-fits_room (Err e) high ts us os ps room fit fits within p q = tt
-fits_room (Ok x) (Err e) ts us os ps room fit fits within p q = tt
-fits_room (Ok x) (Ok y) ts us os ps room fit fits within p q = omega (arith, list_count x.items ts os fit p, list_count y.items us ps fits q, within)
+    → IfOk low (λ a. IfOk high (λ b. length a.items + length b.items ≤ most))
+both_fit (Err e) high ts us os ps most fit fits within p q = tt
+both_fit (Ok x) (Err e) ts us os ps most fit fits within p q = tt
+both_fit (Ok x) (Ok y) ts us os ps most fit fits within p q = omega (arith, list_count x.items ts os fit p, list_count y.items us ps fits q, within)
 
 both_changes : {E : Type 0} (r low high : Result Lists E) (want left right : List (List Change)) → (IsOk r → IsOk low × IsOk high)
     → IfOk r (λ all. IfOk low (λ a. IfOk high (λ b. all.items ≡ a.items ++ b.items))) → want ≡ left ++ right
@@ -173,9 +173,9 @@ module _ {S : Type 0} (tablet : S → TabletStateValue) (slots low high : List S
     spanned = record { enough = enough; numbers = omega (arith, begins, counts, task.spanned.numbers) };
   }
 
-  pub whole_room : (ra rb : Result Lists NoMemory) (room : ℕ) → length operations ≤ room → IfOk ra (λ lists. map (λ list. list.items) lists.items ≡ all_changes (map tablet low) first)
-      → IfOk rb (λ lists. map (λ list. list.items) lists.items ≡ all_changes (map tablet high) second) → IfOk ra (λ a. IfOk rb (λ b. length a.items + length b.items ≤ room))
-  whole_room ra rb room within p q = fits_room ra rb (map tablet low) (map tablet high) first second room low_joins high_joins (omega (arith, within, counts)) p q
+  pub whole_fits : (ra rb : Result Lists NoMemory) (most : ℕ) → length operations ≤ most → IfOk ra (λ lists. map (λ list. list.items) lists.items ≡ all_changes (map tablet low) first)
+      → IfOk rb (λ lists. map (λ list. list.items) lists.items ≡ all_changes (map tablet high) second) → IfOk ra (λ a. IfOk rb (λ b. length a.items + length b.items ≤ most))
+  whole_fits ra rb most within p q = both_fit ra rb (map tablet low) (map tablet high) first second most low_joins high_joins (omega (arith, within, counts)) p q
 
   module _ (now low_now high_now : List S) (r ra rb : Result Lists NoMemory) (rejoined : now ≡ low_now ++ high_now)
       (below : Applied (map tablet low) first ra (map tablet low_now)) (above : Applied (map tablet high) second rb (map tablet high_now)) where

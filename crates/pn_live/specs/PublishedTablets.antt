@@ -12,6 +12,10 @@ pub record PublishedTabletValue : Type 0 where
   pub range : Ends
   pub list : List TabletOp
 
+-- which tablets they are
+abbrev pub books_of : List PublishedTabletValue → List Book
+books_of tablets = map (λ tablet. tablet.book) tablets
+
 -- its state is that of what is published
 abbrev pub state_at : PublishedTabletValue → TabletStateValue
 state_at tablet = state_of tablet.range tablet.list

@@ -1,4 +1,4 @@
--- The names that most proofs cite, passed on from one place.
+-- The names that most proofs cite, passed on by one module.
 pub use Rattle.std.specs.FinMap.{find, is_sorted}
 pub use Rattle.std.specs.List.{flat_map, range_with_len, AllByRecursion}
 pub use Rattle.std.specs.Option.{option_or}

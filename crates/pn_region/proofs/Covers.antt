@@ -77,7 +77,7 @@ round_tells broker marks next deliveries honest accepted taken left more maybe r
     (λ image there lies. brought broker marks next deliveries honest accepted (raised t.reach next) (λ name. omega (arith, position_of-raised t.reach next name)) image (of image there))
     (λ image there lies.
     beyond broker t.cover next (more ++ maybe)
-    (λ one stream at past below within place.
+    (λ one stream at past below within given.
     to one (was_brought broker marks next deliveries honest accepted stream one at (omega (arith, past, is.covered stream)) (omega (arith, below)) within place))
     image there)
 

@@ -101,7 +101,7 @@ each_so R S so [] (u ∷ us) each = absurd each
 each_so R S so (t ∷ ts) [] each = absurd each
 each_so R S so (t ∷ ts) (u ∷ us) each = (so t u each.0, each_so R S so ts us each.1)
 
--- the pair at a place
+-- the pair at an index
 pub each_at : (R : TabletStateValue → TabletStateValue → Type 0) (ts us : List TabletStateValue) (n : ℕ) (t u : TabletStateValue) → Each R ts us → slice_get ts n ≡ Some t → slice_get us n ≡ Some u → R t u
 each_at R [] [] n t u each there there_too = cc
 each_at R [] (v ∷ us) n t u each there there_too = absurd each

@@ -134,7 +134,7 @@ module _ (region : RegionValue) (copy : TabletCopyValue) (n : ℕ) (t : TabletSt
 pub found_within : (region : RegionValue) (copy : TabletCopyValue) (n : ℕ) → tablet_for region copy ≡ Some n → n < length region.tablets
 found_within region copy n found = (position-Some (λ (state : TabletStateValue). same_range state.range copy.range) region.tablets n (empty_tablet copy.range) found).0
 
--- the tablet that is read is the one at that place
+-- the tablet that is read is the one at that index
 pub stands_at : (region : RegionValue) (copy : TabletCopyValue) (n : ℕ) (t : TabletStateValue) → tablet_for region copy ≡ Some n → t ≡ get_or region.tablets n t → slice_get region.tablets n ≡ Some t
 stands_at region copy n t found is = tablet_at region.tablets n t (position-Some (λ (state : TabletStateValue). same_range state.range copy.range) region.tablets n t found).0 is
 

@@ -62,7 +62,7 @@ alike_in range images others to from =
           to_images_in range images image (from image is.there is.lies) is.lies,
     )))
 
--- what is true of all is true of the one at a place
+-- what is true of all is true of the one at an index
 pub one_of : (P : TabletStateValue → Type 0) (ts : List TabletStateValue) (n : ℕ) (t : TabletStateValue) → AllByRecursion P ts → slice_get ts n ≡ Some t → P t
 one_of P [] n t all there = cc
 one_of P (u ∷ ts) zero t all there =

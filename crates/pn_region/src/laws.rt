@@ -16,7 +16,9 @@ ghost use Rattle.pn_region.specs.Laws.{AreIn, HasImages, HasBetween, HasNoGap, H
 ghost use Rattle.pn_region.specs.declared.marking.TheConstants.{MAX_STREAMS};
 ghost use Rattle.pn_region.specs.Marking.{last_position, new_marks};
 ghost use Rattle.pn_region.specs.Regions.{RegionValue, IsRegion, new_region, all_cells};
+ghost use Rattle.pn_region.specs.Relayouts.{after_relayout};
 ghost use Rattle.pn_region.specs.Rounds.{after_joins, IsHalfTaken};
+ghost use Rattle.pn_region.specs.Serving.{AllServe};
 ghost use Rattle.pn_region.specs.declared.fault.RoundFault.TheVariants.{Gap, TooManyStreams, Memory};
 
 /// A new region is a region, and has the cells of no image.
@@ -166,4 +168,12 @@ pub fn honest_copies_keep_tablets_faithful()
         → tablet.cells ≡ table_of (images_in tablet.range (up_to broker tablet.cover)) }
     ensures given { (broker : BrokerRecord) (tablet : TabletStateValue) (need : Positions) (copy : TabletCopyValue)
         → IsFaithful broker tablet → copy_of tablet need ≡ Ok copy → IsHonestCopy broker copy }
+{}
+
+/// A change of layout leaves the records of all tablets together as they were. All tablets serve before and after it.
+pub fn a_change_of_layout_keeps_all_records()
+    ensures cells { (old new : RegionValue) (bounds : Bounds) → IsRegion old → IsLayout bounds → after_relayout old bounds ≡ Ok new
+        → all_cells new ≡ all_cells old }
+    ensures served { (old new : RegionValue) (bounds : Bounds) → after_relayout old bounds ≡ Ok new → AllServe old }
+    ensures serve { (old new : RegionValue) (bounds : Bounds) → after_relayout old bounds ≡ Ok new → AllServe new }
 {}

@@ -34,7 +34,7 @@ impl Region {
         if let Some(tablet) = first_recovering(&self.tablets) {
             return Err(RelayoutFault::StillRecovering(tablet));
         }
-        let tablets = made_tablets(self.alloc, &self.tablets, &layout)?;
+        let tablets = build_tablets(self.alloc, &self.tablets, &layout)?;
         self.layout = layout;
         self.tablets = tablets;
         Ok(())
@@ -57,8 +57,8 @@ fn recovers(tablet: &TabletState) -> bool
     }
 }
 
-// A tablet for each range of the layout, made of the old ones.
-fn made_tablets(
+// Builds a tablet for each range of the layout of the old ones.
+fn build_tablets(
     alloc: Global,
     tablets: &[TabletState],
     layout: &Layout,
@@ -68,13 +68,13 @@ fn made_tablets(
 {
     let mut made = Vec::with_capacity(alloc, layout.count())?;
     for tablet in 0..layout.count() {
-        made.push_reserved(made_tablet(alloc, tablets, range_of(layout, tablet)?)?);
+        made.push_reserved(build_tablet(alloc, tablets, range_of(layout, tablet)?)?);
     }
     Ok(made)
 }
 
-// The tablet that serves the range with the records of the old ones.
-fn made_tablet(
+// Builds the tablet that serves the range with the records of the old ones.
+fn build_tablet(
     alloc: Global,
     tablets: &[TabletState],
     range: Range,

@@ -14,7 +14,7 @@ use Rattle.pn_live.proofs.region.LiveRegion.lose.Goals as goal
 pub index-requires : goal.index-requires
 index-requires g c =
     let inside = c.self.inside in
-    let old : LiveRegionValue = record { layout = inside.layout; tablets = inside.tablets.items; marks = inside.marks; log = inside.log } in
+    let old : LiveRegionValue = record { layout = inside.layout; tablets = inside.tablets.items; marks = inside.marks; log = inside.log; order = inside.order } in
     let count = tablet_count old.marks old.layout (core old).tablets c.self.invariant.is_region.tablets in
     let layout = ap (λ (l : LiveRegionValue). length l.layout) c.self.view_is in
     omega (arith, count, length-map old.tablets state_at, layout, c.requires, inside.tablets.ok.0)
