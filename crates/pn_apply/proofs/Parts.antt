@@ -4,10 +4,10 @@ use Rattle.std.proofs.lemmas.List.{map-append, length-map, length-append}
 use Rattle.std.specs.Prelude.{Result, Ok, Err, OnOk, OnErr, IfOk, IsOk, IsErr, ◌⊎◌, Vec}
 use Rattle.std.specs.declared.alloc.Global.{Global}
 use Rattle.pn_tablet.specs.Tablets.{TabletStateValue}
-use Rattle.pn_tablet.specs.Steps.{stepped}
+use Rattle.pn_tablet.specs.Steps.{tablet_after}
 use Rattle.pn_tablet.specs.Changes.{answer}
 use Rattle.pn_tablet.specs.declared.change.Change.{Change}
-use Rattle.pn_tablet.specs.declared.op.TabletOp.{TabletOp}
+use Rattle.pn_tablet.specs.declared.state.TabletOp.{TabletOp}
 use Rattle.pn_join.specs.declared.memory.NoMemory.{NoMemory}
 use Rattle.pn_apply.specs.Applying.{AreJoinsIn, HavePositions, all_stepped, all_changes, AreOldOrStepped, IsSomeOld}
 use Rattle.pn_apply.specs.Working.{IsTask, Applied}
@@ -40,13 +40,13 @@ stepped_parts : (ts us : List TabletStateValue) (os ps : List TabletOp) → leng
 stepped_parts [] us [] ps same = refl
 stepped_parts [] us (o ∷ os) ps same = absurd (omega (arith, same))
 stepped_parts (t ∷ ts) us [] ps same = absurd (omega (arith, same))
-stepped_parts (t ∷ ts) us (o ∷ os) ps same = ap (λ rest. stepped t o ∷ rest) (stepped_parts ts us os ps (omega (arith, same)))
+stepped_parts (t ∷ ts) us (o ∷ os) ps same = ap (λ rest. tablet_after t o ∷ rest) (stepped_parts ts us os ps (omega (arith, same)))
 
 changes_parts : (ts us : List TabletStateValue) (os ps : List TabletOp) → length ts ≡ length os → all_changes (ts ++ us) (os ++ ps) ≡ all_changes ts os ++ all_changes us ps
 changes_parts [] us [] ps same = refl
 changes_parts [] us (o ∷ os) ps same = absurd (omega (arith, same))
 changes_parts (t ∷ ts) us [] ps same = absurd (omega (arith, same))
-changes_parts (t ∷ ts) us (o ∷ os) ps same = ap (λ rest. answer o t (stepped t o) ∷ rest) (changes_parts ts us os ps (omega (arith, same)))
+changes_parts (t ∷ ts) us (o ∷ os) ps same = ap (λ rest. answer o t (tablet_after t o) ∷ rest) (changes_parts ts us os ps (omega (arith, same)))
 
 -- tablets that are all stepped are old or stepped
 all_old_or_stepped : (ts : List TabletStateValue) (os : List TabletOp) → AreJoinsIn ts os → AreOldOrStepped ts os (all_stepped ts os)

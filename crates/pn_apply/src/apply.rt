@@ -2,7 +2,7 @@
 
 ghost use Rattle.std.specs.Prelude.{◌≡◌, ◌≤◌, length, map, IfOk, OnOk, OnErr};
 ghost use Rattle.std.specs.Thread.{IsSync, IsSend};
-ghost use Rattle.pn_tablet.specs.Prelude.{HasPositions, stepped, answer};
+ghost use Rattle.pn_tablet.specs.Prelude.{HasPositions, tablet_after, answer};
 ghost use Rattle.pn_apply.specs.Applying.{IsJoinIn, AreJoinsIn, HavePositions, all_stepped, all_changes, AreOldOrStepped, IsSomeOld};
 ghost use Rattle.pn_apply.specs.declared.reducing.TheConstants.{MAX_WORKERS};
 ghost use Rattle.pn_apply.specs.Working.{IsTask, Applied};
@@ -157,9 +157,9 @@ fn apply_join<S: Slot>(
 ) -> Result<Vec<Change>, NoMemory>
     requires join { IsJoinIn (S.tablet slot.old) operation.now }
     requires positions { HasPositions operation.now }
-    ensures ok { OnOk result (S.tablet slot.new ≡ stepped (S.tablet slot.old) operation.now) }
+    ensures ok { OnOk result (S.tablet slot.new ≡ tablet_after (S.tablet slot.old) operation.now) }
     ensures changes { IfOk result (λ list. list.items
-        ≡ answer operation.now (S.tablet slot.old) (stepped (S.tablet slot.old) operation.now)) }
+        ≡ answer operation.now (S.tablet slot.old) (tablet_after (S.tablet slot.old) operation.now)) }
     ensures err { OnErr result (S.tablet slot.new ≡ S.tablet slot.old) }
 {
     match slot.apply(operation) {

@@ -3,9 +3,9 @@ use Rattle.std.proofs.Common.{◌≡◌, ℕ, zero, suc, ◌+◌, ◌<◌, ◌�
 use Rattle.std.proofs.lemmas.List.{length-map, map-append, append_assoc, take_more}
 use Rattle.logbook.specs.Pages.{Book}
 use Rattle.pn_tablet.specs.Operations.{HasPositions}
-use Rattle.pn_tablet.specs.Steps.{step, stepped}
+use Rattle.pn_tablet.specs.Steps.{step, tablet_after}
 use Rattle.pn_tablet.specs.Tablets.{TabletStateValue, empty_tablet}
-use Rattle.pn_tablet.specs.declared.op.TabletOp.{TabletOp}
+use Rattle.pn_tablet.specs.declared.state.TabletOp.{TabletOp}
 use Rattle.pn_apply.specs.Applying.{IsJoinIn, AreJoinsIn, HavePositions, all_stepped}
 use Rattle.pn_apply.proofs.Prefixes.{same_length, mapped_at, join_at, positions_at}
 use Rattle.pn_live.specs.PublishedTablets.{PublishedTabletValue, books_of, state_at, with_op, with_ops, AreOldOrAppended}
@@ -21,8 +21,8 @@ Appends old op new = new ≡ with_op old op
 abbrev pub AppendedFirst : ℕ → List PublishedTabletValue → List TabletOp → List PublishedTabletValue → Type 0
 AppendedFirst n olds ops news = DoneFirst Appends n olds ops news
 
-pub state_appended : (tablet : PublishedTabletValue) (op : TabletOp) → state_at (with_op tablet op) ≡ stepped (state_at tablet) op
-state_appended tablet op = fold_last stepped (empty_tablet tablet.range) tablet.list op
+pub state_appended : (tablet : PublishedTabletValue) (op : TabletOp) → state_at (with_op tablet op) ≡ tablet_after (state_at tablet) op
+state_appended tablet op = fold_last tablet_after (empty_tablet tablet.range) tablet.list op
 
 pub all_first : (n : ℕ) (olds : List PublishedTabletValue) (ops : List TabletOp) (news : List PublishedTabletValue) → AppendedFirst n olds ops news → length olds ≤ n → news ≡ with_ops olds ops
 all_first zero [] ops news done past = done
@@ -58,7 +58,7 @@ count_stepped (old ∷ olds) [] same = absurd (omega (arith, same))
 count_stepped (old ∷ olds) (op ∷ ops) same = ap suc (count_stepped olds ops (omega (arith, same)))
 
 stepped_at : (olds : List PublishedTabletValue) (ops : List TabletOp) (n : ℕ) (old : PublishedTabletValue) (op : TabletOp) (d : TabletStateValue) → length olds ≡ length ops → n < length olds
-    → get_or (all_stepped (map state_at olds) ops) n d ≡ stepped (state_at (get_or olds n old)) (get_or ops n op)
+    → get_or (all_stepped (map state_at olds) ops) n d ≡ tablet_after (state_at (get_or olds n old)) (get_or ops n op)
 stepped_at [] ops n old op d same within = absurd (omega arith)
 stepped_at (o ∷ olds) [] n old op d same within = absurd (omega (arith, same))
 stepped_at (o ∷ olds) (p ∷ ops) zero old op d same within = refl
@@ -95,8 +95,8 @@ module _ (olds : List PublishedTabletValue) (ops : List TabletOp) (fit : AreJoin
       let join : IsJoinIn (state_at old) op =
       subst (λ (t : TabletStateValue). IsJoinIn t op) here
       (subst (λ (o : TabletOp). IsJoinIn (get_or (map state_at olds) n (state_at old)) o) (sym op_there) (join_at (map state_at olds) ops n (state_at old) op fit op_within)) in
-      let is : state ≡ stepped (state_at old) op =
-      first_of (all_stepped (map state_at olds) ops) n state rest left ∙ (stepped_at olds ops n old op state same next_within ∙ λ i. stepped (state_at (sym (tablet_before old at) i)) (sym op_there i)) in
+      let is : state ≡ tablet_after (state_at old) op =
+      first_of (all_stepped (map state_at olds) ops) n state rest left ∙ (stepped_at olds ops n old op state same next_within ∙ λ i. tablet_after (state_at (sym (tablet_before old at) i)) (sym op_there i)) in
       joins_well (state_at old) op join ∙ ap Ok (sym is)
 
   pub brings_positions : HavePositions ops → HasPositions op

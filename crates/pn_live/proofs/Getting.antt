@@ -8,7 +8,7 @@ use Rattle.pn_tablet.specs.Layouts.{tablet_of}
 use Rattle.pn_tablet.specs.Refusals.{IsRight, Refuses}
 use Rattle.pn_scan.specs.Candidates.{Look}
 use Rattle.pn_scan.specs.Pages.{unless}
-use Rattle.pn_scan.specs.Reads.{IsGet, cells_got}
+use Rattle.pn_scan.specs.Reads.{IsGet, cells_of_keys}
 use Rattle.pn_scan.specs.Views.{LooksOnce, Answers, is_memory, cell_at}
 use Rattle.pn_scan.specs.declared.fault.ScanFault.{ScanFault}
 use Rattle.pn_scan.specs.declared.fault.ScanFault.TheVariants.{Memory}
@@ -113,7 +113,7 @@ module _ {keys : List (List ℕ)} {index : ℕ} {old now : LiveReaderValue} (han
     found = looking.1.1.found;
     order = looking.1.1.order;
     only = λ n inside. none_refused_front n seen looking.1.1.none_refused;
-    answers = subst (λ (o : Option ScanFault). IsOk (unless o (cells_got keys seen))) (sym looking.1.1.none_refused) refl;
+    answers = subst (λ (o : Option ScanFault). IsOk (unless o (cells_of_keys keys seen))) (sym looking.1.1.none_refused) refl;
     whole = tt;
   }
 

@@ -4,7 +4,7 @@ use Rattle.logbook.specs.Pages.{Book}
 use Rattle.pn_tablet.specs.Ranges.{Ends}
 use Rattle.pn_tablet.specs.Steps.{state_of}
 use Rattle.pn_tablet.specs.Tablets.{TabletStateValue}
-use Rattle.pn_tablet.specs.declared.op.TabletOp.{TabletOp}
+use Rattle.pn_tablet.specs.declared.state.TabletOp.{TabletOp}
 
 -- a live tablet: which one it is, its range, and the operations that are published
 pub record PublishedTabletValue : Type 0 where

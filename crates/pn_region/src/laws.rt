@@ -6,8 +6,8 @@ ghost use Rattle.pn_join.specs.Prelude.{Positions, Reaches, name_cmp, position_o
 ghost use Rattle.pn_record.specs.declared.image.Image.{Image};
 ghost use Rattle.pn_record.specs.Prelude.{bytes_cmp, table_of, NotOlder};
 ghost use Rattle.pn_stream.specs.Prelude.{BrokerRecord, AreHonest, up_to, DeliveryValue};
-ghost use Rattle.pn_tablet.specs.Prelude.{Bounds, IsLayout, tablet_of, TabletCopyValue, copy_of, IsSpelled, lost, step, TabletStateValue};
-ghost use Rattle.pn_tablet.specs.declared.op.TabletOp.TheVariants.{Adopt};
+ghost use Rattle.pn_tablet.specs.Prelude.{Bounds, IsLayout, tablet_of, TabletCopyValue, copy_of, IsSpelled, recovering_tablet, step, TabletStateValue};
+ghost use Rattle.pn_tablet.specs.declared.state.TabletOp.TheVariants.{Adopt};
 ghost use Rattle.pn_tablet.specs.declared.state.Status.TheVariants.{Serving};
 ghost use Rattle.pn_apply.specs.Prelude.{all_images, images_in};
 ghost use Rattle.pn_region.specs.Faith.{IsFaithful, AreFaithful};
@@ -159,7 +159,7 @@ pub fn marks_tell_what_was_taken()
 /// A faithful tablet that serves, and whose cover is its reach, has the cells of all images in its range up to there.
 /// The copies that a faithful tablet gives are honest.
 pub fn honest_copies_keep_tablets_faithful()
-    ensures lost { (broker : BrokerRecord) (tablet : TabletStateValue) → Reaches tablet.reach tablet.cover → IsFaithful broker (lost tablet) }
+    ensures recovering_tablet { (broker : BrokerRecord) (tablet : TabletStateValue) → Reaches tablet.reach tablet.cover → IsFaithful broker (recovering_tablet tablet) }
     ensures adopted { (broker : BrokerRecord) (tablet after : TabletStateValue) (copy : TabletCopyValue)
         → IsFaithful broker tablet → IsHonestCopy broker copy → step tablet (Adopt copy) ≡ Ok after
         → IsFaithful broker after }

@@ -6,7 +6,7 @@ use Rattle.pn_join.specs.Marks.{Positions}
 use Rattle.pn_tablet.specs.Layouts.{Bounds}
 use Rattle.pn_tablet.specs.Proofs.Coding.{ends_code, positions_code}
 use Rattle.pn_tablet.specs.Ranges.{Ends}
-use Rattle.pn_tablet.specs.declared.op.TabletOp.{TabletOp}
+use Rattle.pn_tablet.specs.declared.state.TabletOp.{TabletOp}
 use Rattle.pn_region.specs.Proofs.Coding.{entry_code}
 use Rattle.pn_region.specs.declared.notices.Entry.{Entry}
 use Rattle.pn_live.specs.LiveRegions.{LiveRegionValue}

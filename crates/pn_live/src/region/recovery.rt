@@ -4,7 +4,7 @@ ghost use Rattle.std.specs.Prelude.{◌≡◌, ◌≤◌, length, slice_get, Ok,
 ghost use Rattle.std.specs.List.{position};
 ghost use Rattle.pn_tablet.specs.Prelude.{HasPositions, Refuses, step, same_range};
 ghost use Rattle.pn_tablet.specs.Steps.{is_memory};
-ghost use Rattle.pn_tablet.specs.declared.op.TabletOp.TheVariants.{Lose};
+ghost use Rattle.pn_tablet.specs.declared.state.TabletOp.TheVariants.{Lose};
 ghost use Rattle.pn_region.specs.Prelude.{after_loss, after_op, after_adoption, IsRegion, IsSince};
 ghost use Rattle.pn_live.specs.LiveRegions.{core, tablets_in};
 ghost use Rattle.pn_live.specs.PublishedTablets.{state_at, notes_of};

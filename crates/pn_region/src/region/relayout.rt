@@ -3,8 +3,8 @@
 ghost use Rattle.std.specs.Prelude.{◌≡◌, ◌++◌, map, filter, Ok, IsTrue, IfOk, IfErr, OnOk, OnErr, option_map, unwrap_or};
 ghost use Rattle.std.specs.FinMap.{is_sorted};
 ghost use Rattle.std.specs.List.{flat_map};
-ghost use Rattle.pn_join.specs.Marks.{least as least_of};
-ghost use Rattle.pn_join.specs.Prelude.{Reaches, are_positions, raised};
+ghost use Rattle.pn_join.specs.Marks.{least_marks};
+ghost use Rattle.pn_join.specs.Prelude.{Reaches, are_positions, raised_marks};
 ghost use Rattle.pn_record.specs.Prelude.{bytes_cmp};
 ghost use Rattle.pn_tablet.specs.Prelude.{in_range, lie_in, meet, Refuses};
 ghost use Rattle.pn_apply.specs.Prelude.{ranges};
@@ -139,7 +139,7 @@ fn cover_of(alloc: Global, tablets: &[TabletState], range: &Range) -> Result<Mar
 
 // The lesser of both positions at each name, or the marks where there are no others.
 fn with_cover(least: Option<Marks>, marks: &Marks) -> Result<Marks, NoMemory>
-    ensures { IfOk result (λ both. both ≡ unwrap_or (option_map (λ own. least_of own marks.now) least) marks.now) }
+    ensures { IfOk result (λ both. both ≡ unwrap_or (option_map (λ own. least_marks own marks.now) least) marks.now) }
 {
     match least {
         Some(least) => least.least(marks),
@@ -164,7 +164,7 @@ fn reach_of(alloc: Global, tablets: &[TabletState], range: &Range) -> Result<Mar
 
 // Raises the reach to the tablet's, where it is less.
 fn raise_to(reach: &mut Marks, tablet: &TabletState) -> Result<(), NoMemory>
-    ensures ok { OnOk result (reach.new ≡ raised reach.old tablet.now.reach) }
+    ensures ok { OnOk result (reach.new ≡ raised_marks reach.old tablet.now.reach) }
     ensures positions { IsTrue (are_positions tablet.now.reach) }
     ensures reached { Reaches tablet.now.reach tablet.now.cover }
 {

@@ -1,7 +1,7 @@
 -- The cells so far are joined, and there is capacity for those that are left.
 use Rattle.std.proofs.Common.{◌≡◌, ◌+◌, ◌++◌, map, length, vec_capacity}
 use Rattle.std.specs.Vec.Iter.{into_iter_items}
-use Rattle.pn_tablet.specs.declared.op.TabletOp.TheVariants.{Join}
+use Rattle.pn_tablet.specs.declared.state.TabletOp.TheVariants.{Join}
 use Rattle.pn_apply.proofs.reducing.joins.Given as goal
 
 abbrev pub invariant-loop-own : goal.invariant-loop-own

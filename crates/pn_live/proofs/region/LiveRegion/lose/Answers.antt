@@ -2,7 +2,7 @@
 use Rattle.std.proofs.Common.{◌≡◌, length, get_or, Ok, ap, ◌∙◌, subst, arith}
 use Rattle.std.proofs.lemmas.List.{length-map}
 use Rattle.pn_tablet.specs.Steps.{step}
-use Rattle.pn_tablet.specs.declared.op.TabletOp.TheVariants.{Lose}
+use Rattle.pn_tablet.specs.declared.state.TabletOp.TheVariants.{Lose}
 use Rattle.pn_region.specs.Regions.{IsRegion}
 use Rattle.pn_region.proofs.NewRegion.{tablet_count}
 use Rattle.pn_region.proofs.OneTablet.{stepping_is}

@@ -2,7 +2,7 @@
 use Rattle.std.proofs.Common.{◌≡◌, List, [], ◌∷◌, ◌++◌, length, take, get_or, sym, ap, subst, ◌∙◌, ◌+◌, ◌<◌, arith}
 use Rattle.std.proofs.lemmas.List.{take_more, take_all, length_push}
 use Rattle.pn_tablet.specs.Tablets.{TabletStateValue}
-use Rattle.pn_tablet.specs.declared.op.TabletOp.{TabletOp}
+use Rattle.pn_tablet.specs.declared.state.TabletOp.{TabletOp}
 use Rattle.pn_live.specs.Drafts.{Lacks}
 use Rattle.pn_live.specs.PublishedTablets.{PublishedTabletValue, state_at}
 use Rattle.pn_live.proofs.Joining.{AllLack, lack_more, caught_up}
