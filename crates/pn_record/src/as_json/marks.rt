@@ -5,12 +5,14 @@ ghost use Rattle.std.specs.List.{list_all};
 ghost use Rattle.std.specs.BTreeMap.{IsOrdered};
 ghost use Rattle.serde_json.specs.View.{view, members_view};
 ghost use Rattle.pn_join.specs.Prelude.{Positions, are_positions, is_name};
-ghost use Rattle.pn_json.specs.Prelude.{IsUnless, whole_number};
+ghost use Rattle.pn_json.specs.Prelude.{Appends, IsUnless, value_tokens, whole_number};
 ghost use Rattle.pn_record.specs.Faults.{IsOfValue};
 ghost use Rattle.pn_record.specs.Marks.{IsMarks, is_mark as is_mark_of, all_whole, positions_of, positions_data, marks_data, marks_in};
 
 use crate::{ImageFault, Member};
+use json::Writer;
 use pn_join::{Highest, LAST_POSITION, Marks, Name, NoMemory, Table};
+use pn_json::write_number_member;
 use serde_json::{Map, Value};
 use std::alloc::Global;
 
@@ -112,4 +114,16 @@ fn members_of(alloc: Global, marks: &Marks) -> Result<Map<String, Value>, NoMemo
         serde_json::put(&mut members, alloc, name.as_str(), Value::from(position.0))?;
     }
     Ok(members)
+}
+
+/// Writes marks into a line: `{"east":5,"west":2}`.
+pub fn write_marks(writer: &mut Writer, marks: &Marks) -> Result<(), NoMemory>
+    ensures { OnOk result (Appends writer.old writer.new (value_tokens (marks_data marks.now))) }
+{
+    writer.begin_object()?;
+    for (name, position) in marks.iter() {
+        write_number_member(writer, name.as_str(), position.0)?;
+    }
+    writer.end_object()?;
+    Ok(())
 }
