@@ -17,7 +17,7 @@ pub enum Stop {
 
 /// Takes at most `size` bytes at a time, and stops at write or flush number `stops_at`, of which the first is 1.
 #[derive(Drop)]
-pub struct Stopping {
+pub struct StoppingWriter {
     /// What was written.
     pub taken: Vec<u8>,
     /// How many writes there were.
@@ -29,15 +29,15 @@ pub struct Stopping {
     stop: Stop,
 }
 
-impl Stopping {
+impl StoppingWriter {
     /// A writer that never stops.
-    pub fn never(alloc: Global, size: usize) -> Stopping {
-        Stopping::new(alloc, size, 0, Stop::Fails)
+    pub fn never(alloc: Global, size: usize) -> StoppingWriter {
+        StoppingWriter::new(alloc, size, 0, Stop::Fails)
     }
 
     /// A writer that stops at one call.
-    pub fn new(alloc: Global, size: usize, stops_at: usize, stop: Stop) -> Stopping {
-        Stopping {
+    pub fn new(alloc: Global, size: usize, stops_at: usize, stop: Stop) -> StoppingWriter {
+        StoppingWriter {
             taken: Vec::new(alloc),
             writes: 0,
             flushes: 0,
@@ -48,7 +48,7 @@ impl Stopping {
     }
 }
 
-impl Write for Stopping {
+impl Write for StoppingWriter {
     fn write(&mut self, buf: &[u8]) -> io::Result<usize> {
         self.writes = self.writes.wrapping_add(1);
         if self.writes == self.stops_at {

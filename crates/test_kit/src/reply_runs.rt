@@ -5,17 +5,17 @@ use std::test::Fail;
 
 /// Replies in the order in which they came.
 #[derive(Drop)]
-pub struct Runs {
-    shown: String,
+pub struct ReplyRuns {
+    text: String,
     last: String,
     count: usize,
 }
 
-impl Runs {
+impl ReplyRuns {
     /// None yet.
-    pub fn new(alloc: Global) -> Runs {
-        Runs {
-            shown: String::new(alloc),
+    pub fn new(alloc: Global) -> ReplyRuns {
+        ReplyRuns {
+            text: String::new(alloc),
             last: String::new(alloc),
             count: 0,
         }
@@ -34,7 +34,7 @@ impl Runs {
     // Shows the last reply, and how often it came.
     fn show(&mut self) -> Result<(), Fail> {
         if self.count > 0 {
-            write!(self.shown, "{} times {}. ", self.count, self.last.as_str())?;
+            write!(self.text, "{} times {}. ", self.count, self.last.as_str())?;
         }
         self.count = 0;
         Ok(())
@@ -43,6 +43,6 @@ impl Runs {
     /// All replies, each with how often it came in a row.
     pub fn text(mut self) -> Result<String, Fail> {
         self.show()?;
-        Ok(self.shown)
+        Ok(self.text)
     }
 }
