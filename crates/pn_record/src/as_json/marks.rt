@@ -19,13 +19,13 @@ use std::alloc::Global;
 /// The marks that a value spells: an object from names to positions of 1 to 10^15. Faults name the member
 /// `at`. `Memory` comes only if the value is marks.
 pub fn marks_of(alloc: Global, value: &Value) -> Result<Marks, ImageFault>
-    ensures found { IfOk result (λ marks. IsMarks (view value.now) marks) }
-    ensures only { (marks : Positions) → IsMarks (view value.now) marks → IsUnless ImageFault.Memory result (Ok marks) }
-
-    // Which fault it is.
     ensures exact { IsUnless ImageFault.Memory result (marks_in (view value.now)) }
     ensures memory { IsErrOf result ImageFault.Memory → IsOk (marks_in (view value.now)) }
     ensures faults { IfErr result IsOfValue }
+
+    // The marks are those whose JSON the value is.
+    ensures found { IfOk result (λ marks. IsMarks (view value.now) marks) }
+    ensures only { (marks : Positions) → IsMarks (view value.now) marks → IsUnless ImageFault.Memory result (Ok marks) }
 {
     checked_marks(alloc, value)
 }
