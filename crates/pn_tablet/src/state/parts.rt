@@ -30,8 +30,7 @@ impl TabletState {
         requires reach_positions { IsTrue (are_positions reach) }
         ensures { IfOk result (λ tablet. tablet ≡ record { range = range; cells = cells; cover = cover; reach = reach; status = Serving }) }
     {
-        // A call on the cells tells the checker that the contents of each rise.
-        let _ = cells.iter();
+        cells.recall_table();
         let spare = reach.dup()?;
         Ok(TabletState {
             range,
