@@ -44,7 +44,7 @@ shown_condition (Lt field value) = lt (string_bytes field) (shown_value value)
 shown_condition (Gt field value) = gt (string_bytes field) (shown_value value)
 shown_condition (Prefix field value) = prefix (string_bytes field) (string_bytes value)
 
--- the same of one that is borrowed
+-- the borrowed condition as contracts show it
 abbrev pub shown_condition_ref : BorrowedCondition → ConditionValue
 shown_condition_ref (Has field) = has field.now
 shown_condition_ref (Eq field value) = eq field.now (shown_ref value)

@@ -129,7 +129,7 @@ impl UncheckedConditions<'_> {
         self.fit
     }
 
-    /// The conditions.
+    /// The conditions that were made of the values.
     pub(crate) fn conditions(self) -> Result<Vec<Condition>, NoMemory>
         requires { IsTrue (nat_le (length self) MAX_CONDITIONS && list_all is_condition self) }
         ensures { IfOk result (λ conditions. map shown_condition conditions.items ≡ self.entry) }

@@ -38,6 +38,7 @@ abbrev pub after_step : TabletStateValue → Result TabletStateValue OpFault →
 after_step tablet (Ok after) = after
 after_step tablet (Err refusal) = tablet
 
+-- the tablet after an operation, which changes nothing where it is refused
 abbrev pub tablet_after : TabletStateValue → TabletOp → TabletStateValue
 tablet_after tablet op = after_step tablet (step tablet op)
 

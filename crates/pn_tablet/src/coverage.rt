@@ -31,7 +31,7 @@ impl Model for Coverage {
 }
 
 impl Coverage {
-    /// That of an empty tablet.
+    /// The coverage of an empty tablet, which took nothing.
     pub fn new(alloc: Global) -> Coverage
         ensures { result ≡ record { cover = []; reach = [] } }
     {
@@ -82,7 +82,7 @@ impl Coverage {
         ensures { IsTrue (are_positions self.now.reach) }
     {}
 
-    /// Both raised by the marks.
+    /// The cover and the reach, raised by the marks.
     pub fn with_marks(&self, marks: &Marks) -> Result<Coverage, NoMemory>
         requires { IsTrue (are_positions marks.now) }
         ensures { IfOk result (λ higher. higher ≡ record { cover = raised_marks self.now.cover marks.now; reach = raised_marks self.now.reach marks.now }) }

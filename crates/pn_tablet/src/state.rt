@@ -176,7 +176,7 @@ impl TabletState {
     }
 }
 
-// Both positions raised by the marks, and a copy of the reach, which a later loss takes as the need.
+// The coverage raised by the marks, and a copy of its reach, which a later loss takes as the need.
 fn raise_coverage(coverage: &Coverage, marks: &Marks) -> Result<(Coverage, Marks), NoMemory>
     requires { IsTrue (are_positions marks.now) }
     ensures { IfOk result (λ both. (both.0.cover ≡ raised_marks coverage.now.cover marks.now) × ((both.0.reach ≡ raised_marks coverage.now.reach marks.now) × (both.1 ≡ both.0.reach))) }

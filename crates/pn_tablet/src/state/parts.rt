@@ -75,7 +75,7 @@ impl TabletState {
         self.coverage.reach()
     }
 
-    /// Whether it serves.
+    /// Whether the tablet serves, or what it needs in order to.
     pub fn status(&self) -> &Status
         ensures status { result.now ≡ self.now.status }
         ensures positions { IsTrue (are_positions (needed self.now.status)) }
