@@ -2,7 +2,7 @@
 
 ghost use Rattle.std.specs.Prelude.{◌≡◌, ◌≤◌, length, IsTrue};
 ghost use Rattle.pn_join.specs.Prelude.{are_positions};
-ghost use Rattle.pn_region.specs.Prelude.{MAX_STREAMS};
+ghost use Rattle.pn_region.specs.declared.marking.TheConstants.{MAX_STREAMS};
 
 mod closing;
 mod opening;

@@ -36,7 +36,7 @@ made_of tablets range = record {
 }
 
 -- the region in another layout: each of its tablets is made of the old ones
-abbrev pub relaid : RegionValue → Bounds → RegionValue
+abbrev pub with_layout : RegionValue → Bounds → RegionValue
 with_layout region bounds = record region { layout = bounds; tablets = map (made_of region.tablets) (ranges bounds) }
 
 -- the tablet is recovering

@@ -4,7 +4,7 @@
 #![tactic(auto)]
 
 ghost use Rattle.std.specs.Prelude.{◌≡◌, ◌≤◌, All, IfOk, IfSome};
-ghost use Rattle.pn_live.specs.Prelude.{MAX_READERS};
+ghost use Rattle.pn_live.specs.declared.region.opening.TheConstants.{MAX_READERS};
 ghost use Rattle.pn_live.specs.LiveRegions.{IsReaderIn};
 ghost use Rattle.pn_live.specs.Readers.{tablets_of};
 

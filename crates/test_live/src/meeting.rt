@@ -1,7 +1,7 @@
 //! Workers of a round that meet, in a plain region and in a live one: two, three and sixteen.
 
 ghost use Rattle.std.specs.Prelude.{◌≤◌};
-ghost use Rattle.pn_apply.specs.Prelude.{MAX_WORKERS};
+ghost use Rattle.pn_apply.specs.declared.reducing.TheConstants.{MAX_WORKERS};
 
 use pn_apply::Gate;
 use pn_live::LiveRegion;

@@ -1,7 +1,7 @@
 //! Eight tablets, worked by some workers.
 
 ghost use Rattle.std.specs.Prelude.{◌≤◌, IfSome};
-ghost use Rattle.pn_apply.specs.Prelude.{MAX_WORKERS};
+ghost use Rattle.pn_apply.specs.declared.reducing.TheConstants.{MAX_WORKERS};
 
 use crate::counting::Counting;
 use pn_apply::{MAX_WORKERS, reduce};
