@@ -2,13 +2,15 @@
 from faults.preloaded import built_library, with_library
 
 # Of the calls named FAILING_CALL, on standard input, standard output or a socket, each takes at most FAILING_BYTES, and the one of
-# the number FAILING_AT fails, as all after it, unless FAILING_ONCE is 1.
+# the number FAILING_AT fails, as all after it, unless FAILING_ONCE is 1. Of `epoll_ctl` those that add a socket are such calls.
 SHIM = r"""
 #define _GNU_SOURCE
 #include <errno.h>
 #include <stdatomic.h>
 #include <stdlib.h>
 #include <string.h>
+#include <sys/epoll.h>
+#include <sys/socket.h>
 #include <sys/syscall.h>
 #include <sys/types.h>
 #include <unistd.h>
@@ -57,6 +59,21 @@ ssize_t recv(int socket, void *buffer, size_t size, int flags) {
 ssize_t send(int socket, const void *text, size_t size, int flags) {
     size_t most = taken("send", size);
     return most ? syscall(SYS_sendto, socket, text, most, flags, NULL, 0) : failed();
+}
+
+static int is_socket(int file) {
+    int kind;
+    socklen_t size = sizeof kind;
+    return !getsockopt(file, SOL_SOCKET, SO_TYPE, &kind, &size);
+}
+
+int epoll_ctl(int poll, int what, int file, struct epoll_event *event) {
+    int fails = what == EPOLL_CTL_ADD && is_socket(file) && !taken("epoll_ctl", 1);
+    return fails ? failed() : syscall(SYS_epoll_ctl, poll, what, file, event);
+}
+
+int epoll_wait(int poll, struct epoll_event *events, int most, int milliseconds) {
+    return taken("epoll_wait", 1) ? syscall(SYS_epoll_wait, poll, events, most, milliseconds) : failed();
 }
 """
 

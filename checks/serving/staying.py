@@ -66,8 +66,9 @@ class Staying:
         *words: str,
         threads: int = 4,
         errors: BinaryIO | int | None = None,
+        environment: dict[str, str] | None = None,
     ) -> None:
-        pipes = {"stdin": subprocess.DEVNULL, "stdout": subprocess.PIPE}
+        pipes = {"stdin": subprocess.DEVNULL, "stdout": subprocess.PIPE, "env": environment}
         self.port, self.folder = free_port(), folder
         self.errors = os.path.join(folder, f"errors-{self.port}")
         where = [] if "--socket" in words else ["--port", str(self.port)]

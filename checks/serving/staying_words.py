@@ -1,5 +1,6 @@
 """Where a program that stays listens, and what it says of its progress: checks of `checks/run stay`."""
 import contextlib
+import ctypes
 import os
 import pty
 import re
@@ -10,9 +11,14 @@ import threading
 import time
 
 from common.served import SECONDS, Client, Served, fifo, message, row_of, same, written
-from serving.staying import KEYS, Staying, key_of, messages
+from faults.watched import Watched
+from serving.staying import KEYS, Staying, key_of, messages, until
 
 UMASK = 0o022
+# For how long the system takes over a file's mode.
+MODE_WAITS = 0.3
+# As `prctl` and the rights of processes have them.
+PR_CAPBSET_DROP, CAP_DAC_OVERRIDE = 24, 1
 
 
 class Connected(Client):
@@ -98,6 +104,60 @@ def check_unix_socket(program: str, folder: str) -> None:
     with bound(path, True):
         fails_to_listen(program, east, "--socket", path)
         same("another program's file", os.path.exists(path), True)
+
+
+def without_override() -> None:
+    """Takes from this process, and what it becomes, the right of root to pass over the rights of files."""
+    ctypes.CDLL(None).prctl(PR_CAPBSET_DROP, CAP_DAC_OVERRIDE, 0, 0, 0)
+
+
+def fails_beside(program: str, east: str, path: str, what: str) -> None:
+    """Fails to listen at a path where another program's socket is, and leaves it."""
+    before = os.lstat(path).st_ino
+    line = [program, "serve", "--socket", path, f"east={east}"]
+    ran = subprocess.run(line, stdin=subprocess.DEVNULL, capture_output=True, timeout=SECONDS, preexec_fn=without_override)
+    same(f"how it ends beside {what}", (ran.returncode, ran.stdout, ran.stderr), (1, b"", b"pnuts: cannot listen\n"))
+    same(f"whether {what} is there still", os.path.exists(path) and os.lstat(path).st_ino == before, True)
+
+
+def check_sockets_in_use(program: str, folder: str) -> None:
+    """A socket that another program listens on stays, though nobody can connect: for want of right, or since too many wait there."""
+    east, path = written(folder, "east", b""), os.path.join(folder, "socket")
+    with bound(path, True):
+        os.chmod(path, 0)
+        fails_beside(program, east, path, "a socket without the right to connect")
+    os.remove(path)
+    with bound(path, False) as other, contextlib.ExitStack() as stay:
+        other.listen(0)
+        with contextlib.suppress(BlockingIOError):
+            for _ in range(100):
+                caller = stay.enter_context(socket.socket(socket.AF_UNIX))
+                caller.setblocking(False)
+                caller.connect(path)
+            raise AssertionError("a socket on which none may wait takes a hundred")
+        fails_beside(program, east, path, "a socket on which no more may wait")
+
+
+def check_mode_before_listening(program: str, folder: str) -> None:
+    """A client that tries to connect all the while gets in only once the socket has its mode, however long that takes."""
+    east, path = written(folder, "east", b""), os.path.join(folder, "socket")
+    given = Watched(folder, MODE_WAITS).environment
+    line = [program, "serve", "--sessions", "1", "--socket", path, f"east={east}"]
+    with subprocess.Popen(line, stdin=subprocess.DEVNULL, stdout=subprocess.DEVNULL, env=given) as process:
+        until("its file is there", lambda: os.path.exists(path))
+        refused, last = set(), time.monotonic() + SECONDS
+        while time.monotonic() < last:
+            before = stat.filemode(os.stat(path).st_mode)
+            try:
+                client = connected(path)
+            except ConnectionRefusedError:
+                refused.add(before)
+                continue
+            same("the mode of its file as a client gets in", stat.filemode(os.stat(path).st_mode), "srw-------")
+            client.__exit__()
+            break
+        same("its status", process.wait(SECONDS), 0)
+    same("whether its file had another mode before", bool(refused - {"srw-------"}), True)
 
 
 def serves_and_ends(program: str, east: str, path: str) -> None:
