@@ -12,8 +12,8 @@ the right body, written in the edit's shape, is proved without that answer too. 
 meaning. Edits that need one and have none are counted.
 
 A clause may say of some value only that there is one, as `(x : T) × ..`, itself or by a definition that it cites. An edit under
-it may be refused just because nobody wrote down a witness, and so shows nothing by itself, until a proof with a wrong witness
-was tried. Each such edit is named, and those are counted that do not say how one was tried.
+it may be refused just because nobody wrote down a witness, and so shows nothing by itself, unless another clause refuses it
+too or a proof with a wrong witness was tried. Each such edit is named, and they are counted.
 
 A file of edits is text, a word and its value on each line, with an empty line between two edits:
 
@@ -171,7 +171,9 @@ class Trial:
         if own:
             is_less = any(function_of(path) in names_of([edit]) for path in dropped)
             self.without_answers += [edit] * is_less
-            doubt = f"; {no_witness(edit)}" * edit.shows_nothing()
+            for _, refused in own:
+                edit.note(refused)
+            doubt = f"; {edit.doubt()}" * edit.shows_nothing()
             self.say(edit, f"refused: {own[0][0]}: {own[0][1]}{' (without the answers that no longer fit)' * is_less}{doubt}")
         return bool(own)
 
@@ -224,15 +226,13 @@ def less_answers(edits: list[Edit], said: str, dropped: Texts) -> Texts:
     return {path: without_answers(dropped.get(path) or source(edits[0].crate, path), lines) for path, lines in wrong.items()}
 
 
-def no_witness(edit: Edit) -> str:
-    return f"shows nothing by itself: its contract asks only that there is some value ({', '.join(sorted(edit.existential))})"
-
-
 def say_witnesses(edits: list[Edit]) -> None:
     """Counts the edits that may be refused for want of a witness."""
     asked = [it for it in edits if it.existential]
-    tried = sum(not it.shows_nothing() for it in asked)
-    print(f"{len(asked)} of them under a clause that asks only for some value; {tried} with a wrong witness tried, {len(asked) - tried} that show nothing by themselves")
+    otherwise, tried = sum(it.is_refused_otherwise for it in asked), sum(bool(it.told.witness) for it in asked)
+    nothing = sum(it.shows_nothing() for it in asked)
+    print(f"{len(asked)} of them under a clause that asks only for some value; {otherwise} refused by another clause, {tried} with a wrong witness "
+          f"tried, {nothing} that show nothing by themselves")
 
 
 def bundles_of(edits: list[Edit], most: int) -> list[list[Edit]]:
@@ -291,7 +291,7 @@ def main(words: list[str]) -> int:
         print(f"{edit.told.at}: {edit.crate}/{edit.name}: it cannot be applied: {edit.why_not}")
     if unfit or given.stand:
         for edit in (it for it in edits if it.shows_nothing()):
-            print(f"{edit.told.at}: {edit.crate}/{edit.name}: {no_witness(edit)}")
+            print(f"{edit.told.at}: {edit.crate}/{edit.name}: {edit.doubt()}")
         print(f"{len(edits) - len(unfit)} edits can be applied, {len(unfit)} not")
         say_witnesses(edits)
         return 1 if unfit else 0

@@ -47,6 +47,7 @@ class Edit:
         self.changes: list[Change] = []
         self.locations: set[Location | None] = set()
         self.existential: set[str] = set()
+        self.is_refused_otherwise = False
         self.why_not = told.fault
         pairs = told.control if is_control else told.pairs
         try:
@@ -77,8 +78,17 @@ class Edit:
         return {it.path for it in self.changes}
 
     def shows_nothing(self) -> bool:
-        """Whether a clause of its functions says of some value only that there is one, and no wrong witness was tried."""
-        return bool(self.existential) and not self.told.witness
+        """Whether a clause of its functions says of some value only that there is one, no other clause was seen to refuse it, and
+        no wrong witness was tried."""
+        return bool(self.existential) and not self.is_refused_otherwise and not self.told.witness
+
+    def doubt(self) -> str:
+        return f"shows nothing by itself: its contract asks only that there is some value ({', '.join(sorted(self.existential))})"
+
+    def note(self, refused: str) -> None:
+        """Notes the goals by which it was refused: a clause of another kind among them is enough."""
+        clauses = {goal.rpartition("clause-")[2] for goal in refused.split(", ") if "clause-" in goal}
+        self.is_refused_otherwise = self.is_refused_otherwise or not clauses <= self.existential
 
     def is_alone(self) -> bool:
         """Whether it changes more than bodies of functions."""
