@@ -2,11 +2,11 @@
 
   checks/run memory-limit PROGRAM [--keys N]
 
-First a script of a million new keys is answered under limits of the address space (as `prlimit --as` sets them), from one in
-which the program can hardly begin to one that holds most keys. Then four streams are served under such limits, while four
-clients ask. Every reply is right or `memory`: a record that was taken is shown, and a refused delivery may have been taken in
-part; once a client was shown a record, no later reply lacks it. The program ends by a status and a line that the documents
-have, never by a signal.
+First a page of a thousand records is asked for, which has to be whole. Then a script of a million new keys is answered under
+limits of the address space (as `prlimit --as` sets them), from one in which the program can hardly begin to one that holds most
+keys. Then four streams are served under such limits, while four clients ask. Every reply is right or `memory`: a record that was
+taken is shown, and a refused delivery may have been taken in part; once a client was shown a record, no later reply lacks it.
+The program ends by a status and a line that the documents have, never by a signal.
 
 Exit status 0 where that holds.
 """
@@ -23,6 +23,7 @@ from common.tried import program_parser
 
 MEGABYTE = 1 << 20
 LIMITS = [8, 16, 32, 64, 128, 256]
+PAGE_LIMIT, PAGE_ROWS, PAGE = 32, 1_000, b'{"do":"scan","query":{"limit":1000}}'
 SERVED_LIMITS = [32, 64, 96, 128, 160, 256, 512]
 BOUNDS = ["--bounds", '["k0250000","k0500000","k0750000"]']
 NAMES = ["east", "north", "south", "west"]
@@ -108,6 +109,18 @@ def check_replay(program: str, script: str, lines: list[tuple[bytes, list[int]]]
         print(f"replay in {megabytes} MB: {replies.count(MEMORY)} of {len(replies)} replies are `memory`", flush=True)
 
 
+def check_page(program: str, folder: str) -> None:
+    """A page of a thousand records takes little beside what it holds: under a limit of some hundred times its size it is whole."""
+    deliveries = [line for line, _ in lines_of(PAGE_ROWS) if line.startswith(b'{"batches"')]
+    script = written(folder, "page", b"".join(line + b"\n" for line in [*deliveries, PAGE]))
+    with open(script, "rb") as file:
+        ended = subprocess.run([program, "replay"], stdin=file, capture_output=True, timeout=SECONDS, preexec_fn=limited(PAGE_LIMIT))
+    page = b'{"next":null,"rows":[%b]}' % b",".join(map(row_of, range(PAGE_ROWS)))
+    same(f"how a page in {PAGE_LIMIT} MB ends", (ended.returncode, ended.stderr), (0, b""))
+    same(f"the page in {PAGE_LIMIT} MB", ended.stdout.splitlines()[-1], page)
+    print(f"a page of {len(page):,} bytes is whole in {PAGE_LIMIT} MB", flush=True)
+
+
 class Asking(threading.Thread):
     """A client that asks for keys of all streams, and notes what was shown and is not shown later."""
 
@@ -171,6 +184,7 @@ def main(words: list[str]) -> int:
     program, lines = told.program, list(lines_of(told.keys))
     with tempfile.TemporaryDirectory() as folder:
         script = written(folder, "script", b"".join(line + b"\n" for line, _ in lines))
+        check_page(program, folder)
         for megabytes in LIMITS:
             check_replay(program, script, lines, megabytes)
         parts = [range(at, told.keys, len(NAMES)) for at in range(len(NAMES))]
