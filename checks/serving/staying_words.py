@@ -143,19 +143,16 @@ def check_mode_before_listening(program: str, folder: str) -> None:
     east, path = written(folder, "east", b""), os.path.join(folder, "socket")
     given = Watched(folder, MODE_WAITS).environment
     line = [program, "serve", "--sessions", "1", "--socket", path, f"east={east}"]
-    with subprocess.Popen(line, stdin=subprocess.DEVNULL, stdout=subprocess.DEVNULL, env=given) as process:
+    with subprocess.Popen(line, stdin=subprocess.DEVNULL, stdout=subprocess.DEVNULL, env=given) as process, contextlib.ExitStack() as stay:
+        stay.callback(process.kill)
         until("its file is there", lambda: os.path.exists(path))
         refused, last = set(), time.monotonic() + SECONDS
         while time.monotonic() < last:
             before = stat.filemode(os.stat(path).st_mode)
-            try:
-                client = connected(path)
-            except ConnectionRefusedError:
-                refused.add(before)
-                continue
-            same("the mode of its file as a client gets in", stat.filemode(os.stat(path).st_mode), "srw-------")
-            client.__exit__()
-            break
+            with contextlib.suppress(ConnectionRefusedError), connected(path):
+                same("the mode of its file as a client gets in", stat.filemode(os.stat(path).st_mode), "srw-------")
+                break
+            refused.add(before)
         same("its status", process.wait(SECONDS), 0)
     same("whether its file had another mode before", bool(refused - {"srw-------"}), True)
 
