@@ -7,7 +7,7 @@ import re
 from common.crates import TOP
 
 
-BINDER = re.compile(r"(?<!¬ \()\((?:[^\W\d]\S* )+: (?:[^()]|\((?:[^()]|\([^()]*\))*\))*\) ×|∃")
+BINDER = re.compile(r"(?<!¬ \()\((?:[^\W\d]\S* )+: (?:[^()]|\((?:[^()]|\([^()]*\))*\))*\)\s*×|∃")
 USE = re.compile(r"^(?:ghost |pub )?use Rattle\.(\w+)\.specs\.([\w.]+?)(?:\.\{([^}]*)\}| as \w+);?$", re.M)
 WORD = re.compile(r"[^\W\d][\w-]*")
 DEFINED = re.compile(r"^(?:(?:abbrev|opaque|pub|law) )*(record )?(?:pub )?([^\W\d][\w-]*)\b(.*)$", re.M)
