@@ -292,7 +292,8 @@ def main(words: list[str]) -> int:
     if unfit or given.stand:
         for edit in (it for it in edits if it.shows_nothing()):
             print(f"{edit.told.at}: {edit.crate}/{edit.name}: {edit.doubt()}")
-        print(f"{len(edits) - len(unfit)} edits can be applied, {len(unfit)} not")
+        bad = {(it.crate, it.told.name) for it in unfit}
+        print(f"{sum((it.crate, it.told.name) not in bad for it in edits)} edits can be applied, {len(bad)} not")
         say_witnesses(edits)
         return 1 if unfit else 0
     return try_all(edits, given)
