@@ -14,7 +14,7 @@ use crate::{Cell, Image, Key};
 use pn_join::{Join, NoMemory, Table, TableChange};
 use std::alloc::Global;
 
-/// Cells by key.
+/// The cells of records, by their keys.
 pub type Records = Table<Key, Cell>;
 
 /// Adds an image. An error leaves the records as they were.
