@@ -28,7 +28,8 @@ pub fn add_image(alloc: Global, records: &mut Records, image: Image) -> Result<(
         version,
         content,
     } = image;
-    records.join_entry(key, Cell::of(alloc, version, content)?)
+    let cell = Cell::of(alloc, version, content)?;
+    records.join_entry(key, cell)
 }
 
 /// Joins other records into these, which then hold the images of both. An error leaves them as they were.
