@@ -13,7 +13,7 @@ use Rattle.pn_protocol.specs.declared.refusal.Refusal.TheVariants.{TooLong, NotJ
 use Rattle.pn_protocol.specs.Command.Lines.{command_at, is_too_long}
 use Rattle.pn_protocol.specs.Command.Meaning.{CommandValue, adopt, copy, deliver, get, lose, marks, notices, read, relayout, scan, tablets}
 use Rattle.pn_serve.specs.Machine.Announced.{unless_call, with_line}
-use Rattle.pn_serve.specs.Machine.Modes.{bytes_of, with_mode, IsDone}
+use Rattle.pn_serve.specs.Machine.Modes.{bytes_of, with_mode, IsAnswer}
 use Rattle.pn_serve.specs.Machine.Outcomes.{Outcome, done, line, call, round, announced, Machine, Turn, waiting, refusing, silent}
 use Rattle.pn_serve.specs.Machine.Recovering.{adopting_text}
 use Rattle.pn_serve.specs.Machine.Turns.{obeying, turn_of, outcome_at, turn}
@@ -208,7 +208,7 @@ concluded_last may old new b bytes reply lasts = lasts
 -- ---- a command and the lines that it announces
 
 pub begun_said : (may : Type 0) (old new : LoggedRegion) (bytes : List ℕ) (command : CommandValue) (begun : Handled) (reply : Reply) (lines : Option Announced) → command_at bytes ≡ Ok command
-    → HandlesTo old command new begun → IsDone begun reply lines → AnswersBy may (waiting old) bytes (with_mode lines new) reply
+    → HandlesTo old command new begun → IsAnswer begun reply lines → AnswersBy may (waiting old) bytes (with_mode lines new) reply
 begun_said may old new bytes command (Obeyed told) reply lines said (alone, obeys) (same, none) =
     subst (λ (l : Option Announced). AnswersBy may (waiting old) bytes (with_mode l new) reply) (sym none)
     (subst (λ (r : Reply). AnswersBy may (waiting old) bytes (waiting new) r) (sym same) (turned_said may bytes command old (waiting new) told said obeys))

@@ -29,7 +29,7 @@ use Rattle.pn_protocol.specs.Command.Meaning.{CommandValue, adopt, copy, deliver
 use Rattle.pn_protocol.specs.Command.Lines.{command_at}
 use Rattle.pn_serve.specs.Machine.Announced.{unless_call, with_line}
 use Rattle.pn_serve.specs.Machine.Doing.{delivering}
-use Rattle.pn_serve.specs.Machine.Outcomes.{Outcome, done, line, call, round, Mode, idle, announced, Machine, Turn, logged, silent}
+use Rattle.pn_serve.specs.Machine.Outcomes.{Outcome, done, line, call, round, Mode, awaits_command, announced, Machine, Turn, logged, silent}
 use Rattle.pn_serve.specs.Machine.PartRounds.{partly_marked}
 use Rattle.pn_serve.specs.Machine.Recovering.{at_tablet, showing_copy, copying, losing_it, adopted, adopting_read, adopting_text}
 use Rattle.pn_serve.specs.Machine.Relaying.{relaid_turn, relaying_it}
@@ -175,7 +175,7 @@ came_leads m left text false = refl
 
 -- what happens by a line leads to the region after it
 mode_leads : (mode : Mode) (m : Machine) (outcome : Outcome) (text : List ℕ) → IsRegion m.region → OneLeads (happened_in mode m outcome text) m.region (turn_in mode m outcome text).machine.region
-mode_leads idle m outcome text is = said_leads m (outcome_at outcome text) (command_at text) is
+mode_leads awaits_command m outcome text is = said_leads m (outcome_at outcome text) (command_at text) is
 mode_leads (announced left came) m outcome text is = came_leads m left (unless_call outcome (with_line came text (10 ∷ []))) (nat_le left 1)
 
 pub line_leads : (m : Machine) (outcome : Outcome) (text : List ℕ) → IsRegion m.region → OneLeads (happened_in m.mode m outcome text) m.region (turn m outcome text).machine.region
@@ -223,8 +223,8 @@ last_leads m (round flags) (Err refusal) is = refl
 
 -- what happens by the end of an input leads to the region after it
 after_leads : (mode : Mode) (m : Machine) (outcome : Outcome) (part : List ℕ) → IsRegion m.region → OneLeads (happened_after mode m outcome part) m.region (end_in mode m outcome part).machine.region
-after_leads idle m outcome [] is = refl
-after_leads idle m outcome (b ∷ part) is = last_leads m (outcome_at outcome (b ∷ part)) (command_at (b ∷ part)) is
+after_leads awaits_command m outcome [] is = refl
+after_leads awaits_command m outcome (b ∷ part) is = last_leads m (outcome_at outcome (b ∷ part)) (command_at (b ∷ part)) is
 after_leads (announced left came) m outcome part is = text_leads (logged m) (unless_call outcome (with_line came part []))
 
 pub end_leads : (m : Machine) (outcome : Outcome) (part : List ℕ) → IsRegion m.region → OneLeads (happened_after m.mode m outcome part) m.region (end_turn m outcome part).machine.region

@@ -31,7 +31,7 @@ use Rattle.pn_protocol.specs.Command.Meaning.{CommandValue, adopt, copy, deliver
 use Rattle.pn_protocol.specs.Reply.Short.{lost_data}
 use Rattle.pn_serve.specs.Machine.Announced.{unless_call, with_line}
 use Rattle.pn_serve.specs.Machine.Doing.{delivering}
-use Rattle.pn_serve.specs.Machine.Outcomes.{Outcome, done, line, call, round, Mode, idle, announced, Machine, Turn, logged, silent}
+use Rattle.pn_serve.specs.Machine.Outcomes.{Outcome, done, line, call, round, Mode, awaits_command, announced, Machine, Turn, logged, silent}
 use Rattle.pn_serve.specs.Machine.PartRounds.{partly_marked}
 use Rattle.pn_serve.specs.Machine.Recovering.{at_tablet, showing_copy, copying, losing_it, adopted, adopting_read, adopting_text}
 use Rattle.pn_serve.specs.Machine.Relaying.{relaid_turn, relaying_it}
@@ -248,7 +248,7 @@ module _ (R : RegionValue → RegionValue → Type 0) (Is : RegionEvent → Type
     -- ---- a line, and the end of the input
 
     mode_steps : (mode : Mode) (outcome : Outcome) (text : List ℕ) → AllByRecursion Is (happened_in mode m outcome text) → Steps R (happened_in mode m outcome text) (happened_in mode n outcome text) (turn_in mode m outcome text) (turn_in mode n outcome text)
-    mode_steps idle outcome text all = said_steps (outcome_at outcome text) (command_at text) all
+    mode_steps awaits_command outcome text all = said_steps (outcome_at outcome text) (command_at text) all
     mode_steps (announced left came) outcome text all = came_steps left (unless_call outcome (with_line came text (10 ∷ []))) (nat_le left 1) all
 
     pub line_steps : (outcome : Outcome) (text : List ℕ) → AllByRecursion Is (happened_in m.mode m outcome text) → Steps R (happened_in m.mode m outcome text) (happened_in n.mode n outcome text) (turn m outcome text) (turn n outcome text)

@@ -37,7 +37,7 @@ use Rattle.pn_protocol.specs.Reply.Scan.{scan_data}
 use Rattle.pn_protocol.proofs.CommandLines.{line_found}
 use Rattle.pn_serve.specs.Machine.Doing.{looking}
 use Rattle.pn_serve.specs.Machine.LastTurns.{last_of, end_in, end_turn}
-use Rattle.pn_serve.specs.Machine.Outcomes.{Outcome, done, line, call, round, Mode, idle, Machine, Turn}
+use Rattle.pn_serve.specs.Machine.Outcomes.{Outcome, done, line, call, round, Mode, awaits_command, Machine, Turn}
 use Rattle.pn_serve.specs.Machine.Turns.{turn_of, outcome_at, turn_in, turn}
 use Rattle.pn_serve.specs.Script.Events.{happened_in}
 use Rattle.pn_serve.specs.Script.Inputs.{InputEnd, Input}
@@ -63,7 +63,7 @@ module _ (m : Machine) (query : QueryValue) where
   scan_found call accepted = cc
   scan_found (round flags) accepted = found_by (page_in m.region query) refl accepted
 
-  pub line_shows : (text : List ℕ) (outcome : Outcome) → m.mode ≡ idle → command_at text ≡ Ok (scan query) → (turn m outcome text).refused ≡ false → (page : PageValue) × ShowsPage m text (turn m outcome text) query page
+  pub line_shows : (text : List ℕ) (outcome : Outcome) → m.mode ≡ awaits_command → command_at text ≡ Ok (scan query) → (turn m outcome text).refused ≡ false → (page : PageValue) × ShowsPage m text (turn m outcome text) query page
   line_shows text outcome waits says accepted =
       let at = outcome_at outcome text in
       let same : turn m outcome text ≡ turn_of m at (Ok (scan query)) = ap (λ (mode : Mode). turn_in mode m outcome text) waits ∙ ap (λ (said : Result CommandValue Refusal). turn_of m at said) says in
@@ -76,7 +76,7 @@ module _ (m : Machine) (query : QueryValue) where
   last_as_line call = refl
   last_as_line (round flags) = refl
 
-  pub end_shows : (text : List ℕ) (outcome : Outcome) → text ≢ [] → m.mode ≡ idle → command_at text ≡ Ok (scan query) → (end_turn m outcome text).refused ≡ false → (page : PageValue) × ShowsPage m text (end_turn m outcome text) query page
+  pub end_shows : (text : List ℕ) (outcome : Outcome) → text ≢ [] → m.mode ≡ awaits_command → command_at text ≡ Ok (scan query) → (end_turn m outcome text).refused ≡ false → (page : PageValue) × ShowsPage m text (end_turn m outcome text) query page
   end_shows [] outcome there waits says accepted = absurd (there refl)
   end_shows (b ∷ part) outcome there waits says accepted =
       let at = outcome_at outcome (b ∷ part) in

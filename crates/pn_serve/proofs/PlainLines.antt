@@ -25,7 +25,7 @@ use Rattle.pn_protocol.specs.declared.refusal.Refusal.{Refusal}
 use Rattle.pn_protocol.specs.Command.Meaning.{CommandValue, adopt, copy, deliver, get, lose, marks, notices, read, relayout, scan, tablets}
 use Rattle.pn_protocol.specs.Command.Lines.{command_at}
 use Rattle.pn_serve.specs.Machine.Doing.{delivering}
-use Rattle.pn_serve.specs.Machine.Outcomes.{Outcome, done, line, call, round, Mode, idle, Machine, Turn, serving}
+use Rattle.pn_serve.specs.Machine.Outcomes.{Outcome, done, line, call, round, Mode, awaits_command, Machine, Turn, serving}
 use Rattle.pn_serve.specs.Machine.Recovering.{at_tablet, showing_copy, copying}
 use Rattle.pn_serve.specs.Machine.Relaying.{relaid_turn, relaying_it}
 use Rattle.pn_serve.specs.Machine.LastTurns.{last_of, end_in, end_turn}
@@ -59,31 +59,31 @@ any_record bounds broker other input none = all_alike broker other (happened (ne
 -- nothing was lost, and a command is waited for
 pub record Plain (happens : List RegionEvent) (turn : Turn) : Type 0 where
   pub none : LoseNothing happens
-  pub waits : turn.machine.mode ≡ idle
+  pub waits : turn.machine.mode ≡ awaits_command
 
-shown_waits : (m : Machine) (tablet : ℕ) (right : Result TabletCopyValue CopyFault) → m.mode ≡ idle → (showing_copy m tablet right).machine.mode ≡ idle
+shown_waits : (m : Machine) (tablet : ℕ) (right : Result TabletCopyValue CopyFault) → m.mode ≡ awaits_command → (showing_copy m tablet right).machine.mode ≡ awaits_command
 shown_waits m tablet (Ok given) waits = waits
 shown_waits m tablet (Err fault) waits = waits
 
-copy_waits : (m : Machine) (need : Positions) (tablet : ℕ) → m.mode ≡ idle → (copying m need tablet).machine.mode ≡ idle
+copy_waits : (m : Machine) (need : Positions) (tablet : ℕ) → m.mode ≡ awaits_command → (copying m need tablet).machine.mode ≡ awaits_command
 copy_waits m need tablet waits = at (slice_get m.region.tablets tablet)
   where
-    at : (found : Option TabletStateValue) → (at_tablet m found (λ state. showing_copy m tablet (copy_of state need))).machine.mode ≡ idle
+    at : (found : Option TabletStateValue) → (at_tablet m found (λ state. showing_copy m tablet (copy_of state need))).machine.mode ≡ awaits_command
     at None = waits
     at (Some state) = shown_waits m tablet (copy_of state need) waits
 
-quiet : (turn : Turn) → turn.machine.mode ≡ idle → Plain [] turn
+quiet : (turn : Turn) → turn.machine.mode ≡ awaits_command → Plain [] turn
 quiet turn waits = record { none = tt; waits = waits }
 
-round_plain : (m : Machine) (deliveries : List DeliveryValue) (right : Result RegionValue RoundFault) → m.mode ≡ idle → Plain (unless_refused (delivering m right) (events.round deliveries)) (delivering m right)
+round_plain : (m : Machine) (deliveries : List DeliveryValue) (right : Result RegionValue RoundFault) → m.mode ≡ awaits_command → Plain (unless_refused (delivering m right) (events.round deliveries)) (delivering m right)
 round_plain m deliveries (Ok after) waits = record { none = (tt, tt); waits = waits }
 round_plain m deliveries (Err fault) waits = record { none = tt; waits = waits }
 
-relaid_plain : (m : Machine) (asked : Bounds) (count : ℕ) (right : Result RegionValue RelayoutFault) → m.mode ≡ idle → Plain (unless_refused (relaid_turn m count right) (events.relayout asked)) (relaid_turn m count right)
+relaid_plain : (m : Machine) (asked : Bounds) (count : ℕ) (right : Result RegionValue RelayoutFault) → m.mode ≡ awaits_command → Plain (unless_refused (relaid_turn m count right) (events.relayout asked)) (relaid_turn m count right)
 relaid_plain m asked count (Ok after) waits = record { none = (tt, tt); waits = waits }
 relaid_plain m asked count (Err fault) waits = record { none = tt; waits = waits }
 
-layout_plain : (m : Machine) (asked : Bounds) (right : Result Bounds LayoutFault) → m.mode ≡ idle → Plain (unless_refused (relaying_it m right) (events.relayout asked)) (relaying_it m right)
+layout_plain : (m : Machine) (asked : Bounds) (right : Result Bounds LayoutFault) → m.mode ≡ awaits_command → Plain (unless_refused (relaying_it m right) (events.relayout asked)) (relaying_it m right)
 layout_plain m asked (Ok bounds) waits = relaid_plain m asked (length bounds + 1) (relaying m.region bounds) waits
 layout_plain m asked (Err fault) waits = record { none = tt; waits = waits }
 
@@ -97,7 +97,7 @@ half_loses deliveries false (Err fault) = tt
 abbrev Keeping : List ℕ → Type 0
 Keeping text = KeepsTablets (command_at text)
 
-module _ (m : Machine) (waits : m.mode ≡ idle) where
+module _ (m : Machine) (waits : m.mode ≡ awaits_command) where
   done_plain : (said : Result CommandValue Refusal) → KeepsTablets said → Plain (happened_by m done said) (turn_of m done said)
   done_plain (Ok (adopt lines)) stay = absurd stay
   done_plain (Ok (copy need tablet)) stay = quiet _ (copy_waits m need tablet waits)
@@ -190,7 +190,7 @@ module _ (m : Machine) (waits : m.mode ≡ idle) where
   last_plain call (Err refusal) stay = quiet _ waits
   last_plain (round flags) (Err refusal) stay = quiet _ waits
 
-  after_plain : (outcome : Outcome) (part : List ℕ) → NoLosses (last_line part) → Plain (happened_after idle m outcome part) (end_in idle m outcome part)
+  after_plain : (outcome : Outcome) (part : List ℕ) → NoLosses (last_line part) → Plain (happened_after awaits_command m outcome part) (end_in awaits_command m outcome part)
   after_plain outcome [] stay = quiet _ waits
   after_plain outcome (b ∷ part) stay = last_plain (outcome_at outcome (b ∷ part)) (command_at (b ∷ part)) (All-head Keeping (b ∷ part) [] stay)
 
@@ -198,7 +198,7 @@ module _ (m : Machine) (waits : m.mode ≡ idle) where
   end_plain outcome part stay =
       subst (λ (mode : Mode). Plain (happened_after mode m outcome part) (end_in mode m outcome part)) (sym waits) (after_plain outcome part stay)
 
-  ended_plain : (end : Option InputEnd) → NoLosses (line_at_end end) → LoseNothing (happened_at_end m end) × ((ended m end).mode ≡ idle)
+  ended_plain : (end : Option InputEnd) → NoLosses (line_at_end end) → LoseNothing (happened_at_end m end) × ((ended m end).mode ≡ awaits_command)
   ended_plain None stay = (tt, waits)
   ended_plain (Some end) stay = let plain = end_plain end.outcome end.part stay in (plain.none, plain.waits)
 
@@ -206,7 +206,7 @@ none_too : (first later : List RegionEvent) → LoseNothing first → LoseNothin
 none_too [] later none more = more
 none_too (event ∷ first) later none more = (none.0, none_too first later none.1 more)
 
-lines_plain : (m : Machine) (lines : List (List ℕ)) (outcomes : List Outcome) → m.mode ≡ idle → NoLosses lines → LoseNothing (happened_from m lines outcomes) × ((machine_after m lines outcomes).mode ≡ idle)
+lines_plain : (m : Machine) (lines : List (List ℕ)) (outcomes : List Outcome) → m.mode ≡ awaits_command → NoLosses lines → LoseNothing (happened_from m lines outcomes) × ((machine_after m lines outcomes).mode ≡ awaits_command)
 lines_plain m [] outcomes waits stay = (tt, waits)
 lines_plain m (text ∷ lines) outcomes waits stay =
     let outcome = first_outcome outcomes in

@@ -29,7 +29,7 @@ use Rattle.pn_protocol.specs.declared.refusal.Part.TheVariants.{Tablet}
 use Rattle.pn_protocol.specs.declared.refusal.Refusal.TheVariants.{OutOfRange, Memory}
 use Rattle.pn_protocol.specs.Command.Meaning.{CommandValue, copy, lose}
 use Rattle.pn_serve.specs.Machine.Doing.{doing}
-use Rattle.pn_serve.specs.Machine.Outcomes.{done, idle, Turn, waiting}
+use Rattle.pn_serve.specs.Machine.Outcomes.{done, awaits_command, Turn, waiting}
 use Rattle.pn_serve.specs.Machine.Recovering.{at_tablet, showing_copy, adopted, adopting_read, adopting_text}
 use Rattle.pn_serve.specs.Machine.Turns.{obeying}
 use Rattle.pn_serve.specs.Machine.Answers.{Obeys}
@@ -64,7 +64,7 @@ came_as one other old new reply same comes = subst (λ (t : Turn). ComesTo t old
 -- ---- adoptions
 
 pub adopts : (old new : LoggedRegion) (given : TabletCopyValue) (tablet : ℕ) → adopting old.state given ≡ Ok (tablet, new.state) → new.log ≡ breaking old.log → ComesTo (adopted old (adopting old.state given)) old new (Adopted tablet)
-adopts old new given tablet is noted = came_as _ _ old new (Adopted tablet) (ap (adopted old) is) (inl (λ i. record { mode = idle; region = new.state; log = sym noted i }, refl, refl))
+adopts old new given tablet is noted = came_as _ _ old new (Adopted tablet) (ap (adopted old) is) (inl (λ i. record { mode = awaits_command; region = new.state; log = sym noted i }, refl, refl))
 
 not_memory : (fault : AdoptFault) (right : Result (ℕ × RegionValue) AdoptFault) → Refuses steps.is_memory fault right → fault ≢ adoption.Memory → right ≡ Err fault
 not_memory adoption.WrongRange right is other = is
@@ -116,9 +116,9 @@ tablet_there region tablet is within = elim (slice_get_cases region.tablets tabl
 
 pub lost_there : (old new : LoggedRegion) (tablet : ℕ) (state : TabletStateValue) → slice_get old.state.tablets tablet ≡ Some state → new.state ≡ recovery.losing old.state tablet → new.log ≡ breaking old.log → Obeys (waiting old) (lose tablet) (waiting new) (Lost tablet)
 lost_there old new tablet state there is noted =
-    let does : TabletStateValue → Turn = λ state. record { machine = record { mode = idle; region = recovery.losing old.state tablet; log = breaking old.log }; reply = line_of (lost_data tablet); refused = false } in
+    let does : TabletStateValue → Turn = λ state. record { machine = record { mode = awaits_command; region = recovery.losing old.state tablet; log = breaking old.log }; reply = line_of (lost_data tablet); refused = false } in
     let all = ap (λ (found : Option TabletStateValue). at_tablet (waiting old) found does) there in
-    record { outcome = done; machine_is = ap (λ (t : Turn). t.machine) all ∙ (λ i. record { mode = idle; region = sym is i; log = sym noted i }); replied = ap (λ (t : Turn). t.reply) all; refused = ap (λ (t : Turn). t.refused) all }
+    record { outcome = done; machine_is = ap (λ (t : Turn). t.machine) all ∙ (λ i. record { mode = awaits_command; region = sym is i; log = sym noted i }); replied = ap (λ (t : Turn). t.reply) all; refused = ap (λ (t : Turn). t.refused) all }
 
 -- a copy was looked for in a tablet
 module _ (region : LoggedRegion) (need : Positions) (tablet : ℕ) (state : TabletStateValue) (there : slice_get region.state.tablets tablet ≡ Some state) where

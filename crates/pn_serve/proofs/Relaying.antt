@@ -21,7 +21,7 @@ use Rattle.pn_protocol.specs.Command.Meaning.{relayout}
 use Rattle.pn_protocol.specs.Reply.Refusals.{TellsNotRelaid}
 use Rattle.pn_protocol.specs.Reply.Relayouts.{not_relaid_data}
 use Rattle.pn_serve.specs.Machine.Answers.{Obeys}
-use Rattle.pn_serve.specs.Machine.Outcomes.{done, idle, Turn, waiting}
+use Rattle.pn_serve.specs.Machine.Outcomes.{done, awaits_command, Turn, waiting}
 use Rattle.pn_serve.specs.Machine.Relaying.{relaid_turn, relaying_it}
 use Rattle.pn_serve.specs.Machine.Turns.{obeying}
 use Rattle.pn_serve.specs.Machine.Ways.{ComesTo}
@@ -47,7 +47,7 @@ lawful_bounds bounds layout is =
 
 pub relays : (old new : LoggedRegion) (count : ℕ) (right : Result RegionValue RelayoutFault) → right ≡ Ok new.state → new.log ≡ old.log → ComesTo (relaid_turn (waiting old) count right) old new (Relaid count)
 relays old new count right is kept =
-    came_as _ _ old new (Relaid count) (ap (relaid_turn (waiting old) count) is) (inl (λ i. record { mode = idle; region = new.state; log = sym kept i }, refl, refl))
+    came_as _ _ old new (Relaid count) (ap (relaid_turn (waiting old) count) is) (inl (λ i. record { mode = awaits_command; region = new.state; log = sym kept i }, refl, refl))
 
 not_memory : (fault : RelayoutFault) (right : Result RegionValue RelayoutFault) → Refuses is_memory fault right → fault ≢ fault_of.Memory → right ≡ Err fault
 not_memory (fault_of.StillRecovering tablet) right is other = is

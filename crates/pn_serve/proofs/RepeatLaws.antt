@@ -16,7 +16,7 @@ use Rattle.pn_protocol.specs.Command.Meaning.{CommandValue, adopt, copy, deliver
 use Rattle.pn_serve.specs.Machine.Announced.{unless_call, with_line}
 use Rattle.pn_serve.specs.Machine.Doing.{delivering}
 use Rattle.pn_serve.specs.Machine.LastTurns.{last_of, end_in, end_turn}
-use Rattle.pn_serve.specs.Machine.Outcomes.{Outcome, done, line, call, round, Mode, idle, announced, Machine, Turn, logged}
+use Rattle.pn_serve.specs.Machine.Outcomes.{Outcome, done, line, call, round, Mode, awaits_command, announced, Machine, Turn, logged}
 use Rattle.pn_serve.specs.Machine.Recovering.{adopting_text}
 use Rattle.pn_serve.specs.Machine.Turns.{turn_of, outcome_at, turn_in, turn}
 use Rattle.pn_serve.specs.Script.Events.{happened_by, happened_by_text, happened_in}
@@ -94,8 +94,8 @@ module _ (m n : Machine) (same : Same m n) where
   last_same (round flags) (Err refusal) = same
 
   end_in_same : (mode : Mode) (outcome : Outcome) (part : List ℕ) → Same (end_in mode m outcome part).machine (end_in mode n outcome part).machine
-  end_in_same idle outcome [] = same
-  end_in_same idle outcome (b ∷ part) = last_same (outcome_at outcome (b ∷ part)) (command_at (b ∷ part))
+  end_in_same awaits_command outcome [] = same
+  end_in_same awaits_command outcome (b ∷ part) = last_same (outcome_at outcome (b ∷ part)) (command_at (b ∷ part))
   end_in_same (announced left came) outcome part = text_same (unless_call outcome (with_line came part []))
 
   ended_same : (end : Option InputEnd) → Same (ended m end) (ended n end)

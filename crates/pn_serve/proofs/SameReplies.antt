@@ -27,7 +27,7 @@ use Rattle.pn_protocol.specs.Reply.Short.{lost_data}
 use Rattle.pn_serve.specs.Machine.Announced.{unless_call, with_line}
 use Rattle.pn_serve.specs.Machine.Doing.{delivering}
 use Rattle.pn_serve.specs.Machine.LastTurns.{obeying_last, last_of, end_in, end_turn}
-use Rattle.pn_serve.specs.Machine.Outcomes.{Outcome, done, line, call, round, Mode, idle, announced, Machine, Turn, logged, silent}
+use Rattle.pn_serve.specs.Machine.Outcomes.{Outcome, done, line, call, round, Mode, awaits_command, announced, Machine, Turn, logged, silent}
 use Rattle.pn_serve.specs.Machine.Recovering.{at_tablet, showing_copy, copying, losing_it, adopted, adopting_read, adopting_text}
 use Rattle.pn_serve.specs.Machine.Relaying.{relaid_turn, relaying_it}
 use Rattle.pn_serve.specs.Machine.Turns.{obeying, turn_of, outcome_at, turn_in, turn}
@@ -148,7 +148,7 @@ module _ (mode : Mode) (region : RegionValue) (log others : List Entry) where
   came_replies left text false = refl
 
   mode_replies : (how : Mode) (outcome : Outcome) (text : List ℕ) → AsksNoNotices (command_at text) → Replies (turn_in how m outcome text) (turn_in how n outcome text)
-  mode_replies idle outcome text free = said_replies (outcome_at outcome text) (command_at text) free
+  mode_replies awaits_command outcome text free = said_replies (outcome_at outcome text) (command_at text) free
   mode_replies (announced left came) outcome text free = came_replies left (unless_call outcome (with_line came text (10 ∷ []))) (nat_le left 1)
 
   obey_last_replies : (outcome : Outcome) (command : CommandValue) → AsksNoNotices (Ok command) → Replies (obeying_last m outcome command) (obeying_last n outcome command)
@@ -174,8 +174,8 @@ module _ (mode : Mode) (region : RegionValue) (log others : List Entry) where
   last_replies (round flags) (Err refusal) free = refl
 
   end_replies : (how : Mode) (outcome : Outcome) (part : List ℕ) → AsksNoNotices (command_at part) → Replies (end_in how m outcome part) (end_in how n outcome part)
-  end_replies idle outcome [] free = refl
-  end_replies idle outcome (b ∷ part) free = last_replies (outcome_at outcome (b ∷ part)) (command_at (b ∷ part)) free
+  end_replies awaits_command outcome [] free = refl
+  end_replies awaits_command outcome (b ∷ part) free = last_replies (outcome_at outcome (b ∷ part)) (command_at (b ∷ part)) free
   end_replies (announced left came) outcome part free = text_replies (unless_call outcome (with_line came part []))
 
 module _ (one other : Machine) (same : Same one other) (outcome : Outcome) (text : List ℕ) (free : AsksNoNotices (command_at text)) where

@@ -33,7 +33,7 @@ use Rattle.pn_protocol.specs.Command.Meaning.{CommandValue, adopt, copy, deliver
 use Rattle.pn_protocol.specs.Command.Lines.{command_at}
 use Rattle.pn_protocol.specs.Command.Lookups.{AsksForRecords}
 use Rattle.pn_serve.specs.Machine.Doing.{found_data, looking}
-use Rattle.pn_serve.specs.Machine.Outcomes.{Outcome, done, line, call, round as in_part, Mode, idle, Machine, serving}
+use Rattle.pn_serve.specs.Machine.Outcomes.{Outcome, done, line, call, round as in_part, Mode, awaits_command, Machine, serving}
 use Rattle.pn_serve.specs.Machine.Turns.{turn_of, outcome_at, turn_in, turn}
 use Rattle.pn_serve.specs.Machine.LastTurns.{last_of, end_in, end_turn}
 use Rattle.pn_protocol.specs.Reply.Record.{read_data, get_data}
@@ -197,10 +197,10 @@ alike_if (inr went) (inl short) same = inl (inr short)
 alike_if (inr went) (inr goes) same = inr (went ∙ same ∙ sym goes)
 
 -- replies of a machine that waits for a command
-replied : (m : Machine) (outcome : Outcome) (text : List ℕ) → m.mode ≡ idle → (turn m outcome text).reply ≡ (turn_of m (outcome_at outcome text) (command_at text)).reply
+replied : (m : Machine) (outcome : Outcome) (text : List ℕ) → m.mode ≡ awaits_command → (turn m outcome text).reply ≡ (turn_of m (outcome_at outcome text) (command_at text)).reply
 replied m outcome text waits = ap (λ (mode : Mode). (turn_in mode m outcome text).reply) waits
 
-module _ (m n : Machine) (waits : m.mode ≡ idle) (waits_too : n.mode ≡ idle) (same : (said : Result CommandValue Refusal) → AsksForRecords said → (turn_of m done said).reply ≡ (turn_of n done said).reply) (went goes : Outcome) where
+module _ (m n : Machine) (waits : m.mode ≡ awaits_command) (waits_too : n.mode ≡ awaits_command) (same : (said : Result CommandValue Refusal) → AsksForRecords said → (turn_of m done said).reply ≡ (turn_of n done said).reply) (went goes : Outcome) where
   said_alike : (text : List ℕ) → AsksForRecords (command_at text) → AreAlike (turn_of m (outcome_at went text) (command_at text)).reply (turn_of n (outcome_at goes text) (command_at text)).reply
   said_alike text asks = alike_if (as_it_says m (outcome_at went text) (command_at text) asks) (as_it_says n (outcome_at goes text) (command_at text) asks) (same (command_at text) asks)
 
@@ -209,17 +209,17 @@ module _ (m n : Machine) (waits : m.mode ≡ idle) (waits_too : n.mode ≡ idle)
       subst (λ (r : List ℕ). AreAlike r (turn n goes text).reply) (sym (replied m went text waits))
       (subst (λ (r : List ℕ). AreAlike (turn_of m (outcome_at went text) (command_at text)).reply r) (sym (replied n goes text waits_too)) (said_alike text asks))
 
-  ends_in : (text : List ℕ) → AsksForRecords (command_at text) → AreAlike (end_in idle m went text).reply (end_in idle n goes text).reply
+  ends_in : (text : List ℕ) → AsksForRecords (command_at text) → AreAlike (end_in awaits_command m went text).reply (end_in awaits_command n goes text).reply
   ends_in [] asks = inr refl
   ends_in (b ∷ part) asks =
       let text = b ∷ part in
-      subst (λ (r : List ℕ). AreAlike r (end_in idle n goes text).reply) (sym (last_alike m (outcome_at went text) (command_at text) asks))
+      subst (λ (r : List ℕ). AreAlike r (end_in awaits_command n goes text).reply) (sym (last_alike m (outcome_at went text) (command_at text) asks))
       (subst (λ (r : List ℕ). AreAlike (turn_of m (outcome_at went text) (command_at text)).reply r) (sym (last_alike n (outcome_at goes text) (command_at text) asks)) (said_alike text asks))
 
   ends_alike : (text : List ℕ) → AsksForRecords (command_at text) → AreAlike (end_turn m went text).reply (end_turn n goes text).reply
   ends_alike text asks =
       subst (λ (r : List ℕ). AreAlike r (end_turn n goes text).reply) (sym (ap (λ (mode : Mode). (end_in mode m went text).reply) waits))
-      (subst (λ (r : List ℕ). AreAlike (end_in idle m went text).reply r) (sym (ap (λ (mode : Mode). (end_in mode n goes text).reply) waits_too)) (ends_in text asks))
+      (subst (λ (r : List ℕ). AreAlike (end_in awaits_command m went text).reply r) (sym (ap (λ (mode : Mode). (end_in mode n goes text).reply) waits_too)) (ends_in text asks))
 
 pub same_replies : (broker : BrokerRecord) (one other : Told) → TookTheSame broker one other → AwaitsCommand one → AwaitsCommand other
     → (text : List ℕ) (went goes : Outcome) → AsksForRecords (command_at text)

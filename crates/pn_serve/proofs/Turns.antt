@@ -25,7 +25,7 @@ use Rattle.pn_protocol.specs.declared.refusal.Refusal.TheVariants.{TooLong, NotJ
 use Rattle.pn_protocol.specs.Command.Meaning.{CommandValue, deliver}
 use Rattle.pn_protocol.specs.Command.Lines.{command_at, is_too_long}
 use Rattle.pn_protocol.proofs.CommandLines.{too_long}
-use Rattle.pn_serve.specs.Machine.Outcomes.{Outcome, Machine, done, line, call, round, idle, Turn, waiting, refusing, showing}
+use Rattle.pn_serve.specs.Machine.Outcomes.{Outcome, Machine, done, line, call, round, awaits_command, Turn, waiting, refusing, showing}
 use Rattle.pn_serve.specs.Machine.PartRounds.{some_stepped, partly_marked}
 use Rattle.pn_serve.specs.Machine.Doing.{delivering, looking}
 use Rattle.pn_serve.specs.Machine.Turns.{obeying, turn_of, outcome_at, turn}
@@ -205,7 +205,7 @@ module _ (old new : LoggedRegion) (deliveries : List DeliveryValue) where
   pub turned_ok : (count : ℕ) → taken_round old.state deliveries ≡ Ok new.state → new.log ≡ noting old.log old.state new.state → count ≡ changed old.state new.state → Obeys (waiting old) (deliver deliveries) (waiting new) (Changed count)
   turned_ok count ended noted counted = record {
     outcome = done;
-    machine_is = ap (λ (r : Result RegionValue RoundFault). (delivering (waiting old) r).machine) ended ∙ (λ i. record { mode = idle; region = new.state; log = sym noted i });
+    machine_is = ap (λ (r : Result RegionValue RoundFault). (delivering (waiting old) r).machine) ended ∙ (λ i. record { mode = awaits_command; region = new.state; log = sym noted i });
     replied = ap (λ (r : Result RegionValue RoundFault). (delivering (waiting old) r).reply) ended ∙ ap (λ (n : ℕ). line_of (changed_data n)) (sym counted);
     refused = ap (λ (r : Result RegionValue RoundFault). (delivering (waiting old) r).refused) ended;
   }
@@ -214,7 +214,7 @@ module _ (old new : LoggedRegion) (deliveries : List DeliveryValue) where
   pub turned_refused : (fault : RoundFault) (text : Vec ℕ Global) → taken_round old.state deliveries ≡ Err fault → new.state ≡ old.state → new.log ≡ old.log → text.items ≡ line_of (fault_data fault) → Obeys (waiting old) (deliver deliveries) (waiting new) (NotTaken text)
   turned_refused fault text refused same kept is = record {
     outcome = done;
-    machine_is = ap (λ (r : Result RegionValue RoundFault). (delivering (waiting old) r).machine) refused ∙ (λ i. record { mode = idle; region = sym same i; log = sym kept i });
+    machine_is = ap (λ (r : Result RegionValue RoundFault). (delivering (waiting old) r).machine) refused ∙ (λ i. record { mode = awaits_command; region = sym same i; log = sym kept i });
     replied = ap (λ (r : Result RegionValue RoundFault). (delivering (waiting old) r).reply) refused ∙ sym is;
     refused = ap (λ (r : Result RegionValue RoundFault). (delivering (waiting old) r).refused) refused;
   }
@@ -252,4 +252,4 @@ half_found old new deliveries (Err fault) layout positions same = ([], λ i. rec
 pub turned_half : (old new : LoggedRegion) (deliveries : List DeliveryValue) → IsHalfTaken old.state deliveries new.state → new.log ≡ breaking old.log → Obeys (waiting old) (deliver deliveries) (waiting new) (Refused Memory)
 turned_half old new deliveries half broken =
     let (flags, is) = half_found old.state new.state deliveries (new_marks old.state.marks deliveries) half.0 half.1 half.2 in
-    record { outcome = round flags; machine_is = λ i. record { mode = idle; region = is i; log = sym broken i }; replied = refl; refused = refl }
+    record { outcome = round flags; machine_is = λ i. record { mode = awaits_command; region = is i; log = sym broken i }; replied = refl; refused = refl }

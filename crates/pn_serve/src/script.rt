@@ -87,7 +87,7 @@ pub fn run<R: Threads + Sync, S: Source, W: Sink>(
 {
     let mut lines = LineLoop::new(alloc)?;
     let mut machine = ScriptHandler::new(rt, alloc, settings)?;
-    answer_all(&mut machine, &mut lines, input, output)
+    answer_lines(&mut machine, &mut lines, input, output)
 }
 
 /// [`run`] for a process that ends afterwards: the region's memory goes with the process and is not freed.
@@ -108,13 +108,13 @@ pub fn run_to_exit<R: Threads + Sync, S: Source, W: Sink>(
 {
     let mut lines = LineLoop::new(alloc)?;
     let mut kept = ScriptHandler::new(rt, alloc, settings)?;
-    let ended = answer_all(&mut kept, &mut lines, input, output);
+    let ended = answer_lines(&mut kept, &mut lines, input, output);
     mem::forget(kept);
     ended
 }
 
-/// Answers all lines.
-pub(crate) fn answer_all<M: LineHandler, S: Source, W: Sink>(
+/// Answers all lines of an input, and its end.
+pub(crate) fn answer_lines<M: LineHandler, S: Source, W: Sink>(
     machine: &mut M,
     lines: &mut LineLoop,
     input: &mut S,

@@ -10,8 +10,8 @@ mod lookups;
 
 use crate::machine::line_handler::LineHandler;
 use crate::script::line_loop::LineLoop;
-use crate::script::{MAX_LINES, answer_all};
-use crate::sessions::lookups::answer;
+use crate::script::{MAX_LINES, answer_lines};
+use crate::sessions::lookups::answer_line;
 use crate::{Counts, RunFault};
 use pn_line::{LineBuffer, Sink, Source};
 use pn_live::LiveReader;
@@ -38,7 +38,7 @@ pub fn session<S: Source, W: Sink>(
     ensures end { OnOk result S.may_end }
 {
     let mut lines = LineLoop::new(alloc)?;
-    answer_all(reader, &mut lines, input, output)
+    answer_lines(reader, &mut lines, input, output)
 }
 
 impl LineHandler for LiveReader {
@@ -55,13 +55,13 @@ impl LineHandler for LiveReader {
     ghost reader = { λ reader. reader };
 
     fn answer(&mut self, alloc: Global, line: &LineBuffer) -> Reply {
-        answer(alloc, self, line.bytes())
+        answer_line(alloc, self, line.bytes())
     }
 
-    fn end(&mut self, alloc: Global, part: &LineBuffer) -> Reply {
+    fn answer_end(&mut self, alloc: Global, part: &LineBuffer) -> Reply {
         if part.is_empty() {
             return Reply::Silent;
         }
-        answer(alloc, self, part.bytes())
+        answer_line(alloc, self, part.bytes())
     }
 }

@@ -5,7 +5,7 @@ use Rattle.pn_protocol.specs.declared.refusal.Refusal.TheVariants.{Memory}
 use Rattle.pn_protocol.specs.Command.Meaning.{CommandValue, adopt}
 use Rattle.pn_protocol.specs.Command.Lines.{command_at}
 use Rattle.pn_serve.specs.Machine.Announced.{unless_call, announced_end}
-use Rattle.pn_serve.specs.Machine.Outcomes.{Outcome, line, Mode, idle, announced, Machine, Turn, logged, refusing, silent}
+use Rattle.pn_serve.specs.Machine.Outcomes.{Outcome, line, Mode, awaits_command, announced, Machine, Turn, logged, refusing, silent}
 use Rattle.pn_serve.specs.Machine.Recovering.{adopting_text}
 use Rattle.pn_serve.specs.Machine.Turns.{obeying, outcome_at}
 
@@ -22,8 +22,8 @@ last_of machine outcome (Err refusal) = refusing machine refusal
 
 -- what the end of the input does, after this part of a line
 abbrev pub end_in : Mode → Machine → Outcome → List ℕ → Turn
-end_in idle machine outcome [] = silent machine
-end_in idle machine outcome (b ∷ part) = last_of machine (outcome_at outcome (b ∷ part)) (command_at (b ∷ part))
+end_in awaits_command machine outcome [] = silent machine
+end_in awaits_command machine outcome (b ∷ part) = last_of machine (outcome_at outcome (b ∷ part)) (command_at (b ∷ part))
 end_in (announced left came) machine outcome part = announced_end machine came outcome part
 
 abbrev pub end_turn : Machine → Outcome → List ℕ → Turn

@@ -18,7 +18,7 @@ pub data Outcome : Type 0 where
 -- what the next line is: a command, or announced text of a copy, with the lines still to come and the text so far
 -- (none once memory ran out)
 pub data Mode : Type 0 where
-  idle : Mode
+  awaits_command : Mode
   announced : ℕ → Option (List ℕ) → Mode
 
 -- what the next line is, the region, and the log of its changes
@@ -35,11 +35,11 @@ pub record Turn : Type 0 where
 
 -- a machine over a region with its log, which waits for a command
 abbrev pub waiting : LoggedRegion → Machine
-waiting logged = record { mode = idle; region = logged.state; log = logged.log }
+waiting logged = record { mode = awaits_command; region = logged.state; log = logged.log }
 
 -- a machine over a region with an empty log, which waits for a command
 abbrev pub serving : RegionValue → Machine
-serving region = record { mode = idle; region = region; log = [] }
+serving region = record { mode = awaits_command; region = region; log = [] }
 
 -- the region with its log
 abbrev pub logged : Machine → LoggedRegion

@@ -7,7 +7,7 @@ use Rattle.pn_protocol.specs.Command.Meaning.{CommandValue, adopt, deliver, lose
 use Rattle.pn_protocol.specs.Command.Lines.{command_at, is_too_long}
 use Rattle.pn_serve.specs.Machine.Announced.{announced_turn}
 use Rattle.pn_serve.specs.Machine.Doing.{doing}
-use Rattle.pn_serve.specs.Machine.Outcomes.{Outcome, done, line, call, round, Mode, idle, announced, Machine, Turn, refusing, silent}
+use Rattle.pn_serve.specs.Machine.Outcomes.{Outcome, done, line, call, round, Mode, awaits_command, announced, Machine, Turn, refusing, silent}
 use Rattle.pn_serve.specs.Machine.PartRounds.{partly_taken}
 
 -- what a command does once it is read; a loss never runs out of memory, announced lines stay announced, and an
@@ -31,7 +31,7 @@ outcome_at outcome text = if is_too_long text then done else outcome
 
 -- what a line with its newline does
 abbrev pub turn_in : Mode → Machine → Outcome → List ℕ → Turn
-turn_in idle machine outcome text = turn_of machine (outcome_at outcome text) (command_at text)
+turn_in awaits_command machine outcome text = turn_of machine (outcome_at outcome text) (command_at text)
 turn_in (announced left came) machine outcome text = announced_turn machine left came outcome text
 
 abbrev pub turn : Machine → Outcome → List ℕ → Turn

@@ -17,7 +17,7 @@ use Rattle.pn_protocol.specs.declared.refusal.Refusal.{Refusal}
 use Rattle.pn_protocol.specs.Command.Lines.{command_at}
 use Rattle.pn_protocol.specs.Command.Meaning.{CommandValue, deliver, lose, relayout}
 use Rattle.pn_serve.specs.Machine.Announced.{unless_call, with_line}
-use Rattle.pn_serve.specs.Machine.Outcomes.{Outcome, line, round, Mode, idle, announced, Machine, Turn, logged}
+use Rattle.pn_serve.specs.Machine.Outcomes.{Outcome, line, round, Mode, awaits_command, announced, Machine, Turn, logged}
 use Rattle.pn_serve.specs.Machine.Recovering.{adopted}
 use Rattle.pn_serve.specs.Machine.Turns.{turn_of, outcome_at, turn}
 use Rattle.pn_serve.specs.Script.Written.{first_outcome, later_outcomes}
@@ -55,7 +55,7 @@ happened_by_text old (Some text) = happened_by_copy old (copy_at text)
 
 -- what happens by a line: by a command, or by the last of the lines that an `adopt` line announced
 abbrev pub happened_in : Mode → Machine → Outcome → List ℕ → List RegionEvent
-happened_in idle machine outcome text = happened_by machine (outcome_at outcome text) (command_at text)
+happened_in awaits_command machine outcome text = happened_by machine (outcome_at outcome text) (command_at text)
 happened_in (announced left came) machine outcome text =
     if nat_le left 1 then happened_by_text (logged machine) (unless_call outcome (with_line came text (10 ∷ []))) else []
 

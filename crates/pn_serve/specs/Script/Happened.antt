@@ -6,7 +6,7 @@ use Rattle.pn_protocol.specs.declared.refusal.Refusal.{Refusal}
 use Rattle.pn_protocol.specs.Command.Lines.{command_at}
 use Rattle.pn_protocol.specs.Command.Meaning.{CommandValue, adopt}
 use Rattle.pn_serve.specs.Machine.Announced.{unless_call, with_line}
-use Rattle.pn_serve.specs.Machine.Outcomes.{Outcome, line, Mode, idle, announced, Machine, logged, serving}
+use Rattle.pn_serve.specs.Machine.Outcomes.{Outcome, line, Mode, awaits_command, announced, Machine, logged, serving}
 use Rattle.pn_serve.specs.Machine.Turns.{outcome_at}
 use Rattle.pn_serve.specs.Script.Events.{happened_by, happened_by_text, happened_from}
 use Rattle.pn_serve.specs.Script.Inputs.{InputEnd, Input}
@@ -20,8 +20,8 @@ happened_last machine outcome said = happened_by machine outcome said
 
 -- what happens by the end of an input, after this part of a line: a last line, or the text that was announced so far
 abbrev pub happened_after : Mode → Machine → Outcome → List ℕ → List RegionEvent
-happened_after idle machine outcome [] = []
-happened_after idle machine outcome (b ∷ part) = happened_last machine (outcome_at outcome (b ∷ part)) (command_at (b ∷ part))
+happened_after awaits_command machine outcome [] = []
+happened_after awaits_command machine outcome (b ∷ part) = happened_last machine (outcome_at outcome (b ∷ part)) (command_at (b ∷ part))
 happened_after (announced left came) machine outcome part = happened_by_text (logged machine) (unless_call outcome (with_line came part []))
 
 -- by the end, if it came

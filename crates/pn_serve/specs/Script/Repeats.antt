@@ -6,7 +6,7 @@ use Rattle.pn_region.specs.Taken.{AreRounds}
 use Rattle.pn_protocol.specs.Command.Lines.{command_at}
 use Rattle.pn_protocol.specs.Command.Meaning.{deliver}
 use Rattle.pn_serve.specs.Machine.LastTurns.{end_turn}
-use Rattle.pn_serve.specs.Machine.Outcomes.{idle, Machine, serving}
+use Rattle.pn_serve.specs.Machine.Outcomes.{awaits_command, Machine, serving}
 use Rattle.pn_serve.specs.Machine.Turns.{turn}
 use Rattle.pn_serve.specs.Script.Events.{happened_in}
 use Rattle.pn_serve.specs.Script.Inputs.{InputEnd}
@@ -15,7 +15,7 @@ use Rattle.pn_serve.specs.Script.Told.{Told}
 
 -- a command is awaited, and the line delivers this
 pub record Delivers (machine : Machine) (text : List ℕ) (deliveries : List DeliveryValue) : Type 0 where
-  pub waits : machine.mode ≡ idle
+  pub waits : machine.mode ≡ awaits_command
   pub says : command_at text ≡ Ok (deliver deliveries)
 
 -- the line delivers this, and is refused: memory runs out, or the round leaves a gap or has too many streams

@@ -7,7 +7,7 @@ use Rattle.pn_region.specs.Laws.{AreIn}
 use Rattle.pn_region.specs.Regions.{RegionValue}
 use Rattle.pn_region.specs.Serving.{AllServe}
 use Rattle.pn_region.specs.Taken.{all_taken, all_left, LoseNothing}
-use Rattle.pn_serve.specs.Machine.Outcomes.{idle, serving}
+use Rattle.pn_serve.specs.Machine.Outcomes.{awaits_command, serving}
 use Rattle.pn_serve.specs.Script.Happened.{happened}
 use Rattle.pn_serve.specs.Script.Inputs.{Input, after_input, region_after}
 
@@ -35,4 +35,4 @@ pub record Settled (broker : BrokerRecord) (region : RegionValue) (input : Input
 
 -- after the input, the next line is a command
 abbrev pub Waits : RegionValue → Input → Type 0
-Waits region input = (after_input (serving region) input).mode ≡ idle
+Waits region input = (after_input (serving region) input).mode ≡ awaits_command

@@ -1,15 +1,26 @@
 //! The commands of the program and their options, for `clap`.
 
-ghost use Rattle.std.specs.Prelude.{◌≡◌, ◌≤◌, [], false, unwrap_or, IfOk, pos};
-ghost use Rattle.clap.specs.Words.{app_of, first_of, found_of, rows_of, rule_of};
+ghost use Rattle.std.specs.Prelude.{◌≡◌, ◌≤◌, ℕ, List, [], None, Some, false, unwrap_or, IfOk, pos};
+ghost use Rattle.clap.specs.Words.{Row, Text, app_of, first_of, found_of, one_of, rows_of, rule_of};
 ghost use Rattle.clap.specs.declared.builder.command.Command.TheViews.{out-Command};
 ghost use Rattle.clap.specs.declared.builder.value_parser.ValueParser.TheVariants as values;
 ghost use Rattle.pn_serve.specs.Arguments.Options.{bounds_option, connections_option, idle_option, listen_option, port_option, program, progress_flag, replay as replay_app, serve as serve_app, sessions_option, socket_option, stay_flag, streams_words, workers_option};
-ghost use Rattle.pn_serve.specs.Arguments.Commands.{count_at, number_at};
+ghost use Rattle.pn_serve.specs.Arguments.Commands.{number_at, number_in};
 
 use clap::builder::ValueParser;
 use clap::{Arg, ArgAction, ArgMatches, Command, value_parser};
+use pn_apply::MAX_WORKERS;
+use pn_live::MAX_READERS;
 use std::alloc::{AllocError, Global};
+
+/// The greatest port.
+pub(crate) const MAX_PORT: u32 = 65_535;
+
+/// The most connections of a server that stays.
+pub(crate) const MAX_CONNECTIONS: u32 = 65_536;
+
+/// The most seconds after which an idle client is ended: a day.
+pub(crate) const MAX_IDLE: u32 = 86_400;
 
 /// The version that `--version` says.
 const VERSION: &str = "0.1.0";
@@ -100,7 +111,7 @@ fn workers<'w>(alloc: Global) -> Arg<'w>
         .long("workers")
         .value_name("N")
         .default_value("1")
-        .value_parser(one_to_16())
+        .value_parser(up_to(MAX_WORKERS as u32))
         .help("How many threads work a round: 1 to 16")
 }
 
@@ -112,7 +123,7 @@ fn sessions<'w>(alloc: Global) -> Arg<'w>
         .long("sessions")
         .value_name("N")
         .default_value("4")
-        .value_parser(one_to_16())
+        .value_parser(up_to(MAX_READERS as u32))
         .help("How many sessions are served: 1 to 16")
 }
 
@@ -135,7 +146,7 @@ fn port<'w>(alloc: Global) -> Arg<'w>
         .long("port")
         .value_name("P")
         .default_value("7070")
-        .value_parser(one_to_65_535())
+        .value_parser(up_to(MAX_PORT))
         .help("The port that is listened on")
 }
 
@@ -168,7 +179,7 @@ fn connections<'w>(alloc: Global) -> Arg<'w>
         .long("connections")
         .value_name("N")
         .default_value("1024")
-        .value_parser(one_to_65_536())
+        .value_parser(up_to(MAX_CONNECTIONS))
         .help("With --stay: how many connections are served at once: 1 to 65536")
 }
 
@@ -179,7 +190,7 @@ fn idle<'w>(alloc: Global) -> Arg<'w>
     Arg::new(alloc, "idle")
         .long("idle")
         .value_name("SECONDS")
-        .value_parser(one_to_86_400())
+        .value_parser(up_to(MAX_IDLE))
         .help("Ends a client that sends nothing and takes nothing for so long: 1 to 86400")
 }
 
@@ -204,42 +215,19 @@ fn streams<'w>(alloc: Global) -> Arg<'w>
         .help("A stream's name and the file of its messages, for 1 to 16 streams")
 }
 
-fn one_to_16<'w>() -> ValueParser<'w>
-    ensures { result ≡ values.Signed (pos 1) (pos 16) }
+// A number from 1 to this.
+fn up_to<'w>(most: u32) -> ValueParser<'w>
+    requires { 1 ≤ most }
+    ensures { result ≡ values.Signed (pos 1) (pos most) }
 {
-    value_parser!(u16).range(1..=16)
-}
-
-fn one_to_65_535<'w>() -> ValueParser<'w>
-    ensures { result ≡ values.Signed (pos 1) (pos 65535) }
-{
-    value_parser!(u16).range(1..=65_535)
-}
-
-fn one_to_65_536<'w>() -> ValueParser<'w>
-    ensures { result ≡ values.Signed (pos 1) (pos 65536) }
-{
-    value_parser!(u32).range(1..=65_536)
-}
-
-fn one_to_86_400<'w>() -> ValueParser<'w>
-    ensures { result ≡ values.Signed (pos 1) (pos 86400) }
-{
-    value_parser!(u32).range(1..=86_400)
+    value_parser!(u32).range(1..=i64::from(most))
 }
 
 /// The number of an option, from 1 to the most that `clap` lets through.
-pub(crate) fn option_number(options: &ArgMatches<'_>, name: &str, most: u16) -> u16
+pub(crate) fn option_number(options: &ArgMatches<'_>, name: &str, most: u32) -> u32
     requires { 1 ≤ most }
-    ensures { result ≡ number_at name.now most (rows_of (found_of options.now)) }
-{
-    options.get_one::<u16>(name).unwrap_or(1).clamp(1, most)
-}
-
-/// The count of an option, from 1 to the most that `clap` lets through.
-pub(crate) fn option_count(options: &ArgMatches<'_>, name: &str, most: u32) -> u32
-    requires { 1 ≤ most }
-    ensures { result ≡ count_at name.now most (rows_of (found_of options.now)) }
+    ensures number { result ≡ number_at name.now most (rows_of (found_of options.now)) }
+    ensures within { (1 ≤ result) × (result ≤ most) }
 {
     options.get_one::<u32>(name).unwrap_or(1).clamp(1, most)
 }
@@ -253,3 +241,13 @@ pub(crate) fn option_text<'w>(options: &ArgMatches<'w>, name: &str) -> &'w str
         None => "",
     }
 }
+
+/// A number among the arguments is as written where it is from 1 to the option's most, 1 where none is written, and in
+/// this range in any case.
+pub fn numbers_are_as_written()
+    ensures written { (name text : Text) (number most : ℕ) (options : List Row) → one_of name options ≡ Some text → number_in text ≡ Some number
+        → 1 ≤ number → number ≤ most → number_at name most options ≡ number }
+    ensures absent { (name : Text) (most : ℕ) (options : List Row) → one_of name options ≡ None → 1 ≤ most → number_at name most options ≡ 1 }
+    ensures in_range { (name : Text) (most : ℕ) (options : List Row) → 1 ≤ most
+        → (1 ≤ number_at name most options) × (number_at name most options ≤ most) }
+{}

@@ -11,7 +11,7 @@ ghost use Rattle.pn_serve.specs.Machine.Recovering.{adopted, adopting_text};
 ghost use Rattle.pn_serve.specs.Machine.Answers.{AnswersBy, ConcludesBy};
 ghost use Rattle.pn_serve.specs.Machine.Ways.{ComesTo, IsJoined};
 
-use crate::machine::Done;
+use crate::machine::Answer;
 use pn_join::NoMemory;
 use pn_line::MAX_KEPT_BYTES;
 use pn_protocol::{Refusal, Reply, bad_text, not_adopted};
@@ -41,11 +41,11 @@ impl Announced {
 }
 
 /// Takes an announced line. The last one adopts the copy.
-pub(crate) fn go_on(alloc: Global, region: &mut Region, announced: Announced, line: &[u8]) -> Done
+pub(crate) fn take_line(alloc: Global, region: &mut Region, announced: Announced, line: &[u8]) -> Answer
     ensures { AnswersBy ⊥ (with_mode (Some announced) region.old) line.now (with_mode result.1 region.new) result.0 }
 {
     let Announced { left, text } = announced;
-    let text = joined(text, line, b"\n");
+    let text = append_line(text, line, b"\n");
     if left > 1 {
         let left = left - 1;
         return (Reply::Silent, Some(Announced { left, text }));
@@ -54,21 +54,21 @@ pub(crate) fn go_on(alloc: Global, region: &mut Region, announced: Announced, li
 }
 
 /// Adopts the text so far, after a last part of a line.
-pub(crate) fn finish(alloc: Global, region: &mut Region, announced: Announced, part: &[u8]) -> Reply
+pub(crate) fn take_last_part(alloc: Global, region: &mut Region, announced: Announced, part: &[u8]) -> Reply
     ensures { ConcludesBy ⊥ (with_mode (Some announced) region.old) part.now (waiting region.new) result }
 {
-    adopt(alloc, region, joined(announced.text, part, b""))
+    adopt(alloc, region, append_line(announced.text, part, b""))
 }
 
 // Adds a line to the text. None once memory ran out.
-fn joined(text: Option<Vec<u8>>, line: &[u8], newline: &[u8]) -> Option<Vec<u8>>
+fn append_line(text: Option<Vec<u8>>, line: &[u8], newline: &[u8]) -> Option<Vec<u8>>
     ensures { IsJoined (bytes_of text) line.now newline.now (bytes_of result) }
 {
-    extended(text?, line, newline).ok()
+    extend_text(text?, line, newline).ok()
 }
 
 // Adds the line's first 65,537 bytes and its newline, if any.
-fn extended(text: Vec<u8>, line: &[u8], newline: &[u8]) -> Result<Vec<u8>, NoMemory>
+fn extend_text(text: Vec<u8>, line: &[u8], newline: &[u8]) -> Result<Vec<u8>, NoMemory>
     ensures { IfOk result (λ whole. whole.items ≡ text.items ++ (kept line.now ++ newline.now)) }
 {
     let mut text = text;

@@ -32,7 +32,7 @@ pub trait LineHandler {
         ensures knows { KnowsNoLess (reader self.old) (reader self.new) };
 
     /// Answers the end of the input, after a part of a line.
-    fn end(&mut self, alloc: Global, part: &LineBuffer) -> Reply
+    fn answer_end(&mut self, alloc: Global, part: &LineBuffer) -> Reply
         requires { ready }
         ensures ends { (text : List ℕ) → part.now ≡ so_far text → ends self.old text self.new result }
         ensures knows { KnowsNoLess (reader self.old) (reader self.new) };

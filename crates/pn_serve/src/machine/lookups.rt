@@ -31,17 +31,17 @@ pub(crate) fn scan(alloc: Global, region: &Region, query: &Query) -> Reply
     answer_scan(alloc, region.scan(query))
 }
 
-pub(crate) fn notices(alloc: Global, region: &Region, since: u64) -> Reply
+pub(crate) fn look_up_notices(alloc: Global, region: &Region, since: u64) -> Reply
     ensures { Obeys (waiting region.now) (notices_asked since) (waiting region.now) result }
 {
     match region.notices_since(since) {
-        Ok(found) => shown(told_reply(alloc, found)),
+        Ok(found) => shown(write_notices(alloc, found)),
         Err(_) => Reply::Refused(Refusal::Memory),
     }
 }
 
 // Writes notices, and frees them.
-fn told_reply(alloc: Global, found: Since) -> Result<Vec<u8>, NoMemory>
+fn write_notices(alloc: Global, found: Since) -> Result<Vec<u8>, NoMemory>
     ensures { IfOk result (λ text. text.items ≡ line_of (found_since found)) }
 {
     since_reply(alloc, &found)

@@ -8,7 +8,7 @@ use crate::Settings;
 use crate::machine::adoption::Announced;
 use crate::machine::command_reader::Json;
 use crate::machine::line_handler::LineHandler;
-use crate::machine::{answer, end};
+use crate::machine::{answer_end, answer_line};
 use pn_join::NoMemory;
 use pn_line::LineBuffer;
 use pn_protocol::Reply;
@@ -81,7 +81,7 @@ impl<'a, R: Threads + Sync> LineHandler for ScriptHandler<'a, R> {
         let waiting = self.announced.take();
         let bytes = line.bytes();
         let region = &mut self.region;
-        let (reply, announced) = answer::<R, Json>(
+        let (reply, announced) = answer_line::<R, Json>(
             self.rt,
             alloc,
             region,
@@ -93,10 +93,10 @@ impl<'a, R: Threads + Sync> LineHandler for ScriptHandler<'a, R> {
         reply
     }
 
-    fn end(&mut self, alloc: Global, part: &LineBuffer) -> Reply {
+    fn answer_end(&mut self, alloc: Global, part: &LineBuffer) -> Reply {
         let announced = self.announced.take();
         let bytes = part.bytes();
         let region = &mut self.region;
-        end::<R, Json>(self.rt, alloc, region, self.workers, announced, bytes)
+        answer_end::<R, Json>(self.rt, alloc, region, self.workers, announced, bytes)
     }
 }

@@ -117,7 +117,7 @@ impl LineLoop {
                 Ok(Next::Line)
             }
             LineEnd::EndOfInput => {
-                let counts = self.close(machine, output)?;
+                let counts = self.answer_end(machine, output)?;
                 self.blocks.flush(output)?;
                 Ok(Next::End(counts))
             }
@@ -148,7 +148,7 @@ impl LineLoop {
     }
 
     /// Answers the end of the input after the part of a line that was read. All lines and refusals are counted.
-    pub fn close<M: LineHandler, W: Sink>(
+    pub fn answer_end<M: LineHandler, W: Sink>(
         &mut self,
         machine: &mut M,
         output: &mut W,
@@ -162,7 +162,7 @@ impl LineLoop {
         ensures fault { OnErr result W.may_fail }
         ensures knows { KnowsNoLess (M.reader machine.old) (M.reader machine.new) }
     {
-        let reply = machine.end(self.alloc, &self.line);
+        let reply = machine.answer_end(self.alloc, &self.line);
         let mut counts = self.counts;
         if !self.line.is_empty() {
             counts.lines += 1;
@@ -223,7 +223,7 @@ impl LineLoop {
             return Err(RunFault::TooManyTurns);
         }
         self.line.start();
-        let counts = self.close(machine, output)?;
+        let counts = self.answer_end(machine, output)?;
         self.blocks.flush(output)?;
         Ok(counts)
     }
