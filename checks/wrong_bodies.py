@@ -3,7 +3,8 @@ import os
 import re
 from typing import NamedTuple
 
-TOP = os.path.dirname(os.path.dirname(os.path.abspath(__file__)))
+from edit_files import TOP, Told, told_of
+from existential import existential_clauses
 
 FUNCTION = re.compile(r"^\s*(?:pub(?:\(\w+\))? )?(?:const )?fn (\w+)", re.M)
 SIGNATURE_END = re.compile(r"^\s*(?:\{|.*\{)$", re.M)
@@ -39,29 +40,20 @@ class Change(NamedTuple):
 class Edit:
     """A wrong body: what it changes, and the functions that this is in. A place of None is in no function's body."""
 
-    def __init__(self, crate: str, path: str) -> None:
-        self.crate, self.path, self.name = crate, path, os.path.basename(path)
+    def __init__(self, crate: str, told: Told, is_control: bool = False) -> None:
+        self.crate, self.told = crate, told
+        self.name = told.name + (".control" if is_control else ".edit")
         self.changes: list[Change] = []
         self.places: set[Place | None] = set()
-        self.why_not: str | None = None
+        self.existential: set[str] = set()
+        self.why_not = told.fault
+        pairs = told.control if is_control else told.pairs
         try:
-            self.read()
+            for pair in pairs:
+                self.put(*pair)
         except OSError as error:
             self.why_not = str(error)
-
-    def read(self) -> None:
-        path, old = "", ""
-        with open(self.path, encoding="utf-8") as lines:
-            for line in lines.read().split("\n"):
-                word, _, rest = line.partition(":")
-                rest = rest.removeprefix(" ")
-                if word == "file":
-                    path = rest.strip()
-                elif word == "old":
-                    old = rest
-                elif word == "new":
-                    self.put(path, old, rest)
-        if not self.changes:
+        if not pairs:
             self.why_not = self.why_not or "it names no file"
 
     def put(self, path: str, old: str, new: str) -> None:
@@ -77,10 +69,15 @@ class Edit:
             if change.begins < at:
                 at -= len(change.text) - (change.ends - change.begins)
         self.places |= places_at(self.crate, path, at)
+        self.existential |= clauses_without_witness(self.crate, path, at)
         self.changes.append(Change(path, at, at + len(old), new))
 
     def files(self) -> set[str]:
         return {it.path for it in self.changes}
+
+    def shows_nothing(self) -> bool:
+        """Whether a clause of its functions says of some value only that there is one, and no wrong witness was tried."""
+        return bool(self.existential) and not self.told.witness
 
     def is_alone(self) -> bool:
         """Whether it changes more than bodies of functions."""
@@ -105,6 +102,15 @@ def place_in(path: str, text: str, at: int) -> Place | None:
     owners = [it for it in IMPL.finditer(text, 0, last.start()) if text.find("\n}\n", it.end(), last.start()) < 0]
     module = path[len("src/") : -len(".rt")].replace("/", "::")
     return Place(module, last[1], owners[-1][1] if owners else "")
+
+
+def clauses_without_witness(crate: str, path: str, at: int) -> set[str]:
+    """The clauses that say of some value only that there is one, of the function whose body has this part of a file."""
+    text = source(crate, path)
+    if place_in(path, text, at) is None:
+        return set()
+    last = [it for it in FUNCTION.finditer(text) if it.start() <= at][-1]
+    return set(existential_clauses(text, last.start(), last[1]))
 
 
 def places_at(crate: str, path: str, at: int) -> set[Place | None]:
@@ -135,15 +141,18 @@ def is_at(function: str, place: Place) -> bool:
 
 
 def edits_of(crate: str) -> list[Edit]:
-    """The crate's edits, those of the gate first."""
-    folders = [f"{TOP}/crates/{crate}/must-fail", f"{TOP}/edits/{crate}"]
-    return [Edit(crate, f"{at}/{name}") for at in folders if os.path.isdir(at) for name in sorted(os.listdir(at)) if name.endswith(".edit")]
+    """The crate's edits that the prover has to refuse, those of the gate first."""
+    return [Edit(crate, told) for told in told_of(crate) if not told.tests]
+
+
+def of_tests(crate: str) -> list[Edit]:
+    """The crate's wrong bodies that meet every contract, and that tests alone refuse."""
+    return [Edit(crate, told) for told in told_of(crate) if told.tests]
 
 
 def control_of(edit: Edit) -> Edit | None:
     """The right body in the shape of an edit, if one is kept."""
-    path = f"{TOP}/edits/{edit.crate}/{edit.name.removesuffix('.edit')}.control"
-    return Edit(edit.crate, path) if os.path.exists(path) else None
+    return Edit(edit.crate, edit.told, is_control=True) if edit.told.control else None
 
 
 def in_bundles(edits: list[Edit], most: int) -> list[list[Edit]]:
