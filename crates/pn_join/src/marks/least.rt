@@ -6,7 +6,7 @@ ghost use Rattle.std.specs.Option.{option_to_list};
 ghost use Rattle.pn_join.specs.Marks.{name_cmp, if_position, least};
 
 use super::{Highest, Marks, StreamName, raise_at};
-use crate::{Dup, NoMemory, Table};
+use crate::{NoMemory, Table};
 
 impl Table<StreamName, Highest> {
     /// The lesser of both positions at each name. A name that one of both lacks is left out.
@@ -32,5 +32,5 @@ fn add_last(marks: &mut Marks, name: &StreamName, position: u64) -> Result<(), N
     if position == 0 {
         return Ok(());
     }
-    raise_at(marks, name.dup()?, position)
+    raise_at(marks, *name, position)
 }
