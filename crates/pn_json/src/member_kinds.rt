@@ -4,7 +4,7 @@ ghost use Rattle.std.specs.Prelude.{◌≡◌};
 ghost use Rattle.serde_json.specs.Find.{as_str, as_array, as_object};
 ghost use Rattle.serde_json.specs.View.{view, items_view, members_view};
 ghost use Rattle.pn_json.specs.Answers.{Shows};
-ghost use Rattle.pn_json.specs.Members.{seen, signed_number, whole_number, member_as};
+ghost use Rattle.pn_json.specs.Members.{seen, signed_number, whole_number, member_as, text_at};
 
 use serde_json::{Map, Value};
 
@@ -13,6 +13,13 @@ pub fn text_of<'v, F: Drop>(value: Option<&'v Value>, fault: F) -> Result<&'v st
     ensures { Shows (λ text. text.now) result (member_as as_str fault (seen value.entry)) }
 {
     value.and_then(Value::as_str).ok_or(fault)
+}
+
+/// The text that the value is, or the empty text otherwise.
+pub fn text_or_empty<'v>(value: Option<&'v Value>) -> &'v str
+    ensures { result.now ≡ text_at (seen value.entry) }
+{
+    value.and_then(Value::as_str).unwrap_or("")
 }
 
 /// The whole number below 2^64 that the value is, or the fault otherwise.

@@ -10,7 +10,6 @@ pub use Rattle.pn_record.specs.Limits.{FieldValue, greatest, is_field, is_key, m
 pub use Rattle.pn_record.specs.Numbers.{holds_number}
 pub use Rattle.pn_record.specs.Older.{NotOlder}
 pub use Rattle.pn_record.specs.Order.{bytes_cmp, value_cmp}
-pub use Rattle.pn_record.specs.Parts.{text_at}
 pub use Rattle.pn_record.specs.Reading.{reading, value_at}
 pub use Rattle.pn_record.specs.Seen.{body_rises}
 pub use Rattle.pn_record.specs.Sets.{CellValue, HasContents, Stamp, cell_joined}

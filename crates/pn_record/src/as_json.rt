@@ -15,6 +15,6 @@ pub use content_writer::{
 pub use marks::{marks_of, marks_value};
 pub use marks_writer::write_marks;
 pub use moved::image_from;
-pub use read::{image_of, read_image, read_value, version_of};
+pub use read::{image_of, read_image, read_value, try_image_from, version_of};
 pub use unchecked::{UncheckedImage, numbers_of, unchecked_image};
 pub use write::{content_value, image_value, record_value, version_value, write_image};

@@ -123,11 +123,11 @@ fn image_read(alloc: Global, read: Result<Value, ImageFault>) -> Result<Image, I
     ensures unread { IfErr read (λ fault. result ≡ Err fault) }
 {
     let value = read?;
-    moved_image(alloc, value)
+    try_image_from(alloc, value)
 }
 
-// The image that a value spells. The names and texts of its fields are moved out of the value.
-fn moved_image(alloc: Global, value: Value) -> Result<Image, ImageFault>
+/// As `image_of`, of a value of one's own: the names and texts of the image's fields are moved out of it, not copied.
+pub fn try_image_from(alloc: Global, value: Value) -> Result<Image, ImageFault>
     ensures found { IfOk result (λ image. IsImage (view value) image) }
     ensures exact { IsUnless ImageFault.Memory result (image_in (view value)) }
     ensures memory { IsErrOf result ImageFault.Memory → IsOk (image_in (view value)) }
@@ -144,9 +144,7 @@ impl UncheckedImage<'_> {
         requires { IsOk (ranges_in self.now) }
         ensures { IfOk result (λ image. image ≡ self.now) }
     {
-        let Ok(key) = Key::of(alloc, self.key) else {
-            return Err(NoMemory);
-        };
+        let key = Key::of_fitting(alloc, self.key)?;
         let body = body_of(alloc, self.fields)?;
         let master = Name::of(self.master.as_bytes());
         let (generation, number) = self.version;
