@@ -25,10 +25,10 @@ got_more (k ∷ ks) [] key look inside here = λ i. find bytes_cmp (sym here i) 
 got_more (k ∷ ks) (first ∷ seen) key look inside here = ap (λ (cells : List (Option CellValue)). find bytes_cmp k (cells_in first.1) ∷ cells) (got_more ks seen key look (omega arith) here)
 
 -- a get so far: one key after another was found
-pub record IsGetting {V : Type 0} (looks : V → Look → V → Type 0) (bounds : Bounds) (keys : List (List ℕ)) (place : ℕ) (old now : V) (cells : List (Option CellValue)) (seen : List Look) : Type 0 where
+pub record IsGetting {V : Type 0} (looks : V → Look → V → Type 0) (bounds : Bounds) (keys : List (List ℕ)) (index : ℕ) (old now : V) (cells : List (Option CellValue)) (seen : List Look) : Type 0 where
   pub looked : Looks looks old seen now
   pub found : AllByRecursion (IsFoundIn bounds) seen
-  pub count : length seen ≡ place
+  pub count : length seen ≡ index
   pub order : map (λ look. look.0) seen ≡ map (tablet_of bounds) (take (length seen) keys)
   pub none_refused : first_refusal seen ≡ None
   pub got : cells ≡ cells_got keys seen
@@ -47,9 +47,9 @@ get_fails_at_once looks bounds keys now show why memory = record {
   whole = tt;
 }
 
-module _ {V : Type 0} {looks : V → Look → V → Type 0} {bounds : Bounds} {keys : List (List ℕ)} {place : ℕ} {old now : V} {cells : List (Option CellValue)} {seen : List Look} (getting : IsGetting looks bounds keys place old now cells seen) where
+module _ {V : Type 0} {looks : V → Look → V → Type 0} {bounds : Bounds} {keys : List (List ℕ)} {index : ℕ} {old now : V} {cells : List (Option CellValue)} {seen : List Look} (getting : IsGetting looks bounds keys index old now cells seen) where
   -- one look more
-  module _ {key : List ℕ} (inside : place < length keys) (at : key ≡ get_or keys place key) {look : Look} {new : V} {same : Bounds} (is : same ≡ bounds) (here : look.0 ≡ tablet_of same key) (looked : looks now look new) (there : IsFoundIn same look) where
+  module _ {key : List ℕ} (inside : index < length keys) (at : key ≡ get_or keys index key) {look : Look} {new : V} {same : Bounds} (is : same ≡ bounds) (here : look.0 ≡ tablet_of same key) (looked : looks now look new) (there : IsFoundIn same look) where
     found : IsFoundIn bounds look
     found = subst (λ (b : Bounds). IsFoundIn b look) is there
 
@@ -85,7 +85,7 @@ module _ {V : Type 0} {looks : V → Look → V → Type 0} {bounds : Bounds} {k
       whole = tt;
     })
 
-    pub getting_more : (cell : Option CellValue) {more : List (Option CellValue)} → more ≡ cells ++ cell ∷ [] → cell_at key look ≡ Ok cell → IsGetting looks bounds keys (place + 1) old new more (seen ++ look ∷ [])
+    pub getting_more : (cell : Option CellValue) {more : List (Option CellValue)} → more ≡ cells ++ cell ∷ [] → cell_at key look ≡ Ok cell → IsGetting looks bounds keys (index + 1) old new more (seen ++ look ∷ [])
     getting_more cell pushed right =
         let parts = ok_value (refusal look) _ cell right in
         record {
@@ -98,7 +98,7 @@ module _ {V : Type 0} {looks : V → Look → V → Type 0} {bounds : Bounds} {k
         }
 
   -- where every key was found, all are
-  pub get_ends : {A : Type 0} (show : A → List (Option CellValue)) (answer : A) → show answer ≡ cells → length keys ≡ place → IsGet looks bounds keys old now show (Ok answer) seen
+  pub get_ends : {A : Type 0} (show : A → List (Option CellValue)) (answer : A) → show answer ≡ cells → length keys ≡ index → IsGet looks bounds keys old now show (Ok answer) seen
   get_ends show answer shows all = record {
     looked = getting.looked;
     found = getting.found;

@@ -52,7 +52,7 @@ module _ {K X Y : Type 0} (cmp : K → K → Ordering) (key : K) (f : Y → K ×
     placed : (r : Result ℕ ℕ) → IsSearchInRange r (length ys) → IsBinarySearchResult order ys r → r ≡ place_of cmp key (map f ys)
     placed r inside found = place_from_search cmp key o (map f ys) rising r (range_seen ys r inside) (search_seen ys r inside found)
 
-    -- the item at the place that was found has the key
+    -- the item at the index that was found has the key
     pub found_there : (i : ℕ) (y : Y) → y ≡ get_or ys i y → IsSearchInRange (Ok i) (length ys) → IsBinarySearchResult order ys (Ok i) → find cmp key (map f ys) ≡ Some (f y).1
     found_there i y here inside found =
         found_at_tie cmp key o (map f ys) rising i (placed (Ok i) inside found) (f y) (ap f here ∙ sym (get_or-map f ys i y (f y) inside))

@@ -116,7 +116,7 @@ greater_of m n P at_m at_n =
       | inr more ↦ let e : m ≡ max m n = omega arith in subst P e at_m
     ]
 
--- before the greater of the two places none is shown
+-- before the greater of the two indices none is shown
 pub begin_there : (q : QueryValue) (es : Entries) (a b : ℕ) → Rising bytes_cmp es → a ≡ lesser_at q.from es → b ≡ lesser_at q.after es → shown_rows q (drop (max a b) es) ≡ shown_rows q es
 begin_there q es a b rising is_a is_b =
     greater_of a b (λ n. shown_rows q (drop n es) ≡ shown_rows q es)
@@ -145,7 +145,7 @@ from_place key (e ∷ es) (suc n) rising past =
       | false ↦ λ p. from_place key es n rising.1 (omega (arith, none_lesser key e.0 es p rising.0))
     ] refl
 
--- at the place of an end, or after it, no key is below the end
+-- at the index of an end, or after it, no key is below the end
 pub from_there : (end : Option (List ℕ)) (es : Entries) (n : ℕ) → Rising bytes_cmp es → lesser_at end es ≤ n → NoneBelow end (drop n es)
 from_there None es n rising past = open_below (drop n es)
 from_there (Some key) es n rising past = from_place key es n rising past

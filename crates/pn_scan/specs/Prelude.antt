@@ -1,4 +1,4 @@
--- The names that contracts of the crates above cite, passed on from one place. Declares nothing.
+-- The names that contracts of the crates above cite, passed on. Declares nothing.
 pub use Rattle.pn_scan.specs.Candidates.{Look}
 pub use Rattle.pn_scan.specs.Pages.{PageValue, first_page}
 pub use Rattle.pn_scan.specs.Queries.{QueryValue}

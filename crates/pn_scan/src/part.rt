@@ -70,9 +70,9 @@ fn first_rows(
         × (part.1 ≡ nat_lt room (length (shown_rows query.now cells.now)))) }
 {
     let mut rows = Vec::with_capacity(alloc, room.min(cells.len()))?;
-    let place = first_place(cells, query);
-    prefetch_cells(cells, place, query, room);
-    for (key, cell) in cells.iter_from(place) {
+    let index = first_index(cells, query);
+    prefetch_cells(cells, index, query, room);
+    for (key, cell) in cells.iter_from(index) {
         if !is_before(query.to(), key) {
             return Ok((rows, false));
         }
@@ -87,8 +87,8 @@ fn first_rows(
 }
 
 // Prefetches the counters that copies of the cells raise. No clause depends on it.
-fn prefetch_cells(cells: &Records, place: usize, query: &Query, room: usize) {
-    for (key, cell) in cells.iter_from(place).take(room) {
+fn prefetch_cells(cells: &Records, index: usize, query: &Query, room: usize) {
+    for (key, cell) in cells.iter_from(index).take(room) {
         if !is_before(query.to(), key) {
             return;
         }
@@ -96,17 +96,17 @@ fn prefetch_cells(cells: &Records, place: usize, query: &Query, room: usize) {
     }
 }
 
-// A place before which no record is shown, and after which no key is below `from`.
-fn first_place(cells: &Records, query: &Query) -> usize
+// An index before which no record is shown, and after which no key is below `from`.
+fn first_index(cells: &Records, query: &Query) -> usize
     requires { IsTrue (is_sorted bytes_cmp cells.now) }
     ensures shown { shown_rows query.now (drop result cells.now) ≡ shown_rows query.now cells.now }
     ensures from { AllByRecursion (λ e. is_from query.now.from e.0 ≡ true) (drop result cells.now) }
 {
-    place_of(cells, query.from()).max(place_of(cells, query.after()))
+    index_of(cells, query.from()).max(index_of(cells, query.after()))
 }
 
-fn place_of(cells: &Records, key: Option<&Key>) -> usize
-    ensures place { result ≡ option_map_or (λ key. count_by (λ e. is_lt (bytes_cmp e.0 key)) cells.now) (option_copied key.entry) 0 }
+fn index_of(cells: &Records, key: Option<&Key>) -> usize
+    ensures index { result ≡ option_map_or (λ key. count_by (λ e. is_lt (bytes_cmp e.0 key)) cells.now) (option_copied key.entry) 0 }
 {
     match key {
         Some(key) => cells.lower_bound(key),

@@ -18,7 +18,7 @@ use Rattle.pn_record.proofs.CellLists.{both, cells-append}
 use Rattle.pn_record.proofs.CellMaps.{Holds-table_of, rising-table_of, held_adds}
 use Rattle.pn_record.proofs.HeldRecords.{Holds-one}
 use Rattle.pn_tablet.specs.Copies.{IsCopy}
-use Rattle.pn_tablet.specs.CopyReading.{with_mark, with_image, ended}
+use Rattle.pn_tablet.specs.CopyReading.{with_mark, with_image, finish}
 use Rattle.pn_tablet.specs.CopyTexts.{comes_after}
 use Rattle.pn_tablet.specs.Drafts.{DraftValue, IsDraft, with_last}
 use Rattle.pn_tablet.specs.Ranges.{Ends, in_range}
@@ -95,8 +95,8 @@ taken (Err e) old new image spelled held rising = tt
 
 -- ---- what holds of all drafts
 
-pub draft-begun : (range : Ends) (marks : Positions) (cells : Entries) → marks ≡ [] → cells ≡ [] → IsDraft range marks cells None
-draft-begun range marks cells no_marks no_cells = record {
+pub draft-empty : (range : Ends) (marks : Positions) (cells : Entries) → marks ≡ [] → cells ≡ [] → IsDraft range marks cells None
+draft-empty range marks cells no_marks no_cells = record {
   inside = subst (λ m. lie_in range m ≡ true) (sym no_cells) refl;
   spelled = no_cells ∙ spelled_nil ∙ ap (λ m. table_of (spell m)) (sym no_cells);
   positions = ap are_positions no_marks;
@@ -137,5 +137,5 @@ pub imaged : (n : ℕ) (draft : DraftValue) (image : Image) (new : Entries) → 
 imaged n draft image new here after is = rw (here, after, is) refl
 
 pub closed : (n : ℕ) (draft : DraftValue) (count : ℕ) (over : Bool) (new : Entries) → (count == n - 2) ≡ true → over ≡ true → new ≡ draft.cells
-    → ended n draft count over ≡ Ok (record { range = draft.range; marks = draft.marks; cells = new })
+    → finish n draft count over ≡ Ok (record { range = draft.range; marks = draft.marks; cells = new })
 closed n draft count over new counts is_over is = rw (counts, is_over, is) refl

@@ -7,40 +7,40 @@ ghost use Rattle.pn_record.specs.declared.image.Image.{Image};
 ghost use Rattle.pn_record.specs.Prelude.{bytes_cmp, Entries, table_of, NotOlder};
 ghost use Rattle.pn_tablet.specs.Copies.{TabletCopyValue};
 ghost use Rattle.pn_tablet.specs.Laws.{IsSpelled, Rise, AreJoins, Grows};
-ghost use Rattle.pn_tablet.specs.Steps.{step, stepped};
+ghost use Rattle.pn_tablet.specs.Steps.{step, tablet_after};
 ghost use Rattle.pn_tablet.specs.Tablets.{TabletStateValue};
-ghost use Rattle.pn_tablet.specs.declared.op.TabletOp.{TabletOp};
-ghost use Rattle.pn_tablet.specs.declared.op.TabletOp.TheVariants.{Join, Lose, Adopt};
+ghost use Rattle.pn_tablet.specs.declared.state.TabletOp.{TabletOp};
+ghost use Rattle.pn_tablet.specs.declared.state.TabletOp.TheVariants.{Join, Lose, Adopt};
 ghost use Rattle.pn_tablet.specs.declared.state.Status.TheVariants.{Serving};
 
 /// No operation lowers the cover or the reach.
 pub fn cover_never_falls()
-    ensures cover { (tablet : TabletStateValue) (op : TabletOp) → Reaches (stepped tablet op).cover tablet.cover }
-    ensures reach { (tablet : TabletStateValue) (op : TabletOp) → Reaches (stepped tablet op).reach tablet.reach }
+    ensures cover { (tablet : TabletStateValue) (op : TabletOp) → Reaches (tablet_after tablet op).cover tablet.cover }
+    ensures reach { (tablet : TabletStateValue) (op : TabletOp) → Reaches (tablet_after tablet op).reach tablet.reach }
 {}
 
 /// Only a loss removes a record or leaves it at an older version, and after a loss the tablet does not serve.
 pub fn nothing_but_a_loss_goes_back()
     ensures kept { (tablet : TabletStateValue) (op : TabletOp) → IsSpelled tablet.cells → (op ≡ Lose → ⊥)
-        → (key : List ℕ) → NotOlder (find bytes_cmp key tablet.cells) (find bytes_cmp key (stepped tablet op).cells) }
-    ensures served { (tablet : TabletStateValue) (op : TabletOp) → IsSpelled tablet.cells → (stepped tablet op).status ≡ Serving
-        → (key : List ℕ) → NotOlder (find bytes_cmp key tablet.cells) (find bytes_cmp key (stepped tablet op).cells) }
+        → (key : List ℕ) → NotOlder (find bytes_cmp key tablet.cells) (find bytes_cmp key (tablet_after tablet op).cells) }
+    ensures served { (tablet : TabletStateValue) (op : TabletOp) → IsSpelled tablet.cells → (tablet_after tablet op).status ≡ Serving
+        → (key : List ℕ) → NotOlder (find bytes_cmp key tablet.cells) (find bytes_cmp key (tablet_after tablet op).cells) }
 {}
 
 /// Two joins give one tablet in either order, even where one is refused.
 pub fn joins_commute()
     ensures { (tablet : TabletStateValue) (cells others : Entries) (marks positions : Positions)
         → Rise tablet.cover → Rise tablet.reach → Rise marks → Rise positions
-        → stepped (stepped tablet (Join cells marks)) (Join others positions)
-        ≡ stepped (stepped tablet (Join others positions)) (Join cells marks) }
+        → tablet_after (tablet_after tablet (Join cells marks)) (Join others positions)
+        ≡ tablet_after (tablet_after tablet (Join others positions)) (Join cells marks) }
 {}
 
 /// A repeated join changes nothing. With later marks, it leaves what it alone would have left.
 pub fn joins_repeat_without_effect()
     ensures later { (tablet : TabletStateValue) (cells : Entries) (marks later : Positions) → Rise tablet.cover → Rise tablet.reach → raised marks later ≡ later
-        → stepped (stepped tablet (Join cells marks)) (Join cells later) ≡ stepped tablet (Join cells later) }
+        → tablet_after (tablet_after tablet (Join cells marks)) (Join cells later) ≡ tablet_after tablet (Join cells later) }
     ensures same { (tablet : TabletStateValue) (cells : Entries) (marks : Positions) → Rise tablet.cover → Rise tablet.reach → Rise marks
-        → stepped (stepped tablet (Join cells marks)) (Join cells marks) ≡ stepped tablet (Join cells marks) }
+        → tablet_after (tablet_after tablet (Join cells marks)) (Join cells marks) ≡ tablet_after tablet (Join cells marks) }
 {}
 
 /// After a loss, joins, and the adoption of a copy, every record is back, at its version before the loss or a later one.
@@ -50,6 +50,6 @@ pub fn an_adoption_brings_back_what_was_lost()
         → Rise tablet.reach → Rise copy.marks
         → (images : List Image) → tablet.cells ≡ table_of images → ((image : Image) → Contains images image → Contains (upto tablet.reach) image)
         → copy.cells ≡ table_of (upto copy.marks)
-        → step (fold stepped (stepped tablet Lose) joins) (Adopt copy) ≡ Ok after
+        → step (fold tablet_after (tablet_after tablet Lose) joins) (Adopt copy) ≡ Ok after
         → (key : List ℕ) → NotOlder (find bytes_cmp key tablet.cells) (find bytes_cmp key after.cells) }
 {}

@@ -8,7 +8,7 @@ use Rattle.pn_record.specs.CellMap.{Entries}
 use Rattle.pn_record.specs.Coding.{shown_code}
 use Rattle.pn_tablet.specs.Ranges.{Ends}
 use Rattle.pn_tablet.specs.Copies.{TabletCopyValue}
-use Rattle.pn_tablet.specs.Tablets.{TabletStateValue, ProgressValue}
+use Rattle.pn_tablet.specs.Tablets.{TabletStateValue, CoverageValue}
 use Rattle.pn_tablet.specs.declared.state.Status.{Status}
 use Rattle.pn_tablet.specs.declared.state.Status.TheVariants.{Serving, Recovering}
 
@@ -46,8 +46,8 @@ tablet_code =
     (λ _. refl)
 
 -- a cover and a reach as a pair
-abbrev pub progress_code : Coded ProgressValue
-progress_code =
+abbrev pub coverage_code : Coded CoverageValue
+coverage_code =
     code_by (Positions × Positions) (coded× positions_code positions_code)
     (λ p. (p.cover, p.reach))
     (λ p. record { cover = p.0; reach = p.1 })

@@ -9,7 +9,7 @@ ghost use Rattle.pn_tablet.specs.declared.state.Status.TheVariants.{Serving};
 
 use super::{Status, TabletState};
 use crate::Range;
-use crate::progress::Progress;
+use crate::coverage::Coverage;
 use pn_join::{Dup, Marks, NoMemory};
 use pn_record::Records;
 use std::alloc::Global;
@@ -36,7 +36,7 @@ impl TabletState {
         Ok(TabletState {
             range,
             cells,
-            progress: Progress::of_parts(cover, reach),
+            coverage: Coverage::of_parts(cover, reach),
             status: Status::Serving,
             spare: Some(spare),
             alloc,
@@ -64,7 +64,7 @@ impl TabletState {
         ensures cover { result.now ≡ self.now.cover }
         ensures positions { IsTrue (are_positions self.now.cover) }
     {
-        self.progress.cover()
+        self.coverage.cover()
     }
 
     /// The positions up to which any cells took streams, nowhere less than the cover.
@@ -73,7 +73,7 @@ impl TabletState {
         ensures positions { IsTrue (are_positions self.now.reach) }
         ensures reached { Reaches self.now.reach self.now.cover }
     {
-        self.progress.reach()
+        self.coverage.reach()
     }
 
     /// Whether it serves.

@@ -1,4 +1,4 @@
--- The last row is that at the last place.
+-- The last row is that at the last index.
 use Rattle.std.proofs.Common.{ℕ, List, Some, option_map, sym, ap, ◌∙◌}
 use Rattle.pn_record.specs.Sets.{CellValue}
 use Rattle.pn_scan.specs.Queries.{continued}

@@ -7,7 +7,7 @@ use Rattle.std.specs.Ordering.{eq_by_cmp}
 use Rattle.pn_join.specs.Marks.{Positions, Reaches, are_positions, is_position, name_cmp, raised}
 use Rattle.pn_join.proofs.MarksFacts.{are_positions-raised, position_of-raised, same_marks}
 use Rattle.pn_tablet.specs.Laws.{Rise}
-use Rattle.pn_tablet.specs.Tablets.{IsProgress}
+use Rattle.pn_tablet.specs.Tablets.{IsCoverage}
 
 -- a position that is there is not 0
 abbrev IsSet : Option ℕ → Type 0
@@ -36,7 +36,7 @@ same_reached a b rising rises are are_too reaches reached =
     same_marks a b rising rises (λ name. same_set (find name_cmp name a) (find name_cmp name b) (all_set a name are) (all_set b name are_too) (reached name) (reaches name))
 
 -- a reach and its cover that are raised by the same marks
-pub both_raised : (cover reach marks : Positions) → IsProgress cover reach → are_positions marks ≡ true → IsProgress (raised cover marks) (raised reach marks)
+pub both_raised : (cover reach marks : Positions) → IsCoverage cover reach → are_positions marks ≡ true → IsCoverage (raised cover marks) (raised reach marks)
 both_raised cover reach marks was are = record {
   positions = are_positions-raised cover marks was.positions are;
   reach_positions = are_positions-raised reach marks was.reach_positions are;

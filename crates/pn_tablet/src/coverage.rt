@@ -2,7 +2,7 @@
 
 ghost use Rattle.std.specs.Prelude.{◌≡◌, [], IsTrue, IfOk, unwrap_or};
 ghost use Rattle.pn_join.specs.Prelude.{Positions, Reaches, are_positions, raised};
-ghost use Rattle.pn_tablet.specs.Tablets.{IsProgress};
+ghost use Rattle.pn_tablet.specs.Tablets.{IsCoverage};
 
 use pn_join::{Dup, Marks, NoMemory, raise};
 use std::alloc::Global;
@@ -10,50 +10,50 @@ use std::marker::Model;
 
 /// The positions up to which all cells of a tablet took streams, and those up to which any did.
 #[derive(Drop)]
-pub struct Progress {
+pub struct Coverage {
     cover: Marks,
     // The reach, or None where it equals the cover.
     ahead: Option<Marks>,
 }
 
-impl Model for Progress {
+impl Model for Coverage {
     ghost use Rattle.std.specs.Prelude.{unwrap_or};
-    ghost use Rattle.pn_tablet.specs.Tablets.{ProgressValue, IsProgress};
+    ghost use Rattle.pn_tablet.specs.Tablets.{CoverageValue, IsCoverage};
 
-    ghost Value = { ProgressValue };
+    ghost Value = { CoverageValue };
 
-    ghost use Rattle.pn_tablet.specs.Proofs.Coding.{progress_code};
+    ghost use Rattle.pn_tablet.specs.Proofs.Coding.{coverage_code};
 
-    ghost coded = { progress_code };
+    ghost coded = { coverage_code };
 
-    ghost view = { λ progress. record { cover = progress.cover; reach = unwrap_or progress.ahead progress.cover } };
+    ghost view = { λ coverage. record { cover = coverage.cover; reach = unwrap_or coverage.ahead coverage.cover } };
 
-    ghost invariant = { λ progress. IsProgress progress.cover (unwrap_or progress.ahead progress.cover) };
+    ghost invariant = { λ coverage. IsCoverage coverage.cover (unwrap_or coverage.ahead coverage.cover) };
 }
 
-impl Progress {
+impl Coverage {
     /// That of an empty tablet.
-    pub fn new(alloc: Global) -> Progress
+    pub fn new(alloc: Global) -> Coverage
         ensures { result ≡ record { cover = []; reach = [] } }
     {
-        Progress {
+        Coverage {
             cover: Marks::new(alloc),
             ahead: None,
         }
     }
 
     /// A cover, and a reach that is nowhere less.
-    pub fn of_parts(cover: Marks, reach: Marks) -> Progress
-        requires { IsProgress cover reach }
+    pub fn of_parts(cover: Marks, reach: Marks) -> Coverage
+        requires { IsCoverage cover reach }
         ensures { result ≡ record { cover = cover; reach = reach } }
     {
         // A call on a table tells the checker that its keys rise.
         let _ = cover.len();
         let _ = reach.len();
         if cover.reaches(&reach) {
-            return Progress { cover, ahead: None };
+            return Coverage { cover, ahead: None };
         }
-        Progress {
+        Coverage {
             cover,
             ahead: Some(reach),
         }
@@ -79,20 +79,25 @@ impl Progress {
         }
     }
 
+    /// Recalls for the prover that the positions of the reach are those of messages.
+    pub fn recall_positions(&self)
+        ensures { IsTrue (are_positions self.now.reach) }
+    {}
+
     /// Both raised by the marks.
-    pub fn raised_by(&self, marks: &Marks) -> Result<Progress, NoMemory>
+    pub fn with_marks(&self, marks: &Marks) -> Result<Coverage, NoMemory>
         requires { IsTrue (are_positions marks.now) }
         ensures { IfOk result (λ higher. higher ≡ record { cover = raised self.now.cover marks.now; reach = raised self.now.reach marks.now }) }
     {
-        let cover = raised_by(&self.cover, marks)?;
+        let cover = raise_copy(&self.cover, marks)?;
         match &self.ahead {
-            None => Ok(Progress { cover, ahead: None }),
-            Some(ahead) => Ok(Progress::of_parts(cover, raised_by(ahead, marks)?)),
+            None => Ok(Coverage { cover, ahead: None }),
+            Some(ahead) => Ok(Coverage::of_parts(cover, raise_copy(ahead, marks)?)),
         }
     }
 }
 
-fn raised_by(own: &Marks, marks: &Marks) -> Result<Marks, NoMemory>
+fn raise_copy(own: &Marks, marks: &Marks) -> Result<Marks, NoMemory>
     ensures { IfOk result (λ higher. higher ≡ raised own.now marks.now) }
 {
     let mut higher = own.dup()?;
@@ -100,11 +105,11 @@ fn raised_by(own: &Marks, marks: &Marks) -> Result<Marks, NoMemory>
     Ok(higher)
 }
 
-impl Dup for Progress {
-    fn dup(&self) -> Result<Progress, NoMemory>
+impl Dup for Coverage {
+    fn dup(&self) -> Result<Coverage, NoMemory>
         ensures { IfOk result (λ copy. copy ≡ self.now) }
     {
-        Ok(Progress {
+        Ok(Coverage {
             cover: self.cover.dup()?,
             ahead: dup_ahead(&self.ahead)?,
         })

@@ -1,6 +1,6 @@
 -- The laws are lemmas.
 use Rattle.pn_tablet.proofs.LayoutFacts.{key_in_tablet, tablet_of_within, tablet_of_key}
-use Rattle.pn_tablet.proofs.layout_laws.each_key_is_in_one_tablet.Goals as goal
+use Rattle.pn_tablet.proofs.laws.each_key_is_in_one_tablet.Goals as goal
 
 pub returns-clause-there : goal.returns-clause-there
 returns-clause-there c = λ bounds key lawful. key_in_tablet bounds key lawful.rising

@@ -3,8 +3,8 @@ use Rattle.std.proofs.Common.{sym, ap, ◌∙◌}
 use Rattle.pn_tablet.specs.CopyReading.{pieces_of, read_on}
 use Rattle.pn_tablet.specs.Drafts.{DraftValue}
 use Rattle.pn_tablet.proofs.CopyPieces.{two_pieces}
-use Rattle.pn_tablet.proofs.CopySteps.{copy_at-bad, copy_at-begun, handed_on, same_right}
-use Rattle.pn_tablet.proofs.copy_reading.checked_copy.Goals as goal
+use Rattle.pn_tablet.proofs.CopySteps.{copy_at-bad, copy_at-empty_draft, handed_on, same_right}
+use Rattle.pn_tablet.proofs.copy_reading.read_text.Goals as goal
 
 pub returns-in_err-form-clause-exact : goal.returns-in_err-form-clause-exact
 returns-in_err-form-clause-exact c =
@@ -14,7 +14,7 @@ returns-in_err-form-clause-exact c =
 pub returns-clause-exact : goal.returns-clause-exact
 returns-clause-exact c =
     same_right c.read_lines.result (read_on c.in_ok-form.form 2 c.new.result (pieces_of c.in-Some.rest.now)) _
-    (sym (copy_at-begun c.args.text.now c.in-Some.head.now c.in-Some.rest.now c.in-Some.ensures.0 (c.in_ok-form.form, c.in_ok-form.range) c.in_ok-form.ensures
+    (sym (copy_at-empty_draft c.args.text.now c.in-Some.head.now c.in-Some.rest.now c.in-Some.ensures.0 (c.in_ok-form.form, c.in_ok-form.range) c.in_ok-form.ensures
     ∙ ap (λ (d : DraftValue). read_on c.in_ok-form.form 2 d (pieces_of c.in-Some.rest.now)) (sym c.new.ensures)))
     c.read_lines.ensures
 

@@ -15,11 +15,11 @@ use Rattle.pn_tablet.specs.CopyLines.{AreLines}
 use Rattle.pn_tablet.specs.CopyLineReading.{head_at}
 use Rattle.pn_tablet.specs.CopyReading.{pieces_of, with_mark, with_image, read_on, copy_in, copy_at}
 use Rattle.pn_tablet.specs.CopyTexts.{images_rise, mark_line}
-use Rattle.pn_tablet.specs.Drafts.{DraftValue, begun}
+use Rattle.pn_tablet.specs.Drafts.{DraftValue, empty_draft}
 use Rattle.pn_tablet.specs.Ranges.{Ends, in_range}
 use Rattle.pn_tablet.specs.declared.form.Form.{Form}
 use Rattle.pn_tablet.specs.declared.copy_line.CopyLine.TheVariants.{Mark, Record}
-use Rattle.pn_tablet.specs.declared.copy_fault.CopyTextFault.TheVariants.{BadLine}
+use Rattle.pn_tablet.specs.declared.fault.CopyTextFault.TheVariants.{BadLine}
 use Rattle.pn_tablet.proofs.CopyGrammar.{rise_after, all_inside, first_after, sorted_after}
 use Rattle.pn_tablet.proofs.CopyPieces.{pieces_of-text, pieces_of-some, pieces_of-line}
 use Rattle.pn_tablet.proofs.CopySteps.{read_on-cons, then_ok}
@@ -89,8 +89,8 @@ begun_read lines form range marks images rest unbroken is =
     let (piece, more, some) = some_then is.later rest in
     let number : 2 + length is.later ≡ length lines + 1 = omega (arith, ap length is.lines_are) in
     ap copy_in (pieces_of-text lines rest unbroken ∙ ap (λ ls. ls ++ pieces_of rest) is.lines_are ∙ ap (λ ps. is.head ∷ ps) some)
-    ∙ then_ok (head_at (BadLine 1) is.head) (λ read. read_on read.0 2 (begun read.1) (piece ∷ more)) (form, range) (head_at-again (BadLine 1) is.head (form, range) is.head_is)
-    ∙ ap (read_on form 2 (begun range)) (sym some)
+    ∙ then_ok (head_at (BadLine 1) is.head) (λ read. read_on read.0 2 (empty_draft read.1) (piece ∷ more)) (form, range) (head_at-again (BadLine 1) is.head (form, range) is.head_is)
+    ∙ ap (read_on form 2 (empty_draft range)) (sym some)
     ∙ ap (λ cells. read_on form 2 (record { range = range; marks = []; cells = cells; last = None }) (is.later ++ pieces_of rest)) (sym table_of-nil)
     ∙ marks_read form range rest images is.images_rise is.inside 2 [] marks is.later is.later_are is.names_rise
     ∙ ap (λ n. read_on form n (drafted range marks images) (pieces_of rest)) number

@@ -1,7 +1,7 @@
 -- A cover that reaches its reach equals it.
 use Rattle.std.proofs.Common.{◌≡◌}
-use Rattle.pn_tablet.proofs.Progressing.{same_reached}
-use Rattle.pn_tablet.proofs.progress.Progress.of_parts.Goals as goal
+use Rattle.pn_tablet.proofs.Coverages.{same_reached}
+use Rattle.pn_tablet.proofs.coverage.Coverage.of_parts.Goals as goal
 
 pub returns-then-reaches : goal.returns-then-reaches
 returns-then-reaches c =
