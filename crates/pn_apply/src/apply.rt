@@ -4,7 +4,7 @@ ghost use Rattle.std.specs.Prelude.{◌≡◌, ◌≤◌, length, map, IfOk, OnO
 ghost use Rattle.std.specs.Thread.{IsSync, IsSend};
 ghost use Rattle.pn_tablet.specs.Prelude.{HasPositions, stepped, answer};
 ghost use Rattle.pn_apply.specs.Applying.{IsJoinIn, AreJoinsIn, HavePositions, all_stepped, all_changes, AreOldOrStepped, IsSomeOld};
-ghost use Rattle.pn_apply.specs.Limits.{max_workers};
+ghost use Rattle.pn_apply.specs.declared.reducing.TheConstants.{MAX_WORKERS};
 ghost use Rattle.pn_apply.specs.Working.{IsTask, Applied};
 
 use crate::cut::{Span, both, gathered, is_worth_a_thread};
@@ -33,7 +33,7 @@ pub fn apply_all<R: Threads + Sync, S: Slot + Send, G: Gate + Sync>(
 ) -> Result<Vec<Vec<Change>>, NoMemory>
     requires joins { AreJoinsIn (map S.tablet slots.old) operations.now }
     requires positions { HavePositions operations.now }
-    requires workers { (1 ≤ workers) × (workers ≤ max_workers) }
+    requires workers { (1 ≤ workers) × (workers ≤ MAX_WORKERS) }
     ensures ok { OnOk result (map S.tablet slots.new ≡ all_stepped (map S.tablet slots.old) operations.now) }
     ensures changes { IfOk result (λ lists. map (λ list. list.items) lists.items
         ≡ all_changes (map S.tablet slots.old) operations.now) }

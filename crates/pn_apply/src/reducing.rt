@@ -5,7 +5,7 @@ ghost use Rattle.std.specs.Thread.{IsSync};
 ghost use Rattle.pn_join.specs.Prelude.{are_positions};
 ghost use Rattle.pn_record.specs.Prelude.{table_of};
 ghost use Rattle.pn_tablet.specs.declared.op.TabletOp.TheVariants.{Join};
-ghost use Rattle.pn_apply.specs.Limits.{max_workers};
+ghost use Rattle.pn_apply.specs.declared.reducing.TheConstants.{MAX_WORKERS};
 ghost use Rattle.pn_apply.specs.Reducing.{all_images, joins_of};
 ghost use Rattle.pn_apply.specs.Shares.{lists};
 ghost use Rattle.pn_apply.specs.Working.{IsSpanOf, AreCellsOf};
@@ -42,7 +42,7 @@ pub fn reduce<R: Threads + Sync, G: Gate + Sync>(
     gate: &G,
 ) -> Result<Vec<TabletOp>, NoMemory>
     requires positions { IsTrue (are_positions marks.now) }
-    requires workers { (1 ≤ workers) × (workers ≤ max_workers) }
+    requires workers { (1 ≤ workers) × (workers ≤ MAX_WORKERS) }
     ensures { IfOk result (λ operations. operations.items ≡ joins_of layout.now marks.now (all_images deliveries.now)) }
 {
     let shares = copies_by_tablet(alloc, deliveries, layout)?;
@@ -60,7 +60,7 @@ pub fn reduce_owned<R: Threads + Sync, G: Gate + Sync>(
     gate: &G,
 ) -> Result<Vec<TabletOp>, NoMemory>
     requires positions { IsTrue (are_positions marks.now) }
-    requires workers { (1 ≤ workers) × (workers ≤ max_workers) }
+    requires workers { (1 ≤ workers) × (workers ≤ MAX_WORKERS) }
     ensures { IfOk result (λ operations. operations.items ≡ joins_of layout.now marks.now (all_images deliveries.items)) }
 {
     let shares = images_by_tablet(alloc, deliveries, layout)?;

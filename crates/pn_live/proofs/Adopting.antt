@@ -9,12 +9,12 @@ use Rattle.pn_tablet.specs.Copies.{TabletCopyValue}
 use Rattle.pn_tablet.specs.Needs.{lacking}
 use Rattle.pn_tablet.specs.Ranges.{Ends}
 use Rattle.pn_tablet.specs.Refusals.{Refuses}
-use Rattle.pn_tablet.specs.Steps.{step, adopting, is_memory}
+use Rattle.pn_tablet.specs.Steps.{step, after_adoption, is_memory}
 use Rattle.pn_tablet.specs.Tablets.{TabletStateValue, empty_tablet, same_range}
 use Rattle.pn_tablet.specs.declared.fault.OpFault.TheVariants.{WrongRange}
 use Rattle.pn_tablet.specs.declared.needs.Short.{Short}
 use Rattle.pn_tablet.specs.declared.op.TabletOp.TheVariants.{Adopt}
-use Rattle.pn_region.specs.Recovery.{tablet_for, adopting_unless, adopting_by, stepping}
+use Rattle.pn_region.specs.Recovery.{tablet_for, after_adoption_unless, after_adoption_by, after_op}
 use Rattle.pn_region.specs.Recovery as region
 use Rattle.pn_region.specs.Regions.{RegionValue}
 use Rattle.pn_tablet.specs.declared.fault.OpFault.{OpFault as AdoptFault}
@@ -47,13 +47,13 @@ known_of ps n p P within at known = subst (λ (found : Option PublishedTabletVal
 pub none_for : {seen : TabletCopyValue} (live : LiveRegionValue) (copy : TabletCopyValue) → seen ≡ copy → None ≡ position (λ (p : PublishedTabletValue). same_range p.range seen.range) live.tablets
     → region.adopting (core live) copy ≡ Err region_fault.WrongRange
 none_for live copy copied none =
-    ap (adopting_by (core live) copy)
+    ap (after_adoption_by (core live) copy)
     (found_tablet live.tablets copy.range ∙ sym (none ∙ ap (λ (x : TabletCopyValue). position (λ (p : PublishedTabletValue). same_range p.range x.range) live.tablets) copied))
 
-refused_by : (r : RegionValue) (copy : TabletCopyValue) (n : ℕ) (short : Option Short) (fault : AdoptFault) → Some fault ≡ option_map too_old short → Refuses is_memory fault (adopting_unless r copy n short)
+refused_by : (r : RegionValue) (copy : TabletCopyValue) (n : ℕ) (short : Option Short) (fault : AdoptFault) → Some fault ≡ option_map too_old short → Refuses is_memory fault (after_adoption_unless r copy n short)
 refused_by r copy n None fault is = absurd (cc is)
 refused_by r copy n (Some short) fault is =
-    let same : fault ≡ too_old short = cc is in subst (λ (f : AdoptFault). Refuses is_memory f (adopting_unless r copy n (Some short))) (sym same) refl
+    let same : fault ≡ too_old short = cc is in subst (λ (f : AdoptFault). Refuses is_memory f (after_adoption_unless r copy n (Some short))) (sym same) refl
 
 none_lacks : (short : Option Short) → None ≡ option_map too_old short → short ≡ None
 none_lacks None is = refl
@@ -78,10 +78,10 @@ module _ {inside live : LiveRegionValue} {seen copy : TabletCopyValue} (same : i
   told : (answer : Option AdoptFault) → answer ≡ option_map too_old (lacking (state_at tablet).status seen.marks) → answer ≡ option_map too_old needs
   told answer is = is ∙ ap (λ (x : TabletCopyValue). option_map too_old (lacking (state_at tablet).status x.marks)) copied
 
-  is_adopting : region.adopting (core live) copy ≡ adopting_unless (core live) copy n needs
+  is_adopting : region.adopting (core live) copy ≡ after_adoption_unless (core live) copy n needs
   is_adopting =
-      ap (adopting_by (core live) copy) found
-      ∙ ap (λ (t : Option TabletStateValue). adopting_unless (core live) copy n (option_and_then (λ (state : TabletStateValue). lacking state.status copy.marks) t)) (state_there live.tablets n tablet within here)
+      ap (after_adoption_by (core live) copy) found
+      ∙ ap (λ (t : Option TabletStateValue). after_adoption_unless (core live) copy n (option_and_then (λ (state : TabletStateValue). lacking state.status copy.marks) t)) (state_there live.tablets n tablet within here)
 
   -- the copy is too old
   pub too_old_for : (fault : AdoptFault) → Some fault ≡ option_map too_old (lacking (state_at tablet).status seen.marks) → Refuses is_memory fault (region.adopting (core live) copy)
@@ -96,13 +96,13 @@ module _ {inside live : LiveRegionValue} {seen copy : TabletCopyValue} (same : i
     none : needs ≡ None
     none = none_lacks needs (told None is)
 
-    pub adopts_it : region.adopting (core live) copy ≡ Ok (n, stepping (core live) n (Adopt copy))
-    adopts_it = is_adopting ∙ ap (adopting_unless (core live) copy n) none
+    pub adopts_it : region.adopting (core live) copy ≡ Ok (n, after_op (core live) n (Adopt copy))
+    adopts_it = is_adopting ∙ ap (after_adoption_unless (core live) copy n) none
 
     pub is_taken : IsOk (step (state_at tablet) (Adopt copy))
     is_taken =
-        subst (λ (b : Bool). IsOk (if b then adopting (state_at tablet) copy needs else Err WrongRange)) (sym (found_at (core live) copy n (state_at tablet) found (state_there live.tablets n tablet within here)))
-        (subst (λ (short : Option Short). IsOk (adopting (state_at tablet) copy short)) (sym none) refl)
+        subst (λ (b : Bool). IsOk (if b then after_adoption (state_at tablet) copy needs else Err WrongRange)) (sym (found_at (core live) copy n (state_at tablet) found (state_there live.tablets n tablet within here)))
+        (subst (λ (short : Option Short). IsOk (after_adoption (state_at tablet) copy short)) (sym none) refl)
 
     pub only_memory : IsOk (region.adopting (core live) copy)
     only_memory = subst (λ (answer : Result (ℕ × RegionValue) AdoptFault). IsOk answer) (sym adopts_it) refl

@@ -7,7 +7,7 @@ use Rattle.pn_record.specs.CellMap.{Entries, table_of, adds}
 use Rattle.pn_record.proofs.CellMaps.{spelled_table, table_of-nil}
 use Rattle.pn_tablet.specs.Copies.{TabletCopyValue}
 use Rattle.pn_tablet.specs.Needs.{lacking}
-use Rattle.pn_tablet.specs.Steps.{stepped, after_step, taking, adopting}
+use Rattle.pn_tablet.specs.Steps.{stepped, after_step, taking, after_adoption}
 use Rattle.pn_tablet.specs.Tablets.{TabletStateValue, lie_in, same_range}
 use Rattle.pn_tablet.specs.declared.needs.Short.{Short}
 use Rattle.pn_tablet.specs.declared.op.TabletOp.{TabletOp}
@@ -29,7 +29,7 @@ join_spelled : (t : TabletStateValue) (cells : Entries) (marks : Positions) (b :
 join_spelled t cells marks true is = adds_spelled t.cells cells
 join_spelled t cells marks false is = is
 
-adopt_spelled : (t : TabletStateValue) (copy : TabletCopyValue) (b : Bool) (short : Option Short) → Spelled t → Spelled (after_step t (if b then adopting t copy short else Err WrongRange))
+adopt_spelled : (t : TabletStateValue) (copy : TabletCopyValue) (b : Bool) (short : Option Short) → Spelled t → Spelled (after_step t (if b then after_adoption t copy short else Err WrongRange))
 adopt_spelled t copy true None is = adds_spelled t.cells copy.cells
 adopt_spelled t copy true (Some short) is = is
 adopt_spelled t copy false short is = is

@@ -13,7 +13,7 @@ use Rattle.pn_tablet.specs.Copies.{TabletCopyValue}
 use Rattle.pn_tablet.specs.Laws.{IsSpelled}
 use Rattle.pn_tablet.specs.Needs.{lacking}
 use Rattle.pn_tablet.specs.Ranges.{Ends}
-use Rattle.pn_tablet.specs.Steps.{stepped, after_step, taking, adopting, state_of}
+use Rattle.pn_tablet.specs.Steps.{stepped, after_step, taking, after_adoption, state_of}
 use Rattle.pn_tablet.specs.Tablets.{TabletStateValue, empty_tablet, lie_in, same_range}
 use Rattle.pn_tablet.specs.declared.needs.Short.{Short}
 use Rattle.pn_tablet.specs.declared.op.TabletOp.{TabletOp}
@@ -40,7 +40,7 @@ join_has images t cells marks true is = some_more images t (taking t cells marks
 join_has images t cells marks false is = none_more images t is
 
 adopt_has : (images : List Image) (t : TabletStateValue) (copy : TabletCopyValue) (b : Bool) (short : Option Short) → t.cells ≡ table_of images
-    → Has images (after_step t (if b then adopting t copy short else Err WrongRange))
+    → Has images (after_step t (if b then after_adoption t copy short else Err WrongRange))
 adopt_has images t copy true None is = some_more images t (taking t copy.cells copy.marks) copy.cells is refl
 adopt_has images t copy true (Some short) is = none_more images t is
 adopt_has images t copy false short is = none_more images t is

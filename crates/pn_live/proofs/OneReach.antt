@@ -5,7 +5,7 @@ use Rattle.pn_record.specs.CellMap.{Entries}
 use Rattle.pn_tablet.specs.Copies.{TabletCopyValue}
 use Rattle.pn_tablet.specs.Needs.{lacking}
 use Rattle.pn_tablet.specs.Ranges.{Ends}
-use Rattle.pn_tablet.specs.Steps.{stepped, after_step, taking, adopting, state_of}
+use Rattle.pn_tablet.specs.Steps.{stepped, after_step, taking, after_adoption, state_of}
 use Rattle.pn_tablet.specs.Tablets.{TabletStateValue, empty_tablet, lie_in, same_range}
 use Rattle.pn_tablet.specs.declared.needs.Short.{Short}
 use Rattle.pn_tablet.specs.declared.op.TabletOp.{TabletOp}
@@ -20,7 +20,7 @@ join_one : (t : TabletStateValue) (cells : Entries) (marks : Positions) (b : Boo
 join_one t cells marks true is = ap (λ (own : Positions). raised own marks) is
 join_one t cells marks false is = is
 
-adopt_one : (t : TabletStateValue) (copy : TabletCopyValue) (b : Bool) (short : Option Short) → IsOne t → IsOne (after_step t (if b then adopting t copy short else Err WrongRange))
+adopt_one : (t : TabletStateValue) (copy : TabletCopyValue) (b : Bool) (short : Option Short) → IsOne t → IsOne (after_step t (if b then after_adoption t copy short else Err WrongRange))
 adopt_one t copy true None is = ap (λ (own : Positions). raised own copy.marks) is
 adopt_one t copy true (Some short) is = is
 adopt_one t copy false short is = is

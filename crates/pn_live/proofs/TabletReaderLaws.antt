@@ -29,7 +29,7 @@ use Rattle.pn_region.specs.Held.{HoldsStill}
 use Rattle.pn_region.proofs.InRange.{to_images_in}
 use Rattle.pn_region.proofs.StillHeld.{more_held}
 use Rattle.pn_live.specs.Laws.{AreNoLosses, HasNoLossAfter, HasImage}
-use Rattle.pn_live.specs.PublishedTablets.{PublishedTabletValue, note_of, appended}
+use Rattle.pn_live.specs.PublishedTablets.{PublishedTabletValue, note_of, with_op}
 use Rattle.pn_live.specs.TabletReaders.{TabletReaderValue, Finds, Learns, KnowsMore}
 use Rattle.pn_live.proofs.ListLaws.{goes_on_holding, list_listed, range_kept, join_taken, all_has, fold_on}
 use Rattle.pn_live.proofs.Prefixes.{begins_on}
@@ -99,7 +99,7 @@ joined_there range before more images marks kept image there lies =
     only_one image one (suc n, within, is) = absurd (omega (arith, within))
 
 pub not_missed : (tablet : PublishedTabletValue) (marks : Positions) (images : List Image) (reader learnt later last : TabletReaderValue) (now : TabletStateValue)
-    → reader.range ≡ tablet.range → Learns reader (note_of (appended tablet (join_in marks images tablet.range))) learnt
+    → reader.range ≡ tablet.range → Learns reader (note_of (with_op tablet (join_in marks images tablet.range))) learnt
     → KnowsMore learnt later → Finds later now last → HasNoLossAfter (length tablet.list + 1) last
     → (image : Image) → Contains images image → IsTrue (in_range tablet.range image.key) → HasImage image (find bytes_cmp image.key now.cells)
 not_missed tablet marks images reader learnt later last now ranged learns more found kept image there lies =

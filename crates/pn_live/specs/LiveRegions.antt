@@ -10,7 +10,7 @@ use Rattle.pn_region.specs.Rounds.{joins}
 use Rattle.pn_region.specs.declared.entry.Entry.{Entry}
 use Rattle.pn_region.specs.declared.fault.RoundFault.{RoundFault}
 use Rattle.pn_region.specs.declared.fault.RoundFault.TheVariants.{Memory}
-use Rattle.pn_live.specs.PublishedTablets.{PublishedTabletValue, AreNewTablets, state_at, all_appended, AreOldOrAppended}
+use Rattle.pn_live.specs.PublishedTablets.{PublishedTabletValue, AreNewTablets, state_at, with_ops, AreOldOrAppended}
 use Rattle.pn_live.specs.Readers.{LiveReaderValue, Tablets, tablets_of}
 
 -- a layout, a live tablet for each of its ranges, marks, and the entries of the log
@@ -40,8 +40,8 @@ abbrev pub IsReaderIn : LiveRegionValue → LiveReaderValue → Type 0
 IsReaderIn live reader = tablets_of reader ≡ tablets_in live
 
 -- the live tablets after a round: the join of each is published
-abbrev pub publishing : LiveRegionValue → List DeliveryValue → Positions → List PublishedTabletValue
-publishing live deliveries marks = all_appended live.tablets (joins (core live) deliveries marks)
+abbrev pub tablets_after_round : LiveRegionValue → List DeliveryValue → Positions → List PublishedTabletValue
+tablets_after_round live deliveries marks = with_ops live.tablets (joins (core live) deliveries marks)
 
 -- what a round leaves that ran out of memory: each tablet's join is published or not, and none if the round would be refused
 abbrev pub IsHalfPublished : LiveRegionValue → List DeliveryValue → LiveRegionValue → Type 0

@@ -11,8 +11,8 @@ use Rattle.pn_live.specs.declared.read_guard.ReadGuard.{ReadGuard}
 use Rattle.pn_live.specs.declared.reader_handle.ReaderHandle.{ReaderHandle}
 
 -- the operations whose publication ended well
-abbrev pub published : LiveTablet → List TabletOp
-published tablet = settled_of tablet.settled.seen.log
+abbrev pub published_ops : LiveTablet → List TabletOp
+published_ops tablet = settled_of tablet.settled.seen.log
 
 -- the state that readers find
 abbrev pub state_in : LiveTablet → TabletStateValue

@@ -27,20 +27,20 @@ AreNewTablets (range ∷ ranges) (tablet ∷ tablets) = IsNewTablet range tablet
 AreNewTablets _ _ = ⊥
 
 -- the tablet with one operation more
-abbrev pub appended : PublishedTabletValue → TabletOp → PublishedTabletValue
-appended tablet op = record tablet { list = tablet.list ++ op ∷ [] }
+abbrev pub with_op : PublishedTabletValue → TabletOp → PublishedTabletValue
+with_op tablet op = record tablet { list = tablet.list ++ op ∷ [] }
 
 -- the tablets with one operation more each
-abbrev pub all_appended : List PublishedTabletValue → List TabletOp → List PublishedTabletValue
-all_appended (tablet ∷ tablets) (op ∷ ops) = appended tablet op ∷ all_appended tablets ops
-all_appended tablets _ = tablets
+abbrev pub with_ops : List PublishedTabletValue → List TabletOp → List PublishedTabletValue
+with_ops (tablet ∷ tablets) (op ∷ ops) = with_op tablet op ∷ with_ops tablets ops
+with_ops tablets _ = tablets
 
 -- each tablet has its operation, or is as it was
 abbrev pub AreOldOrAppended : List PublishedTabletValue → List TabletOp → List PublishedTabletValue → Type 0
 AreOldOrAppended [] ops nows = nows ≡ []
 AreOldOrAppended tablets [] nows = nows ≡ tablets
 AreOldOrAppended (tablet ∷ tablets) (op ∷ ops) [] = ⊥
-AreOldOrAppended (tablet ∷ tablets) (op ∷ ops) (now ∷ nows) = ((now ≡ tablet) ⊎ (now ≡ appended tablet op)) × AreOldOrAppended tablets ops nows
+AreOldOrAppended (tablet ∷ tablets) (op ∷ ops) (now ∷ nows) = ((now ≡ tablet) ⊎ (now ≡ with_op tablet op)) × AreOldOrAppended tablets ops nows
 
 -- a note of a tablet: which one it is, and the operations that were published
 pub record TabletNoteValue : Type 0 where

@@ -28,12 +28,12 @@ Sees old None new = new ≡ old
 Sees old (Some state) new = Finds old state new
 
 -- the longer of two lists, or the first where they are as long
-abbrev pub longer : {A : Type 0} → List A → List A → List A
-longer xs ys = if nat_lt (length xs) (length ys) then ys else xs
+abbrev pub longer_of : {A : Type 0} → List A → List A → List A
+longer_of xs ys = if nat_lt (length xs) (length ys) then ys else xs
 
 -- a note was learnt: what the reader was told is then the longer of its own list and the note's, and both begin it
 pub record Learns (old : TabletReaderValue) (heard : TabletNoteValue) (new : TabletReaderValue) : Type 0 where
-  pub same : new ≡ record old { told = longer old.told heard.list }
+  pub same : new ≡ record old { told = longer_of old.told heard.list }
   pub told : IsPrefix old.told new.told
   pub note : IsPrefix heard.list new.told
 

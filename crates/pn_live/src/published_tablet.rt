@@ -4,8 +4,8 @@ ghost use Rattle.std.specs.Prelude.{◌≡◌, ◌≤◌, ◌<◌, ◌^◌, leng
 ghost use Rattle.pn_tablet.specs.Prelude.{tablet_ends, HasPositions, step};
 ghost use Rattle.pn_live.specs.Closing.{IsOfTablet, KnowsPublished};
 ghost use Rattle.pn_live.specs.Drafts.{Lacks};
-ghost use Rattle.pn_live.specs.PublishedTablets.{IsNewTablet, state_at, appended, note_of};
-ghost use Rattle.pn_live.specs.Readers.{opening};
+ghost use Rattle.pn_live.specs.PublishedTablets.{IsNewTablet, state_at, with_op, note_of};
+ghost use Rattle.pn_live.specs.Readers.{new_reader_of};
 
 mod next_state;
 
@@ -27,7 +27,7 @@ impl Model for PublishedTablet {
     ghost use Rattle.std.specs.Prelude.{◌≡◌};
     ghost use Rattle.pn_tablet.specs.Prelude.{state_of};
     ghost use Rattle.pn_live.specs.PublishedTablets.{PublishedTabletValue};
-    ghost use Rattle.pn_live.specs.Published.{published, state_in};
+    ghost use Rattle.pn_live.specs.Published.{published_ops, state_in};
 
     ghost Value = { PublishedTabletValue };
 
@@ -35,9 +35,9 @@ impl Model for PublishedTablet {
 
     ghost coded = { published_tablet_code };
 
-    ghost view = { λ tablet. record { book = tablet.live.settled.seen.book; range = (state_in tablet.live).range; list = published tablet.live } };
+    ghost view = { λ tablet. record { book = tablet.live.settled.seen.book; range = (state_in tablet.live).range; list = published_ops tablet.live } };
 
-    ghost invariant = { λ tablet. state_in tablet.live ≡ state_of (state_in tablet.live).range (published tablet.live) };
+    ghost invariant = { λ tablet. state_in tablet.live ≡ state_of (state_in tablet.live).range (published_ops tablet.live) };
 }
 
 impl PublishedTablet {
@@ -71,7 +71,7 @@ impl PublishedTablet {
     pub fn publish<R: Wait>(&mut self, rt: &R, next: TabletState, operation: TabletOp)
         requires positions { HasPositions operation }
         requires next { step (state_at self.old) operation ≡ Ok next }
-        ensures { self.new ≡ appended self.old operation }
+        ensures { self.new ≡ with_op self.old operation }
     {
         self.live.publish(rt, next, operation)
     }
@@ -85,7 +85,7 @@ impl PublishedTablet {
 
     /// A new reader, which has seen and learnt what is published. `None` when all readers' places are in use.
     pub fn new_reader(&mut self) -> Option<TabletReader>
-        ensures reader { IfSome result (λ reader. reader ≡ opening self.old) }
+        ensures reader { IfSome result (λ reader. reader ≡ new_reader_of self.old) }
         ensures same { self.new ≡ self.old }
     {
         let handle = self.live.new_reader()?;

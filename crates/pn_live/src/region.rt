@@ -2,7 +2,7 @@
 
 ghost use Rattle.std.specs.Prelude.{◌≡◌, ◌≤◌, length, IsTrue};
 ghost use Rattle.pn_join.specs.Prelude.{are_positions};
-ghost use Rattle.pn_region.specs.Prelude.{max_streams};
+ghost use Rattle.pn_region.specs.Prelude.{MAX_STREAMS};
 
 mod closing;
 mod opening;
@@ -47,7 +47,7 @@ impl LiveRegion {
     /// How far streams were taken into every tablet.
     pub fn marks(&self) -> &Marks
         ensures marks { result.now ≡ self.now.marks }
-        ensures few { length self.now.marks ≤ max_streams }
+        ensures few { length self.now.marks ≤ MAX_STREAMS }
         ensures positions { IsTrue (are_positions self.now.marks) }
     {
         &self.marks

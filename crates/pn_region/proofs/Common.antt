@@ -30,11 +30,12 @@ pub use Rattle.pn_apply.specs.Reducing.{all_images, images_in, join_in, ranges, 
 pub use Rattle.pn_scan.specs.Pages.{refusal, first_refusal, first_page}
 pub use Rattle.pn_region.specs.Faith.{IsFaithful, AreFaithful}
 pub use Rattle.pn_region.specs.Laws.{HasImages, AreIn, HasBetween}
-pub use Rattle.pn_region.specs.Log.{max_notices, last_number, entries_of}
+pub use Rattle.pn_region.specs.declared.notices.TheConstants.{MAX_NOTICES, LAST_NUMBER}
+pub use Rattle.pn_region.specs.Log.{entries_of}
 pub use Rattle.pn_region.specs.Logged.{LoggedRegion}
-pub use Rattle.pn_region.specs.Marking.{new_marks, last_position, bringing, marked, leaves_gap, marks_after, of_few_streams, all_marked}
+pub use Rattle.pn_region.specs.Marking.{new_marks, last_position, with_images, with_delivery, leaves_gap, marks_after, of_few_streams, with_deliveries}
 pub use Rattle.pn_region.specs.Reads.{look_for, get_in, page_in, all_looks}
-pub use Rattle.pn_region.specs.Recovery.{stepped_at, tablet_for, adopting_by}
+pub use Rattle.pn_region.specs.Recovery.{tablets_after_op, tablet_for, after_adoption_by}
 pub use Rattle.pn_region.specs.Regions.{RegionValue, IsTabletOf, AreTabletsOf, IsRegion, new_region, all_cells, IsSound}
 pub use Rattle.pn_region.specs.Rounds.{joins, IsHalfTaken}
 pub use Rattle.pn_region.specs.Serving.{AllServe}

@@ -10,7 +10,7 @@ use Rattle.pn_region.specs.Events.{RegionEvent, round, half_round, loss, adoptio
 use Rattle.pn_region.specs.Honest.{IsHonestCopy}
 use Rattle.pn_region.specs.Relayouts.{made_of}
 use Rattle.pn_region.specs.Taken.{taken_by, all_taken, left_by, all_left}
-use Rattle.pn_region.proofs.Common.{MatchResult, AllByRecursion, Positions, Image, table_of, BrokerRecord, up_to, AreHonest, DeliveryValue, TabletCopyValue, lacking, Ends, in_range, lost, after_step, stepped, TabletStateValue, same_range, WrongRange, Short, Lose, Adopt, Serving, all_stepped, AreOldOrStepped, all_images, images_in, join_in, ranges, AreIn, new_marks, stepped_at, RegionValue, IsTabletOf, AreTabletsOf, IsRegion, joins, AllServe}
+use Rattle.pn_region.proofs.Common.{MatchResult, AllByRecursion, Positions, Image, table_of, BrokerRecord, up_to, AreHonest, DeliveryValue, TabletCopyValue, lacking, Ends, in_range, lost, after_step, stepped, TabletStateValue, same_range, WrongRange, Short, Lose, Adopt, Serving, all_stepped, AreOldOrStepped, all_images, images_in, join_in, ranges, AreIn, new_marks, tablets_after_op, RegionValue, IsTabletOf, AreTabletsOf, IsRegion, joins, AllServe}
 use Rattle.pn_region.proofs.Apart.{Outside, Apart, ranges_apart}
 use Rattle.pn_region.proofs.EventSteps.{adopts, takes, event_is}
 use Rattle.pn_region.proofs.InRange.{from_images_in}
@@ -74,7 +74,7 @@ module _ (broker : BrokerRecord) (T : List Image → List Image → TabletStateV
   all_same maybe [] all = tt
   all_same maybe (t ∷ ts) all = (rules.itself taken left [] maybe t (λ image there lies. none image there) all.0, all_same maybe ts all.1)
 
-  lost_at : (n : ℕ) (ts : List TabletStateValue) → AllByRecursion (T taken left) ts → AllByRecursion (T (taken ++ []) (left ++ [])) (stepped_at n Lose ts)
+  lost_at : (n : ℕ) (ts : List TabletStateValue) → AllByRecursion (T taken left) ts → AllByRecursion (T (taken ++ []) (left ++ [])) (tablets_after_op n Lose ts)
   lost_at n [] all = tt
   lost_at zero (t ∷ ts) all = (rules.loses taken left t all.0, all_same [] ts all.1)
   lost_at (suc n) (t ∷ ts) all = (rules.itself taken left [] [] t (λ image there lies. none image there) all.0, lost_at n ts all.1)
@@ -127,7 +127,7 @@ module _ (broker : BrokerRecord) (T : List Image → List Image → TabletStateV
     outside_found range (suc n) (r ∷ rs) (t ∷ ts) are outside fits within key lies lies_too = outside_found range n rs ts are.1 outside.1 fits (omega (arith, within)) key lies lies_too
 
     adopted_at : (n : ℕ) (rs : List Ends) (ts : List TabletStateValue) → AreTabletsOf marks rs ts → Apart rs → ((t : TabletStateValue) → slice_get ts n ≡ Some t → Fits t) → n < length ts
-        → AllByRecursion (T taken left) ts → AllByRecursion (T (taken ++ more) (left ++ [])) (stepped_at n (Adopt copy) ts)
+        → AllByRecursion (T taken left) ts → AllByRecursion (T (taken ++ more) (left ++ [])) (tablets_after_op n (Adopt copy) ts)
     adopted_at n [] [] are apart fits within all = tt
     adopted_at n [] (t ∷ ts) are apart fits within all = absurd are
     adopted_at n (r ∷ rs) [] are apart fits within all = absurd are

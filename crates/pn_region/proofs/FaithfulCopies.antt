@@ -9,7 +9,7 @@ use Rattle.pn_record.proofs.CellMaps.{table_of-nil}
 use Rattle.pn_stream.proofs.Published.{Stands, is_up_to, published}
 use Rattle.pn_tablet.specs.Copying.{unless_behind, copy_short, copy_from, copy_of}
 use Rattle.pn_tablet.specs.Needs.{needed, first_short}
-use Rattle.pn_tablet.specs.Steps.{taking, adopting}
+use Rattle.pn_tablet.specs.Steps.{taking, after_adoption}
 use Rattle.pn_tablet.specs.declared.state.Status.{Status}
 use Rattle.pn_tablet.specs.declared.fault.OpFault.{OpFault}
 use Rattle.pn_tablet.proofs.Recovery.{nothing_short}
@@ -85,7 +85,7 @@ module _ (broker : BrokerRecord) (t : TabletStateValue) (copy : TabletCopyValue)
 pub adopted_faithful : (broker : BrokerRecord) (t after : TabletStateValue) (copy : TabletCopyValue) → IsFaithful broker t → IsHonestCopy broker copy → step t (Adopt copy) ≡ Ok after → IsFaithful broker after
 adopted_faithful broker t after copy faithful honest is =
     let known = adopted t copy after is in
-    let ranged = one_range t.range copy.range (was_so (same_range t.range copy.range) (adopting t copy (lacking t.status copy.marks)) after is) in
+    let ranged = one_range t.range copy.range (was_so (same_range t.range copy.range) (after_adoption t copy (lacking t.status copy.marks)) after is) in
     subst (IsFaithful broker) (sym known.taken) (taken_faithful broker t copy faithful honest ranged (need_reached t.status copy.marks known.reaches))
 
 pub none_lacked : (broker : BrokerRecord) (image : Image) {A : Type 0} → A ⊎ Contains (up_to broker []) image → A

@@ -7,7 +7,7 @@ use Rattle.pn_region.specs.Held.{HoldsStill}
 use Rattle.pn_region.specs.Honest.{IsHonestCopy}
 use Rattle.pn_region.specs.Rounds as rounds
 use Rattle.pn_region.specs.Taken.{KeepsLayout}
-use Rattle.pn_region.proofs.Common.{find, Positions, Image, bytes_cmp, CellValue, BrokerRecord, TabletCopyValue, tablet_of, tablet_ends, Ends, in_range, stepped, TabletStateValue, TabletOp, Join, Lose, Adopt, Serving, Recovering, AreOldOrStepped, all_images, join_in, ranges, IsFaithful, AreFaithful, stepped_at, RegionValue, AreTabletsOf, IsRegion}
+use Rattle.pn_region.proofs.Common.{find, Positions, Image, bytes_cmp, CellValue, BrokerRecord, TabletCopyValue, tablet_of, tablet_ends, Ends, in_range, stepped, TabletStateValue, TabletOp, Join, Lose, Adopt, Serving, Recovering, AreOldOrStepped, all_images, join_in, ranges, IsFaithful, AreFaithful, tablets_after_op, RegionValue, AreTabletsOf, IsRegion}
 use Rattle.pn_region.proofs.Events.{by_layout, at_key, same_number, one_found, relaid_at, IsRelaidAt, found_at_key, spelled_at}
 use Rattle.pn_region.proofs.EventSteps.{adopts, takes, event_is, Each, each_at}
 use Rattle.pn_region.proofs.HalfRounds.{half_so}
@@ -45,7 +45,7 @@ module _ (broker : BrokerRecord) where
     halves_bear (r ∷ rs) (t ∷ ts) [] half = absurd half
     halves_bear (r ∷ rs) (t ∷ ts) (u ∷ us) half = (half_bears r t u half.0, halves_bear rs ts us half.1)
 
-  one_bears : (n : ℕ) (op : TabletOp) (ts : List TabletStateValue) → IsHonestOp op → Each Bears ts (stepped_at n op ts)
+  one_bears : (n : ℕ) (op : TabletOp) (ts : List TabletStateValue) → IsHonestOp op → Each Bears ts (tablets_after_op n op ts)
   one_bears n op [] honest = tt
   one_bears zero op (t ∷ ts) honest = (inr (op, honest, refl), bear_itself ts)
   one_bears (suc n) op (t ∷ ts) honest = (inl refl, one_bears n op ts honest)

@@ -14,9 +14,9 @@ use Rattle.pn_tablet.proofs.Keeping.{spelled_adds, spelled_nil}
 use Rattle.pn_tablet.proofs.Stepping.{one_range}
 use Rattle.pn_tablet.proofs.TabletLaws.{adopted}
 use Rattle.pn_apply.proofs.ReduceLaws.{cells_inside}
-use Rattle.pn_region.specs.Recovery.{stepping, lacks, adopting_unless, adopting}
+use Rattle.pn_region.specs.Recovery.{after_op, lacks, after_adoption_unless, after_adoption}
 use Rattle.pn_region.specs.Regions.{IsLawfulRegion}
-use Rattle.pn_region.proofs.Common.{Positions, Image, spell, Entries, table_of, TabletCopyValue, lacking, Ends, in_range, step, after_step, stepped, TabletStateValue, empty_tablet, lie_in, same_range, Short, TabletOp, Join, Lose, Adopt, stepped_at, tablet_for, adopting_by, RegionValue, IsTabletOf, AreTabletsOf, IsRegion}
+use Rattle.pn_region.proofs.Common.{Positions, Image, spell, Entries, table_of, TabletCopyValue, lacking, Ends, in_range, step, after_step, stepped, TabletStateValue, empty_tablet, lie_in, same_range, Short, TabletOp, Join, Lose, Adopt, tablets_after_op, tablet_for, after_adoption_by, RegionValue, IsTabletOf, AreTabletsOf, IsRegion}
 use Rattle.pn_region.proofs.NewRegion.{tablet_at}
 use Rattle.pn_region.proofs.RoundSteps.{old_reached, both_reached}
 use Rattle.pn_region.proofs.Spelled.{spelled_inside}
@@ -62,7 +62,7 @@ one_kept marks r t (Join cells later) whole is = join_kept marks later r t cells
 one_kept marks r t Lose whole is = record { range = is.range; inside = refl; spelled = spelled_nil; covered = is.covered; reached = is.reached }
 one_kept marks r t (Adopt copy) whole is = adopt_kept marks r t copy (same_range t.range copy.range) (lacking t.status copy.marks) refl whole is
 
-all_kept : (marks : Positions) (n : ℕ) (op : TabletOp) (rs : List Ends) (ts : List TabletStateValue) → IsWhole op → AreTabletsOf marks rs ts → AreTabletsOf marks rs (stepped_at n op ts)
+all_kept : (marks : Positions) (n : ℕ) (op : TabletOp) (rs : List Ends) (ts : List TabletStateValue) → IsWhole op → AreTabletsOf marks rs ts → AreTabletsOf marks rs (tablets_after_op n op ts)
 all_kept marks n op [] [] whole are = tt
 all_kept marks n op [] (t ∷ ts) whole are = absurd are
 all_kept marks n op (r ∷ rs) [] whole are = absurd are
@@ -70,11 +70,11 @@ all_kept marks zero op (r ∷ rs) (t ∷ ts) whole are = (one_kept marks r t op 
 all_kept marks (suc n) op (r ∷ rs) (t ∷ ts) whole are = (are.0, all_kept marks n op rs ts whole are.1)
 
 -- so a region stays one
-pub stepping_is : (region : RegionValue) (n : ℕ) (op : TabletOp) → IsWhole op → IsRegion region → IsRegion (stepping region n op)
+pub stepping_is : (region : RegionValue) (n : ℕ) (op : TabletOp) → IsWhole op → IsRegion region → IsRegion (after_op region n op)
 stepping_is region n op whole is = record { lawful = is.lawful; tablets = all_kept region.marks n op _ region.tablets whole is.tablets }
 
 -- the tablet of the number becomes what an operation leaves
-pub set_stepped : (ts : List TabletStateValue) (n : ℕ) (op : TabletOp) (t after : TabletStateValue) → slice_get ts n ≡ Some t → step t op ≡ Ok after → slice_set ts n after ≡ stepped_at n op ts
+pub set_stepped : (ts : List TabletStateValue) (n : ℕ) (op : TabletOp) (t after : TabletStateValue) → slice_get ts n ≡ Some t → step t op ≡ Ok after → slice_set ts n after ≡ tablets_after_op n op ts
 set_stepped [] n op t after there is = cc
 set_stepped (u ∷ ts) zero op t after there is =
     let same : u ≡ t = cc in
@@ -85,7 +85,7 @@ module _ (region : RegionValue) (n : ℕ) (op : TabletOp) (t after : TabletState
   abbrev pub now : RegionValue
   now = record { layout = region.layout; tablets = slice_set region.tablets n after; marks = region.marks }
 
-  pub now_is : now ≡ stepping region n op
+  pub now_is : now ≡ after_op region n op
   now_is = ap (λ (ts : List TabletStateValue). record { layout = region.layout; tablets = ts; marks = region.marks }) (set_stepped region.tablets n op t after there is)
 
   pub now_lawful : IsWhole op → IsLawfulRegion region → IsLawfulRegion now
@@ -106,16 +106,16 @@ module _ (region : RegionValue) (copy : TabletCopyValue) (n : ℕ) (t : TabletSt
   lacks_is : lacks region copy n ≡ lacking t.status copy.marks
   lacks_is = ap (option_and_then (λ (state : TabletStateValue). lacking state.status copy.marks)) there
 
-  adopting_is : adopting region copy ≡ adopting_unless region copy n (lacking t.status copy.marks)
-  adopting_is = ap (adopting_by region copy) found ∙ ap (adopting_unless region copy n) lacks_is
+  adopting_is : after_adoption region copy ≡ after_adoption_unless region copy n (lacking t.status copy.marks)
+  adopting_is = ap (after_adoption_by region copy) found ∙ ap (after_adoption_unless region copy n) lacks_is
 
   -- the copy is adopted where its tablet takes it
-  pub adopted_at : (after : TabletStateValue) → step t (Adopt copy) ≡ Ok after → adopting region copy ≡ Ok (n, record { layout = region.layout; tablets = slice_set region.tablets n after; marks = region.marks })
+  pub adopted_at : (after : TabletStateValue) → step t (Adopt copy) ≡ Ok after → after_adoption region copy ≡ Ok (n, record { layout = region.layout; tablets = slice_set region.tablets n after; marks = region.marks })
   adopted_at after is =
-      adopting_is ∙ ap (adopting_unless region copy n) (adopted t copy after is).reaches
+      adopting_is ∙ ap (after_adoption_unless region copy n) (adopted t copy after is).reaches
       ∙ ap (λ (now : RegionValue). Ok (n, now)) (sym (now_is region n (Adopt copy) t after there is))
 
-  refused_by : (short : Option Short) (refusal : OpFault) → Refuses is_memory refusal (steps.adopting t copy short) → Refuses is_memory refusal (adopting_unless region copy n short)
+  refused_by : (short : Option Short) (refusal : OpFault) → Refuses is_memory refusal (steps.adopting t copy short) → Refuses is_memory refusal (after_adoption_unless region copy n short)
   refused_by None op.WrongRange right = cc
   refused_by None (op.TooOld stream has needs) right = cc
   refused_by None op.Memory right = refl
@@ -124,7 +124,7 @@ module _ (region : RegionValue) (copy : TabletCopyValue) (n : ℕ) (t : TabletSt
   refused_by (Some short) op.Memory right = cc
 
   -- and refused where that is
-  pub refused_at : (refusal : OpFault) → Refuses is_memory refusal (step t (Adopt copy)) → Refuses is_memory refusal (adopting region copy)
+  pub refused_at : (refusal : OpFault) → Refuses is_memory refusal (step t (Adopt copy)) → Refuses is_memory refusal (after_adoption region copy)
   refused_at refusal right =
       subst (Refuses is_memory refusal) (sym adopting_is)
       (refused_by (lacking t.status copy.marks) refusal

@@ -9,11 +9,11 @@ use Rattle.pn_tablet.specs.Ranges.{meet}
 use Rattle.pn_tablet.specs.Steps.{taking}
 use Rattle.pn_tablet.specs.Steps as steps
 use Rattle.pn_region.specs.Events.{RegionEvent, round, half_round, loss, adoption, relayout, LeadsTo}
-use Rattle.pn_region.specs.Recovery.{stepping}
-use Rattle.pn_region.specs.Relayouts.{made_of, parts_of, least_cover, relaid}
+use Rattle.pn_region.specs.Recovery.{after_op}
+use Rattle.pn_region.specs.Relayouts.{made_of, parts_of, least_cover, with_layout}
 use Rattle.pn_region.specs.Rising.{AllRise}
 use Rattle.pn_region.specs.Rounds as rounds
-use Rattle.pn_region.proofs.Common.{Result, MatchResult, Positions, raised, Bounds, DeliveryValue, Ends, TabletCopyValue, lacking, Short, TabletStateValue, empty_tablet, same_range, after_step, stepped, WrongRange, TabletOp, Lose, Adopt, AreOldOrStepped, all_images, ranges, new_marks, stepped_at, RegionValue, new_region, RoundFault}
+use Rattle.pn_region.proofs.Common.{Result, MatchResult, Positions, raised, Bounds, DeliveryValue, Ends, TabletCopyValue, lacking, Short, TabletStateValue, empty_tablet, same_range, after_step, stepped, WrongRange, TabletOp, Lose, Adopt, AreOldOrStepped, all_images, ranges, new_marks, tablets_after_op, RegionValue, new_region, RoundFault}
 use Rattle.pn_region.proofs.EventSteps.{takes, adopts}
 use Rattle.pn_region.proofs.HalfAhead.{BothRise, MarksRise, tablets_rise, all_rise, taking_rises, all_joins_rise, half_joins_rise}
 use Rattle.pn_region.proofs.PartMarks.{all_kept}
@@ -35,7 +35,7 @@ adopted_by t copy false short was is = was
 adopt_rises : (t : TabletStateValue) (copy : TabletCopyValue) → BothRise t → BothRise (stepped t (Adopt copy))
 adopt_rises t copy rise = adopted_by t copy (same_range t.range copy.range) (lacking t.status copy.marks) rise (taking_rises t copy.cells copy.marks rise)
 
-at_rises : (n : ℕ) (op : TabletOp) (ts : List TabletStateValue) → ((t : TabletStateValue) → BothRise t → BothRise (stepped t op)) → MarksRise ts → MarksRise (stepped_at n op ts)
+at_rises : (n : ℕ) (op : TabletOp) (ts : List TabletStateValue) → ((t : TabletStateValue) → BothRise t → BothRise (stepped t op)) → MarksRise ts → MarksRise (tablets_after_op n op ts)
 at_rises n op [] keeps rise = tt
 at_rises zero op (t ∷ ts) keeps rise = (keeps t rise.0, rise.1)
 at_rises (suc n) op (t ∷ ts) keeps rise = (rise.0, at_rises n op ts keeps rise.1)
@@ -77,9 +77,9 @@ event_rises (half_round deliveries) old new rise leads =
     all_rise new (subst Rise (sym leads.1) rise.marks) (half_rises old deliveries new.tablets (new_marks old.marks deliveries) (tablets_rise old rise) leads.2)
 event_rises (loss n) old new rise leads =
     subst AllRise (sym leads)
-    (all_rise (stepping old n Lose) rise.marks (at_rises n Lose old.tablets (λ t is. record { cover = is.cover; reach = is.reach }) (tablets_rise old rise)))
+    (all_rise (after_op old n Lose) rise.marks (at_rises n Lose old.tablets (λ t is. record { cover = is.cover; reach = is.reach }) (tablets_rise old rise)))
 event_rises (adoption copy) old new rise leads =
     subst AllRise (sym (adopts old copy leads.tablet new leads.adopted).is)
-    (all_rise (stepping old leads.tablet (Adopt copy)) rise.marks (at_rises leads.tablet (Adopt copy) old.tablets (λ t is. adopt_rises t copy is) (tablets_rise old rise)))
+    (all_rise (after_op old leads.tablet (Adopt copy)) rise.marks (at_rises leads.tablet (Adopt copy) old.tablets (λ t is. adopt_rises t copy is) (tablets_rise old rise)))
 event_rises (relayout bounds) old new rise leads =
-    subst AllRise (sym (relays old new bounds leads.relaid).is) (all_rise (relaid old bounds) rise.marks (made_rise old.tablets (ranges bounds) (tablets_rise old rise)))
+    subst AllRise (sym (relays old new bounds leads.relaid).is) (all_rise (with_layout old bounds) rise.marks (made_rise old.tablets (ranges bounds) (tablets_rise old rise)))

@@ -6,7 +6,7 @@ use Rattle.pn_record.proofs.CellLists.{cells-same}
 use Rattle.pn_record.proofs.CellMaps.{table_of-nil, same_cells_table}
 use Rattle.pn_apply.proofs.ReduceLaws.{range_joins}
 use Rattle.pn_region.specs.Laws.{IsBetween, HoldsBetween, AllHoldBetween}
-use Rattle.pn_region.specs.Rounds.{taking}
+use Rattle.pn_region.specs.Rounds.{after_joins}
 use Rattle.pn_region.proofs.Common.{AllByRecursion, Positions, DeliveryValue, Image, spell, Entries, table_of, Bounds, Ends, in_range, stepped, TabletStateValue, empty_tablet, all_stepped, AreOldOrStepped, all_images, images_in, join_in, ranges, HasImages, AreIn, HasBetween, RegionValue, IsTabletOf, AreTabletsOf, IsRegion, new_region, IsHalfTaken}
 use Rattle.pn_region.proofs.HalfRounds.{half_so, left_as}
 use Rattle.pn_region.proofs.InRange.{from_images_in, to_images_in}
@@ -141,10 +141,10 @@ none_perhaps sure maybe more (r ∷ rs) [] has = absurd has
 none_perhaps sure maybe more (r ∷ rs) (t ∷ ts) has = ((has.0.0, maybe_none sure maybe has.0.0 more has.0.1, has.0.2), none_perhaps sure maybe more rs ts has.1)
 
 -- a round takes its images
-pub round_takes : (region : RegionValue) (deliveries : List DeliveryValue) (marks : Positions) (taken : List Image) → IsRegion region → HasImages region taken → HasImages (taking region deliveries marks) (taken ++ all_images deliveries)
+pub round_takes : (region : RegionValue) (deliveries : List DeliveryValue) (marks : Positions) (taken : List Image) → IsRegion region → HasImages region taken → HasImages (after_joins region deliveries marks) (taken ++ all_images deliveries)
 round_takes region deliveries marks taken is has = all_take marks region.marks (all_images deliveries) taken (ranges region.layout) region.tablets is.tablets has
 
-pub round_surely_takes : (region : RegionValue) (deliveries : List DeliveryValue) (marks : Positions) (sure maybe : List Image) → IsRegion region → HasBetween sure maybe region → HasBetween (sure ++ all_images deliveries) maybe (taking region deliveries marks)
+pub round_surely_takes : (region : RegionValue) (deliveries : List DeliveryValue) (marks : Positions) (sure maybe : List Image) → IsRegion region → HasBetween sure maybe region → HasBetween (sure ++ all_images deliveries) maybe (after_joins region deliveries marks)
 round_surely_takes region deliveries marks sure maybe is has = all_surely marks region.marks (all_images deliveries) sure maybe (ranges region.layout) region.tablets is.tablets has
 
 -- a round that ran out of memory may have taken them

@@ -37,7 +37,7 @@ made_of tablets range = record {
 
 -- the region in another layout: each of its tablets is made of the old ones
 abbrev pub relaid : RegionValue → Bounds → RegionValue
-relaid region bounds = record region { layout = bounds; tablets = map (made_of region.tablets) (ranges bounds) }
+with_layout region bounds = record region { layout = bounds; tablets = map (made_of region.tablets) (ranges bounds) }
 
 -- the tablet is recovering
 abbrev pub is_recovering : Status → Bool
@@ -49,13 +49,13 @@ abbrev pub first_recovering : List TabletStateValue → Option ℕ
 first_recovering tablets = position (λ tablet. is_recovering tablet.status) tablets
 
 -- the region in another layout, unless a tablet is recovering
-abbrev pub relaid_unless : RegionValue → Bounds → Option ℕ → Result RegionValue RelayoutFault
-relaid_unless region bounds None = Ok (relaid region bounds)
-relaid_unless region bounds (Some tablet) = Err (StillRecovering tablet)
+abbrev pub with_layout_unless : RegionValue → Bounds → Option ℕ → Result RegionValue RelayoutFault
+with_layout_unless region bounds None = Ok (with_layout region bounds)
+with_layout_unless region bounds (Some tablet) = Err (StillRecovering tablet)
 
 -- the region in another layout, or why that is refused
-abbrev pub relaying : RegionValue → Bounds → Result RegionValue RelayoutFault
-relaying region bounds = relaid_unless region bounds (first_recovering region.tablets)
+abbrev pub after_relayout : RegionValue → Bounds → Result RegionValue RelayoutFault
+after_relayout region bounds = with_layout_unless region bounds (first_recovering region.tablets)
 
 -- the fault says that memory ran out
 abbrev pub is_memory : RelayoutFault → Bool

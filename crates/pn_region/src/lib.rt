@@ -23,8 +23,8 @@ mod since;
 pub use entry::Entry;
 pub use fault::{RelayoutFault, RoundFault};
 pub use history::History;
-pub use marking::next_marks;
-pub use notices::Log;
+pub use marking::{MAX_STREAMS, next_marks};
+pub use notices::{LAST_NUMBER, Log};
 /// Why a copy was not adopted. `WrongRange`: no tablet has its range.
 pub use pn_tablet::OpFault as AdoptFault;
 pub use region::{Region, Round};

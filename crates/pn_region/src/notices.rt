@@ -1,7 +1,8 @@
 //! The log of a region: its notices, each with a number.
 
 ghost use Rattle.std.specs.Prelude.{◌≡◌, ◌≤◌, ◌<◌, ◌+◌, ◌^◌, [], ◌∷◌, ◌++◌, length, drop, IfOk, IfSome, None, ◌⊎◌};
-ghost use Rattle.pn_region.specs.Log.{entries_of, last_number, numbered};
+ghost use Rattle.pn_region.specs.declared.notices.TheConstants.{LAST_NUMBER};
+ghost use Rattle.pn_region.specs.Log.{entries_of, notices_from};
 ghost use Rattle.pn_region.specs.Since.{IsSince};
 ghost use Rattle.pn_region.specs.Kept.{kept_with};
 ghost use Rattle.std.specs.List.{flat_map};
@@ -18,7 +19,7 @@ use std::marker::Model;
 const MAX_NOTICES: usize = 1024;
 
 /// The last number that an entry has.
-const LAST_NUMBER: u64 = 1_000_000_000_000_000_000;
+pub const LAST_NUMBER: u64 = 1_000_000_000_000_000_000;
 
 /// The entries of a region, in order. It keeps the last 1,024 changes after the last break; their memory is
 /// taken once.
@@ -120,8 +121,8 @@ fn keep(kept: &mut HeapCircularBuffer<Change>, entry: Entry)
 
 // Where the changes after a number begin among those that are kept. None if some of them are not kept.
 fn place_after(number: u64, last: u64, kept: usize) -> Option<usize>
-    ensures some { IfSome result (λ place. (last ≤ last_number) × (place ≤ kept) × (number + kept ≡ last + place)) }
-    ensures none { result ≡ None → (last_number < last) ⊎ ((last < number) ⊎ (number + kept < last)) }
+    ensures some { IfSome result (λ place. (last ≤ LAST_NUMBER) × (place ≤ kept) × (number + kept ≡ last + place)) }
+    ensures none { result ≡ None → (LAST_NUMBER < last) ⊎ ((last < number) ⊎ (number + kept < last)) }
 {
     if last > LAST_NUMBER {
         return None;
@@ -139,7 +140,7 @@ fn notices(
 ) -> Result<Vec<Notice>, NoMemory>
     requires place { first ≤ length kept.now.items }
     requires numbers { before + length kept.now.items < 2 ^ 64 }
-    ensures { IfOk result (λ list. list.items ≡ numbered before (drop first kept.now.items)) }
+    ensures { IfOk result (λ list. list.items ≡ notices_from before (drop first kept.now.items)) }
 {
     let mut list = Vec::with_capacity(alloc, kept.len() - first)?;
     let mut number = before;

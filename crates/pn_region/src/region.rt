@@ -4,13 +4,13 @@ ghost use Rattle.std.specs.Prelude.{◌≡◌, ◌+◌, ◌≤◌, ◌<◌, ◌^
 ghost use Rattle.std.specs.List.{flat_map};
 ghost use Rattle.pn_join.specs.Prelude.{are_positions};
 ghost use Rattle.pn_tablet.specs.Prelude.{tablet_ends, Refuses, empty_tablet, changes};
-ghost use Rattle.pn_apply.specs.Prelude.{AreJoinsIn, HavePositions, all_stepped, all_changes, AreOldOrStepped, IsSomeOld, max_workers, joined_cells, ranges};
+ghost use Rattle.pn_apply.specs.Prelude.{AreJoinsIn, HavePositions, all_stepped, all_changes, AreOldOrStepped, IsSomeOld, MAX_WORKERS, joined_cells, ranges};
 ghost use Rattle.pn_scan.specs.Prelude.{IsStateOf};
-ghost use Rattle.pn_region.specs.Limits.{max_streams};
-ghost use Rattle.pn_region.specs.Logged.{new_logged, noting, refused_log};
+ghost use Rattle.pn_region.specs.declared.marking.TheConstants.{MAX_STREAMS};
+ghost use Rattle.pn_region.specs.Logged.{new_logged, with_notices, refused_log};
 ghost use Rattle.pn_region.specs.Marking.{is_memory};
 ghost use Rattle.pn_region.specs.Regions.{IsRegion, all_cells};
-ghost use Rattle.pn_region.specs.Rounds.{round, changed, Leaves};
+ghost use Rattle.pn_region.specs.Rounds.{round, changed_count, Leaves};
 ghost use Rattle.pn_region.specs.Since.{IsSince};
 
 mod parts;
@@ -77,7 +77,7 @@ impl Region {
     /// How far streams were taken into every tablet.
     pub fn marks(&self) -> &Marks
         ensures marks { result.now ≡ self.now.state.marks }
-        ensures few { length self.now.state.marks ≤ max_streams }
+        ensures few { length self.now.state.marks ≤ MAX_STREAMS }
         ensures positions { IsTrue (are_positions self.now.state.marks) }
     {
         &self.marks
@@ -135,10 +135,10 @@ impl Region {
         workers: usize,
         gate: &G,
     ) -> Result<Round, RoundFault>
-        requires workers { (1 ≤ workers) × (workers ≤ max_workers) }
+        requires workers { (1 ≤ workers) × (workers ≤ MAX_WORKERS) }
         ensures ok { OnOk result (round self.old.state deliveries.items ≡ Ok self.new.state) }
-        ensures changed { IfOk result (λ done. done.changed ≡ changed self.old.state self.new.state) }
-        ensures noted { OnOk result (self.new.log ≡ noting self.old.log self.old.state self.new.state) }
+        ensures changed { IfOk result (λ done. done.changed ≡ changed_count self.old.state self.new.state) }
+        ensures noted { OnOk result (self.new.log ≡ with_notices self.old.log self.old.state self.new.state) }
         ensures refused { IfErr result (λ fault. Refuses is_memory fault (round self.old.state deliveries.items)) }
         ensures err { IfErr result (λ fault. Leaves fault self.old.state deliveries.items self.new.state) }
         ensures left { OnErr result (IsSomeOld self.old.state.tablets self.new.state.tablets) }
@@ -166,7 +166,7 @@ impl Region {
         workers: usize,
         gate: &G,
     ) -> Result<Vec<Vec<Change>>, RoundFault>
-        requires workers { (1 ≤ workers) × (workers ≤ max_workers) }
+        requires workers { (1 ≤ workers) × (workers ≤ MAX_WORKERS) }
         ensures ok { OnOk result (round self.old.state deliveries.items ≡ Ok self.new.state) }
         ensures changes { IfOk result (λ lists. flat_map (λ list. list.items) lists.items ≡ changes (all_cells self.old.state) (all_cells self.new.state)) }
         ensures few { IfOk result (λ lists. length (flat_map (λ list. list.items) lists.items) < 2 ^ 64) }
@@ -230,7 +230,7 @@ fn take_joins<R: Threads + Sync, G: Gate + Sync>(
 ) -> Result<Vec<Vec<Change>>, NoMemory>
     requires joins { AreJoinsIn tablets.old joins.now }
     requires positions { HavePositions joins.now }
-    requires workers { (1 ≤ workers) × (workers ≤ max_workers) }
+    requires workers { (1 ≤ workers) × (workers ≤ MAX_WORKERS) }
     requires some { 0 < length tablets.old }
     requires few { length (flat_map (λ list. list) (all_changes tablets.old joins.now)) ≤ length (flat_map joined_cells joins.now) }
     ensures ok { OnOk result (tablets.new ≡ all_stepped tablets.old joins.now) }

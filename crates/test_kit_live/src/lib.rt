@@ -4,7 +4,7 @@
 #![tactic(auto)]
 
 ghost use Rattle.std.specs.Prelude.{◌≡◌, ◌≤◌, All, IfOk, IfSome};
-ghost use Rattle.pn_live.specs.Limits.{max_readers};
+ghost use Rattle.pn_live.specs.Prelude.{MAX_READERS};
 ghost use Rattle.pn_live.specs.LiveRegions.{IsReaderIn};
 ghost use Rattle.pn_live.specs.Readers.{tablets_of};
 
@@ -24,7 +24,7 @@ pub fn opened<R: Wait>(
     layout: Layout,
     readers: usize,
 ) -> Result<(LiveRegion, Vec<LiveReader>), OpenFault>
-    requires { (1 ≤ readers) × (readers ≤ max_readers) }
+    requires { (1 ≤ readers) × (readers ≤ MAX_READERS) }
     ensures { IfOk result (λ opened. All (IsReaderIn opened.0) opened.1.items) }
 {
     LiveRegion::open(rt, alloc, layout, readers)

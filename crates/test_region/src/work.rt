@@ -1,7 +1,7 @@
 //! Eight tablets, worked by some workers.
 
 ghost use Rattle.std.specs.Prelude.{◌≤◌, IfSome};
-ghost use Rattle.pn_apply.specs.Limits.{max_workers};
+ghost use Rattle.pn_apply.specs.Prelude.{MAX_WORKERS};
 
 use crate::counting::Counting;
 use pn_apply::reduce;
@@ -19,7 +19,7 @@ pub(crate) const BOUNDS: &str = "b c d e f g h";
 
 // A number from 1 to 16.
 fn workers_of(word: &str) -> Option<usize>
-    ensures { IfSome result (λ workers. (1 ≤ workers) × (workers ≤ max_workers)) }
+    ensures { IfSome result (λ workers. (1 ≤ workers) × (workers ≤ MAX_WORKERS)) }
 {
     let workers = word.parse::<usize>().ok()?;
     if workers < 1 || workers > 16 {

@@ -2,10 +2,10 @@
 
 ghost use Rattle.std.specs.Prelude.{◌≡◌, ◌≤◌, ◌<◌, ◌^◌, [], length, vec_capacity, IfOk, IfErr, map};
 ghost use Rattle.std.specs.List.{AllByRecursion};
-ghost use Rattle.pn_live.specs.Limits.{max_readers};
+ghost use Rattle.pn_live.specs.declared.region.opening.TheConstants.{MAX_READERS};
 ghost use Rattle.pn_live.specs.LiveRegions.{tablets_in, IsNewLive};
 ghost use Rattle.pn_live.specs.PublishedTablets.{AreNewTablets};
-ghost use Rattle.pn_live.specs.Readers.{opening, IsNewReader};
+ghost use Rattle.pn_live.specs.Readers.{new_reader_of, IsNewReader};
 ghost use Rattle.pn_live.specs.declared.fault.OpenFault.TheVariants.{NoReader as no_reader};
 ghost use Rattle.pn_apply.specs.Prelude.{ranges};
 
@@ -32,7 +32,7 @@ impl LiveRegion {
         layout: Layout,
         readers: usize,
     ) -> Result<(LiveRegion, Vec<LiveReader>), OpenFault>
-        requires { (1 ≤ readers) × (readers ≤ max_readers) }
+        requires { (1 ≤ readers) × (readers ≤ MAX_READERS) }
         ensures region { IfOk result (λ opened. IsNewLive layout opened.0) }
         ensures count { IfOk result (λ opened. length opened.1.items ≡ readers) }
         ensures readers { IfOk result (λ opened. AllByRecursion (IsNewReader (tablets_in opened.0)) opened.1.items) }
@@ -89,7 +89,7 @@ fn readers_of(
     count: usize,
 ) -> Result<Vec<LiveReader>, OpenFault>
     requires { map (λ tablet. tablet.range) tablets.old ≡ ranges layout.now }
-    ensures readers { IfOk result (λ readers. AllByRecursion (λ reader. (reader.layout ≡ layout.now) × (reader.tablet_readers ≡ map opening tablets.old)) readers.items) }
+    ensures readers { IfOk result (λ readers. AllByRecursion (λ reader. (reader.layout ≡ layout.now) × (reader.tablet_readers ≡ map new_reader_of tablets.old)) readers.items) }
     ensures count { IfOk result (λ readers. length readers.items ≡ count) }
     ensures same { tablets.new ≡ tablets.old }
 {
@@ -110,7 +110,7 @@ fn tablet_readers_of(
 ) -> Result<Vec<TabletReader>, OpenFault>
     requires none { tablet_readers.items ≡ [] }
     requires room { vec_capacity tablet_readers ≡ length tablets.old }
-    ensures tablet_readers { IfOk result (λ tablet_readers. tablet_readers.items ≡ map opening tablets.old) }
+    ensures tablet_readers { IfOk result (λ tablet_readers. tablet_readers.items ≡ map new_reader_of tablets.old) }
     ensures no_place { IfErr result (λ fault. fault ≡ no_reader) }
     ensures same { tablets.new ≡ tablets.old }
 {

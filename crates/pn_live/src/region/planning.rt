@@ -2,7 +2,7 @@
 
 ghost use Rattle.std.specs.Prelude.{◌≡◌, ◌≤◌, [], length, map, vec_capacity, IfOk, IfSome};
 ghost use Rattle.std.specs.List.{flat_map};
-ghost use Rattle.pn_apply.specs.Prelude.{AreJoinsIn, HavePositions, all_stepped, all_changes, max_workers};
+ghost use Rattle.pn_apply.specs.Prelude.{AreJoinsIn, HavePositions, all_stepped, all_changes, MAX_WORKERS};
 ghost use Rattle.pn_live.specs.PublishedTablets.{state_at};
 
 use crate::front::TabletNote;
@@ -35,7 +35,7 @@ pub(super) fn planned<R: Threads + Wait + Sync, G: Gate + Sync>(
 ) -> Result<RoundPlan, NoMemory>
     requires joins { AreJoinsIn (map state_at tablets.old) operations.now }
     requires positions { HavePositions operations.now }
-    requires workers { (1 ≤ workers) × (workers ≤ max_workers) }
+    requires workers { (1 ≤ workers) × (workers ≤ MAX_WORKERS) }
     ensures nexts { IfOk result (λ plan. plan.nexts.items ≡ all_stepped (map state_at tablets.old) operations.now) }
     ensures changes { IfOk result (λ plan. flat_map (λ list. list.items) plan.lists.items ≡ flat_map (λ list. list) (all_changes (map state_at tablets.old) operations.now)) }
     ensures changed { IfOk result (λ plan. plan.changed ≡ length (flat_map (λ list. list.items) plan.lists.items)) }
@@ -64,7 +64,7 @@ fn caught_up<R: Threads + Wait + Sync>(
     tablets: &mut [PublishedTablet],
     workers: usize,
 ) -> Result<Vec<TabletState>, NoMemory>
-    requires { (1 ≤ workers) × (workers ≤ max_workers) }
+    requires { (1 ≤ workers) × (workers ≤ MAX_WORKERS) }
     ensures states { IfOk result (λ states. states.items ≡ map state_at tablets.old) }
     ensures same { tablets.new ≡ tablets.old }
 {

@@ -2,7 +2,7 @@
 
 ghost use Rattle.std.specs.Prelude.{◌≡◌, [], length, map, vec_capacity};
 ghost use Rattle.pn_apply.specs.Prelude.{AreJoinsIn, HavePositions, all_stepped};
-ghost use Rattle.pn_live.specs.PublishedTablets.{state_at, all_appended, notes_of};
+ghost use Rattle.pn_live.specs.PublishedTablets.{state_at, with_ops, notes_of};
 
 use crate::front::{Front, TabletNote};
 use crate::published_tablet::PublishedTablet;
@@ -19,7 +19,7 @@ pub(super) fn publish_all<R: Wait>(
     requires joins { AreJoinsIn (map state_at tablets.old) operations.items }
     requires positions { HavePositions operations.items }
     requires nexts { nexts.items ≡ all_stepped (map state_at tablets.old) operations.items }
-    ensures { tablets.new ≡ all_appended tablets.old operations.items }
+    ensures { tablets.new ≡ with_ops tablets.old operations.items }
 {
     let mut number = 0;
     for (next, operation) in nexts.into_iter().zip(operations) {

@@ -3,9 +3,9 @@
 ghost use Rattle.std.specs.Prelude.{◌≡◌, ◌≤◌, [], length, map, vec_capacity, Ok, IfOk, IfErr, OnOk};
 ghost use Rattle.std.specs.List.{flat_map};
 ghost use Rattle.pn_tablet.specs.Prelude.{changes, Refuses};
-ghost use Rattle.pn_apply.specs.Prelude.{AreJoinsIn, HavePositions, all_stepped, all_changes, max_workers};
-ghost use Rattle.pn_region.specs.Prelude.{noting, refused_log, is_memory, new_marks, AreRegionMarks, IsRegion, all_cells, joins, round, changed, Leaves};
-ghost use Rattle.pn_live.specs.LiveRegions.{core, publishing, LeavesLive, tablets_in};
+ghost use Rattle.pn_apply.specs.Prelude.{AreJoinsIn, HavePositions, all_stepped, all_changes, MAX_WORKERS};
+ghost use Rattle.pn_region.specs.Prelude.{with_notices, refused_log, is_memory, new_marks, AreRegionMarks, IsRegion, all_cells, joins, round, changed_count, Leaves};
+ghost use Rattle.pn_live.specs.LiveRegions.{core, tablets_after_round, LeavesLive, tablets_in};
 ghost use Rattle.pn_live.specs.PublishedTablets.{notes_of, state_at};
 ghost use Rattle.pn_live.specs.Readers.{AreNotesOf};
 
@@ -34,12 +34,12 @@ impl LiveRegion {
         workers: usize,
         gate: &G,
     ) -> Result<(Round, Front), RoundFault>
-        requires workers { (1 ≤ workers) × (workers ≤ max_workers) }
+        requires workers { (1 ≤ workers) × (workers ≤ MAX_WORKERS) }
         ensures ok { OnOk result (round (core self.old) deliveries.items ≡ Ok (core self.new)) }
-        ensures published { OnOk result (self.new.tablets ≡ publishing self.old deliveries.items self.new.marks) }
+        ensures published { OnOk result (self.new.tablets ≡ tablets_after_round self.old deliveries.items self.new.marks) }
         ensures front { IfOk result (λ done. done.1 ≡ notes_of self.new.tablets) }
-        ensures changed { IfOk result (λ done. done.0.changed ≡ changed (core self.old) (core self.new)) }
-        ensures noted { OnOk result (self.new.log ≡ noting self.old.log (core self.old) (core self.new)) }
+        ensures changed { IfOk result (λ done. done.0.changed ≡ changed_count (core self.old) (core self.new)) }
+        ensures noted { OnOk result (self.new.log ≡ with_notices self.old.log (core self.old) (core self.new)) }
         ensures refused { IfErr result (λ fault. Refuses is_memory fault (round (core self.old) deliveries.items)) }
         ensures err { IfErr result (λ fault. LeavesLive fault self.old deliveries.items self.new) }
         ensures left { IfErr result (λ fault. Leaves fault (core self.old) deliveries.items (core self.new)) }
@@ -69,9 +69,9 @@ impl LiveRegion {
         workers: usize,
         gate: &G,
     ) -> Result<(Vec<Vec<Change>>, Round, Front), RoundFault>
-        requires workers { (1 ≤ workers) × (workers ≤ max_workers) }
+        requires workers { (1 ≤ workers) × (workers ≤ MAX_WORKERS) }
         ensures ok { OnOk result (round (core self.old) deliveries.items ≡ Ok (core self.new)) }
-        ensures published { OnOk result (self.new.tablets ≡ publishing self.old deliveries.items self.new.marks) }
+        ensures published { OnOk result (self.new.tablets ≡ tablets_after_round self.old deliveries.items self.new.marks) }
         ensures front { IfOk result (λ taken. taken.2 ≡ notes_of self.new.tablets) }
         ensures changed { IfOk result (λ taken. taken.1.changed ≡ length (flat_map (λ list. list.items) taken.0.items)) }
         ensures changes { IfOk result (λ taken. flat_map (λ list. list.items) taken.0.items ≡ changes (all_cells (core self.old)) (all_cells (core self.new))) }
@@ -106,7 +106,7 @@ impl LiveRegion {
         workers: usize,
         gate: &G,
     ) -> Result<(Marks, Vec<TabletOp>, RoundPlan), RoundFault>
-        requires workers { (1 ≤ workers) × (workers ≤ max_workers) }
+        requires workers { (1 ≤ workers) × (workers ≤ MAX_WORKERS) }
         ensures marks { IfOk result (λ ready. new_marks self.old.marks deliveries.items ≡ Ok ready.0) }
         ensures are_marks { IfOk result (λ ready. AreRegionMarks ready.0) }
         ensures joins { IfOk result (λ ready. AreJoinsIn (map state_at self.old.tablets) ready.1.items × HavePositions ready.1.items) }

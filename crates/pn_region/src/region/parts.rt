@@ -5,7 +5,7 @@ ghost use Rattle.std.specs.List.{AllByRecursion};
 ghost use Rattle.pn_join.specs.Prelude.{are_positions};
 ghost use Rattle.pn_tablet.specs.Prelude.{IsLayout};
 ghost use Rattle.pn_apply.specs.Prelude.{ranges};
-ghost use Rattle.pn_region.specs.Limits.{max_streams};
+ghost use Rattle.pn_region.specs.declared.marking.TheConstants.{MAX_STREAMS};
 ghost use Rattle.pn_region.specs.Regions.{ArePartsOf, IsSound};
 
 use super::Region;
@@ -27,7 +27,7 @@ impl Region {
         log: Log,
     ) -> Region
         requires tablets { ArePartsOf marks (ranges layout) tablets.items }
-        requires few { length marks ≤ max_streams }
+        requires few { length marks ≤ MAX_STREAMS }
         requires positions { IsTrue (are_positions marks) }
         ensures layout { result.state.layout ≡ layout }
         ensures tablets { result.state.tablets ≡ tablets.items }

@@ -8,7 +8,7 @@ ghost use Rattle.pn_join.specs.Prelude.{Reaches, are_positions, raised};
 ghost use Rattle.pn_record.specs.Prelude.{bytes_cmp};
 ghost use Rattle.pn_tablet.specs.Prelude.{in_range, lie_in, meet, Refuses};
 ghost use Rattle.pn_apply.specs.Prelude.{ranges};
-ghost use Rattle.pn_region.specs.Relayouts.{relaying, made_of, parts_of, least_cover, greatest_reach, first_recovering as first_that_recovers, is_recovering, is_memory};
+ghost use Rattle.pn_region.specs.Relayouts.{after_relayout, made_of, parts_of, least_cover, greatest_reach, first_recovering as first_that_recovers, is_recovering, is_memory};
 
 use super::{Region, range_of};
 use crate::RelayoutFault;
@@ -26,9 +26,9 @@ impl Region {
     /// `StillRecovering` comes exactly where a tablet is recovering, and names the first. An error leaves the region
     /// as it was.
     pub fn relayout(&mut self, layout: Layout) -> Result<(), RelayoutFault>
-        ensures ok { OnOk result (relaying self.old.state layout ≡ Ok self.new.state) }
+        ensures ok { OnOk result (after_relayout self.old.state layout ≡ Ok self.new.state) }
         ensures log { self.new.log ≡ self.old.log }
-        ensures refused { IfErr result (λ fault. Refuses is_memory fault (relaying self.old.state layout)) }
+        ensures refused { IfErr result (λ fault. Refuses is_memory fault (after_relayout self.old.state layout)) }
         ensures err { OnErr result (self.new ≡ self.old) }
     {
         if let Some(tablet) = first_recovering(&self.tablets) {

@@ -2,7 +2,7 @@
 use Rattle.std.proofs.Common.{◌≡◌, ◌+◌, ◌++◌, List, length, drop, slice_get, Some, sym, ap, ◌∙◌, arith}
 use Rattle.std.proofs.lemmas.List.{length_push}
 use Rattle.pn_region.specs.declared.since.Notice.{Notice}
-use Rattle.pn_region.specs.Log.{numbered}
+use Rattle.pn_region.specs.Log.{notices_from}
 use Rattle.pn_region.proofs.Telling.{told_more}
 use Rattle.pn_region.proofs.notices.notices.Goals as goal
 
@@ -15,8 +15,8 @@ loop-place-preserved c =
     let count = ap length c.push_reserved.ensures.items ∙ length_push was.list.items (record { number = was.number + 1; change = copy }) in
     record {
       told =
-          ap (λ (l : List Notice). l ++ numbered (was.number + 1) (drop (was.place + 1) kept)) c.push_reserved.ensures.items
-          ∙ told_more kept was.place was.number copy was.list.items (numbered c.args.before (drop c.args.first kept)) got was.invariant.told;
+          ap (λ (l : List Notice). l ++ notices_from (was.number + 1) (drop (was.place + 1) kept)) c.push_reserved.ensures.items
+          ∙ told_more kept was.place was.number copy was.list.items (notices_from c.args.before (drop c.args.first kept)) got was.invariant.told;
       number = omega (arith, was.invariant.number);
       room = omega (arith, c.push_reserved.ensures.capacity, was.invariant.room);
       count = omega (arith, count, was.invariant.count);

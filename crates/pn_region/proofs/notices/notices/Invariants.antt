@@ -1,11 +1,11 @@
 -- The changes so far have their numbers, and there is room for those that are left.
 use Rattle.std.proofs.Common.{◌≡◌, ◌+◌, ◌++◌, length, drop, vec_capacity}
-use Rattle.pn_region.specs.Log.{numbered}
+use Rattle.pn_region.specs.Log.{notices_from}
 use Rattle.pn_region.proofs.notices.notices.Given as goal
 
 abbrev pub invariant-loop-place : goal.invariant-loop-place
 invariant-loop-place l = record {
-  told : l.list.items ++ numbered l.number (drop l.place l.kept.items) ≡ numbered l.before (drop l.first l.kept.items);
+  told : l.list.items ++ notices_from l.number (drop l.place l.kept.items) ≡ notices_from l.before (drop l.first l.kept.items);
   number : l.number + l.first ≡ l.before + l.place;
   room : l.first + vec_capacity l.list ≡ length l.kept.items;
   count : l.first + length l.list.items ≡ l.place;

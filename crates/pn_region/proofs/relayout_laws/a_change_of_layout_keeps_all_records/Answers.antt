@@ -5,10 +5,10 @@ use Rattle.pn_region.proofs.Relaying.{relays, same_records}
 use Rattle.pn_region.proofs.relayout_laws.a_change_of_layout_keeps_all_records.Goals as goal
 
 pub returns-clause-cells : goal.returns-clause-cells
-returns-clause-cells c = λ old new bounds is lawful relaid. ap (λ (r : RegionValue). all_cells r) (relays old new bounds relaid).is ∙ same_records old bounds lawful is
+returns-clause-cells c = λ old new bounds is lawful changed. ap (λ (r : RegionValue). all_cells r) (relays old new bounds changed).is ∙ same_records old bounds lawful is
 
 pub returns-clause-served : goal.returns-clause-served
-returns-clause-served c = λ old new bounds relaid. (relays old new bounds relaid).served
+returns-clause-served c = λ old new bounds changed. (relays old new bounds changed).served
 
 pub returns-clause-serve : goal.returns-clause-serve
-returns-clause-serve c = λ old new bounds relaid. (relays old new bounds relaid).serve
+returns-clause-serve c = λ old new bounds changed. (relays old new bounds changed).serve

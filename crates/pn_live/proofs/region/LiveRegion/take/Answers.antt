@@ -8,7 +8,7 @@ use Rattle.pn_region.specs.Rounds.{Leaves}
 use Rattle.pn_region.specs.declared.fault.RoundFault.{RoundFault}
 use Rattle.pn_region.proofs.RoundEnds.{same_left, whatever}
 use Rattle.pn_live.specs.LiveRegions.{LiveRegionValue, core, tablets_in, LeavesLive}
-use Rattle.pn_live.specs.PublishedTablets.{PublishedTabletValue, TabletNoteValue, state_at, notes_of, all_appended}
+use Rattle.pn_live.specs.PublishedTablets.{PublishedTabletValue, TabletNoteValue, state_at, notes_of, with_ops}
 use Rattle.pn_live.specs.Readers.{AreNotesOf}
 use Rattle.pn_live.proofs.Rounds.{same_live}
 use Rattle.pn_live.proofs.Taken.{taken_lawful, takes}
@@ -45,7 +45,7 @@ invariant_of-self g c =
     let now : LiveRegionValue = record { layout = inside.layout; tablets = (with_items inside.tablets us).items; marks = c.in_ok-ready.ready.0; log = inside.log } in
     let here : c.as_mut_slice-tablets.result.now ≡ was.tablets = c.as_mut_slice-tablets.ensures.value ∙ ap (λ (l : LiveRegionValue). l.tablets) (c.self.view_is ∙ said.same) in
     let layout : now.layout ≡ was.layout = ap (λ (l : LiveRegionValue). l.layout) (c.self.view_is ∙ said.same) in
-    let all : now.tablets ≡ all_appended was.tablets ops = same ∙ (c.publish_all.ensures ∙ ap (λ (ts : List PublishedTabletValue). all_appended ts ops) here) in
+    let all : now.tablets ≡ with_ops was.tablets ops = same ∙ (c.publish_all.ensures ∙ ap (λ (ts : List PublishedTabletValue). with_ops ts ops) here) in
     taken_lawful was now c.args.deliveries.items said.is_region ops said.operations layout all said.are_marks
 
 pub returns : goal.returns
@@ -59,7 +59,7 @@ returns g c =
     let now : LiveRegionValue = record { layout = inside.layout; tablets = (with_items inside.tablets us).items; marks = c.in_ok-ready.ready.0; log = inside.log } in
     let here : c.as_mut_slice-tablets.result.now ≡ was.tablets = c.as_mut_slice-tablets.ensures.value ∙ ap (λ (l : LiveRegionValue). l.tablets) (c.self.view_is ∙ said.same) in
     let layout : now.layout ≡ was.layout = ap (λ (l : LiveRegionValue). l.layout) (c.self.view_is ∙ said.same) in
-    let all : now.tablets ≡ all_appended was.tablets ops = same ∙ (c.publish_all.ensures ∙ ap (λ (ts : List PublishedTabletValue). all_appended ts ops) here) in
+    let all : now.tablets ≡ with_ops was.tablets ops = same ∙ (c.publish_all.ensures ∙ ap (λ (ts : List PublishedTabletValue). with_ops ts ops) here) in
     let taken = takes was now c.args.deliveries.items said.is_region ops said.operations layout all said.marks (flat_map (λ list. list.items) c.in_ok-ready.ready.2.lists.items) said.changes in
     let front = c.front_of-front.ensures ∙ ap notes_of c.deref.ensures.value in
     record {

@@ -3,7 +3,7 @@ use Rattle.std.proofs.Common.{◌≡◌, length, map, inl, inr, Ok, sym, ap, sub
 use Rattle.std.specs.Vec.Iter.{into_iter_items}
 use Rattle.pn_tablet.specs.Steps.{step}
 use Rattle.pn_apply.specs.Applying.{all_stepped}
-use Rattle.pn_live.specs.PublishedTablets.{PublishedTabletValue, state_at, appended}
+use Rattle.pn_live.specs.PublishedTablets.{PublishedTabletValue, state_at, with_op}
 use Rattle.pn_live.proofs.Appending.{tablet_within, publishes_well, brings_positions, one_appended, all_first, count_stepped, same_count}
 use Rattle.pn_live.proofs.Walks.{nothing_left, past_of, rest_of}
 use Rattle.pn_live.proofs.region.publishing.publish_all.Goals as goal
@@ -36,7 +36,7 @@ loop-next-preserved g c =
     let ops_left = sym c.in-Some.ensures.steps.1.0 ∙ at.invariant.ops in
     record {
       done = one_appended olds ops c.requires.joins at.number at.tablets at.invariant.done left ops_left c.index-tablets-number.result c.publish.new.self c.index-tablets-number.is
-          (c.publish.ensures ∙ ap (λ (p : PublishedTabletValue). appended p c.in-Some.operation) (sym c.index-tablets-number.is));
+          (c.publish.ensures ∙ ap (λ (p : PublishedTabletValue). with_op p c.in-Some.operation) (sym c.index-tablets-number.is));
       rest = rest_of (all_stepped (map state_at olds) ops) at.number c.in-Some.next (into_iter_items c.next.new.self.a) left;
       left = omega (arith, at.invariant.left, c.in-Some.ensures.steps.0.1, ap length c.in-Some.ensures.steps.0.0);
       ops = rest_of ops at.number c.in-Some.operation (into_iter_items c.next.new.self.b) ops_left;
