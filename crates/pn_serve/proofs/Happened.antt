@@ -8,16 +8,16 @@ use Rattle.pn_tablet.specs.Copying.{copy_of}
 use Rattle.pn_tablet.specs.CopyReading.{copy_at}
 use Rattle.pn_tablet.specs.Layouts.{Bounds, IsLayout, layout_of}
 use Rattle.pn_tablet.specs.Tablets.{TabletStateValue}
-use Rattle.pn_tablet.specs.declared.copy_fault.CopyTextFault.{CopyTextFault}
+use Rattle.pn_tablet.specs.declared.fault.CopyTextFault.{CopyTextFault}
 use Rattle.pn_tablet.specs.declared.fault.CopyFault.{CopyFault}
 use Rattle.pn_tablet.specs.declared.layout.LayoutFault.{LayoutFault}
 use Rattle.pn_region.specs.Events as events
 use Rattle.pn_region.specs.Events.{RegionEvent, LeadsTo, AllLeadTo}
-use Rattle.pn_region.specs.Logged.{LoggedRegion, breaking}
+use Rattle.pn_region.specs.Logged.{LoggedRegion, with_break}
 use Rattle.pn_region.specs.Marking.{new_marks}
-use Rattle.pn_region.specs.Recovery.{losing, adopting}
+use Rattle.pn_region.specs.Recovery.{after_loss, after_adoption}
 use Rattle.pn_region.specs.Regions.{RegionValue, IsRegion}
-use Rattle.pn_region.specs.Relayouts.{relaying}
+use Rattle.pn_region.specs.Relayouts.{after_relayout}
 use Rattle.pn_region.specs.Rounds.{IsHalfTaken, round as taken_round}
 use Rattle.pn_tablet.specs.declared.fault.OpFault.{OpFault as AdoptFault}
 use Rattle.pn_region.specs.declared.fault.RelayoutFault.{RelayoutFault}
@@ -81,7 +81,7 @@ half_leads region deliveries flags true (Ok next) some found is =
     subst (λ (right : Result Positions RoundFault). IsHalfTaken region deliveries (partly_marked region deliveries flags right)) found (partly_is region deliveries flags is)
 
 abbrev losing_found : Machine → ℕ → Option TabletStateValue → Turn
-losing_found m tablet found = at_tablet m found (λ state. record { machine = record m { region = losing m.region tablet; log = breaking m.log }; reply = line_of (lost_data tablet); refused = false })
+losing_found m tablet found = at_tablet m found (λ state. record { machine = record m { region = after_loss m.region tablet; log = with_break m.log }; reply = line_of (lost_data tablet); refused = false })
 
 found_leads : (m : Machine) (tablet : ℕ) (found : Option TabletStateValue) → OneLeads (unless_refused (losing_found m tablet found) (events.loss tablet)) m.region (losing_found m tablet found).machine.region
 found_leads m tablet None = refl
@@ -90,7 +90,7 @@ found_leads m tablet (Some state) = refl
 loss_leads : (m : Machine) (tablet : ℕ) → OneLeads (unless_refused (losing_it m tablet) (events.loss tablet)) m.region (losing_it m tablet).machine.region
 loss_leads m tablet = found_leads m tablet (slice_get m.region.tablets tablet)
 
-relaid_leads : (m : Machine) (bounds : Bounds) (count : ℕ) (right : Result RegionValue RelayoutFault) → IsLayout bounds → relaying m.region bounds ≡ right
+relaid_leads : (m : Machine) (bounds : Bounds) (count : ℕ) (right : Result RegionValue RelayoutFault) → IsLayout bounds → after_relayout m.region bounds ≡ right
     → OneLeads (unless_refused (relaid_turn m count right) (events.relayout bounds)) m.region (relaid_turn m count right).machine.region
 relaid_leads m bounds count (Ok after) lawful is = record { lawful = lawful; relaid = is }
 relaid_leads m bounds count (Err fault) lawful is = refl
@@ -101,7 +101,7 @@ relaid_by m bounds (Err fault) is = refl
 relaid_by m bounds (Ok layout) is =
     let lawful = lawful_bounds bounds layout is in
     subst (λ (b : Bounds). OneLeads (unless_refused (relaying_it m (Ok b)) (events.relayout bounds)) m.region (relaying_it m (Ok b)).machine.region) (sym lawful.0)
-    (relaid_leads m bounds (length bounds + 1) (relaying m.region bounds) lawful.1 refl)
+    (relaid_leads m bounds (length bounds + 1) (after_relayout m.region bounds) lawful.1 refl)
 
 relay_leads : (m : Machine) (bounds : Bounds) → OneLeads (unless_refused (relaying_it m (layout_of bounds)) (events.relayout bounds)) m.region (relaying_it m (layout_of bounds)).machine.region
 relay_leads m bounds = relaid_by m bounds (layout_of bounds) refl
@@ -154,14 +154,14 @@ said_leads m line said is = refl
 said_leads m call said is = call_leads m said
 said_leads m (round flags) said is = partly_leads m flags said is
 
-adoption_leads : (old : LoggedRegion) (given : TabletCopyValue) (right : Result (ℕ × RegionValue) AdoptFault) → IsCopy given.range given.marks given.cells → adopting old.state given ≡ right
+adoption_leads : (old : LoggedRegion) (given : TabletCopyValue) (right : Result (ℕ × RegionValue) AdoptFault) → IsCopy given.range given.marks given.cells → after_adoption old.state given ≡ right
     → OneLeads (unless_refused (adopted old right) (events.adoption given)) old.state (adopted old right).machine.region
 adoption_leads old given (Ok (tablet, after)) lawful is = record { tablet = tablet; lawful = lawful; adopted = is }
 adoption_leads old given (Err fault) lawful is = refl
 
 copy_leads : (old : LoggedRegion) (right : Result TabletCopyValue CopyTextFault) → ((given : TabletCopyValue) → right ≡ Ok given → IsCopy given.range given.marks given.cells)
     → OneLeads (happened_by_copy old right) old.state (adopting_read old right).machine.region
-copy_leads old (Ok given) lawful = adoption_leads old given (adopting old.state given) (lawful given refl) refl
+copy_leads old (Ok given) lawful = adoption_leads old given (after_adoption old.state given) (lawful given refl) refl
 copy_leads old (Err fault) lawful = refl
 
 text_leads : (old : LoggedRegion) (text : Option (List ℕ)) → OneLeads (happened_by_text old text) old.state (adopting_text old text).machine.region

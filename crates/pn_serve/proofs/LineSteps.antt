@@ -10,19 +10,19 @@ use Rattle.pn_tablet.specs.Copying.{copy_of}
 use Rattle.pn_tablet.specs.CopyReading.{copy_at}
 use Rattle.pn_tablet.specs.Layouts.{Bounds, layout_of}
 use Rattle.pn_tablet.specs.Tablets.{TabletStateValue}
-use Rattle.pn_tablet.specs.declared.copy_fault.CopyTextFault.{CopyTextFault}
+use Rattle.pn_tablet.specs.declared.fault.CopyTextFault.{CopyTextFault}
 use Rattle.pn_tablet.specs.declared.fault.CopyFault.{CopyFault}
 use Rattle.pn_tablet.specs.declared.layout.LayoutFault.{LayoutFault}
-use Rattle.pn_tablet.specs.declared.needs.Short.{Short}
-use Rattle.pn_tablet.specs.declared.op.TabletOp.TheVariants.{Adopt}
+use Rattle.pn_tablet.specs.declared.fault.Shortfall.{Shortfall}
+use Rattle.pn_tablet.specs.declared.state.TabletOp.TheVariants.{Adopt}
 use Rattle.pn_region.specs.Events as events
 use Rattle.pn_region.specs.Events.{RegionEvent}
-use Rattle.pn_region.specs.Logged.{breaking}
+use Rattle.pn_region.specs.Logged.{with_break}
 use Rattle.pn_region.specs.Marking.{new_marks}
-use Rattle.pn_region.specs.Recovery.{losing, stepping, tablet_for, lacks, adopting_unless, adopting_by}
+use Rattle.pn_region.specs.Recovery.{after_loss, after_op, tablet_for, lacks, after_adoption_unless, after_adoption_by}
 use Rattle.pn_region.specs.Regions.{RegionValue}
-use Rattle.pn_region.specs.Relayouts.{first_recovering, relaid_unless, relaid}
-use Rattle.pn_region.specs.Rounds.{taking}
+use Rattle.pn_region.specs.Relayouts.{first_recovering, with_layout_unless, with_layout}
+use Rattle.pn_region.specs.Rounds.{after_joins}
 use Rattle.pn_region.specs.declared.fault.RoundFault.{RoundFault}
 use Rattle.pn_json.specs.Lines.{line_of}
 use Rattle.pn_protocol.specs.declared.refusal.Refusal.{Refusal}
@@ -46,12 +46,12 @@ pub use Rattle.pn_serve.proofs.TabletFaces.{SameFace, SameFaces}
 pub record Carries (R : RegionValue → RegionValue → Type 0) (Is : RegionEvent → Type 0) : Type 0 where
   pub faces : (a b : RegionValue) → R a b → SameFaces a.tablets b.tablets
   pub marks : (a b : RegionValue) → R a b → a.marks ≡ b.marks
-  pub takes : (a b : RegionValue) (deliveries : List DeliveryValue) (next : Positions) → R a b → new_marks a.marks deliveries ≡ Ok next → R (taking a deliveries next) (taking b deliveries next)
+  pub takes : (a b : RegionValue) (deliveries : List DeliveryValue) (next : Positions) → R a b → new_marks a.marks deliveries ≡ Ok next → R (after_joins a deliveries next) (after_joins b deliveries next)
   pub takes_some : (a b : RegionValue) (deliveries : List DeliveryValue) (flags : List Bool) (next : Positions) → R a b → new_marks a.marks deliveries ≡ Ok next
       → R (partly_marked a deliveries flags (Ok next)) (partly_marked b deliveries flags (Ok next))
-  pub loses : (a b : RegionValue) (tablet : ℕ) → R a b → Is (events.loss tablet) → R (losing a tablet) (losing b tablet)
-  pub adopts : (a b : RegionValue) (given : TabletCopyValue) (tablet : ℕ) → R a b → Is (events.adoption given) → R (stepping a tablet (Adopt given)) (stepping b tablet (Adopt given))
-  pub relays : (a b : RegionValue) (bounds : Bounds) → R a b → Is (events.relayout bounds) → R (relaid a bounds) (relaid b bounds)
+  pub loses : (a b : RegionValue) (tablet : ℕ) → R a b → Is (events.loss tablet) → R (after_loss a tablet) (after_loss b tablet)
+  pub adopts : (a b : RegionValue) (given : TabletCopyValue) (tablet : ℕ) → R a b → Is (events.adoption given) → R (after_op a tablet (Adopt given)) (after_op b tablet (Adopt given))
+  pub relays : (a b : RegionValue) (bounds : Bounds) → R a b → Is (events.relayout bounds) → R (with_layout a bounds) (with_layout b bounds)
 
 -- two machines wait for the same, and their regions are related
 pub record Alike (R : RegionValue → RegionValue → Type 0) (m n : Machine) : Type 0 where
@@ -73,7 +73,7 @@ module _ (R : RegionValue → RegionValue → Type 0) (Is : RegionEvent → Type
     same_marks deliveries = ap (λ (at : Positions). new_marks at deliveries) (carries.marks m.region n.region alike.region)
 
     abbrev round_of : Machine → List DeliveryValue → Result Positions RoundFault → Turn
-    round_of k deliveries right = delivering k (result_map_both (taking k.region deliveries) (λ fault. fault) right)
+    round_of k deliveries right = delivering k (result_map_both (after_joins k.region deliveries) (λ fault. fault) right)
 
     round_by : (deliveries : List DeliveryValue) (right : Result Positions RoundFault) → new_marks m.region.marks deliveries ≡ right
         → Steps R (unless_refused (round_of m deliveries right) (events.round deliveries)) (unless_refused (round_of n deliveries right) (events.round deliveries)) (round_of m deliveries right) (round_of n deliveries right)
@@ -105,7 +105,7 @@ module _ (R : RegionValue → RegionValue → Type 0) (Is : RegionEvent → Type
     }
 
     abbrev losing_found : Machine → ℕ → Option TabletStateValue → Turn
-    losing_found k tablet found = at_tablet k found (λ state. record { machine = record k { region = losing k.region tablet; log = breaking k.log }; reply = line_of (lost_data tablet); refused = false })
+    losing_found k tablet found = at_tablet k found (λ state. record { machine = record k { region = after_loss k.region tablet; log = with_break k.log }; reply = line_of (lost_data tablet); refused = false })
 
     loss_by : (tablet : ℕ) (found other : Option TabletStateValue) → BothThere found other → AllByRecursion Is (unless_refused (losing_found m tablet found) (events.loss tablet))
         → Steps R (unless_refused (losing_found m tablet found) (events.loss tablet)) (unless_refused (losing_found n tablet other) (events.loss tablet)) (losing_found m tablet found) (losing_found n tablet other)
@@ -119,7 +119,7 @@ module _ (R : RegionValue → RegionValue → Type 0) (Is : RegionEvent → Type
     loss_steps tablet all = loss_by tablet (slice_get m.region.tablets tablet) (slice_get n.region.tablets tablet) (both_at tablet m.region.tablets n.region.tablets (carries.faces m.region n.region alike.region)) all
 
     abbrev relaid_found : Machine → Bounds → Option ℕ → Turn
-    relaid_found k bounds found = relaid_turn k (length bounds + 1) (relaid_unless k.region bounds found)
+    relaid_found k bounds found = relaid_turn k (length bounds + 1) (with_layout_unless k.region bounds found)
 
     relaid_by : (bounds : Bounds) (found : Option ℕ) → AllByRecursion Is (unless_refused (relaid_found m bounds found) (events.relayout bounds))
         → Steps R (unless_refused (relaid_found m bounds found) (events.relayout bounds)) (unless_refused (relaid_found n bounds found) (events.relayout bounds)) (relaid_found m bounds found) (relaid_found n bounds found)
@@ -208,12 +208,12 @@ module _ (R : RegionValue → RegionValue → Type 0) (Is : RegionEvent → Type
     -- ---- announced copies
 
     abbrev adopted_by : Machine → TabletCopyValue → Option ℕ → Turn
-    adopted_by k given found = adopted (logged k) (adopting_by k.region given found)
+    adopted_by k given found = adopted (logged k) (after_adoption_by k.region given found)
 
-    abbrev adopted_unless : Machine → TabletCopyValue → ℕ → Option Short → Turn
-    adopted_unless k given tablet short = adopted (logged k) (adopting_unless k.region given tablet short)
+    abbrev adopted_unless : Machine → TabletCopyValue → ℕ → Option Shortfall → Turn
+    adopted_unless k given tablet short = adopted (logged k) (after_adoption_unless k.region given tablet short)
 
-    unless_steps : (given : TabletCopyValue) (tablet : ℕ) (short : Option Short) → AllByRecursion Is (unless_refused (adopted_unless m given tablet short) (events.adoption given))
+    unless_steps : (given : TabletCopyValue) (tablet : ℕ) (short : Option Shortfall) → AllByRecursion Is (unless_refused (adopted_unless m given tablet short) (events.adoption given))
         → Steps R (unless_refused (adopted_unless m given tablet short) (events.adoption given)) (unless_refused (adopted_unless n given tablet short) (events.adoption given)) (adopted_unless m given tablet short) (adopted_unless n given tablet short)
     unless_steps given tablet None all = record { machines = record { region = carries.adopts m.region n.region given tablet alike.region all.0; mode = refl }; same = refl }
     unless_steps given tablet (Some short) all = record { machines = record { region = alike.region; mode = refl }; same = refl }
@@ -223,7 +223,7 @@ module _ (R : RegionValue → RegionValue → Type 0) (Is : RegionEvent → Type
     found_steps given None all = record { machines = record { region = alike.region; mode = refl }; same = refl }
     found_steps given (Some tablet) all =
         let short = lacks m.region given tablet in
-        subst (λ (other : Option Short). Steps R (unless_refused (adopted_unless m given tablet short) (events.adoption given)) (unless_refused (adopted_unless n given tablet other) (events.adoption given)) (adopted_unless m given tablet short) (adopted_unless n given tablet other))
+        subst (λ (other : Option Shortfall). Steps R (unless_refused (adopted_unless m given tablet short) (events.adoption given)) (unless_refused (adopted_unless n given tablet other) (events.adoption given)) (adopted_unless m given tablet short) (adopted_unless n given tablet other))
         (lack_at given tablet m.region.tablets n.region.tablets (carries.faces m.region n.region alike.region)) (unless_steps given tablet short all)
 
     copy_steps : (right : Result TabletCopyValue CopyTextFault) → AllByRecursion Is (happened_by_copy (logged m) right)

@@ -16,7 +16,7 @@ use Rattle.pn_region.specs.Events as events
 use Rattle.pn_region.specs.Events.{RegionEvent}
 use Rattle.pn_region.specs.Marking.{new_marks}
 use Rattle.pn_region.specs.Regions.{RegionValue, new_region}
-use Rattle.pn_region.specs.Relayouts.{relaying}
+use Rattle.pn_region.specs.Relayouts.{after_relayout}
 use Rattle.pn_region.specs.Rounds.{round as taken_round}
 use Rattle.pn_region.specs.Taken.{taken_by, all_taken, LosesNothing, LoseNothing}
 use Rattle.pn_region.specs.declared.fault.RelayoutFault.{RelayoutFault}
@@ -84,7 +84,7 @@ relaid_plain m asked count (Ok after) waits = record { none = (tt, tt); waits = 
 relaid_plain m asked count (Err fault) waits = record { none = tt; waits = waits }
 
 layout_plain : (m : Machine) (asked : Bounds) (right : Result Bounds LayoutFault) → m.mode ≡ awaits_command → Plain (unless_refused (relaying_it m right) (events.relayout asked)) (relaying_it m right)
-layout_plain m asked (Ok bounds) waits = relaid_plain m asked (length bounds + 1) (relaying m.region bounds) waits
+layout_plain m asked (Ok bounds) waits = relaid_plain m asked (length bounds + 1) (after_relayout m.region bounds) waits
 layout_plain m asked (Err fault) waits = record { none = tt; waits = waits }
 
 half_loses : (deliveries : List DeliveryValue) (some : Bool) (right : Result Positions RoundFault) → LoseNothing (half_happened deliveries some right)

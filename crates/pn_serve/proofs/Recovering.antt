@@ -12,12 +12,12 @@ use Rattle.pn_tablet.specs.CopyReading.{copy_at}
 use Rattle.pn_tablet.specs.Refusals.{Refuses, Answers}
 use Rattle.pn_tablet.specs.Steps as steps
 use Rattle.pn_tablet.specs.Tablets.{TabletStateValue}
-use Rattle.pn_tablet.specs.declared.copy_fault.CopyTextFault.{CopyTextFault}
-use Rattle.pn_tablet.specs.declared.copy_fault.CopyTextFault.TheVariants as text
+use Rattle.pn_tablet.specs.declared.fault.CopyTextFault.{CopyTextFault}
+use Rattle.pn_tablet.specs.declared.fault.CopyTextFault.TheVariants as text
 use Rattle.pn_tablet.specs.declared.fault.CopyFault.{CopyFault}
 use Rattle.pn_tablet.specs.declared.fault.CopyFault.TheVariants as copying
-use Rattle.pn_region.specs.Logged.{LoggedRegion, breaking}
-use Rattle.pn_region.specs.Recovery.{adopting}
+use Rattle.pn_region.specs.Logged.{LoggedRegion, with_break}
+use Rattle.pn_region.specs.Recovery.{after_adoption}
 use Rattle.pn_region.specs.Recovery as recovery
 use Rattle.pn_region.specs.Regions.{RegionValue, IsRegion}
 use Rattle.pn_tablet.specs.declared.fault.OpFault.{OpFault as AdoptFault}
@@ -63,7 +63,7 @@ came_as one other old new reply same comes = subst (λ (t : Turn). ComesTo t old
 
 -- ---- adoptions
 
-pub adopts : (old new : LoggedRegion) (given : TabletCopyValue) (tablet : ℕ) → adopting old.state given ≡ Ok (tablet, new.state) → new.log ≡ breaking old.log → ComesTo (adopted old (adopting old.state given)) old new (Adopted tablet)
+pub adopts : (old new : LoggedRegion) (given : TabletCopyValue) (tablet : ℕ) → after_adoption old.state given ≡ Ok (tablet, new.state) → new.log ≡ with_break old.log → ComesTo (adopted old (after_adoption old.state given)) old new (Adopted tablet)
 adopts old new given tablet is noted = came_as _ _ old new (Adopted tablet) (ap (adopted old) is) (inl (λ i. record { mode = awaits_command; region = new.state; log = sym noted i }, refl, refl))
 
 not_memory : (fault : AdoptFault) (right : Result (ℕ × RegionValue) AdoptFault) → Refuses steps.is_memory fault right → fault ≢ adoption.Memory → right ≡ Err fault
@@ -71,12 +71,12 @@ not_memory adoption.WrongRange right is other = is
 not_memory (adoption.TooOld stream has needs) right is other = is
 not_memory adoption.Memory right is other = absurd (other refl)
 
-pub adopts_not : (old new : LoggedRegion) (given : TabletCopyValue) (fault : AdoptFault) (reply : Reply) → new ≡ old → Refuses steps.is_memory fault (adopting old.state given) → TellsNotAdopted fault reply
-    → ComesTo (adopted old (adopting old.state given)) old new reply
+pub adopts_not : (old new : LoggedRegion) (given : TabletCopyValue) (fault : AdoptFault) (reply : Reply) → new ≡ old → Refuses steps.is_memory fault (after_adoption old.state given) → TellsNotAdopted fault reply
+    → ComesTo (adopted old (after_adoption old.state given)) old new reply
 adopts_not old new given fault reply same right tells =
-    told (adopted old (adopting old.state given)) old new (fault ≢ adoption.Memory) (not_adopted_data fault) reply same (λ other. ap (adopted old) (not_memory fault (adopting old.state given) right other)) tells
+    told (adopted old (after_adoption old.state given)) old new (fault ≢ adoption.Memory) (not_adopted_data fault) reply same (λ other. ap (adopted old) (not_memory fault (after_adoption old.state given) right other)) tells
 
-pub adopts_text : (old new : LoggedRegion) (bytes : List ℕ) (given : TabletCopyValue) (reply : Reply) → copy_at bytes ≡ Ok given → ComesTo (adopted old (adopting old.state given)) old new reply
+pub adopts_text : (old new : LoggedRegion) (bytes : List ℕ) (given : TabletCopyValue) (reply : Reply) → copy_at bytes ≡ Ok given → ComesTo (adopted old (after_adoption old.state given)) old new reply
     → ComesTo (adopting_text old (Some bytes)) old new reply
 adopts_text old new bytes given reply is comes = came_as _ _ old new reply (ap (adopting_read old) is) comes
 
@@ -114,9 +114,9 @@ tablet_there region tablet is within = elim (slice_get_cases region.tablets tabl
   | inr (past, none) ↦ absurd (omega (arith, past, within, tablet_count region.marks region.layout region.tablets is.tablets))
 ]
 
-pub lost_there : (old new : LoggedRegion) (tablet : ℕ) (state : TabletStateValue) → slice_get old.state.tablets tablet ≡ Some state → new.state ≡ recovery.losing old.state tablet → new.log ≡ breaking old.log → Obeys (waiting old) (lose tablet) (waiting new) (Lost tablet)
+pub lost_there : (old new : LoggedRegion) (tablet : ℕ) (state : TabletStateValue) → slice_get old.state.tablets tablet ≡ Some state → new.state ≡ recovery.after_loss old.state tablet → new.log ≡ with_break old.log → Obeys (waiting old) (lose tablet) (waiting new) (Lost tablet)
 lost_there old new tablet state there is noted =
-    let does : TabletStateValue → Turn = λ state. record { machine = record { mode = awaits_command; region = recovery.losing old.state tablet; log = breaking old.log }; reply = line_of (lost_data tablet); refused = false } in
+    let does : TabletStateValue → Turn = λ state. record { machine = record { mode = awaits_command; region = recovery.after_loss old.state tablet; log = with_break old.log }; reply = line_of (lost_data tablet); refused = false } in
     let all = ap (λ (found : Option TabletStateValue). at_tablet (waiting old) found does) there in
     record { outcome = done; machine_is = ap (λ (t : Turn). t.machine) all ∙ (λ i. record { mode = awaits_command; region = sym is i; log = sym noted i }); replied = ap (λ (t : Turn). t.reply) all; refused = ap (λ (t : Turn). t.refused) all }
 

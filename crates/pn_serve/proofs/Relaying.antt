@@ -3,14 +3,14 @@ use Rattle.std.proofs.Common.{◌≡◌, ◌≢◌, ℕ, ◌+◌, nat_lt, true, 
 use Rattle.std.proofs.lemmas.Bool.Decides.{nat_tests}
 use Rattle.std.specs.Prelude.{Result, Ok, Err, Option, Some, None}
 use Rattle.pn_tablet.specs.Layouts.{Bounds, IsLayout, first_fall, rising_layout, layout_of}
-use Rattle.pn_tablet.specs.Limits.{max_bounds}
+use Rattle.pn_tablet.specs.Prelude.{MAX_BOUNDS}
 use Rattle.pn_tablet.specs.Refusals.{Refuses}
 use Rattle.pn_tablet.specs.declared.layout.LayoutFault.{LayoutFault}
 use Rattle.pn_tablet.specs.declared.layout.LayoutFault.TheVariants.{TooMany}
 use Rattle.pn_tablet.proofs.BoundSteps.{rising_from_none}
 use Rattle.pn_region.specs.Logged.{LoggedRegion}
 use Rattle.pn_region.specs.Regions.{RegionValue}
-use Rattle.pn_region.specs.Relayouts.{relaying, is_memory}
+use Rattle.pn_region.specs.Relayouts.{after_relayout, is_memory}
 use Rattle.pn_region.specs.declared.fault.RelayoutFault.{RelayoutFault}
 use Rattle.pn_region.specs.declared.fault.RelayoutFault.TheVariants as fault_of
 use Rattle.pn_protocol.specs.declared.reply.Reply.{Reply}
@@ -36,7 +36,7 @@ rising_is (Some place) bounds layout is = absurd (cc)
 
 pub lawful_bounds : (bounds layout : Bounds) → layout_of bounds ≡ Ok layout → (layout ≡ bounds) × IsLayout bounds
 lawful_bounds bounds layout is =
-    elim (nat_lt max_bounds (length bounds)) as (λ b. nat_lt max_bounds (length bounds) ≡ b → cond b (Err TooMany) (rising_layout (first_fall bounds) bounds) ≡ Ok layout → (layout ≡ bounds) × IsLayout bounds) [
+    elim (nat_lt MAX_BOUNDS (length bounds)) as (λ b. nat_lt MAX_BOUNDS (length bounds) ≡ b → cond b (Err TooMany) (rising_layout (first_fall bounds) bounds) ≡ Ok layout → (layout ≡ bounds) × IsLayout bounds) [
       | true ↦ λ many is. absurd (cc)
       | false ↦ λ few is.
           let rises = rising_is (first_fall bounds) bounds layout is in
@@ -59,10 +59,10 @@ relays_not old new count right fault reply same refuses tells =
     told (relaid_turn (waiting old) count right) old new (fault ≢ fault_of.Memory) (not_relaid_data fault) reply same (λ other. ap (relaid_turn (waiting old) count) (not_memory fault right refuses other)) tells
 
 -- what a change of the layout comes to, the command does
-pub relaid_obeys : (old new : LoggedRegion) (bounds layout : Bounds) (reply : Reply) → layout_of bounds ≡ Ok layout → ComesTo (relaid_turn (waiting old) (length layout + 1) (relaying old.state layout)) old new reply
+pub relaid_obeys : (old new : LoggedRegion) (bounds layout : Bounds) (reply : Reply) → layout_of bounds ≡ Ok layout → ComesTo (relaid_turn (waiting old) (length layout + 1) (after_relayout old.state layout)) old new reply
     → Obeys (waiting old) (relayout bounds) (waiting new) reply
 relaid_obeys old new bounds layout reply is (inl comes) =
-    let all : obeying (waiting old) done (relayout bounds) ≡ relaid_turn (waiting old) (length layout + 1) (relaying old.state layout) = ap (relaying_it (waiting old)) is in
+    let all : obeying (waiting old) done (relayout bounds) ≡ relaid_turn (waiting old) (length layout + 1) (after_relayout old.state layout) = ap (relaying_it (waiting old)) is in
     record { outcome = done; machine_is = ap (λ (t : Turn). t.machine) all ∙ comes.0; replied = ap (λ (t : Turn). t.reply) all ∙ comes.1; refused = ap (λ (t : Turn). t.refused) all ∙ comes.2 }
 relaid_obeys old new bounds layout reply is (inr out) =
     subst (λ (r : Reply). Obeys (waiting old) (relayout bounds) (waiting new) r) (sym out.1) (turned_call old new (relayout bounds) refl out.0)

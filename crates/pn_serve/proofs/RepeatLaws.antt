@@ -8,7 +8,7 @@ use Rattle.pn_stream.specs.Positions.{DeliveryValue}
 use Rattle.pn_region.specs.Events.{RegionEvent}
 use Rattle.pn_region.specs.Marking.{new_marks}
 use Rattle.pn_region.specs.Regions.{RegionValue}
-use Rattle.pn_region.specs.Rounds.{taking}
+use Rattle.pn_region.specs.Rounds.{after_joins}
 use Rattle.pn_region.specs.declared.fault.RoundFault.{RoundFault}
 use Rattle.pn_protocol.specs.declared.refusal.Refusal.{Refusal}
 use Rattle.pn_protocol.specs.Command.Lines.{command_at}
@@ -134,7 +134,7 @@ deliver_end m (b ∷ part) deliveries outcome there delivers =
     ∙ last_as_line m (outcome_at outcome (b ∷ part)) deliveries
 
 abbrev pub round_of : Machine → List DeliveryValue → Result Positions RoundFault → Turn
-round_of m deliveries right = delivering m (result_map_both (taking m.region deliveries) (λ fault. fault) right)
+round_of m deliveries right = delivering m (result_map_both (after_joins m.region deliveries) (λ fault. fault) right)
 
 -- ---- an accepted round
 

@@ -7,14 +7,14 @@ use Rattle.pn_tablet.specs.Copying.{copy_of}
 use Rattle.pn_tablet.specs.CopyReading.{copy_at}
 use Rattle.pn_tablet.specs.Layouts.{Bounds, layout_of}
 use Rattle.pn_tablet.specs.Tablets.{TabletStateValue}
-use Rattle.pn_tablet.specs.declared.copy_fault.CopyTextFault.{CopyTextFault}
+use Rattle.pn_tablet.specs.declared.fault.CopyTextFault.{CopyTextFault}
 use Rattle.pn_tablet.specs.declared.fault.CopyFault.{CopyFault}
 use Rattle.pn_tablet.specs.declared.layout.LayoutFault.{LayoutFault}
 use Rattle.pn_tablet.specs.declared.fault.OpFault.{OpFault as AdoptFault}
-use Rattle.pn_region.specs.Logged.{breaking}
-use Rattle.pn_region.specs.Recovery.{losing, adopting}
+use Rattle.pn_region.specs.Logged.{with_break}
+use Rattle.pn_region.specs.Recovery.{after_loss, after_adoption}
 use Rattle.pn_region.specs.Regions.{RegionValue}
-use Rattle.pn_region.specs.Relayouts.{relaying}
+use Rattle.pn_region.specs.Relayouts.{after_relayout}
 use Rattle.pn_region.specs.Rounds.{round as taken_round}
 use Rattle.pn_region.specs.declared.entry.Entry.{Entry}
 use Rattle.pn_region.specs.declared.fault.RelayoutFault.{RelayoutFault}
@@ -61,7 +61,7 @@ module _ (mode : Mode) (region : RegionValue) (log others : List Entry) where
   round_replies (Err fault) = refl
 
   abbrev losing_found : Machine → ℕ → Option TabletStateValue → Turn
-  losing_found k tablet found = at_tablet k found (λ state. record { machine = record k { region = losing k.region tablet; log = breaking k.log }; reply = line_of (lost_data tablet); refused = false })
+  losing_found k tablet found = at_tablet k found (λ state. record { machine = record k { region = after_loss k.region tablet; log = with_break k.log }; reply = line_of (lost_data tablet); refused = false })
 
   loss_by : (tablet : ℕ) (found : Option TabletStateValue) → Replies (losing_found m tablet found) (losing_found n tablet found)
   loss_by tablet None = refl
@@ -75,7 +75,7 @@ module _ (mode : Mode) (region : RegionValue) (log others : List Entry) where
   relaid_replies count (Err fault) = refl
 
   layout_replies : (right : Result Bounds LayoutFault) → Replies (relaying_it m right) (relaying_it n right)
-  layout_replies (Ok bounds) = relaid_replies (length bounds + 1) (relaying region bounds)
+  layout_replies (Ok bounds) = relaid_replies (length bounds + 1) (after_relayout region bounds)
   layout_replies (Err fault) = refl
 
   obey_replies : (outcome : Outcome) (command : CommandValue) → AsksNoNotices (Ok command) → Replies (obeying m outcome command) (obeying n outcome command)
@@ -135,7 +135,7 @@ module _ (mode : Mode) (region : RegionValue) (log others : List Entry) where
   adopted_replies (Err fault) = refl
 
   read_replies : (right : Result TabletCopyValue CopyTextFault) → Replies (adopting_read (logged m) right) (adopting_read (logged n) right)
-  read_replies (Ok given) = adopted_replies (adopting region given)
+  read_replies (Ok given) = adopted_replies (after_adoption region given)
   read_replies (Err fault) = refl
 
   text_replies : (text : Option (List ℕ)) → Replies (adopting_text (logged m) text) (adopting_text (logged n) text)

@@ -13,7 +13,7 @@ use Rattle.pn_serve.specs.declared.server.messages.Messages.{Messages}
 use Rattle.pn_serve.specs.declared.server.reports.Report.{Report}
 use Rattle.pn_serve.specs.declared.server.reports.Report.TheVariants.{Messages as of_messages, End, Fault}
 use Rattle.pn_serve.specs.Server.Faults.{names_of}
-use Rattle.pn_serve.specs.Server.Messages.{max_messages}
+use Rattle.pn_serve.specs.declared.server.messages.TheConstants.{MAX_MESSAGES}
 use Rattle.pn_serve.specs.Server.Reports.{HasMessages, Leaves}
 use Rattle.pn_serve.specs.Server.Whole.{IsAllMessages, IsReadUpTo, IsWholeTo, EndsStream, IsTakenWhole, WasRead}
 use Rattle.pn_serve.specs.declared.server.fault.ServeFault.{ServeFault}
@@ -29,12 +29,12 @@ pub read_none : {S : Type 0} (left : S → Option (List ℕ)) (stream : Stream S
 read_none left stream none = (none, none_yet stream.position stream.part (left stream.source) (SoFar-none stream.position stream.part [] (left stream.source) refl))
 
 one_more : (position last : ℕ) (front part now : List ℕ) (images : List Image) (first left leaves : Option (List ℕ)) (fault : Option StreamFault) → fault ≡ None
-    → IfSome first (λ text. IsReadUpTo position (front ++ text) last part left) → IfSome left (λ text. Batch 1 max_messages last (part ++ text) images fault now leaves)
+    → IfSome first (λ text. IsReadUpTo position (front ++ text) last part left) → IfSome left (λ text. Batch 1 MAX_MESSAGES last (part ++ text) images fault now leaves)
     → IfSome first (λ text. IsReadUpTo position (front ++ text) (last + length images) now leaves)
 one_more position last front part now images None left leaves fault none read batch = tt
 one_more position last front part now images (Some text) left leaves (Some fault) none read batch = let waits = none in cc
 one_more position last front part now images (Some text) left leaves None none read batch =
-    let more = on_rest read.read.rest part left (λ (t : List ℕ). Batch 1 max_messages last t images None now leaves) read.read.is_left batch in
+    let more = on_rest read.read.rest part left (λ (t : List ℕ). Batch 1 MAX_MESSAGES last t images None now leaves) read.read.is_left batch in
     let run : Run (position + length read.images) read.read.rest images more.rest = subst (λ (n : ℕ). Run n read.read.rest images more.rest) read.last_is more.run in
     record {
       images = read.images ++ images;
@@ -57,10 +57,10 @@ read_on left first old new End read leaves taken = absurd taken
 read_on left first old new Fault read leaves taken = absurd taken
 
 all_messages : (position last : ℕ) (front part now : List ℕ) (first left leaves : Option (List ℕ)) → IfSome first (λ text. IsReadUpTo position (front ++ text) last part left)
-    → IfSome left (λ text. Batch 1 max_messages last (part ++ text) [] None now leaves) → IfSome first (λ text. IsAllMessages position (front ++ text) last)
+    → IfSome left (λ text. Batch 1 MAX_MESSAGES last (part ++ text) [] None now leaves) → IfSome first (λ text. IsAllMessages position (front ++ text) last)
 all_messages position last front part now None left leaves read batch = tt
 all_messages position last front part now (Some text) left leaves read batch =
-    let more = on_rest read.read.rest part left (λ (t : List ℕ). Batch 1 max_messages last t [] None now leaves) read.read.is_left batch in
+    let more = on_rest read.read.rest part left (λ (t : List ℕ). Batch 1 MAX_MESSAGES last t [] None now leaves) read.read.is_left batch in
     let run : Run (position + length read.images) read.read.rest [] more.rest = subst (λ (n : ℕ). Run n read.read.rest [] more.rest) read.last_is more.run in
     record {
       images = read.images ++ [];

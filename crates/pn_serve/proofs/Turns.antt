@@ -11,12 +11,12 @@ use Rattle.std.specs.declared.alloc.Global.{Global}
 use Rattle.pn_join.specs.Marks.{Positions}
 use Rattle.pn_stream.specs.Positions.{DeliveryValue}
 use Rattle.pn_tablet.specs.Tablets.{TabletStateValue}
-use Rattle.pn_tablet.specs.declared.op.TabletOp.{TabletOp}
+use Rattle.pn_tablet.specs.declared.state.TabletOp.{TabletOp}
 use Rattle.pn_apply.specs.Applying.{AreOldOrStepped}
 use Rattle.pn_region.specs.Marking.{new_marks}
-use Rattle.pn_region.specs.Logged.{LoggedRegion, noting, breaking}
+use Rattle.pn_region.specs.Logged.{LoggedRegion, with_notices, with_break}
 use Rattle.pn_region.specs.Regions.{RegionValue}
-use Rattle.pn_region.specs.Rounds.{joins, changed, IsHalfTaken, round as taken_round}
+use Rattle.pn_region.specs.Rounds.{joins, changed_count, IsHalfTaken, round as taken_round}
 use Rattle.pn_region.specs.declared.fault.RoundFault.{RoundFault}
 use Rattle.pn_protocol.specs.declared.reply.Reply.{Reply}
 use Rattle.pn_protocol.specs.declared.reply.Reply.TheVariants.{Adopted, Changed, Copied, Lost, Relaid, Silent, Text, Refused, NotTaken}
@@ -202,7 +202,7 @@ read_shows before right (Err scan.NoEntry) is = λ other. is
 
 module _ (old new : LoggedRegion) (deliveries : List DeliveryValue) where
   -- the round ended
-  pub turned_ok : (count : ℕ) → taken_round old.state deliveries ≡ Ok new.state → new.log ≡ noting old.log old.state new.state → count ≡ changed old.state new.state → Obeys (waiting old) (deliver deliveries) (waiting new) (Changed count)
+  pub turned_ok : (count : ℕ) → taken_round old.state deliveries ≡ Ok new.state → new.log ≡ with_notices old.log old.state new.state → count ≡ changed_count old.state new.state → Obeys (waiting old) (deliver deliveries) (waiting new) (Changed count)
   turned_ok count ended noted counted = record {
     outcome = done;
     machine_is = ap (λ (r : Result RegionValue RoundFault). (delivering (waiting old) r).machine) ended ∙ (λ i. record { mode = awaits_command; region = new.state; log = sym noted i });
@@ -249,7 +249,7 @@ half_found old new deliveries (Ok next) layout positions half =
 half_found old new deliveries (Err fault) layout positions same = ([], λ i. record { layout = sym layout i; tablets = sym same i; marks = sym positions i })
 
 -- the round ran out of memory
-pub turned_half : (old new : LoggedRegion) (deliveries : List DeliveryValue) → IsHalfTaken old.state deliveries new.state → new.log ≡ breaking old.log → Obeys (waiting old) (deliver deliveries) (waiting new) (Refused Memory)
+pub turned_half : (old new : LoggedRegion) (deliveries : List DeliveryValue) → IsHalfTaken old.state deliveries new.state → new.log ≡ with_break old.log → Obeys (waiting old) (deliver deliveries) (waiting new) (Refused Memory)
 turned_half old new deliveries half broken =
     let (flags, is) = half_found old.state new.state deliveries (new_marks old.state.marks deliveries) half.0 half.1 half.2 in
     record { outcome = round flags; machine_is = λ i. record { mode = awaits_command; region = is i; log = sym broken i }; replied = refl; refused = refl }

@@ -77,11 +77,7 @@ fn serve_of(alloc: Global, options: &ArgMatches<'_>) -> Result<Plan, PlanFault>
     plan_at(alloc, host, options)
 }
 
-fn plan_at(
-    alloc: Global,
-    host: Option<IpAddr>,
-    options: &ArgMatches<'_>,
-) -> Result<Plan, PlanFault>
+fn plan_at(alloc: Global, host: Option<IpAddr>, options: &ArgMatches<'_>) -> Result<Plan, PlanFault>
     ensures { ShowsUnless PlanFault.Memory plan_value result (serve_in host (rows_of (found_of options.now))) }
 {
     let settings = settings_of(alloc, options)?;
@@ -105,11 +101,7 @@ fn host_of(options: &ArgMatches<'_>) -> Option<IpAddr>
     }
 }
 
-fn service_of(
-    alloc: Global,
-    host: IpAddr,
-    options: &ArgMatches<'_>,
-) -> Result<Service, PlanFault>
+fn service_of(alloc: Global, host: IpAddr, options: &ArgMatches<'_>) -> Result<Service, PlanFault>
     ensures { ShowsUnless PlanFault.Memory service_value result (Ok (service_in host (rows_of (found_of options.now)))) }
 {
     Ok(Service {

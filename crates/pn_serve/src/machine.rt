@@ -1,7 +1,7 @@
 //! Runs the commands of lines over a region.
 
 ghost use Rattle.std.specs.Prelude.{◌≡◌, ◌≤◌};
-ghost use Rattle.pn_apply.specs.Prelude.{max_workers};
+ghost use Rattle.pn_apply.specs.Prelude.{MAX_WORKERS};
 ghost use Rattle.pn_protocol.specs.Prelude.{command_value, deliver as asking};
 ghost use Rattle.pn_serve.specs.Machine.Modes.{IsDone, with_mode};
 ghost use Rattle.pn_serve.specs.Machine.Outcomes.{waiting};
@@ -41,7 +41,7 @@ pub(crate) fn answer_line<R: Threads + Sync, C: CommandReader>(
     announced: Option<Announced>,
     line: &[u8],
 ) -> Answer
-    requires workers { (1 ≤ workers) × (workers ≤ max_workers) }
+    requires workers { (1 ≤ workers) × (workers ≤ MAX_WORKERS) }
     ensures { AnswersBy C.may_run_out (with_mode announced region.old) line.now (with_mode result.1 region.new) result.0 }
 {
     match announced {
@@ -57,7 +57,7 @@ fn run_command<R: Threads + Sync, C: CommandReader>(
     workers: usize,
     line: &[u8],
 ) -> Answer
-    requires workers { (1 ≤ workers) × (workers ≤ max_workers) }
+    requires workers { (1 ≤ workers) × (workers ≤ MAX_WORKERS) }
     ensures { AnswersBy C.may_run_out (waiting region.old) line.now (with_mode result.1 region.new) result.0 }
 {
     match C::command_of(alloc, line) {
@@ -85,7 +85,7 @@ pub(crate) fn answer_end<R: Threads + Sync, C: CommandReader>(
     announced: Option<Announced>,
     part: &[u8],
 ) -> Reply
-    requires workers { (1 ≤ workers) × (workers ≤ max_workers) }
+    requires workers { (1 ≤ workers) × (workers ≤ MAX_WORKERS) }
     ensures { ConcludesBy C.may_run_out (with_mode announced region.old) part.now (waiting region.new) result }
 {
     match announced {
@@ -103,7 +103,7 @@ fn run_last_command<R: Threads + Sync, C: CommandReader>(
     workers: usize,
     line: &[u8],
 ) -> Reply
-    requires workers { (1 ≤ workers) × (workers ≤ max_workers) }
+    requires workers { (1 ≤ workers) × (workers ≤ MAX_WORKERS) }
     ensures { LastsBy C.may_run_out region.old line.now region.new result }
 {
     match C::command_of(alloc, line) {
@@ -131,12 +131,14 @@ fn obey<R: Threads + Sync>(
     workers: usize,
     command: Command,
 ) -> Handled
-    requires workers { (1 ≤ workers) × (workers ≤ max_workers) }
+    requires workers { (1 ≤ workers) × (workers ≤ MAX_WORKERS) }
     ensures { HandlesTo region.old (command_value command) region.new result }
 {
     match command {
         Command::Adopt { lines } => Handled::Announces(lines),
-        Command::Copy { need, tablet } => Handled::Obeyed(copy_tablet(alloc, region, &need, tablet)),
+        Command::Copy { need, tablet } => Handled::Obeyed(copy_tablet(
+            alloc, region, &need, tablet,
+        )),
         Command::Deliver(deliveries) => Handled::Obeyed(deliver(
             rt, alloc, region, workers, deliveries,
         )),
@@ -159,7 +161,7 @@ fn deliver<R: Threads + Sync>(
     workers: usize,
     deliveries: Vec<Delivery>,
 ) -> Reply
-    requires workers { (1 ≤ workers) × (workers ≤ max_workers) }
+    requires workers { (1 ≤ workers) × (workers ≤ MAX_WORKERS) }
     ensures { Obeys (waiting region.old) (asking deliveries.items) (waiting region.new) result }
 {
     match region.round(rt, deliveries, workers, &Open) {

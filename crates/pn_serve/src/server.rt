@@ -2,9 +2,9 @@
 
 ghost use Rattle.std.specs.Prelude.{◌≡◌, ◌≢◌, ◌≤◌, map, vec_len, vec_capacity, All, Ok, Err, IfOk, IfErr, IsOk, OnOk, OnErr, IsErrOf, IsTrue, IsFalse, MatchResult};
 ghost use Rattle.std.specs.Io.KnownBytes.{Appends, Keeps};
-ghost use Rattle.pn_apply.specs.Prelude.{max_workers};
+ghost use Rattle.pn_apply.specs.Prelude.{MAX_WORKERS};
 ghost use Rattle.pn_line.specs.Prelude.{AppendsPrefix};
-ghost use Rattle.pn_live.specs.Prelude.{max_readers, IsNewLive, tablets_in};
+ghost use Rattle.pn_live.specs.Prelude.{MAX_READERS, IsNewLive, tablets_in};
 ghost use Rattle.pn_serve.specs.Server.Faults.{IsOfRounds, NamesOne, names_of};
 ghost use Rattle.pn_serve.specs.Server.Reading.{RunsRounds};
 ghost use Rattle.pn_serve.specs.Server.Served.{EndsReading, EndsRegion, EndsServing};
@@ -36,10 +36,10 @@ use pn_protocol::served_reply;
 use pn_region::Region;
 use pn_stream::StreamReader;
 use pn_tablet::Layout;
+pub use session_threads::{Acceptor, ComesBack, SessionThread, join_sessions};
 use std::alloc::Global;
 use std::sync::Wait;
 use std::thread::Threads;
-pub use session_threads::{Acceptor, ComesBack, SessionThread, join_sessions};
 pub use streams::{Origin, Stream, read_streams};
 
 /// A live region and its readers.
@@ -67,7 +67,7 @@ where
     L: Acceptor + Drop + Send + 'static,
     S: Source + Drop + Send + 'static,
     W: Sink,
-    requires { (1 ≤ sessions) × (sessions ≤ max_readers) }
+    requires { (1 ≤ sessions) × (sessions ≤ MAX_READERS) }
     ensures ends { EndsServing S.left settings.layout streams.items result }
     ensures served { OnOk result (Appends (W.contents out.old) (W.contents out.new) (served_line sessions)) }
     ensures silent { IfErr result (λ fault. fault ≢ ServeFault.Write → Keeps (W.contents out.old) (W.contents out.new)) }
@@ -107,7 +107,7 @@ where
     R: Threads + Wait + Sync + Copy + Send + 'static,
     L: Acceptor + Drop + Send + 'static,
     S: Source + Drop + Send + 'static,
-    requires { (1 ≤ sessions) × (sessions ≤ max_readers) }
+    requires { (1 ≤ sessions) × (sessions ≤ MAX_READERS) }
     ensures ends { EndsRegion S.left settings.layout streams.items result }
     ensures fault { IfErr result (λ fault. fault ≢ ServeFault.Write) }
     ensures count { IfOk result (λ count. count ≡ sessions) }
@@ -129,7 +129,7 @@ pub fn open_region<R: Wait>(
     layout: Layout,
     readers: usize,
 ) -> Result<(LiveRegion, Vec<LiveReader>), ServeFault>
-    requires { (1 ≤ readers) × (readers ≤ max_readers) }
+    requires { (1 ≤ readers) × (readers ≤ MAX_READERS) }
     ensures is_new { IfOk result (λ opened. IsNewLive layout opened.0) }
     ensures own { IfOk result (λ opened. AllRead (tablets_in opened.0) opened.1.items) }
     ensures count { IfOk result (λ opened. vec_len opened.1 ≡ readers) }
@@ -181,7 +181,7 @@ where
     R: Threads + Wait + Sync + Copy + Send + 'static,
     L: Acceptor + Drop + Send + 'static,
     S: Source + Drop + Send + 'static,
-    requires workers { (1 ≤ workers) × (workers ≤ max_workers) }
+    requires workers { (1 ≤ workers) × (workers ≤ MAX_WORKERS) }
     requires own { AllRead (tablets_in region.old.live) region.old.readers.items }
     ensures own { AllRead (tablets_in region.new.live) region.new.readers.items }
     ensures all { OnOk result (vec_len region.new.readers ≡ vec_len region.old.readers) }
@@ -210,7 +210,7 @@ fn run_unless_refused<R: Threads + Wait + Sync>(
     mailboxes: &StreamMailboxes,
     is_refused: bool,
 ) -> Result<(), ServeFault>
-    requires workers { (1 ≤ workers) × (workers ≤ max_workers) }
+    requires workers { (1 ≤ workers) × (workers ≤ MAX_WORKERS) }
     ensures refused { IsTrue is_refused → (result ≡ Err ServeFault.Start) × (live.new ≡ live.old) }
     ensures reads { IsFalse is_refused → RunsRounds (vec_len mailboxes.now.mailboxes) live.old live.new result }
     ensures named { IsFalse is_refused → IfErr result (IsOfRounds (map (λ stream. stream.name) mailboxes.now.mailboxes.items)) }

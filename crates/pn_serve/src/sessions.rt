@@ -36,8 +36,11 @@ pub fn session<S: Source, W: Sink>(
     ensures out { HandsOn result (W.is_handed_on output.new) }
     ensures looks { S.looks input.new ≤ S.looks input.old + looks_of_input }
     ensures end { OnOk result S.may_end }
+    ensures unread { IsErrOf result RunFault.Memory → S.looks input.new ≡ S.looks input.old }
 {
-    let mut lines = LineLoop::new(alloc)?;
+    let Ok(mut lines) = LineLoop::new(alloc) else {
+        return Err(RunFault::Memory);
+    };
     answer_lines(reader, &mut lines, input, output)
 }
 

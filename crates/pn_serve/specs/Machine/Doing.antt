@@ -2,10 +2,10 @@
 use Rattle.std.specs.Prelude.{true, false, Some, [], Result, Ok, Err, is_err}
 use Rattle.serde_json.specs.Data.{Data}
 use Rattle.pn_json.specs.Lines.{line_of}
-use Rattle.pn_region.specs.Logged.{noting}
+use Rattle.pn_region.specs.Logged.{with_notices}
 use Rattle.pn_region.specs.Reads.{read_in, get_in, page_in}
 use Rattle.pn_region.specs.Regions.{RegionValue}
-use Rattle.pn_region.specs.Rounds.{changed}
+use Rattle.pn_region.specs.Rounds.{changed_count}
 use Rattle.pn_region.specs.Rounds.{round as taken_round}
 use Rattle.pn_region.specs.declared.fault.RoundFault.{RoundFault}
 use Rattle.pn_scan.specs.declared.fault.ScanFault.{ScanFault}
@@ -25,7 +25,7 @@ use Rattle.pn_protocol.specs.Reply.Tablets.{tablets_data}
 
 -- what a delivery does if its round ends so
 abbrev pub delivering : Machine → Result RegionValue RoundFault → Turn
-delivering machine (Ok after) = record { machine = record machine { region = after; log = noting machine.log machine.region after }; reply = line_of (changed_data (changed machine.region after)); refused = false }
+delivering machine (Ok after) = record { machine = record machine { region = after; log = with_notices machine.log machine.region after }; reply = line_of (changed_data (changed_count machine.region after)); refused = false }
 delivering machine (Err fault) = record { machine = machine; reply = line_of (fault_data fault); refused = true }
 
 -- the reply for what a lookup found, or for why it was refused

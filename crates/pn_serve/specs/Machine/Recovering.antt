@@ -6,9 +6,9 @@ use Rattle.pn_tablet.specs.Copying.{copy_of}
 use Rattle.pn_tablet.specs.CopyReading.{copy_at}
 use Rattle.pn_tablet.specs.Tablets.{TabletStateValue}
 use Rattle.pn_tablet.specs.declared.fault.CopyFault.{CopyFault}
-use Rattle.pn_tablet.specs.declared.copy_fault.CopyTextFault.{CopyTextFault}
-use Rattle.pn_region.specs.Logged.{LoggedRegion, breaking}
-use Rattle.pn_region.specs.Recovery.{losing, adopting}
+use Rattle.pn_tablet.specs.declared.fault.CopyTextFault.{CopyTextFault}
+use Rattle.pn_region.specs.Logged.{LoggedRegion, with_break}
+use Rattle.pn_region.specs.Recovery.{after_loss, after_adoption}
 use Rattle.pn_region.specs.Regions.{RegionValue}
 use Rattle.pn_tablet.specs.declared.fault.OpFault.{OpFault as AdoptFault}
 use Rattle.pn_json.specs.Lines.{line_of}
@@ -26,7 +26,7 @@ at_tablet machine (Some state) does = does state
 -- a tablet is lost
 abbrev pub losing_it : Machine → ℕ → Turn
 losing_it machine tablet =
-    at_tablet machine (slice_get machine.region.tablets tablet) (λ state. record { machine = record machine { region = losing machine.region tablet; log = breaking machine.log }; reply = line_of (lost_data tablet); refused = false })
+    at_tablet machine (slice_get machine.region.tablets tablet) (λ state. record { machine = record machine { region = after_loss machine.region tablet; log = with_break machine.log }; reply = line_of (lost_data tablet); refused = false })
 
 -- a copy is shown, or why there is none
 abbrev pub showing_copy : Machine → ℕ → Result TabletCopyValue CopyFault → Turn
@@ -39,12 +39,12 @@ copying machine need tablet = at_tablet machine (slice_get machine.region.tablet
 
 -- a region takes a copy, or refuses it
 abbrev pub adopted : LoggedRegion → Result (ℕ × RegionValue) AdoptFault → Turn
-adopted old (Ok (tablet, after)) = record { machine = waiting (record { state = after; log = breaking old.log }); reply = line_of (adopted_data tablet); refused = false }
+adopted old (Ok (tablet, after)) = record { machine = waiting (record { state = after; log = with_break old.log }); reply = line_of (adopted_data tablet); refused = false }
 adopted old (Err fault) = record { machine = waiting old; reply = line_of (not_adopted_data fault); refused = true }
 
 -- a region takes the copy of a text, or the text is no copy
 abbrev pub adopting_read : LoggedRegion → Result TabletCopyValue CopyTextFault → Turn
-adopting_read old (Ok copy) = adopted old (adopting old.state copy)
+adopting_read old (Ok copy) = adopted old (after_adoption old.state copy)
 adopting_read old (Err fault) = record { machine = waiting old; reply = line_of (bad_text_data fault); refused = true }
 
 -- a region takes the copy of an announced text, unless memory ran out

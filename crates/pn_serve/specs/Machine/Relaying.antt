@@ -4,7 +4,7 @@ use Rattle.pn_json.specs.Lines.{line_of}
 use Rattle.pn_tablet.specs.Layouts.{Bounds}
 use Rattle.pn_tablet.specs.declared.layout.LayoutFault.{LayoutFault}
 use Rattle.pn_region.specs.Regions.{RegionValue}
-use Rattle.pn_region.specs.Relayouts.{relaying}
+use Rattle.pn_region.specs.Relayouts.{after_relayout}
 use Rattle.pn_region.specs.declared.fault.RelayoutFault.{RelayoutFault}
 use Rattle.pn_protocol.specs.declared.refusal.Part.TheVariants as part
 use Rattle.pn_protocol.specs.declared.refusal.Refusal.TheVariants.{OutOfRange}
@@ -19,5 +19,5 @@ relaid_turn machine count (Err fault) = record { machine = machine; reply = line
 
 -- the layout becomes that of these bounds, if there is one
 abbrev pub relaying_it : Machine → Result Bounds LayoutFault → Turn
-relaying_it machine (Ok bounds) = relaid_turn machine (length bounds + 1) (relaying machine.region bounds)
+relaying_it machine (Ok bounds) = relaid_turn machine (length bounds + 1) (after_relayout machine.region bounds)
 relaying_it machine (Err fault) = refusing machine (OutOfRange part.Bounds)

@@ -1,6 +1,6 @@
 -- What a line does to what is served, and its reply.
 use Rattle.std.specs.Prelude.{ℕ, if◌then◌else◌, List, None, Result, Ok, Err}
-use Rattle.pn_region.specs.Logged.{breaking}
+use Rattle.pn_region.specs.Logged.{with_break}
 use Rattle.pn_protocol.specs.declared.refusal.Refusal.{Refusal}
 use Rattle.pn_protocol.specs.declared.refusal.Refusal.TheVariants.{Memory}
 use Rattle.pn_protocol.specs.Command.Meaning.{CommandValue, adopt, deliver, lose}
@@ -16,7 +16,7 @@ abbrev pub obeying : Machine → Outcome → CommandValue → Turn
 obeying machine call (adopt lines) = silent (record machine { mode = announced lines None })
 obeying machine call (lose tablet) = doing machine (lose tablet)
 obeying machine call command = refusing machine Memory
-obeying machine (round which) (deliver deliveries) = refusing (record machine { region = partly_taken machine.region deliveries which; log = breaking machine.log }) Memory
+obeying machine (round which) (deliver deliveries) = refusing (record machine { region = partly_taken machine.region deliveries which; log = with_break machine.log }) Memory
 obeying machine outcome command = doing machine command
 
 -- what a line does, by how it reads

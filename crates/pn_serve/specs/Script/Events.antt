@@ -6,12 +6,12 @@ use Rattle.pn_stream.specs.Positions.{DeliveryValue}
 use Rattle.pn_tablet.specs.Copies.{TabletCopyValue}
 use Rattle.pn_tablet.specs.CopyReading.{copy_at}
 use Rattle.pn_tablet.specs.Tablets.{TabletStateValue}
-use Rattle.pn_tablet.specs.declared.copy_fault.CopyTextFault.{CopyTextFault}
+use Rattle.pn_tablet.specs.declared.fault.CopyTextFault.{CopyTextFault}
 use Rattle.pn_region.specs.Events as events
 use Rattle.pn_region.specs.Events.{RegionEvent}
 use Rattle.pn_region.specs.Logged.{LoggedRegion}
 use Rattle.pn_region.specs.Marking.{new_marks}
-use Rattle.pn_region.specs.Recovery.{adopting}
+use Rattle.pn_region.specs.Recovery.{after_adoption}
 use Rattle.pn_region.specs.declared.fault.RoundFault.{RoundFault}
 use Rattle.pn_protocol.specs.declared.refusal.Refusal.{Refusal}
 use Rattle.pn_protocol.specs.Command.Lines.{command_at}
@@ -46,7 +46,7 @@ happened_by machine outcome said = []
 
 -- what happens by an announced text, if it is a copy and memory did not run out
 abbrev pub happened_by_copy : LoggedRegion → Result TabletCopyValue CopyTextFault → List RegionEvent
-happened_by_copy old (Ok copy) = unless_refused (adopted old (adopting old.state copy)) (events.adoption copy)
+happened_by_copy old (Ok copy) = unless_refused (adopted old (after_adoption old.state copy)) (events.adoption copy)
 happened_by_copy old (Err fault) = []
 
 abbrev pub happened_by_text : LoggedRegion → Option (List ℕ) → List RegionEvent

@@ -6,7 +6,7 @@ use Rattle.pn_stream.specs.Faults.{Stands}
 use Rattle.pn_stream.specs.Positions.{DeliveryValue}
 use Rattle.pn_stream.specs.declared.fault.StreamFault.{StreamFault}
 use Rattle.pn_stream.specs.declared.fault.StreamFault.TheVariants.{Failed}
-use Rattle.pn_serve.specs.Server.Messages.{max_messages}
+use Rattle.pn_serve.specs.declared.server.messages.TheConstants.{MAX_MESSAGES}
 use Rattle.pn_serve.specs.declared.server.reports.Report.{Report}
 use Rattle.pn_serve.specs.declared.server.reports.Report.TheVariants.{Messages, End, Fault}
 
@@ -18,9 +18,9 @@ following stream delivery = record { stream = stream.name; first = min (stream.p
 abbrev pub Leaves : {S : Type 0} → (S → Option (List ℕ)) → Stream S → Report → Stream S → Type 0
 Leaves left old (Messages messages) new = (old.fault ≡ None) × (messages.delivery ≡ following old messages.delivery)
     × (new.position ≡ old.position + length messages.delivery.images)
-    × IfSome (left old.source) (λ text. Batch 1 max_messages old.position (old.part ++ text) messages.delivery.images new.fault new.part (left new.source))
+    × IfSome (left old.source) (λ text. Batch 1 MAX_MESSAGES old.position (old.part ++ text) messages.delivery.images new.fault new.part (left new.source))
 Leaves left old End new = (old.fault ≡ None) × (new.fault ≡ None) × (new.position ≡ old.position)
-    × IfSome (left old.source) (λ text. Batch 1 max_messages old.position (old.part ++ text) [] None new.part (left new.source))
+    × IfSome (left old.source) (λ text. Batch 1 MAX_MESSAGES old.position (old.part ++ text) [] None new.part (left new.source))
 Leaves left old Fault new = (new.fault ≡ Some Failed)
     × ((fault : StreamFault) × (old.fault ≡ None → IfSome (left old.source) (λ text. Stands (old.position + 1) (old.part ++ text) fault)))
 

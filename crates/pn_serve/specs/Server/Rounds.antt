@@ -2,11 +2,11 @@
 use Rattle.std.specs.Prelude.{◌≡◌, ◌⊎◌, ℕ, ◌≤◌, List, length, All, Option, None, Some, Result, Ok, Err}
 use Rattle.pn_stream.specs.Positions.{DeliveryValue}
 use Rattle.pn_tablet.specs.Refusals.{Refuses}
-use Rattle.pn_region.specs.Logged.{noting}
+use Rattle.pn_region.specs.Logged.{with_notices}
 use Rattle.pn_region.specs.Marking.{is_memory}
 use Rattle.pn_region.specs.Rounds.{round}
 use Rattle.pn_region.specs.declared.fault.RoundFault.{RoundFault}
-use Rattle.pn_live.specs.LiveRegions.{LiveRegionValue, core, publishing, LeavesLive}
+use Rattle.pn_live.specs.LiveRegions.{LiveRegionValue, core, tablets_after_round, LeavesLive}
 use Rattle.pn_serve.specs.Server.Messages.{FitRound}
 use Rattle.pn_serve.specs.declared.server.fault.ServeFault.{ServeFault}
 use Rattle.pn_serve.specs.declared.server.fault.ServeFault.TheVariants.{Stream, Round}
@@ -25,8 +25,8 @@ pub record IsSmall (streams : ℕ) (input : RoundInputValue) : Type 0 where
 -- the live region took the round
 pub record IsRoundTaken (old : LiveRegionValue) (deliveries : List DeliveryValue) (new : LiveRegionValue) : Type 0 where
   pub taken : round (core old) deliveries ≡ Ok (core new)
-  pub published : new.tablets ≡ publishing old deliveries new.marks
-  pub noted : new.log ≡ noting old.log (core old) (core new)
+  pub published : new.tablets ≡ tablets_after_round old deliveries new.marks
+  pub noted : new.log ≡ with_notices old.log (core old) (core new)
 
 -- the live region refused the round
 pub record IsRoundRefused (old : LiveRegionValue) (deliveries : List DeliveryValue) (new : LiveRegionValue) : Type 0 where

@@ -3,7 +3,7 @@
 ghost use Rattle.std.specs.Prelude.{◌≡◌, ◌++◌, [], Some, IfOk};
 ghost use Rattle.pn_line.specs.Prelude.{kept};
 ghost use Rattle.pn_json.specs.Prelude.{IsUnless};
-ghost use Rattle.pn_region.specs.Prelude.{adopting};
+ghost use Rattle.pn_region.specs.Prelude.{after_adoption};
 ghost use Rattle.pn_tablet.specs.Prelude.{copy_at};
 ghost use Rattle.pn_serve.specs.Machine.Modes.{bytes_of, mode_of, with_mode};
 ghost use Rattle.pn_serve.specs.Machine.Outcomes.{announced as announced_mode, waiting};
@@ -41,7 +41,12 @@ impl Announced {
 }
 
 /// Takes an announced line. The last one adopts the copy.
-pub(crate) fn take_line(alloc: Global, region: &mut Region, announced: Announced, line: &[u8]) -> Answer
+pub(crate) fn take_line(
+    alloc: Global,
+    region: &mut Region,
+    announced: Announced,
+    line: &[u8],
+) -> Answer
     ensures { AnswersBy ⊥ (with_mode (Some announced) region.old) line.now (with_mode result.1 region.new) result.0 }
 {
     let Announced { left, text } = announced;
@@ -54,7 +59,12 @@ pub(crate) fn take_line(alloc: Global, region: &mut Region, announced: Announced
 }
 
 /// Adopts the text so far, after a last part of a line.
-pub(crate) fn take_last_part(alloc: Global, region: &mut Region, announced: Announced, part: &[u8]) -> Reply
+pub(crate) fn take_last_part(
+    alloc: Global,
+    region: &mut Region,
+    announced: Announced,
+    part: &[u8],
+) -> Reply
     ensures { ConcludesBy ⊥ (with_mode (Some announced) region.old) part.now (waiting region.new) result }
 {
     adopt(alloc, region, append_line(announced.text, part, b""))
@@ -99,7 +109,7 @@ fn read_text(alloc: Global, text: Vec<u8>) -> Result<TabletCopy, CopyTextFault>
 }
 
 fn adopt_copy(alloc: Global, region: &mut Region, copy: TabletCopy) -> Reply
-    ensures { ComesTo (adopted region.old (adopting region.old.state copy)) region.old region.new result }
+    ensures { ComesTo (adopted region.old (after_adoption region.old.state copy)) region.old region.new result }
 {
     match region.adopt(copy) {
         Ok(tablet) => Reply::Adopted(tablet as u64),

@@ -29,7 +29,7 @@ pub(crate) struct ScriptHandler<'a, R> {
 
 impl<'a, R> Model for ScriptHandler<'a, R> {
     ghost use Rattle.std.specs.Prelude.{◌≤◌};
-    ghost use Rattle.pn_apply.specs.Prelude.{max_workers};
+    ghost use Rattle.pn_apply.specs.Prelude.{MAX_WORKERS};
     ghost use Rattle.pn_serve.specs.Machine.Modes.{with_mode};
     ghost use Rattle.pn_serve.specs.Machine.Outcomes.{Machine};
 
@@ -41,7 +41,7 @@ impl<'a, R> Model for ScriptHandler<'a, R> {
 
     ghost view = { λ scripted. with_mode scripted.announced scripted.region };
 
-    ghost invariant = { λ scripted. (1 ≤ scripted.workers) × (scripted.workers ≤ max_workers) };
+    ghost invariant = { λ scripted. (1 ≤ scripted.workers) × (scripted.workers ≤ MAX_WORKERS) };
 }
 
 impl<'a, R: Threads + Sync> ScriptHandler<'a, R> {

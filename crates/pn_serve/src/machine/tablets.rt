@@ -3,7 +3,7 @@
 ghost use Rattle.std.specs.Prelude.{◌≡◌, length, ◌+◌};
 ghost use Rattle.pn_protocol.specs.Prelude.{copy as copy_asked, lose as lose_asked, relayout as relayout_asked};
 ghost use Rattle.pn_serve.specs.Machine.Outcomes.{waiting};
-ghost use Rattle.pn_region.specs.Relayouts.{relaying};
+ghost use Rattle.pn_region.specs.Relayouts.{after_relayout};
 ghost use Rattle.pn_serve.specs.Machine.Answers.{Obeys};
 ghost use Rattle.pn_serve.specs.Machine.Relaying.{relaid_turn};
 ghost use Rattle.pn_serve.specs.Machine.Ways.{ComesTo};
@@ -44,7 +44,7 @@ pub(crate) fn relayout(alloc: Global, region: &mut Region, bounds: Vec<Key>) -> 
 }
 
 fn relayout_to(alloc: Global, region: &mut Region, layout: Layout) -> Reply
-    ensures { ComesTo (relaid_turn (waiting region.old) (length layout + 1) (relaying region.old.state layout)) region.old region.new result }
+    ensures { ComesTo (relaid_turn (waiting region.old) (length layout + 1) (after_relayout region.old.state layout)) region.old region.new result }
 {
     let count = layout.count() as u64;
     match region.relayout(layout) {

@@ -1,6 +1,6 @@
 //! The line loop: each line is read and answered, and its reply waits or is written.
 
-ghost use Rattle.std.specs.Prelude.{◌≡◌, ◌≢◌, ◌+◌, ◌<◌, ◌≤◌, [], ◌++◌, Ok, IfOk, OnOk, OnErr, IsErrOf};
+ghost use Rattle.std.specs.Prelude.{◌≡◌, ◌≢◌, ◌+◌, ◌<◌, ◌≤◌, [], ◌++◌, Ok, IfOk, IfErr, OnOk, OnErr, IsErrOf};
 ghost use Rattle.pn_line.specs.Prelude.{Sends, AppendsPrefix};
 ghost use Rattle.pn_json.specs.Prelude.{line_of};
 ghost use Rattle.pn_serve.specs.Lines.Ends.{EndsBy};
@@ -99,6 +99,7 @@ impl LineLoop {
         ensures few { IfOk result (EndsWithin MAX_LINES) }
         ensures read { IsErrOf result RunFault.Read → S.may_fail }
         ensures write { IsErrOf result RunFault.Write → W.may_fail }
+        ensures begun { IfErr result (λ fault. fault ≢ RunFault.Memory) }
         ensures knows { KnowsNoLess (M.reader machine.old) (M.reader machine.new) }
     {
         self.line.start();
@@ -190,6 +191,7 @@ impl LineLoop {
         ensures out { HandsOn result (W.is_handed_on output.new) }
         ensures looks { S.looks input.new ≤ S.looks input.old + 1 }
         ensures end { OnOk result S.may_end }
+        ensures begun { IfErr result (λ fault. fault ≢ RunFault.Memory) }
     {
         self.blocks.flush(output)?;
         self.end_here(machine, input, output)
@@ -215,6 +217,7 @@ impl LineLoop {
         ensures out { HandsOn result (W.is_handed_on output.new) }
         ensures looks { S.looks input.new ≤ S.looks input.old + 1 }
         ensures end { OnOk result S.may_end }
+        ensures begun { IfErr result (λ fault. fault ≢ RunFault.Memory) }
     {
         let Ok(more) = input.has_more() else {
             return Err(RunFault::Read);

@@ -212,7 +212,9 @@ impl Wakeup {
     /// Waits until it is notified, or was notified since the last call.
     pub(crate) fn wait<R: Wait>(&self, rt: &R) {
         let guard = self.is_notified.lock(rt);
-        let mut is_notified = self.notified.wait_while(rt, guard, |is_notified| !*is_notified);
+        let mut is_notified = self
+            .notified
+            .wait_while(rt, guard, |is_notified| !*is_notified);
         *is_notified = false;
     }
 }

@@ -5,7 +5,7 @@ ghost use Rattle.pn_serve.specs.Server.Reports.{Leaves, HasMessages};
 ghost use Rattle.pn_serve.specs.declared.server.reports.Report.TheVariants.{End};
 
 use crate::server::messages::{MAX_MESSAGES, Messages};
-use pn_join::{Dup, StreamName};
+use pn_join::StreamName;
 use pn_line::Source;
 use pn_stream::StreamReader;
 
@@ -52,8 +52,5 @@ pub(crate) fn next_report<S: Source + Drop>(stream: &mut StreamReader<S>) -> Rep
 pub(crate) fn name_of<S: Source + Drop>(stream: &StreamReader<S>) -> StreamName
     ensures { result ≡ stream.now.name }
 {
-    let Ok(name) = stream.name().dup() else {
-        unreachable!()
-    };
-    name
+    *stream.name()
 }

@@ -1,7 +1,7 @@
 //! Rounds of the messages that streams report.
 
 ghost use Rattle.std.specs.Prelude.{◌≡◌, ◌+◌, ◌<◌, ◌≤◌, [], map, vec_len, vec_capacity, All, Contains, None, Some, Ok, Err, IfOk, IfErr, IfSome, OnOk, OnErr, MatchResult};
-ghost use Rattle.pn_apply.specs.Prelude.{max_workers};
+ghost use Rattle.pn_apply.specs.Prelude.{MAX_WORKERS};
 ghost use Rattle.pn_live.specs.Prelude.{tablets_in};
 ghost use Rattle.pn_serve.specs.Server.Faults.{IsOfRounds};
 ghost use Rattle.pn_serve.specs.Server.Gathering.{IsInputOf, no_input, value_of, with_report};
@@ -14,7 +14,7 @@ use crate::server::mailboxes::StreamMailboxes;
 use crate::server::messages::Messages;
 use crate::server::reports::Report;
 use pn_apply::Open;
-use pn_join::{Dup, StreamName};
+use pn_join::StreamName;
 use pn_live::{Front, LiveRegion};
 use pn_region::{Round, RoundFault};
 use pn_stream::Delivery;
@@ -41,7 +41,7 @@ pub(crate) fn run_rounds<R: Threads + Wait + Sync>(
     workers: usize,
     mailboxes: &StreamMailboxes,
 ) -> Result<(), ServeFault>
-    requires workers { (1 ≤ workers) × (workers ≤ max_workers) }
+    requires workers { (1 ≤ workers) × (workers ≤ MAX_WORKERS) }
     ensures reads { RunsRounds (vec_len mailboxes.now.mailboxes) live.old live.new result }
     ensures named { IfErr result (IsOfRounds (map (λ stream. stream.name) mailboxes.now.mailboxes.items)) }
     ensures same { tablets_in live.new ≡ tablets_in live.old }
@@ -108,18 +108,11 @@ fn add_note(input: &mut RoundInput, name: &StreamName, report: Option<Report>)
         Some(Report::End) => input.ended += 1,
         Some(Report::Fault) => {
             if input.fault.is_none() {
-                input.fault = Some(same_name(name));
+                input.fault = Some(*name);
             }
         }
         None => {}
     }
-}
-
-fn same_name(name: &StreamName) -> StreamName
-    ensures { result ≡ name.now }
-{
-    let Ok(name) = name.dup() else { unreachable!() };
-    name
 }
 
 // Runs one round of what the mailboxes gave, also if a stream has a fault. Answers how many streams ended.
@@ -129,7 +122,7 @@ fn run_round<R: Threads + Wait + Sync>(
     workers: usize,
     input: RoundInput,
 ) -> Result<usize, ServeFault>
-    requires workers { (1 ≤ workers) × (workers ≤ max_workers) }
+    requires workers { (1 ≤ workers) × (workers ≤ MAX_WORKERS) }
     requires fit { All FitRound input.deliveries.items }
     ensures takes { TakesInput (value_of input) live.old live.new result }
     ensures same { tablets_in live.new ≡ tablets_in live.old }
@@ -150,7 +143,7 @@ fn apply_deliveries<R: Threads + Wait + Sync>(
     workers: usize,
     deliveries: Vec<Delivery>,
 ) -> Result<(Round, Front), RoundFault>
-    requires workers { (1 ≤ workers) × (workers ≤ max_workers) }
+    requires workers { (1 ≤ workers) × (workers ≤ MAX_WORKERS) }
     requires fit { All FitRound deliveries.items }
     ensures taken { OnOk result (IsRoundTaken live.old deliveries.items live.new) }
     ensures refused { OnErr result (IsRoundRefused live.old deliveries.items live.new) }

@@ -100,7 +100,9 @@ fn start_session<R: Threads, L: Acceptor + Drop + Send + 'static>(
 {
     let listener = listener.try_clone()?;
     let promise = ComesBack(Snapshot::of(&reader));
-    Ok(thread::spawn_with(rt, promise, move || { serve_client(alloc, listener, reader) })?)
+    Ok(thread::spawn_with(rt, promise, move || {
+        serve_client(alloc, listener, reader)
+    })?)
 }
 
 // Answers one client, and gives the reader back.

@@ -36,7 +36,10 @@ impl<S: Source + Drop> Promise<Result<StreamEnd, StreamName>> for SaysWhetherWho
 }
 
 /// The thread of a stream.
-pub(crate) type StreamThread<S> = PromisedHandle<Result<StreamEnd, StreamName>, SaysWhetherWhole<S>>;
+pub(crate) type StreamThread<S> = PromisedHandle<
+    Result<StreamEnd, StreamName>,
+    SaysWhetherWhole<S>,
+>;
 
 /// Streams that are being read.
 #[derive(Drop)]

@@ -1,7 +1,7 @@
 //! Streams that may be opened again, read into a live region, each in its own thread.
 
 ghost use Rattle.std.specs.Prelude.{◌≡◌, ◌+◌, ◌≤◌, vec_len, IfOk, IfSome, OnOk};
-ghost use Rattle.pn_apply.specs.Prelude.{max_workers};
+ghost use Rattle.pn_apply.specs.Prelude.{MAX_WORKERS};
 ghost use Rattle.pn_live.specs.Prelude.{tablets_in};
 ghost use Rattle.pn_serve.specs.Server.Reading.{IsAnew, ReadsStreams};
 
@@ -54,7 +54,7 @@ where
     R: Threads + Wait + Sync + Copy + Send + 'static,
     S: Source + Drop + Send + 'static,
     O: Origin<S> + Drop + Send + 'static,
-    requires workers { (1 ≤ workers) × (workers ≤ max_workers) }
+    requires workers { (1 ≤ workers) × (workers ≤ MAX_WORKERS) }
     ensures reads { ReadsStreams (vec_len streams) live.old live.new result }
     ensures same { tablets_in live.new ≡ tablets_in live.old }
 {
