@@ -7,8 +7,9 @@ use Rattle.serde_json.specs.Data.{Data, null, boolean, number, string, array, ob
 use Rattle.serde_json.specs.Find.{get, get_member, as_object}
 use Rattle.pn_json.specs.Members.{whole_number, only_named, no_others}
 use Rattle.pn_json.proofs.Inverses.{bind_ok, guard_ok, ok_or_ok, object_from_as_object, number_from_whole}
-use Rattle.pn_scan.specs.Queries.{ConditionValue, QueryValue, is_end, is_limit, is_condition, max_conditions, query_fits, is_query, operand_fits}
-use Rattle.pn_scan.specs.QueryJson.{conditions_data, key_data, query_data}
+use Rattle.pn_scan.specs.Queries.{ConditionValue, QueryValue, is_limit, is_condition, max_conditions, query_fits, is_query, operand_fits}
+use Rattle.pn_tablet.specs.Ranges.{is_end, key_data}
+use Rattle.pn_scan.specs.QueryJson.{conditions_data, query_data}
 use Rattle.pn_scan.specs.ConditionReading.{conditions_in}
 use Rattle.pn_scan.specs.QueryReading.{query_members, usual_page, key_of, key_in, limit_in, shape_in, query_in, IsGiven}
 use Rattle.pn_scan.specs.declared.query_fault.QueryFault.TheVariants.{BadShape, OutOfRange}

@@ -1,8 +1,9 @@
 -- Queries, their conditions and their limits.
 use Rattle.std.specs.Prelude.{ℕ, Bool, true, ◌&&◌, nat_le, List, [], length, Option, Some, None, string_bytes}
 use Rattle.std.specs.List.{list_all}
-use Rattle.pn_record.specs.Limits.{FieldValue, number_value, text_value, is_number, is_field, is_key}
+use Rattle.pn_record.specs.Limits.{FieldValue, number_value, text_value, is_number, is_field}
 use Rattle.pn_record.specs.Showing.{shown_value}
+use Rattle.pn_tablet.specs.Ranges.{is_end}
 use Rattle.pn_scan.specs.declared.condition.Condition.{Condition}
 use Rattle.pn_scan.specs.declared.condition.Condition.TheVariants.{Has, Eq, Lt, Gt, Prefix}
 
@@ -65,11 +66,6 @@ is_limit limit = nat_le 1 limit && nat_le limit max_page_rows
 -- a limit of a page, and at most 16 conditions, each within its limits
 abbrev pub query_fits : List ConditionValue → ℕ → Bool
 query_fits conditions limit = is_limit limit && nat_le (length conditions) max_conditions && list_all is_condition conditions
-
--- a key within its limits, or none
-abbrev pub is_end : Option (List ℕ) → Bool
-is_end None = true
-is_end (Some key) = is_key key
 
 -- the keys, the conditions and the limit keep the limits
 abbrev pub is_query : QueryValue → Bool

@@ -1,6 +1,5 @@
 -- Parts of queries that are borrowed from a value.
-use Rattle.std.specs.Prelude.{◌≡◌, ℕ, Bool, true, ◌&&◌, nat_le, List, map, length, Option, Some, None, option_map, is_some, IsTrue, IfSome}
-use Rattle.std.specs.Borrow.{Bor}
+use Rattle.std.specs.Prelude.{◌≡◌, ℕ, Bool, true, ◌&&◌, nat_le, List, map, length, Option, Some, None, is_some, IsTrue, IfSome}
 use Rattle.std.specs.List.{flat_map, list_all}
 use Rattle.std.specs.Option.{option_to_list}
 use Rattle.json.specs.Token.{Token}
@@ -36,10 +35,6 @@ pub record AreParsed (values : List Value) (fit : Bool) (made : Option (List Con
   pub all : IsTrue (are_conditions values)
   pub fits : fit ≡ (nat_le (length values) max_conditions && all_fit values)
   pub shown : IfSome made (λ conditions. map shown_condition conditions ≡ conditions_among values)
-
--- a borrowed text, where there is one
-abbrev pub seen_text : Option (Bor (List ℕ)) → Option (List ℕ)
-seen_text text = option_map (λ t. t.now) text
 
 -- the tokens of a value, if there is one
 abbrev pub operand_tokens : Option ValueRef → List Token

@@ -7,7 +7,8 @@ ghost use Rattle.serde_json.specs.Find.{get_member};
 ghost use Rattle.pn_json.specs.Prelude.{only_named};
 ghost use Rattle.pn_scan.specs.ConditionReading.{conditions_at};
 ghost use Rattle.pn_scan.specs.Queries.{ConditionValue, QueryValue, is_query, operand_fits};
-ghost use Rattle.pn_scan.specs.QueryJson.{conditions_data, key_data, query_data};
+ghost use Rattle.pn_scan.specs.QueryJson.{conditions_data, query_data};
+ghost use Rattle.pn_tablet.specs.Ranges.{key_data};
 ghost use Rattle.pn_scan.specs.QueryReading.{query_members, usual_page, shape_in, query_in, IsGiven};
 ghost use Rattle.pn_scan.specs.declared.query_fault.QueryFault.TheVariants.{BadShape, OutOfRange};
 

@@ -5,8 +5,9 @@ ghost use Rattle.std.specs.Option.{option_copied};
 ghost use Rattle.serde_json.specs.Data.{put};
 ghost use Rattle.serde_json.specs.View.{view, members_view};
 ghost use Rattle.pn_json.specs.Prelude.{Appends, member_tokens, value_tokens};
-ghost use Rattle.pn_scan.specs.Queries.{is_end, is_query, shown_condition};
-ghost use Rattle.pn_scan.specs.QueryJson.{condition_data, conditions_data, key_data, query_data};
+ghost use Rattle.pn_scan.specs.Queries.{is_query, shown_condition};
+ghost use Rattle.pn_tablet.specs.Ranges.{is_end, key_data};
+ghost use Rattle.pn_scan.specs.QueryJson.{condition_data, conditions_data, query_data};
 ghost use Rattle.pn_scan.specs.QueryReading.{query_in};
 ghost use Rattle.pn_scan.specs.UncheckedQueries.{operand_tokens};
 

@@ -2,11 +2,11 @@
 
 ghost use Rattle.std.specs.Prelude.{◌≡◌, IfOk, IfErr, IsTrue};
 ghost use Rattle.serde_json.specs.View.{view};
-ghost use Rattle.pn_json.specs.Prelude.{seen, Shows};
+ghost use Rattle.pn_json.specs.Prelude.{seen, Shows, seen_text};
 ghost use Rattle.pn_record.specs.Prelude.{is_key as in_key};
-ghost use Rattle.pn_scan.specs.Queries.{is_end as in_end, is_limit, is_query};
+ghost use Rattle.pn_scan.specs.Queries.{is_limit, is_query};
+ghost use Rattle.pn_tablet.specs.Ranges.{is_end as in_end};
 ghost use Rattle.pn_scan.specs.QueryReading.{key_of as key_spelled, key_in, limit_in, shape_in};
-ghost use Rattle.pn_scan.specs.UncheckedQueries.{seen_text};
 
 use crate::query::MAX_PAGE_ROWS;
 use crate::unchecked_conditions::{UncheckedConditions, conditions_of};
@@ -34,7 +34,7 @@ pub(crate) struct UncheckedQuery<'v> {
 
 impl<'v> Model for UncheckedQuery<'v> {
     ghost use Rattle.pn_scan.specs.Queries.{QueryValue};
-    ghost use Rattle.pn_scan.specs.UncheckedQueries.{seen_text};
+    ghost use Rattle.pn_json.specs.Prelude.{seen_text};
 
     ghost Value = { QueryValue };
 

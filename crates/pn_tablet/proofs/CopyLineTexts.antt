@@ -20,7 +20,8 @@ use Rattle.pn_record.specs.Marks.{is_mark}
 use Rattle.pn_record.specs.Writing.{value_data, fields_data, body_data, image_data}
 use Rattle.pn_record.proofs.ImageText.{length-quoted}
 use Rattle.pn_record.proofs.Values.{field_value}
-use Rattle.pn_tablet.specs.CopyLines.{key_data, head_data, mark_data, end_data, is_end}
+use Rattle.pn_tablet.specs.CopyLines.{head_data, mark_data, end_data}
+use Rattle.pn_tablet.specs.Ranges.{key_data, is_end}
 use Rattle.pn_tablet.specs.Forms.{form_number}
 use Rattle.pn_tablet.specs.declared.form.Form.{Form}
 use Rattle.pn_tablet.specs.declared.form.Form.TheVariants.{Texts, Numbers}

@@ -7,7 +7,7 @@ pub use Rattle.pn_tablet.specs.Laws.{AreJoins, IsSpelled}
 pub use Rattle.pn_tablet.specs.Layouts.{Bounds, IsLayout, tablet_ends, tablet_of}
 pub use Rattle.pn_tablet.specs.Needs.{need_shortfall}
 pub use Rattle.pn_tablet.specs.Operations.{HasPositions}
-pub use Rattle.pn_tablet.specs.Ranges.{Ends, in_range, is_before, is_from, meet}
+pub use Rattle.pn_tablet.specs.Ranges.{Ends, in_range, is_before, is_end, is_from, key_data, meet}
 pub use Rattle.pn_tablet.specs.Refusals.{Answers, Refuses}
 pub use Rattle.pn_tablet.specs.Steps.{recovering_tablet, state_of, step, tablet_after}
 pub use Rattle.pn_tablet.specs.Tablets.{TabletStateValue, empty_tablet, lie_in, same_range}

@@ -4,7 +4,7 @@ ghost use Rattle.std.specs.Prelude.{◌≡◌};
 ghost use Rattle.pn_tablet.specs.Copying.{copy_of, copy_shortfall, is_memory};
 ghost use Rattle.pn_tablet.specs.Refusals.{Answers};
 
-use crate::needs::{Shortfall, first_shortfall};
+use crate::fault::{Shortfall, first_shortfall};
 use crate::{CopyFault, Range, Status, TabletState};
 use pn_join::{Dup, Marks};
 use pn_record::Records;

@@ -6,7 +6,7 @@ ghost use Rattle.pn_tablet.specs.declared.fault.OpFault.TheVariants.{Memory as n
 ghost use Rattle.pn_tablet.specs.declared.fault.CopyFault.TheVariants.{Memory as no_memory_to_copy};
 ghost use Rattle.pn_tablet.specs.declared.fault.CopyTextFault.TheVariants.{Memory as no_memory_to_read};
 
-use pn_join::{Dup, Marks, NoMemory, StreamName};
+use pn_join::{Marks, NoMemory, StreamName};
 use thiserror::Error;
 
 /// Why an operation was refused. The tablet stays as it was.
@@ -78,11 +78,8 @@ pub fn first_shortfall(marks: &Marks, need: &Marks) -> Option<Shortfall>
 {
     let index = marks.shortfall(need)?;
     let (stream, wanted) = need.entry_at(index)?;
-    let Ok(name) = stream.dup() else {
-        unreachable!()
-    };
     Some(Shortfall {
-        stream: name,
+        stream: *stream,
         has: marks.position(stream),
         wanted: wanted.0,
     })

@@ -65,6 +65,11 @@ impl Layout {
         self.bounds.len() + 1
     }
 
+    /// Recalls for the prover that the bounds are at most 63, and rise.
+    pub fn recall_order(&self)
+        ensures { IsLayout self.now }
+    {}
+
     /// The tablet of the key: the number of bounds that are not greater.
     pub fn tablet_of(&self, key: &Key) -> usize
         ensures tablet { result ≡ tablet_of self.now key.now }

@@ -26,5 +26,5 @@ pub use copy_writing::write_copy;
 pub use fault::{CopyFault, CopyTextFault, OpFault, Shortfall};
 pub use inside::cells_within;
 pub use layout::{Layout, LayoutFault, MAX_BOUNDS};
-pub use range::Range;
+pub use range::{Range, is_before, write_end_member};
 pub use state::{Status, TabletOp, TabletState};
