@@ -13,11 +13,11 @@ use Rattle.pn_stream.specs.Brokers.{BrokerRecord, up_to, AreHonest}
 use Rattle.pn_stream.specs.Positions.{DeliveryValue}
 use Rattle.pn_tablet.specs.Copies.{TabletCopyValue, IsCopy}
 use Rattle.pn_tablet.specs.Ranges.{Ends, in_range}
-use Rattle.pn_tablet.specs.Steps.{stepped, after_step, taking, state_of}
+use Rattle.pn_tablet.specs.Steps.{tablet_after, after_step, with_join, state_of}
 use Rattle.pn_tablet.specs.Tablets.{TabletStateValue, empty_tablet, lie_in}
 use Rattle.pn_tablet.specs.declared.fault.OpFault.TheVariants.{WrongRange}
-use Rattle.pn_tablet.specs.declared.op.TabletOp.{TabletOp}
-use Rattle.pn_tablet.specs.declared.op.TabletOp.TheVariants.{Lose, Adopt}
+use Rattle.pn_tablet.specs.declared.state.TabletOp.{TabletOp}
+use Rattle.pn_tablet.specs.declared.state.TabletOp.TheVariants.{Lose, Adopt}
 use Rattle.pn_tablet.specs.declared.state.Status.TheVariants.{Serving}
 use Rattle.pn_tablet.proofs.TabletLaws.{never_falls}
 use Rattle.pn_apply.specs.Reducing.{all_images, images_in, join_in}
@@ -174,9 +174,9 @@ module _ (broker : BrokerRecord) where
         (record { tablet = adopts.tablet; lawful = lawful; adopted = adopts.adopted }))
 
   -- operations lower no cover
-  covers_on : (t : TabletStateValue) (ops : List TabletOp) → Reaches (fold stepped t ops).cover t.cover
+  covers_on : (t : TabletStateValue) (ops : List TabletOp) → Reaches (fold tablet_after t ops).cover t.cover
   covers_on t [] name = omega arith
-  covers_on t (op ∷ ops) name = omega (arith, never_falls t op name, covers_on (stepped t op) ops name)
+  covers_on t (op ∷ ops) name = omega (arith, never_falls t op name, covers_on (tablet_after t op) ops name)
 
   -- a serving tablet has all images up to its cover
   found_all : (later last : TabletReaderValue) (now : TabletStateValue) → Finds later now last → IsHonestList broker last.range last.seen → now.status ≡ Serving
@@ -213,11 +213,11 @@ module _ (broker : BrokerRecord) where
       (more_in seen.range (up_to broker was.cover) (up_to broker now.cover) (up_to_more broker now.cover was.cover reach))))
 
   -- a join raises the cover to its marks
-  joined_cover : (t : TabletStateValue) (cells : Entries) (marks : Positions) (b : Bool) → b ≡ true → Reaches (after_step t (if b then Ok (taking t cells marks) else Err WrongRange)).cover marks
+  joined_cover : (t : TabletStateValue) (cells : Entries) (marks : Positions) (b : Bool) → b ≡ true → Reaches (after_step t (if b then Ok (with_join t cells marks) else Err WrongRange)).cover marks
   joined_cover t cells marks true inside = new_reached t.cover marks
   joined_cover t cells marks false inside = absurd (cc inside)
 
-  join_reaches : (t : TabletStateValue) (marks : Positions) (images : List Image) (range : Ends) → t.range ≡ range → Reaches (stepped t (join_in marks images range)).cover marks
+  join_reaches : (t : TabletStateValue) (marks : Positions) (images : List Image) (range : Ends) → t.range ≡ range → Reaches (tablet_after t (join_in marks images range)).cover marks
   join_reaches t marks images range ranged =
       joined_cover t (table_of (images_in range images)) marks (lie_in t.range (table_of (images_in range images)))
       (subst (λ (r : Ends). lie_in r (table_of (images_in range images)) ≡ true) (sym ranged) (cells_inside range images))

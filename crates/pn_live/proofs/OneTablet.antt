@@ -4,7 +4,7 @@ use Rattle.std.specs.Prelude.{IsSomeAnd}
 use Rattle.std.proofs.lemmas.List.{set-get_or}
 use Rattle.logbook.specs.Pages.{Book}
 use Rattle.pn_tablet.specs.Tablets.{TabletStateValue}
-use Rattle.pn_tablet.specs.declared.op.TabletOp.{TabletOp}
+use Rattle.pn_tablet.specs.declared.state.TabletOp.{TabletOp}
 use Rattle.pn_region.specs.Logged.{with_break}
 use Rattle.pn_region.specs.Recovery.{tablets_after_op, after_op}
 use Rattle.pn_region.specs.Regions.{IsRegion, IsLawfulRegion}
@@ -47,20 +47,20 @@ books_at (p ∷ ps) (suc n) op = ap (λ (rest : List Book). p.book ∷ rest) (bo
 
 module _ (live : LiveRegionValue) (n : ℕ) (op : TabletOp) (tablets : List PublishedTabletValue) (is : tablets ≡ with_op_at n op live.tablets) where
   -- the region took the operation
-  pub core_after : (log : List Entry) → core (record { layout = live.layout; tablets = tablets; marks = live.marks; log = log }) ≡ after_op (core live) n op
+  pub core_after : (log : List Entry) → core (record { layout = live.layout; tablets = tablets; marks = live.marks; log = log; order = live.order }) ≡ after_op (core live) n op
   core_after log = λ i. record { layout = live.layout; tablets = (ap (map state_at) is ∙ states_at live.tablets n op) i; marks = live.marks }
 
-  pub lawful_after : (log : List Entry) → IsLawfulRegion (core live) → IsRegion (after_op (core live) n op) → IsLawfulRegion (core (record { layout = live.layout; tablets = tablets; marks = live.marks; log = log }))
+  pub lawful_after : (log : List Entry) → IsLawfulRegion (core live) → IsRegion (after_op (core live) n op) → IsLawfulRegion (core (record { layout = live.layout; tablets = tablets; marks = live.marks; log = log; order = live.order }))
   lawful_after log lawful kept = subst IsLawfulRegion (sym (core_after log)) (record { is_region = kept; are_marks = lawful.are_marks })
 
   -- the log has a break, and nothing else changed
-  pub live_after : (log : List Entry) → log ≡ with_break live.log → record { layout = live.layout; tablets = tablets; marks = live.marks; log = log } ≡ after_op_at live n op
-  live_after log broken = λ i. record { layout = live.layout; tablets = is i; marks = live.marks; log = broken i }
+  pub live_after : (log : List Entry) → log ≡ with_break live.log → record { layout = live.layout; tablets = tablets; marks = live.marks; log = log; order = live.order } ≡ after_op_at live n op
+  live_after log broken = λ i. record { layout = live.layout; tablets = is i; marks = live.marks; log = broken i; order = live.order }
 
   pub books_after : map (λ (p : PublishedTabletValue). p.book) tablets ≡ map (λ (p : PublishedTabletValue). p.book) live.tablets
   books_after = ap (map (λ (p : PublishedTabletValue). p.book)) is ∙ books_at live.tablets n op
 
-  pub same_after : (log : List Entry) → tablets_in (record { layout = live.layout; tablets = tablets; marks = live.marks; log = log }) ≡ tablets_in live
+  pub same_after : (log : List Entry) → tablets_in (record { layout = live.layout; tablets = tablets; marks = live.marks; log = log; order = live.order }) ≡ tablets_in live
   same_after log = λ i. record { layout = live.layout; books = books_after i }
 
   pub fits_after : AreNotesOf (tablets_in live) (notes_of tablets)

@@ -1,7 +1,7 @@
 -- What calls do to a live region, as events of the region that it is.
 use Rattle.std.specs.Prelude.{◌≡◌, List, [], ◌∷◌, Ok}
 use Rattle.pn_tablet.specs.Copies.{IsCopy}
-use Rattle.pn_tablet.specs.declared.op.TabletOp.TheVariants.{Lose}
+use Rattle.pn_tablet.specs.declared.state.TabletOp.TheVariants.{Lose}
 use Rattle.pn_region.specs.Events.{RegionEvent, round, half_round, loss, adoption, relayout}
 use Rattle.pn_region.specs.Rounds as rounds
 use Rattle.pn_live.specs.LiveRegions.{LiveRegionValue, core, tablets_after_round, IsHalfPublished}

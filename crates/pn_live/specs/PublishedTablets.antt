@@ -4,13 +4,17 @@ use Rattle.logbook.specs.Pages.{Book}
 use Rattle.pn_tablet.specs.Ranges.{Ends}
 use Rattle.pn_tablet.specs.Steps.{state_of}
 use Rattle.pn_tablet.specs.Tablets.{TabletStateValue}
-use Rattle.pn_tablet.specs.declared.op.TabletOp.{TabletOp}
+use Rattle.pn_tablet.specs.declared.state.TabletOp.{TabletOp}
 
 -- a live tablet: which one it is, its range, and the operations that are published
 pub record PublishedTabletValue : Type 0 where
   pub book : Book
   pub range : Ends
   pub list : List TabletOp
+
+-- which tablets they are
+abbrev pub books_of : List PublishedTabletValue → List Book
+books_of tablets = map (λ tablet. tablet.book) tablets
 
 -- its state is that of what is published
 abbrev pub state_at : PublishedTabletValue → TabletStateValue

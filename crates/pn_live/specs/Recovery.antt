@@ -1,9 +1,9 @@
 -- Losses and adoptions of live tablets.
 use Rattle.std.specs.Prelude.{◌≡◌, ℕ, zero, suc, List, [], ◌∷◌, Ok}
 use Rattle.pn_tablet.specs.Copies.{TabletCopyValue}
-use Rattle.pn_tablet.specs.declared.needs.Short.{Short}
-use Rattle.pn_tablet.specs.declared.op.TabletOp.{TabletOp}
-use Rattle.pn_tablet.specs.declared.op.TabletOp.TheVariants.{Adopt}
+use Rattle.pn_tablet.specs.declared.fault.Shortfall.{Shortfall}
+use Rattle.pn_tablet.specs.declared.state.TabletOp.{TabletOp}
+use Rattle.pn_tablet.specs.declared.state.TabletOp.TheVariants.{Adopt}
 use Rattle.pn_region.specs.Logged.{with_break}
 use Rattle.pn_region.specs.Recovery.{after_adoption}
 use Rattle.pn_tablet.specs.declared.fault.OpFault.{OpFault as AdoptFault}
@@ -28,5 +28,5 @@ pub record Adopts (copy : TabletCopyValue) (old new : LiveRegionValue) : Type 0 
   pub published : new ≡ after_op_at old tablet (Adopt copy)
 
 -- the fault that names what a copy lacks
-abbrev pub too_old : Short → AdoptFault
+abbrev pub too_old : Shortfall → AdoptFault
 too_old short = TooOld short.stream short.has short.wanted

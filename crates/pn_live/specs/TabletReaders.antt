@@ -5,7 +5,7 @@ use Rattle.logbook.specs.Pages.{Book}
 use Rattle.pn_tablet.specs.Ranges.{Ends}
 use Rattle.pn_tablet.specs.Steps.{state_of}
 use Rattle.pn_tablet.specs.Tablets.{TabletStateValue}
-use Rattle.pn_tablet.specs.declared.op.TabletOp.{TabletOp}
+use Rattle.pn_tablet.specs.declared.state.TabletOp.{TabletOp}
 use Rattle.pn_live.specs.PublishedTablets.{TabletNoteValue}
 
 -- which tablet it is, its range, and the operations that the reader saw and learnt

@@ -7,7 +7,7 @@ ghost use Rattle.pn_record.specs.Prelude.{bytes_cmp};
 ghost use Rattle.pn_record.specs.declared.image.Image.{Image};
 ghost use Rattle.pn_stream.specs.Prelude.{BrokerRecord, AreHonest, DeliveryValue};
 ghost use Rattle.pn_tablet.specs.Prelude.{TabletCopyValue, IsCopy, Ends, in_range, TabletStateValue};
-ghost use Rattle.pn_tablet.specs.declared.op.TabletOp.TheVariants.{Lose};
+ghost use Rattle.pn_tablet.specs.declared.state.TabletOp.TheVariants.{Lose};
 ghost use Rattle.pn_tablet.specs.declared.state.Status.TheVariants.{Serving};
 ghost use Rattle.pn_apply.specs.Prelude.{all_images, join_in};
 ghost use Rattle.pn_region.specs.Prelude.{HoldsStill, IsHonestCopy, new_marks, IsRegion, round, IsHalfTaken};

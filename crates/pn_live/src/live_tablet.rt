@@ -59,9 +59,9 @@ fn show<R: Wait>(rt: &R, writer: &mut PairWriter, next: PublishedState)
             ensures values { (result.0.shown.value ≡ next) × (result.0.spare.value ≡ desk.shown.value) }
             ensures place { view result.0.place ≡ Some next }
         {
-            let (open, mut place) = desk.open(rt);
-            *place = next;
-            (open.show_as::<ExtendsSeen>(place), ())
+            let (open, mut spare) = desk.open(rt);
+            *spare = next;
+            (open.show_as::<ExtendsSeen>(spare), ())
         },
     )
 }
@@ -69,7 +69,7 @@ fn show<R: Wait>(rt: &R, writer: &mut PairWriter, next: PublishedState)
 impl LiveTablet {
     ghost use Rattle.pn_live.specs.Published.{published_ops, state_in, seen_by, told_to, IsReaderOf};
 
-    /// Opens an empty tablet of the range, with room for `readers` readers. It has no reader to wait for.
+    /// Opens an empty tablet of the range, with capacity for `readers` readers. It has no reader to wait for.
     pub fn open<R: Wait>(
         rt: &R,
         alloc: Global,
@@ -80,7 +80,7 @@ impl LiveTablet {
         ensures { IfOk result (λ tablet. (state_in tablet ≡ empty_tablet range) × (published_ops tablet ≡ [])) }
     {
         let (counter, latest) = open_book();
-        let empty = shown_as(TabletState::new(alloc, range), &latest);
+        let empty = first_state(TabletState::new(alloc, range), &latest);
         let writer = pair_of(rt, alloc, empty, readers)?;
         let settled = latest.again();
         Ok(LiveTablet {
@@ -140,7 +140,7 @@ impl LiveTablet {
         }
     }
 
-    /// A new reader, which has seen and learnt what is published. `None` when all readers' places are in use.
+    /// A new reader, which has seen and learnt what is published. `None` when there are as many as it has capacity for.
     pub fn new_reader(&mut self) -> Option<ReaderHandle>
         ensures reader { IfSome result (λ handle. IsReaderOf self.new handle) }
         ensures seen { IfSome result (λ handle. (seen_by handle ≡ published_ops self.old) × (told_to handle ≡ published_ops self.old)) }
@@ -177,8 +177,8 @@ impl LiveTablet {
     }
 }
 
-// An empty tablet's state, to be shown.
-fn shown_as(state: TabletState, position: &PublishPosition<TabletOp>) -> PublishedState
+// An empty tablet's state, to be shown at first.
+fn first_state(state: TabletState, position: &PublishPosition<TabletOp>) -> PublishedState
     requires empty { state ≡ empty_tablet state.range }
     requires none { position.now.seen.log ≡ [] }
     ensures { (result.state ≡ state) × (result.position ≡ position.now) }
@@ -187,7 +187,7 @@ fn shown_as(state: TabletState, position: &PublishPosition<TabletOp>) -> Publish
     PublishedState { state, position }
 }
 
-// A pair that shows the state, with room for `readers` readers.
+// A pair that shows the state, with capacity for `readers` readers.
 fn pair_of<R: Wait>(
     rt: &R,
     alloc: Global,

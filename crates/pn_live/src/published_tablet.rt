@@ -1,6 +1,6 @@
 //! The live tablets of a region, as what is published of each.
 
-ghost use Rattle.std.specs.Prelude.{◌≡◌, ◌≤◌, ◌<◌, ◌^◌, length, Ok, IfOk, IfSome, IsTrue};
+ghost use Rattle.std.specs.Prelude.{◌≡◌, ◌≤◌, ◌<◌, ◌^◌, ◌++◌, ◌∷◌, [], length, Ok, IfOk, IfSome, IsTrue};
 ghost use Rattle.pn_tablet.specs.Prelude.{tablet_ends, HasPositions, step};
 ghost use Rattle.pn_live.specs.Closing.{IsOfTablet, KnowsPublished};
 ghost use Rattle.pn_live.specs.Drafts.{Lacks};
@@ -11,6 +11,7 @@ mod next_state;
 
 use crate::front::TabletNote;
 use crate::live_tablet::{LiveTablet, StateDraft};
+use crate::publication_order::PublicationOrder;
 use crate::tablet_reader::TabletReader;
 use pn_join::NoMemory;
 use pn_tablet::{Layout, Range, TabletOp, TabletState};
@@ -41,7 +42,7 @@ impl Model for PublishedTablet {
 }
 
 impl PublishedTablet {
-    /// An empty tablet of the layout's range of this number, with room for `readers` readers.
+    /// An empty tablet of the layout's range of this number, with capacity for `readers` readers.
     pub fn open<R: Wait>(
         rt: &R,
         alloc: Global,
@@ -67,13 +68,21 @@ impl PublishedTablet {
         self.live.draft(rt, alloc)
     }
 
-    /// Publishes the state that the operation makes of this one.
-    pub fn publish<R: Wait>(&mut self, rt: &R, next: TabletState, operation: TabletOp)
+    /// Publishes the state that the operation makes of this one, and adds the tablet to the order.
+    pub fn publish<R: Wait>(
+        &mut self,
+        rt: &R,
+        next: TabletState,
+        operation: TabletOp,
+        order: &mut PublicationOrder,
+    )
         requires positions { HasPositions operation }
         requires next { step (state_at self.old) operation ≡ Ok next }
-        ensures { self.new ≡ with_op self.old operation }
+        ensures list { self.new ≡ with_op self.old operation }
+        ensures order { order.new ≡ order.old ++ self.old.book ∷ [] }
     {
-        self.live.publish(rt, next, operation)
+        self.live.publish(rt, next, operation);
+        order.add(&self.live.position());
     }
 
     /// A note of what is published.
@@ -83,7 +92,7 @@ impl PublishedTablet {
         TabletNote::of(self.live.position())
     }
 
-    /// A new reader, which has seen and learnt what is published. `None` when all readers' places are in use.
+    /// A new reader, which has seen and learnt what is published. `None` when there are as many as it has capacity for.
     pub fn new_reader(&mut self) -> Option<TabletReader>
         ensures reader { IfSome result (λ reader. reader ≡ new_reader_of self.old) }
         ensures same { self.new ≡ self.old }

@@ -5,7 +5,7 @@ use Rattle.pn_region.specs.Events.{RegionEvent, round, half_round, loss, adoptio
 use Rattle.pn_region.specs.Recovery.{after_op, lacks, after_adoption_unless, after_adoption}
 use Rattle.pn_region.specs.Rounds as rounds
 use Rattle.pn_region.specs.Taken.{KeepsLayout, KeepLayout}
-use Rattle.pn_region.proofs.Common.{Positions, Reaches, DeliveryValue, TabletCopyValue, stepped, TabletStateValue, Short, TabletOp, Lose, Adopt, AreOldOrStepped, all_images, ranges, new_marks, tablets_after_op, tablet_for, after_adoption_by, RegionValue, IsRegion, RoundFault}
+use Rattle.pn_region.proofs.Common.{Positions, Reaches, DeliveryValue, TabletCopyValue, tablet_after, TabletStateValue, Shortfall, TabletOp, Lose, Adopt, AreOldOrStepped, all_images, ranges, new_marks, tablets_after_op, tablet_for, after_adoption_by, RegionValue, IsRegion, RoundFault}
 use Rattle.pn_region.proofs.HalfRounds.{half_so, half_taken_is}
 use Rattle.pn_region.proofs.OneTablet.{stepping_is}
 use Rattle.pn_region.proofs.Relaying.{relays, relaid_is}
@@ -22,7 +22,7 @@ pub record Adopts (region : RegionValue) (copy : TabletCopyValue) (n : ℕ) (new
 one_value : {A E : Type 0} (value other : A) (answer : Result A E) → answer ≡ Ok value → answer ≡ Ok other → value ≡ other
 one_value value other answer is is_too = cc
 
-adopts_unless : (region : RegionValue) (copy : TabletCopyValue) (m n : ℕ) (new : RegionValue) (short : Option Short) → tablet_for region copy ≡ Some m → lacks region copy m ≡ short
+adopts_unless : (region : RegionValue) (copy : TabletCopyValue) (m n : ℕ) (new : RegionValue) (short : Option Shortfall) → tablet_for region copy ≡ Some m → lacks region copy m ≡ short
     → after_adoption_unless region copy m short ≡ Ok (n, new) → Adopts region copy n new
 adopts_unless region copy m n new None found none is =
     let both = one_value (m, after_op region m (Adopt copy)) (n, new) (after_adoption_unless region copy m None) refl is in
@@ -75,7 +75,7 @@ events_are (event ∷ events) old new is lead = events_are events lead.0 new (ev
 
 -- the tablet is as it was, or took an operation
 abbrev pub Moves : TabletStateValue → TabletStateValue → Type 0
-Moves t u = (u ≡ t) ⊎ ((op : TabletOp) × (u ≡ stepped t op))
+Moves t u = (u ≡ t) ⊎ ((op : TabletOp) × (u ≡ tablet_after t op))
 
 -- there are as many tablets, and each pair of them fits
 abbrev pub Each : (TabletStateValue → TabletStateValue → Type 0) → List TabletStateValue → List TabletStateValue → Type 0
@@ -101,7 +101,7 @@ each_so R S so [] (u ∷ us) each = absurd each
 each_so R S so (t ∷ ts) [] each = absurd each
 each_so R S so (t ∷ ts) (u ∷ us) each = (so t u each.0, each_so R S so ts us each.1)
 
--- the pair at a place
+-- the pair at an index
 pub each_at : (R : TabletStateValue → TabletStateValue → Type 0) (ts us : List TabletStateValue) (n : ℕ) (t u : TabletStateValue) → Each R ts us → slice_get ts n ≡ Some t → slice_get us n ≡ Some u → R t u
 each_at R [] [] n t u each there there_too = cc
 each_at R [] (v ∷ us) n t u each there there_too = absurd each
@@ -112,7 +112,7 @@ each_at R (s ∷ ts) (v ∷ us) zero t u each there there_too =
     subst (λ (a : TabletStateValue). R a u) same (subst (R s) same_too each.0)
 each_at R (s ∷ ts) (v ∷ us) (suc n) t u each there there_too = each_at R ts us n t u each.1 there there_too
 
-moves_half : (t u : TabletStateValue) (op : TabletOp) → (u ≡ t) ⊎ (u ≡ stepped t op) → Moves t u
+moves_half : (t u : TabletStateValue) (op : TabletOp) → (u ≡ t) ⊎ (u ≡ tablet_after t op) → Moves t u
 moves_half t u op (inl same) = inl same
 moves_half t u op (inr took) = inr (op, took)
 

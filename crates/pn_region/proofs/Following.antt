@@ -10,7 +10,7 @@ use Rattle.std.proofs.lemmas.List.{take_more}
 use Rattle.std.proofs.lemmas.List.Elements.{filter-append}
 use Rattle.std.proofs.lemmas.List.Sums.{fold-append}
 use Rattle.pn_join.specs.Marks.{is_position}
-use Rattle.pn_join.proofs.MarksFacts.{position_of-raised, is_sorted-raised, are_positions-raised}
+use Rattle.pn_join.proofs.MarksFacts.{position_of-raised_marks, is_sorted-raised_marks, are_positions-raised_marks}
 use Rattle.pn_record.proofs.HeldRecords.{same_key}
 use Rattle.pn_stream.specs.Positions.{are_positions as fit}
 use Rattle.pn_tablet.proofs.BoundSteps.{is_so}
@@ -97,7 +97,7 @@ module _ (m : Positions) (d : DeliveryValue) where
   pub mark_more : (name : List ℕ) → position_of (with_deliveries m (d ∷ [])) name ≡ max (position_of m name) (unwrap_or (last_of_stream name d) 0)
   mark_more name =
       elim (brings d) as (λ b. position_of (fold with_delivery m (cond b (d ∷ []) [])) name ≡ max (position_of m name) (unwrap_or (cond (eq_by_cmp name_cmp name d.stream) (cond b (Some (last_position d)) None) None) 0)) [
-        | true ↦ position_of-raised m ((d.stream, last_position d) ∷ []) name
+        | true ↦ position_of-raised_marks m ((d.stream, last_position d) ∷ []) name
         | false ↦ none (eq_by_cmp name_cmp name d.stream)
       ]
     where
@@ -109,7 +109,7 @@ module _ (m : Positions) (d : DeliveryValue) where
 pub marked_rising : (m : Positions) (d : DeliveryValue) → is_sorted name_cmp m ≡ true → is_sorted name_cmp (with_deliveries m (d ∷ [])) ≡ true
 marked_rising m d rising =
     elim (brings d) as (λ b. is_sorted name_cmp (fold with_delivery m (cond b (d ∷ []) [])) ≡ true) [
-      | true ↦ is_sorted-raised m ((d.stream, last_position d) ∷ []) rising
+      | true ↦ is_sorted-raised_marks m ((d.stream, last_position d) ∷ []) rising
       | false ↦ rising
     ]
 
@@ -122,7 +122,7 @@ marked_positions m d lawful own =
     elim (brings d) as (λ b. brings d ≡ b → are_positions (fold with_delivery m (cond b (d ∷ []) [])) ≡ true) [
       | true ↦ λ some.
           let last : is_position (last_position d) ≡ true = grind (arith, nat_tests) in
-          are_positions-raised m ((d.stream, last_position d) ∷ []) lawful (and_from (is_position (last_position d)) true last refl)
+          are_positions-raised_marks m ((d.stream, last_position d) ∷ []) lawful (and_from (is_position (last_position d)) true last refl)
       | false ↦ λ none. lawful
     ] refl
 

@@ -57,9 +57,9 @@ brought before after d some =
 
 -- where all deliveries are taken there is no gap
 no_gap : (ds : List DeliveryValue) (m n : Positions) → marks_after m (with_images ds) ≡ Ok n → HasNoGap m ds
-no_gap ds m n is before d after p place some below =
+no_gap ds m n is before d after p cut some below =
     let parts = in_parts (with_images before) (d ∷ with_images after) m n
-    (ap (marks_after m) (sym (ap with_images place ∙ brought before after d some)) ∙ is) in
+    (ap (marks_after m) (sym (ap with_images cut ∙ brought before after d some)) ∙ is) in
     let passed = accepted (leaves_gap parts.reached d) (gap_of parts.reached d) (marks_after (with_delivery parts.reached d) (with_images after)) n parts.then_on in
     taken_up_to before m parts.reached d.stream p parts.so_far (no_gap_reaches (position_of parts.reached d.stream) d.first p passed.0 below)
   where
@@ -86,7 +86,7 @@ record Met (m : Positions) (ds : List DeliveryValue) (fault : RoundFault) : Type
   delivery : DeliveryValue
   after : List DeliveryValue
   reached : Positions
-  place : ds ≡ before ++ delivery ∷ after
+  parts : ds ≡ before ++ delivery ∷ after
   so_far : marks_after m (with_images before) ≡ Ok reached
   brings_some : brings delivery ≡ true
   leaves : leaves_gap reached delivery ≡ true
@@ -101,7 +101,7 @@ gap_after m next d ds fault on met = record {
   delivery = met.delivery;
   after = met.after;
   reached = met.reached;
-  place = ap (λ (rest : List DeliveryValue). d ∷ rest) met.place;
+  parts = ap (λ (rest : List DeliveryValue). d ∷ rest) met.parts;
   so_far = on met.before met.reached met.so_far;
   brings_some = met.brings_some;
   leaves = met.leaves;
@@ -120,7 +120,7 @@ first_met (d ∷ ds) m fault is =
               delivery = d;
               after = ds;
               reached = m;
-              place = refl;
+              parts = refl;
               so_far = refl;
               brings_some = some;
               leaves = gap;
@@ -153,7 +153,7 @@ met_is_gap m ds stream wanted got met =
       before = met.before;
       delivery = met.delivery;
       after = met.after;
-      place = met.place;
+      parts = met.parts;
       brings = brings_images met.delivery met.brings_some;
       stream_is = stream_is;
       got_is = got_is;

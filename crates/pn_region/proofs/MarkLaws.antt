@@ -3,7 +3,7 @@ use Rattle.std.proofs.Common.{◌≡◌, ℕ, zero, suc, ◌+◌, ◌<◌, ◌�
 use Rattle.std.specs.Prelude.{Contains}
 use Rattle.std.proofs.lemmas.Bool.Decides.{nat_tests}
 use Rattle.std.proofs.lemmas.Cmp.{nat_list_cmp_total, tied_itself}
-use Rattle.pn_join.proofs.MarksFacts.{position_of-raised}
+use Rattle.pn_join.proofs.MarksFacts.{position_of-raised_marks}
 use Rattle.pn_record.proofs.HeldRecords.{tied_keys}
 use Rattle.pn_region.specs.Laws.{HasPosition}
 use Rattle.pn_region.specs.Marking.{brings}
@@ -63,7 +63,7 @@ one_position m d ds name p joins below within =
     elim (eq_by_cmp name_cmp name d.stream) as (λ b. eq_by_cmp name_cmp name d.stream ≡ b → position_of (with_delivery m d) name ≡ max (position_of m name) (unwrap_or (cond b (Some (last_position d)) None) 0) → HasPosition (d ∷ ds) name p) [
       | true ↦ λ tied most. own_position m d ds name p (sym (tied_keys name d.stream tied)) joins below (omega (arith, below, within, most))
       | false ↦ λ apart most. absurd (omega (arith, below, within, most))
-    ] refl (position_of-raised m ((d.stream, last_position d) ∷ []) name)
+    ] refl (position_of-raised_marks m ((d.stream, last_position d) ∷ []) name)
 
 -- each position that marks have gone past is in a delivery
 pub none_skipped : (ds : List DeliveryValue) (m next : Positions) (name : List ℕ) (p : ℕ) → marks_after m (with_images ds) ≡ Ok next → position_of m name < p → p ≤ position_of next name → HasPosition ds name p
@@ -85,12 +85,12 @@ pub not_skipped : (marks next : Positions) (deliveries : List DeliveryValue) (na
 not_skipped marks next deliveries name p is below within = none_skipped deliveries marks next name p (few (marks_after marks (with_images deliveries)) next is) below within
 
 marked_reach : (m : Positions) (d : DeliveryValue) → Reaches (with_delivery m d) m
-marked_reach m d name = omega (arith, position_of-raised m ((d.stream, last_position d) ∷ []) name)
+marked_reach m d name = omega (arith, position_of-raised_marks m ((d.stream, last_position d) ∷ []) name)
 
 marked_last : (m : Positions) (d : DeliveryValue) → last_position d ≤ position_of (with_delivery m d) d.stream
 marked_last m d =
     let own : unwrap_or (cond (eq_by_cmp name_cmp d.stream d.stream) (Some (last_position d)) None) 0 ≡ last_position d = ap (λ r. unwrap_or (cond (is_eq r) (Some (last_position d)) None) 0) (tied_itself nat_list_cmp_total d.stream) in
-    omega (arith, own, position_of-raised m ((d.stream, last_position d) ∷ []) d.stream)
+    omega (arith, own, position_of-raised_marks m ((d.stream, last_position d) ∷ []) d.stream)
 
 -- marks never fall
 pub never_fall : (ds : List DeliveryValue) (m next : Positions) → marks_after m (with_images ds) ≡ Ok next → Reaches next m

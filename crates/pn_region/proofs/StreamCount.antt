@@ -9,7 +9,7 @@ use Rattle.std.proofs.lemmas.List.Folds.{list_any-append}
 use Rattle.std.proofs.lemmas.Map.Keys.{IsDistinct-cons}
 use Rattle.std.proofs.lemmas.Map.Made.{length-from_keys}
 use Rattle.pn_join.specs.Tables.{optional_joined}
-use Rattle.pn_join.proofs.MarksFacts.{find-raised, is_sorted-raised}
+use Rattle.pn_join.proofs.MarksFacts.{find-raised_marks, is_sorted-raised_marks}
 use Rattle.pn_join.proofs.Rising.{Below, Rising, Rising-from_sorted}
 use Rattle.pn_tablet.specs.Refusals.{Refuses}
 use Rattle.pn_region.proofs.Common.{Ok, Err, AllByRecursion, eq_by_cmp, find, is_sorted, Positions, name_cmp, DeliveryValue, with_images, last_position, with_delivery, leaves_gap, marks_after, of_few_streams, new_marks, RoundFault, Gap, TooManyStreams, Memory}
@@ -50,12 +50,12 @@ either_side false b c = refl
 one_more : (m : Positions) (d : DeliveryValue) (name : List ℕ) → has_name (names_of (with_delivery m d)) name ≡ (has_name (names_of m) name || eq_by_cmp name_cmp name d.stream)
 one_more m d name =
     sym (is_some-find name_cmp name (with_delivery m d))
-    ∙ ap is_some (find-raised m ((d.stream, last_position d) ∷ []) name)
+    ∙ ap is_some (find-raised_marks m ((d.stream, last_position d) ∷ []) name)
     ∙ joined_is (find name_cmp name m) (eq_by_cmp name_cmp name d.stream) (last_position d)
     ∙ ap (λ b. b || eq_by_cmp name_cmp name d.stream) (is_some-find name_cmp name m)
 
 marked_rises : (m : Positions) (d : DeliveryValue) → IsTrue (is_sorted name_cmp m) → IsTrue (is_sorted name_cmp (with_delivery m d))
-marked_rises m d rising = is_sorted-raised m ((d.stream, last_position d) ∷ []) rising
+marked_rises m d rising = is_sorted-raised_marks m ((d.stream, last_position d) ∷ []) rising
 
 -- marks that rise do so after deliveries
 still_rise : (ds : List DeliveryValue) (m next : Positions) → IsTrue (is_sorted name_cmp m) → marks_after m ds ≡ Ok next → IsTrue (is_sorted name_cmp next)

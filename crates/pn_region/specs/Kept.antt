@@ -2,8 +2,8 @@
 use Rattle.std.specs.Prelude.{◌≡◌, ◌⊎◌, ℕ, suc, ◌≤◌, min, List, [], ◌∷◌, ◌++◌, length}
 use Rattle.circular_buffer.specs.Buffer.{Buffer, keep_last}
 use Rattle.pn_tablet.specs.declared.change.Change.{Change}
-use Rattle.pn_region.specs.declared.entry.Entry.{Entry}
-use Rattle.pn_region.specs.declared.entry.Entry.TheVariants.{Changed, Break}
+use Rattle.pn_region.specs.declared.notices.Entry.{Entry}
+use Rattle.pn_region.specs.declared.notices.Entry.TheVariants.{Changed, Break}
 use Rattle.pn_region.specs.declared.notices.TheConstants.{MAX_NOTICES, LAST_NUMBER}
 use Rattle.pn_region.specs.Log.{entries_of}
 

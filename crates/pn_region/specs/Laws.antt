@@ -70,7 +70,7 @@ pub record IsGap (marks : Positions) (deliveries : List DeliveryValue) (stream :
   pub before : List DeliveryValue
   pub delivery : DeliveryValue
   pub after : List DeliveryValue
-  pub place : deliveries ≡ before ++ delivery ∷ after
+  pub parts : deliveries ≡ before ++ delivery ∷ after
   pub brings : 0 < length delivery.images
   pub stream_is : stream ≡ delivery.stream
   pub got_is : got ≡ delivery.first

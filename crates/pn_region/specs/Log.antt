@@ -1,10 +1,10 @@
 -- The answers of a log.
 use Rattle.std.specs.Prelude.{ℕ, ◌+◌, min, nat_le, Bool, ◌&&◌, if◌then◌else◌, List, [], ◌∷◌, length, drop, map, Option, None, Some, option_map}
 use Rattle.pn_tablet.specs.declared.change.Change.{Change}
-use Rattle.pn_region.specs.declared.entry.Entry.{Entry}
-use Rattle.pn_region.specs.declared.entry.Entry.TheVariants.{Changed, Break}
+use Rattle.pn_region.specs.declared.notices.Entry.{Entry}
+use Rattle.pn_region.specs.declared.notices.Entry.TheVariants.{Changed, Break}
 use Rattle.pn_region.specs.declared.notices.TheConstants.{MAX_NOTICES, LAST_NUMBER}
-use Rattle.pn_region.specs.declared.since.Notice.{Notice}
+use Rattle.pn_region.specs.declared.notices.Notice.{Notice}
 
 -- an entry for each change
 abbrev pub entries_of : List Change → List Entry

@@ -4,8 +4,8 @@ use Rattle.pn_tablet.specs.Changes.{changes}
 use Rattle.pn_tablet.specs.Layouts.{Bounds}
 use Rattle.pn_region.specs.Log.{entries_of}
 use Rattle.pn_region.specs.Regions.{RegionValue, new_region, all_cells}
-use Rattle.pn_region.specs.declared.entry.Entry.{Entry}
-use Rattle.pn_region.specs.declared.entry.Entry.TheVariants.{Break}
+use Rattle.pn_region.specs.declared.notices.Entry.{Entry}
+use Rattle.pn_region.specs.declared.notices.Entry.TheVariants.{Break}
 use Rattle.pn_region.specs.declared.fault.RoundFault.{RoundFault}
 use Rattle.pn_region.specs.declared.fault.RoundFault.TheVariants.{Memory}
 

@@ -1,7 +1,7 @@
 -- The marks of streams after deliveries.
 use Rattle.std.specs.Prelude.{ℕ, ◌+◌, pred, Bool, true, false, not, nat_eq, nat_lt, if◌then◌else◌, List, [], ◌∷◌, length, filter, fold, Option, Some, None, Result, Ok, Err}
 use Rattle.std.specs.Ordering.{eq_by_cmp}
-use Rattle.pn_join.specs.Marks.{Positions, name_cmp, position_of, raised}
+use Rattle.pn_join.specs.Marks.{Positions, name_cmp, position_of, raised_marks}
 use Rattle.pn_stream.specs.Positions.{DeliveryValue}
 use Rattle.pn_region.specs.declared.marking.TheConstants.{MAX_STREAMS}
 use Rattle.pn_region.specs.declared.fault.RoundFault.{RoundFault}
@@ -29,7 +29,7 @@ last_of_stream stream delivery = if eq_by_cmp name_cmp stream delivery.stream th
 
 -- the marks after a delivery: its stream is taken up to the greater of its mark and the last position
 abbrev pub with_delivery : Positions → DeliveryValue → Positions
-with_delivery marks delivery = raised marks ((delivery.stream, last_position delivery) ∷ [])
+with_delivery marks delivery = raised_marks marks ((delivery.stream, last_position delivery) ∷ [])
 
 -- the marks after deliveries, whether or not there is a gap between them
 abbrev pub with_deliveries : Positions → List DeliveryValue → Positions

@@ -1,4 +1,4 @@
--- The names that contracts of the crates above cite, passed on from one place. Declares nothing.
+-- The names that contracts of the crates above cite, passed on by one module. Declares nothing.
 pub use Rattle.pn_region.specs.Events.{AreHonestEvents}
 pub use Rattle.pn_region.specs.Held.{HoldsStill}
 pub use Rattle.pn_region.specs.Honest.{IsHonestCopy}

@@ -1,7 +1,7 @@
 -- Regions after a change of layout.
 use Rattle.std.specs.Prelude.{ℕ, Bool, true, false, List, [], ◌∷◌, map, filter, fold, Option, None, Some, Result, Ok, Err}
 use Rattle.std.specs.List.{flat_map, position}
-use Rattle.pn_join.specs.Marks.{Positions, least, raised}
+use Rattle.pn_join.specs.Marks.{Positions, least_marks, raised_marks}
 use Rattle.pn_tablet.specs.Layouts.{Bounds}
 use Rattle.pn_tablet.specs.Ranges.{Ends, in_range, meet}
 use Rattle.pn_tablet.specs.Tablets.{TabletStateValue}
@@ -19,11 +19,11 @@ parts_of tablets range = filter (λ tablet. meet tablet.range range) tablets
 -- per stream the least of the covers
 abbrev pub least_cover : List TabletStateValue → Positions
 least_cover [] = []
-least_cover (tablet ∷ tablets) = fold (λ cover part. least cover part.cover) tablet.cover tablets
+least_cover (tablet ∷ tablets) = fold (λ cover part. least_marks cover part.cover) tablet.cover tablets
 
 -- per stream the greatest of the reaches
 abbrev pub greatest_reach : List TabletStateValue → Positions
-greatest_reach tablets = fold (λ reach part. raised reach part.reach) [] tablets
+greatest_reach tablets = fold (λ reach part. raised_marks reach part.reach) [] tablets
 
 -- the tablet that serves a range with the records of the old ones
 abbrev pub made_of : List TabletStateValue → Ends → TabletStateValue

@@ -1,8 +1,8 @@
 -- The answer of a log after a number.
 use Rattle.std.specs.Prelude.{◌≡◌, ℕ, List, None, Some, option_map}
-use Rattle.pn_region.specs.declared.entry.Entry.{Entry}
-use Rattle.pn_region.specs.declared.since.Since.{Since}
-use Rattle.pn_region.specs.declared.since.Since.TheVariants.{Notices, Missed}
+use Rattle.pn_region.specs.declared.notices.Entry.{Entry}
+use Rattle.pn_region.specs.declared.notices.Since.{Since}
+use Rattle.pn_region.specs.declared.notices.Since.TheVariants.{Notices, Missed}
 use Rattle.pn_region.specs.Log.{changes_after, notices_from, last_of}
 
 -- the notices after the number, or that they were missed; and the last number

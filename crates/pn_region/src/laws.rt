@@ -6,8 +6,8 @@ ghost use Rattle.pn_join.specs.Prelude.{Positions, Reaches, name_cmp, position_o
 ghost use Rattle.pn_record.specs.declared.image.Image.{Image};
 ghost use Rattle.pn_record.specs.Prelude.{bytes_cmp, table_of, NotOlder};
 ghost use Rattle.pn_stream.specs.Prelude.{BrokerRecord, AreHonest, up_to, DeliveryValue};
-ghost use Rattle.pn_tablet.specs.Prelude.{Bounds, IsLayout, tablet_of, TabletCopyValue, copy_of, IsSpelled, lost, step, TabletStateValue};
-ghost use Rattle.pn_tablet.specs.declared.op.TabletOp.TheVariants.{Adopt};
+ghost use Rattle.pn_tablet.specs.Prelude.{Bounds, IsLayout, tablet_of, TabletCopyValue, copy_of, IsSpelled, recovering_tablet, step, TabletStateValue};
+ghost use Rattle.pn_tablet.specs.declared.state.TabletOp.TheVariants.{Adopt};
 ghost use Rattle.pn_tablet.specs.declared.state.Status.TheVariants.{Serving};
 ghost use Rattle.pn_apply.specs.Prelude.{all_images, images_in};
 ghost use Rattle.pn_region.specs.Faith.{IsFaithful, AreFaithful};
@@ -16,7 +16,9 @@ ghost use Rattle.pn_region.specs.Laws.{AreIn, HasImages, HasBetween, HasNoGap, H
 ghost use Rattle.pn_region.specs.declared.marking.TheConstants.{MAX_STREAMS};
 ghost use Rattle.pn_region.specs.Marking.{last_position, new_marks};
 ghost use Rattle.pn_region.specs.Regions.{RegionValue, IsRegion, new_region, all_cells};
+ghost use Rattle.pn_region.specs.Relayouts.{after_relayout};
 ghost use Rattle.pn_region.specs.Rounds.{after_joins, IsHalfTaken};
+ghost use Rattle.pn_region.specs.Serving.{AllServe};
 ghost use Rattle.pn_region.specs.declared.fault.RoundFault.TheVariants.{Gap, TooManyStreams, Memory};
 
 /// A new region is a region, and has the cells of no image.
@@ -157,7 +159,7 @@ pub fn marks_tell_what_was_taken()
 /// A faithful tablet that serves, and whose cover is its reach, has the cells of all images in its range up to there.
 /// The copies that a faithful tablet gives are honest.
 pub fn honest_copies_keep_tablets_faithful()
-    ensures lost { (broker : BrokerRecord) (tablet : TabletStateValue) → Reaches tablet.reach tablet.cover → IsFaithful broker (lost tablet) }
+    ensures recovering_tablet { (broker : BrokerRecord) (tablet : TabletStateValue) → Reaches tablet.reach tablet.cover → IsFaithful broker (recovering_tablet tablet) }
     ensures adopted { (broker : BrokerRecord) (tablet after : TabletStateValue) (copy : TabletCopyValue)
         → IsFaithful broker tablet → IsHonestCopy broker copy → step tablet (Adopt copy) ≡ Ok after
         → IsFaithful broker after }
@@ -166,4 +168,12 @@ pub fn honest_copies_keep_tablets_faithful()
         → tablet.cells ≡ table_of (images_in tablet.range (up_to broker tablet.cover)) }
     ensures given { (broker : BrokerRecord) (tablet : TabletStateValue) (need : Positions) (copy : TabletCopyValue)
         → IsFaithful broker tablet → copy_of tablet need ≡ Ok copy → IsHonestCopy broker copy }
+{}
+
+/// A change of layout leaves the records of all tablets together as they were. All tablets serve before and after it.
+pub fn a_change_of_layout_keeps_all_records()
+    ensures cells { (old new : RegionValue) (bounds : Bounds) → IsRegion old → IsLayout bounds → after_relayout old bounds ≡ Ok new
+        → all_cells new ≡ all_cells old }
+    ensures served { (old new : RegionValue) (bounds : Bounds) → after_relayout old bounds ≡ Ok new → AllServe old }
+    ensures serve { (old new : RegionValue) (bounds : Bounds) → after_relayout old bounds ≡ Ok new → AllServe new }
 {}

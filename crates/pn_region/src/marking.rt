@@ -28,7 +28,7 @@ pub fn next_marks(marks: &Marks, deliveries: &[Delivery]) -> Result<Marks, Round
     ensures few { IfOk result (λ next. length next ≤ MAX_STREAMS) }
 {
     check(marks, deliveries)?;
-    Ok(followed(marks, deliveries)?)
+    Ok(raise_all(marks, deliveries)?)
 }
 
 // The first fault of the deliveries: a gap, or else too many streams.
@@ -39,8 +39,8 @@ fn check(marks: &Marks, deliveries: &[Delivery]) -> Result<(), RoundFault>
     ensures refused { IfErr result (λ fault. new_marks marks.now deliveries.now ≡ Err fault) }
 {
     let mut streams = marks.len();
-    for (place, delivery) in deliveries.iter().enumerate() {
-        let is_new = is_new_stream(marks, &deliveries[..place], delivery)?;
+    for (index, delivery) in deliveries.iter().enumerate() {
+        let is_new = is_new_stream(marks, &deliveries[..index], delivery)?;
         streams = streams.saturating_add(usize::from(is_new));
     }
     if streams > MAX_STREAMS {
@@ -71,11 +71,8 @@ fn is_new_stream(
     let mark = mark_after(marks, before, delivery.stream());
     let first = delivery.first();
     if mark < first - 1 {
-        let Ok(stream) = delivery.stream().dup() else {
-            unreachable!()
-        };
         return Err(RoundFault::Gap {
-            stream,
+            stream: *delivery.stream(),
             wanted: mark + 1,
             got: first,
         });
@@ -117,20 +114,20 @@ fn last_of(delivery: &Delivery) -> Option<u64>
 }
 
 // The marks after deliveries without a gap between them.
-fn followed(marks: &Marks, deliveries: &[Delivery]) -> Result<Marks, NoMemory>
+fn raise_all(marks: &Marks, deliveries: &[Delivery]) -> Result<Marks, NoMemory>
     requires { IsTrue (are_positions marks.now) }
     ensures ok { IfOk result (λ next. next ≡ with_deliveries marks.now deliveries.now) }
     ensures positions { IfOk result (λ next. IsTrue (are_positions next)) }
 {
     let mut next = marks.dup()?;
     for delivery in deliveries {
-        follow(&mut next, delivery)?;
+        raise_by(&mut next, delivery)?;
     }
     Ok(next)
 }
 
 // Raises the mark of the delivery's stream.
-fn follow(marks: &mut Marks, delivery: &Delivery) -> Result<(), NoMemory>
+fn raise_by(marks: &mut Marks, delivery: &Delivery) -> Result<(), NoMemory>
     requires { IsTrue (are_positions marks.old) }
     ensures ok { OnOk result (marks.new ≡ with_deliveries marks.old (delivery.now ∷ [])) }
     ensures positions { OnOk result (IsTrue (are_positions marks.new)) }
@@ -138,6 +135,6 @@ fn follow(marks: &mut Marks, delivery: &Delivery) -> Result<(), NoMemory>
     let Some(last) = last_of(delivery) else {
         return Ok(());
     };
-    raise_at(marks, delivery.stream().dup()?, last)?;
+    raise_at(marks, *delivery.stream(), last)?;
     Ok(())
 }

@@ -2,8 +2,8 @@
 
 ghost use Rattle.std.specs.Prelude.{◌≡◌, ℕ, ◌+◌, ◌≤◌, ◌<◌, List, ◌∷◌, ◌++◌, length, drop, None, Some, Contains};
 ghost use Rattle.pn_tablet.specs.declared.change.Change.{Change};
-ghost use Rattle.pn_region.specs.declared.entry.Entry.{Entry};
-ghost use Rattle.pn_region.specs.declared.entry.Entry.TheVariants.{Break};
+ghost use Rattle.pn_region.specs.declared.notices.Entry.{Entry};
+ghost use Rattle.pn_region.specs.declared.notices.Entry.TheVariants.{Break};
 ghost use Rattle.pn_region.specs.declared.notices.TheConstants.{MAX_NOTICES, LAST_NUMBER};
 ghost use Rattle.pn_region.specs.Log.{entries_of, changes_after, notices_from, last_of};
 

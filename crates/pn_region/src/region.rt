@@ -18,6 +18,7 @@ mod recovery;
 mod relayout;
 
 use crate::{Log, RoundFault, Since, next_marks};
+pub use parts::recall_soundness;
 use pn_apply::{Gate, apply_all, reduce_owned};
 use pn_join::{Dup, Marks, NoMemory};
 use pn_stream::Delivery;
@@ -116,18 +117,10 @@ impl Region {
         &self.tablets
     }
 
-    /// Takes deliveries, in order; those without images are passed over. There are 1 to 16 workers, whose number
-    /// does not change the answer.
+    /// Takes deliveries, in order, by 1 to 16 workers, each of which enters the gate before each of its tablets.
     ///
-    /// A worker enters the gate before each of its tablets.
-    ///
-    /// `Gap` comes exactly where a delivery begins more than one past its stream's mark, and names the first;
-    /// else `TooManyStreams` exactly where there would be more than 16 streams.
-    ///
-    /// Both change nothing. After `Memory` each tablet is as it was or has taken its part, and at least one is
-    /// as it was; the marks are as they were.
-    ///
-    /// A round adds its changes to the log, in key order, or a break if it ran out of memory.
+    /// `Gap` names the first delivery that begins past its stream's next position; else `TooManyStreams` comes. Both
+    /// change nothing. After `Memory` some tablets have taken their parts, and the log has a break.
     pub fn round<R: Threads + Sync, G: Gate + Sync>(
         &mut self,
         rt: &R,
@@ -146,7 +139,7 @@ impl Region {
     {
         match self.take(rt, deliveries, workers, gate) {
             Ok(lists) => {
-                let changed = count_of(&lists) as u64;
+                let changed = count_changes(&lists) as u64;
                 self.log.add(lists);
                 Ok(Round { changed })
             }
@@ -271,7 +264,7 @@ fn joined_count(join: &TabletOp) -> usize
 }
 
 // How many changes the lists have together.
-fn count_of(lists: &[Vec<Change>]) -> usize
+fn count_changes(lists: &[Vec<Change>]) -> usize
     requires { length (flat_map (λ list. list.items) lists.now) < 2 ^ 64 }
     ensures { result ≡ length (flat_map (λ list. list.items) lists.now) }
 {

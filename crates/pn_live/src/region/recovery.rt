@@ -4,7 +4,7 @@ ghost use Rattle.std.specs.Prelude.{◌≡◌, ◌≤◌, length, slice_get, Ok,
 ghost use Rattle.std.specs.List.{position};
 ghost use Rattle.pn_tablet.specs.Prelude.{HasPositions, Refuses, step, same_range};
 ghost use Rattle.pn_tablet.specs.Steps.{is_memory};
-ghost use Rattle.pn_tablet.specs.declared.op.TabletOp.TheVariants.{Lose};
+ghost use Rattle.pn_tablet.specs.declared.state.TabletOp.TheVariants.{Lose};
 ghost use Rattle.pn_region.specs.Prelude.{after_loss, after_op, after_adoption, IsRegion, IsSince};
 ghost use Rattle.pn_live.specs.LiveRegions.{core, tablets_in};
 ghost use Rattle.pn_live.specs.PublishedTablets.{state_at, notes_of};
@@ -12,8 +12,9 @@ ghost use Rattle.pn_live.specs.Readers.{AreNotesOf};
 ghost use Rattle.pn_live.specs.Recovery.{after_op_at, Adopts};
 
 use super::LiveRegion;
-use super::publishing::front_of;
+use super::rounds::front_of;
 use crate::front::Front;
+use crate::publication_order::PublicationOrder;
 use pn_join::NoMemory;
 use pn_region::{AdoptFault, Since};
 use pn_tablet::{Range, TabletCopy, TabletOp, TabletState};
@@ -102,7 +103,8 @@ impl LiveRegion {
         ensures same { tablets_in self.new ≡ tablets_in self.old }
     {
         let notes = Vec::with_capacity(self.alloc, self.tablets.len())?;
-        self.tablets[number].publish(rt, next, operation);
+        let mut order = PublicationOrder::new();
+        self.tablets[number].publish(rt, next, operation, &mut order);
         self.log.cut();
         Ok(front_of(notes, &self.tablets))
     }

@@ -34,7 +34,7 @@ impl Region {
         ensures marks { result.state.marks ≡ marks }
         ensures log { result.log ≡ log }
     {
-        are_sound(&layout, &tablets);
+        recall_all(&layout, &tablets);
         Region {
             layout,
             tablets,
@@ -45,18 +45,20 @@ impl Region {
     }
 }
 
-// Does nothing: its clauses are what every layout and every tablet keeps.
-fn are_sound(layout: &Layout, tablets: &[TabletState])
+// Recalls for the prover that a layout is lawful and tablets are sound.
+fn recall_all(layout: &Layout, tablets: &[TabletState])
     ensures lawful { IsLayout layout.now }
     ensures sound { AllByRecursion IsSound tablets.now }
 {
     let _ = layout.count();
     for tablet in tablets {
-        is_sound(tablet);
+        recall_soundness(tablet);
     }
 }
 
-fn is_sound(tablet: &TabletState)
+/// Recalls for the prover that a tablet is sound: its keys lie in its range, its cells are those of images, and its
+/// reach reaches its cover.
+pub fn recall_soundness(tablet: &TabletState)
     ensures { IsSound tablet.now }
 {
     let _ = tablet.range();

@@ -27,8 +27,8 @@ publish-requires-clause-next g c =
 pub invariant_of-self : goal.invariant_of-self
 invariant_of-self g c =
     let inside = c.self.inside in
-    let old : LiveRegionValue = record { layout = inside.layout; tablets = inside.tablets.items; marks = inside.marks; log = inside.log } in
-    let is = set_appended inside.tablets.items c.args.number c.index_mut.result.now c.publish.new.self c.args.operation c.index_mut.ensures.value c.publish.ensures in
+    let old : LiveRegionValue = record { layout = inside.layout; tablets = inside.tablets.items; marks = inside.marks; log = inside.log; order = inside.order } in
+    let is = set_appended inside.tablets.items c.args.number c.index_mut.result.now c.publish.new.self c.args.operation c.index_mut.ensures.value c.publish.ensures.list in
     lawful_after old c.args.number c.args.operation _ is inside.log c.self.invariant
     (subst (λ (l : LiveRegionValue). IsRegion (after_op (core l) c.args.number c.args.operation)) (sym c.self.view_is) c.requires.region)
 
@@ -37,8 +37,8 @@ returns g c =
     let n = c.args.number in
     let op = c.args.operation in
     let inside = c.self.inside in
-    let old : LiveRegionValue = record { layout = inside.layout; tablets = inside.tablets.items; marks = inside.marks; log = inside.log } in
-    let is = set_appended inside.tablets.items n c.index_mut.result.now c.publish.new.self op c.index_mut.ensures.value c.publish.ensures in
+    let old : LiveRegionValue = record { layout = inside.layout; tablets = inside.tablets.items; marks = inside.marks; log = inside.log; order = inside.order } in
+    let is = set_appended inside.tablets.items n c.index_mut.result.now c.publish.new.self op c.index_mut.ensures.value c.publish.ensures.list in
     let front = c.front_of.ensures ∙ ap notes_of c.deref.ensures.value in
     record {
       ok = live_after old n op _ is _ c.cut.ensures ∙ ap (λ (l : LiveRegionValue). after_op_at l n op) c.self.view_is;

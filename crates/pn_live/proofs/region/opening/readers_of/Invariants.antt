@@ -9,5 +9,5 @@ invariant-loop l = record {
   readers : AllByRecursion (λ reader. (reader.layout ≡ l.layout) × (reader.tablet_readers ≡ map new_reader_of l.fn.tablets)) l.readers.items;
   same : l.tablets ≡ l.fn.tablets;
   count : length l.readers.items ≡ l.counter;
-  room : vec_capacity l.readers ≡ l.fn.count;
+  capacity : vec_capacity l.readers ≡ l.fn.count;
 }

@@ -7,5 +7,5 @@ abbrev pub invariant-loop-number : goal.invariant-loop-number
 invariant-loop-number l = record {
   tablet_readers : l.tablet_readers.items ≡ map new_reader_of (take l.number l.fn.tablets);
   same : l.tablets ≡ l.fn.tablets;
-  room : vec_capacity l.tablet_readers ≡ length l.fn.tablets;
+  capacity : vec_capacity l.tablet_readers ≡ length l.fn.tablets;
 }
