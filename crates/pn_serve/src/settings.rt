@@ -37,8 +37,7 @@ impl Settings {
         if workers < 1 || workers > MAX_WORKERS {
             return None;
         }
-        // (shows that the layout is lawful)
-        let _ = layout.count();
+        layout.recall_order();
         Some(Settings { layout, workers })
     }
 

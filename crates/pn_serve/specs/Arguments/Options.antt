@@ -32,9 +32,13 @@ sessions_option = number_option (codes "sessions") (codes "4") MAX_READERS
 abbrev pub port_option : Rule
 port_option = number_option (codes "port") (codes "7070") MAX_PORT
 
+-- an option without value
+abbrev pub flag_option : Text → Rule
+flag_option name = record (new_rule name) { long = Some name; action = Some SetTrue }
+
 -- whether the program goes on until a signal ends it
 abbrev pub stay_flag : Rule
-stay_flag = record (new_rule (codes "stay")) { long = Some (codes "stay"); action = Some SetTrue }
+stay_flag = flag_option (codes "stay")
 
 -- the address that is listened at
 abbrev pub listen_option : Rule
@@ -54,7 +58,7 @@ idle_option = plain_option (codes "idle") (values.Signed (pos 1) (pos MAX_IDLE))
 
 -- whether progress is written to standard error
 abbrev pub progress_flag : Rule
-progress_flag = record (new_rule (codes "progress")) { long = Some (codes "progress"); action = Some SetTrue }
+progress_flag = flag_option (codes "progress")
 
 -- how many connections are served at once
 abbrev pub connections_option : Rule

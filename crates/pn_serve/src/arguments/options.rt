@@ -4,7 +4,7 @@ ghost use Rattle.std.specs.Prelude.{◌≡◌, ◌≤◌, ℕ, List, [], None, S
 ghost use Rattle.clap.specs.Words.{Row, Text, app_of, first_of, found_of, one_of, rows_of, rule_of};
 ghost use Rattle.clap.specs.declared.builder.command.Command.TheViews.{out-Command};
 ghost use Rattle.clap.specs.declared.builder.value_parser.ValueParser.TheVariants as values;
-ghost use Rattle.pn_serve.specs.Arguments.Options.{bounds_option, connections_option, idle_option, listen_option, port_option, program, progress_flag, replay as replay_app, serve as serve_app, sessions_option, socket_option, stay_flag, streams_words, workers_option};
+ghost use Rattle.pn_serve.specs.Arguments.Options.{bounds_option, flag_option, number_option, option_of, plain_option, program, replay as replay_app, serve as serve_app, streams_words, workers_option};
 ghost use Rattle.pn_serve.specs.Arguments.Commands.{number_at, number_in};
 
 use clap::builder::ValueParser;
@@ -44,6 +44,31 @@ Examples:
   pnuts serve --stay --connections 64 --listen ::1 --port 7071 east=/run/pnuts/east
   pnuts serve --stay --socket /run/pnuts/socket --idle 60 --progress east=/run/pnuts/east";
 
+const BOUNDS_HELP: &str =
+    "The keys that divide all keys into tablets: a JSON array of up to 63, each less than the next";
+
+const WORKERS_HELP: &str = "How many threads work a round: 1 to 16";
+
+const SESSIONS_HELP: &str = "How many sessions are served: 1 to 16";
+
+const LISTEN_HELP: &str = "The address that is listened at, of IPv4 or IPv6";
+
+const PORT_HELP: &str = "The port that is listened on";
+
+const SOCKET_HELP: &str =
+    "A Unix socket that is listened on in place of a port; only its owner may connect";
+
+const STAY_HELP: &str =
+    "Goes on until a signal ends it, and opens a FIFO again once its writer is gone";
+
+const CONNECTIONS_HELP: &str = "With --stay: how many connections are served at once: 1 to 65536";
+
+const IDLE_HELP: &str =
+    "Ends a client that sends nothing and takes nothing for so long: 1 to 86400";
+
+const PROGRESS_HELP: &str =
+    "Says on standard error how far it is, once a second while something changes";
+
 /// The program's commands and options.
 pub(crate) fn command<'w>(alloc: Global) -> Result<Command<'w>, AllocError>
     ensures { IfOk result (λ command. app_of command ≡ program) }
@@ -79,14 +104,34 @@ fn serve<'w>(alloc: Global) -> Result<Command<'w>, AllocError>
         .after_help(SERVE_EXAMPLES)
         .arg(bounds(alloc))?
         .arg(workers(alloc))?
-        .arg(sessions(alloc))?
-        .arg(listen(alloc))?
-        .arg(port(alloc))?
-        .arg(socket(alloc))?
-        .arg(stay(alloc))?
-        .arg(connections(alloc))?
-        .arg(idle(alloc))?
-        .arg(progress(alloc))?
+        .arg(number(
+            alloc,
+            "sessions",
+            "N",
+            "4",
+            MAX_READERS as u32,
+            SESSIONS_HELP,
+        ))?
+        .arg(option(alloc, "listen", "ADDRESS", "127.0.0.1", LISTEN_HELP))?
+        .arg(number(alloc, "port", "P", "7070", MAX_PORT, PORT_HELP))?
+        .arg(plain(
+            alloc,
+            "socket",
+            "PATH",
+            ValueParser::NonEmptyString,
+            SOCKET_HELP,
+        ))?
+        .arg(flag(alloc, "stay", STAY_HELP))?
+        .arg(number(
+            alloc,
+            "connections",
+            "N",
+            "1024",
+            MAX_CONNECTIONS,
+            CONNECTIONS_HELP,
+        ))?
+        .arg(plain(alloc, "idle", "SECONDS", up_to(MAX_IDLE), IDLE_HELP))?
+        .arg(flag(alloc, "progress", PROGRESS_HELP))?
         .arg(streams(alloc))
 }
 
@@ -94,116 +139,17 @@ fn bounds<'w>(alloc: Global) -> Arg<'w>
     ensures rule { rule_of result ≡ bounds_option }
     ensures local { result.global ≡ false }
 {
-    Arg::new(alloc, "bounds")
-        .long("bounds")
-        .value_name("JSON")
-        .default_value("[]")
-        .help(
-            "The keys that divide all keys into tablets: a JSON array of up to 63, each less than the next",
-        )
+    option(alloc, "bounds", "JSON", "[]", BOUNDS_HELP)
 }
 
 fn workers<'w>(alloc: Global) -> Arg<'w>
     ensures rule { rule_of result ≡ workers_option }
     ensures local { result.global ≡ false }
 {
-    Arg::new(alloc, "workers")
-        .long("workers")
-        .value_name("N")
-        .default_value("1")
-        .value_parser(up_to(MAX_WORKERS as u32))
-        .help("How many threads work a round: 1 to 16")
+    number(alloc, "workers", "N", "1", MAX_WORKERS as u32, WORKERS_HELP)
 }
 
-fn sessions<'w>(alloc: Global) -> Arg<'w>
-    ensures rule { rule_of result ≡ sessions_option }
-    ensures local { result.global ≡ false }
-{
-    Arg::new(alloc, "sessions")
-        .long("sessions")
-        .value_name("N")
-        .default_value("4")
-        .value_parser(up_to(MAX_READERS as u32))
-        .help("How many sessions are served: 1 to 16")
-}
-
-fn listen<'w>(alloc: Global) -> Arg<'w>
-    ensures rule { rule_of result ≡ listen_option }
-    ensures local { result.global ≡ false }
-{
-    Arg::new(alloc, "listen")
-        .long("listen")
-        .value_name("ADDRESS")
-        .default_value("127.0.0.1")
-        .help("The address that is listened at, of IPv4 or IPv6")
-}
-
-fn port<'w>(alloc: Global) -> Arg<'w>
-    ensures rule { rule_of result ≡ port_option }
-    ensures local { result.global ≡ false }
-{
-    Arg::new(alloc, "port")
-        .long("port")
-        .value_name("P")
-        .default_value("7070")
-        .value_parser(up_to(MAX_PORT))
-        .help("The port that is listened on")
-}
-
-fn socket<'w>(alloc: Global) -> Arg<'w>
-    ensures rule { rule_of result ≡ socket_option }
-    ensures local { result.global ≡ false }
-{
-    Arg::new(alloc, "socket")
-        .long("socket")
-        .value_name("PATH")
-        .value_parser(ValueParser::NonEmptyString)
-        .help("A Unix socket that is listened on in place of a port; only its owner may connect")
-}
-
-fn stay<'w>(alloc: Global) -> Arg<'w>
-    ensures rule { rule_of result ≡ stay_flag }
-    ensures local { result.global ≡ false }
-{
-    Arg::new(alloc, "stay")
-        .long("stay")
-        .action(ArgAction::SetTrue)
-        .help("Goes on until a signal ends it, and opens a FIFO again once its writer is gone")
-}
-
-fn connections<'w>(alloc: Global) -> Arg<'w>
-    ensures rule { rule_of result ≡ connections_option }
-    ensures local { result.global ≡ false }
-{
-    Arg::new(alloc, "connections")
-        .long("connections")
-        .value_name("N")
-        .default_value("1024")
-        .value_parser(up_to(MAX_CONNECTIONS))
-        .help("With --stay: how many connections are served at once: 1 to 65536")
-}
-
-fn idle<'w>(alloc: Global) -> Arg<'w>
-    ensures rule { rule_of result ≡ idle_option }
-    ensures local { result.global ≡ false }
-{
-    Arg::new(alloc, "idle")
-        .long("idle")
-        .value_name("SECONDS")
-        .value_parser(up_to(MAX_IDLE))
-        .help("Ends a client that sends nothing and takes nothing for so long: 1 to 86400")
-}
-
-fn progress<'w>(alloc: Global) -> Arg<'w>
-    ensures rule { rule_of result ≡ progress_flag }
-    ensures local { result.global ≡ false }
-{
-    Arg::new(alloc, "progress")
-        .long("progress")
-        .action(ArgAction::SetTrue)
-        .help("Says on standard error how far it is, once a second while something changes")
-}
-
+// At least one stream.
 fn streams<'w>(alloc: Global) -> Arg<'w>
     ensures rule { rule_of result ≡ streams_words }
     ensures local { result.global ≡ false }
@@ -213,6 +159,69 @@ fn streams<'w>(alloc: Global) -> Arg<'w>
         .action(ArgAction::Append)
         .required(true)
         .help("A stream's name and the file of its messages, for 1 to 16 streams")
+}
+
+// An option with one value, and its default.
+fn option<'w>(
+    alloc: Global,
+    name: &'w str,
+    value: &'w str,
+    default: &'w str,
+    help: &'w str,
+) -> Arg<'w>
+    ensures rule { rule_of result ≡ option_of name.now default.now }
+    ensures local { result.global ≡ false }
+{
+    Arg::new(alloc, name)
+        .long(name)
+        .value_name(value)
+        .default_value(default)
+        .help(help)
+}
+
+// An option whose value is a number from 1 to `most`.
+fn number<'w>(
+    alloc: Global,
+    name: &'w str,
+    value: &'w str,
+    default: &'w str,
+    most: u32,
+    help: &'w str,
+) -> Arg<'w>
+    requires { 1 ≤ most }
+    ensures rule { rule_of result ≡ number_option name.now default.now most }
+    ensures local { result.global ≡ false }
+{
+    option(alloc, name, value, default, help).value_parser(up_to(most))
+}
+
+// An option with one value, and no default.
+fn plain<'w>(
+    alloc: Global,
+    name: &'w str,
+    value: &'w str,
+    parser: ValueParser<'w>,
+    help: &'w str,
+) -> Arg<'w>
+    ensures rule { rule_of result ≡ plain_option name.now parser }
+    ensures local { result.global ≡ false }
+{
+    Arg::new(alloc, name)
+        .long(name)
+        .value_name(value)
+        .value_parser(parser)
+        .help(help)
+}
+
+// An option without value.
+fn flag<'w>(alloc: Global, name: &'w str, help: &'w str) -> Arg<'w>
+    ensures rule { rule_of result ≡ flag_option name.now }
+    ensures local { result.global ≡ false }
+{
+    Arg::new(alloc, name)
+        .long(name)
+        .action(ArgAction::SetTrue)
+        .help(help)
 }
 
 // A number from 1 to this.
