@@ -7,3 +7,4 @@ pub use Rattle.pn_scan.specs.Shown.{shown_rows}
 pub use Rattle.pn_scan.specs.Views.{IsStateOf, Looks, cell_at, rows_at}
 pub use Rattle.pn_scan.specs.Visits.{IsScan}
 pub use Rattle.pn_scan.specs.Walks.{left_by, rows_of}
+pub use Rattle.pn_scan.specs.declared.query.TheConstants.{MAX_CONDITIONS, MAX_PAGE_ROWS}

@@ -5,7 +5,7 @@ ghost use Rattle.serde_json.specs.View.{view};
 ghost use Rattle.pn_json.specs.Prelude.{IsUnless, Shows, ShowsUnless, seen, member_as, seen_text};
 ghost use Rattle.pn_record.specs.Prelude.{value_at};
 ghost use Rattle.pn_tablet.specs.CopyLines.{is_range};
-ghost use Rattle.pn_tablet.specs.CopyLineReading.{end_of as end_spelled, or_as, if_fits, head_in, mark_in, end_in, record_in, line_in, head_at, line_at};
+ghost use Rattle.pn_tablet.specs.CopyLineReading.{end_of as end_spelled, or_as, if_fits, head_in, mark_in, end_in, record_in, head_at, line_at};
 
 use crate::form::Form;
 use crate::{CopyTextFault, Range};
@@ -40,7 +40,7 @@ pub(crate) fn read_head(
 }
 
 /// The line after the head that is read, or the fault.
-#[tactic(auto, unfolding(crate::specs::CopyLineReading::line_at))]
+#[tactic(auto, unfolding(crate::specs::CopyLineReading::line_at, crate::specs::CopyLineReading::line_in))]
 pub(crate) fn read_line(
     alloc: Global,
     form: Form,
@@ -50,7 +50,13 @@ pub(crate) fn read_line(
     ensures { IsUnless CopyTextFault.Memory result (line_at form fault line.now) }
 {
     let value = read_json(alloc, line, fault)?;
-    line_of(alloc, form, value, fault)
+    if value.get("at").is_some() {
+        mark_of(&value, fault)
+    } else if value.get("end").is_some() {
+        end_line_of(&value, fault)
+    } else {
+        record_of(alloc, form, value, fault)
+    }
 }
 
 // The JSON value of a line, or the fault.
@@ -112,24 +118,6 @@ fn range_of(
     let from = Range::end_of(alloc, from)?;
     let to = Range::end_of(alloc, to)?;
     Range::new(from, to).ok_or(fault)
-}
-
-#[tactic(auto, unfolding(crate::specs::CopyLineReading::line_in))]
-fn line_of(
-    alloc: Global,
-    form: Form,
-    value: Value,
-    fault: CopyTextFault,
-) -> Result<CopyLine, CopyTextFault>
-    ensures { IsUnless CopyTextFault.Memory result (line_in form fault (view value)) }
-{
-    if value.get("at").is_some() {
-        mark_of(&value, fault)
-    } else if value.get("end").is_some() {
-        end_line_of(&value, fault)
-    } else {
-        record_of(alloc, form, value, fault)
-    }
 }
 
 #[tactic(auto, unfolding(crate::specs::CopyLineReading::mark_in))]

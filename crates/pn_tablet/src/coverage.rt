@@ -10,7 +10,7 @@ use std::marker::Model;
 
 /// The positions up to which all cells of a tablet took streams, and those up to which any did.
 #[derive(Drop)]
-pub struct Coverage {
+pub(crate) struct Coverage {
     cover: Marks,
     // The reach, or None where it equals the cover.
     ahead: Option<Marks>,
@@ -18,11 +18,10 @@ pub struct Coverage {
 
 impl Model for Coverage {
     ghost use Rattle.std.specs.Prelude.{unwrap_or};
+    ghost use Rattle.pn_tablet.specs.Proofs.Coding.{coverage_code};
     ghost use Rattle.pn_tablet.specs.Tablets.{CoverageValue, IsCoverage};
 
     ghost Value = { CoverageValue };
-
-    ghost use Rattle.pn_tablet.specs.Proofs.Coding.{coverage_code};
 
     ghost coded = { coverage_code };
 

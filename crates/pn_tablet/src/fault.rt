@@ -35,6 +35,14 @@ impl From<NoMemory> for OpFault {
     }
 }
 
+/// A stream at which marks fall short of a need: the position that they have, 0 for none, and the one wanted.
+#[derive(Drop)]
+pub struct Shortfall {
+    pub stream: StreamName,
+    pub has: u64,
+    pub wanted: u64,
+}
+
 /// Why no copy was made.
 #[derive(Debug, Drop, Error)]
 pub enum CopyFault {
@@ -62,14 +70,6 @@ impl From<NoMemory> for CopyFault {
     fn from(_error: NoMemory) -> CopyFault {
         CopyFault::Memory
     }
-}
-
-/// A stream at which marks fall short of a need: the position that they have, 0 for none, and the one wanted.
-#[derive(Drop)]
-pub struct Shortfall {
-    pub stream: StreamName,
-    pub has: u64,
-    pub wanted: u64,
 }
 
 /// The first stream, in byte order, at which marks fall short of a need.

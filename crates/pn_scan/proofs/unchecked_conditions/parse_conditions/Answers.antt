@@ -1,8 +1,8 @@
 -- One value more is a condition, or one is none; at the end all are.
 use Rattle.std.proofs.Common.{length, nat_le, sym, ◌∙◌, arith}
-use Rattle.pn_scan.specs.Queries.{max_conditions}
+use Rattle.pn_scan.specs.declared.query.TheConstants.{MAX_CONDITIONS}
 use Rattle.pn_scan.proofs.ConditionLists.{bad_at, one_more_is, one_more_fits, one_more_shown, same_parsed}
-use Rattle.pn_scan.proofs.unchecked_conditions.parsed.Goals as goal
+use Rattle.pn_scan.proofs.unchecked_conditions.parse_conditions.Goals as goal
 
 pub loop-value-preserved : goal.loop-value-preserved
 loop-value-preserved c =
@@ -14,7 +14,7 @@ loop-value-preserved c =
     let is = sym c.condition_of.ensures ∙ c.in-Some.is in
     record {
       all = one_more_is values i value c.in-Some.condition here within is c.loop-value.invariant.all;
-      fits = c.with_condition-next.ensures.fit ∙ one_more_fits values i value c.in-Some.condition here within is (nat_le (length values) max_conditions) c.loop-value.fit c.loop-value.invariant.fits;
+      fits = c.with_condition-next.ensures.fit ∙ one_more_fits values i value c.in-Some.condition here within is (nat_le (length values) MAX_CONDITIONS) c.loop-value.fit c.loop-value.invariant.fits;
       shown = one_more_shown values i value c.in-Some.condition here within is (λ made. made.items) c.loop-value.made c.with_condition-next.result.1 c.loop-value.invariant.shown c.with_condition-next.ensures.made;
     }
 

@@ -5,7 +5,7 @@ use Rattle.pn_record.specs.CellMap.{Entries}
 use Rattle.pn_scan.specs.declared.row.Row.{Row}
 use Rattle.pn_scan.specs.Candidates.{candidates}
 use Rattle.pn_scan.proofs.Scans.{IsWalked, walked_none, scan_fails, scan_full, walked_more, scan_ends}
-use Rattle.pn_scan.proofs.pages.gathered.Goals as goal
+use Rattle.pn_scan.proofs.pages.gather_rows.Goals as goal
 
 abbrev items_of : Vec Row Global → Entries
 items_of rows = rows.items

@@ -4,7 +4,7 @@ use Rattle.pn_record.specs.Showing.{shown_field}
 use Rattle.pn_scan.specs.Queries.{shown_condition}
 use Rattle.pn_scan.specs.Conditions.{meets}
 use Rattle.pn_scan.proofs.EachMet.{one_fails, one_passes, all_passed}
-use Rattle.pn_scan.proofs.conditions.meet_all.Goals as goal
+use Rattle.pn_scan.proofs.filter.meet_all.Goals as goal
 
 pub returns-then-not-meet : goal.returns-then-not-meet
 returns-then-not-meet c =

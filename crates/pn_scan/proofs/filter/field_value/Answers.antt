@@ -5,7 +5,7 @@ use Rattle.std.proofs.lemmas.Map.Text.{is_eq-slice_cmp}
 use Rattle.pn_record.specs.Order.{bytes_cmp}
 use Rattle.pn_record.specs.Showing.{shown_field}
 use Rattle.pn_scan.proofs.FieldWalk.{one_found, one_passed, none_left}
-use Rattle.pn_scan.proofs.conditions.field_value.Goals as goal
+use Rattle.pn_scan.proofs.filter.field_value.Goals as goal
 
 pub returns-then-eq : goal.returns-then-eq
 returns-then-eq c =

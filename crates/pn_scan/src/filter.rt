@@ -1,4 +1,4 @@
-//! Which records meet the conditions of a query.
+//! Which records a query shows.
 
 ghost use Rattle.std.specs.Prelude.{◌≡◌, true, map, option_map};
 ghost use Rattle.std.specs.FinMap.{find};
@@ -21,15 +21,6 @@ pub(crate) fn is_shown(query: &Query, key: &Key, cell: &Cell) -> bool
     ensures { result ≡ row_shown query.now (key.now, cell.now) }
 {
     is_after(query.after(), key) && has_shown(query.conditions(), cell)
-}
-
-pub(crate) fn is_before(to: Option<&Key>, key: &Key) -> bool
-    ensures { result ≡ before_end (option_copied to.entry) key.now }
-{
-    match to {
-        None => true,
-        Some(to) => key < to,
-    }
 }
 
 fn is_after(after: Option<&Key>, key: &Key) -> bool

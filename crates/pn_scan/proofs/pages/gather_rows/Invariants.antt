@@ -3,7 +3,7 @@ use Rattle.std.proofs.Common.{◌≡◌, ◌+◌, ◌-◌, ◌≤◌, List}
 use Rattle.std.specs.List.{range_with_len}
 use Rattle.pn_scan.specs.Candidates.{Look, candidates}
 use Rattle.pn_scan.proofs.Scans.{IsWalked}
-use Rattle.pn_scan.proofs.pages.gathered.Given as goal
+use Rattle.pn_scan.proofs.pages.gather_rows.Given as goal
 
 abbrev pub invariant-loop-tablet : goal.invariant-loop-tablet
 invariant-loop-tablet g l = record {
