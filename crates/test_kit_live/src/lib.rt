@@ -18,7 +18,7 @@ use std::alloc::Global;
 use std::sync::Wait;
 
 /// Opens a live region, whose readers read its tablets.
-pub fn opened<R: Wait>(
+pub fn open<R: Wait>(
     rt: &R,
     alloc: Global,
     layout: Layout,
@@ -31,7 +31,7 @@ pub fn opened<R: Wait>(
 }
 
 /// Closes a live region, whose readers are handed back.
-pub fn closed<R: Wait>(
+pub fn close<R: Wait>(
     rt: &R,
     live: LiveRegion,
     readers: Vec<LiveReader>,
@@ -45,7 +45,7 @@ pub fn closed<R: Wait>(
 pub fn open_one<R: Wait>(rt: &R, alloc: Global, layout: Layout) -> Option<(LiveRegion, LiveReader)>
     ensures { IfSome result (λ opened. IsReaderIn opened.0 opened.1) }
 {
-    let (live, mut readers) = opened(rt, alloc, layout, 1).ok()?;
+    let (live, mut readers) = open(rt, alloc, layout, 1).ok()?;
     let Some(reader) = take_out(&live, &mut readers) else {
         end(rt, alloc, live);
         return None;
@@ -55,11 +55,11 @@ pub fn open_one<R: Wait>(rt: &R, alloc: Global, layout: Layout) -> Option<(LiveR
 
 /// Closes a live region whose readers are not looked at. Whether it closed.
 pub fn end<R: Wait>(rt: &R, alloc: Global, live: LiveRegion) -> bool {
-    closed(rt, live, Vec::new(alloc)).is_ok()
+    close(rt, live, Vec::new(alloc)).is_ok()
 }
 
 /// The version in which a reader finds a key, and how many contents it has; none where there is no record.
-pub fn found(reader: &mut LiveReader, key: &Key) -> Result<Option<(Version, usize)>, ScanFault>
+pub fn find(reader: &mut LiveReader, key: &Key) -> Result<Option<(Version, usize)>, ScanFault>
     ensures { tablets_of reader.new ≡ tablets_of reader.old }
 {
     let cell = reader.read(key, None)?;

@@ -50,7 +50,7 @@ fn recall_all(layout: &Layout, tablets: &[TabletState])
     ensures lawful { IsLayout layout.now }
     ensures sound { AllByRecursion IsSound tablets.now }
 {
-    let _ = layout.count();
+    layout.recall_order();
     for tablet in tablets {
         recall_soundness(tablet);
     }

@@ -9,7 +9,7 @@ use std::sync::atomic::{AtomicBool, Ordering};
 use std::thread;
 use std::thread::{Threads, join_mut};
 use test_kit::{deliveries, layout};
-use test_kit_live::{end, found, open_one};
+use test_kit_live::{end, find, open_one};
 
 /// How often the worker looks whether the reader has answered.
 const MAX_TURNS: u64 = 1_000_000;
@@ -71,11 +71,11 @@ fn serve<R: Threads + Wait + Sync>(
         &mut || read_once(reader, &key, gate),
         &mut || hold_round(rt, alloc, live, gate),
     );
-    let found = found(reader, &key).ok()?;
+    let found = find(reader, &key).ok()?;
     Some((was_none, changed?, found.map(|(version, _)| version.number)))
 }
 
-fn served<R: Threads + Wait + Sync>(rt: &R, alloc: Global, gate: &Held) -> Option<Answers> {
+fn serve_held<R: Threads + Wait + Sync>(rt: &R, alloc: Global, gate: &Held) -> Option<Answers> {
     let (mut live, mut reader) = open_one(rt, alloc, layout(alloc, "m")?)?;
     let answers = serve(rt, alloc, &mut live, &mut reader, gate);
     end(rt, alloc, live);
@@ -88,7 +88,7 @@ fn a_reader_is_served_while_a_round_is_held(rt: HostRuntime) {
         answered: AtomicBool::new(false),
         missed: AtomicBool::new(false),
     };
-    let answers = served(&rt, rt.alloc(), &gate);
+    let answers = serve_held(&rt, rt.alloc(), &gate);
     assert!(rt; !gate.missed.load(Ordering::SeqCst));
     assert_eq!(rt; answers, Some((true, 1, Some(0))));
 }
