@@ -7,5 +7,5 @@ pub mod CommandParts
 pub mod CopyLines
 pub mod EachFits
 pub mod FoundRows
-pub mod RefusalTexts
+pub mod Refusals
 pub mod Walks

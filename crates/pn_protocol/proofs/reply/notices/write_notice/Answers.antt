@@ -2,7 +2,7 @@
 use Rattle.std.proofs.Common.{ℕ, List, Option, codes}
 use Rattle.serde_json.specs.Data.{Data, number, object, string, unsigned, member, no_members}
 use Rattle.pn_record.specs.Writing.{version_data}
-use Rattle.pn_protocol.specs.Reply.Versions.{version_or_null}
+use Rattle.pn_protocol.specs.Reply.Rows.{version_or_null}
 use Rattle.pn_protocol.specs.Reply.Notices.{notice_data}
 use Rattle.pn_json.specs.Tokens.{value_tokens}
 use Rattle.pn_json.proofs.TokenLists.{appends_token, appends_both, appends_as}
