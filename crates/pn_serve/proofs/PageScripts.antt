@@ -7,7 +7,7 @@ use Rattle.std.specs.Ordering.{eq_by_cmp}
 use Rattle.std.proofs.lemmas.Bool.{and_parts}
 use Rattle.std.proofs.lemmas.Bool.Decides.{nat_tests}
 use Rattle.std.proofs.lemmas.List.{take-append-drop}
-use Rattle.pn_join.proofs.Places.{not_found_below}
+use Rattle.pn_join.proofs.Indices.{not_found_below}
 use Rattle.pn_join.proofs.Rising.{Rising, Rising-from_sorted}
 use Rattle.pn_json.specs.Lines.{line_of}
 use Rattle.pn_record.specs.CellMap.{Entries}
@@ -15,7 +15,7 @@ use Rattle.pn_record.specs.Order.{bytes_cmp}
 use Rattle.pn_record.specs.Sets.{CellValue}
 use Rattle.pn_record.proofs.HeldRecords.{tied_keys}
 use Rattle.pn_scan.specs.Pages.{PageValue}
-use Rattle.pn_scan.specs.Queries.{QueryValue, continued, max_conditions, is_condition, is_end, is_limit, query_fits, is_query}
+use Rattle.pn_scan.specs.Queries.{QueryValue, query_after, MAX_CONDITIONS, is_condition, is_end, is_limit, query_fits, is_query}
 use Rattle.pn_scan.specs.Shown.{is_shown, shown_rows}
 use Rattle.pn_scan.specs.Walks.{ArePages, left_by, rows_of}
 use Rattle.pn_scan.specs.declared.fault.ScanFault.{ScanFault}
@@ -93,8 +93,8 @@ some_rows limit is = grind (arith, nat_tests)
 query_room : (query : QueryValue) → is_query query ≡ true → 0 < query.limit
 query_room query is =
     let fits = (and_parts (is_end query.after && is_end query.from && is_end query.to) (query_fits query.conditions query.limit) is).1 in
-    let few = and_parts (is_limit query.limit && nat_le (length query.conditions) max_conditions) (list_all is_condition query.conditions) fits in
-    some_rows query.limit (and_parts (is_limit query.limit) (nat_le (length query.conditions) max_conditions) few.0).0
+    let few = and_parts (is_limit query.limit && nat_le (length query.conditions) MAX_CONDITIONS) (list_all is_condition query.conditions) fits in
+    some_rows query.limit (and_parts (is_limit query.limit) (nat_le (length query.conditions) MAX_CONDITIONS) few.0).0
 
 line_room : (text : List ℕ) (query : QueryValue) → command_at text ≡ Ok (scan query) → 0 < query.limit
 line_room text query says = query_room query (line_found text (scan query) says).spelled.limits
@@ -208,8 +208,8 @@ module _ (key : List ℕ) (cell : Option CellValue) where
       ap (λ (es : Entries). find bytes_cmp key es) ((λ i. all i ++ none last i) ∙ append-nil (shown_rows query cells)) ∙ find_shown query key cells rises ∙ ap (shown_cell query key) is
   page_stays query cells rises is page later (goes_on row at next front within) found none =
       let rows = shown_rows query cells in
-      let rest : find bytes_cmp key (drop query.limit rows) ≡ shown_cell (continued query row.0) key cell =
-      ap (λ (es : Entries). find bytes_cmp key es) (sym (shown_after query cells query.limit row rises at)) ∙ find_shown (continued query row.0) key cells rises ∙ ap (shown_cell (continued query row.0) key) is in
+      let rest : find bytes_cmp key (drop query.limit rows) ≡ shown_cell (query_after query row.0) key cell =
+      ap (λ (es : Entries). find bytes_cmp key es) (sym (shown_after query cells query.limit row rises at)) ∙ find_shown (query_after query row.0) key cells rises ∙ ap (shown_cell (query_after query row.0) key) is in
       ap (λ (es : Entries). find bytes_cmp key (es ++ later)) front
       ∙ find_after key (take query.limit rows) later (drop query.limit rows) (found ∙ ap asked_cell next ∙ sym rest)
       ∙ ap (λ (es : Entries). find bytes_cmp key es) (take-append-drop query.limit rows)

@@ -34,9 +34,10 @@ use Rattle.pn_serve.specs.Machine.Recovering.{at_tablet, showing_copy, adopted, 
 use Rattle.pn_serve.specs.Machine.Turns.{obeying}
 use Rattle.pn_serve.specs.Machine.Answers.{Obeys}
 use Rattle.pn_protocol.specs.Reply.Answers.{ShowsCopy, ShowsCopyOf}
-use Rattle.pn_protocol.specs.Reply.Refusals.{Tells, TellsNoCopy, TellsBadText, TellsNotAdopted}
+use Rattle.pn_protocol.specs.Reply.Refusals.{Tells, Refuses as RefusesBy}
+use Rattle.pn_protocol.specs.declared.reply.refusals.CommandFault.TheVariants.{Copy, CopyText, Adoption}
 use Rattle.pn_serve.specs.Machine.Ways.{ComesTo}
-use Rattle.pn_protocol.specs.Reply.Recovery.{bad_text_data, not_adopted_data}
+use Rattle.pn_protocol.specs.Reply.Faults.{copy_text_fault_data, adopt_fault_data}
 use Rattle.pn_protocol.specs.Reply.Short.{lost_data}
 use Rattle.pn_serve.proofs.Turns.{turned_call}
 
@@ -71,10 +72,10 @@ not_memory adoption.WrongRange right is other = is
 not_memory (adoption.TooOld stream has needs) right is other = is
 not_memory adoption.Memory right is other = absurd (other refl)
 
-pub adopts_not : (old new : LoggedRegion) (given : TabletCopyValue) (fault : AdoptFault) (reply : Reply) → new ≡ old → Refuses steps.is_memory fault (after_adoption old.state given) → TellsNotAdopted fault reply
+pub adopts_not : (old new : LoggedRegion) (given : TabletCopyValue) (fault : AdoptFault) (reply : Reply) → new ≡ old → Refuses steps.is_memory fault (after_adoption old.state given) → RefusesBy (Adoption fault) reply
     → ComesTo (adopted old (after_adoption old.state given)) old new reply
 adopts_not old new given fault reply same right tells =
-    told (adopted old (after_adoption old.state given)) old new (fault ≢ adoption.Memory) (not_adopted_data fault) reply same (λ other. ap (adopted old) (not_memory fault (after_adoption old.state given) right other)) tells
+    told (adopted old (after_adoption old.state given)) old new (fault ≢ adoption.Memory) (adopt_fault_data fault) reply same (λ other. ap (adopted old) (not_memory fault (after_adoption old.state given) right other)) tells
 
 pub adopts_text : (old new : LoggedRegion) (bytes : List ℕ) (given : TabletCopyValue) (reply : Reply) → copy_at bytes ≡ Ok given → ComesTo (adopted old (after_adoption old.state given)) old new reply
     → ComesTo (adopting_text old (Some bytes)) old new reply
@@ -83,10 +84,10 @@ adopts_text old new bytes given reply is comes = came_as _ _ old new reply (ap (
 no_text : (fault : CopyTextFault) (right : Result TabletCopyValue CopyTextFault) → IsUnless text.Memory (Err fault) right → fault ≢ text.Memory → right ≡ Err fault
 no_text fault right is other = is other
 
-pub adopts_no_text : (old : LoggedRegion) (bytes : List ℕ) (fault : CopyTextFault) (reply : Reply) → IsUnless {A = TabletCopyValue} text.Memory (Err fault) (copy_at bytes) → TellsBadText fault reply
+pub adopts_no_text : (old : LoggedRegion) (bytes : List ℕ) (fault : CopyTextFault) (reply : Reply) → IsUnless {A = TabletCopyValue} text.Memory (Err fault) (copy_at bytes) → RefusesBy (CopyText fault) reply
     → ComesTo (adopting_text old (Some bytes)) old old reply
 adopts_no_text old bytes fault reply right tells =
-    told (adopting_text old (Some bytes)) old old (fault ≢ text.Memory) (bad_text_data fault) reply refl (λ other. ap (adopting_read old) (no_text fault (copy_at bytes) right other)) tells
+    told (adopting_text old (Some bytes)) old old (fault ≢ text.Memory) (copy_text_fault_data fault) reply refl (λ other. ap (adopting_read old) (no_text fault (copy_at bytes) right other)) tells
 
 -- ---- losses and copies
 
@@ -149,7 +150,7 @@ module _ (region : LoggedRegion) (need : Positions) (tablet : ℕ) (state : Tabl
   right_fault copying.NoEntry right is other = is
   right_fault copying.Memory right is other = absurd (other refl)
 
-  not_copied_there : (fault : CopyFault) (reply : Reply) → Refuses is_memory fault (copy_of state need) → TellsNoCopy tablet fault reply → Obeys (waiting region) (copy need tablet) (waiting region) reply
+  not_copied_there : (fault : CopyFault) (reply : Reply) → Refuses is_memory fault (copy_of state need) → RefusesBy (Copy tablet fault) reply → Obeys (waiting region) (copy need tablet) (waiting region) reply
   not_copied_there fault (NotTaken text) right (other, says) =
       let all = looked (Err fault) (right_fault fault (copy_of state need) right other) in
       record { outcome = done; machine_is = ap (λ (t : Turn). t.machine) all; replied = ap (λ (t : Turn). t.reply) all ∙ sym says; refused = ap (λ (t : Turn). t.refused) all }

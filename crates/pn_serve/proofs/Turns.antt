@@ -13,11 +13,13 @@ use Rattle.pn_stream.specs.Positions.{DeliveryValue}
 use Rattle.pn_tablet.specs.Tablets.{TabletStateValue}
 use Rattle.pn_tablet.specs.declared.state.TabletOp.{TabletOp}
 use Rattle.pn_apply.specs.Applying.{AreOldOrStepped}
-use Rattle.pn_region.specs.Marking.{new_marks}
-use Rattle.pn_region.specs.Logged.{LoggedRegion, with_notices, with_break}
+use Rattle.pn_region.specs.Marking.{is_memory, new_marks}
+use Rattle.pn_region.specs.Logged.{LoggedRegion, refused_log, with_notices, with_break}
 use Rattle.pn_region.specs.Regions.{RegionValue}
-use Rattle.pn_region.specs.Rounds.{joins, changed_count, IsHalfTaken, round as taken_round}
+use Rattle.pn_region.specs.Rounds.{joins, changed_count, IsHalfTaken, Leaves, round as taken_round}
 use Rattle.pn_region.specs.declared.fault.RoundFault.{RoundFault}
+use Rattle.pn_region.specs.declared.fault.RoundFault.TheVariants as round_fault
+use Rattle.pn_tablet.specs.Refusals.{Refuses}
 use Rattle.pn_protocol.specs.declared.reply.Reply.{Reply}
 use Rattle.pn_protocol.specs.declared.reply.Reply.TheVariants.{Adopted, Changed, Copied, Lost, Relaid, Silent, Text, Refused, NotTaken}
 use Rattle.pn_protocol.specs.declared.refusal.Refusal.{Refusal}
@@ -31,8 +33,9 @@ use Rattle.pn_serve.specs.Machine.Doing.{delivering, looking}
 use Rattle.pn_serve.specs.Machine.Turns.{obeying, turn_of, outcome_at, turn}
 use Rattle.pn_serve.specs.Machine.Answers.{IsReadUnless, Turned, TurnedBy, AnswersBy, Obeys}
 use Rattle.pn_protocol.specs.Reply.Answers.{ShowsFound}
-use Rattle.pn_protocol.specs.Reply.Refusals.{Refuses}
-use Rattle.pn_protocol.specs.Reply.Faults.{fault_data}
+use Rattle.pn_protocol.specs.Reply.Refusals.{Tells, Refuses as RefusesBy}
+use Rattle.pn_protocol.specs.Reply.Faults.{round_fault_data}
+use Rattle.pn_protocol.specs.declared.reply.refusals.CommandFault.TheVariants as command_fault
 use Rattle.pn_protocol.specs.Reply.Short.{changed_data}
 use Rattle.pn_json.specs.Answers.{ShowsUnless}
 use Rattle.pn_json.specs.Lines.{line_of}
@@ -161,7 +164,7 @@ module _ {A : Type 0} (region : LoggedRegion) (command : CommandValue) (show : A
   no_memory reply is = subst (λ (r : Reply). Obeys (waiting region) command (waiting region) r) (sym is) (turned_call region region command out refl)
 
   -- it was refused
-  pub turned_why : (fault : ScanFault) (reply : Reply) → (fault ≢ scan.Memory → right ≡ Err fault) → Refuses fault reply → Obeys (waiting region) command (waiting region) reply
+  pub turned_why : (fault : ScanFault) (reply : Reply) → (fault ≢ scan.Memory → right ≡ Err fault) → RefusesBy (command_fault.Lookup fault) reply → Obeys (waiting region) command (waiting region) reply
   turned_why fault (NotTaken text) is (other, says) =
       let all : obeying (waiting region) done command ≡ looking (waiting region) show (Err fault) = does ∙ ap (looking (waiting region) show) (is other) in record {
         outcome = done;
@@ -211,7 +214,7 @@ module _ (old new : LoggedRegion) (deliveries : List DeliveryValue) where
   }
 
   -- the round was refused
-  pub turned_refused : (fault : RoundFault) (text : Vec ℕ Global) → taken_round old.state deliveries ≡ Err fault → new.state ≡ old.state → new.log ≡ old.log → text.items ≡ line_of (fault_data fault) → Obeys (waiting old) (deliver deliveries) (waiting new) (NotTaken text)
+  pub turned_refused : (fault : RoundFault) (text : Vec ℕ Global) → taken_round old.state deliveries ≡ Err fault → new.state ≡ old.state → new.log ≡ old.log → text.items ≡ line_of (round_fault_data fault) → Obeys (waiting old) (deliver deliveries) (waiting new) (NotTaken text)
   turned_refused fault text refused same kept is = record {
     outcome = done;
     machine_is = ap (λ (r : Result RegionValue RoundFault). (delivering (waiting old) r).machine) refused ∙ (λ i. record { mode = awaits_command; region = sym same i; log = sym kept i });
@@ -253,3 +256,32 @@ pub turned_half : (old new : LoggedRegion) (deliveries : List DeliveryValue) →
 turned_half old new deliveries half broken =
     let (flags, is) = half_found old.state new.state deliveries (new_marks old.state.marks deliveries) half.0 half.1 half.2 in
     record { outcome = round flags; machine_is = λ i. record { mode = awaits_command; region = is i; log = sym broken i }; replied = refl; refused = refl }
+
+-- what a reply comes to that tells this, or that memory ran out
+told_or_out : (P : Reply → Type 0) (right : Type 0) (said : Data) (reply : Reply) → ((text : Vec ℕ Global) → right → text.items ≡ line_of said → P (NotTaken text)) → P (Refused Memory) → Tells right said reply → P reply
+told_or_out P right said (NotTaken text) tells out (knows, says) = tells text knows says
+told_or_out P right said (Adopted tablet) tells out is = subst P (sym is) out
+told_or_out P right said (Changed count) tells out is = subst P (sym is) out
+told_or_out P right said (Copied lines text) tells out is = subst P (sym is) out
+told_or_out P right said (Lost tablet) tells out is = subst P (sym is) out
+told_or_out P right said (Relaid count) tells out is = subst P (sym is) out
+told_or_out P right said Silent tells out is = subst P (sym is) out
+told_or_out P right said (Text text) tells out is = subst P (sym is) out
+told_or_out P right said (Refused refusal) tells out is = subst P (sym is) out
+
+-- the round has a fault, and the reply says which, or that memory ran out
+module _ (old new : LoggedRegion) (deliveries : List DeliveryValue) where
+  abbrev Comes : Reply → Type 0
+  Comes reply = Obeys (waiting old) (deliver deliveries) (waiting new) reply
+
+  refused_whole : (fault : RoundFault) (reply : Reply) → taken_round old.state deliveries ≡ Err fault → new.state ≡ old.state → new.log ≡ old.log → Tells (fault ≢ round_fault.Memory) (round_fault_data fault) reply → Comes reply
+  refused_whole fault reply refused same kept tells =
+      told_or_out Comes (fault ≢ round_fault.Memory) (round_fault_data fault) reply (λ text other says. turned_refused old new deliveries fault text refused same kept says)
+      (turned_call old new (deliver deliveries) refl (λ i. record { state = same i; log = kept i })) tells
+
+  pub turned_fault_of_round : (fault : RoundFault) (reply : Reply) → Refuses is_memory fault (taken_round old.state deliveries) → Leaves fault old.state deliveries new.state → new.log ≡ refused_log old.log fault
+      → RefusesBy (command_fault.Round fault) reply → Comes reply
+  turned_fault_of_round (round_fault.Gap stream wanted got) reply refused leaves kept tells = refused_whole (round_fault.Gap stream wanted got) reply refused leaves kept tells
+  turned_fault_of_round round_fault.TooManyStreams reply refused leaves kept tells = refused_whole round_fault.TooManyStreams reply refused leaves kept tells
+  turned_fault_of_round round_fault.Memory reply refused leaves broken tells =
+      told_or_out Comes (round_fault.Memory ≢ round_fault.Memory) (round_fault_data round_fault.Memory) reply (λ text other says. absurd (other refl)) (turned_half old new deliveries leaves broken) tells

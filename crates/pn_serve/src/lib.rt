@@ -21,9 +21,8 @@ pub use page_laws::{
     pages_of_a_script_are_together_its_rows,
 };
 pub use pn_protocol::{
-    Command, Part, Refusal, Reply, ShortReply, a_line_is_one_command, adopted_reply,
-    bad_text_reply, changed_reply, command_of, fault_reply, lines_reply, lost_reply, no_copy_reply,
-    not_adopted_reply, not_relaid_reply, refusal_reply, refused_reply, relaid_reply, scan_reply,
+    Command, CommandFault, NumberName, Part, Refusal, Reply, ShortReply, a_line_is_one_command,
+    command_of, number_reply, refusal_reply, refuse, scan_reply,
 };
 pub use repeat_laws::{
     a_repeated_deliver_leaves_no_trace_of_a_refused_one, repeated_delivers_leave_the_same_region,

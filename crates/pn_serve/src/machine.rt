@@ -20,8 +20,10 @@ use crate::machine::command_reader::CommandReader;
 use crate::machine::lookups::{get, look_up_notices, read, scan};
 use crate::machine::tablets::{copy_tablet, lose_tablet, relayout};
 use pn_apply::Open;
-use pn_protocol::{Command, Refusal, Reply, fault_reply, marks_reply, shown, tablets_reply};
-use pn_region::{Region, RoundFault};
+use pn_protocol::{
+    Command, CommandFault, Reply, answer_text, marks_reply, refuse, tablets_reply,
+};
+use pn_region::Region;
 use pn_stream::Delivery;
 use std::alloc::Global;
 use std::thread::Threads;
@@ -144,12 +146,12 @@ fn obey<R: Threads + Sync>(
         )),
         Command::Get(keys) => Handled::Obeyed(get(alloc, region, &keys)),
         Command::Lose { tablet } => Handled::Obeyed(lose_tablet(region, tablet)),
-        Command::Marks => Handled::Obeyed(shown(marks_reply(alloc, region.marks()))),
+        Command::Marks => Handled::Obeyed(answer_text(marks_reply(alloc, region.marks()))),
         Command::Notices { since } => Handled::Obeyed(look_up_notices(alloc, region, since)),
         Command::Read { key, version } => Handled::Obeyed(read(alloc, region, &key, version)),
         Command::Relayout(bounds) => Handled::Obeyed(relayout(alloc, region, bounds)),
         Command::Scan(query) => Handled::Obeyed(scan(alloc, region, &query)),
-        Command::Tablets => Handled::Obeyed(shown(tablets_reply(alloc, region))),
+        Command::Tablets => Handled::Obeyed(answer_text(tablets_reply(alloc, region))),
     }
 }
 
@@ -166,10 +168,6 @@ fn deliver<R: Threads + Sync>(
 {
     match region.round(rt, deliveries, workers, &Open) {
         Ok(round) => Reply::Changed(round.changed),
-        Err(RoundFault::Memory) => Reply::Refused(Refusal::Memory),
-        Err(fault) => match fault_reply(alloc, &fault) {
-            Ok(text) => Reply::NotTaken(text),
-            Err(_) => Reply::Refused(Refusal::Memory),
-        },
+        Err(fault) => refuse(alloc, CommandFault::Round(fault)),
     }
 }

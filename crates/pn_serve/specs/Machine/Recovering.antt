@@ -15,7 +15,8 @@ use Rattle.pn_json.specs.Lines.{line_of}
 use Rattle.pn_protocol.specs.declared.refusal.Part.TheVariants.{Tablet}
 use Rattle.pn_protocol.specs.declared.refusal.Refusal.TheVariants.{OutOfRange, Memory}
 use Rattle.pn_serve.specs.Machine.Outcomes.{Machine, Turn, waiting, refusing, showing}
-use Rattle.pn_protocol.specs.Reply.Recovery.{copy_reply, no_copy_data, bad_text_data, not_adopted_data}
+use Rattle.pn_protocol.specs.Reply.Answers.{copy_reply}
+use Rattle.pn_protocol.specs.Reply.Faults.{copy_fault_data, copy_text_fault_data, adopt_fault_data}
 use Rattle.pn_protocol.specs.Reply.Short.{lost_data, adopted_data}
 
 -- what is done to the tablet of this number, if there is one
@@ -31,7 +32,7 @@ losing_it machine tablet =
 -- a copy is shown, or why there is none
 abbrev pub showing_copy : Machine → ℕ → Result TabletCopyValue CopyFault → Turn
 showing_copy machine tablet (Ok copy) = showing machine (copy_reply copy)
-showing_copy machine tablet (Err fault) = record { machine = machine; reply = line_of (no_copy_data tablet fault); refused = true }
+showing_copy machine tablet (Err fault) = record { machine = machine; reply = line_of (copy_fault_data tablet fault); refused = true }
 
 -- a tablet is copied
 abbrev pub copying : Machine → Positions → ℕ → Turn
@@ -40,12 +41,12 @@ copying machine need tablet = at_tablet machine (slice_get machine.region.tablet
 -- a region takes a copy, or refuses it
 abbrev pub adopted : LoggedRegion → Result (ℕ × RegionValue) AdoptFault → Turn
 adopted old (Ok (tablet, after)) = record { machine = waiting (record { state = after; log = with_break old.log }); reply = line_of (adopted_data tablet); refused = false }
-adopted old (Err fault) = record { machine = waiting old; reply = line_of (not_adopted_data fault); refused = true }
+adopted old (Err fault) = record { machine = waiting old; reply = line_of (adopt_fault_data fault); refused = true }
 
 -- a region takes the copy of a text, or the text is no copy
 abbrev pub adopting_read : LoggedRegion → Result TabletCopyValue CopyTextFault → Turn
 adopting_read old (Ok copy) = adopted old (after_adoption old.state copy)
-adopting_read old (Err fault) = record { machine = waiting old; reply = line_of (bad_text_data fault); refused = true }
+adopting_read old (Err fault) = record { machine = waiting old; reply = line_of (copy_text_fault_data fault); refused = true }
 
 -- a region takes the copy of an announced text, unless memory ran out
 abbrev pub adopting_text : LoggedRegion → Option (List ℕ) → Turn

@@ -14,7 +14,7 @@ ghost use Rattle.pn_serve.specs.Machine.Ways.{ComesTo, IsJoined};
 use crate::machine::Answer;
 use pn_join::NoMemory;
 use pn_line::MAX_KEPT_BYTES;
-use pn_protocol::{Refusal, Reply, bad_text, not_adopted};
+use pn_protocol::{CommandFault, Refusal, Reply, refuse};
 use pn_region::Region;
 use pn_tablet::{CopyTextFault, TabletCopy, read_copy};
 use std::alloc::Global;
@@ -97,7 +97,7 @@ pub(crate) fn adopt(alloc: Global, region: &mut Region, text: Option<Vec<u8>>) -
     };
     match read_text(alloc, text) {
         Ok(copy) => adopt_copy(alloc, region, copy),
-        Err(fault) => bad_text(alloc, &fault),
+        Err(fault) => refuse(alloc, CommandFault::CopyText(fault)),
     }
 }
 
@@ -113,6 +113,6 @@ fn adopt_copy(alloc: Global, region: &mut Region, copy: TabletCopy) -> Reply
 {
     match region.adopt(copy) {
         Ok(tablet) => Reply::Adopted(tablet as u64),
-        Err(fault) => not_adopted(alloc, &fault),
+        Err(fault) => refuse(alloc, CommandFault::Adoption(fault)),
     }
 }

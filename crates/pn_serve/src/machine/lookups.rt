@@ -7,7 +7,7 @@ ghost use Rattle.pn_serve.specs.Machine.Outcomes.{waiting};
 ghost use Rattle.pn_serve.specs.Machine.Answers.{Obeys};
 
 use pn_join::NoMemory;
-use pn_protocol::{Refusal, Reply, answer_get, answer_read, answer_scan, shown, since_reply};
+use pn_protocol::{Refusal, Reply, answer_get, answer_read, answer_scan, answer_text, notices_reply};
 use pn_record::{Key, Version};
 use pn_region::{Region, Since};
 use pn_scan::Query;
@@ -35,7 +35,7 @@ pub(crate) fn look_up_notices(alloc: Global, region: &Region, since: u64) -> Rep
     ensures { Obeys (waiting region.now) (notices_asked since) (waiting region.now) result }
 {
     match region.notices_since(since) {
-        Ok(found) => shown(write_notices(alloc, found)),
+        Ok(found) => answer_text(write_notices(alloc, found)),
         Err(_) => Reply::Refused(Refusal::Memory),
     }
 }
@@ -44,5 +44,5 @@ pub(crate) fn look_up_notices(alloc: Global, region: &Region, since: u64) -> Rep
 fn write_notices(alloc: Global, found: Since) -> Result<Vec<u8>, NoMemory>
     ensures { IfOk result (λ text. text.items ≡ line_of (found_since found)) }
 {
-    since_reply(alloc, &found)
+    notices_reply(alloc, &found)
 }

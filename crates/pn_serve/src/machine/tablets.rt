@@ -9,7 +9,7 @@ ghost use Rattle.pn_serve.specs.Machine.Relaying.{relaid_turn};
 ghost use Rattle.pn_serve.specs.Machine.Ways.{ComesTo};
 
 use pn_join::Marks;
-use pn_protocol::{Part, Refusal, Reply, answer_copy, not_relaid};
+use pn_protocol::{CommandFault, Part, Refusal, Reply, answer_copy, refuse};
 use pn_record::Key;
 use pn_region::Region;
 use pn_tablet::Layout;
@@ -49,6 +49,6 @@ fn relayout_to(alloc: Global, region: &mut Region, layout: Layout) -> Reply
     let count = layout.count() as u64;
     match region.relayout(layout) {
         Ok(()) => Reply::Relaid(count),
-        Err(fault) => not_relaid(alloc, &fault),
+        Err(fault) => refuse(alloc, CommandFault::Relayout(fault)),
     }
 }
