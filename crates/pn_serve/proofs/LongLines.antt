@@ -10,8 +10,8 @@ use Rattle.pn_protocol.specs.declared.reply.Reply.{Reply}
 use Rattle.pn_protocol.specs.Command.Lines.{is_too_long, command_at}
 use Rattle.pn_protocol.proofs.CommandLines.{too_long}
 use Rattle.pn_serve.specs.Machine.Announced.{unless_call, one_came}
-use Rattle.pn_serve.specs.Machine.Outcomes.{Outcome, done, Mode, awaits_command, announced, Machine, logged, Turn, refusing}
-use Rattle.pn_serve.specs.Machine.Recovering.{adopting_text}
+use Rattle.pn_serve.specs.Machine.Outcomes.{Outcome, done, Mode, awaits_command, announced, Machine, logged_region, Turn, refusal_turn}
+use Rattle.pn_serve.specs.Machine.Recovering.{text_adoption_turn}
 use Rattle.pn_serve.specs.Machine.Turns.{turn_of, outcome_at, turn_in, turn}
 use Rattle.pn_serve.specs.Machine.LastTurns.{last_of, end_in, end_turn}
 use Rattle.pn_serve.specs.Machine.Answers.{TurnedBy, Answers, Concludes}
@@ -22,11 +22,11 @@ said-long outcome text long =
     ap (λ (b : Bool). if b then done else outcome) test
 
 -- a line that is too long is refused as such
-pub turn-long : (machine : Machine) (outcome : Outcome) (text : List ℕ) → 65536 < length text → turn_in awaits_command machine outcome text ≡ refusing machine TooLong
+pub turn-long : (machine : Machine) (outcome : Outcome) (text : List ℕ) → 65536 < length text → turn_in awaits_command machine outcome text ≡ refusal_turn machine TooLong
 turn-long machine outcome text long =
     ap (λ (o : Outcome). turn_of machine o (command_at text)) (said-long outcome text long) ∙ ap (turn_of machine done) (too_long _ text long)
 
-end-long : (machine : Machine) (outcome : Outcome) (text : List ℕ) → 65536 < length text → end_in awaits_command machine outcome text ≡ refusing machine TooLong
+end-long : (machine : Machine) (outcome : Outcome) (text : List ℕ) → 65536 < length text → end_in awaits_command machine outcome text ≡ refusal_turn machine TooLong
 end-long machine outcome [] long = absurd (omega (arith, long))
 end-long machine outcome (b ∷ text) long =
     ap (λ (o : Outcome). last_of machine o (command_at (b ∷ text))) (said-long outcome (b ∷ text) long) ∙ ap (last_of machine done) (too_long _ (b ∷ text) long)
@@ -49,7 +49,7 @@ end-kept awaits_command machine outcome part = elim (cases_lt 65536 (length part
   | inr short ↦ ap (end_in awaits_command machine outcome) (kept-short part short)
 ]
 end-kept (announced left came) machine outcome part =
-    ap (λ (bytes : List ℕ). adopting_text (logged machine) (unless_call outcome (option_map (λ text. text ++ (bytes ++ [])) came))) (kept-kept part)
+    ap (λ (bytes : List ℕ). text_adoption_turn (logged_region machine) (unless_call outcome (option_map (λ text. text ++ (bytes ++ [])) came))) (kept-kept part)
 
 pub answers_kept : (old new : Machine) (line : LineBufferValue) (taken : List ℕ) (reply : Reply) → line ≡ so_far taken → Answers old line.bytes new reply → Answers old taken new reply
 answers_kept old new line taken reply is answers =

@@ -35,11 +35,11 @@ use Rattle.pn_protocol.specs.Command.Lines.{command_at}
 use Rattle.pn_protocol.specs.Command.Meaning.{CommandValue, scan}
 use Rattle.pn_protocol.specs.Reply.Scan.{scan_data}
 use Rattle.pn_protocol.proofs.CommandLines.{line_found}
-use Rattle.pn_serve.specs.Machine.Doing.{looking}
+use Rattle.pn_serve.specs.Machine.Doing.{lookup_turn}
 use Rattle.pn_serve.specs.Machine.LastTurns.{last_of, end_in, end_turn}
 use Rattle.pn_serve.specs.Machine.Outcomes.{Outcome, done, line, call, round, Mode, awaits_command, Machine, Turn}
 use Rattle.pn_serve.specs.Machine.Turns.{turn_of, outcome_at, turn_in, turn}
-use Rattle.pn_serve.specs.Script.Events.{happened_in}
+use Rattle.pn_serve.specs.Script.Events.{events_in}
 use Rattle.pn_serve.specs.Script.Inputs.{InputEnd, Input}
 use Rattle.pn_serve.specs.Script.Pages.{ShowsPage, ShowsNext, EndsPages, ShowPages, shown_cell}
 use Rattle.pn_serve.specs.Script.Lines.{ToldLine, told_lines, after_line}
@@ -53,7 +53,7 @@ module _ (m : Machine) (query : QueryValue) where
   abbrev Found : Turn → Type 0
   Found turned = (page : PageValue) × (page_in m.region query ≡ Ok page) × (turned.reply ≡ line_of (scan_data page))
 
-  found_by : (right : Result PageValue ScanFault) → page_in m.region query ≡ right → (looking m scan_data right).refused ≡ false → Found (looking m scan_data right)
+  found_by : (right : Result PageValue ScanFault) → page_in m.region query ≡ right → (lookup_turn m scan_data right).refused ≡ false → Found (lookup_turn m scan_data right)
   found_by (Ok page) is accepted = (page, is, refl)
   found_by (Err fault) is accepted = cc
 
@@ -107,7 +107,7 @@ one_is (event ∷ []) old new lead is = event_is event old new is lead
 one_is (event ∷ next ∷ later) old new lead is = absurd lead
 
 line_is : (m : Machine) (text : ToldLine) → IsRegion m.region → IsRegion (after_line m text).region
-line_is m text is = one_is (happened_in m.mode m text.outcome text.text) m.region (after_line m text).region (line_leads m text.outcome text.text is) is
+line_is m text is = one_is (events_in m.mode m text.outcome text.text) m.region (after_line m text).region (line_leads m text.outcome text.text is) is
 
 module _ (Holds : RegionValue → Type 0) where
   -- a region with the property has the page; the query asks for at least one row

@@ -25,7 +25,7 @@ use Rattle.pn_region.specs.Taken.{IsRound}
 use Rattle.pn_region.specs.declared.fault.RoundFault.{RoundFault}
 use Rattle.pn_region.proofs.HalfAhead.{MarksRise, tablets_rise, all_rise, all_joins_rise, all_on, made_up}
 use Rattle.pn_region.proofs.RisingMarks.{IsBelow, below_then, new_rise, new_above, new_both}
-use Rattle.pn_serve.specs.Machine.PartRounds.{some_stepped, partly_marked}
+use Rattle.pn_serve.specs.Machine.PartRounds.{some_after, after_part_with_marks}
 use Rattle.pn_serve.proofs.LineSteps.{SameFace, SameFaces, Carries}
 
 -- ---- joins leave the ranges of tablets, and what they need
@@ -67,7 +67,7 @@ module _ (marks : Positions) (images : List Image) where
   flag_face true r t u same = one_face r t u same
   flag_face false r t u same = same
 
-  some_faces : (flags : List Bool) (rs : List Ends) (ts us : List TabletStateValue) → SameFaces ts us → SameFaces (some_stepped flags ts (map (join_in marks images) rs)) (some_stepped flags us (map (join_in marks images) rs))
+  some_faces : (flags : List Bool) (rs : List Ends) (ts us : List TabletStateValue) → SameFaces ts us → SameFaces (some_after flags ts (map (join_in marks images) rs)) (some_after flags us (map (join_in marks images) rs))
   some_faces [] rs ts us same = same
   some_faces (flag ∷ flags) rs [] [] same = tt
   some_faces (flag ∷ flags) rs [] (u ∷ us) same = absurd same
@@ -75,7 +75,7 @@ module _ (marks : Positions) (images : List Image) where
   some_faces (flag ∷ flags) [] (t ∷ ts) (u ∷ us) same = same
   some_faces (flag ∷ flags) (r ∷ rs) (t ∷ ts) (u ∷ us) same = (flag_face flag r t u same.0, some_faces flags rs ts us same.1)
 
-  some_themselves : (flags : List Bool) (rs : List Ends) (ts : List TabletStateValue) → SameFaces (some_stepped flags ts (map (join_in marks images) rs)) ts
+  some_themselves : (flags : List Bool) (rs : List Ends) (ts : List TabletStateValue) → SameFaces (some_after flags ts (map (join_in marks images) rs)) ts
   some_themselves [] rs ts = faces_themselves ts
   some_themselves (flag ∷ flags) rs [] = tt
   some_themselves (flag ∷ flags) [] (t ∷ ts) = faces_themselves (t ∷ ts)
@@ -115,15 +115,15 @@ module _ (a b : RegionValue) (deliveries : List DeliveryValue) (next : Positions
     faces = subst (λ (layout : Bounds). SameFaces (all_stepped a.tablets (joins a deliveries next)) (all_stepped b.tablets (joins_of layout next (all_images deliveries)))) alike.layout (all_faces next (all_images deliveries) (ranges a.layout) a.tablets b.tablets alike.faces);
   }
 
-  look_takes_some : (flags : List Bool) → LookAlike (partly_marked a deliveries flags (Ok next)) (partly_marked b deliveries flags (Ok next))
+  look_takes_some : (flags : List Bool) → LookAlike (after_part_with_marks a deliveries flags (Ok next)) (after_part_with_marks b deliveries flags (Ok next))
   look_takes_some flags = record {
     layout = alike.layout;
     marks = alike.marks;
-    faces = subst (λ (layout : Bounds). SameFaces (some_stepped flags a.tablets (joins a deliveries next)) (some_stepped flags b.tablets (joins_of layout next (all_images deliveries)))) alike.layout (some_faces next (all_images deliveries) flags (ranges a.layout) a.tablets b.tablets alike.faces);
+    faces = subst (λ (layout : Bounds). SameFaces (some_after flags a.tablets (joins a deliveries next)) (some_after flags b.tablets (joins_of layout next (all_images deliveries)))) alike.layout (some_faces next (all_images deliveries) flags (ranges a.layout) a.tablets b.tablets alike.faces);
   }
 
 -- a round that some tablets took
-pub partly_look : (a : RegionValue) (deliveries : List DeliveryValue) (flags : List Bool) (right : Result Positions RoundFault) → LookAlike (partly_marked a deliveries flags right) a
+pub partly_look : (a : RegionValue) (deliveries : List DeliveryValue) (flags : List Bool) (right : Result Positions RoundFault) → LookAlike (after_part_with_marks a deliveries flags right) a
 partly_look a deliveries flags (Ok next) = record { layout = refl; marks = refl; faces = some_themselves next (all_images deliveries) flags (ranges a.layout) a.tablets }
 partly_look a deliveries flags (Err fault) = alike_themselves a
 
@@ -185,7 +185,7 @@ module _ (deliveries : List DeliveryValue) where
       }
 
       some_on : (flags : List Bool) (rs : List Ends) (ts us : List TabletStateValue) → MarksRise ts → AreOldOrStepped ts (map (join_in ahead.first (all_images deliveries)) rs) us
-          → AreOldOrStepped (some_stepped flags ts (map (join_in next (all_images more)) rs)) (map (join_in ahead.first (all_images deliveries)) rs) (some_stepped flags us (map (join_in next (all_images more)) rs))
+          → AreOldOrStepped (some_after flags ts (map (join_in next (all_images more)) rs)) (map (join_in ahead.first (all_images deliveries)) rs) (some_after flags us (map (join_in next (all_images more)) rs))
       some_on [] rs ts us rise half = half
       some_on (flag ∷ flags) [] [] [] rise half = tt
       some_on (flag ∷ flags) [] [] (u ∷ us) rise half = absurd half
@@ -196,14 +196,14 @@ module _ (deliveries : List DeliveryValue) where
           ((all_on ahead.first (all_images deliveries) rise_first next (all_images more) rise_next (r ∷ []) (t ∷ []) (u ∷ []) (rise.0, tt) (half.0, tt)).0, some_on flags rs ts us rise.1 half.1)
       some_on (false ∷ flags) (r ∷ rs) (t ∷ ts) (u ∷ us) rise half = (half.0, some_on flags rs ts us rise.1 half.1)
 
-      some_rise : (flags : List Bool) (rs : List Ends) (ts : List TabletStateValue) → MarksRise ts → MarksRise (some_stepped flags ts (map (join_in next (all_images more)) rs))
+      some_rise : (flags : List Bool) (rs : List Ends) (ts : List TabletStateValue) → MarksRise ts → MarksRise (some_after flags ts (map (join_in next (all_images more)) rs))
       some_rise [] rs ts rise = rise
       some_rise (flag ∷ flags) rs [] rise = tt
       some_rise (flag ∷ flags) [] (t ∷ ts) rise = rise
       some_rise (true ∷ flags) (r ∷ rs) (t ∷ ts) rise = ((all_joins_rise next (all_images more) (r ∷ []) (t ∷ []) (rise.0, tt)).0, some_rise flags rs ts rise.1)
       some_rise (false ∷ flags) (r ∷ rs) (t ∷ ts) rise = (rise.0, some_rise flags rs ts rise.1)
 
-      ahead_takes_some : (flags : List Bool) → RunsAhead (partly_marked a more flags (Ok next)) (partly_marked b more flags (Ok next))
+      ahead_takes_some : (flags : List Bool) → RunsAhead (after_part_with_marks a more flags (Ok next)) (after_part_with_marks b more flags (Ok next))
       ahead_takes_some flags = record {
         base = ahead.base;
         first = ahead.first;
@@ -212,9 +212,9 @@ module _ (deliveries : List DeliveryValue) where
         below = ahead.below;
         layout = ahead.layout;
         marks = ahead.marks;
-        tablets = subst (λ (layout : Bounds). Both (some_stepped flags b.tablets (joins b more next)) (some_stepped flags a.tablets (joins_of layout next (all_images more)))) (sym ahead.layout) (
+        tablets = subst (λ (layout : Bounds). Both (some_after flags b.tablets (joins b more next)) (some_after flags a.tablets (joins_of layout next (all_images more)))) (sym ahead.layout) (
             some_on flags (ranges b.layout) b.tablets a.tablets tablets_were ahead.tablets);
-        rise = all_rise (partly_marked b more flags (Ok next)) ahead.rise.marks (some_rise flags (ranges b.layout) b.tablets tablets_were);
+        rise = all_rise (after_part_with_marks b more flags (Ok next)) ahead.rise.marks (some_rise flags (ranges b.layout) b.tablets tablets_were);
       }
 
     -- the round itself makes both the same
@@ -248,7 +248,7 @@ equal_carries = record {
   faces = λ a b same. subst (λ (r : RegionValue). SameFaces a.tablets r.tablets) same (faces_themselves a.tablets);
   marks = λ a b same. ap (λ (r : RegionValue). r.marks) same;
   takes = λ a b deliveries next same is. ap (λ (r : RegionValue). after_joins r deliveries next) same;
-  takes_some = λ a b deliveries flags next same is. ap (λ (r : RegionValue). partly_marked r deliveries flags (Ok next)) same;
+  takes_some = λ a b deliveries flags next same is. ap (λ (r : RegionValue). after_part_with_marks r deliveries flags (Ok next)) same;
   loses = λ a b tablet same any. ap (λ (r : RegionValue). after_loss r tablet) same;
   adopts = λ a b given tablet same any. ap (λ (r : RegionValue). after_op r tablet (Adopt given)) same;
   relays = λ a b bounds same any. ap (λ (r : RegionValue). with_layout r bounds) same;

@@ -4,7 +4,7 @@ ghost use Rattle.std.specs.Prelude.{◌≡◌, ◌≤◌};
 ghost use Rattle.pn_apply.specs.Prelude.{MAX_WORKERS};
 ghost use Rattle.pn_protocol.specs.Prelude.{command_value, deliver as asking};
 ghost use Rattle.pn_serve.specs.Machine.Modes.{IsDone, with_mode};
-ghost use Rattle.pn_serve.specs.Machine.Outcomes.{waiting};
+ghost use Rattle.pn_serve.specs.Machine.Outcomes.{machine_over};
 ghost use Rattle.pn_serve.specs.Machine.Answers.{AnswersBy, ConcludesBy, Obeys};
 ghost use Rattle.pn_serve.specs.Machine.Ways.{HandlesTo, LastsBy};
 
@@ -20,9 +20,7 @@ use crate::machine::command_reader::CommandReader;
 use crate::machine::lookups::{get, look_up_notices, read, scan};
 use crate::machine::tablets::{copy_tablet, lose_tablet, relayout};
 use pn_apply::Open;
-use pn_protocol::{
-    Command, CommandFault, Reply, answer_text, marks_reply, refuse, tablets_reply,
-};
+use pn_protocol::{Command, CommandFault, Reply, answer_text, marks_reply, refuse, tablets_reply};
 use pn_region::Region;
 use pn_stream::Delivery;
 use std::alloc::Global;
@@ -60,7 +58,7 @@ fn run_command<R: Threads + Sync, C: CommandReader>(
     line: &[u8],
 ) -> Answer
     requires workers { (1 ≤ workers) × (workers ≤ MAX_WORKERS) }
-    ensures { AnswersBy C.may_run_out (waiting region.old) line.now (with_mode result.1 region.new) result.0 }
+    ensures { AnswersBy C.may_run_out (machine_over region.old) line.now (with_mode result.1 region.new) result.0 }
 {
     match C::command_of(alloc, line) {
         Ok(command) => announce(alloc, obey(rt, alloc, region, workers, command)),
@@ -88,7 +86,7 @@ pub(crate) fn answer_end<R: Threads + Sync, C: CommandReader>(
     part: &[u8],
 ) -> Reply
     requires workers { (1 ≤ workers) × (workers ≤ MAX_WORKERS) }
-    ensures { ConcludesBy C.may_run_out (with_mode announced region.old) part.now (waiting region.new) result }
+    ensures { ConcludesBy C.may_run_out (with_mode announced region.old) part.now (machine_over region.new) result }
 {
     match announced {
         Some(announced) => take_last_part(alloc, region, announced, part),
@@ -164,7 +162,7 @@ fn deliver<R: Threads + Sync>(
     deliveries: Vec<Delivery>,
 ) -> Reply
     requires workers { (1 ≤ workers) × (workers ≤ MAX_WORKERS) }
-    ensures { Obeys (waiting region.old) (asking deliveries.items) (waiting region.new) result }
+    ensures { Obeys (machine_over region.old) (asking deliveries.items) (machine_over region.new) result }
 {
     match region.round(rt, deliveries, workers, &Open) {
         Ok(round) => Reply::Changed(round.changed),

@@ -7,9 +7,9 @@ ghost use Rattle.pn_serve.specs.Lines.Waiting.{HandsOn, looks_of_input};
 ghost use Rattle.pn_region.specs.Prelude.{new_region};
 ghost use Rattle.pn_serve.specs.Lines.States.{Start, new_loop};
 ghost use Rattle.pn_serve.specs.Lines.Served.{Served};
-ghost use Rattle.pn_serve.specs.Machine.Outcomes.{serving};
+ghost use Rattle.pn_serve.specs.Machine.Outcomes.{new_machine};
 ghost use Rattle.pn_serve.specs.Runs.Ends.{Ends};
-ghost use Rattle.pn_serve.specs.Runs.Starts.{begins};
+ghost use Rattle.pn_serve.specs.Runs.Starts.{run_start};
 ghost use Rattle.pn_serve.specs.Session.Knowing.{KnowsNoLess};
 
 mod blocks;
@@ -70,7 +70,7 @@ pub fn run<R: Threads + Sync, S: Source, W: Sink>(
     output: &mut W,
     settings: Settings,
 ) -> Result<Counts, RunFault>
-    ensures ends { Ends (begins settings (S.left input.old) (W.contents output.old)) (S.left input.new) (W.contents output.new) result }
+    ensures ends { Ends (run_start settings (S.left input.old) (W.contents output.old)) (S.left input.new) (W.contents output.new) result }
     ensures read { IsErrOf result RunFault.Read → S.may_fail }
     ensures write { IsErrOf result RunFault.Write → W.may_fail }
     ensures few { IfOk result (λ counts. counts.lines ≤ MAX_LINES) }
@@ -91,7 +91,7 @@ pub fn run_to_exit<R: Threads + Sync, S: Source, W: Sink>(
     output: &mut W,
     settings: Settings,
 ) -> Result<Counts, RunFault>
-    ensures ends { Ends (begins settings (S.left input.old) (W.contents output.old)) (S.left input.new) (W.contents output.new) result }
+    ensures ends { Ends (run_start settings (S.left input.old) (W.contents output.old)) (S.left input.new) (W.contents output.new) result }
     ensures read { IsErrOf result RunFault.Read → S.may_fail }
     ensures write { IsErrOf result RunFault.Write → W.may_fail }
     ensures few { IfOk result (λ counts. counts.lines ≤ MAX_LINES) }
@@ -100,9 +100,9 @@ pub fn run_to_exit<R: Threads + Sync, S: Source, W: Sink>(
     ensures end { OnOk result S.may_end }
     ensures unread { IsErrOf result RunFault.Memory → S.looks input.new ≡ S.looks input.old }
 {
-    let (mut lines, mut machine) = start_script(rt, alloc, settings)?;
-    let ended = answer_lines(&mut machine, &mut lines, input, output);
-    mem::forget(machine);
+    let (mut lines, mut kept) = start_script(rt, alloc, settings)?;
+    let ended = answer_lines(&mut kept, &mut lines, input, output);
+    mem::forget(kept);
     ended
 }
 
@@ -113,7 +113,7 @@ fn start_script<'a, R: Threads + Sync>(
     settings: Settings,
 ) -> Result<(LineLoop, ScriptHandler<'a, R>), RunFault>
     ensures lines { IfOk result (λ begun. begun.0 ≡ new_loop) }
-    ensures machine { IfOk result (λ begun. begun.1 ≡ serving (new_region settings.layout)) }
+    ensures machine { IfOk result (λ begun. begun.1 ≡ new_machine (new_region settings.layout)) }
     ensures fault { IfErr result (λ fault. fault ≡ Memory) }
 {
     match (

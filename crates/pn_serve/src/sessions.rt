@@ -4,7 +4,7 @@ ghost use Rattle.std.specs.Prelude.{◌≡◌, ◌+◌, ◌≤◌, IfOk, OnOk, I
 ghost use Rattle.pn_serve.specs.Lines.Ends.{EndsBy};
 ghost use Rattle.pn_serve.specs.Lines.Waiting.{HandsOn, looks_of_input};
 ghost use Rattle.pn_serve.specs.Session.Knowing.{KnowsNoLess};
-ghost use Rattle.pn_serve.specs.Session.Lines.{AnswersLine, EndsLines, starts};
+ghost use Rattle.pn_serve.specs.Session.Lines.{AnswersLine, EndsLines, session_start};
 
 mod lookups;
 
@@ -28,7 +28,7 @@ pub fn session<S: Source, W: Sink>(
     input: &mut S,
     output: &mut W,
 ) -> Result<Counts, RunFault>
-    ensures ends { EndsBy AnswersLine EndsLines (starts reader.old (S.left input.old) (W.contents output.old)) (S.left input.new) (W.contents output.new) reader.new result }
+    ensures ends { EndsBy AnswersLine EndsLines (session_start reader.old (S.left input.old) (W.contents output.old)) (S.left input.new) (W.contents output.new) reader.new result }
     ensures read { IsErrOf result RunFault.Read → S.may_fail }
     ensures write { IsErrOf result RunFault.Write → W.may_fail }
     ensures knows { KnowsNoLess reader.old reader.new }

@@ -82,11 +82,11 @@ abbrev pub serve : App
 serve = with_rule (with_service (with_rule (with_rule (new_app (codes "serve")) bounds_option) workers_option)) streams_words
 
 -- the program, which needs a command, and has a version
-abbrev pub named : App
-named = record (new_app (codes "pnuts")) {
+abbrev pub named_program : App
+named_program = record (new_app (codes "pnuts")) {
   top = record (new_app (codes "pnuts")).top { has_version = true; subcommand_required = true; disable_help_subcommand = true };
 }
 
 -- the program with its commands
 abbrev pub program : App
-program = with_subcommand (with_subcommand named replay.top) serve.top
+program = with_subcommand (with_subcommand named_program replay.top) serve.top

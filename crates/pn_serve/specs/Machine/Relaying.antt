@@ -10,7 +10,7 @@ use Rattle.pn_protocol.specs.declared.refusal.Part.TheVariants as part
 use Rattle.pn_protocol.specs.declared.refusal.Refusal.TheVariants.{OutOfRange}
 use Rattle.pn_protocol.specs.Reply.Faults.{relayout_fault_data}
 use Rattle.pn_protocol.specs.Reply.Short.{relaid_data}
-use Rattle.pn_serve.specs.Machine.Outcomes.{Machine, Turn, refusing}
+use Rattle.pn_serve.specs.Machine.Outcomes.{Machine, Turn, refusal_turn}
 
 -- the layout becomes another, of this many tablets, or stays; the log stays
 abbrev pub relaid_turn : Machine → ℕ → Result RegionValue RelayoutFault → Turn
@@ -18,6 +18,6 @@ relaid_turn machine count (Ok after) = record { machine = record machine { regio
 relaid_turn machine count (Err fault) = record { machine = machine; reply = line_of (relayout_fault_data fault); refused = true }
 
 -- the layout becomes that of these bounds, if there is one
-abbrev pub relaying_it : Machine → Result Bounds LayoutFault → Turn
-relaying_it machine (Ok bounds) = relaid_turn machine (length bounds + 1) (after_relayout machine.region bounds)
-relaying_it machine (Err fault) = refusing machine (OutOfRange part.Bounds)
+abbrev pub relayout_turn : Machine → Result Bounds LayoutFault → Turn
+relayout_turn machine (Ok bounds) = relaid_turn machine (length bounds + 1) (after_relayout machine.region bounds)
+relayout_turn machine (Err fault) = refusal_turn machine (OutOfRange part.Bounds)

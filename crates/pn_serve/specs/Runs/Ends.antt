@@ -7,7 +7,7 @@ use Rattle.pn_line.specs.Text.{lines_of}
 use Rattle.pn_serve.specs.declared.script.Counts.{Counts}
 use Rattle.pn_serve.specs.declared.script.RunFault.{RunFault}
 use Rattle.pn_serve.specs.declared.script.RunFault.TheVariants.{Read, Write, TooManyTurns, Memory}
-use Rattle.pn_serve.specs.Machine.Outcomes.{Outcome, serving}
+use Rattle.pn_serve.specs.Machine.Outcomes.{Outcome, new_machine}
 use Rattle.pn_serve.specs.Script.Written.{replies, replies_from, refusals}
 use Rattle.pn_serve.specs.Runs.Starts.{RunStart}
 use Rattle.pn_serve.specs.Runs.Bounds.{lines_within, IsAtBound}
@@ -29,7 +29,7 @@ pub record Broken (begun : RunStart) (script : List ℕ) (left written : Option 
   pub part : List ℕ
   pub read : PartRead script left lines part
   pub outcomes : List Outcome
-  pub wrote : Appends begun.written written (replies_from (serving begun.region) lines outcomes)
+  pub wrote : Appends begun.written written (replies_from (new_machine begun.region) lines outcomes)
 
 -- some lines and a part of the next were read; a prefix of the script's replies was written
 pub record Cut (begun : RunStart) (script : List ℕ) (left written : Option (List ℕ)) : Type 0 where
@@ -47,7 +47,7 @@ pub record Exceeded (begun : RunStart) (script : List ℕ) (left written : Optio
   pub read : PartRead script left (lines_within script) part
   pub stopped : IsAtBound (lines_within script) part
   pub outcomes : List Outcome
-  pub wrote : Appends begun.written written (replies_from (serving begun.region) (lines_within script) outcomes)
+  pub wrote : Appends begun.written written (replies_from (new_machine begun.region) (lines_within script) outcomes)
   pub more : lines_within script ≢ lines_of script
 
 -- where a run ends, by what it answered; out of memory, nothing was read or written

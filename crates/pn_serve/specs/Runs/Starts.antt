@@ -10,5 +10,5 @@ pub record RunStart : Type 0 where
   pub written : Option (List ℕ)
 
 -- what a run with these settings begins with
-abbrev pub begins : SettingsValue → Option (List ℕ) → Option (List ℕ) → RunStart
-begins settings left written = record { region = new_region settings.layout; left = left; written = written }
+abbrev pub run_start : SettingsValue → Option (List ℕ) → Option (List ℕ) → RunStart
+run_start settings left written = record { region = new_region settings.layout; left = left; written = written }

@@ -11,12 +11,12 @@ use Rattle.pn_serve.specs.declared.server.reports.Report.{Report}
 use Rattle.pn_serve.specs.declared.server.reports.Report.TheVariants.{Messages, End, Fault}
 
 -- the delivery of these images at the next positions of the stream
-abbrev pub following : {S : Type 0} → Stream S → DeliveryValue → DeliveryValue
-following stream delivery = record { stream = stream.name; first = min (stream.position + 1) greatest; images = delivery.images }
+abbrev pub next_delivery : {S : Type 0} → Stream S → DeliveryValue → DeliveryValue
+next_delivery stream delivery = record { stream = stream.name; first = min (stream.position + 1) greatest; images = delivery.images }
 
 -- the report is right for what the source has left: the next messages; no whole line; or a fault that comes next
 abbrev pub Leaves : {S : Type 0} → (S → Option (List ℕ)) → Stream S → Report → Stream S → Type 0
-Leaves left old (Messages messages) new = (old.fault ≡ None) × (messages.delivery ≡ following old messages.delivery)
+Leaves left old (Messages messages) new = (old.fault ≡ None) × (messages.delivery ≡ next_delivery old messages.delivery)
     × (new.position ≡ old.position + length messages.delivery.images)
     × IfSome (left old.source) (λ text. Batch 1 MAX_MESSAGES old.position (old.part ++ text) messages.delivery.images new.fault new.part (left new.source))
 Leaves left old End new = (old.fault ≡ None) × (new.fault ≡ None) × (new.position ≡ old.position)

@@ -6,8 +6,8 @@ ghost use Rattle.pn_json.specs.Prelude.{IsUnless};
 ghost use Rattle.pn_region.specs.Prelude.{after_adoption};
 ghost use Rattle.pn_tablet.specs.Prelude.{copy_at};
 ghost use Rattle.pn_serve.specs.Machine.Modes.{bytes_of, mode_of, with_mode};
-ghost use Rattle.pn_serve.specs.Machine.Outcomes.{announced as announced_mode, waiting};
-ghost use Rattle.pn_serve.specs.Machine.Recovering.{adopted, adopting_text};
+ghost use Rattle.pn_serve.specs.Machine.Outcomes.{announced as announced_mode, machine_over};
+ghost use Rattle.pn_serve.specs.Machine.Recovering.{adoption_turn, text_adoption_turn};
 ghost use Rattle.pn_serve.specs.Machine.Answers.{AnswersBy, ConcludesBy};
 ghost use Rattle.pn_serve.specs.Machine.Ways.{ComesTo, IsJoined};
 
@@ -65,7 +65,7 @@ pub(crate) fn take_last_part(
     announced: Announced,
     part: &[u8],
 ) -> Reply
-    ensures { ConcludesBy ⊥ (with_mode (Some announced) region.old) part.now (waiting region.new) result }
+    ensures { ConcludesBy ⊥ (with_mode (Some announced) region.old) part.now (machine_over region.new) result }
 {
     adopt(alloc, region, append_line(announced.text, part, b""))
 }
@@ -90,7 +90,7 @@ fn extend_text(text: Vec<u8>, line: &[u8], newline: &[u8]) -> Result<Vec<u8>, No
 
 /// Adopts the copy of the text. None: memory ran out before.
 pub(crate) fn adopt(alloc: Global, region: &mut Region, text: Option<Vec<u8>>) -> Reply
-    ensures { ComesTo (adopting_text region.old (bytes_of text)) region.old region.new result }
+    ensures { ComesTo (text_adoption_turn region.old (bytes_of text)) region.old region.new result }
 {
     let Some(text) = text else {
         return Reply::Refused(Refusal::Memory);
@@ -109,7 +109,7 @@ fn read_text(alloc: Global, text: Vec<u8>) -> Result<TabletCopy, CopyTextFault>
 }
 
 fn adopt_copy(alloc: Global, region: &mut Region, copy: TabletCopy) -> Reply
-    ensures { ComesTo (adopted region.old (after_adoption region.old.state copy)) region.old region.new result }
+    ensures { ComesTo (adoption_turn region.old (after_adoption region.old.state copy)) region.old region.new result }
 {
     match region.adopt(copy) {
         Ok(tablet) => Reply::Adopted(tablet as u64),

@@ -2,7 +2,7 @@
 
 ghost use Rattle.std.specs.Prelude.{◌≡◌, IfOk};
 ghost use Rattle.pn_region.specs.Prelude.{new_region};
-ghost use Rattle.pn_serve.specs.Machine.Outcomes.{serving};
+ghost use Rattle.pn_serve.specs.Machine.Outcomes.{new_machine};
 
 use crate::Settings;
 use crate::machine::adoption::Announced;
@@ -51,7 +51,7 @@ impl<'a, R: Threads + Sync> ScriptHandler<'a, R> {
         alloc: Global,
         settings: Settings,
     ) -> Result<ScriptHandler<'a, R>, NoMemory>
-        ensures { IfOk result (λ scripted. scripted ≡ serving (new_region settings.layout)) }
+        ensures { IfOk result (λ scripted. scripted ≡ new_machine (new_region settings.layout)) }
     {
         let Settings { layout, workers } = settings;
         Ok(ScriptHandler {

@@ -2,7 +2,7 @@
 
 ghost use Rattle.std.specs.Prelude.{◌≡◌, length, ◌+◌};
 ghost use Rattle.pn_protocol.specs.Prelude.{copy as copy_asked, lose as lose_asked, relayout as relayout_asked};
-ghost use Rattle.pn_serve.specs.Machine.Outcomes.{waiting};
+ghost use Rattle.pn_serve.specs.Machine.Outcomes.{machine_over};
 ghost use Rattle.pn_region.specs.Relayouts.{after_relayout};
 ghost use Rattle.pn_serve.specs.Machine.Answers.{Obeys};
 ghost use Rattle.pn_serve.specs.Machine.Relaying.{relaid_turn};
@@ -16,7 +16,7 @@ use pn_tablet::Layout;
 use std::alloc::Global;
 
 pub(crate) fn lose_tablet(region: &mut Region, tablet: u64) -> Reply
-    ensures { Obeys (waiting region.old) (lose_asked tablet) (waiting region.new) result }
+    ensures { Obeys (machine_over region.old) (lose_asked tablet) (machine_over region.new) result }
 {
     if tablet >= region.layout().count() as u64 {
         return Reply::Refused(Refusal::OutOfRange(Part::Tablet));
@@ -26,7 +26,7 @@ pub(crate) fn lose_tablet(region: &mut Region, tablet: u64) -> Reply
 }
 
 pub(crate) fn copy_tablet(alloc: Global, region: &Region, need: &Marks, tablet: u64) -> Reply
-    ensures { Obeys (waiting region.now) (copy_asked need.now tablet) (waiting region.now) result }
+    ensures { Obeys (machine_over region.now) (copy_asked need.now tablet) (machine_over region.now) result }
 {
     if tablet >= region.layout().count() as u64 {
         return Reply::Refused(Refusal::OutOfRange(Part::Tablet));
@@ -35,7 +35,7 @@ pub(crate) fn copy_tablet(alloc: Global, region: &Region, need: &Marks, tablet: 
 }
 
 pub(crate) fn relayout(alloc: Global, region: &mut Region, bounds: Vec<Key>) -> Reply
-    ensures { Obeys (waiting region.old) (relayout_asked bounds.items) (waiting region.new) result }
+    ensures { Obeys (machine_over region.old) (relayout_asked bounds.items) (machine_over region.new) result }
 {
     match Layout::new(bounds) {
         Ok(layout) => relayout_to(alloc, region, layout),
@@ -44,7 +44,7 @@ pub(crate) fn relayout(alloc: Global, region: &mut Region, bounds: Vec<Key>) -> 
 }
 
 fn relayout_to(alloc: Global, region: &mut Region, layout: Layout) -> Reply
-    ensures { ComesTo (relaid_turn (waiting region.old) (length layout + 1) (after_relayout region.old.state layout)) region.old region.new result }
+    ensures { ComesTo (relaid_turn (machine_over region.old) (length layout + 1) (after_relayout region.old.state layout)) region.old region.new result }
 {
     let count = layout.count() as u64;
     match region.relayout(layout) {
