@@ -120,7 +120,7 @@ fn run_last_command<R: Threads + Sync, C: CommandReader>(
 enum Handled {
     /// It was run, with this reply.
     Obeyed(Reply),
-    /// It announces this many lines.
+    /// It announces this many lines, which are to come.
     Announces(u64),
 }
 

@@ -75,7 +75,7 @@ where
     ensures write { IsErrOf result ServeFault.Write → W.may_fail }
     ensures handed_on { OnOk result (W.is_handed_on out.new) }
 {
-    let served = serve_region(rt, alloc, listener, settings, sessions, streams);
+    let served = serve_region(rt, alloc, settings, listener, sessions, streams);
     tell_served(served, out)
 }
 
@@ -98,8 +98,8 @@ fn tell_served<W: Sink>(served: Result<usize, ServeFault>, out: &mut W) -> Resul
 fn serve_region<R, L, S>(
     rt: &R,
     alloc: Global,
-    listener: &L,
     settings: Settings,
+    listener: &L,
     sessions: usize,
     streams: Vec<StreamReader<S>>,
 ) -> Result<usize, ServeFault>

@@ -41,7 +41,7 @@ impl Settings {
         Some(Settings { layout, workers })
     }
 
-    /// The layout and the workers.
+    /// Takes the settings apart into the layout and the workers.
     pub fn into_parts(self) -> (Layout, usize)
         ensures layout { result.0 ≡ self.layout }
         ensures workers { result.1 ≡ self.workers }

@@ -1,10 +1,10 @@
 //! The commands of the program and their options, for `clap`.
 
 ghost use Rattle.std.specs.Prelude.{◌≡◌, ◌≤◌, ℕ, List, [], None, Some, false, unwrap_or, IfOk, pos};
-ghost use Rattle.clap.specs.Words.{Row, Text, app_of, first_of, found_of, one_of, rows_of, rule_of};
+ghost use Rattle.clap.specs.Words.{Row, Text, app_of, first_of, found_of, new_app, one_of, rows_of, rule_of, with_rule};
 ghost use Rattle.clap.specs.declared.builder.command.Command.TheViews.{out-Command};
 ghost use Rattle.clap.specs.declared.builder.value_parser.ValueParser.TheVariants as values;
-ghost use Rattle.pn_serve.specs.Arguments.Options.{bounds_option, flag_option, number_option, option_of, plain_option, program, replay as replay_app, serve as serve_app, streams_words, workers_option};
+ghost use Rattle.pn_serve.specs.Arguments.Options.{bounds_option, flag_option, number_option, option_of, plain_option, program, serve as serve_app, streams_words, workers_option};
 ghost use Rattle.pn_serve.specs.Arguments.Commands.{number_at, number_in};
 
 use clap::builder::ValueParser;
@@ -13,7 +13,7 @@ use pn_apply::MAX_WORKERS;
 use pn_live::MAX_READERS;
 use std::alloc::{AllocError, Global};
 
-/// The greatest port.
+/// The greatest port that can be listened on.
 pub(crate) const MAX_PORT: u32 = 65_535;
 
 /// The most connections of a server that stays.
@@ -30,6 +30,12 @@ const EXAMPLES: &str = "\
 Examples:
   pnuts replay < script
   pnuts serve --stay --socket /run/pnuts/socket east=/run/pnuts/east";
+
+const REPLAY_ABOUT: &str =
+    "Answers the script on standard input, a reply a line, on standard output";
+
+const SERVE_ABOUT: &str =
+    "Reads streams from files while it serves sessions over TCP or a Unix socket";
 
 /// The examples of `pnuts replay --help`.
 const REPLAY_EXAMPLES: &str = "\
@@ -79,31 +85,15 @@ pub(crate) fn command<'w>(alloc: Global) -> Result<Command<'w>, AllocError>
         .after_help(EXAMPLES)
         .subcommand_required(true)
         .disable_help_subcommand(true);
-    command
-        .subcommand(replay(alloc)?)?
-        .subcommand(serve(alloc)?)
-}
-
-fn replay<'w>(alloc: Global) -> Result<Command<'w>, AllocError>
-    ensures app { IfOk result (λ command. app_of command ≡ replay_app) }
-    ensures local { IfOk result (λ command. (out-Command command).has_globals ≡ false) }
-{
-    Command::new(alloc, "replay")
-        .about("Answers the script on standard input, a reply a line, on standard output")
-        .after_help(REPLAY_EXAMPLES)
-        .arg(bounds(alloc))?
-        .arg(workers(alloc))
+    let replay = over_region(alloc, "replay", REPLAY_ABOUT, REPLAY_EXAMPLES)?;
+    command.subcommand(replay)?.subcommand(serve(alloc)?)
 }
 
 fn serve<'w>(alloc: Global) -> Result<Command<'w>, AllocError>
     ensures app { IfOk result (λ command. app_of command ≡ serve_app) }
     ensures local { IfOk result (λ command. (out-Command command).has_globals ≡ false) }
 {
-    Command::new(alloc, "serve")
-        .about("Reads streams from files while it serves sessions over TCP or a Unix socket")
-        .after_help(SERVE_EXAMPLES)
-        .arg(bounds(alloc))?
-        .arg(workers(alloc))?
+    over_region(alloc, "serve", SERVE_ABOUT, SERVE_EXAMPLES)?
         .arg(number(
             alloc,
             "sessions",
@@ -117,8 +107,8 @@ fn serve<'w>(alloc: Global) -> Result<Command<'w>, AllocError>
         .arg(plain(
             alloc,
             "socket",
-            "PATH",
             ValueParser::NonEmptyString,
+            "PATH",
             SOCKET_HELP,
         ))?
         .arg(flag(alloc, "stay", STAY_HELP))?
@@ -130,26 +120,29 @@ fn serve<'w>(alloc: Global) -> Result<Command<'w>, AllocError>
             MAX_CONNECTIONS,
             CONNECTIONS_HELP,
         ))?
-        .arg(plain(alloc, "idle", "SECONDS", up_to(MAX_IDLE), IDLE_HELP))?
+        .arg(plain(alloc, "idle", up_to(MAX_IDLE), "SECONDS", IDLE_HELP))?
         .arg(flag(alloc, "progress", PROGRESS_HELP))?
         .arg(streams(alloc))
 }
 
-fn bounds<'w>(alloc: Global) -> Arg<'w>
-    ensures rule { rule_of result ≡ bounds_option }
-    ensures local { result.global ≡ false }
+// A command over a region, with its bounds and workers.
+fn over_region<'w>(
+    alloc: Global,
+    name: &'w str,
+    about: &'w str,
+    examples: &'w str,
+) -> Result<Command<'w>, AllocError>
+    ensures app { IfOk result (λ command. app_of command ≡ with_rule (with_rule (new_app name.now) bounds_option) workers_option) }
+    ensures local { IfOk result (λ command. (out-Command command).has_globals ≡ false) }
 {
-    option(alloc, "bounds", "JSON", "[]", BOUNDS_HELP)
+    Command::new(alloc, name)
+        .about(about)
+        .after_help(examples)
+        .arg(option(alloc, "bounds", "JSON", "[]", BOUNDS_HELP))?
+        .arg(number(alloc, "workers", "N", "1", MAX_WORKERS as u32, WORKERS_HELP))
 }
 
-fn workers<'w>(alloc: Global) -> Arg<'w>
-    ensures rule { rule_of result ≡ workers_option }
-    ensures local { result.global ≡ false }
-{
-    number(alloc, "workers", "N", "1", MAX_WORKERS as u32, WORKERS_HELP)
-}
-
-// At least one stream.
+// The streams, each an argument of its own, of which there is at least one.
 fn streams<'w>(alloc: Global) -> Arg<'w>
     ensures rule { rule_of result ≡ streams_words }
     ensures local { result.global ≡ false }
@@ -199,8 +192,8 @@ fn number<'w>(
 fn plain<'w>(
     alloc: Global,
     name: &'w str,
-    value: &'w str,
     parser: ValueParser<'w>,
+    value: &'w str,
     help: &'w str,
 ) -> Arg<'w>
     ensures rule { rule_of result ≡ plain_option name.now parser }
@@ -213,7 +206,7 @@ fn plain<'w>(
         .help(help)
 }
 
-// An option without value.
+// An option that is given or not, without a value.
 fn flag<'w>(alloc: Global, name: &'w str, help: &'w str) -> Arg<'w>
     ensures rule { rule_of result ≡ flag_option name.now }
     ensures local { result.global ≡ false }

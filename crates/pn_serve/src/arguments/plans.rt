@@ -30,7 +30,7 @@ pub enum Plan {
 /// How sessions are served.
 #[derive(Debug, Drop)]
 pub struct Service {
-    /// 1 to 16.
+    /// How many sessions are served: 1 to 16.
     pub sessions: usize,
     pub address: Address,
     /// With `--stay`, how many connections are served at once: 1 to 65,536.

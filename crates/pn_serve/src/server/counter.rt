@@ -1,8 +1,8 @@
-//! A number that some threads change while others look at it.
+//! A number that some threads change while others read it.
 
 use std::sync::atomic::{AtomicU64, Ordering};
 
-/// A number that threads share.
+/// Counts what threads do, for others that read it at any time.
 #[derive(Drop)]
 pub struct Counter(AtomicU64);
 
@@ -12,17 +12,17 @@ impl Counter {
         Counter(AtomicU64::new(0))
     }
 
-    /// Adds to the number.
+    /// Makes the number greater by `more`.
     pub fn add(&self, more: u64) {
         let _ = self.0.fetch_add(more, Ordering::SeqCst);
     }
 
-    /// Subtracts from the number.
+    /// Makes the number less by `less`.
     pub fn subtract(&self, less: u64) {
         let _ = self.0.fetch_sub(less, Ordering::SeqCst);
     }
 
-    /// Sets the number to another.
+    /// Sets the number, whatever it was.
     pub fn set(&self, number: u64) {
         self.0.store(number, Ordering::SeqCst);
     }

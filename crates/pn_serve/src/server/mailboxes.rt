@@ -64,7 +64,7 @@ impl StreamMailboxes {
         Ok(reporter)
     }
 
-    /// The number of streams.
+    /// How many streams leave reports.
     pub(crate) fn len(&self) -> usize
         ensures { result ≡ vec_len self.now.mailboxes }
     {
@@ -76,7 +76,7 @@ impl StreamMailboxes {
         self.wakeup.wait(rt);
     }
 
-    /// Counts a round.
+    /// Counts a round that was run.
     pub(crate) fn count_round(&self) {
         if let Some(rounds) = &self.rounds {
             rounds.add(1);
@@ -113,12 +113,12 @@ enum Held {
     Nothing,
     /// A report, until it is taken.
     Left(Report),
-    /// No further report is taken.
+    /// Nothing, and no further report is taken.
     Closed,
 }
 
 impl Mailbox {
-    /// An empty mailbox.
+    /// A mailbox that holds nothing.
     pub(crate) fn new() -> Mailbox {
         Mailbox {
             held: Mutex::new(Held::Nothing),

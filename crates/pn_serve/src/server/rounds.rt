@@ -25,9 +25,9 @@ use std::thread::Threads;
 // What the mailboxes gave for one round.
 #[derive(Drop)]
 struct RoundInput {
-    /// The messages of streams.
+    /// The messages of the streams that have some.
     deliveries: Vec<Delivery>,
-    /// How many streams ended.
+    /// How many streams are at their end.
     ended: usize,
     /// The first stream with a fault.
     fault: Option<StreamName>,

@@ -45,7 +45,7 @@ impl Promise<LiveReader> for ComesBack {
     ghost kept_by = { λ promise reader. tablets_of reader ≡ tablets_of promise.0.value };
 }
 
-/// The thread of a session.
+/// The thread of a session, which gives its reader back.
 pub type SessionThread = PromisedHandle<LiveReader, ComesBack>;
 
 /// The sessions that run, and whether one was refused.

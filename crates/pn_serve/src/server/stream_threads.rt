@@ -35,13 +35,13 @@ impl<S: Source + Drop> Promise<Result<StreamEnd, StreamName>> for SaysWhetherWho
     ghost kept_by = { λ promise ended. EndsStream S.left promise.0.value ended };
 }
 
-/// The thread of a stream.
+/// The thread of a stream, which says in the end whether all of it was read.
 pub(crate) type StreamThread<S> = PromisedHandle<
     Result<StreamEnd, StreamName>,
     SaysWhetherWhole<S>,
 >;
 
-/// Streams that are being read.
+/// Streams that are being read: their mailboxes and threads.
 #[derive(Drop)]
 pub(crate) struct StartedStreams<S: Source + Drop> {
     pub(crate) mailboxes: StreamMailboxes,

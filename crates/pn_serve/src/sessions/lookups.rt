@@ -15,7 +15,7 @@ use pn_record::{Key, Version};
 use pn_scan::{Query, View};
 use std::alloc::Global;
 
-/// Answers a line.
+/// Answers a line by what the reader finds.
 pub(super) fn answer_line(alloc: Global, reader: &mut LiveReader, line: &[u8]) -> Reply
     ensures answers { AnswersLine reader.old line.now reader.new result }
     ensures same { tablets_of reader.new ≡ tablets_of reader.old }
