@@ -90,7 +90,7 @@ impl Dup for Key {
         ensures { IfOk result (λ copy. copy ≡ self.now) }
     {
         Ok(Key {
-            text: self.text.copy_text()?,
+            text: self.text.dup()?,
         })
     }
 }

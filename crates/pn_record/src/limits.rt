@@ -20,3 +20,6 @@ pub const NUMBER_BYTES: usize = 20;
 
 /// The most bytes that the names and values of all fields count together.
 pub const MAX_FIELD_BYTES: usize = 8_192;
+
+/// The most bytes of a key that is held in place.
+pub const MAX_SHORT_BYTES: usize = 31;

@@ -18,7 +18,7 @@ use std::alloc::Global;
 pub type Records = Table<Key, Cell>;
 
 /// Adds an image. An error leaves the records as they were.
-pub fn take_image(alloc: Global, records: &mut Records, image: Image) -> Result<(), NoMemory>
+pub fn add_image(alloc: Global, records: &mut Records, image: Image) -> Result<(), NoMemory>
     ensures ok { OnOk result ((taken : List Image) → Holds records.old taken → Holds records.new (taken ++ image ∷ [])) }
     ensures rising { OnOk result (IsTrue (is_sorted bytes_cmp records.new)) }
     ensures err { OnErr result (records.new ≡ records.old) }

@@ -20,7 +20,7 @@ use Rattle.pn_stream.specs.Steps.{line_ended, image_in_step}
 use Rattle.pn_stream.specs.Faults.{Refuses, Stands}
 use Rattle.pn_stream.specs.Batches.{IsPart, IsNext, part_of}
 use Rattle.pn_stream.specs.declared.fault.StreamFault.{StreamFault}
-use Rattle.pn_stream.specs.declared.next.Found.{Found}
+use Rattle.pn_stream.specs.declared.next.NextImage.{NextImage}
 use Rattle.pn_stream.specs.declared.fault.StreamFault.TheVariants.{Read, LineTooLong, BadMessage, OutOfStep, Memory, Failed}
 
 -- a line that holds a part, by its bytes
@@ -105,7 +105,7 @@ next_line more line new (Some text) leaves is reads =
     })
 
 -- a line that is the message wanted
-pub next_ok : (wanted : ℕ) (part line now : List ℕ) (found : Found) (left leaves : Option (List ℕ)) → IfSome left (λ text. TakesLine (part ++ text) line leaves) → IsMessageLine line (wanted, found.image) → now ≡ []
+pub next_ok : (wanted : ℕ) (part line now : List ℕ) (found : NextImage) (left leaves : Option (List ℕ)) → IfSome left (λ text. TakesLine (part ++ text) line leaves) → IsMessageLine line (wanted, found.image) → now ≡ []
     → IfSome left (λ text. IsNext wanted (part ++ text) (Some found) now leaves)
 next_ok wanted part line now found None leaves takes said none = tt
 next_ok wanted part line now found (Some text) leaves takes said none =

@@ -29,12 +29,12 @@ pub(crate) fn marks(alloc: Global, text: &str) -> Result<String, Fail> {
 pub(crate) fn value(alloc: Global, text: &str) -> Result<String, Fail> {
     let parsed = read_value(alloc, text.as_bytes())?;
     match value_of(&parsed) {
-        Some(value) => shown(alloc, value),
+        Some(value) => describe(alloc, value),
         None => Ok(String::from_str(alloc, "no value of a field")?),
     }
 }
 
-fn shown(alloc: Global, value: ValueRef<'_>) -> Result<String, Fail> {
+fn describe(alloc: Global, value: ValueRef<'_>) -> Result<String, Fail> {
     let (size, fits) = (value.size(), value.fits());
     match value.to_value(alloc)? {
         Value::Number(number) => Ok(format!(in alloc; "number {number}, {size} bytes, {fits}")?),

@@ -111,18 +111,7 @@ pub fn read_image(alloc: Global, line: &[u8]) -> Result<Image, ImageFault>
     ensures exact { IsUnless ImageFault.Memory result (image_at line.now) }
     ensures too_long { IsErrOf result ImageFault.TooLong ↔ (max_line_bytes < length line.now) }
 {
-    image_read(alloc, read_value(alloc, line))
-}
-
-// The image of a value that was read, or the fault of reading.
-fn image_read(alloc: Global, read: Result<Value, ImageFault>) -> Result<Image, ImageFault>
-    ensures found { IfOk read (λ value. IfOk result (λ image. IsImage (view value) image)) }
-    ensures exact { IfOk read (λ value. IsUnless ImageFault.Memory result (image_in (view value))) }
-    ensures memory { IfOk read (λ value. IsErrOf result ImageFault.Memory → IsOk (image_in (view value))) }
-    ensures faults { IfOk read (λ value. IfErr result IsOfValue) }
-    ensures unread { IfErr read (λ fault. result ≡ Err fault) }
-{
-    let value = read?;
+    let value = read_value(alloc, line)?;
     try_image_from(alloc, value)
 }
 
