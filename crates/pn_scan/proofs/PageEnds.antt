@@ -7,6 +7,6 @@ last_at o x [] = refl
 last_at o x (y ∷ ys) = last_at (Some x) y ys
 
 -- the last item is that at the last index
-pub last_place : {A : Type 0} (xs : List A) → last_or None xs ≡ slice_get xs (length xs - 1)
-last_place [] = refl
-last_place (x ∷ xs) = let e : length xs ≡ suc (length xs) - 1 = omega arith in last_at None x xs ∙ ap (slice_get (x ∷ xs)) e
+pub last_index : {A : Type 0} (xs : List A) → last_or None xs ≡ slice_get xs (length xs - 1)
+last_index [] = refl
+last_index (x ∷ xs) = let e : length xs ≡ suc (length xs) - 1 = omega arith in last_at None x xs ∙ ap (slice_get (x ∷ xs)) e

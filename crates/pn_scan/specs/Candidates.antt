@@ -48,8 +48,10 @@ looks_below tablet looks = filter (λ look. nat_lt look.0 tablet) looks
 abbrev pub is_visited : QueryValue → List Look → Look → Bool
 is_visited query looks look = nat_le (length (rows_in query (looks_below look.0 looks))) query.limit
 
+-- the looks into candidates
 abbrev pub candidates_of : Bounds → QueryValue → List Look → List Look
 candidates_of bounds query looks = filter (λ look. is_candidate bounds query look.0) looks
 
+-- the looks into candidates that are visited
 abbrev pub visited : Bounds → QueryValue → List Look → List Look
 visited bounds query looks = filter (is_visited query (candidates_of bounds query looks)) (candidates_of bounds query looks)

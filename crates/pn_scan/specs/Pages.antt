@@ -11,11 +11,12 @@ use Rattle.pn_scan.specs.declared.fault.ScanFault.{ScanFault}
 use Rattle.pn_scan.specs.declared.fault.ScanFault.TheVariants as fault
 use Rattle.pn_scan.specs.Candidates.{Look, rows_in, visited}
 
--- why nothing can be read of a tablet: the entry was refused, or it is recovering
+-- why nothing can be read of a tablet of this status: it is recovering
 abbrev pub refusal_by : ℕ → Status → Option ScanFault
 refusal_by tablet Serving = None
 refusal_by tablet (Recovering need) = Some (fault.Recovering tablet)
 
+-- why a look finds nothing: the entry was refused, or the tablet is recovering
 abbrev pub refusal : Look → Option ScanFault
 refusal (tablet, None) = Some fault.NoEntry
 refusal (tablet, Some state) = refusal_by tablet state.status

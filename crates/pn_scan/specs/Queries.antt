@@ -28,10 +28,11 @@ pub record QueryValue : Type 0 where
   pub conditions : List ConditionValue
   pub limit : ℕ
 
--- a condition with texts of its own, and one whose texts are borrowed
+-- a condition with texts of its own
 abbrev pub OwnCondition : Type 0
 OwnCondition = Condition (String Global) Value
 
+-- a condition whose texts are borrowed
 abbrev pub BorrowedCondition : Type 0
 BorrowedCondition = Condition (Bor (List ℕ)) ValueRef
 
@@ -43,6 +44,7 @@ shown_condition (Lt field value) = lt (string_bytes field) (shown_value value)
 shown_condition (Gt field value) = gt (string_bytes field) (shown_value value)
 shown_condition (Prefix field value) = prefix (string_bytes field) (string_bytes value)
 
+-- the borrowed condition as contracts show it
 abbrev pub shown_condition_ref : BorrowedCondition → ConditionValue
 shown_condition_ref (Has field) = has field.now
 shown_condition_ref (Eq field value) = eq field.now (shown_ref value)

@@ -145,6 +145,7 @@ fn fits(condition: &Condition) -> bool
     condition.as_ref().fits()
 }
 
+/// The conditions in their order, with texts of their own.
 pub(crate) fn copy_conditions(
     alloc: Global,
     conditions: &[Condition],

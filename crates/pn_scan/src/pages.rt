@@ -40,7 +40,7 @@ pub fn page<V: View>(alloc: Global, view: &mut V, query: &Query) -> Result<Page,
 }
 
 // The rows of a page, and the one after them, if there is one.
-fn gathered<V: View>(alloc: Global, view: &mut V, query: &Query) -> Result<Vec<Row>, ScanFault>
+fn gather_rows<V: View>(alloc: Global, view: &mut V, query: &Query) -> Result<Vec<Row>, ScanFault>
     ensures scan { (seen : List Look) × IsScan V.looks (V.bounds view.old) query.now view.old view.new (λ rows. rows.items) result
         (take (query.now.limit + 1)) seen }
     ensures layout { V.bounds view.new ≡ V.bounds view.old }

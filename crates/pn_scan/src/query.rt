@@ -6,7 +6,7 @@ ghost use Rattle.pn_scan.specs.Queries.{query_fits, is_limit as in_limit, shown_
 
 use crate::Condition;
 use crate::condition::{are_conditions, copy_conditions};
-use pn_join::{Dup, NoMemory};
+use pn_join::{Dup, NoMemory, dup_optional};
 use pn_record::Key;
 use std::alloc::Global;
 use std::marker::Model;
@@ -106,8 +106,8 @@ impl Query {
         ensures { IfOk result (λ query. query ≡ query_after self.now last.now) }
     {
         Ok(Query {
-            from: copy_key(self.from())?,
-            to: copy_key(self.to())?,
+            from: dup_optional(self.from())?,
+            to: dup_optional(self.to())?,
             after: Some(last.dup()?),
             conditions: copy_conditions(alloc, &self.conditions)?,
             limit: self.limit,
@@ -119,13 +119,4 @@ pub(crate) fn is_limit(limit: usize) -> bool
     ensures { result ≡ in_limit limit }
 {
     1 <= limit && limit <= MAX_PAGE_ROWS
-}
-
-fn copy_key(key: Option<&Key>) -> Result<Option<Key>, NoMemory>
-    ensures { IfOk result (λ copy. copy ≡ option_copied key.entry) }
-{
-    match key {
-        None => Ok(None),
-        Some(key) => Ok(Some(key.dup()?)),
-    }
 }

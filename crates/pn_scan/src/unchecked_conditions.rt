@@ -9,7 +9,6 @@ ghost use Rattle.pn_scan.specs.Queries.{shown_condition, is_condition};
 ghost use Rattle.pn_scan.specs.ConditionReading.{condition_in, lone_in, comparing_in, conditions_in, conditions_at as conditions_spelled, condition_at};
 ghost use Rattle.pn_scan.specs.ConditionWords.{lone_condition as lone_of, comparing_condition as comparing_of};
 ghost use Rattle.pn_scan.specs.UncheckedQueries.{AreParsed, are_conditions};
-ghost use Rattle.pn_scan.specs.declared.query.TheConstants.{MAX_CONDITIONS};
 
 use crate::condition::ConditionRef;
 use crate::{Condition, MAX_CONDITIONS, QueryFault};
@@ -130,7 +129,7 @@ impl UncheckedConditions<'_> {
         self.fit
     }
 
-    /// The conditions.
+    /// The conditions that were made of the values.
     pub(crate) fn conditions(self) -> Result<Vec<Condition>, NoMemory>
         requires { IsTrue (nat_le (length self) MAX_CONDITIONS && list_all is_condition self) }
         ensures { IfOk result (λ conditions. map shown_condition conditions.items ≡ self.entry) }

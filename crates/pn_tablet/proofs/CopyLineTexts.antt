@@ -9,7 +9,8 @@ use Rattle.std.specs.List.{list_all, sum_by}
 use Rattle.json.specs.Print.{escape_byte, escape_letter, escape, quoted}
 use Rattle.serde_json.specs.Data.{Data, null, boolean, number, string, array, object, unsigned, negative, float, Items, no_items, item, Members, no_members, member}
 use Rattle.serde_json.specs.Written.{compact_text, items_text, members_text, comma_if}
-use Rattle.pn_join.specs.Marks.{is_position, last_position}
+use Rattle.pn_join.specs.Marks.{is_position}
+use Rattle.pn_join.specs.declared.marks.TheConstants.{LAST_POSITION}
 use Rattle.pn_join.specs.Naming.{is_name, is_name_byte}
 use Rattle.pn_line.specs.Reads.{IsUnbroken}
 use Rattle.pn_record.specs.declared.image.Image.{Image}
@@ -183,7 +184,7 @@ small_image image is =
 pub small_mark : (name : List ℕ) (position : ℕ) → is_mark (name, position) ≡ true → Small (mark_data (name, position))
 small_mark name position is =
     let parts = and_parts (is_name name) (is_position position) is in
-    let range = and_parts (leb 1 position) (leb position last_position) parts.1 in
+    let range = and_parts (leb 1 position) (leb position LAST_POSITION) parts.1 in
     (below_word position range.1, (tt, tt))
 
 small_key : (key : Option (List ℕ)) → Small (key_data key)
@@ -208,7 +209,7 @@ short_end count small = omega (arith, length-append (quoted (codes "end")) (58 �
 pub short_mark : (name : List ℕ) (position : ℕ) → is_mark (name, position) ≡ true → length (compact_text (mark_data (name, position))) ≤ 65536
 short_mark name position is =
     let parts = and_parts (is_name name) (is_position position) is in
-    let range = and_parts (leb 1 position) (leb position last_position) parts.1 in
+    let range = and_parts (leb 1 position) (leb position LAST_POSITION) parts.1 in
     let named = and_parts (leb 1 (length name) && leb (length name) 32) (list_all is_name_byte name) parts.0 in
     let size = and_parts (leb 1 (length name)) (leb (length name) 32) named.0 in
     let last = quoted name ++ 125 ∷ [] in

@@ -4,8 +4,8 @@ use Rattle.std.proofs.lemmas.Bool.{and_parts}
 use Rattle.std.proofs.lemmas.Bool.Decides.{nat_tests}
 use Rattle.std.specs.FinMap.{find}
 use Rattle.std.specs.Ordering.{eq_by_cmp}
-use Rattle.pn_join.specs.Marks.{Positions, Reaches, are_positions, is_position, name_cmp, raised}
-use Rattle.pn_join.proofs.MarksFacts.{are_positions-raised, position_of-raised, same_marks}
+use Rattle.pn_join.specs.Marks.{Positions, Reaches, are_positions, is_position, name_cmp, raised_marks}
+use Rattle.pn_join.proofs.MarksFacts.{are_positions-raised_marks, position_of-raised_marks, same_marks}
 use Rattle.pn_tablet.specs.Laws.{Rise}
 use Rattle.pn_tablet.specs.Tablets.{IsCoverage}
 
@@ -36,9 +36,9 @@ same_reached a b rising rises are are_too reaches reached =
     same_marks a b rising rises (λ name. same_set (find name_cmp name a) (find name_cmp name b) (all_set a name are) (all_set b name are_too) (reached name) (reaches name))
 
 -- a reach and its cover that are raised by the same marks
-pub both_raised : (cover reach marks : Positions) → IsCoverage cover reach → are_positions marks ≡ true → IsCoverage (raised cover marks) (raised reach marks)
+pub both_raised : (cover reach marks : Positions) → IsCoverage cover reach → are_positions marks ≡ true → IsCoverage (raised_marks cover marks) (raised_marks reach marks)
 both_raised cover reach marks was are = record {
-  positions = are_positions-raised cover marks was.positions are;
-  reach_positions = are_positions-raised reach marks was.reach_positions are;
-  reached = λ name. omega (arith, position_of-raised cover marks name, position_of-raised reach marks name, was.reached name);
+  positions = are_positions-raised_marks cover marks was.positions are;
+  reach_positions = are_positions-raised_marks reach marks was.reach_positions are;
+  reached = λ name. omega (arith, position_of-raised_marks cover marks name, position_of-raised_marks reach marks name, was.reached name);
 }

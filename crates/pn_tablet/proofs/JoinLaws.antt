@@ -1,7 +1,7 @@
 -- Joins of a tablet commute, and repeat without effect.
 use Rattle.std.proofs.Common.{◌≡◌, Bool, true, false, if◌then◌else◌, List, ◌++◌, Ok, Err, refl, sym, ap, ◌∙◌}
-use Rattle.pn_join.specs.Marks.{Positions, raised}
-use Rattle.pn_join.proofs.MarksFacts.{raised-commutes, raised-associates, raised-repeats}
+use Rattle.pn_join.specs.Marks.{Positions, raised_marks}
+use Rattle.pn_join.proofs.MarksFacts.{raised_marks-commutes, raised_marks-associates, raised_marks-repeats}
 use Rattle.pn_record.specs.declared.image.Image.{Image}
 use Rattle.pn_record.specs.Cells.{cells, spell}
 use Rattle.pn_record.specs.CellMap.{Entries, table_of, adds}
@@ -39,15 +39,15 @@ adds_repeat own images =
     cells-append (spell own ++ images) images key ∙ ap (λ c. both c a) (cells-append (spell own) images key) ∙ both-assoc s a a
     ∙ ap (both s) (both-same a) ∙ sym (cells-append (spell own) images key))
 
-raised_commute : (cover marks positions : Positions) → Rise cover → Rise marks → Rise positions → raised (raised cover marks) positions ≡ raised (raised cover positions) marks
+raised_commute : (cover marks positions : Positions) → Rise cover → Rise marks → Rise positions → raised_marks (raised_marks cover marks) positions ≡ raised_marks (raised_marks cover positions) marks
 raised_commute cover marks positions g h k =
-    raised-associates cover marks positions g ∙ ap (raised cover) (raised-commutes marks positions h k) ∙ sym (raised-associates cover positions marks g)
+    raised_marks-associates cover marks positions g ∙ ap (raised_marks cover) (raised_marks-commutes marks positions h k) ∙ sym (raised_marks-associates cover positions marks g)
 
-raised_repeat : (cover marks : Positions) → Rise cover → Rise marks → raised (raised cover marks) marks ≡ raised cover marks
-raised_repeat cover marks g h = raised-associates cover marks marks g ∙ ap (raised cover) (raised-repeats marks h)
+raised_repeat : (cover marks : Positions) → Rise cover → Rise marks → raised_marks (raised_marks cover marks) marks ≡ raised_marks cover marks
+raised_repeat cover marks g h = raised_marks-associates cover marks marks g ∙ ap (raised_marks cover) (raised_marks-repeats marks h)
 
-raised_past : (cover marks later : Positions) → Rise cover → raised marks later ≡ later → raised (raised cover marks) later ≡ raised cover later
-raised_past cover marks later g past = raised-associates cover marks later g ∙ ap (raised cover) past
+raised_past : (cover marks later : Positions) → Rise cover → raised_marks marks later ≡ later → raised_marks (raised_marks cover marks) later ≡ raised_marks cover later
+raised_past cover marks later g past = raised_marks-associates cover marks later g ∙ ap (raised_marks cover) past
 
 taking_commutes : (t : TabletStateValue) (cells others : Entries) (marks positions : Positions) → Rise t.cover → Rise t.reach → Rise marks → Rise positions
     → with_join (with_join t cells marks) others positions ≡ with_join (with_join t others positions) cells marks
@@ -108,7 +108,7 @@ pub joins_repeat : (t : TabletStateValue) (cells : Entries) (marks : Positions) 
     → tablet_after (tablet_after t (Join cells marks)) (Join cells marks) ≡ tablet_after t (Join cells marks)
 joins_repeat t cells marks = repeat_by t cells marks (lie_in t.range cells) refl
 
-later_by : (t : TabletStateValue) (cells : Entries) (marks later : Positions) (a : Bool) → lie_in t.range cells ≡ a → Rise t.cover → Rise t.reach → raised marks later ≡ later
+later_by : (t : TabletStateValue) (cells : Entries) (marks later : Positions) (a : Bool) → lie_in t.range cells ≡ a → Rise t.cover → Rise t.reach → raised_marks marks later ≡ later
     → tablet_after (tablet_after t (Join cells marks)) (Join cells later) ≡ tablet_after t (Join cells later)
 later_by t cells marks later true x g f past =
     ap (λ t. tablet_after t (Join cells later)) (taken_in t cells marks x) ∙ taken_in (with_join t cells marks) cells later x
@@ -117,6 +117,6 @@ later_by t cells marks later true x g f past =
 later_by t cells marks later false x g f past = ap (λ t. tablet_after t (Join cells later)) (left_out t cells marks x)
 
 -- the same cells joined again, with marks that are nowhere below
-pub later_join_alone : (t : TabletStateValue) (cells : Entries) (marks later : Positions) → Rise t.cover → Rise t.reach → raised marks later ≡ later
+pub later_join_alone : (t : TabletStateValue) (cells : Entries) (marks later : Positions) → Rise t.cover → Rise t.reach → raised_marks marks later ≡ later
     → tablet_after (tablet_after t (Join cells marks)) (Join cells later) ≡ tablet_after t (Join cells later)
 later_join_alone t cells marks later = later_by t cells marks later (lie_in t.range cells) refl

@@ -1,8 +1,8 @@
 -- The laws of tablets that `src/laws.rt` states.
 use Rattle.std.proofs.Common.{◌≡◌, ℕ, ◌≤◌, Bool, true, false, if◌then◌else◌, List, ◌++◌, Option, None, Some, Result, Ok, Err, refl, sym, subst, arith}
 use Rattle.std.specs.FinMap.{find}
-use Rattle.pn_join.specs.Marks.{Positions, Reaches, position_of, raised}
-use Rattle.pn_join.proofs.MarksFacts.{position_of-raised}
+use Rattle.pn_join.specs.Marks.{Positions, Reaches, position_of, raised_marks}
+use Rattle.pn_join.proofs.MarksFacts.{position_of-raised_marks}
 use Rattle.pn_record.specs.declared.image.Image.{Image}
 use Rattle.pn_record.specs.Order.{bytes_cmp}
 use Rattle.pn_record.specs.Sets.{CellValue}
@@ -49,8 +49,8 @@ adopted t copy after is =
     adopted_by t copy (need_shortfall t.status copy.marks) after refl (passed (same_range t.range copy.range) (with_copy t copy (need_shortfall t.status copy.marks)) after is)
 
 -- raised marks reach what they were
-raised_reaches : (a b : Positions) → Reaches (raised a b) a
-raised_reaches a b name = let is = position_of-raised a b name in subst (λ n. position_of a name ≤ n) (sym is) (omega arith)
+raised_reaches : (a b : Positions) → Reaches (raised_marks a b) a
+raised_reaches a b name = let is = position_of-raised_marks a b name in subst (λ n. position_of a name ≤ n) (sym is) (omega arith)
 
 same_reaches : (a : Positions) → Reaches a a
 same_reaches a name = omega arith

@@ -14,10 +14,11 @@ use Rattle.pn_tablet.specs.declared.copy_line.CopyLine.TheVariants.{Mark, Record
 abbrev pub Head : Type 0
 Head = Form × Ends
 
--- the head: the number of the form, and the two ends of the range
+-- the JSON of a head: a number, and two ends
 abbrev pub head_with : ℕ → Data → Data → Data
 head_with n from to = object (member (codes "copy") (number (unsigned n)) (member (codes "from") from (member (codes "to") to no_members)))
 
+-- the JSON of the head of a form and a range
 abbrev pub head_data : Head → Data
 head_data head = head_with (form_number head.0) (key_data head.1.0) (key_data head.1.1)
 

@@ -24,6 +24,7 @@ abbrev pub copy_from : Status → TabletStateValue → Positions → Result Tabl
 copy_from (Recovering _) tablet need = Err fault.TheVariants.Recovering
 copy_from Serving tablet need = unless_behind (copy_shortfall tablet need) (record { range = tablet.range; marks = tablet.cover; cells = tablet.cells })
 
+-- the copy of a tablet that reaches a need, or why there is none
 abbrev pub copy_of : TabletStateValue → Positions → Result TabletCopyValue fault.CopyFault
 copy_of tablet need = copy_from tablet.status tablet need
 

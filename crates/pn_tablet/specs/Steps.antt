@@ -1,6 +1,6 @@
 -- The state of a tablet after an operation.
 use Rattle.std.specs.Prelude.{Bool, true, false, if◌then◌else◌, List, [], fold, Option, None, Some, Result, Ok, Err}
-use Rattle.pn_join.specs.Marks.{Positions, raised}
+use Rattle.pn_join.specs.Marks.{Positions, raised_marks}
 use Rattle.pn_record.specs.Cells.{spell}
 use Rattle.pn_record.specs.CellMap.{Entries, adds}
 use Rattle.pn_tablet.specs.Ranges.{Ends}
@@ -16,7 +16,7 @@ use Rattle.pn_tablet.specs.declared.fault.OpFault.TheVariants.{WrongRange, TooOl
 
 -- a join adds the images that the cells spell, and its marks raise the cover and the reach
 abbrev pub with_join : TabletStateValue → Entries → Positions → TabletStateValue
-with_join tablet cells marks = record tablet { cells = adds tablet.cells (spell cells); cover = raised tablet.cover marks; reach = raised tablet.reach marks }
+with_join tablet cells marks = record tablet { cells = adds tablet.cells (spell cells); cover = raised_marks tablet.cover marks; reach = raised_marks tablet.reach marks }
 
 -- a loss removes the cells and keeps the cover and the reach; the tablet needs a copy that reaches the reach
 abbrev pub recovering_tablet : TabletStateValue → TabletStateValue
@@ -38,6 +38,7 @@ abbrev pub after_step : TabletStateValue → Result TabletStateValue OpFault →
 after_step tablet (Ok after) = after
 after_step tablet (Err refusal) = tablet
 
+-- the tablet after an operation, which changes nothing where it is refused
 abbrev pub tablet_after : TabletStateValue → TabletOp → TabletStateValue
 tablet_after tablet op = after_step tablet (step tablet op)
 

@@ -1,10 +1,10 @@
 //! How far a tablet took its streams.
 
 ghost use Rattle.std.specs.Prelude.{◌≡◌, [], IsTrue, IfOk, unwrap_or};
-ghost use Rattle.pn_join.specs.Prelude.{Positions, Reaches, are_positions, raised};
+ghost use Rattle.pn_join.specs.Prelude.{Positions, Reaches, are_positions, raised_marks};
 ghost use Rattle.pn_tablet.specs.Tablets.{IsCoverage};
 
-use pn_join::{Dup, Marks, NoMemory, raise};
+use pn_join::{Dup, Marks, NoMemory, dup_optional, raise};
 use std::alloc::Global;
 use std::marker::Model;
 
@@ -31,7 +31,7 @@ impl Model for Coverage {
 }
 
 impl Coverage {
-    /// That of an empty tablet.
+    /// The coverage of an empty tablet, which took nothing.
     pub fn new(alloc: Global) -> Coverage
         ensures { result ≡ record { cover = []; reach = [] } }
     {
@@ -46,9 +46,8 @@ impl Coverage {
         requires { IsCoverage cover reach }
         ensures { result ≡ record { cover = cover; reach = reach } }
     {
-        // A call on a table tells the checker that its keys rise.
-        let _ = cover.len();
-        let _ = reach.len();
+        cover.recall_order();
+        reach.recall_order();
         if cover.reaches(&reach) {
             return Coverage { cover, ahead: None };
         }
@@ -83,10 +82,10 @@ impl Coverage {
         ensures { IsTrue (are_positions self.now.reach) }
     {}
 
-    /// Both raised by the marks.
+    /// The cover and the reach, raised by the marks.
     pub fn with_marks(&self, marks: &Marks) -> Result<Coverage, NoMemory>
         requires { IsTrue (are_positions marks.now) }
-        ensures { IfOk result (λ higher. higher ≡ record { cover = raised self.now.cover marks.now; reach = raised self.now.reach marks.now }) }
+        ensures { IfOk result (λ higher. higher ≡ record { cover = raised_marks self.now.cover marks.now; reach = raised_marks self.now.reach marks.now }) }
     {
         let cover = raise_copy(&self.cover, marks)?;
         match &self.ahead {
@@ -97,7 +96,7 @@ impl Coverage {
 }
 
 fn raise_copy(own: &Marks, marks: &Marks) -> Result<Marks, NoMemory>
-    ensures { IfOk result (λ higher. higher ≡ raised own.now marks.now) }
+    ensures { IfOk result (λ higher. higher ≡ raised_marks own.now marks.now) }
 {
     let mut higher = own.dup()?;
     raise(&mut higher, marks)?;
@@ -110,16 +109,7 @@ impl Dup for Coverage {
     {
         Ok(Coverage {
             cover: self.cover.dup()?,
-            ahead: dup_ahead(&self.ahead)?,
+            ahead: dup_optional(self.ahead.as_ref())?,
         })
-    }
-}
-
-fn dup_ahead(ahead: &Option<Marks>) -> Result<Option<Marks>, NoMemory>
-    ensures { IfOk result (λ copy. copy ≡ ahead.now) }
-{
-    match ahead {
-        None => Ok(None),
-        Some(ahead) => Ok(Some(ahead.dup()?)),
     }
 }

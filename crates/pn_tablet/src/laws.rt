@@ -2,7 +2,7 @@
 
 ghost use Rattle.std.specs.Prelude.{◌≡◌, ℕ, List, Ok, fold, Contains};
 ghost use Rattle.std.specs.FinMap.{find};
-ghost use Rattle.pn_join.specs.Prelude.{Positions, Reaches, raised};
+ghost use Rattle.pn_join.specs.Prelude.{Positions, Reaches, raised_marks};
 ghost use Rattle.pn_record.specs.declared.image.Image.{Image};
 ghost use Rattle.pn_record.specs.Prelude.{bytes_cmp, Entries, table_of, NotOlder};
 ghost use Rattle.pn_tablet.specs.Copies.{TabletCopyValue};
@@ -37,7 +37,7 @@ pub fn joins_commute()
 
 /// A repeated join changes nothing. With later marks, it leaves what it alone would have left.
 pub fn joins_repeat_without_effect()
-    ensures later { (tablet : TabletStateValue) (cells : Entries) (marks later : Positions) → Rise tablet.cover → Rise tablet.reach → raised marks later ≡ later
+    ensures later { (tablet : TabletStateValue) (cells : Entries) (marks later : Positions) → Rise tablet.cover → Rise tablet.reach → raised_marks marks later ≡ later
         → tablet_after (tablet_after tablet (Join cells marks)) (Join cells later) ≡ tablet_after tablet (Join cells later) }
     ensures same { (tablet : TabletStateValue) (cells : Entries) (marks : Positions) → Rise tablet.cover → Rise tablet.reach → Rise marks
         → tablet_after (tablet_after tablet (Join cells marks)) (Join cells marks) ≡ tablet_after tablet (Join cells marks) }

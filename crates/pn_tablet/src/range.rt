@@ -11,7 +11,7 @@ ghost use Rattle.pn_json.specs.Prelude.{Appends, member_tokens, seen_text};
 ghost use Rattle.pn_tablet.specs.Ranges.{is_from, is_before, in_range, are_ends, is_end, key_data, meet};
 
 use json::Writer;
-use pn_join::{Dup, NoMemory};
+use pn_join::{Dup, NoMemory, dup_optional};
 use pn_json::{write_null_member, write_text_member};
 use pn_record::Key;
 use std::alloc::Global;
@@ -56,8 +56,8 @@ impl Range {
         ensures { IfOk result (λ range. range ≡ (option_copied from.entry, option_copied to.entry)) }
     {
         Ok(Range {
-            from: dup_end(from)?,
-            to: dup_end(to)?,
+            from: dup_optional(from)?,
+            to: dup_optional(to)?,
         })
     }
 
@@ -175,14 +175,5 @@ impl Dup for Range {
         ensures { IfOk result (λ copy. copy ≡ self.now) }
     {
         Range::from_ends(self.from(), self.to())
-    }
-}
-
-fn dup_end(key: Option<&Key>) -> Result<Option<Key>, NoMemory>
-    ensures { IfOk result (λ copy. copy ≡ option_copied key.entry) }
-{
-    match key {
-        None => Ok(None),
-        Some(key) => Ok(Some(key.dup()?)),
     }
 }

@@ -1,7 +1,7 @@
 //! The state of a tablet, and the operations on it.
 
 ghost use Rattle.std.specs.Prelude.{◌≡◌, Ok, IsOk, IsTrue, IfOk, IfErr, OnOk, OnErr};
-ghost use Rattle.pn_join.specs.Prelude.{raised, are_positions};
+ghost use Rattle.pn_join.specs.Prelude.{raised_marks, are_positions};
 ghost use Rattle.pn_tablet.specs.Operations.{HasPositions};
 ghost use Rattle.pn_tablet.specs.Tablets.{empty_tablet};
 ghost use Rattle.pn_tablet.specs.Needs.{need_shortfall as shortfall_of_need};
@@ -176,10 +176,10 @@ impl TabletState {
     }
 }
 
-// Both positions raised by the marks, and a copy of the reach, which a later loss takes as the need.
+// The coverage raised by the marks, and a copy of its reach, which a later loss takes as the need.
 fn raise_coverage(coverage: &Coverage, marks: &Marks) -> Result<(Coverage, Marks), NoMemory>
     requires { IsTrue (are_positions marks.now) }
-    ensures { IfOk result (λ both. (both.0.cover ≡ raised coverage.now.cover marks.now) × ((both.0.reach ≡ raised coverage.now.reach marks.now) × (both.1 ≡ both.0.reach))) }
+    ensures { IfOk result (λ both. (both.0.cover ≡ raised_marks coverage.now.cover marks.now) × ((both.0.reach ≡ raised_marks coverage.now.reach marks.now) × (both.1 ≡ both.0.reach))) }
 {
     let higher = coverage.with_marks(marks)?;
     let spare = higher.reach().dup()?;

@@ -30,8 +30,7 @@ impl TabletState {
         requires reach_positions { IsTrue (are_positions reach) }
         ensures { IfOk result (λ tablet. tablet ≡ record { range = range; cells = cells; cover = cover; reach = reach; status = Serving }) }
     {
-        // A call on the cells tells the checker that the contents of each rise.
-        let _ = cells.iter();
+        cells.recall_table();
         let spare = reach.dup()?;
         Ok(TabletState {
             range,
@@ -76,7 +75,7 @@ impl TabletState {
         self.coverage.reach()
     }
 
-    /// Whether it serves.
+    /// Whether the tablet serves, or what it needs in order to.
     pub fn status(&self) -> &Status
         ensures status { result.now ≡ self.now.status }
         ensures positions { IsTrue (are_positions (needed self.now.status)) }
