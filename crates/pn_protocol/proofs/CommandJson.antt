@@ -67,9 +67,11 @@ module _ (ms : Members) (order : InOrder (object ms)) where
       let named = bind_ok (named_alone names ms) _ keys texts.2 in
       let same : texts.0 ≡ keys = cc in
       let there = array_at part _ items.0 items.1 in
-      let inside = array_in_order name ms items.0 (in_order (object ms) ms refl order) there in
-      (there ∙ ap (λ ds. Some (array ds)) (each_found (key_shape part) string (key_found part) items.0 texts.0 inside texts.1)
-      ∙ ap (λ (texts : List (List ℕ)). Some (array (items_of (map string texts)))) same, named.1)
+      let inside = array_in_order name ms items.0 (in_order (object ms) ms refl order) there in (
+        there ∙ ap (λ ds. Some (array ds)) (each_found (key_shape part) string (key_found part) items.0 texts.0 inside texts.1)
+            ∙ ap (λ (texts : List (List ℕ)). Some (array (items_of (map string texts)))) same,
+        named.1,
+      )
 
   adopt_found : Found Adopt
   unfolding adopt_in

@@ -142,7 +142,10 @@ fn check_deliver(alloc: Global, value: &Value) -> Result<Vec<BatchShape<'_>>, Re
     ensures { ShowsUnless Refusal.Memory (λ batches. deliver batches.items) result (deliver_at (view value.now)) }
 {
     let members = value.as_object().ok_or(Refusal::BadShape(Part::Whole))?;
-    let items = items_of(find_member(members, "batches"), Refusal::BadShape(Part::Batches))?;
+    let items = items_of(
+        find_member(members, "batches"),
+        Refusal::BadShape(Part::Batches),
+    )?;
     let shapes = batches_of(alloc, items)?;
     check_members(members, &["batches", "do"])?;
     check_batches(&shapes)?;

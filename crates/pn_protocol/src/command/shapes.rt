@@ -54,10 +54,19 @@ fn batch_of(alloc: Global, value: &Value) -> Result<BatchShape<'_>, Refusal>
     ensures { IsUnless Refusal.Memory result (batch_shape (view value.now)) }
 {
     let members = value.as_object().ok_or(Refusal::BadShape(Part::Batches))?;
-    let first = whole_number_of(find_member(members, "first"), Refusal::BadShape(Part::First))?;
-    let items = items_of(find_member(members, "images"), Refusal::BadShape(Part::Images))?;
+    let first = whole_number_of(
+        find_member(members, "first"),
+        Refusal::BadShape(Part::First),
+    )?;
+    let items = items_of(
+        find_member(members, "images"),
+        Refusal::BadShape(Part::Images),
+    )?;
     let images = images_of(alloc, items)?;
-    let stream = text_of(find_member(members, "stream"), Refusal::BadShape(Part::Stream))?;
+    let stream = text_of(
+        find_member(members, "stream"),
+        Refusal::BadShape(Part::Stream),
+    )?;
     check_members(members, &["first", "images", "stream"])?;
     Ok(BatchShape {
         first,

@@ -37,7 +37,10 @@ pub(crate) fn parse_lose(members: &Map<String, Value>) -> Result<Command, Refusa
 }
 
 #[tactic(auto, using(crate::proofs::CommandLimits::bounds_are_keys), unfolding(crate::specs::Command::Tablets::relayout_in))]
-pub(crate) fn parse_relayout(alloc: Global, members: &Map<String, Value>) -> Result<Command, Refusal>
+pub(crate) fn parse_relayout(
+    alloc: Global,
+    members: &Map<String, Value>,
+) -> Result<Command, Refusal>
     ensures { ShowsUnless Refusal.Memory command_value result (relayout_in (members_view members.now.entries)) }
 {
     let bounds = parse_keys(alloc, members, "bounds", &["bounds", "do"], Part::Bounds)?;

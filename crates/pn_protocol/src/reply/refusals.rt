@@ -81,7 +81,11 @@ fn refuse_copy(alloc: Global, tablet: usize, fault: CopyFault) -> Reply
         } => refuse_as(
             alloc,
             "behind",
-            &[("has", Number(has)), ("stream", Stream(stream)), ("wanted", Number(wanted))],
+            &[
+                ("has", Number(has)),
+                ("stream", Stream(stream)),
+                ("wanted", Number(wanted)),
+            ],
         ),
         CopyFault::Memory => Reply::Refused(Refusal::Memory),
         CopyFault::NoEntry => refuse_as(alloc, "no-entry", &[]),
@@ -113,7 +117,11 @@ fn refuse_adoption(alloc: Global, fault: AdoptFault) -> Reply
         AdoptFault::TooOld { stream, has, needs } => refuse_as(
             alloc,
             "too-old",
-            &[("has", Number(has)), ("needs", Number(needs)), ("stream", Stream(stream))],
+            &[
+                ("has", Number(has)),
+                ("needs", Number(needs)),
+                ("stream", Stream(stream)),
+            ],
         ),
         AdoptFault::Memory => Reply::Refused(Refusal::Memory),
     }
@@ -131,7 +139,11 @@ fn refuse_round(alloc: Global, fault: RoundFault) -> Reply
         } => refuse_as(
             alloc,
             "gap",
-            &[("got", Number(got)), ("stream", Stream(stream)), ("wanted", Number(wanted))],
+            &[
+                ("got", Number(got)),
+                ("stream", Stream(stream)),
+                ("wanted", Number(wanted)),
+            ],
         ),
         RoundFault::TooManyStreams => refuse_as(alloc, "too-many-streams", &[]),
         RoundFault::Memory => Reply::Refused(Refusal::Memory),
@@ -144,7 +156,11 @@ fn refuse_relayout(alloc: Global, fault: RelayoutFault) -> Reply
 {
     match fault {
         RelayoutFault::StillRecovering(tablet) => {
-            refuse_as(alloc, "still-recovering", &[("tablet", Number(tablet as u64))])
+            refuse_as(
+                alloc,
+                "still-recovering",
+                &[("tablet", Number(tablet as u64))],
+            )
         }
         RelayoutFault::Memory => Reply::Refused(Refusal::Memory),
     }
