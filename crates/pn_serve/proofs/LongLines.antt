@@ -3,8 +3,8 @@ use Rattle.std.proofs.Common.{◌≡◌, ℕ, ◌<◌, Bool, true, if◌then◌e
 use Rattle.std.proofs.lemmas.Bool.{cases_lt}
 use Rattle.std.proofs.lemmas.List.{take-take}
 use Rattle.std.proofs.lemmas.Bool.Decides.{nat_tests}
-use Rattle.pn_line.specs.Line.{LineBufferValue, so_far, kept, max_kept}
-use Rattle.pn_line.proofs.LineLaws.{kept-short, length-kept_long}
+use Rattle.pn_line.specs.Line.{LineBufferValue, so_far, kept_bytes, max_kept}
+use Rattle.pn_line.proofs.LineLaws.{kept_bytes-short, length-kept_bytes_long}
 use Rattle.pn_protocol.specs.declared.refusal.Refusal.TheVariants.{TooLong}
 use Rattle.pn_protocol.specs.declared.reply.Reply.{Reply}
 use Rattle.pn_protocol.specs.Command.Lines.{is_too_long, command_at}
@@ -31,22 +31,22 @@ end-long machine outcome [] long = absurd (omega (arith, long))
 end-long machine outcome (b ∷ text) long =
     ap (λ (o : Outcome). last_of machine o (command_at (b ∷ text))) (said-long outcome (b ∷ text) long) ∙ ap (last_of machine done) (too_long _ (b ∷ text) long)
 
-kept-kept : (line : List ℕ) → kept (kept line) ≡ kept line
+kept-kept : (line : List ℕ) → kept_bytes (kept_bytes line) ≡ kept_bytes line
 kept-kept line = take-take max_kept max_kept line (omega arith)
 
 -- a line does what its kept bytes do
-turn-kept : (mode : Mode) (machine : Machine) (outcome : Outcome) (line : List ℕ) → turn_in mode machine outcome (kept line) ≡ turn_in mode machine outcome line
+turn-kept : (mode : Mode) (machine : Machine) (outcome : Outcome) (line : List ℕ) → turn_in mode machine outcome (kept_bytes line) ≡ turn_in mode machine outcome line
 turn-kept awaits_command machine outcome line = elim (cases_lt 65536 (length line)) [
-  | inl long ↦ turn-long machine outcome (kept line) (omega (arith, length-kept_long line long)) ∙ sym (turn-long machine outcome line long)
-  | inr short ↦ ap (turn_in awaits_command machine outcome) (kept-short line short)
+  | inl long ↦ turn-long machine outcome (kept_bytes line) (omega (arith, length-kept_bytes_long line long)) ∙ sym (turn-long machine outcome line long)
+  | inr short ↦ ap (turn_in awaits_command machine outcome) (kept_bytes-short line short)
 ]
 turn-kept (announced left came) machine outcome line =
     ap (λ (bytes : List ℕ). one_came machine left (unless_call outcome (option_map (λ text. text ++ (bytes ++ 10 ∷ [])) came))) (kept-kept line)
 
-pub end-kept : (mode : Mode) (machine : Machine) (outcome : Outcome) (part : List ℕ) → end_in mode machine outcome (kept part) ≡ end_in mode machine outcome part
+pub end-kept : (mode : Mode) (machine : Machine) (outcome : Outcome) (part : List ℕ) → end_in mode machine outcome (kept_bytes part) ≡ end_in mode machine outcome part
 end-kept awaits_command machine outcome part = elim (cases_lt 65536 (length part)) [
-  | inl long ↦ end-long machine outcome (kept part) (omega (arith, length-kept_long part long)) ∙ sym (end-long machine outcome part long)
-  | inr short ↦ ap (end_in awaits_command machine outcome) (kept-short part short)
+  | inl long ↦ end-long machine outcome (kept_bytes part) (omega (arith, length-kept_bytes_long part long)) ∙ sym (end-long machine outcome part long)
+  | inr short ↦ ap (end_in awaits_command machine outcome) (kept_bytes-short part short)
 ]
 end-kept (announced left came) machine outcome part =
     ap (λ (bytes : List ℕ). text_adoption_turn (logged_region machine) (unless_call outcome (option_map (λ text. text ++ (bytes ++ [])) came))) (kept-kept part)

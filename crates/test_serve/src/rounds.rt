@@ -39,7 +39,10 @@ fn stream<R: Clock + Copy + Drop>(
 ) -> Result<Stream<InMemory<'static>, SlowOrigin<R>>, Fail> {
     let mut text = String::new(alloc);
     for at in 1..=MESSAGES {
-        writeln!(text, "{{\"at\":{at},\"image\":{{\"fields\":{{\"v\":\"x\"}},\"key\":\"k\",\"master\":\"w\",\"version\":[1,0]}}}}")?;
+        writeln!(
+            text,
+            "{{\"at\":{at},\"image\":{{\"fields\":{{\"v\":\"x\"}},\"key\":\"k\",\"master\":\"w\",\"version\":[1,0]}}}}"
+        )?;
     }
     let source = InMemory::new(text.into_bytes().leak());
     Ok(Stream {

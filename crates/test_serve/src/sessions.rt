@@ -1,11 +1,11 @@
 //! Lines that a session answers by a reader of a live region.
 
-ghost use Rattle.std.specs.Prelude.{◌≡◌, All};
+ghost use Rattle.std.specs.Prelude.{◌≡◌, ◌⊎◌, All};
 ghost use Rattle.pn_live.specs.LiveRegions.{IsReaderIn, tablets_in};
 
 use pn_apply::Open;
 use pn_join::{Name, NoMemory};
-use pn_line::InMemory;
+use pn_line::{Discard, EndlessSource, InMemory};
 use pn_live::{LiveReader, LiveRegion};
 use pn_record::read_image;
 use pn_serve::{Counts, RunFault, session};
@@ -97,7 +97,7 @@ pub(crate) fn answered<R: Threads + Wait + Sync>(
     )?)
 }
 
-/// How sessions end whose readers or writers fail, at each call in turn.
+/// How sessions end whose readers or writers fail, at each call in turn, and one whose input has no end.
 pub(crate) fn failing<R: Threads + Wait + Sync>(
     rt: &R,
     alloc: Global,
@@ -108,6 +108,7 @@ pub(crate) fn failing<R: Threads + Wait + Sync>(
     let changed = changed(rt, alloc, &mut live, IMAGE);
     let ends = match how {
         "over readers that fail" => over_failing_readers(alloc, &mut reader),
+        "over a source without end" => over_endless_source(alloc, &mut reader),
         _ => into_failing_writers(alloc, &mut reader),
     };
     end(rt, alloc, live);
@@ -128,6 +129,22 @@ fn over_failing_readers(alloc: Global, reader: &mut LiveReader) -> Result<String
         ends.push(format!(in alloc; "{is_due}, {} bytes", written.len())?)?;
     }
     ends.text()
+}
+
+fn over_endless_source(alloc: Global, reader: &mut LiveReader) -> Result<String, Fail> {
+    let fault = endless_session(alloc, reader);
+    Ok(format!(in alloc; "{fault}")?)
+}
+
+// A session over empty lines without end: there are too many, or memory ran out before it looked at one.
+fn endless_session(alloc: Global, reader: &mut LiveReader) -> RunFault
+    ensures { (result ≡ RunFault.TooManyTurns) ⊎ (result ≡ RunFault.Memory) }
+{
+    let mut input = EndlessSource::new(b"\n");
+    match session(alloc, reader, &mut input, &mut Discard) {
+        Ok(_) => unreachable!(),
+        Err(fault) => fault,
+    }
 }
 
 // Writers that take a byte at a time. Counts those that had just the bytes before the call that failed.

@@ -1,6 +1,6 @@
 -- Lines that an `adopt` line announced.
 use Rattle.std.specs.Prelude.{ℕ, ◌-◌, nat_le, if◌then◌else◌, List, [], ◌∷◌, ◌++◌, Option, None, option_map}
-use Rattle.pn_line.specs.Line.{kept}
+use Rattle.pn_line.specs.Line.{kept_bytes}
 use Rattle.pn_serve.specs.Machine.Outcomes.{Outcome, call, announced, Machine, Turn, logged_region, silent_turn}
 use Rattle.pn_serve.specs.Machine.Recovering.{text_adoption_turn}
 
@@ -11,7 +11,7 @@ unless_call outcome text = text
 
 -- the text so far with a line's first 65,537 bytes, and its newline if it has one
 abbrev pub with_line : Option (List ℕ) → List ℕ → List ℕ → Option (List ℕ)
-with_line text line newline = option_map (λ came. came ++ (kept line ++ newline)) text
+with_line text line newline = option_map (λ came. came ++ (kept_bytes line ++ newline)) text
 
 -- an announced line came: the last one adopts the text, another one is waited for
 abbrev pub one_came : Machine → ℕ → Option (List ℕ) → Turn

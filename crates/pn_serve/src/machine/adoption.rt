@@ -1,7 +1,7 @@
 //! Adoption: the lines that `adopt` announces are gathered, and their copy is adopted.
 
 ghost use Rattle.std.specs.Prelude.{◌≡◌, ◌++◌, [], Some, IfOk};
-ghost use Rattle.pn_line.specs.Prelude.{kept};
+ghost use Rattle.pn_line.specs.Prelude.{kept_bytes};
 ghost use Rattle.pn_json.specs.Prelude.{IsUnless};
 ghost use Rattle.pn_region.specs.Prelude.{after_adoption};
 ghost use Rattle.pn_tablet.specs.Prelude.{copy_at};
@@ -79,7 +79,7 @@ fn append_line(text: Option<Vec<u8>>, line: &[u8], newline: &[u8]) -> Option<Vec
 
 // Adds the line's first 65,537 bytes and its newline, if any.
 fn extend_text(text: Vec<u8>, line: &[u8], newline: &[u8]) -> Result<Vec<u8>, NoMemory>
-    ensures { IfOk result (λ whole. whole.items ≡ text.items ++ (kept line.now ++ newline.now)) }
+    ensures { IfOk result (λ whole. whole.items ≡ text.items ++ (kept_bytes line.now ++ newline.now)) }
 {
     let mut text = text;
     let kept = line.len().min(MAX_KEPT_BYTES);

@@ -4,12 +4,12 @@ ghost use Rattle.std.specs.Prelude.{◌≡◌, ◌++◌, [], IfOk, OnOk, OnErr};
 ghost use Rattle.std.specs.Io.KnownBytes.{Appends};
 ghost use Rattle.pn_line.specs.Prelude.{Sends, AppendsPrefix};
 
-use pn_line::{OUTBOX_ROOM, Outbox, Sink, WriteFault};
+use pn_line::{OUTBOX_CAPACITY, Outbox, Sink, WriteFault};
 use std::alloc::{AllocError, Global};
 use std::marker::Model;
 
 /// The bytes of a block: as many as may wait.
-const BLOCK: usize = OUTBOX_ROOM;
+const BLOCK: usize = OUTBOX_CAPACITY;
 
 /// Bytes that wait for a writer. Too many are written up to the end of a block of the output: a file takes whole
 /// blocks faster.
