@@ -8,7 +8,7 @@ ghost use Rattle.pn_serve.specs.Arguments.Options.{bounds_option, flag_option, n
 ghost use Rattle.pn_serve.specs.Arguments.Commands.{number_at, number_in};
 
 use clap::builder::ValueParser;
-use clap::{Arg, ArgAction, ArgMatches, Command, value_parser};
+use clap::{Arg, ArgAction, ArgMatches, Command};
 use pn_apply::MAX_WORKERS;
 use pn_live::MAX_READERS;
 use std::alloc::{AllocError, Global};
@@ -181,7 +181,6 @@ fn number<'w>(
     most: u32,
     help: &'w str,
 ) -> Arg<'w>
-    requires { 1 ≤ most }
     ensures rule { rule_of result ≡ number_option name.now default.now most }
     ensures local { result.global ≡ false }
 {
@@ -219,10 +218,9 @@ fn flag<'w>(alloc: Global, name: &'w str, help: &'w str) -> Arg<'w>
 
 // A number from 1 to this.
 fn up_to<'w>(most: u32) -> ValueParser<'w>
-    requires { 1 ≤ most }
     ensures { result ≡ values.Signed (pos 1) (pos most) }
 {
-    value_parser!(u32).range(1..=i64::from(most))
+    ValueParser::signed(1, i64::from(most))
 }
 
 /// The number of an option, from 1 to the most that `clap` lets through.

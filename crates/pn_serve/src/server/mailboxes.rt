@@ -40,7 +40,8 @@ impl StreamMailboxes {
         streams: usize,
         rounds: Option<Arc<Counter>>,
     ) -> Result<StreamMailboxes, AllocError>
-        ensures { IfOk result (λ mailboxes. mailboxes.mailboxes.items ≡ []) }
+        ensures none { IfOk result (λ mailboxes. mailboxes.mailboxes.items ≡ []) }
+        ensures count { IfOk result (λ mailboxes. vec_len mailboxes.mailboxes ≡ 0) }
     {
         Ok(StreamMailboxes {
             mailboxes: Vec::with_capacity(alloc, streams)?,

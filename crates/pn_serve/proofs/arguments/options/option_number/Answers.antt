@@ -29,8 +29,11 @@ reads_option : (E : Type 0) (G : List ℕ → Result ℕ E → Type 0) → ((u :
 reads_option E G parses None r none value = none refl
 reads_option E G parses (Some t) r none value = reads_number E G parses t r (value t refl)
 
-pub returns : goal.returns
-returns c =
+pub returns-clause-number : goal.returns-clause-number
+returns-clause-number c =
     let read = reads_option _ (λ bs r. ParsesUnsigned 32 10 bs r × ExplainsUnsignedError 10 bs r × HasUnsignedDigitsIfOk bs r) (λ u x g. g.0)
     _ c.get_one.result c.get_one.ensures.none c.get_one.ensures.value ∙ ap (option_and_then number_in) (one_text-rows (found_of c.args.options.now) c.args.name.now) in
     c.clamp.ensures ∙ ap (λ (n : ℕ). max 1 (min n c.args.most)) (c.unwrap_or.ensures ∙ ap (λ (o : Option ℕ). unwrap_or o 1) read)
+
+pub returns-clause-within : goal.returns-clause-within
+returns-clause-within c = (omega (arith, c.clamp.ensures), omega (arith, c.clamp.ensures, c.requires))
