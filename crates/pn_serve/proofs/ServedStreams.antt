@@ -36,6 +36,12 @@ module _ {S : Type 0} (left : S → Option (List ℕ)) (streams : List (batches.
   all_read old new (Ok done) read taken named = record { read = read; taken = taken }
   all_read old new (Err fault) read taken named = not_taken old new fault named
 
+  -- nothing was begun
+  pub not_begun : (old : LiveRegionValue) (fault : ServeFault) (result : Result (Unit {0}) ServeFault) → IsErrAnd result (λ other. other ≡ fault) → fault ≡ Start → EndsReading left streams old old result
+  not_begun old fault result answered start =
+      let (other, is, same) = err_from_is_err_and result answered in
+      subst (EndsReading left streams old old) (sym is) (subst (λ (f : ServeFault). EndsReading left streams old old (Err f)) (sym (same ∙ start)) refl)
+
   -- all threads ended, or sessions were refused
   pub reading_ends : {P : Type 0} (name : P → List ℕ) (mailboxes : List P) (read_by : List (batches.Stream S)) (old new : LiveRegionValue) (is_refused : Bool) (marks : Positions) (read result : Result (Unit {0}) ServeFault)
       → map name mailboxes ≡ names_of streams → read_by ≡ streams → (is_refused ≡ true → (read ≡ Err Start) × (new ≡ old)) → (is_refused ≡ false → RunsRounds (length mailboxes) old new read)

@@ -187,9 +187,7 @@ where
     ensures all { OnOk result (vec_len region.new.readers ≡ vec_len region.old.readers) }
     ensures ends { EndsReading S.left streams.items region.old.live region.new.live result }
 {
-    let Ok(started) = start_streams(rt, alloc, streams, listener.round_counter()) else {
-        return Err(ServeFault::Start);
-    };
+    let started = start_streams(rt, alloc, streams, listener.round_counter())?;
     let StartedStreams { mailboxes, threads } = started;
     let StartedSessions {
         running,

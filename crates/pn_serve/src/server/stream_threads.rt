@@ -48,27 +48,44 @@ pub(crate) struct StartedStreams<S: Source + Drop> {
     pub(crate) threads: Vec<StreamThread<S>>,
 }
 
-/// Starts to read streams, each in its own thread. A refused thread ends the reading.
+impl<S: Source + Drop> StartedStreams<S> {
+    // No streams, with capacity for this many.
+    fn new(
+        alloc: Global,
+        streams: usize,
+        rounds: Option<Arc<Counter>>,
+    ) -> Result<StartedStreams<S>, AllocError>
+        ensures threads { IfOk result (λ started. started.threads.items ≡ []) }
+        ensures mailboxes { IfOk result (λ started. started.mailboxes.mailboxes.items ≡ []) }
+    {
+        Ok(StartedStreams {
+            mailboxes: StreamMailboxes::new(alloc, streams, rounds)?,
+            threads: Vec::with_capacity(alloc, streams)?,
+        })
+    }
+}
+
+/// Starts to read streams, each in its own thread. A refused thread, or out of memory, ends the reading.
 pub(crate) fn start_streams<R, S>(
     rt: &R,
     alloc: Global,
     streams: Vec<StreamReader<S>>,
     rounds: Option<Arc<Counter>>,
-) -> Result<StartedStreams<S>, AllocError>
+) -> Result<StartedStreams<S>, ServeFault>
 where
     R: Threads + Wait + Copy + Send + 'static,
     S: Source + Drop + Send + 'static,
+    ensures fault { IfErr result (λ fault. fault ≡ ServeFault.Start) }
     ensures threads { IfOk result (λ started. map (λ thread. thread.promise.0.value) started.threads.items ≡ streams.items) }
     ensures names { IfOk result (λ started. map (λ stream. stream.name) started.mailboxes.mailboxes.items ≡ names_of streams.items) }
 {
-    let mut started = StartedStreams {
-        mailboxes: StreamMailboxes::new(alloc, streams.len(), rounds)?,
-        threads: Vec::with_capacity(alloc, streams.len())?,
+    let Ok(mut started) = StartedStreams::new(alloc, streams.len(), rounds) else {
+        return Err(ServeFault::Start);
     };
     for stream in streams {
-        if let Err(fault) = start_stream(rt, alloc, &mut started, stream) {
+        if start_stream(rt, alloc, &mut started, stream).is_err() {
             started.mailboxes.close(rt);
-            return Err(fault);
+            return Err(ServeFault::Start);
         }
     }
     Ok(started)

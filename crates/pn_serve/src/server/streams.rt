@@ -1,6 +1,6 @@
 //! Streams that may be opened again, read into a live region, each in its own thread.
 
-ghost use Rattle.std.specs.Prelude.{◌≡◌, ◌+◌, ◌≤◌, vec_len, IfOk, IfSome, OnOk};
+ghost use Rattle.std.specs.Prelude.{◌≡◌, ◌+◌, ◌≤◌, vec_len, IfErr, IfOk, IfSome, OnOk};
 ghost use Rattle.pn_apply.specs.Prelude.{MAX_WORKERS};
 ghost use Rattle.pn_live.specs.Prelude.{tablets_in};
 ghost use Rattle.pn_serve.specs.Server.Reading.{IsAnew, ReadsStreams};
@@ -58,32 +58,33 @@ where
     ensures reads { ReadsStreams (vec_len streams) live.old live.new result }
     ensures same { tablets_in live.new ≡ tablets_in live.old }
 {
-    let Ok(mailboxes) = start_threads(rt, alloc, streams, rounds) else {
-        return Err(ServeFault::Start);
-    };
+    let mailboxes = start_threads(rt, alloc, streams, rounds)?;
     let read = run_rounds(rt, alloc, live, workers, &mailboxes);
     mailboxes.close(rt);
     read
 }
 
-// Starts to read streams, each in its own thread. A refused thread ends the reading.
+// Starts to read streams, each in its own thread. A refused thread, or out of memory, ends the reading.
 fn start_threads<R, S, O>(
     rt: &R,
     alloc: Global,
     streams: Vec<Stream<S, O>>,
     rounds: Option<Arc<Counter>>,
-) -> Result<StreamMailboxes, AllocError>
+) -> Result<StreamMailboxes, ServeFault>
 where
     R: Threads + Wait + Copy + Send + 'static,
     S: Source + Drop + Send + 'static,
     O: Origin<S> + Drop + Send + 'static,
-    ensures { IfOk result (λ mailboxes. vec_len mailboxes.mailboxes ≡ vec_len streams) }
+    ensures count { IfOk result (λ mailboxes. vec_len mailboxes.mailboxes ≡ vec_len streams) }
+    ensures fault { IfErr result (λ fault. fault ≡ ServeFault.Start) }
 {
-    let mut mailboxes = StreamMailboxes::new(alloc, streams.len(), rounds)?;
+    let Ok(mut mailboxes) = StreamMailboxes::new(alloc, streams.len(), rounds) else {
+        return Err(ServeFault::Start);
+    };
     for stream in streams {
-        if let Err(fault) = start_thread(rt, alloc, &mut mailboxes, stream) {
+        if start_thread(rt, alloc, &mut mailboxes, stream).is_err() {
             mailboxes.close(rt);
-            return Err(fault);
+            return Err(ServeFault::Start);
         }
     }
     Ok(mailboxes)
