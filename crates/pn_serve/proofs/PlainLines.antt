@@ -33,7 +33,7 @@ use Rattle.pn_serve.specs.Machine.Turns.{turn_of, outcome_at, turn_in, turn}
 use Rattle.pn_serve.specs.Script.Events.{unless_refused, some_tablet, half_round_events, events_by, events_in, events_from}
 use Rattle.pn_serve.specs.Script.Happened.{events_of_input, events_of_last, events_of_end, events_at_end}
 use Rattle.pn_serve.specs.Script.Inputs.{InputEnd, Input, line_at_end, all_lines, machine_at_end}
-use Rattle.pn_serve.specs.Script.Losses.{KeepsTablets, NoLosses}
+use Rattle.pn_serve.specs.Script.Lines.{KeepsTablets, NoLosses}
 use Rattle.pn_serve.specs.Script.Taken.{images_taken, NothingLost, Waits}
 use Rattle.pn_serve.specs.Script.Written.{first_outcome, later_outcomes, machine_after}
 

@@ -21,8 +21,7 @@ use Rattle.pn_serve.specs.Machine.Turns.{turn}
 use Rattle.pn_serve.specs.Machine.LastTurns.{end_turn}
 use Rattle.pn_serve.specs.Machine.Answers.{Answers, Concludes}
 use Rattle.pn_protocol.specs.Reply.Texts.{reply_text, is_refusal}
-use Rattle.pn_serve.specs.Runs.Starts.{RunStart}
-use Rattle.pn_serve.specs.Runs.Ends.{Ended, Broken, Cut, Exceeded, Ends}
+use Rattle.pn_serve.specs.Runs.Ends.{RunStart, Ended, Broken, Cut, Exceeded, Ends}
 use Rattle.pn_serve.specs.Runs.Bounds.{lines_within}
 use Rattle.pn_serve.specs.Script.Parts.{parts_of}
 use Rattle.pn_serve.specs.Script.Written.{replies_from, machine_after, refusals_from, replies, refusals, end_of, one_if}

@@ -14,7 +14,7 @@ ghost use Rattle.pn_serve.specs.Machine.Outcomes.{Outcome};
 ghost use Rattle.pn_serve.specs.Machine.Turns.{turn};
 ghost use Rattle.pn_serve.specs.Script.Happened.{events_of_input, events_since};
 ghost use Rattle.pn_serve.specs.Script.Inputs.{Input, all_lines, after_input};
-ghost use Rattle.pn_serve.specs.Script.Losses.{NoLosses};
+ghost use Rattle.pn_serve.specs.Script.Lines.{NoLosses};
 ghost use Rattle.pn_serve.specs.Script.Taken.{NothingLost};
 ghost use Rattle.pn_serve.specs.Script.Told.{Told, machine_of, records_of, images_of, TookTheSame, AwaitsCommand, reply_of, last_reply, AreAlike, IsNoOlder};
 ghost use Rattle.pn_stream.specs.Prelude.{BrokerRecord};

@@ -8,8 +8,7 @@ ghost use Rattle.pn_region.specs.Prelude.{new_region};
 ghost use Rattle.pn_serve.specs.Lines.States.{Start, new_loop};
 ghost use Rattle.pn_serve.specs.Lines.Served.{Served};
 ghost use Rattle.pn_serve.specs.Machine.Outcomes.{new_machine};
-ghost use Rattle.pn_serve.specs.Runs.Ends.{Ends};
-ghost use Rattle.pn_serve.specs.Runs.Starts.{run_start};
+ghost use Rattle.pn_serve.specs.Runs.Ends.{Ends, run_start};
 ghost use Rattle.pn_serve.specs.Session.Knowing.{KnowsNoLess};
 
 mod blocks;

@@ -210,8 +210,8 @@ fn run_unless_refused<R: Threads + Wait + Sync>(
 ) -> Result<(), ServeFault>
     requires workers { (1 ≤ workers) × (workers ≤ MAX_WORKERS) }
     ensures refused { IsTrue is_refused → (result ≡ Err ServeFault.Start) × (live.new ≡ live.old) }
-    ensures reads { IsFalse is_refused → RunsRounds (vec_len mailboxes.now.mailboxes) live.old live.new result }
-    ensures named { IsFalse is_refused → IfErr result (IsOfRounds (map (λ stream. stream.name) mailboxes.now.mailboxes.items)) }
+    ensures reads { IsFalse is_refused → RunsRounds (vec_len mailboxes.now.streams) live.old live.new result }
+    ensures named { IsFalse is_refused → IfErr result (IsOfRounds (map (λ stream. stream.name) mailboxes.now.streams.items)) }
     ensures same { tablets_in live.new ≡ tablets_in live.old }
 {
     if is_refused {

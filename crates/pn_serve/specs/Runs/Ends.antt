@@ -1,4 +1,4 @@
--- Where a run ends: what it read and wrote, and what is left of its script.
+-- What a run begins with, and where it ends: what it read and wrote, and what is left of its script.
 use Rattle.std.specs.Prelude.{◌≡◌, ◌≢◌, ℕ, List, [], length, Option, Some, IfSome, Result, Ok, Err}
 use Rattle.std.specs.Io.KnownBytes.{Appends, Keeps}
 use Rattle.pn_line.specs.LinesRead.{PartRead}
@@ -9,8 +9,19 @@ use Rattle.pn_serve.specs.declared.script.RunFault.{RunFault}
 use Rattle.pn_serve.specs.declared.script.RunFault.TheVariants.{Read, Write, TooManyTurns, Memory}
 use Rattle.pn_serve.specs.Machine.Outcomes.{Outcome, new_machine}
 use Rattle.pn_serve.specs.Script.Written.{replies, replies_from, refusals}
-use Rattle.pn_serve.specs.Runs.Starts.{RunStart}
 use Rattle.pn_serve.specs.Runs.Bounds.{lines_within, IsAtBound}
+use Rattle.pn_region.specs.Regions.{RegionValue, new_region}
+use Rattle.pn_serve.specs.Settings.{SettingsValue}
+
+-- the start of a run: its region, the bytes left in its source, and those in its writer
+pub record RunStart : Type 0 where
+  pub region : RegionValue
+  pub left : Option (List ℕ)
+  pub written : Option (List ℕ)
+
+-- what a run with these settings begins with
+abbrev pub run_start : SettingsValue → Option (List ℕ) → Option (List ℕ) → RunStart
+run_start settings left written = record { region = new_region settings.layout; left = left; written = written }
 
 -- the whole script was read; by one list of outcomes and one for the end, its replies were written, and its lines and
 -- refusals were counted

@@ -14,7 +14,7 @@ use std::sync::{Arc, Condvar, Mutex, Wait};
 /// somebody looks at it.
 #[derive(Drop)]
 pub(crate) struct StreamMailboxes {
-    pub(crate) mailboxes: Vec<StreamMailbox>,
+    pub(crate) streams: Vec<StreamMailbox>,
     pub(crate) wakeup: Arc<Wakeup>,
     pub(crate) rounds: Option<Arc<Counter>>,
 }
@@ -40,11 +40,11 @@ impl StreamMailboxes {
         streams: usize,
         rounds: Option<Arc<Counter>>,
     ) -> Result<StreamMailboxes, AllocError>
-        ensures none { IfOk result (λ mailboxes. mailboxes.mailboxes.items ≡ []) }
-        ensures count { IfOk result (λ mailboxes. vec_len mailboxes.mailboxes ≡ 0) }
+        ensures none { IfOk result (λ mailboxes. mailboxes.streams.items ≡ []) }
+        ensures count { IfOk result (λ mailboxes. vec_len mailboxes.streams ≡ 0) }
     {
         Ok(StreamMailboxes {
-            mailboxes: Vec::with_capacity(alloc, streams)?,
+            streams: Vec::with_capacity(alloc, streams)?,
             wakeup: Arc::new(alloc, Wakeup::new())?,
             rounds,
         })
@@ -52,24 +52,24 @@ impl StreamMailboxes {
 
     /// Adds the mailbox of a stream. Answers where its thread leaves reports.
     pub(crate) fn add(&mut self, alloc: Global, name: StreamName) -> Result<Reporter, AllocError>
-        ensures names { OnOk result (map (λ stream. stream.name) self.new.mailboxes.items
-            ≡ map (λ stream. stream.name) self.old.mailboxes.items ++ name ∷ []) }
-        ensures one { OnOk result (vec_len self.new.mailboxes ≡ vec_len self.old.mailboxes + 1) }
+        ensures names { OnOk result (map (λ stream. stream.name) self.new.streams.items
+            ≡ map (λ stream. stream.name) self.old.streams.items ++ name ∷ []) }
+        ensures one { OnOk result (vec_len self.new.streams ≡ vec_len self.old.streams + 1) }
     {
         let mailbox = Arc::new(alloc, Mailbox::new())?;
         let reporter = Reporter {
             mailbox: Arc::try_clone(&mailbox)?,
             wakeup: Arc::try_clone(&self.wakeup)?,
         };
-        self.mailboxes.push(StreamMailbox { name, mailbox })?;
+        self.streams.push(StreamMailbox { name, mailbox })?;
         Ok(reporter)
     }
 
     /// How many streams leave reports.
     pub(crate) fn len(&self) -> usize
-        ensures { result ≡ vec_len self.now.mailboxes }
+        ensures { result ≡ vec_len self.now.streams }
     {
-        self.mailboxes.len()
+        self.streams.len()
     }
 
     /// Waits until a report is left, or was left since the last call.
@@ -86,7 +86,7 @@ impl StreamMailboxes {
 
     /// Closes the mailboxes. Each thread ends after its current wait for messages.
     pub(crate) fn close<R: Wait>(&self, rt: &R) {
-        for stream in self.mailboxes.iter() {
+        for stream in self.streams.iter() {
             stream.mailbox.close(rt);
         }
     }

@@ -42,8 +42,8 @@ pub(crate) fn run_rounds<R: Threads + Wait + Sync>(
     mailboxes: &StreamMailboxes,
 ) -> Result<(), ServeFault>
     requires workers { (1 ≤ workers) × (workers ≤ MAX_WORKERS) }
-    ensures reads { RunsRounds (vec_len mailboxes.now.mailboxes) live.old live.new result }
-    ensures named { IfErr result (IsOfRounds (map (λ stream. stream.name) mailboxes.now.mailboxes.items)) }
+    ensures reads { RunsRounds (vec_len mailboxes.now.streams) live.old live.new result }
+    ensures named { IfErr result (IsOfRounds (map (λ stream. stream.name) mailboxes.now.streams.items)) }
     ensures same { tablets_in live.new ≡ tablets_in live.old }
 {
     let mut reading = mailboxes.len();
@@ -66,15 +66,15 @@ fn gather<R: Wait>(
     alloc: Global,
     mailboxes: &StreamMailboxes,
 ) -> Result<RoundInput, ServeFault>
-    ensures gathered { IfOk result (λ input. IsInputOf (map (λ stream. stream.name) mailboxes.now.mailboxes.items) (value_of input)) }
-    ensures small { IfOk result (λ input. IsSmall (vec_len mailboxes.now.mailboxes) (value_of input)) }
-    ensures named { IfOk result (λ input. IfSome input.fault (Contains (map (λ stream. stream.name) mailboxes.now.mailboxes.items))) }
+    ensures gathered { IfOk result (λ input. IsInputOf (map (λ stream. stream.name) mailboxes.now.streams.items) (value_of input)) }
+    ensures small { IfOk result (λ input. IsSmall (vec_len mailboxes.now.streams) (value_of input)) }
+    ensures named { IfOk result (λ input. IfSome input.fault (Contains (map (λ stream. stream.name) mailboxes.now.streams.items))) }
     ensures fault { IfErr result (λ fault. fault ≡ ServeFault.Round) }
 {
     let Ok(mut input) = new_input(alloc, mailboxes.len()) else {
         return Err(ServeFault::Round);
     };
-    for stream in mailboxes.mailboxes.iter() {
+    for stream in mailboxes.streams.iter() {
         let report = stream.mailbox.take(rt);
         add_note(&mut input, &stream.name, report);
     }

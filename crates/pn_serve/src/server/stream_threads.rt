@@ -56,7 +56,7 @@ impl<S: Source + Drop> StartedStreams<S> {
         rounds: Option<Arc<Counter>>,
     ) -> Result<StartedStreams<S>, AllocError>
         ensures threads { IfOk result (λ started. started.threads.items ≡ []) }
-        ensures mailboxes { IfOk result (λ started. started.mailboxes.mailboxes.items ≡ []) }
+        ensures mailboxes { IfOk result (λ started. started.mailboxes.streams.items ≡ []) }
     {
         Ok(StartedStreams {
             mailboxes: StreamMailboxes::new(alloc, streams, rounds)?,
@@ -77,7 +77,7 @@ where
     S: Source + Drop + Send + 'static,
     ensures fault { IfErr result (λ fault. fault ≡ ServeFault.Start) }
     ensures threads { IfOk result (λ started. map (λ thread. thread.promise.0.value) started.threads.items ≡ streams.items) }
-    ensures names { IfOk result (λ started. map (λ stream. stream.name) started.mailboxes.mailboxes.items ≡ names_of streams.items) }
+    ensures names { IfOk result (λ started. map (λ stream. stream.name) started.mailboxes.streams.items ≡ names_of streams.items) }
 {
     let Ok(mut started) = StartedStreams::new(alloc, streams.len(), rounds) else {
         return Err(ServeFault::Start);
@@ -102,8 +102,8 @@ where
     S: Source + Drop + Send + 'static,
     ensures threads { OnOk result (map (λ thread. thread.promise.0.value) started.new.threads.items
         ≡ map (λ thread. thread.promise.0.value) started.old.threads.items ++ stream ∷ []) }
-    ensures names { OnOk result (map (λ stream. stream.name) started.new.mailboxes.mailboxes.items
-        ≡ map (λ stream. stream.name) started.old.mailboxes.mailboxes.items ++ stream.name ∷ []) }
+    ensures names { OnOk result (map (λ stream. stream.name) started.new.mailboxes.streams.items
+        ≡ map (λ stream. stream.name) started.old.mailboxes.streams.items ++ stream.name ∷ []) }
 {
     let reporter = started.mailboxes.add(alloc, name_of(&stream))?;
     let host = *rt;

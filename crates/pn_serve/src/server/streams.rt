@@ -75,7 +75,7 @@ where
     R: Threads + Wait + Copy + Send + 'static,
     S: Source + Drop + Send + 'static,
     O: Origin<S> + Drop + Send + 'static,
-    ensures count { IfOk result (λ mailboxes. vec_len mailboxes.mailboxes ≡ vec_len streams) }
+    ensures count { IfOk result (λ mailboxes. vec_len mailboxes.streams ≡ vec_len streams) }
     ensures fault { IfErr result (λ fault. fault ≡ ServeFault.Start) }
 {
     let Ok(mut mailboxes) = StreamMailboxes::new(alloc, streams.len(), rounds) else {
@@ -100,7 +100,7 @@ where
     R: Threads + Wait + Copy + Send + 'static,
     S: Source + Drop + Send + 'static,
     O: Origin<S> + Drop + Send + 'static,
-    ensures { OnOk result (vec_len mailboxes.new.mailboxes ≡ vec_len mailboxes.old.mailboxes + 1) }
+    ensures { OnOk result (vec_len mailboxes.new.streams ≡ vec_len mailboxes.old.streams + 1) }
 {
     let reporter = mailboxes.add(alloc, name_of(&stream.reader))?;
     let host = *rt;

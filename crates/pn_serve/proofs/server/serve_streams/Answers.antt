@@ -8,8 +8,8 @@ use Rattle.pn_serve.proofs.server.serve_streams.Goals as goal
 
 pub returns-clause-ends : goal.returns-clause-ends
 returns-clause-ends g c =
-    let count : vec_len c.in_ok-started.started.mailboxes.mailboxes ≡ length c.in_ok-started.started.mailboxes.mailboxes.items = omega (arith, c.in_ok-started.started.mailboxes.mailboxes.ok.0) in
-    reading_ends g.S.Source.left c.args.streams.items (λ (p : StreamMailbox). p.name) c.in_ok-started.started.mailboxes.mailboxes.items _ c.args.region.now.live c.run_unless_refused-read.new.live _ c.marks.result.now c.run_unless_refused-read.result c.join_after_rounds.result
+    let count : vec_len c.in_ok-started.started.mailboxes.streams ≡ length c.in_ok-started.started.mailboxes.streams.items = omega (arith, c.in_ok-started.started.mailboxes.streams.ok.0) in
+    reading_ends g.S.Source.left c.args.streams.items (λ (p : StreamMailbox). p.name) c.in_ok-started.started.mailboxes.streams.items _ c.args.region.now.live c.run_unless_refused-read.new.live _ c.marks.result.now c.run_unless_refused-read.result c.join_after_rounds.result
     c.in_ok-started.ensures.names c.in_ok-started.ensures.threads c.run_unless_refused-read.ensures.refused (λ none. subst (λ (n : ℕ). RunsRounds n c.args.region.now.live c.run_unless_refused-read.new.live c.run_unless_refused-read.result) count (c.run_unless_refused-read.ensures.reads none)) c.run_unless_refused-read.ensures.named
     c.join_after_rounds.ensures.first c.marks.ensures.marks c.join_after_rounds.ensures.taken c.join_after_rounds.ensures.named
 

@@ -17,7 +17,7 @@ loop-stream-init g c =
       notes = [];
       of_streams = refl;
       together = none;
-      named = subst (λ (fault : Option (List ℕ)). IfSome fault (Contains (map (λ (p : StreamMailbox). p.name) c.args.mailboxes.now.mailboxes.items))) (sym (ap (λ (v : RoundInputValue). v.fault) none)) tt;
+      named = subst (λ (fault : Option (List ℕ)). IfSome fault (Contains (map (λ (p : StreamMailbox). p.name) c.args.mailboxes.now.streams.items))) (sym (ap (λ (v : RoundInputValue). v.fault) none)) tt;
       fit = All-same FitRound _ [] (ap (λ (v : RoundInputValue). v.deliveries) none) (All-nil FitRound);
       few = omega (arith, few);
       ended = omega (arith, ended);
@@ -29,12 +29,12 @@ loop-stream-preserved g c =
     let so_far = c.loop-stream.invariant in
     let stream = c.stream-item.result in
     let report = c.take-report.result in
-    let names = map (λ (p : StreamMailbox). p.name) c.args.mailboxes.now.mailboxes.items in
-    let within : c.loop-stream.stream-index < length c.args.mailboxes.now.mailboxes.items = omega (arith, c.loop-stream-test.true, c.deref-stream-items.ensures.len, ap length c.deref-stream-items.ensures.value) in
-    let there = is_named (λ (p : StreamMailbox). p.name) c.args.mailboxes.now.mailboxes.items c.deref-stream-items.result.now c.loop-stream.stream-index stream within c.deref-stream-items.ensures.value c.stream-item.is in
+    let names = map (λ (p : StreamMailbox). p.name) c.args.mailboxes.now.streams.items in
+    let within : c.loop-stream.stream-index < length c.args.mailboxes.now.streams.items = omega (arith, c.loop-stream-test.true, c.deref-stream-items.ensures.len, ap length c.deref-stream-items.ensures.value) in
+    let there = is_named (λ (p : StreamMailbox). p.name) c.args.mailboxes.now.streams.items c.deref-stream-items.result.now c.loop-stream.stream-index stream within c.deref-stream-items.ensures.value c.stream-item.is in
     record {
       notes = so_far.notes ++ record { name = stream.name; report = report } ∷ [];
-      of_streams = names_more (λ (p : StreamMailbox). p.name) c.args.mailboxes.now.mailboxes.items c.deref-stream-items.result.now c.loop-stream.stream-index stream so_far.notes report within c.deref-stream-items.ensures.value c.stream-item.is so_far.of_streams;
+      of_streams = names_more (λ (p : StreamMailbox). p.name) c.args.mailboxes.now.streams.items c.deref-stream-items.result.now c.loop-stream.stream-index stream so_far.notes report within c.deref-stream-items.ensures.value c.stream-item.is so_far.of_streams;
       together = c.add_note.ensures.added ∙ ap (λ (v : RoundInputValue). with_report v stream.name report) so_far.together ∙ sym (notes_push no_input so_far.notes (record { name = stream.name; report = report }));
       named = subst (λ (v : RoundInputValue). IfSome v.fault (Contains names)) (sym c.add_note.ensures.added) (named_on names (value_of c.loop-stream.input) stream.name report there so_far.named);
       fit = c.add_note.ensures.fit so_far.fit;

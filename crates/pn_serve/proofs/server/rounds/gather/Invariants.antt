@@ -8,11 +8,11 @@ use Rattle.pn_serve.proofs.server.rounds.gather.Given as goal
 abbrev pub invariant-loop-stream : goal.invariant-loop-stream
 invariant-loop-stream g l = record {
   notes : List Note;
-  of_streams : map (λ note. note.name) notes ≡ map (λ stream. stream.name) (take l.stream-index l.mailboxes.mailboxes.items);
+  of_streams : map (λ note. note.name) notes ≡ map (λ stream. stream.name) (take l.stream-index l.mailboxes.streams.items);
   together : value_of l.input ≡ with_notes no_input notes;
-  named : IfSome l.input.fault (Contains (map (λ stream. stream.name) l.mailboxes.mailboxes.items));
+  named : IfSome l.input.fault (Contains (map (λ stream. stream.name) l.mailboxes.streams.items));
   fit : All FitRound l.input.deliveries.items;
   few : vec_len l.input.deliveries ≤ l.stream-index;
   ended : l.input.ended ≤ l.stream-index;
-  capacity : vec_capacity l.input.deliveries ≡ vec_len l.mailboxes.mailboxes;
+  capacity : vec_capacity l.input.deliveries ≡ vec_len l.mailboxes.streams;
 }

@@ -9,7 +9,7 @@ use Rattle.pn_serve.proofs.server.rounds.run_rounds.Goals as goal
 
 pub loop-init : goal.loop-init
 loop-init g c =
-    let streams = vec_len c.args.mailboxes.now.mailboxes in
+    let streams = vec_len c.args.mailboxes.now.streams in
     record { so_far = subst (λ (n : ℕ). SoFar streams n c.args.live.now c.args.live.now) (sym c.len-reading.ensures) (none_yet streams c.args.live.now); same = refl }
 
 pub loop-preserved : goal.loop-preserved
@@ -29,7 +29,7 @@ returns-in_err-input-clause-reads g c =
 
 pub returns-in_err-input-clause-named : goal.returns-in_err-input-clause-named
 returns-in_err-input-clause-named g c =
-    let names = map (λ (p : StreamMailbox). p.name) c.args.mailboxes.now.mailboxes.items in
+    let names = map (λ (p : StreamMailbox). p.name) c.args.mailboxes.now.streams.items in
     passed_on (IsOfRounds names) c.in_err-input.field-0.0 c.from_residual.result c.from_residual.ensures.1 (subst (IsOfRounds names) (sym c.in_err-input.ensures.fault) tt)
 
 pub returns-in_err-ended-clause-reads : goal.returns-in_err-ended-clause-reads
@@ -39,6 +39,6 @@ returns-in_err-ended-clause-reads g c =
 
 pub returns-in_err-ended-clause-named : goal.returns-in_err-ended-clause-named
 returns-in_err-ended-clause-named g c =
-    let names = map (λ (p : StreamMailbox). p.name) c.args.mailboxes.now.mailboxes.items in
+    let names = map (λ (p : StreamMailbox). p.name) c.args.mailboxes.now.streams.items in
     passed_on (IsOfRounds names) c.in_err-ended.field-0.0 c.from_residual-in_err-ended.result c.from_residual-in_err-ended.ensures.1
     (fault_named names (value_of c.in_ok-input.input) c.loop.live c.run_round.new.live c.in_err-ended.field-0.0 c.in_err-ended.ensures.takes c.in_ok-input.ensures.named)

@@ -6,6 +6,6 @@ use Rattle.pn_serve.proofs.server.rounds.run_rounds.Given as goal
 
 abbrev pub invariant-loop : goal.invariant-loop
 invariant-loop g l = record {
-  so_far : SoFar (vec_len l.mailboxes.mailboxes) l.reading l.fn.live l.live;
+  so_far : SoFar (vec_len l.mailboxes.streams) l.reading l.fn.live l.live;
   same : tablets_in l.live ≡ tablets_in l.fn.live;
 }

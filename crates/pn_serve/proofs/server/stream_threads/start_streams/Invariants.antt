@@ -6,5 +6,5 @@ use Rattle.pn_serve.proofs.server.stream_threads.start_streams.Given as goal
 abbrev pub invariant-loop-stream : goal.invariant-loop-stream
 invariant-loop-stream g l = record {
   threads : map (λ thread. thread.promise.0.value) l.started.threads.items ≡ l.yielded;
-  names : map (λ stream. stream.name) l.started.mailboxes.mailboxes.items ≡ names_of l.yielded;
+  names : map (λ stream. stream.name) l.started.mailboxes.streams.items ≡ names_of l.yielded;
 }
