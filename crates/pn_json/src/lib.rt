@@ -10,6 +10,6 @@ pub use line::{
     begin_line, finish_line, write_null_member, write_number_member, write_text_member,
 };
 pub use members::{
-    check_names, is_only_named, items_from, items_of, member_from, object_of, signed_number_of,
-    text_of, text_or_empty, whole_number_of,
+    check_names, items_from, items_of, member_from, object_of, signed_number_of, text_of,
+    text_or_empty, whole_number_of,
 };

@@ -92,8 +92,8 @@ pub fn check_names<F: Drop>(members: &Map<String, Value>, names: &[&str], fault:
     }
 }
 
-/// Whether each member has one of the names. It is fastest if members come in the order of the names.
-pub fn is_only_named(members: &Map<String, Value>, names: &[&str]) -> bool
+// Whether each member has one of the names. It is fastest if members come in the order of the names.
+fn is_only_named(members: &Map<String, Value>, names: &[&str]) -> bool
     ensures named { result ≡ only_named (texts names.now) (members_view members.now.entries) }
     ensures ordered { IsOrdered string_cmp members.now }
 {

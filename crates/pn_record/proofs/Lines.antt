@@ -1,5 +1,5 @@
 -- The value of a line, from what `serde_json` says of its bytes, and lines of values that spell something.
-use Rattle.std.proofs.Common.{◌≡◌, ◌≢◌, ◌⊎◌, inl, inr, ℕ, ◌≤◌, List, length, Bool, true, false, cond, Option, Some, None, Result, Ok, Err, IfOk, IfErr, IsErrAnd, IsErrOf, ◌↔◌, refl, sym, ap, ◌∙◌, subst, ltb}
+use Rattle.std.proofs.Common.{◌≡◌, ◌≢◌, ◌⊎◌, inl, inr, ℕ, ◌≤◌, List, length, Bool, true, false, cond, Option, Some, None, Result, Ok, Err, IfOk, IfErr, IsErrOf, ◌↔◌, refl, sym, ap, ◌∙◌, subst, ltb}
 use Rattle.std.proofs.lemmas.Bool.{le-ltb, ltb-false}
 use Rattle.std.proofs.lemmas.Str.{is_utf8-from_IsUtf8, IsUtf8-from_is_utf8}
 use Rattle.std.specs.Option.{ok_or}
@@ -69,11 +69,6 @@ module _ {A : Type 0} (IsSpelled : Data → A → Type 0) where
     line_unique line one other first second = same_ok one other (sym (line_again line one first) ∙ line_again line other second)
 
 -- ---- what was answered of what was read
-
--- the fault that was handed on is the answer
-pub refused_line : {A : Type 0} (answer : Result A ImageFault) (fault : ImageFault) → IsErrAnd answer (λ other. other ≡ fault) → answer ≡ Err fault
-refused_line (Ok value) fault is = absurd is
-refused_line (Err other) fault is = ap Err is
 
 fault_same : {A : Type 0} (fault other : ImageFault) → ◌≡◌ {A = Result A ImageFault} (Err fault) (Err other) → fault ≡ other
 fault_same fault other is = cc

@@ -24,7 +24,7 @@ pub struct Cell {
     alloc: Global,
 }
 
-/// What a cell's contents say together.
+/// Whether a record is there, deleted, or in conflict, by all contents of its cell.
 #[derive(Clone, Copy, Debug, PartialEq, Eq)]
 pub enum CellState {
     /// One content, which has fields.
@@ -81,7 +81,7 @@ impl Cell {
         self.contents.as_slice()
     }
 
-    /// What its contents say together.
+    /// Whether the record is there, deleted, or in conflict.
     pub fn state(&self) -> CellState
         ensures { result ≡ state_of self.now }
     {

@@ -19,7 +19,7 @@ use std::marker::Model;
 pub enum Value {
     /// A whole number. It counts 20 bytes.
     Number(i64),
-    /// At most 4,096 bytes.
+    /// A text of at most 4,096 bytes.
     Text(String),
 }
 
@@ -67,7 +67,7 @@ impl Content {
         Some(Content { body, master })
     }
 
-    /// Whether a field is a number.
+    /// Whether the value of one of the fields is a number.
     pub fn holds_number(&self) -> bool
         ensures { result ≡ holds_number self.now }
     {
@@ -134,7 +134,7 @@ fn is_below(field: &(String, Value), next: &(String, Value)) -> bool
 }
 
 impl Value {
-    /// An equal value.
+    /// An equal value with a text of its own.
     pub fn dup(&self) -> Result<Value, NoMemory>
         ensures { IfOk result (λ copy. shown_value copy ≡ shown_value self.now) }
     {

@@ -10,17 +10,17 @@ use std::alloc::Global;
 use std::cmp::Ordering;
 use std::slice;
 
-/// The contents of a cell.
+/// The contents of a cell, in content order.
 #[derive(Debug, Drop)]
 pub enum HeldContents {
-    /// A single content.
+    /// The only content, without a list of its own.
     One(Content),
-    /// Several contents.
+    /// Two contents or more.
     Many(Vec<Content>),
 }
 
 impl HeldContents {
-    /// The contents as a slice.
+    /// The contents as a slice, in content order.
     pub fn as_slice(&self) -> &[Content]
         ensures { result.now ≡ held_contents self.now }
     {

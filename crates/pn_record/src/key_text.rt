@@ -1,4 +1,4 @@
-//! The text of a key. A short one is held in place.
+//! The text of a key, which is held in place where it is short, and else in a string.
 
 ghost use Rattle.std.specs.Prelude.{◌≡◌, nat_le, length, IsTrue, IfOk, IsOk};
 ghost use Rattle.pn_record.specs.Held.{held_text, is_in_place};
@@ -9,7 +9,7 @@ use crate::short_text::ShortText;
 use pn_join::NoMemory;
 use std::alloc::Global;
 
-/// A text, in place where it is short.
+/// The text of a key. Which form it has is decided by its length alone.
 #[derive(Debug, Drop)]
 pub enum KeyText {
     /// At most 31 bytes.
@@ -19,7 +19,7 @@ pub enum KeyText {
 }
 
 impl KeyText {
-    /// Copies a text. A short one always succeeds.
+    /// Copies a text. For a short one no memory is taken, so that it always succeeds.
     pub fn of(alloc: Global, text: &str) -> Result<KeyText, NoMemory>
         ensures copied { IfOk result (λ held. held_text held ≡ text.now) }
         ensures in_place { IfOk result (λ held. is_in_place held ≡ nat_le (length text.now) MAX_SHORT_BYTES) }
@@ -32,7 +32,7 @@ impl KeyText {
         }
     }
 
-    /// The text.
+    /// The text as a slice, wherever it is held.
     pub fn as_str(&self) -> &str
         ensures { result.now ≡ held_text self.now }
     {
@@ -42,7 +42,7 @@ impl KeyText {
         }
     }
 
-    /// An equal text. A short one always succeeds.
+    /// An equal text of its own. For a short one no memory is taken, so that it always succeeds.
     pub fn dup(&self) -> Result<KeyText, NoMemory>
         ensures equal { IfOk result (λ copy. held_text copy ≡ held_text self.now) }
         ensures in_place { IfOk result (λ copy. is_in_place copy ≡ is_in_place self.now) }

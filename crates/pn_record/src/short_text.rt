@@ -1,4 +1,4 @@
-//! Short texts, held in place.
+//! Texts that are short enough to be held in place.
 
 ghost use Rattle.std.specs.Prelude.{◌≡◌, ◌≤◌, length, IsUtf8};
 ghost use Rattle.pn_record.specs.declared.limits.TheConstants.{MAX_SHORT_BYTES};
@@ -27,7 +27,7 @@ impl Model for ShortText {
 }
 
 impl ShortText {
-    /// A copy of a short text.
+    /// Copies a text of at most `MAX_SHORT_BYTES` bytes.
     pub fn of(text: &str) -> ShortText
         requires short { length text.now ≤ MAX_SHORT_BYTES }
         ensures copied { result ≡ text.now }
@@ -41,7 +41,7 @@ impl ShortText {
         }
     }
 
-    /// The text.
+    /// The bytes in use, as text.
     pub fn as_str(&self) -> &str
         ensures text { result.now ≡ self.now }
     {
@@ -55,7 +55,7 @@ impl ShortText {
         &self.bytes[..self.length as usize]
     }
 
-    /// An equal text.
+    /// An equal text of its own.
     pub fn dup(&self) -> ShortText
         ensures { result ≡ self.now }
     {

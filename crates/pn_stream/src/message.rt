@@ -27,7 +27,18 @@ pub fn read_message(alloc: Global, line: &[u8]) -> Result<(u64, Image), ImageFau
     ensures exact { IsUnless ImageFault.Memory result (message_at line.now) }
     ensures too_long { IsErrOf result ImageFault.TooLong ↔ (max_line_bytes < length line.now) }
 {
-    let value = read_value(alloc, line)?;
+    message_read(alloc, read_value(alloc, line))
+}
+
+// The message of a value that was read, or the fault of reading.
+fn message_read(alloc: Global, read: Result<Value, ImageFault>) -> Result<(u64, Image), ImageFault>
+    ensures unread { IfErr read (λ fault. result ≡ Err fault) }
+    ensures found { IfOk read (λ value. IfOk result (λ message. IsMessage (view value) message)) }
+    ensures exact { IfOk read (λ value. IsUnless ImageFault.Memory result (message_in (view value))) }
+    ensures memory { IfOk read (λ value. IsErrOf result ImageFault.Memory → IsOk (message_in (view value))) }
+    ensures faults { IfOk read (λ value. IfErr result IsOfValue) }
+{
+    let value = read?;
     message_of(alloc, value)
 }
 

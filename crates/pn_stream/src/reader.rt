@@ -122,7 +122,7 @@ impl<S: Source + Drop> StreamReader<S> {
         Ok(self.deliver(images))
     }
 
-    // The fault that the next call returns.
+    // The fault that waits for this call, if there is one.
     fn waiting_fault(&self) -> Option<StreamFault>
         ensures fault { result ≡ self.now.fault }
         ensures part { length self.now.part ≤ max_line_bytes }
@@ -130,7 +130,7 @@ impl<S: Source + Drop> StreamReader<S> {
         self.fault
     }
 
-    // Returns the fault. No messages come after it.
+    // Answers with the fault. From now on the reader has failed.
     fn fail(&mut self, fault: StreamFault) -> StreamFault
         ensures failed { self.new ≡ record self.old { fault = Some StreamFault.Failed } }
         ensures fault { result ≡ fault }

@@ -12,7 +12,7 @@ pub struct ReplyRuns {
 }
 
 impl ReplyRuns {
-    /// None yet.
+    /// No replies yet.
     pub fn new(alloc: Global) -> ReplyRuns {
         ReplyRuns {
             text: String::new(alloc),
@@ -21,7 +21,7 @@ impl ReplyRuns {
         }
     }
 
-    /// Adds a reply.
+    /// Adds a reply to those that came before it.
     pub fn push(&mut self, reply: String) -> Result<(), Fail> {
         if reply.as_str() != self.last.as_str() {
             self.show()?;

@@ -7,7 +7,7 @@ use pn_record::{
 use std::alloc::Global;
 use std::test::Fail;
 
-/// The content of an image.
+/// The JSON of an image's content.
 pub(crate) fn content(alloc: Global, line: &str) -> Result<String, Fail> {
     let image = image_of(alloc, &read_value(alloc, line.as_bytes())?)?;
     Ok(content_value(alloc, &image.content)?.to_string(alloc)?)

@@ -37,7 +37,7 @@ fn message(alloc: Global, line: &str) -> Result<String, Fail> {
     }
 }
 
-// What readers of the stream give.
+// What readers give of the stream, which comes in the way that is named.
 fn read_stream(alloc: Global, how: &str, case: &Case) -> Result<String, Fail> {
     match how {
         "whole" => read_whole(alloc, case),

@@ -28,7 +28,7 @@ fn push_delivery(text: &mut String, delivery: &Delivery) -> Result<(), Fail> {
     Ok(text.push_str("; ")?)
 }
 
-// What one call gives.
+// Adds what one call gives.
 fn push_answer<S: Source + Drop>(
     text: &mut String,
     case: &Case,
@@ -60,12 +60,12 @@ fn read_all<S: Source + Drop>(alloc: Global, case: &Case, source: S) -> Result<S
     Ok(text)
 }
 
-/// In memory.
+/// What a reader gives of a stream in memory.
 pub(crate) fn read_whole(alloc: Global, case: &Case) -> Result<String, Fail> {
     read_all(alloc, case, InMemory::new(case.text.as_bytes()))
 }
 
-/// In pieces of each size.
+/// What readers give of a stream that comes in pieces, for pieces of each size.
 pub(crate) fn read_in_pieces(alloc: Global, case: &Case) -> Result<String, Fail> {
     let text = case.text.as_bytes();
     let mut runs = ReplyRuns::new(alloc);
@@ -75,7 +75,8 @@ pub(crate) fn read_in_pieces(alloc: Global, case: &Case) -> Result<String, Fail>
     runs.text()
 }
 
-/// In pieces of 30 bytes, where a look fails, each of 16 in turn. A message takes three looks.
+/// What readers give of a stream in pieces of 30 bytes, of whose first 16 looks one fails, each in turn. A message takes
+/// three looks.
 pub(crate) fn read_with_a_failing_look(alloc: Global, case: &Case) -> Result<String, Fail> {
     let text = case.text.as_bytes();
     let mut runs = ReplyRuns::new(alloc);
@@ -85,7 +86,8 @@ pub(crate) fn read_with_a_failing_look(alloc: Global, case: &Case) -> Result<Str
     runs.text()
 }
 
-/// Cut in two at each byte. The first call comes before the second part is written.
+/// What readers give of a stream that is cut in two, at each byte in turn. The first call comes before the second part is
+/// written.
 pub(crate) fn read_in_two(alloc: Global, case: &Case) -> Result<String, Fail> {
     let text = case.text.as_bytes();
     let mut runs = ReplyRuns::new(alloc);
@@ -114,7 +116,7 @@ fn new_pipe<'c, 'a>(buffer: &'c PipeBuffer<'a>, waits: bool) -> Pipe<'c, 'a> {
     }
 }
 
-/// A line at a time, each written after the call that gave the one before.
+/// What a reader gives of a stream that comes a line at a time, each written after the call that gave the one before.
 pub(crate) fn read_by_lines(alloc: Global, case: &Case) -> Result<String, Fail> {
     let buffer = PipeBuffer::new(&[]);
     let mut reader = new_reader(alloc, case, new_pipe(&buffer, true))?;

@@ -17,7 +17,7 @@ use pn_json::{member_from, signed_number_of, text_or_empty};
 use serde_json::{Map, Value};
 use std::alloc::Global;
 
-/// The image that a value spells. The names and texts of its fields are moved out of the value.
+/// The image that a value spells, which was checked before. The names and texts of its fields are moved out of the value.
 #[tactic(auto, using(crate::proofs::ImageParts::parts_found))]
 pub fn image_from(alloc: Global, value: Value) -> Result<Image, NoMemory>
     requires { IsOk (image_in (view value)) }

@@ -41,7 +41,7 @@ pub fn read_value(alloc: Global, line: &[u8]) -> Result<Value, ImageFault>
     }
 }
 
-// The fault for an error of `serde_json`.
+// What an error of `serde_json` is called here.
 fn fault_of(error: &Error) -> ImageFault
     ensures { (IsMemory error.now × (result ≡ ImageFault.Memory)) ⊎ ((¬ IsMemory error.now) × (result ≡ ImageFault.NotJson)) }
 {
@@ -111,11 +111,23 @@ pub fn read_image(alloc: Global, line: &[u8]) -> Result<Image, ImageFault>
     ensures exact { IsUnless ImageFault.Memory result (image_at line.now) }
     ensures too_long { IsErrOf result ImageFault.TooLong ↔ (max_line_bytes < length line.now) }
 {
-    let value = read_value(alloc, line)?;
+    image_read(alloc, read_value(alloc, line))
+}
+
+// The image of a value that was read, or the fault of reading.
+fn image_read(alloc: Global, read: Result<Value, ImageFault>) -> Result<Image, ImageFault>
+    ensures found { IfOk read (λ value. IfOk result (λ image. IsImage (view value) image)) }
+    ensures exact { IfOk read (λ value. IsUnless ImageFault.Memory result (image_in (view value))) }
+    ensures memory { IfOk read (λ value. IsErrOf result ImageFault.Memory → IsOk (image_in (view value))) }
+    ensures faults { IfOk read (λ value. IfErr result IsOfValue) }
+    ensures unread { IfErr read (λ fault. result ≡ Err fault) }
+{
+    let value = read?;
     try_image_from(alloc, value)
 }
 
-/// As `image_of`, of a value of one's own: the names and texts of the image's fields are moved out of it, not copied.
+/// The image that a value spells, as `image_of` gives it. The names and texts of its fields are moved out of the value,
+/// not copied.
 pub fn try_image_from(alloc: Global, value: Value) -> Result<Image, ImageFault>
     ensures found { IfOk result (λ image. IsImage (view value) image) }
     ensures exact { IsUnless ImageFault.Memory result (image_in (view value)) }
@@ -127,7 +139,7 @@ pub fn try_image_from(alloc: Global, value: Value) -> Result<Image, ImageFault>
 }
 
 impl UncheckedImage<'_> {
-    /// The image. Its texts are copied.
+    /// An image with copies of the texts that this one borrows.
     #[tactic(auto, unfolding(crate::specs::Grammar::ranges_in))]
     pub fn image(&self, alloc: Global) -> Result<Image, NoMemory>
         requires { IsOk (ranges_in self.now) }

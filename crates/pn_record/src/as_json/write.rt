@@ -48,8 +48,8 @@ pub fn image_value(alloc: Global, image: &Image) -> Result<Value, NoMemory>
     record_value(alloc, &image.key, image.version, &image.content)
 }
 
-/// The image with this key, version and content as JSON.
-pub fn record_value(
+// The image with this key, version and content as JSON.
+fn record_value(
     alloc: Global,
     key: &Key,
     version: Version,
