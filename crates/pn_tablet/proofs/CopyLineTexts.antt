@@ -16,7 +16,8 @@ use Rattle.pn_line.specs.Reads.{IsUnbroken}
 use Rattle.pn_record.specs.declared.image.Image.{Image}
 use Rattle.pn_record.specs.Canonical.{is_image}
 use Rattle.pn_record.specs.Bodies.{field_size, fields_fit, names_rise, is_body, is_content}
-use Rattle.pn_record.specs.Limits.{FieldValue, number_value, text_value, Field, is_value, is_field, is_key, is_version, greatest}
+use Rattle.pn_record.specs.Limits.{FieldValue, number_value, text_value, Field, is_value, is_field, is_key, is_version}
+use Rattle.pn_record.specs.declared.limits.TheConstants.{MAX_VERSION_NUMBER}
 use Rattle.pn_record.specs.Marks.{is_mark}
 use Rattle.pn_record.specs.Writing.{value_data, fields_data, body_data, image_data}
 use Rattle.pn_record.proofs.ImageText.{length-quoted}
@@ -165,13 +166,13 @@ small_body : (f : Option (List Field)) (rest : Members) → is_body f ≡ true �
 small_body None rest is small = (tt, small)
 small_body (Some fields) rest is small = (small_fields fields (fields_are fields is), small)
 
-below_word : (n : ℕ) → leb n greatest ≡ true → n < 2 ^ 64
-below_word n is = omega (arith, leb-true n greatest is)
+below_word : (n : ℕ) → leb n MAX_VERSION_NUMBER ≡ true → n < 2 ^ 64
+below_word n is = omega (arith, leb-true n MAX_VERSION_NUMBER is)
 
 pub below_version : (version : ℕ × ℕ) → is_version version ≡ true → (version.0 < 2 ^ 64) × (version.1 < 2 ^ 64)
 below_version version is =
-    let second = and_parts (leb 1 version.0 && leb version.0 greatest) (leb version.1 greatest) is in
-    let first = and_parts (leb 1 version.0) (leb version.0 greatest) second.0 in
+    let second = and_parts (leb 1 version.0 && leb version.0 MAX_VERSION_NUMBER) (leb version.1 MAX_VERSION_NUMBER) is in
+    let first = and_parts (leb 1 version.0) (leb version.0 MAX_VERSION_NUMBER) second.0 in
     (below_word version.0 first.1, below_word version.1 second.1)
 
 pub small_image : (image : Image) → is_image image ≡ true → Small (image_data image)

@@ -14,7 +14,7 @@ ghost use Rattle.pn_tablet.specs.Refusals.{Answers};
 
 use crate::{CopyTextFault, Range, TabletCopy};
 use pn_join::{Marks, NoMemory, StreamName, raise_at};
-use pn_record::{Image, Records, take_image};
+use pn_record::{Image, Records, add_image};
 use std::alloc::Global;
 use std::cmp::Ordering;
 use std::marker::Model;
@@ -145,7 +145,7 @@ fn settle(alloc: Global, cells: &mut Records, last: Option<Image>) -> Result<(),
     ensures { OnOk result (cells.new ≡ with_last cells.old last) }
 {
     match last {
-        Some(image) => take_image(alloc, cells, image),
+        Some(image) => add_image(alloc, cells, image),
         None => Ok(()),
     }
 }

@@ -80,7 +80,9 @@ impl Coverage {
     /// Recalls for the prover that the positions of the reach are those of messages.
     pub fn recall_positions(&self)
         ensures { IsTrue (are_positions self.now.reach) }
-    {}
+    {
+        let _ = &self.cover;
+    }
 
     /// The cover and the reach, raised by the marks.
     pub fn with_marks(&self, marks: &Marks) -> Result<Coverage, NoMemory>

@@ -1,12 +1,14 @@
-//! The laws of tablets, as contracts. A call does nothing.
+//! The laws of tablets and of layouts, as contracts. A call does nothing.
 
-ghost use Rattle.std.specs.Prelude.{◌≡◌, ℕ, List, Ok, fold, Contains};
+ghost use Rattle.std.specs.Prelude.{◌≡◌, ◌≤◌, ℕ, List, Ok, fold, length, Contains, IsTrue};
 ghost use Rattle.std.specs.FinMap.{find};
 ghost use Rattle.pn_join.specs.Prelude.{Positions, Reaches, raised_marks};
 ghost use Rattle.pn_record.specs.declared.image.Image.{Image};
 ghost use Rattle.pn_record.specs.Prelude.{bytes_cmp, Entries, table_of, NotOlder};
 ghost use Rattle.pn_tablet.specs.Copies.{TabletCopyValue};
 ghost use Rattle.pn_tablet.specs.Laws.{IsSpelled, Rise, AreJoins, Grows};
+ghost use Rattle.pn_tablet.specs.Layouts.{Bounds, IsLayout, tablet_of, tablet_ends};
+ghost use Rattle.pn_tablet.specs.Ranges.{in_range};
 ghost use Rattle.pn_tablet.specs.Steps.{step, tablet_after};
 ghost use Rattle.pn_tablet.specs.Tablets.{TabletStateValue};
 ghost use Rattle.pn_tablet.specs.declared.state.TabletOp.{TabletOp};
@@ -52,4 +54,12 @@ pub fn an_adoption_brings_back_what_was_lost()
         → copy.cells ≡ table_of (upto copy.marks)
         → step (fold tablet_after (tablet_after tablet Lose) joins) (Adopt copy) ≡ Ok after
         → (key : List ℕ) → NotOlder (find bytes_cmp key tablet.cells) (find bytes_cmp key after.cells) }
+{}
+
+/// Each key is in the range of exactly the tablet that `tablet_of` names.
+pub fn each_key_is_in_one_tablet()
+    ensures there { (bounds : Bounds) (key : List ℕ) → IsLayout bounds → IsTrue (in_range (tablet_ends bounds (tablet_of bounds key)) key) }
+    ensures within { (bounds : Bounds) (key : List ℕ) → tablet_of bounds key ≤ length bounds }
+    ensures nowhere_else { (bounds : Bounds) (key : List ℕ) (tablet : ℕ) → IsLayout bounds → tablet ≤ length bounds
+        → IsTrue (in_range (tablet_ends bounds tablet) key) → tablet ≡ tablet_of bounds key }
 {}

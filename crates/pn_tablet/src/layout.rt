@@ -68,7 +68,9 @@ impl Layout {
     /// Recalls for the prover that the bounds are at most 63, and rise.
     pub fn recall_order(&self)
         ensures { IsLayout self.now }
-    {}
+    {
+        let _ = &self.bounds;
+    }
 
     /// The tablet of the key: the number of bounds that are not greater.
     pub fn tablet_of(&self, key: &Key) -> usize
