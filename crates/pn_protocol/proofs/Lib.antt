@@ -1,4 +1,5 @@
 pub mod BatchParts
+pub mod Capacity
 pub mod CommandJson
 pub mod CommandLimits
 pub mod CommandLines

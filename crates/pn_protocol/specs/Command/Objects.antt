@@ -65,7 +65,7 @@ abbrev pub command_in : Data → Result CommandValue Refusal
 command_in d = allowed_in All d
 
 -- memory may run out: the value is a command, or says `deliver`, `get` or `relayout`, whose batches, keys or bounds are
--- gathered before their ranges are checked
+-- collected before their ranges are checked
 abbrev pub TakesMemory : Allowed → Data → Type 0
 TakesMemory allowed d =
     IsOk (allowed_in allowed d) ⊎ (get (codes "do") d ≡ Some (string (codes "deliver"))) ⊎ (get (codes "do") d ≡ Some (string (codes "get"))) ⊎ (get (codes "do") d ≡ Some (string (codes "relayout")))

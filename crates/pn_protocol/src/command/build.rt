@@ -76,7 +76,7 @@ pub(crate) fn build_keys(alloc: Global, from: &[&str]) -> Result<Vec<Key>, NoMem
 {
     let mut keys = Vec::with_capacity(alloc, from.len())?;
     for text in from {
-        keys.push(Key::of_fitting(alloc, text)?)?;
+        keys.push_reserved(Key::of_fitting(alloc, text)?);
     }
     Ok(keys)
 }

@@ -172,7 +172,7 @@ fn add(capacity: usize, more: usize) -> usize
     capacity.wrapping_add(more)
 }
 
-// Reads a byte of each name and of each cache line of each text. Their sum is room for some escapes.
+// Reads a byte of each name and of each cache line of each text. Their sum stands for some escapes.
 fn escapes_of(fields: &[(String, Value)]) -> usize
     ensures { result ≤ 255 }
 {

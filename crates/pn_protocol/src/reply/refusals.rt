@@ -1,6 +1,7 @@
 //! Replies to commands that were read and are not run. Where memory ran out, nothing is allocated for the reply.
 
-ghost use Rattle.std.specs.Prelude.{◌≡◌};
+ghost use Rattle.std.specs.Prelude.{◌≡◌, codes};
+ghost use Rattle.serde_json.specs.Data.{no_members};
 ghost use Rattle.pn_region.specs.declared.fault.RelayoutFault.TheVariants.{Memory as no_memory_to_relay};
 ghost use Rattle.pn_region.specs.declared.fault.RoundFault.TheVariants.{Memory as no_memory_for_a_round};
 ghost use Rattle.pn_scan.specs.declared.fault.ScanFault.TheVariants.{Memory as no_memory_to_look};
@@ -9,13 +10,13 @@ ghost use Rattle.pn_tablet.specs.declared.fault.CopyTextFault.TheVariants.{Memor
 ghost use Rattle.pn_tablet.specs.declared.fault.OpFault.TheVariants.{Memory as no_memory_to_adopt};
 ghost use Rattle.pn_protocol.specs.declared.reply.Reply.TheVariants.{Refused};
 ghost use Rattle.pn_protocol.specs.declared.refusal.Refusal.TheVariants.{Memory as no_memory};
-ghost use Rattle.pn_protocol.specs.Reply.Errors.{details_members, error_data};
-ghost use Rattle.pn_protocol.specs.Reply.Faults.{round_fault_data, lookup_fault_data, copy_fault_data, copy_text_fault_data, adopt_fault_data, relayout_fault_data};
+ghost use Rattle.pn_protocol.specs.Reply.Errors.{details_members, error_data, with_number};
+ghost use Rattle.pn_protocol.specs.Reply.Faults.{at_line, short_data, too_old_data, round_fault_data, lookup_fault_data, copy_fault_data, copy_text_fault_data, adopt_fault_data, relayout_fault_data};
 ghost use Rattle.pn_protocol.specs.Reply.Refusals.{Refuses, Says};
 
-use crate::reply::errors::Detail::{Number, Stream, Version};
 use crate::reply::errors::{Detail, error_reply};
 use crate::{Refusal, Reply};
+use pn_join::StreamName;
 use pn_region::{AdoptFault, RelayoutFault, RoundFault};
 use pn_scan::ScanFault;
 use pn_tablet::{CopyFault, CopyTextFault};
@@ -57,10 +58,8 @@ fn refuse_lookup(alloc: Global, fault: ScanFault) -> Reply
     ensures memory { fault ≡ no_memory_to_look → result ≡ Refused no_memory }
 {
     match fault {
-        ScanFault::Recovering(tablet) => {
-            refuse_as(alloc, "recovering", &[("tablet", Number(tablet as u64))])
-        }
-        ScanFault::Behind { has } => refuse_as(alloc, "behind", &[("has", Version(has))]),
+        ScanFault::Recovering(tablet) => refuse_tablet(alloc, "recovering", tablet),
+        ScanFault::Behind { has } => refuse_as(alloc, "behind", &[("has", Detail::Version(has))]),
         ScanFault::Memory => Reply::Refused(Refusal::Memory),
         ScanFault::NoEntry => refuse_as(alloc, "no-entry", &[]),
     }
@@ -71,22 +70,12 @@ fn refuse_copy(alloc: Global, tablet: usize, fault: CopyFault) -> Reply
     ensures memory { fault ≡ no_memory_to_copy → result ≡ Refused no_memory }
 {
     match fault {
-        CopyFault::Recovering => {
-            refuse_as(alloc, "recovering", &[("tablet", Number(tablet as u64))])
-        }
+        CopyFault::Recovering => refuse_tablet(alloc, "recovering", tablet),
         CopyFault::Behind {
             stream,
             has,
             wanted,
-        } => refuse_as(
-            alloc,
-            "behind",
-            &[
-                ("has", Number(has)),
-                ("stream", Stream(stream)),
-                ("wanted", Number(wanted)),
-            ],
-        ),
+        } => refuse_short(alloc, "behind", ("has", has), stream, wanted),
         CopyFault::Memory => Reply::Refused(Refusal::Memory),
         CopyFault::NoEntry => refuse_as(alloc, "no-entry", &[]),
     }
@@ -98,11 +87,9 @@ fn refuse_copy_text(alloc: Global, fault: CopyTextFault) -> Reply
 {
     match fault {
         CopyTextFault::Truncated => refuse_as(alloc, "truncated", &[]),
-        CopyTextFault::BadLine(line) => refuse_as(alloc, "bad-line", &[("line", Number(line))]),
-        CopyTextFault::OutsideRange(line) => {
-            refuse_as(alloc, "outside-range", &[("line", Number(line))])
-        }
-        CopyTextFault::NotRising(line) => refuse_as(alloc, "not-rising", &[("line", Number(line))]),
+        CopyTextFault::BadLine(line) => refuse_line(alloc, "bad-line", line),
+        CopyTextFault::OutsideRange(line) => refuse_line(alloc, "outside-range", line),
+        CopyTextFault::NotRising(line) => refuse_line(alloc, "not-rising", line),
         CopyTextFault::BadEnd => refuse_as(alloc, "bad-end", &[]),
         CopyTextFault::Memory => Reply::Refused(Refusal::Memory),
     }
@@ -114,15 +101,7 @@ fn refuse_adoption(alloc: Global, fault: AdoptFault) -> Reply
 {
     match fault {
         AdoptFault::WrongRange => refuse_as(alloc, "wrong-range", &[]),
-        AdoptFault::TooOld { stream, has, needs } => refuse_as(
-            alloc,
-            "too-old",
-            &[
-                ("has", Number(has)),
-                ("needs", Number(needs)),
-                ("stream", Stream(stream)),
-            ],
-        ),
+        AdoptFault::TooOld { stream, has, needs } => refuse_too_old(alloc, has, needs, stream),
         AdoptFault::Memory => Reply::Refused(Refusal::Memory),
     }
 }
@@ -136,15 +115,7 @@ fn refuse_round(alloc: Global, fault: RoundFault) -> Reply
             stream,
             wanted,
             got,
-        } => refuse_as(
-            alloc,
-            "gap",
-            &[
-                ("got", Number(got)),
-                ("stream", Stream(stream)),
-                ("wanted", Number(wanted)),
-            ],
-        ),
+        } => refuse_short(alloc, "gap", ("got", got), stream, wanted),
         RoundFault::TooManyStreams => refuse_as(alloc, "too-many-streams", &[]),
         RoundFault::Memory => Reply::Refused(Refusal::Memory),
     }
@@ -155,22 +126,60 @@ fn refuse_relayout(alloc: Global, fault: RelayoutFault) -> Reply
     ensures memory { fault ≡ no_memory_to_relay → result ≡ Refused no_memory }
 {
     match fault {
-        RelayoutFault::StillRecovering(tablet) => {
-            refuse_as(
-                alloc,
-                "still-recovering",
-                &[("tablet", Number(tablet as u64))],
-            )
-        }
+        RelayoutFault::StillRecovering(tablet) => refuse_tablet(alloc, "still-recovering", tablet),
         RelayoutFault::Memory => Reply::Refused(Refusal::Memory),
     }
 }
 
-// Refuses a command with an error of this name.
-fn refuse_as(alloc: Global, name: &str, details: &[(&str, Detail)]) -> Reply
-    ensures { Says (error_data name.now (details_members details.now)) result }
+// Refuses a command for a tablet.
+fn refuse_tablet(alloc: Global, error: &str, tablet: usize) -> Reply
+    ensures { Says (error_data error.now (with_number (codes "tablet") tablet no_members)) result }
 {
-    match error_reply(alloc, name, details) {
+    refuse_as(alloc, error, &[("tablet", Detail::Number(tablet as u64))])
+}
+
+// Refuses an adoption for a line of its text.
+fn refuse_line(alloc: Global, error: &str, line: u64) -> Reply
+    ensures { Says (at_line error.now line) result }
+{
+    refuse_as(alloc, error, &[("line", Detail::Number(line))])
+}
+
+// Refuses a command for what there is of a stream, under this name, and what is wanted.
+fn refuse_short(
+    alloc: Global,
+    error: &str,
+    there: (&str, u64),
+    stream: StreamName,
+    wanted: u64,
+) -> Reply
+    ensures { Says (short_data error.now there.0.now there.1 stream wanted) result }
+{
+    let details = [
+        (there.0, Detail::Number(there.1)),
+        ("stream", Detail::Stream(stream)),
+        ("wanted", Detail::Number(wanted)),
+    ];
+    refuse_as(alloc, error, &details)
+}
+
+// Refuses an adoption for what its copy has of a stream, and what is needed.
+fn refuse_too_old(alloc: Global, has: u64, needs: u64, stream: StreamName) -> Reply
+    ensures { Says (too_old_data stream has needs) result }
+{
+    let details = [
+        ("has", Detail::Number(has)),
+        ("needs", Detail::Number(needs)),
+        ("stream", Detail::Stream(stream)),
+    ];
+    refuse_as(alloc, "too-old", &details)
+}
+
+// Refuses a command with an error of this name.
+fn refuse_as(alloc: Global, error: &str, details: &[(&str, Detail)]) -> Reply
+    ensures { Says (error_data error.now (details_members details.now)) result }
+{
+    match error_reply(alloc, error, details) {
         Ok(text) => Reply::NotTaken(text),
         Err(_) => Reply::Refused(Refusal::Memory),
     }

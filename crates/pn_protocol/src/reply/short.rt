@@ -1,4 +1,4 @@
-//! Replies of fixed texts, names and numbers, held in place.
+//! Replies of fixed texts, names and numbers, held in one array.
 
 ghost use Rattle.std.specs.Prelude.{◌≡◌, ◌+◌, ◌≤◌, [], ◌++◌, codes, decimal, length};
 ghost use Rattle.pn_json.specs.Prelude.{line_of};

@@ -10,11 +10,11 @@ use Rattle.pn_protocol.proofs.reply.notices.write_notice.Goals as goal
 
 -- a notice of these parts
 abbrev notice_of : ℕ × ℕ → Option (ℕ × ℕ) → List ℕ → ℕ → Data
-notice_of after before key place =
+notice_of after before key n =
     object (member (codes "after") (version_data after)
     (member (codes "before") (version_or_null before)
     (member (codes "key") (string key)
-    (member (codes "number") (number (unsigned place)) no_members))))
+    (member (codes "number") (number (unsigned n)) no_members))))
 
 pub returns : goal.returns
 unfolding notice_data
