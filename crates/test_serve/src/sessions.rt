@@ -1,6 +1,6 @@
 //! Lines that a session answers by a reader of a live region.
 
-ghost use Rattle.std.specs.Prelude.{◌≡◌, ◌⊎◌, All};
+ghost use Rattle.std.specs.Prelude.{◌≡◌, ◌⊎◌, ◌<◌, length, All};
 ghost use Rattle.pn_live.specs.LiveRegions.{IsReaderIn, tablets_in};
 
 use pn_apply::Open;
@@ -131,16 +131,19 @@ fn over_failing_readers(alloc: Global, reader: &mut LiveReader) -> Result<String
     ends.text()
 }
 
+// A line without end.
 fn over_endless_source(alloc: Global, reader: &mut LiveReader) -> Result<String, Fail> {
-    let fault = endless_session(alloc, reader);
+    let text = vec![in alloc; b'x'; 1_000_000]?;
+    let fault = endless_session(alloc, reader, &text);
     Ok(format!(in alloc; "{fault}")?)
 }
 
-// A session over empty lines without end: there are too many, or memory ran out before it looked at one.
-fn endless_session(alloc: Global, reader: &mut LiveReader) -> RunFault
+// A session over a text that is said again and again: there is too much of it, or memory ran out before the first look.
+fn endless_session(alloc: Global, reader: &mut LiveReader, text: &[u8]) -> RunFault
+    requires { 0 < length text.now }
     ensures { (result ≡ RunFault.TooManyTurns) ⊎ (result ≡ RunFault.Memory) }
 {
-    let mut input = EndlessSource::new(b"\n");
+    let mut input = EndlessSource::new(text);
     match session(alloc, reader, &mut input, &mut Discard) {
         Ok(_) => unreachable!(),
         Err(fault) => fault,
