@@ -1,11 +1,11 @@
 //! Lines that a session answers by a reader of a live region.
 
-ghost use Rattle.std.specs.Prelude.{◌≡◌, All};
+ghost use Rattle.std.specs.Prelude.{◌≡◌, ◌⊎◌, ◌<◌, length, All};
 ghost use Rattle.pn_live.specs.LiveRegions.{IsReaderIn, tablets_in};
 
 use pn_apply::Open;
 use pn_join::{Name, NoMemory};
-use pn_line::InMemory;
+use pn_line::{Discard, EndlessSource, InMemory};
 use pn_live::{LiveReader, LiveRegion};
 use pn_record::read_image;
 use pn_serve::{Counts, RunFault, session};
@@ -15,8 +15,8 @@ use std::str;
 use std::sync::Wait;
 use std::test::Fail;
 use std::thread::Threads;
-use test_kit::{Pieces, Runs, Stop, Stopping, layout};
-use test_kit_live::{closed, end, hand_back, open_one, opened, take_out};
+use test_kit::{PiecewiseReader, ReplyRuns, Stop, StoppingWriter, layout};
+use test_kit_live::{close, end, hand_back, open, open_one, take_out};
 
 /// An image, the lines of a session over it, and their replies.
 const IMAGE: &str = r#"{"fields":{"n":-7,"v":"x"},"key":"k","master":"w","version":[1,5]}"#;
@@ -33,7 +33,7 @@ const REPLIES: &str =
 "#;
 
 // One delivery of the image that the first line is.
-fn given(alloc: Global, lines: &str) -> Option<Vec<Delivery>> {
+fn delivery_of(alloc: Global, lines: &str) -> Option<Vec<Delivery>> {
     let mut images = Vec::with_capacity(alloc, 1).ok()?;
     images
         .push(read_image(alloc, lines.lines().next()?.as_bytes()).ok()?)
@@ -46,7 +46,7 @@ fn given(alloc: Global, lines: &str) -> Option<Vec<Delivery>> {
 }
 
 // How many records the round of the first line changes.
-fn changed<R: Threads + Wait + Sync>(
+fn count_changed<R: Threads + Wait + Sync>(
     rt: &R,
     alloc: Global,
     live: &mut LiveRegion,
@@ -54,7 +54,7 @@ fn changed<R: Threads + Wait + Sync>(
 ) -> Option<u64>
     ensures { tablets_in live.new ≡ tablets_in live.old }
 {
-    let (round, _front) = live.round(rt, given(alloc, lines)?, 1, &Open).ok()?;
+    let (round, _front) = live.round(rt, delivery_of(alloc, lines)?, 1, &Open).ok()?;
     Some(round.changed)
 }
 
@@ -77,7 +77,7 @@ fn replies(
 }
 
 /// The replies of a session, and how many lines it refused. The first line is an image, which was taken before, and no line to the session.
-pub(crate) fn answered<R: Threads + Wait + Sync>(
+pub(crate) fn answer_session<R: Threads + Wait + Sync>(
     rt: &R,
     alloc: Global,
     bars: &str,
@@ -85,10 +85,10 @@ pub(crate) fn answered<R: Threads + Wait + Sync>(
     let lines = bars.replace(alloc, '|', "\n")?;
     let mut written = Vec::new(alloc);
     let layout = layout(alloc, "").ok_or(NoMemory)?;
-    let (mut live, mut readers) = opened(rt, alloc, layout, 1)?;
-    let changed = changed(rt, alloc, &mut live, lines.as_str());
+    let (mut live, mut readers) = open(rt, alloc, layout, 1)?;
+    let changed = count_changed(rt, alloc, &mut live, lines.as_str());
     let counts = replies(alloc, &live, &mut readers, lines.as_str(), &mut written);
-    closed(rt, live, readers)?;
+    close(rt, live, readers)?;
     let (changed, counts) = (changed.ok_or(NoMemory)?, counts.ok_or(NoMemory)?);
     let replies = str::from_utf8(&written)?.replace(alloc, '\n', "|")?;
     Ok(format!(in alloc;
@@ -97,17 +97,18 @@ pub(crate) fn answered<R: Threads + Wait + Sync>(
     )?)
 }
 
-/// How sessions end whose readers or writers fail, at each call in turn.
-pub(crate) fn failing<R: Threads + Wait + Sync>(
+/// How sessions end whose readers or writers fail, at each call in turn, and one whose input has no end.
+pub(crate) fn fail_sessions<R: Threads + Wait + Sync>(
     rt: &R,
     alloc: Global,
     how: &str,
 ) -> Result<String, Fail> {
     let layout = layout(alloc, "").ok_or(NoMemory)?;
     let (mut live, mut reader) = open_one(rt, alloc, layout).ok_or(NoMemory)?;
-    let changed = changed(rt, alloc, &mut live, IMAGE);
+    let changed = count_changed(rt, alloc, &mut live, IMAGE);
     let ends = match how {
         "over readers that fail" => over_failing_readers(alloc, &mut reader),
+        "over a source without end" => over_endless_source(alloc, &mut reader),
         _ => into_failing_writers(alloc, &mut reader),
     };
     end(rt, alloc, live);
@@ -118,9 +119,9 @@ pub(crate) fn failing<R: Threads + Wait + Sync>(
 
 // Readers that show a byte at a time.
 fn over_failing_readers(alloc: Global, reader: &mut LiveReader) -> Result<String, Fail> {
-    let mut ends = Runs::new(alloc);
+    let mut ends = ReplyRuns::new(alloc);
     for look in 1..=LINES.len() {
-        let mut input = Pieces::failing(LINES.as_bytes(), 1, look);
+        let mut input = PiecewiseReader::failing(LINES.as_bytes(), 1, look);
         let mut written = Vec::new(alloc);
         let ended = session(alloc, reader, &mut input, &mut written);
         let is_due = matches!(ended, Err(RunFault::Read))
@@ -130,12 +131,31 @@ fn over_failing_readers(alloc: Global, reader: &mut LiveReader) -> Result<String
     ends.text()
 }
 
+// A line without end.
+fn over_endless_source(alloc: Global, reader: &mut LiveReader) -> Result<String, Fail> {
+    let text = vec![in alloc; b'x'; 1_000_000]?;
+    let fault = endless_session(alloc, reader, &text);
+    Ok(format!(in alloc; "{fault}")?)
+}
+
+// A session over a text that is said again and again: there is too much of it, or memory ran out before the first look.
+fn endless_session(alloc: Global, reader: &mut LiveReader, text: &[u8]) -> RunFault
+    requires { 0 < length text.now }
+    ensures { (result ≡ RunFault.TooManyTurns) ⊎ (result ≡ RunFault.Memory) }
+{
+    let mut input = EndlessSource::new(text);
+    match session(alloc, reader, &mut input, &mut Discard) {
+        Ok(_) => unreachable!(),
+        Err(fault) => fault,
+    }
+}
+
 // Writers that take a byte at a time. Counts those that had just the bytes before the call that failed.
 fn into_failing_writers(alloc: Global, reader: &mut LiveReader) -> Result<String, Fail> {
     let mut stopped = 0u64;
     for count in 0..REPLIES.len() {
         let mut input = InMemory::new(LINES.as_bytes());
-        let mut output = Stopping::new(alloc, 1, count.saturating_add(1), Stop::Fails);
+        let mut output = StoppingWriter::new(alloc, 1, count.saturating_add(1), Stop::Fails);
         let ended = session(alloc, reader, &mut input, &mut output);
         if matches!(ended, Err(RunFault::Write))
             && output.taken.as_slice() == &REPLIES.as_bytes()[..count]
