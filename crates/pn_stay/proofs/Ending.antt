@@ -16,11 +16,11 @@ use Rattle.pn_serve.specs.Lines.Served.{Between}
 use Rattle.pn_serve.specs.Lines.States.{LineLoopValue, Start}
 use Rattle.pn_serve.proofs.Serving.{Ends_closed, Ends_within}
 use Rattle.pn_serve.proofs.Stopping.{Cut_between, Cut_part, Cut_line, Cut_last, Cut_after, Cut_finish, Cut_finished, Broken_in, Exceeded_lines, Exceeded_bytes}
-use Rattle.pn_stay.specs.Kept.{KeptValue, loop_of}
-use Rattle.pn_stay.specs.Others.{Moves, MakesAfter, EndsAfter}
-use Rattle.pn_stay.specs.Standing.{Stands, HasEnded, EndsOnceSent}
+use Rattle.pn_stay.specs.Connections.{ConnectionValue, loop_of}
+use Rattle.pn_stay.specs.Interleaving.{Moves, MakesAfter, EndsAfter}
+use Rattle.pn_stay.specs.Sessions.{FollowsScript, HasEnded, EndsOnceSent}
 use Rattle.pn_stay.proofs.Ahead.{Takes-ahead, Takes-part, Keeps-ahead, Keeps-nothing}
-use Rattle.pn_stay.proofs.Stands.{at_told, at_untold, Moves-none, Moves-trans, Between-kept}
+use Rattle.pn_stay.proofs.Following.{at_told, at_untold, Moves-none, Moves-trans, Between-kept}
 
 -- nothing is left where nothing is held and the source is at its end
 end_ahead : (left : Option (List ℕ)) (held : List ℕ) (leaves : Option (List ℕ)) → held ≡ [] → IsAtEnd leaves → OnSome left (IsAtEnd (prepend_known held leaves))
@@ -81,7 +81,7 @@ module _ {V : Type 0} (makes ends : V → List ℕ → V → Reply → Type 0) (
       told P holds = at_told start.left script P is holds
 
       -- the writer failed as what waits was written
-      pub HasEnded-cut : (left before after : Option (List ℕ)) (machine : V) (old : KeptValue) → Stands makes ends shared start script left before machine old → AppendsPrefix before after old.waits
+      pub HasEnded-cut : (left before after : Option (List ℕ)) (machine : V) (old : ConnectionValue) → FollowsScript makes ends shared start script left before machine old → AppendsPrefix before after old.waits
           → HasEnded makes ends shared start (prepend_known old.held left) after machine (Err Write)
       HasEnded-cut left before after machine old stands sent =
           let takes = Takes-part stands.part old.held left left old.line stands.unbroken stands.line_is (Keeps-refl left) in record {
@@ -91,7 +91,7 @@ module _ {V : Type 0} (makes ends : V → List ℕ → V → Reply → Type 0) (
           }
 
       -- the reader failed
-      pub EndsOnceSent-read : (left leaves written : Option (List ℕ)) (machine : V) (old : KeptValue) → Stands makes ends shared start script left written machine old → Keeps left leaves
+      pub EndsOnceSent-read : (left leaves written : Option (List ℕ)) (machine : V) (old : ConnectionValue) → FollowsScript makes ends shared start script left written machine old → Keeps left leaves
           → EndsOnceSent makes ends shared start (prepend_known old.held leaves) written old.waits machine (Err Read)
       EndsOnceSent-read left leaves written machine old stands kept =
           let takes = Takes-part stands.part old.held left leaves old.line stands.unbroken stands.line_is kept in record {
@@ -108,7 +108,7 @@ module _ {V : Type 0} (makes ends : V → List ℕ → V → Reply → Type 0) (
           }
 
       -- a line has no end
-      pub EndsOnceSent-endless : (left written : Option (List ℕ)) (machine : V) (old : KeptValue) (line : LineBufferValue) (held : List ℕ) → Stands makes ends shared start script left written machine old
+      pub EndsOnceSent-endless : (left written : Option (List ℕ)) (machine : V) (old : ConnectionValue) (line : LineBufferValue) (held : List ℕ) → FollowsScript makes ends shared start script left written machine old
           → Takes old.line line (Some old.held) (Some held) [] → line.count ≡ 1000000000 → old.counts.lines < 1000000
           → EndsOnceSent makes ends shared start (prepend_known held left) written old.waits machine (Err TooManyTurns)
       EndsOnceSent-endless left written machine old line held stands taken endless few =
@@ -126,7 +126,7 @@ module _ {V : Type 0} (makes ends : V → List ℕ → V → Reply → Type 0) (
           }
 
       -- input is held after the last line that may be answered
-      pub EndsOnceSent-many : (left written : Option (List ℕ)) (machine : V) (old : KeptValue) → Stands makes ends shared start script left written machine old → old.counts.lines ≡ 1000000 → old.held ≢ []
+      pub EndsOnceSent-many : (left written : Option (List ℕ)) (machine : V) (old : ConnectionValue) → FollowsScript makes ends shared start script left written machine old → old.counts.lines ≡ 1000000 → old.held ≢ []
           → EndsOnceSent makes ends shared start (prepend_known old.held left) written old.waits machine (Err TooManyTurns)
       EndsOnceSent-many left written machine old stands many some =
           let none : stands.part ≡ [] = ⊎_elim (λ few. absurd (omega (arith, few, many))) (λ none. none) stands.bound in
@@ -146,7 +146,7 @@ module _ {V : Type 0} (makes ends : V → List ℕ → V → Reply → Type 0) (
           }
 
       -- a reply found no memory
-      pub HasEnded-line : (left written : Option (List ℕ)) (was now : V) (old : KeptValue) (line : LineBufferValue) (held : List ℕ) → Stands makes ends shared start script left written was old
+      pub HasEnded-line : (left written : Option (List ℕ)) (was now : V) (old : ConnectionValue) (line : LineBufferValue) (held : List ℕ) → FollowsScript makes ends shared start script left written was old
           → Takes old.line line (Some old.held) (Some held) (10 ∷ []) → AnsweredInPart makes was now (record { line = line; waits = old.waits; more = false; counts = old.counts }) written written
           → HasEnded makes ends shared start (prepend_known held left) written now (Err Write)
       HasEnded-line left written was now old line held stands taken answered =
@@ -158,7 +158,7 @@ module _ {V : Type 0} (makes ends : V → List ℕ → V → Reply → Type 0) (
           }
 
       -- the input is at its end after a part of a line
-      module _ (left leaves written : Option (List ℕ)) (was now : V) (old : KeptValue) (stands : Stands makes ends shared start script left written was old) (empty : old.held ≡ []) (came : Consumes left leaves [])
+      module _ (left leaves written : Option (List ℕ)) (was now : V) (old : ConnectionValue) (stands : FollowsScript makes ends shared start script left written was old) (empty : old.held ≡ []) (came : Consumes left leaves [])
           (end : IsAtEnd leaves) where
         kept : Keeps left leaves
         kept = Keeps-nothing left leaves came

@@ -3,6 +3,6 @@ pub mod Alone
 pub mod Crossing
 pub mod Ending
 pub mod Passing
-pub mod Rooms
-pub mod Stands
+pub mod Buffers
+pub mod Following
 pub mod Stepping

@@ -10,8 +10,8 @@ use Rattle.pn_serve.specs.declared.script.Counts.{Counts}
 use Rattle.pn_serve.specs.Lines.Answered.{Answered, AnsweredInPart, Closed}
 use Rattle.pn_serve.specs.Lines.States.{LineLoopValue}
 use Rattle.pn_protocol.specs.declared.reply.Reply.{Reply}
-use Rattle.pn_stay.specs.Kept.{IsLine}
-use Rattle.pn_stay.specs.Others.{Answers, Passes}
+use Rattle.pn_stay.specs.Connections.{IsLine}
+use Rattle.pn_stay.specs.Interleaving.{Answers, Passes}
 
 -- a line that grows is one still
 pub IsLine-longer : (line : LineBufferValue) (bs : List ℕ) → IsLine line → IsLine (longer line bs)

@@ -5,14 +5,14 @@ ghost use Rattle.pn_live.specs.Prelude.{max_readers, tablets_in, tablets_of, IsN
 ghost use Rattle.pn_serve.specs.Server.Reading.{ReadsFeeds};
 ghost use Rattle.pn_serve.specs.Server.Sessions.{AllRead};
 
-mod sessions;
+mod threads;
 
-use crate::house::House;
-use crate::server::sessions::begin;
+use crate::acceptor::SocketAcceptor;
+use crate::server::threads::start_answering;
 use pn_line::Source;
 use pn_live::{LiveReader, LiveRegion};
 use pn_serve::{
-    Feed, Origin, Running, ServeFault, Settings, Tally, close, end_sessions, open, read_feeds,
+    Door, Feed, Origin, Running, ServeFault, Settings, Tally, close, end_sessions, open, read_feeds,
 };
 use std::alloc::Global;
 use std::marker::Model;
@@ -26,8 +26,9 @@ pub struct StayingServer {
     live: LiveRegion,
     workers: usize,
     running: Vec<Running>,
-    // The room for the readers that come back.
+    // A list with the memory for the readers that come back.
     readers: Vec<LiveReader>,
+    rounds: Option<Arc<Tally>>,
 }
 
 impl Model for StayingServer {
@@ -35,11 +36,11 @@ impl Model for StayingServer {
     ghost use Rattle.pn_apply.specs.Prelude.{max_workers};
     ghost use Rattle.pn_live.specs.Prelude.{tablets_in, tablets_of};
     ghost use Rattle.pn_serve.specs.Server.Sessions.{AllRead};
-    ghost use Rattle.pn_stay.specs.Staying.{StayingValue, staying_code};
+    ghost use Rattle.pn_stay.specs.Servers.{ServerValue, server_code};
 
-    ghost Value = { StayingValue };
+    ghost Value = { ServerValue };
 
-    ghost coded = { staying_code };
+    ghost coded = { server_code };
 
     ghost view = { λ server. record { live = server.live; threads = vec_len server.running } };
 
@@ -54,26 +55,28 @@ impl StayingServer {
     pub fn start<R>(
         rt: &R,
         alloc: Global,
-        house: House,
+        acceptor: SocketAcceptor,
         settings: Settings,
-        sessions: usize,
+        threads: usize,
         connections: usize,
     ) -> Result<StayingServer, ServeFault>
     where
         R: Threads + Wait + Net + Clock + Sync + Copy + Send + 'static,
-        requires { (1 ≤ sessions) × (sessions ≤ max_readers) }
+        requires { (1 ≤ threads) × (threads ≤ max_readers) }
         ensures is_new { IfOk result (λ server. IsNewLive settings.layout server.live) }
-        ensures threads { IfOk result (λ server. server.threads ≡ sessions) }
+        ensures threads { IfOk result (λ server. server.threads ≡ threads) }
     {
         let (layout, workers) = settings.into_parts();
-        let (live, readers) = open(rt, alloc, layout, sessions)?;
+        let (live, readers) = open(rt, alloc, layout, threads)?;
         let mut readers = readers;
-        match begin(rt, alloc, house, connections, &live, &mut readers) {
+        let rounds = acceptor.rounds();
+        match start_answering(rt, alloc, acceptor, connections, &live, &mut readers) {
             Ok(running) => Ok(StayingServer {
                 live,
                 workers,
                 running,
                 readers,
+                rounds,
             }),
             Err(_) => {
                 let _ = close(rt, live, readers);
@@ -82,32 +85,34 @@ impl StayingServer {
         }
     }
 
-    /// Reads streams until all have ended. Connections are answered meanwhile, and after a fault too. Rounds are
-    /// counted where somebody looks at it.
-    pub fn read_feeds<R, S, O>(
+    /// Reads streams until all have ended. Connections are answered meanwhile, and after a fault too.
+    pub fn read_streams<R, S, O>(
         &mut self,
         rt: &R,
         alloc: Global,
-        feeds: Vec<Feed<S, O>>,
-        rounds: Option<Arc<Tally>>,
+        streams: Vec<Feed<S, O>>,
     ) -> Result<(), ServeFault>
     where
         R: Threads + Wait + Sync + Copy + Send + 'static,
         S: Source + Drop + Send + 'static,
         O: Origin<S> + Drop + Send + 'static,
-        ensures reads { ReadsFeeds (vec_len feeds) self.old.live self.new.live result }
+        ensures reads { ReadsFeeds (vec_len streams) self.old.live self.new.live result }
         ensures threads { self.new.threads ≡ self.old.threads }
     {
-        read_feeds(rt, alloc, &mut self.live, self.workers, feeds, rounds)
+        let rounds = match &self.rounds {
+            Some(rounds) => Arc::try_clone(rounds).ok(),
+            None => None,
+        };
+        read_feeds(rt, alloc, &mut self.live, self.workers, streams, rounds)
     }
 
     /// Waits for the threads, which end where the system tells nothing more of sockets, and closes the region.
     pub fn wait<R: Threads + Wait>(self, rt: &R) {
         let StayingServer {
             live,
-            workers: _,
             running,
             readers,
+            ..
         } = self;
         let mut readers = readers;
         end_sessions(rt, &live, running, &mut readers);
