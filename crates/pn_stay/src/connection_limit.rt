@@ -1,5 +1,7 @@
 //! The limit of connections that are open at once.
 
+ghost use Rattle.std.specs.Prelude.{◌≡◌, ◌+◌, ◌-◌, ◌^◌, min};
+
 use std::sync::{Condvar, Mutex, Wait};
 
 /// How many connections may still be opened. Who asks for one where none may waits for it.
@@ -22,13 +24,25 @@ impl ConnectionLimit {
     pub(crate) fn acquire<R: Wait>(&self, rt: &R) {
         let guard = self.free.lock(rt);
         let mut free = self.released.wait_while(rt, guard, |free| *free == 0);
-        *free = free.saturating_sub(1);
+        take_one(&mut *free);
     }
 
     /// A connection that was counted has ended.
     pub(crate) fn release<R: Wait>(&self, rt: &R) {
         let mut free = self.free.lock(rt);
-        *free = free.saturating_add(1);
+        give_back(&mut *free);
         self.released.notify_one();
     }
+}
+
+fn take_one(free: &mut usize)
+    ensures { free.new ≡ free.old - 1 }
+{
+    *free = free.saturating_sub(1);
+}
+
+fn give_back(free: &mut usize)
+    ensures { free.new ≡ min (free.old + 1) (2 ^ 64 - 1) }
+{
+    *free = free.saturating_add(1);
 }

@@ -1,9 +1,9 @@
 //! The event loop of a session thread: its connections have their turns one after another.
 
-ghost use Rattle.std.specs.Prelude.{◌≡◌, ◌≢◌, ◌≤◌, ◌↔◌, ℕ, None, IsTrue};
+ghost use Rattle.std.specs.Prelude.{◌≡◌, ◌≢◌, ◌+◌, ◌≤◌, ◌↔◌, ℕ, None, OnErr, OnOk, IsTrue, vec_len};
 ghost use Rattle.pn_serve.specs.Session.Knowing.{KnowsNoLess};
 ghost use Rattle.pn_stay.specs.Loops.{idle_at, quarter_later, EndsQuarter, IsIdleFor};
-ghost use Rattle.slab.specs.Slab.{Updates};
+ghost use Rattle.slab.specs.Slab.{slab_len, Updates};
 
 use crate::connection::Connection;
 use crate::connection_state::{Pause, ThreadBuffers};
@@ -122,16 +122,30 @@ impl EventLoop {
         Ok(has_mail)
     }
 
-    // Adds the sockets that were accepted. One that cannot be registered is dropped.
+    // Adds the sockets that were accepted.
     fn add_accepted<R: Wait>(&mut self, rt: &R, mailbox: &SocketMailbox) {
-        for socket in mailbox.take(rt) {
-            if self.add(socket).is_err() {
-                mailbox.release(rt);
-            }
+        for _ in 0..self.add_all(mailbox.take(rt)) {
+            mailbox.release(rt);
         }
     }
 
-    fn add(&mut self, socket: Socket) -> io::Result<()> {
+    // Adds sockets. Answers how many could not be registered: they are dropped.
+    fn add_all(&mut self, sockets: Vec<Socket>) -> usize
+        ensures { slab_len self.new.connections + result ≡ slab_len self.old.connections + vec_len sockets }
+    {
+        let mut refused = 0;
+        'sockets: for socket in sockets {
+            if self.add(socket).is_err() {
+                refused += 1;
+            }
+        }
+        refused
+    }
+
+    fn add(&mut self, socket: Socket) -> io::Result<()>
+        ensures added { OnOk result (slab_len self.new.connections ≡ slab_len self.old.connections + 1) }
+        ensures refused { OnErr result (slab_len self.new.connections ≡ slab_len self.old.connections) }
+    {
         self.connections.reserve(1)?;
         self.ready
             .reserve(self.connections.len().saturating_add(1))?;
@@ -139,10 +153,9 @@ impl EventLoop {
             .reserve(self.connections.len().saturating_add(1))?;
         let key = self.connections.vacant_key();
         socket.register(self.poll.registry(), Token(key))?;
-        let _ = self
-            .connections
-            .insert_reserved(Connection::new(self.alloc, socket));
-        make_ready(&mut self.connections, &mut self.ready, key);
+        let mut connection = Connection::new(self.alloc, socket);
+        connection.is_ready = self.ready.push(key).is_ok();
+        let _ = self.connections.insert_reserved(connection);
         self.counters.connections.add(1);
         Ok(())
     }

@@ -110,9 +110,10 @@ impl StayingServer {
     pub fn wait<R: Threads + Wait>(self, rt: &R) {
         let StayingServer {
             live,
+            workers: _,
             running,
             readers,
-            ..
+            rounds: _,
         } = self;
         let mut readers = readers;
         end_sessions(rt, &live, running, &mut readers);

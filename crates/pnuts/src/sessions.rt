@@ -1,13 +1,13 @@
-//! Streams from files, served to sessions.
+//! A server that ends with its sessions.
 
 ghost use Rattle.std.specs.Prelude.{◌≡◌, ◌≤◌, vec_len, IfOk};
-ghost use Rattle.pn_live.specs.Prelude.{max_readers};
+ghost use Rattle.pn_live.specs.Prelude.{MAX_READERS};
 
-use crate::places::leave;
-use crate::streams::{FileSource, Opened};
+use crate::addresses::remove_socket;
+use crate::streams::{FileSource, StreamFile};
 use crate::{fail, fail_about};
 use pn_serve::{ServeFault, Service, Settings, serve};
-use pn_stay::{House, before_others};
+use pn_stay::{SocketAcceptor, message_prefix};
 use pn_stream::StreamReader;
 use std::alloc::{AllocError, Global};
 use std::fs::File;
@@ -17,13 +17,13 @@ use std::rt::Files;
 use std::sync::Wait;
 use std::thread::Threads;
 
-/// Serves the streams that were opened, to the end of its sessions, and ends what it listened on.
+/// Serves streams to the end of its sessions, and ends what it listened on.
 pub(crate) fn serve_streams<R>(
     rt: &R,
     settings: Settings,
     service: &Service,
-    house: &House,
-    opened: Vec<Opened>,
+    acceptor: &SocketAcceptor,
+    streams: Vec<StreamFile>,
 ) -> ExitCode
 where
     R: AllocGlobal
@@ -36,44 +36,45 @@ where
         + Copy
         + Send
         + 'static,
-    requires { (1 ≤ service.now.sessions) × (service.now.sessions ≤ max_readers) }
+    requires { (1 ≤ service.now.sessions) × (service.now.sessions ≤ MAX_READERS) }
 {
-    let Ok(streams) = streams_of(rt.alloc(), opened) else {
-        leave(rt, &service.place);
+    let Ok(readers) = take_readers(rt.alloc(), streams) else {
+        remove_socket(rt, &service.address);
         return fail(rt, "memory");
     };
     let mut out = io::writer(rt);
     let served = serve(
         rt,
         rt.alloc(),
-        house,
+        acceptor,
         settings,
         service.sessions,
-        streams,
+        readers,
         &mut out,
     );
-    let _ = eprint!(rt; "{}", before_others(service.is_progress_told));
-    leave(rt, &service.place);
+    let _ = eprint!(rt; "{}", message_prefix(service.is_progress_told));
+    remove_socket(rt, &service.address);
     match served {
         Ok(()) => ExitCode::SUCCESS,
-        Err(fault) => tell(rt, fault),
+        Err(fault) => fail_serving(rt, fault),
     }
 }
 
-fn streams_of(
+fn take_readers(
     alloc: Global,
-    opened: Vec<Opened>,
+    streams: Vec<StreamFile>,
 ) -> Result<Vec<StreamReader<FileSource>>, AllocError>
-    ensures { IfOk result (λ streams. vec_len streams ≡ vec_len opened) }
+    ensures { IfOk result (λ readers. vec_len readers ≡ vec_len streams) }
 {
-    let mut streams = Vec::with_capacity(alloc, opened.len())?;
-    for one in opened {
-        streams.push(one.stream)?;
+    let mut readers = Vec::with_capacity(alloc, streams.len())?;
+    for stream in streams {
+        readers.push(stream.reader)?;
     }
-    Ok(streams)
+    Ok(readers)
 }
 
-pub(crate) fn tell(rt: &impl Eprint, fault: ServeFault) -> ExitCode {
+/// Prints why streams were not served to their end.
+pub(crate) fn fail_serving(rt: &impl Eprint, fault: ServeFault) -> ExitCode {
     match fault {
         ServeFault::Start => fail(rt, "cannot start"),
         ServeFault::Stream(name) => fail_about(rt, "stream ", name.as_str(), " failed"),
