@@ -1,8 +1,9 @@
 pub mod Ahead
 pub mod Alone
+pub mod Buffers
 pub mod Crossing
 pub mod Ending
-pub mod Passing
-pub mod Buffers
 pub mod Following
+pub mod Passing
+pub mod Quarters
 pub mod Stepping
