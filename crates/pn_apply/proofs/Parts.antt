@@ -4,10 +4,10 @@ use Rattle.std.proofs.lemmas.List.{map-append, length-map, length-append}
 use Rattle.std.specs.Prelude.{Result, Ok, Err, OnOk, OnErr, IfOk, IsOk, IsErr, ◌⊎◌, Vec}
 use Rattle.std.specs.declared.alloc.Global.{Global}
 use Rattle.pn_tablet.specs.Tablets.{TabletStateValue}
-use Rattle.pn_tablet.specs.Steps.{stepped}
+use Rattle.pn_tablet.specs.Steps.{tablet_after}
 use Rattle.pn_tablet.specs.Changes.{answer}
 use Rattle.pn_tablet.specs.declared.change.Change.{Change}
-use Rattle.pn_tablet.specs.declared.op.TabletOp.{TabletOp}
+use Rattle.pn_tablet.specs.declared.state.TabletOp.{TabletOp}
 use Rattle.pn_join.specs.declared.memory.NoMemory.{NoMemory}
 use Rattle.pn_apply.specs.Applying.{AreJoinsIn, HavePositions, all_stepped, all_changes, AreOldOrStepped, IsSomeOld}
 use Rattle.pn_apply.specs.Working.{IsTask, Applied}
@@ -40,13 +40,13 @@ stepped_parts : (ts us : List TabletStateValue) (os ps : List TabletOp) → leng
 stepped_parts [] us [] ps same = refl
 stepped_parts [] us (o ∷ os) ps same = absurd (omega (arith, same))
 stepped_parts (t ∷ ts) us [] ps same = absurd (omega (arith, same))
-stepped_parts (t ∷ ts) us (o ∷ os) ps same = ap (λ rest. stepped t o ∷ rest) (stepped_parts ts us os ps (omega (arith, same)))
+stepped_parts (t ∷ ts) us (o ∷ os) ps same = ap (λ rest. tablet_after t o ∷ rest) (stepped_parts ts us os ps (omega (arith, same)))
 
 changes_parts : (ts us : List TabletStateValue) (os ps : List TabletOp) → length ts ≡ length os → all_changes (ts ++ us) (os ++ ps) ≡ all_changes ts os ++ all_changes us ps
 changes_parts [] us [] ps same = refl
 changes_parts [] us (o ∷ os) ps same = absurd (omega (arith, same))
 changes_parts (t ∷ ts) us [] ps same = absurd (omega (arith, same))
-changes_parts (t ∷ ts) us (o ∷ os) ps same = ap (λ rest. answer o t (stepped t o) ∷ rest) (changes_parts ts us os ps (omega (arith, same)))
+changes_parts (t ∷ ts) us (o ∷ os) ps same = ap (λ rest. answer o t (tablet_after t o) ∷ rest) (changes_parts ts us os ps (omega (arith, same)))
 
 -- tablets that are all stepped are old or stepped
 all_old_or_stepped : (ts : List TabletStateValue) (os : List TabletOp) → AreJoinsIn ts os → AreOldOrStepped ts os (all_stepped ts os)
@@ -121,12 +121,12 @@ lists_of lists = map (λ list. list.items) lists
 list_count : (lists : List (Vec Change Global)) (ts : List TabletStateValue) (os : List TabletOp) → AreJoinsIn ts os → lists_of lists ≡ all_changes ts os → length lists ≡ length os
 list_count lists ts os fit is = sym (length-map lists (λ (list : Vec Change Global). list.items)) ∙ ap length is ∙ length-changes ts os fit
 
-fits_room : {E : Type 0} (low high : Result Lists E) (ts us : List TabletStateValue) (os ps : List TabletOp) (room : ℕ) → AreJoinsIn ts os → AreJoinsIn us ps → length os + length ps ≤ room
+both_fit : {E : Type 0} (low high : Result Lists E) (ts us : List TabletStateValue) (os ps : List TabletOp) (most : ℕ) → AreJoinsIn ts os → AreJoinsIn us ps → length os + length ps ≤ most
     → IfOk low (λ lists. lists_of lists.items ≡ all_changes ts os) → IfOk high (λ lists. lists_of lists.items ≡ all_changes us ps)
-    → IfOk low (λ a. IfOk high (λ b. length a.items + length b.items ≤ room))
-fits_room (Err e) high ts us os ps room fit fits within p q = tt
-fits_room (Ok x) (Err e) ts us os ps room fit fits within p q = tt
-fits_room (Ok x) (Ok y) ts us os ps room fit fits within p q = omega (arith, list_count x.items ts os fit p, list_count y.items us ps fits q, within)
+    → IfOk low (λ a. IfOk high (λ b. length a.items + length b.items ≤ most))
+both_fit (Err e) high ts us os ps most fit fits within p q = tt
+both_fit (Ok x) (Err e) ts us os ps most fit fits within p q = tt
+both_fit (Ok x) (Ok y) ts us os ps most fit fits within p q = omega (arith, list_count x.items ts os fit p, list_count y.items us ps fits q, within)
 
 both_changes : {E : Type 0} (r low high : Result Lists E) (want left right : List (List Change)) → (IsOk r → IsOk low × IsOk high)
     → IfOk r (λ all. IfOk low (λ a. IfOk high (λ b. all.items ≡ a.items ++ b.items))) → want ≡ left ++ right
@@ -173,9 +173,9 @@ module _ {S : Type 0} (tablet : S → TabletStateValue) (slots low high : List S
     spanned = record { enough = enough; numbers = omega (arith, begins, counts, task.spanned.numbers) };
   }
 
-  pub whole_room : (ra rb : Result Lists NoMemory) (room : ℕ) → length operations ≤ room → IfOk ra (λ lists. map (λ list. list.items) lists.items ≡ all_changes (map tablet low) first)
-      → IfOk rb (λ lists. map (λ list. list.items) lists.items ≡ all_changes (map tablet high) second) → IfOk ra (λ a. IfOk rb (λ b. length a.items + length b.items ≤ room))
-  whole_room ra rb room within p q = fits_room ra rb (map tablet low) (map tablet high) first second room low_joins high_joins (omega (arith, within, counts)) p q
+  pub whole_fits : (ra rb : Result Lists NoMemory) (most : ℕ) → length operations ≤ most → IfOk ra (λ lists. map (λ list. list.items) lists.items ≡ all_changes (map tablet low) first)
+      → IfOk rb (λ lists. map (λ list. list.items) lists.items ≡ all_changes (map tablet high) second) → IfOk ra (λ a. IfOk rb (λ b. length a.items + length b.items ≤ most))
+  whole_fits ra rb most within p q = both_fit ra rb (map tablet low) (map tablet high) first second most low_joins high_joins (omega (arith, within, counts)) p q
 
   module _ (now low_now high_now : List S) (r ra rb : Result Lists NoMemory) (rejoined : now ≡ low_now ++ high_now)
       (below : Applied (map tablet low) first ra (map tablet low_now)) (above : Applied (map tablet high) second rb (map tablet high_now)) where

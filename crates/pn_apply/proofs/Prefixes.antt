@@ -4,10 +4,10 @@ use Rattle.std.proofs.lemmas.List.{take_more, map-set, length-map}
 use Rattle.std.proofs.Math.Seq.{map-set_same}
 use Rattle.std.specs.Prelude.{Result, Ok, Err, OnErr}
 use Rattle.pn_tablet.specs.Tablets.{TabletStateValue}
-use Rattle.pn_tablet.specs.Steps.{stepped}
+use Rattle.pn_tablet.specs.Steps.{tablet_after}
 use Rattle.pn_tablet.specs.Changes.{answer}
 use Rattle.pn_tablet.specs.declared.change.Change.{Change}
-use Rattle.pn_tablet.specs.declared.op.TabletOp.{TabletOp}
+use Rattle.pn_tablet.specs.declared.state.TabletOp.{TabletOp}
 use Rattle.pn_tablet.specs.Operations.{HasPositions}
 use Rattle.pn_apply.specs.Applying.{IsJoinIn, AreJoinsIn, HavePositions, all_stepped, all_changes, AreOldOrStepped, IsSomeOld}
 
@@ -15,7 +15,7 @@ abbrev pub prefix_stepped : ℕ → List TabletStateValue → List TabletOp → 
 prefix_stepped zero ts ops = ts
 prefix_stepped (suc n) [] ops = []
 prefix_stepped (suc n) (t ∷ ts) [] = t ∷ ts
-prefix_stepped (suc n) (t ∷ ts) (op ∷ ops) = stepped t op ∷ prefix_stepped n ts ops
+prefix_stepped (suc n) (t ∷ ts) (op ∷ ops) = tablet_after t op ∷ prefix_stepped n ts ops
 
 -- what is read of a mapped list
 pub mapped_at : {A B : Type 0} (f : A → B) (xs : List A) (n : ℕ) (d : A) (e : B) → n < length xs → get_or (map f xs) n e ≡ f (get_or xs n d)
@@ -67,16 +67,16 @@ untouched (u ∷ ts) [] (suc n) t = refl
 untouched (u ∷ ts) (o ∷ ops) (suc n) t = untouched ts ops n t
 
 next_stepped : (ts : List TabletStateValue) (ops : List TabletOp) (n : ℕ) (t : TabletStateValue) (op : TabletOp) → AreJoinsIn ts ops → n < length ops
-    → set (prefix_stepped n ts ops) n (stepped (get_or ts n t) (get_or ops n op)) ≡ prefix_stepped (suc n) ts ops
+    → set (prefix_stepped n ts ops) n (tablet_after (get_or ts n t) (get_or ops n op)) ≡ prefix_stepped (suc n) ts ops
 next_stepped [] [] n t op fit within = absurd (omega arith)
 next_stepped [] (o ∷ ops) n t op fit within = absurd fit
 next_stepped (u ∷ ts) [] n t op fit within = absurd fit
 next_stepped (u ∷ ts) (o ∷ ops) zero t op fit within = refl
-next_stepped (u ∷ ts) (o ∷ ops) (suc n) t op fit within = ap (λ rest. stepped u o ∷ rest) (next_stepped ts ops n t op fit.1 (omega arith))
+next_stepped (u ∷ ts) (o ∷ ops) (suc n) t op fit within = ap (λ rest. tablet_after u o ∷ rest) (next_stepped ts ops n t op fit.1 (omega arith))
 
 -- one more takes its operation
 pub more_stepped : (ts : List TabletStateValue) (ops : List TabletOp) (n : ℕ) (t : TabletStateValue) (op : TabletOp) → AreJoinsIn ts ops → n < length ops
-    → set (prefix_stepped n ts ops) n (stepped (get_or ts n t) (get_or ops n op)) ≡ prefix_stepped (n + 1) ts ops
+    → set (prefix_stepped n ts ops) n (tablet_after (get_or ts n t) (get_or ops n op)) ≡ prefix_stepped (n + 1) ts ops
 more_stepped ts ops n t op fit within = next_stepped ts ops n t op fit within ∙ ap (λ k. prefix_stepped k ts ops) (sym (add-one n))
 
 -- in the end all have
@@ -86,7 +86,7 @@ stepped_whole [] [] (suc n) fit past = refl
 stepped_whole [] (o ∷ ops) n fit past = absurd fit
 stepped_whole (u ∷ ts) [] n fit past = absurd fit
 stepped_whole (u ∷ ts) (o ∷ ops) zero fit past = absurd (omega arith)
-stepped_whole (u ∷ ts) (o ∷ ops) (suc n) fit past = ap (λ rest. stepped u o ∷ rest) (stepped_whole ts ops n fit.1 (omega arith))
+stepped_whole (u ∷ ts) (o ∷ ops) (suc n) fit past = ap (λ rest. tablet_after u o ∷ rest) (stepped_whole ts ops n fit.1 (omega arith))
 
 -- at any time each is as it was or as its operation leaves it
 pub old_or_stepped : (ts : List TabletStateValue) (ops : List TabletOp) (n : ℕ) → AreJoinsIn ts ops → AreOldOrStepped ts ops (prefix_stepped n ts ops)
@@ -104,7 +104,7 @@ length-changes (t ∷ ts) [] fit = absurd fit
 length-changes (t ∷ ts) (op ∷ ops) fit = ap suc (length-changes ts ops fit.1)
 
 changes_at : (ts : List TabletStateValue) (ops : List TabletOp) (n : ℕ) (t : TabletStateValue) (op : TabletOp) → AreJoinsIn ts ops → n < length ops
-    → get_or (all_changes ts ops) n [] ≡ answer (get_or ops n op) (get_or ts n t) (stepped (get_or ts n t) (get_or ops n op))
+    → get_or (all_changes ts ops) n [] ≡ answer (get_or ops n op) (get_or ts n t) (tablet_after (get_or ts n t) (get_or ops n op))
 changes_at [] [] n t op fit within = absurd (omega arith)
 changes_at [] (o ∷ ops) n t op fit within = absurd fit
 changes_at (u ∷ ts) [] n t op fit within = absurd fit
@@ -113,7 +113,7 @@ changes_at (u ∷ ts) (o ∷ ops) (suc n) t op fit within = changes_at ts ops n 
 
 -- the changes of one more
 pub more_changes : (ts : List TabletStateValue) (ops : List TabletOp) (n : ℕ) (t : TabletStateValue) (op : TabletOp) → AreJoinsIn ts ops → n < length ops
-    → take n (all_changes ts ops) ++ answer (get_or ops n op) (get_or ts n t) (stepped (get_or ts n t) (get_or ops n op)) ∷ [] ≡ take (n + 1) (all_changes ts ops)
+    → take n (all_changes ts ops) ++ answer (get_or ops n op) (get_or ts n t) (tablet_after (get_or ts n t) (get_or ops n op)) ∷ [] ≡ take (n + 1) (all_changes ts ops)
 more_changes ts ops n t op fit within =
     let short : n < length (all_changes ts ops) = omega (arith, within, length-changes ts ops fit) in
     sym (take_more (all_changes ts ops) n [] short ∙ ap (λ x. take n (all_changes ts ops) ++ x ∷ []) (changes_at ts ops n t op fit within))
@@ -125,7 +125,7 @@ changes_whole [] [] (suc n) fit past = refl
 changes_whole [] (o ∷ ops) n fit past = absurd fit
 changes_whole (u ∷ ts) [] n fit past = absurd fit
 changes_whole (u ∷ ts) (o ∷ ops) zero fit past = absurd (omega arith)
-changes_whole (u ∷ ts) (o ∷ ops) (suc n) fit past = ap (λ rest. answer o u (stepped u o) ∷ rest) (changes_whole ts ops n fit.1 (omega arith))
+changes_whole (u ∷ ts) (o ∷ ops) (suc n) fit past = ap (λ rest. answer o u (tablet_after u o) ∷ rest) (changes_whole ts ops n fit.1 (omega arith))
 
 length-prefix : (ts : List TabletStateValue) (ops : List TabletOp) (n : ℕ) → length (prefix_stepped n ts ops) ≡ length ts
 length-prefix ts ops zero = refl
@@ -157,20 +157,20 @@ module _ {S : Type 0} (tablet : S → TabletStateValue) (ts : List TabletStateVa
       subst (λ (t : TabletStateValue). IsJoinIn t op) (sym (slot_before old within read))
       (subst (λ (o : TabletOp). IsJoinIn (get_or ts n (tablet old)) o) (sym given) (join_at ts ops n (tablet old) op fit within))
 
-  pub slot_stepped : (old new : S) (op : TabletOp) → n < length ops → old ≡ get_or slots n old → op ≡ get_or ops n op → tablet new ≡ stepped (tablet old) op
+  pub slot_stepped : (old new : S) (op : TabletOp) → n < length ops → old ≡ get_or slots n old → op ≡ get_or ops n op → tablet new ≡ tablet_after (tablet old) op
       → map tablet (set slots n new) ≡ prefix_stepped (n + 1) ts ops
   slot_stepped old new op within read given took =
       map-set tablet slots n new
-      ∙ ap (λ (t : TabletStateValue). set (map tablet slots) n t) (took ∙ ap (λ (t : TabletStateValue). stepped t op) (slot_before old within read) ∙ ap (λ (o : TabletOp). stepped (get_or ts n (tablet old)) o) given)
-      ∙ ap (λ (xs : List TabletStateValue). set xs n (stepped (get_or ts n (tablet old)) (get_or ops n op))) so_far
+      ∙ ap (λ (t : TabletStateValue). set (map tablet slots) n t) (took ∙ ap (λ (t : TabletStateValue). tablet_after t op) (slot_before old within read) ∙ ap (λ (o : TabletOp). tablet_after (get_or ts n (tablet old)) o) given)
+      ∙ ap (λ (xs : List TabletStateValue). set xs n (tablet_after (get_or ts n (tablet old)) (get_or ops n op))) so_far
       ∙ more_stepped ts ops n (tablet old) op fit within
 
   pub slot_changes : (old : S) (op : TabletOp) (changes : List (List Change)) (list : List Change) → n < length ops → old ≡ get_or slots n old → op ≡ get_or ops n op
-      → changes ≡ take n (all_changes ts ops) → list ≡ answer op (tablet old) (stepped (tablet old) op) → changes ++ list ∷ [] ≡ take (n + 1) (all_changes ts ops)
+      → changes ≡ take n (all_changes ts ops) → list ≡ answer op (tablet old) (tablet_after (tablet old) op) → changes ++ list ∷ [] ≡ take (n + 1) (all_changes ts ops)
   slot_changes old op changes list within read given before answered =
       ap (λ (xs : List (List Change)). xs ++ list ∷ []) before
       ∙ ap (λ (x : List Change). take n (all_changes ts ops) ++ x ∷ [])
-      (answered ∙ ap (λ (t : TabletStateValue). answer op t (stepped t op)) (slot_before old within read) ∙ ap (λ (o : TabletOp). answer o (get_or ts n (tablet old)) (stepped (get_or ts n (tablet old)) o)) given)
+      (answered ∙ ap (λ (t : TabletStateValue). answer op t (tablet_after t op)) (slot_before old within read) ∙ ap (λ (o : TabletOp). answer o (get_or ts n (tablet old)) (tablet_after (get_or ts n (tablet old)) o)) given)
       ∙ more_changes ts ops n (tablet old) op fit within
 
   -- where memory runs out each slot is old or stepped

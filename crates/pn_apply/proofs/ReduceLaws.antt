@@ -13,8 +13,8 @@ use Rattle.pn_record.proofs.CellMaps.{rising-table_of, adds-table_of, same_cells
 use Rattle.pn_tablet.specs.Ranges.{Ends, in_range}
 use Rattle.pn_tablet.specs.Layouts.{Bounds, IsLayout}
 use Rattle.pn_tablet.specs.Tablets.{TabletStateValue, lie_in}
-use Rattle.pn_tablet.specs.declared.op.TabletOp.{TabletOp}
-use Rattle.pn_tablet.specs.declared.op.TabletOp.TheVariants.{Join}
+use Rattle.pn_tablet.specs.declared.state.TabletOp.{TabletOp}
+use Rattle.pn_tablet.specs.declared.state.TabletOp.TheVariants.{Join}
 use Rattle.pn_apply.specs.Applying.{AreJoinsIn, HavePositions}
 use Rattle.pn_apply.specs.Reducing.{images_in, ranges, join_in, joins_of, joined_cells}
 use Rattle.pn_apply.proofs.Tables.{entries_that, table_that, all_that}

@@ -13,7 +13,7 @@ use Rattle.pn_record.specs.declared.image.Image.{Image}
 use Rattle.pn_record.specs.CellMap.{Entries, table_of}
 use Rattle.pn_tablet.specs.Ranges.{Ends, in_range}
 use Rattle.pn_tablet.specs.Layouts.{Bounds, IsLayout, tablet_of, tablet_ends}
-use Rattle.pn_tablet.specs.declared.op.TabletOp.TheVariants.{Join}
+use Rattle.pn_tablet.specs.declared.state.TabletOp.TheVariants.{Join}
 use Rattle.pn_tablet.proofs.LayoutFacts.{key_in_tablet, tablet_of_key, tablet_of_within}
 use Rattle.pn_apply.specs.Reducing.{images_in, ranges, joins_of}
 use Rattle.pn_apply.specs.Shares.{lists, images_at, by_tablet}
@@ -69,11 +69,11 @@ module _ (bounds : Bounds) (taken : List Image) (image : Image) where
   at_within : at < length bounds + 1
   at_within = omega (arith, tablet_of_within bounds image.key)
 
-  placed : (k : ℕ) (b : Bool) → eqb at k ≡ b → k < length bounds + 1 → get_or (set (by_tablet bounds taken) at grown) k [] ≡ images_at bounds taken k ++ cond b (image ∷ []) []
-  placed k true is within =
+  share_at : (k : ℕ) (b : Bool) → eqb at k ≡ b → k < length bounds + 1 → get_or (set (by_tablet bounds taken) at grown) k [] ≡ images_at bounds taken k ++ cond b (image ∷ []) []
+  share_at k true is within =
       subst (λ (m : ℕ). get_or (set (by_tablet bounds taken) at grown) m [] ≡ images_at bounds taken m ++ image ∷ []) (eqb-true at k is)
       (get_or-set_same (by_tablet bounds taken) at grown [] (omega (arith, at_within, length-by_tablet bounds taken)))
-  placed k false is within =
+  share_at k false is within =
       get_or-set_other (by_tablet bounds taken) at k grown [] (λ same. eqb-false at k is (sym same))
       ∙ get_or-map-range_with_len (images_at bounds taken) 0 (length bounds + 1) k k [] within (omega arith)
       ∙ sym (append-nil (images_at bounds taken k))
@@ -85,7 +85,7 @@ module _ (bounds : Bounds) (taken : List Image) (image : Image) where
   more_by_tablet =
       fill_by_all (images_at bounds (taken ++ image ∷ [])) (set (by_tablet bounds taken) at grown) (length bounds + 1) []
       (length-set (by_tablet bounds taken) at grown ∙ length-by_tablet bounds taken)
-      (λ k within. placed k (eqb at k) refl within ∙ sym (more_at k))
+      (λ k within. share_at k (eqb at k) refl within ∙ sym (more_at k))
 
 -- one more image goes to its tablet's share
 pub share_more : (bounds : Bounds) (taken : List Image) (image : Image) (shares : List Share) (old new : Share) → lists shares ≡ by_tablet bounds taken
@@ -130,7 +130,7 @@ next_same left shares n d rest =
     let read : (xs : List Share) → get_or (drop n xs) 0 d ≡ get_or xs n d = λ xs. get_or-drop n xs 0 d ∙ ap (λ k. get_or xs k d) here in
     sym (read left) ∙ ap (λ (xs : List Share). get_or xs 0 d) rest ∙ read shares
 
--- where a share is taken out of its place, those after it stay
+-- where a share is taken out of its list, those after it stay
 pub left_after : (left shares : List Share) (n : ℕ) (none : Share) → drop n left ≡ drop n shares → drop (n + 1) (set left n none) ≡ drop (n + 1) shares
 left_after left shares n none rest = drop-set-lt (n + 1) left n none (omega arith) ∙ drop_more_same left shares n rest
 

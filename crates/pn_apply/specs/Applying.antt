@@ -3,11 +3,11 @@ use Rattle.std.specs.Prelude.{◌≡◌, List, [], ◌∷◌, map, IsTrue, ◌�
 use Rattle.std.specs.List.{AllByRecursion, zip}
 use Rattle.pn_tablet.specs.Operations.{HasPositions}
 use Rattle.pn_tablet.specs.Tablets.{TabletStateValue, lie_in}
-use Rattle.pn_tablet.specs.Steps.{stepped}
+use Rattle.pn_tablet.specs.Steps.{tablet_after}
 use Rattle.pn_tablet.specs.Changes.{answer}
 use Rattle.pn_tablet.specs.declared.change.Change.{Change}
-use Rattle.pn_tablet.specs.declared.op.TabletOp.{TabletOp}
-use Rattle.pn_tablet.specs.declared.op.TabletOp.TheVariants.{Join}
+use Rattle.pn_tablet.specs.declared.state.TabletOp.{TabletOp}
+use Rattle.pn_tablet.specs.declared.state.TabletOp.TheVariants.{Join}
 
 -- the operation is a join of keys that lie in the tablet's range
 abbrev pub IsJoinIn : TabletStateValue → TabletOp → Type 0
@@ -26,17 +26,17 @@ HavePositions operations = AllByRecursion HasPositions operations
 
 -- each tablet after its own operation
 abbrev pub all_stepped : List TabletStateValue → List TabletOp → List TabletStateValue
-all_stepped tablets operations = map (λ each. stepped each.0 each.1) (zip tablets operations)
+all_stepped tablets operations = map (λ each. tablet_after each.0 each.1) (zip tablets operations)
 
 -- what each operation changes in its own tablet
 abbrev pub all_changes : List TabletStateValue → List TabletOp → List (List Change)
-all_changes tablets operations = map (λ each. answer each.1 each.0 (stepped each.0 each.1)) (zip tablets operations)
+all_changes tablets operations = map (λ each. answer each.1 each.0 (tablet_after each.0 each.1)) (zip tablets operations)
 
 -- each tablet is as it was, or as its own operation leaves it
 abbrev pub AreOldOrStepped : List TabletStateValue → List TabletOp → List TabletStateValue → Type 0
 AreOldOrStepped [] [] [] = Unit {0}
 AreOldOrStepped (tablet ∷ tablets) (operation ∷ operations) (now ∷ nows) =
-    ((now ≡ tablet) ⊎ (now ≡ stepped tablet operation)) × AreOldOrStepped tablets operations nows
+    ((now ≡ tablet) ⊎ (now ≡ tablet_after tablet operation)) × AreOldOrStepped tablets operations nows
 AreOldOrStepped _ _ _ = ⊥
 
 -- one of the tablets is as it was

@@ -1,5 +1,4 @@
 pub mod Applying
-pub mod Limits
 pub mod Prelude
 pub mod Reducing
 pub mod Shares

@@ -2,12 +2,13 @@
 
 ghost use Rattle.std.specs.Prelude.{◌≡◌, ◌≤◌, length, map, IfOk, OnOk, OnErr};
 ghost use Rattle.std.specs.Thread.{IsSync, IsSend};
-ghost use Rattle.pn_tablet.specs.Prelude.{HasPositions, stepped, answer};
+ghost use Rattle.pn_tablet.specs.Prelude.{HasPositions, tablet_after, answer};
 ghost use Rattle.pn_apply.specs.Applying.{IsJoinIn, AreJoinsIn, HavePositions, all_stepped, all_changes, AreOldOrStepped, IsSomeOld};
-ghost use Rattle.pn_apply.specs.Limits.{max_workers};
+ghost use Rattle.pn_apply.specs.declared.reducing.TheConstants.{MAX_WORKERS};
 ghost use Rattle.pn_apply.specs.Working.{IsTask, Applied};
 
-use crate::cut::{Span, both, gathered, is_worth_a_thread};
+use crate::cut::{Span, call_both, is_worth_a_thread, join_results};
+use crate::gate::{Entered, enter};
 use crate::{Gate, Slot};
 use pn_join::NoMemory;
 use pn_tablet::{Change, OpFault, TabletOp};
@@ -15,7 +16,7 @@ use std::alloc::Global;
 use std::marker::{Send, Sync};
 use std::thread::Threads;
 
-/// Applies each operation to the slot at its place, by 1 to 16 workers. It returns the changes of each, in the
+/// Applies each operation to the slot at its index, by 1 to 16 workers, and returns the changes of each, in the
 /// order of the tablets.
 ///
 /// Each operation is a join in its slot's range, with positions of 1 to 10^15.
@@ -33,14 +34,14 @@ pub fn apply_all<R: Threads + Sync, S: Slot + Send, G: Gate + Sync>(
 ) -> Result<Vec<Vec<Change>>, NoMemory>
     requires joins { AreJoinsIn (map S.tablet slots.old) operations.now }
     requires positions { HavePositions operations.now }
-    requires workers { (1 ≤ workers) × (workers ≤ max_workers) }
+    requires workers { (1 ≤ workers) × (workers ≤ MAX_WORKERS) }
     ensures ok { OnOk result (map S.tablet slots.new ≡ all_stepped (map S.tablet slots.old) operations.now) }
     ensures changes { IfOk result (λ lists. map (λ list. list.items) lists.items
         ≡ all_changes (map S.tablet slots.old) operations.now) }
     ensures err { OnErr result (AreOldOrStepped (map S.tablet slots.old) operations.now (map S.tablet slots.new)) }
     ensures left { OnErr result (IsSomeOld (map S.tablet slots.old) (map S.tablet slots.new)) }
 {
-    let span = Span::new(gate, workers, operations.len(), images_of(operations));
+    let span = Span::new(gate, workers, operations.len(), count_images(operations));
     work_span(rt, alloc, gate, Task { span, operations }, slots)
 }
 
@@ -71,8 +72,8 @@ fn work_span<R: Threads + Sync, S: Slot + Send, G: Gate + Sync>(
         return work_alone(alloc, gate, span, operations, slots);
     }
     let results = Vec::with_capacity(alloc, operations.len())?;
-    let (front, back, place) = span.cut(operations.len());
-    let (first, second) = operations.split_at(place);
+    let (front, back, index) = span.cut(operations.len());
+    let (first, second) = operations.split_at(index);
     let tasks = (
         Task {
             span: front,
@@ -83,9 +84,9 @@ fn work_span<R: Threads + Sync, S: Slot + Send, G: Gate + Sync>(
             operations: second,
         },
     );
-    let (low, high) = slots.split_at_mut(place);
+    let (low, high) = slots.split_at_mut(index);
     let (front, back) = work_parts(rt, alloc, gate, tasks, low, high);
-    gathered(results, front, back)
+    join_results(results, front, back)
 }
 
 // Works both parts of a cut: at the same time if each is worth a thread.
@@ -105,8 +106,8 @@ fn work_parts<R: Threads + Sync, S: Slot + Send, G: Gate + Sync>(
     ensures high { Applied (map S.tablet high.old) tasks.entry.1.operations.now result.1 (map S.tablet high.new) }
 {
     let (first, second) = tasks;
-    let at_once = is_worth_a_thread(gate, images_of(first.operations))
-        && is_worth_a_thread(gate, images_of(second.operations));
+    let at_once = is_worth_a_thread(gate, count_images(first.operations))
+        && is_worth_a_thread(gate, count_images(second.operations));
     let mut front = || -> Answer
         requires { IsSync R.row × IsSync G.row × IsSend S.row × (1 ≤ first.span.workers) × IsTask (map S.tablet low.now) first.operations.now first.span }
         ensures { Applied (map S.tablet low.entry.now) first.entry.operations.now result (map S.tablet low.exit.now) }
@@ -115,11 +116,11 @@ fn work_parts<R: Threads + Sync, S: Slot + Send, G: Gate + Sync>(
         requires { IsSync R.row × IsSync G.row × IsSend S.row × (1 ≤ second.span.workers) × IsTask (map S.tablet high.now) second.operations.now second.span }
         ensures { Applied (map S.tablet high.entry.now) second.entry.operations.now result (map S.tablet high.exit.now) }
     { work_span(rt, alloc, gate, second, high) };
-    both(rt, at_once, &mut front, &mut back)
+    call_both(rt, at_once, &mut front, &mut back)
 }
 
 // How many images the operations join, a key's images as one.
-fn images_of(operations: &[TabletOp]) -> usize {
+fn count_images(operations: &[TabletOp]) -> usize {
     let mut count = 0_usize;
     for operation in operations {
         if let TabletOp::Join { cells, .. } = operation {
@@ -141,20 +142,24 @@ fn work_alone<S: Slot, G: Gate>(
     ensures { Applied (map S.tablet slots.old) operations.now result (map S.tablet slots.new) }
 {
     let mut results = Vec::with_capacity(alloc, operations.len())?;
-    for (place, operation) in operations.iter().enumerate() {
-        gate.enter(span.first + place);
-        results.push_reserved(apply_join(&mut slots[place], operation)?);
+    for (index, operation) in operations.iter().enumerate() {
+        let entered = enter(gate, span.first + index);
+        results.push_reserved(apply_join(entered, &mut slots[index], operation)?);
     }
     Ok(results)
 }
 
 // Applies a join that lies in the slot's range: only memory can fail.
-fn apply_join<S: Slot>(slot: &mut S, operation: &TabletOp) -> Result<Vec<Change>, NoMemory>
+fn apply_join<S: Slot>(
+    _entered: Entered,
+    slot: &mut S,
+    operation: &TabletOp,
+) -> Result<Vec<Change>, NoMemory>
     requires join { IsJoinIn (S.tablet slot.old) operation.now }
     requires positions { HasPositions operation.now }
-    ensures ok { OnOk result (S.tablet slot.new ≡ stepped (S.tablet slot.old) operation.now) }
+    ensures ok { OnOk result (S.tablet slot.new ≡ tablet_after (S.tablet slot.old) operation.now) }
     ensures changes { IfOk result (λ list. list.items
-        ≡ answer operation.now (S.tablet slot.old) (stepped (S.tablet slot.old) operation.now)) }
+        ≡ answer operation.now (S.tablet slot.old) (tablet_after (S.tablet slot.old) operation.now)) }
     ensures err { OnErr result (S.tablet slot.new ≡ S.tablet slot.old) }
 {
     match slot.apply(operation) {

@@ -21,7 +21,8 @@ impl Span {
     /// All tablets, with at most one worker for each tablet and, at an open gate, for each 600 images.
     pub(crate) fn new<G: Gate>(gate: &G, workers: usize, tablets: usize, images: usize) -> Span
         ensures first { result.first ≡ 0 }
-        ensures workers { result.workers ≤ tablets }
+        ensures enough { result.workers ≤ tablets }
+        ensures within { result.workers ≤ workers }
     {
         let workers = workers.min(tablets);
         let workers = if gate.is_open() {
@@ -44,17 +45,17 @@ impl Span {
         ensures enough { (result.0.workers ≤ result.2) × (result.1.workers + result.2 ≤ tablets) }
     {
         let others = self.workers - 1;
-        let place = tablets.div_ceil(self.workers).clamp(1, tablets - others);
+        let index = tablets.div_ceil(self.workers).clamp(1, tablets - others);
         (
             Span {
                 first: self.first,
                 workers: 1,
             },
             Span {
-                first: self.first + place,
+                first: self.first + index,
                 workers: others,
             },
-            place,
+            index,
         )
     }
 }
@@ -70,7 +71,7 @@ pub(crate) fn is_worth_a_thread<G: Gate>(gate: &G, images: usize) -> bool {
 }
 
 /// Calls both: in two threads at the same time, or in turn.
-pub(crate) fn both<R: Threads, F: FnMut() -> T + Send, H: FnMut() -> T, T: Send>(
+pub(crate) fn call_both<R: Threads, F: FnMut() -> T + Send, H: FnMut() -> T, T: Send>(
     rt: &R,
     at_once: bool,
     front: &mut F,
@@ -85,14 +86,14 @@ pub(crate) fn both<R: Threads, F: FnMut() -> T + Send, H: FnMut() -> T, T: Send>
     (front(), back())
 }
 
-/// The results of both parts, in order, in room that was made before they were worked.
-pub(crate) fn gathered<T: Drop>(
+/// Joins the results of both parts, in order, in a list whose memory was taken before they were worked.
+pub(crate) fn join_results<T: Drop>(
     mut results: Vec<T>,
     front: Result<Vec<T>, NoMemory>,
     back: Result<Vec<T>, NoMemory>,
 ) -> Result<Vec<T>, NoMemory>
     requires empty { results.items ≡ [] }
-    requires room { IfOk front (λ a. IfOk back (λ b. length a.items + length b.items ≤ vec_capacity results)) }
+    requires capacity { IfOk front (λ a. IfOk back (λ b. length a.items + length b.items ≤ vec_capacity results)) }
     ensures ok { IfOk result (λ all. IfOk front (λ a. IfOk back (λ b. all.items ≡ a.items ++ b.items))) }
     ensures both { IsOk result → IsOk front × IsOk back }
     ensures err { IsErr result → IsErr front ⊎ IsErr back }

@@ -1,6 +1,6 @@
-//! Gates, which a worker passes before it works a tablet.
+//! Gates, which a worker enters before it works a tablet.
 
-/// Passed with each tablet's number, by the thread that works the tablet.
+/// Entered with each tablet's number, by the thread that works the tablet.
 pub trait Gate {
     /// Returns once the worker may begin the tablet.
     fn enter(&self, tablet: usize);
@@ -11,7 +11,7 @@ pub trait Gate {
     }
 }
 
-/// The gate that everyone passes at once.
+/// The gate that holds nobody up.
 pub struct Open;
 
 impl Gate for Open {
@@ -22,4 +22,16 @@ impl Gate for Open {
     fn is_open(&self) -> bool {
         true
     }
+}
+
+/// Leave to work one tablet, which only entering the gate gives.
+#[derive(Drop)]
+pub(crate) struct Entered {
+    _sealed: (),
+}
+
+/// Enters the gate with a tablet's number.
+pub(crate) fn enter<G: Gate>(gate: &G, tablet: usize) -> Entered {
+    gate.enter(tablet);
+    Entered { _sealed: () }
 }

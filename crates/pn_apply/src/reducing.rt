@@ -4,15 +4,16 @@ ghost use Rattle.std.specs.Prelude.{◌≡◌, ◌≤◌, length, map, IsTrue, I
 ghost use Rattle.std.specs.Thread.{IsSync};
 ghost use Rattle.pn_join.specs.Prelude.{are_positions};
 ghost use Rattle.pn_record.specs.Prelude.{table_of};
-ghost use Rattle.pn_tablet.specs.declared.op.TabletOp.TheVariants.{Join};
-ghost use Rattle.pn_apply.specs.Limits.{max_workers};
+ghost use Rattle.pn_tablet.specs.declared.state.TabletOp.TheVariants.{Join};
+ghost use Rattle.pn_apply.specs.declared.reducing.TheConstants.{MAX_WORKERS};
 ghost use Rattle.pn_apply.specs.Reducing.{all_images, joins_of};
 ghost use Rattle.pn_apply.specs.Shares.{lists};
 ghost use Rattle.pn_apply.specs.Working.{IsSpanOf, AreCellsOf};
 
 use crate::Gate;
-use crate::cut::{Span, both, gathered, is_worth_a_thread};
-use crate::share::{copies_by_tablet, images_by_tablet};
+use crate::cut::{Span, call_both, is_worth_a_thread, join_results};
+use crate::gate::{Entered, enter};
+use crate::share::{copy_deliveries, images_by_tablet};
 use pn_join::{Dup, Marks, NoMemory};
 use pn_record::{Image, Records, take_image};
 use pn_stream::Delivery;
@@ -42,11 +43,11 @@ pub fn reduce<R: Threads + Sync, G: Gate + Sync>(
     gate: &G,
 ) -> Result<Vec<TabletOp>, NoMemory>
     requires positions { IsTrue (are_positions marks.now) }
-    requires workers { (1 ≤ workers) × (workers ≤ max_workers) }
+    requires workers { (1 ≤ workers) × (workers ≤ MAX_WORKERS) }
     ensures { IfOk result (λ operations. operations.items ≡ joins_of layout.now marks.now (all_images deliveries.now)) }
 {
-    let shares = copies_by_tablet(alloc, deliveries, layout)?;
-    joins_of_shares(rt, alloc, gate, workers, shares, marks)
+    let copies = copy_deliveries(alloc, deliveries)?;
+    reduce_owned(rt, alloc, copies, layout, marks, workers, gate)
 }
 
 /// The joins of [`reduce`], with the images moved into the cells.
@@ -60,7 +61,7 @@ pub fn reduce_owned<R: Threads + Sync, G: Gate + Sync>(
     gate: &G,
 ) -> Result<Vec<TabletOp>, NoMemory>
     requires positions { IsTrue (are_positions marks.now) }
-    requires workers { (1 ≤ workers) × (workers ≤ max_workers) }
+    requires workers { (1 ≤ workers) × (workers ≤ MAX_WORKERS) }
     ensures { IfOk result (λ operations. operations.items ≡ joins_of layout.now marks.now (all_images deliveries.items)) }
 {
     let shares = images_by_tablet(alloc, deliveries, layout)?;
@@ -106,7 +107,7 @@ fn work_all<R: Threads + Sync, G: Gate + Sync>(
 ) -> Result<Vec<Records>, NoMemory>
     ensures { AreCellsOf images.old result }
 {
-    let span = Span::new(gate, workers, images.len(), count_of(images));
+    let span = Span::new(gate, workers, images.len(), count_images(images));
     work_span(rt, alloc, gate, span, images)
 }
 
@@ -126,10 +127,10 @@ fn work_span<R: Threads + Sync, G: Gate + Sync>(
         return work_alone(alloc, gate, span, images);
     }
     let results = Vec::with_capacity(alloc, images.len())?;
-    let (front, back, place) = span.cut(images.len());
-    let (low, high) = images.split_at_mut(place);
+    let (front, back, index) = span.cut(images.len());
+    let (low, high) = images.split_at_mut(index);
     let (front, back) = work_parts(rt, alloc, gate, (front, back), low, high);
-    gathered(results, front, back)
+    join_results(results, front, back)
 }
 
 // Works both parts of a cut: at the same time if each is worth a thread.
@@ -152,7 +153,8 @@ fn work_parts<R: Threads + Sync, G: Gate + Sync>(
     ensures high { AreCellsOf high.old result.1 }
 {
     let (first, second) = spans;
-    let at_once = is_worth_a_thread(gate, count_of(low)) && is_worth_a_thread(gate, count_of(high));
+    let at_once = is_worth_a_thread(gate, count_images(low))
+        && is_worth_a_thread(gate, count_images(high));
     let mut front = || -> Result<Vec<Records>, NoMemory>
         requires { IsSync R.row × IsSync G.row × (1 ≤ first.workers) × IsSpanOf (length low.now) first }
         ensures { AreCellsOf low.entry.now result }
@@ -161,11 +163,11 @@ fn work_parts<R: Threads + Sync, G: Gate + Sync>(
         requires { IsSync R.row × IsSync G.row × (1 ≤ second.workers) × IsSpanOf (length high.now) second }
         ensures { AreCellsOf high.entry.now result }
     { work_span(rt, alloc, gate, second, high) };
-    both(rt, at_once, &mut front, &mut back)
+    call_both(rt, at_once, &mut front, &mut back)
 }
 
-// How many images there are.
-fn count_of(images: &[Vec<Image>]) -> usize {
+// How many images the tablets have together.
+fn count_images(images: &[Vec<Image>]) -> usize {
     let mut count = 0_usize;
     for own in images {
         count = count.saturating_add(own.len());
@@ -173,7 +175,7 @@ fn count_of(images: &[Vec<Image>]) -> usize {
     count
 }
 
-// Works the tablets of a span one after another. Their images are moved out of their places.
+// Works the tablets of a span one after another. Their images are moved out of their lists.
 fn work_alone<G: Gate>(
     alloc: Global,
     gate: &G,
@@ -184,16 +186,16 @@ fn work_alone<G: Gate>(
     ensures { AreCellsOf images.old result }
 {
     let mut cells = Vec::with_capacity(alloc, images.len())?;
-    for place in 0..images.len() {
-        gate.enter(span.first + place);
-        let own = mem::replace(&mut images[place], Vec::new(alloc));
-        cells.push_reserved(cells_of(alloc, own)?);
+    for index in 0..images.len() {
+        let entered = enter(gate, span.first + index);
+        let own = mem::replace(&mut images[index], Vec::new(alloc));
+        cells.push_reserved(cells_of(entered, alloc, own)?);
     }
     Ok(cells)
 }
 
 // The cells of images, which are moved into them.
-fn cells_of(alloc: Global, images: Vec<Image>) -> Result<Records, NoMemory>
+fn cells_of(_entered: Entered, alloc: Global, images: Vec<Image>) -> Result<Records, NoMemory>
     ensures { IfOk result (λ cells. cells ≡ table_of images.items) }
 {
     let mut cells = Records::new(alloc);

@@ -21,31 +21,15 @@ pub fn images_by_tablet(
     ensures { IfOk result (λ shares. lists shares.items
         ≡ map (λ range. images_in range (all_images deliveries.items)) (ranges layout.now)) }
 {
-    let mut shares = empty_shares(alloc, layout, images_of(&deliveries))?;
+    let mut shares = empty_shares(alloc, layout, count_images(&deliveries))?;
     for delivery in deliveries {
         share_out(&mut shares, delivery.into_images(), layout)?;
     }
     Ok(shares)
 }
 
-/// Copies of the images of each tablet, in the order of delivery.
-pub fn copies_by_tablet(
-    alloc: Global,
-    deliveries: &[Delivery],
-    layout: &Layout,
-) -> Result<Vec<Vec<Image>>, NoMemory>
-    ensures { IfOk result (λ shares. lists shares.items
-        ≡ map (λ range. images_in range (all_images deliveries.now)) (ranges layout.now)) }
-{
-    let mut shares = empty_shares(alloc, layout, images_of(deliveries))?;
-    for delivery in deliveries {
-        share_out(&mut shares, copies(alloc, delivery.images())?, layout)?;
-    }
-    Ok(shares)
-}
-
 // How many images the deliveries have.
-fn images_of(deliveries: &[Delivery]) -> usize {
+fn count_images(deliveries: &[Delivery]) -> usize {
     let mut count = 0_usize;
     for delivery in deliveries {
         count = count.saturating_add(delivery.images().len());
@@ -53,15 +37,15 @@ fn images_of(deliveries: &[Delivery]) -> usize {
     count
 }
 
-// An empty share for each tablet, with room for an equal part of the images.
+// An empty share for each tablet, with capacity for an equal part of the images.
 fn empty_shares(alloc: Global, layout: &Layout, images: usize) -> Result<Vec<Vec<Image>>, NoMemory>
     ensures empty { IfOk result (λ shares. lists shares.items ≡ by_tablet layout.now []) }
     ensures lawful { IsLayout layout.now }
 {
-    let room = images / layout.count();
+    let capacity = images / layout.count();
     let mut shares = Vec::with_capacity(alloc, layout.count())?;
     for _tablet in 0..layout.count() {
-        shares.push_reserved(Vec::with_capacity(alloc, room)?);
+        shares.push_reserved(Vec::with_capacity(alloc, capacity)?);
     }
     Ok(shares)
 }
@@ -83,17 +67,36 @@ fn share_out(
     Ok(())
 }
 
-fn copies(alloc: Global, images: &[Image]) -> Result<Vec<Image>, NoMemory>
-    ensures { IfOk result (λ copies. copies.items ≡ images.now) }
+/// Copies of the deliveries.
+pub fn copy_deliveries(alloc: Global, deliveries: &[Delivery]) -> Result<Vec<Delivery>, NoMemory>
+    ensures { IfOk result (λ copies. copies.items ≡ deliveries.now) }
 {
-    let mut copies = Vec::with_capacity(alloc, images.len())?;
-    for image in images {
-        copies.push_reserved(copy(image)?);
+    let mut copies = Vec::with_capacity(alloc, deliveries.len())?;
+    for delivery in deliveries {
+        copies.push_reserved(copy_delivery(alloc, delivery)?);
     }
     Ok(copies)
 }
 
-fn copy(image: &Image) -> Result<Image, NoMemory>
+fn copy_delivery(alloc: Global, delivery: &Delivery) -> Result<Delivery, NoMemory>
+    ensures { IfOk result (λ copy. copy ≡ delivery.now) }
+{
+    let first = delivery.first();
+    let images = copy_images(alloc, delivery.images())?;
+    Ok(Delivery::of(delivery.stream().dup()?, first, images))
+}
+
+fn copy_images(alloc: Global, images: &[Image]) -> Result<Vec<Image>, NoMemory>
+    ensures { IfOk result (λ copies. copies.items ≡ images.now) }
+{
+    let mut copies = Vec::with_capacity(alloc, images.len())?;
+    for image in images {
+        copies.push_reserved(copy_image(image)?);
+    }
+    Ok(copies)
+}
+
+fn copy_image(image: &Image) -> Result<Image, NoMemory>
     ensures { IfOk result (λ copy. copy ≡ image.now) }
 {
     Ok(Image {

@@ -36,14 +36,14 @@ pub fn time<R: Clock + Threads + Wait + Sync, S: Source + Drop>(
     stream: StreamReader<S>,
     plan: Plan,
 ) -> Option<Took> {
-    let (mut store, readers) = opened(rt, alloc, plan.way)?;
+    let (mut store, readers) = open_store(rt, alloc, plan.way)?;
     let took = time_store(rt, alloc, &mut store, readers, stream, plan);
     store.close(rt, alloc).ok()?;
     took
 }
 
 // A region of one tablet, and the readers of a live one.
-fn opened<R: Wait>(rt: &R, alloc: Global, way: Way) -> Option<(Store, Vec<LiveReader>)> {
+fn open_store<R: Wait>(rt: &R, alloc: Global, way: Way) -> Option<(Store, Vec<LiveReader>)> {
     let layout = Layout::new(Vec::new(alloc)).ok()?;
     if way == Way::Plain {
         let region = Region::new(alloc, layout).ok()?;
@@ -67,7 +67,7 @@ fn time_store<R: Clock + Threads + Wait + Sync, S: Source + Drop>(
     let mut last = next_rounds(alloc, &mut stream, plan.rounds, plan.in_round)?;
     let rounds = if plan.way == Way::Busy {
         // On four processors the writer then has one of its own.
-        let _idle = runners.pop();
+        let _spare = runners.pop();
         time_busy(rt, store, &mut runners, &mut last)?
     } else {
         time_rounds(rt, store, &mut last)?

@@ -84,13 +84,13 @@ fn add_keys(keys: &mut Vec<Key>, delivery: &Delivery) -> Option<()> {
     Some(())
 }
 
-// Bounds at equal distances, from the key of this place on.
+// Bounds at equal distances, from the key of this index on.
 fn layout_from(alloc: Global, keys: &[Key], first: usize) -> Option<Layout> {
     let mut bounds = Vec::new(alloc);
-    let mut place = first;
+    let mut index = first;
     for _ in 1..TABLETS {
-        bounds.push(keys.get(place)?.dup().ok()?).ok()?;
-        place = place.checked_add(keys.len() / TABLETS)?;
+        bounds.push(keys.get(index)?.dup().ok()?).ok()?;
+        index = index.checked_add(keys.len() / TABLETS)?;
     }
     Layout::new(bounds).ok()
 }

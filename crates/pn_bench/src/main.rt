@@ -24,11 +24,11 @@ use std::io::BufReader;
 use std::{env, io};
 
 /// How many bytes of input are read at a time.
-const INPUT_ROOM: usize = 65_536;
+const INPUT_CAPACITY: usize = 65_536;
 
 fn main(rt: HostRuntime) -> io::Result<()> {
     let plan = Plan::read(env::args(&rt)?);
-    let input = BufReader::with_capacity(rt.alloc(), INPUT_ROOM, rt.reader())?;
+    let input = BufReader::with_capacity(rt.alloc(), INPUT_CAPACITY, rt.reader())?;
     let (Some(plan), Ok(name)) = (plan, Name::read(b"east")) else {
         return println!(rt; "no plan");
     };

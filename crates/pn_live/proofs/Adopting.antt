@@ -6,15 +6,15 @@ use Rattle.std.specs.Option.{option_and_then}
 use Rattle.std.proofs.lemmas.List.{length-map}
 use Rattle.std.proofs.lemmas.Option.{slice_get_read}
 use Rattle.pn_tablet.specs.Copies.{TabletCopyValue}
-use Rattle.pn_tablet.specs.Needs.{lacking}
+use Rattle.pn_tablet.specs.Needs.{need_shortfall}
 use Rattle.pn_tablet.specs.Ranges.{Ends}
 use Rattle.pn_tablet.specs.Refusals.{Refuses}
-use Rattle.pn_tablet.specs.Steps.{step, adopting, is_memory}
+use Rattle.pn_tablet.specs.Steps.{step, with_copy, is_memory}
 use Rattle.pn_tablet.specs.Tablets.{TabletStateValue, empty_tablet, same_range}
 use Rattle.pn_tablet.specs.declared.fault.OpFault.TheVariants.{WrongRange}
-use Rattle.pn_tablet.specs.declared.needs.Short.{Short}
-use Rattle.pn_tablet.specs.declared.op.TabletOp.TheVariants.{Adopt}
-use Rattle.pn_region.specs.Recovery.{tablet_for, adopting_unless, adopting_by, stepping}
+use Rattle.pn_tablet.specs.declared.fault.Shortfall.{Shortfall}
+use Rattle.pn_tablet.specs.declared.state.TabletOp.TheVariants.{Adopt}
+use Rattle.pn_region.specs.Recovery.{tablet_for, after_adoption_unless, after_adoption_by, after_op}
 use Rattle.pn_region.specs.Recovery as region
 use Rattle.pn_region.specs.Regions.{RegionValue}
 use Rattle.pn_tablet.specs.declared.fault.OpFault.{OpFault as AdoptFault}
@@ -45,17 +45,17 @@ known_of ps n p P within at known = subst (λ (found : Option PublishedTabletVal
 
 -- no tablet has the copy's range
 pub none_for : {seen : TabletCopyValue} (live : LiveRegionValue) (copy : TabletCopyValue) → seen ≡ copy → None ≡ position (λ (p : PublishedTabletValue). same_range p.range seen.range) live.tablets
-    → region.adopting (core live) copy ≡ Err region_fault.WrongRange
+    → region.after_adoption (core live) copy ≡ Err region_fault.WrongRange
 none_for live copy copied none =
-    ap (adopting_by (core live) copy)
+    ap (after_adoption_by (core live) copy)
     (found_tablet live.tablets copy.range ∙ sym (none ∙ ap (λ (x : TabletCopyValue). position (λ (p : PublishedTabletValue). same_range p.range x.range) live.tablets) copied))
 
-refused_by : (r : RegionValue) (copy : TabletCopyValue) (n : ℕ) (short : Option Short) (fault : AdoptFault) → Some fault ≡ option_map too_old short → Refuses is_memory fault (adopting_unless r copy n short)
+refused_by : (r : RegionValue) (copy : TabletCopyValue) (n : ℕ) (short : Option Shortfall) (fault : AdoptFault) → Some fault ≡ option_map too_old short → Refuses is_memory fault (after_adoption_unless r copy n short)
 refused_by r copy n None fault is = absurd (cc is)
 refused_by r copy n (Some short) fault is =
-    let same : fault ≡ too_old short = cc is in subst (λ (f : AdoptFault). Refuses is_memory f (adopting_unless r copy n (Some short))) (sym same) refl
+    let same : fault ≡ too_old short = cc is in subst (λ (f : AdoptFault). Refuses is_memory f (after_adoption_unless r copy n (Some short))) (sym same) refl
 
-none_lacks : (short : Option Short) → None ≡ option_map too_old short → short ≡ None
+none_lacks : (short : Option Shortfall) → None ≡ option_map too_old short → short ≡ None
 none_lacks None is = refl
 none_lacks (Some short) is = absurd (cc is)
 
@@ -72,19 +72,19 @@ module _ {inside live : LiveRegionValue} {seen copy : TabletCopyValue} (same : i
   here = at ∙ ap (λ (l : LiveRegionValue). get_or l.tablets n tablet) same
 
   -- what the tablet lacks of the copy's marks
-  abbrev needs : Option Short
-  needs = lacking (state_at tablet).status copy.marks
+  abbrev needs : Option Shortfall
+  needs = need_shortfall (state_at tablet).status copy.marks
 
-  told : (answer : Option AdoptFault) → answer ≡ option_map too_old (lacking (state_at tablet).status seen.marks) → answer ≡ option_map too_old needs
-  told answer is = is ∙ ap (λ (x : TabletCopyValue). option_map too_old (lacking (state_at tablet).status x.marks)) copied
+  told : (answer : Option AdoptFault) → answer ≡ option_map too_old (need_shortfall (state_at tablet).status seen.marks) → answer ≡ option_map too_old needs
+  told answer is = is ∙ ap (λ (x : TabletCopyValue). option_map too_old (need_shortfall (state_at tablet).status x.marks)) copied
 
-  is_adopting : region.adopting (core live) copy ≡ adopting_unless (core live) copy n needs
+  is_adopting : region.after_adoption (core live) copy ≡ after_adoption_unless (core live) copy n needs
   is_adopting =
-      ap (adopting_by (core live) copy) found
-      ∙ ap (λ (t : Option TabletStateValue). adopting_unless (core live) copy n (option_and_then (λ (state : TabletStateValue). lacking state.status copy.marks) t)) (state_there live.tablets n tablet within here)
+      ap (after_adoption_by (core live) copy) found
+      ∙ ap (λ (t : Option TabletStateValue). after_adoption_unless (core live) copy n (option_and_then (λ (state : TabletStateValue). need_shortfall state.status copy.marks) t)) (state_there live.tablets n tablet within here)
 
   -- the copy is too old
-  pub too_old_for : (fault : AdoptFault) → Some fault ≡ option_map too_old (lacking (state_at tablet).status seen.marks) → Refuses is_memory fault (region.adopting (core live) copy)
+  pub too_old_for : (fault : AdoptFault) → Some fault ≡ option_map too_old (need_shortfall (state_at tablet).status seen.marks) → Refuses is_memory fault (region.after_adoption (core live) copy)
   too_old_for fault is = subst (Refuses is_memory fault) (sym is_adopting) (refused_by (core live) copy n needs fault (told (Some fault) is))
 
   -- what is known of the tablet is known at the number
@@ -92,17 +92,17 @@ module _ {inside live : LiveRegionValue} {seen copy : TabletCopyValue} (same : i
   next_for P known = known_of live.tablets n tablet P within here known
 
   -- the copy is not too old
-  module _ (is : None ≡ option_map too_old (lacking (state_at tablet).status seen.marks)) where
+  module _ (is : None ≡ option_map too_old (need_shortfall (state_at tablet).status seen.marks)) where
     none : needs ≡ None
     none = none_lacks needs (told None is)
 
-    pub adopts_it : region.adopting (core live) copy ≡ Ok (n, stepping (core live) n (Adopt copy))
-    adopts_it = is_adopting ∙ ap (adopting_unless (core live) copy n) none
+    pub adopts_it : region.after_adoption (core live) copy ≡ Ok (n, after_op (core live) n (Adopt copy))
+    adopts_it = is_adopting ∙ ap (after_adoption_unless (core live) copy n) none
 
     pub is_taken : IsOk (step (state_at tablet) (Adopt copy))
     is_taken =
-        subst (λ (b : Bool). IsOk (if b then adopting (state_at tablet) copy needs else Err WrongRange)) (sym (found_at (core live) copy n (state_at tablet) found (state_there live.tablets n tablet within here)))
-        (subst (λ (short : Option Short). IsOk (adopting (state_at tablet) copy short)) (sym none) refl)
+        subst (λ (b : Bool). IsOk (if b then with_copy (state_at tablet) copy needs else Err WrongRange)) (sym (found_at (core live) copy n (state_at tablet) found (state_there live.tablets n tablet within here)))
+        (subst (λ (short : Option Shortfall). IsOk (with_copy (state_at tablet) copy short)) (sym none) refl)
 
-    pub only_memory : IsOk (region.adopting (core live) copy)
+    pub only_memory : IsOk (region.after_adoption (core live) copy)
     only_memory = subst (λ (answer : Result (ℕ × RegionValue) AdoptFault). IsOk answer) (sym adopts_it) refl

@@ -1,30 +1,30 @@
 -- Live tablets with one operation more.
-use Rattle.std.proofs.Common.{◌≡◌, ℕ, zero, suc, ◌+◌, ◌<◌, ◌≤◌, List, [], ◌∷◌, length, map, drop, set, get_or, refl, sym, ap, ◌∙◌, inl, Ok, subst, arith}
-use Rattle.std.proofs.lemmas.List.{length-map}
+use Rattle.std.proofs.Common.{◌≡◌, ℕ, zero, suc, ◌+◌, ◌<◌, ◌≤◌, List, [], ◌∷◌, ◌++◌, length, map, take, drop, set, get_or, refl, sym, ap, ◌∙◌, inl, Ok, subst, arith}
+use Rattle.std.proofs.lemmas.List.{length-map, map-append, append_assoc, take_more}
 use Rattle.logbook.specs.Pages.{Book}
 use Rattle.pn_tablet.specs.Operations.{HasPositions}
-use Rattle.pn_tablet.specs.Steps.{step, stepped}
+use Rattle.pn_tablet.specs.Steps.{step, tablet_after}
 use Rattle.pn_tablet.specs.Tablets.{TabletStateValue, empty_tablet}
-use Rattle.pn_tablet.specs.declared.op.TabletOp.{TabletOp}
+use Rattle.pn_tablet.specs.declared.state.TabletOp.{TabletOp}
 use Rattle.pn_apply.specs.Applying.{IsJoinIn, AreJoinsIn, HavePositions, all_stepped}
 use Rattle.pn_apply.proofs.Prefixes.{same_length, mapped_at, join_at, positions_at}
-use Rattle.pn_live.specs.PublishedTablets.{PublishedTabletValue, state_at, appended, all_appended, AreOldOrAppended}
+use Rattle.pn_live.specs.PublishedTablets.{PublishedTabletValue, books_of, state_at, with_op, with_ops, AreOldOrAppended}
 use Rattle.pn_live.proofs.Joining.{joins_well}
 use Rattle.pn_live.proofs.Replays.{fold_last}
 use Rattle.pn_live.proofs.Walks.{DoneFirst, done_count, done_at, done_more, within_of, first_of}
 
 -- the operation is published, and nothing else
 abbrev pub Appends : PublishedTabletValue → TabletOp → PublishedTabletValue → Type 0
-Appends old op new = new ≡ appended old op
+Appends old op new = new ≡ with_op old op
 
 -- the first `n` tablets have their operations
 abbrev pub AppendedFirst : ℕ → List PublishedTabletValue → List TabletOp → List PublishedTabletValue → Type 0
 AppendedFirst n olds ops news = DoneFirst Appends n olds ops news
 
-pub state_appended : (tablet : PublishedTabletValue) (op : TabletOp) → state_at (appended tablet op) ≡ stepped (state_at tablet) op
-state_appended tablet op = fold_last stepped (empty_tablet tablet.range) tablet.list op
+pub state_appended : (tablet : PublishedTabletValue) (op : TabletOp) → state_at (with_op tablet op) ≡ tablet_after (state_at tablet) op
+state_appended tablet op = fold_last tablet_after (empty_tablet tablet.range) tablet.list op
 
-pub all_first : (n : ℕ) (olds : List PublishedTabletValue) (ops : List TabletOp) (news : List PublishedTabletValue) → AppendedFirst n olds ops news → length olds ≤ n → news ≡ all_appended olds ops
+pub all_first : (n : ℕ) (olds : List PublishedTabletValue) (ops : List TabletOp) (news : List PublishedTabletValue) → AppendedFirst n olds ops news → length olds ≤ n → news ≡ with_ops olds ops
 all_first zero [] ops news done past = done
 all_first zero (old ∷ olds) ops news done past = absurd (omega arith)
 all_first (suc n) [] ops news done past = absurd done
@@ -38,7 +38,7 @@ none_appended [] ops = refl
 none_appended (old ∷ olds) [] = refl
 none_appended (old ∷ olds) (op ∷ ops) = (inl refl, none_appended olds ops)
 
-pub states_appended : (olds : List PublishedTabletValue) (ops : List TabletOp) → length olds ≡ length ops → map state_at (all_appended olds ops) ≡ all_stepped (map state_at olds) ops
+pub states_appended : (olds : List PublishedTabletValue) (ops : List TabletOp) → length olds ≡ length ops → map state_at (with_ops olds ops) ≡ all_stepped (map state_at olds) ops
 states_appended [] [] same = refl
 states_appended [] (op ∷ ops) same = absurd (omega (arith, same))
 states_appended (old ∷ olds) [] same = absurd (omega (arith, same))
@@ -46,10 +46,7 @@ states_appended (old ∷ olds) (op ∷ ops) same =
     let rest = states_appended olds ops (omega (arith, same)) in
     let here = state_appended old op in cc (here, rest)
 
-abbrev books : List PublishedTabletValue → List Book
-books tablets = map (λ tablet. tablet.book) tablets
-
-pub books_appended : (olds : List PublishedTabletValue) (ops : List TabletOp) → books (all_appended olds ops) ≡ books olds
+pub books_appended : (olds : List PublishedTabletValue) (ops : List TabletOp) → books_of (with_ops olds ops) ≡ books_of olds
 books_appended [] ops = refl
 books_appended (old ∷ olds) [] = refl
 books_appended (old ∷ olds) (op ∷ ops) = ap (λ (rest : List Book). old.book ∷ rest) (books_appended olds ops)
@@ -61,7 +58,7 @@ count_stepped (old ∷ olds) [] same = absurd (omega (arith, same))
 count_stepped (old ∷ olds) (op ∷ ops) same = ap suc (count_stepped olds ops (omega (arith, same)))
 
 stepped_at : (olds : List PublishedTabletValue) (ops : List TabletOp) (n : ℕ) (old : PublishedTabletValue) (op : TabletOp) (d : TabletStateValue) → length olds ≡ length ops → n < length olds
-    → get_or (all_stepped (map state_at olds) ops) n d ≡ stepped (state_at (get_or olds n old)) (get_or ops n op)
+    → get_or (all_stepped (map state_at olds) ops) n d ≡ tablet_after (state_at (get_or olds n old)) (get_or ops n op)
 stepped_at [] ops n old op d same within = absurd (omega arith)
 stepped_at (o ∷ olds) [] n old op d same within = absurd (omega (arith, same))
 stepped_at (o ∷ olds) (p ∷ ops) zero old op d same within = refl
@@ -98,12 +95,21 @@ module _ (olds : List PublishedTabletValue) (ops : List TabletOp) (fit : AreJoin
       let join : IsJoinIn (state_at old) op =
       subst (λ (t : TabletStateValue). IsJoinIn t op) here
       (subst (λ (o : TabletOp). IsJoinIn (get_or (map state_at olds) n (state_at old)) o) (sym op_there) (join_at (map state_at olds) ops n (state_at old) op fit op_within)) in
-      let is : state ≡ stepped (state_at old) op =
-      first_of (all_stepped (map state_at olds) ops) n state rest left ∙ (stepped_at olds ops n old op state same next_within ∙ λ i. stepped (state_at (sym (tablet_before old at) i)) (sym op_there i)) in
+      let is : state ≡ tablet_after (state_at old) op =
+      first_of (all_stepped (map state_at olds) ops) n state rest left ∙ (stepped_at olds ops n old op state same next_within ∙ λ i. tablet_after (state_at (sym (tablet_before old at) i)) (sym op_there i)) in
       joins_well (state_at old) op join ∙ ap Ok (sym is)
 
   pub brings_positions : HavePositions ops → HasPositions op
   brings_positions have = subst HasPositions (sym op_there) (positions_at ops n op have op_within)
 
-  pub one_appended : (old new : PublishedTabletValue) → old ≡ get_or news n old → new ≡ appended old op → AppendedFirst (n + 1) olds ops (set news n new)
+  pub one_appended : (old new : PublishedTabletValue) → old ≡ get_or news n old → new ≡ with_op old op → AppendedFirst (n + 1) olds ops (set news n new)
   one_appended old new at is = done_more Appends n olds ops news old op new so_far next_within op_within (tablet_before old at) op_there is
+
+  -- one tablet more is published
+  pub next_book : (old : PublishedTabletValue) → old ≡ get_or news n old → (order was : List Book) → was ≡ order ++ books_of (take n olds) → was ++ old.book ∷ [] ≡ order ++ books_of (take (n + 1) olds)
+  next_book old at order was so_many =
+      let more : books_of (take (n + 1) olds) ≡ books_of (take n olds) ++ old.book ∷ [] =
+      ap books_of (take_more olds n old next_within)
+      ∙ map-append (λ (p : PublishedTabletValue). p.book) (take n olds) (get_or olds n old ∷ [])
+      ∙ ap (λ (p : PublishedTabletValue). books_of (take n olds) ++ p.book ∷ []) (sym (tablet_before old at)) in
+      ap (λ (bs : List Book). bs ++ old.book ∷ []) so_many ∙ append_assoc order (books_of (take n olds)) (old.book ∷ []) ∙ ap (λ (bs : List Book). order ++ bs) (sym more)

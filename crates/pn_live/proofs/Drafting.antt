@@ -6,12 +6,12 @@ use Rattle.pn_record.specs.Cells.{spell}
 use Rattle.pn_record.specs.CellMap.{Entries, table_of, adds}
 use Rattle.pn_record.proofs.CellMaps.{spelled_table, table_of-nil}
 use Rattle.pn_tablet.specs.Copies.{TabletCopyValue}
-use Rattle.pn_tablet.specs.Needs.{lacking}
-use Rattle.pn_tablet.specs.Steps.{stepped, after_step, taking, adopting}
+use Rattle.pn_tablet.specs.Needs.{need_shortfall}
+use Rattle.pn_tablet.specs.Steps.{tablet_after, after_step, with_join, with_copy}
 use Rattle.pn_tablet.specs.Tablets.{TabletStateValue, lie_in, same_range}
-use Rattle.pn_tablet.specs.declared.needs.Short.{Short}
-use Rattle.pn_tablet.specs.declared.op.TabletOp.{TabletOp}
-use Rattle.pn_tablet.specs.declared.op.TabletOp.TheVariants.{Join, Lose, Adopt}
+use Rattle.pn_tablet.specs.declared.fault.Shortfall.{Shortfall}
+use Rattle.pn_tablet.specs.declared.state.TabletOp.{TabletOp}
+use Rattle.pn_tablet.specs.declared.state.TabletOp.TheVariants.{Join, Lose, Adopt}
 use Rattle.pn_tablet.specs.declared.fault.OpFault.TheVariants.{WrongRange}
 use Rattle.pn_live.specs.declared.published_state.PublishedState.{PublishedState}
 use Rattle.pn_live.specs.Attempts.{tried_of}
@@ -25,23 +25,23 @@ adds_spelled : (old : Entries) (more : Entries) → adds old (spell more) ≡ ta
 unfolding adds
 adds_spelled old more = spelled_table (spell old ++ spell more)
 
-join_spelled : (t : TabletStateValue) (cells : Entries) (marks : Positions) (b : Bool) → Spelled t → Spelled (after_step t (if b then Ok (taking t cells marks) else Err WrongRange))
+join_spelled : (t : TabletStateValue) (cells : Entries) (marks : Positions) (b : Bool) → Spelled t → Spelled (after_step t (if b then Ok (with_join t cells marks) else Err WrongRange))
 join_spelled t cells marks true is = adds_spelled t.cells cells
 join_spelled t cells marks false is = is
 
-adopt_spelled : (t : TabletStateValue) (copy : TabletCopyValue) (b : Bool) (short : Option Short) → Spelled t → Spelled (after_step t (if b then adopting t copy short else Err WrongRange))
+adopt_spelled : (t : TabletStateValue) (copy : TabletCopyValue) (b : Bool) (short : Option Shortfall) → Spelled t → Spelled (after_step t (if b then with_copy t copy short else Err WrongRange))
 adopt_spelled t copy true None is = adds_spelled t.cells copy.cells
 adopt_spelled t copy true (Some short) is = is
 adopt_spelled t copy false short is = is
 
-step_spelled : (t : TabletStateValue) (op : TabletOp) → Spelled t → Spelled (stepped t op)
+step_spelled : (t : TabletStateValue) (op : TabletOp) → Spelled t → Spelled (tablet_after t op)
 step_spelled t (Join cells marks) is = join_spelled t cells marks (lie_in t.range cells) is
 step_spelled t Lose is = sym table_of-nil
-step_spelled t (Adopt copy) is = adopt_spelled t copy (same_range t.range copy.range) (lacking t.status copy.marks) is
+step_spelled t (Adopt copy) is = adopt_spelled t copy (same_range t.range copy.range) (need_shortfall t.status copy.marks) is
 
-fold_spelled : (t : TabletStateValue) (ops : List TabletOp) → Spelled t → Spelled (fold stepped t ops)
+fold_spelled : (t : TabletStateValue) (ops : List TabletOp) → Spelled t → Spelled (fold tablet_after t ops)
 fold_spelled t [] is = is
-fold_spelled t (op ∷ ops) is = fold_spelled (stepped t op) ops (step_spelled t op is)
+fold_spelled t (op ∷ ops) is = fold_spelled (tablet_after t op) ops (step_spelled t op is)
 
 -- so are those of a published state
 shown_spelled : (x : PublishedState) → Spelled x.state

@@ -4,11 +4,11 @@ use Rattle.pn_record.specs.CellMap.{table_of}
 use Rattle.pn_stream.specs.Brokers.{BrokerRecord}
 use Rattle.pn_stream.specs.Positions.{DeliveryValue}
 use Rattle.pn_tablet.specs.Layouts.{Bounds, IsLayout}
-use Rattle.pn_tablet.specs.declared.op.TabletOp.TheVariants.{Lose}
+use Rattle.pn_tablet.specs.declared.state.TabletOp.TheVariants.{Lose}
 use Rattle.pn_apply.specs.Reducing.{ranges}
 use Rattle.pn_region.specs.Events.{RegionEvent, round, half_round, loss, adoption, relayout, LeadsTo, AllLeadTo, AreHonestEvents}
 use Rattle.pn_region.specs.Laws.{AreIn}
-use Rattle.pn_region.specs.Logged.{LoggedRegion, breaking}
+use Rattle.pn_region.specs.Logged.{LoggedRegion, with_break}
 use Rattle.pn_region.specs.Regions.{RegionValue, new_region, all_cells}
 use Rattle.pn_region.specs.Rising.{AllRise}
 use Rattle.pn_region.specs.Serving.{AllServe}
@@ -18,7 +18,7 @@ use Rattle.pn_region.proofs.Repeats.{makes_up}
 use Rattle.pn_region.proofs.RisingRegions.{new_region_rises, event_rises}
 use Rattle.pn_live.specs.Events.{LeadsLive, AllLeadLive}
 use Rattle.pn_live.specs.LiveRegions.{LiveRegionValue, IsNewLive, core}
-use Rattle.pn_live.specs.Recovery.{appended_at}
+use Rattle.pn_live.specs.Recovery.{with_op_at}
 use Rattle.pn_live.proofs.OneTablet.{core_after}
 use Rattle.pn_live.proofs.Opening.{new_states}
 
@@ -29,7 +29,7 @@ new_core bounds live new = λ i. record { layout = new.layout i; tablets = new_s
 one_leads : (event : RegionEvent) (old new : LiveRegionValue) → LeadsLive event old new → LeadsTo event (core old) (core new)
 one_leads (round deliveries) old new did = did.0
 one_leads (half_round deliveries) old new did = did.1
-one_leads (loss tablet) old new did = ap core did ∙ core_after old tablet Lose (appended_at tablet Lose old.tablets) refl (breaking old.log)
+one_leads (loss tablet) old new did = ap core did ∙ core_after old tablet Lose (with_op_at tablet Lose old.tablets) refl (with_break old.log)
 one_leads (adoption copy) old new did = record { tablet = did.1.tablet; lawful = did.0; adopted = did.1.adopted }
 one_leads (relayout bounds) old new did = absurd did
 

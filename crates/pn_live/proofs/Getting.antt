@@ -8,7 +8,7 @@ use Rattle.pn_tablet.specs.Layouts.{tablet_of}
 use Rattle.pn_tablet.specs.Refusals.{IsRight, Refuses}
 use Rattle.pn_scan.specs.Candidates.{Look}
 use Rattle.pn_scan.specs.Pages.{unless}
-use Rattle.pn_scan.specs.Reads.{IsGet, cells_got}
+use Rattle.pn_scan.specs.Reads.{IsGet, cells_of_keys}
 use Rattle.pn_scan.specs.Views.{LooksOnce, Answers, is_memory, cell_at}
 use Rattle.pn_scan.specs.declared.fault.ScanFault.{ScanFault}
 use Rattle.pn_scan.specs.declared.fault.ScanFault.TheVariants.{Memory}
@@ -25,16 +25,16 @@ Read = Result (Option CellValue) ScanFault
 abbrev items_of : Cells → List (Option CellValue)
 items_of cells = cells.items
 
--- the keys below the place were looked up, and none was refused
+-- the keys below the index were looked up, and none was refused
 abbrev pub IsLooking : List (List ℕ) → ℕ → LiveReaderValue → LiveReaderValue → List (Option CellValue) → Type 0
-IsLooking keys place old now cells = (seen : List Look) × IsGetting LooksLive old.layout keys place old now cells seen
+IsLooking keys index old now cells = (seen : List Look) × IsGetting LooksLive old.layout keys index old now cells seen
 
 -- these cells are at hand, if memory did not run out
 abbrev pub AreAtHand : Option Cells → List (Option CellValue) → Type 0
 AreAtHand hand cells = IfSome hand (λ all. all.items ≡ cells)
 
 abbrev pub IsLookingOn : List (List ℕ) → ℕ → LiveReaderValue → LiveReaderValue → Option Cells → Type 0
-IsLookingOn keys place old now hand = (cells : List (Option CellValue)) × IsLooking keys place old now cells × AreAtHand hand cells
+IsLookingOn keys index old now hand = (cells : List (Option CellValue)) × IsLooking keys index old now cells × AreAtHand hand cells
 
 -- what a get has answered
 abbrev pub HasGot : List (List ℕ) → LiveReaderValue → LiveReaderValue → Result Cells ScanFault → Type 0
@@ -59,17 +59,17 @@ one_more None (Some now) read cells cell had same made = absurd made
 one_more (Some was) (Some now) (Ok x) cells cell had same made = made ∙ (λ i. had i ++ same i ∷ [])
 one_more (Some was) (Some now) (Err why) cells cell had same made = absurd made
 
-pub room_more : (was now : Option Cells) (count place : ℕ) → IfSome was (λ cells. (count ≤ vec_capacity cells) × (vec_len cells ≡ place))
+pub capacity_more : (was now : Option Cells) (count index : ℕ) → IfSome was (λ cells. (count ≤ vec_capacity cells) × (vec_len cells ≡ index))
     → IfSome now (λ now. IsSomeAnd was (λ was. (vec_len now ≡ vec_len was + 1) × (vec_capacity now ≡ vec_capacity was)))
-    → IfSome now (λ cells. (count ≤ vec_capacity cells) × (vec_len cells ≡ place + 1))
-room_more was None count place had kept = tt
-room_more None (Some now) count place had kept = absurd kept
-room_more (Some was) (Some now) count place had kept = (omega (arith, had.0, kept.1), omega (arith, had.1, kept.0))
+    → IfSome now (λ cells. (count ≤ vec_capacity cells) × (vec_len cells ≡ index + 1))
+capacity_more was None count index had kept = tt
+capacity_more None (Some now) count index had kept = absurd kept
+capacity_more (Some was) (Some now) count index had kept = (omega (arith, had.0, kept.1), omega (arith, had.1, kept.0))
 
-pub room_made : {E : Type 0} (answer : Result Cells E) (hand : Option Cells) (count : ℕ) → hand ≡ result_ok answer → IfOk answer (λ cells. count ≤ vec_capacity cells)
+pub capacity_made : {E : Type 0} (answer : Result Cells E) (hand : Option Cells) (count : ℕ) → hand ≡ result_ok answer → IfOk answer (λ cells. count ≤ vec_capacity cells)
     → IfOk answer (λ cells. vec_len cells ≡ 0) → IfSome hand (λ cells. (count ≤ vec_capacity cells) × (vec_len cells ≡ 0))
-room_made (Ok cells) hand count is wide none = subst (λ o. IfSome o (λ cells. (count ≤ vec_capacity cells) × (vec_len cells ≡ 0))) (sym is) (wide, none)
-room_made (Err why) hand count is wide none = subst (λ o. IfSome o (λ cells. (count ≤ vec_capacity cells) × (vec_len cells ≡ 0))) (sym is) tt
+capacity_made (Ok cells) hand count is wide none = subst (λ o. IfSome o (λ cells. (count ≤ vec_capacity cells) × (vec_len cells ≡ 0))) (sym is) (wide, none)
+capacity_made (Err why) hand count is wide none = subst (λ o. IfSome o (λ cells. (count ≤ vec_capacity cells) × (vec_len cells ≡ 0))) (sym is) tt
 
 -- before the first key
 pub looking_none : (keys : List (List ℕ)) (now : LiveReaderValue) (hand : Option Cells) → AreAtHand hand [] → IsLookingOn keys 0 now now hand
@@ -83,12 +83,12 @@ abbrev memory_in : Result Cells ScanFault → Bool
 memory_in (Ok cells) = false
 memory_in (Err why) = is_memory why
 
-module _ {keys : List (List ℕ)} {place : ℕ} {old now : LiveReaderValue} (hand : Option Cells) (looking : IsLookingOn keys place old now hand) where
+module _ {keys : List (List ℕ)} {index : ℕ} {old now : LiveReaderValue} (hand : Option Cells) (looking : IsLookingOn keys index old now hand) where
   -- one key more
-  module _ {key : List ℕ} (inside : place < length keys) (at : key ≡ get_or keys place key) (same : now.layout ≡ old.layout) {look : Look} {new : LiveReaderValue} {read : Read}
+  module _ {key : List ℕ} (inside : index < length keys) (at : key ≡ get_or keys index key) (same : now.layout ≡ old.layout) {look : Look} {new : LiveReaderValue} {read : Read}
       (here : look.0 ≡ tablet_of now.layout key) (once : LooksOnce LooksLive now.layout now new (λ cell. cell) read (cell_at key) look) where
     pub looking_more : (more : Option Cells) → IfErr read (λ why. is_memory why ≡ true)
-        → IfSome more (λ now. IsSomeAnd hand (λ was. IsOkAnd read (λ cell. now.items ≡ was.items ++ cell ∷ []))) → IsLookingOn keys (place + 1) old new more
+        → IfSome more (λ now. IsSomeAnd hand (λ was. IsOkAnd read (λ cell. now.items ≡ was.items ++ cell ∷ []))) → IsLookingOn keys (index + 1) old new more
     looking_more more memory made =
         let found = found_cell read (cell_at key look) once.answers memory in (
           looking.0 ++ found.0 ∷ [],
@@ -113,14 +113,14 @@ module _ {keys : List (List ℕ)} {place : ℕ} {old now : LiveReaderValue} (han
     found = looking.1.1.found;
     order = looking.1.1.order;
     only = λ n inside. none_refused_front n seen looking.1.1.none_refused;
-    answers = subst (λ (o : Option ScanFault). IsOk (unless o (cells_got keys seen))) (sym looking.1.1.none_refused) refl;
+    answers = subst (λ (o : Option ScanFault). IsOk (unless o (cells_of_keys keys seen))) (sym looking.1.1.none_refused) refl;
     whole = tt;
   }
 
-  by_hand : (left : Option Cells) → AreAtHand left looking.0 → length keys ≡ place → HasGot keys old now (ok_or left Memory)
+  by_hand : (left : Option Cells) → AreAtHand left looking.0 → length keys ≡ index → HasGot keys old now (ok_or left Memory)
   by_hand (Some cells) has all = (seen, get_ends looking.1.1 items_of cells has all, λ memory. absurd (cc memory))
   by_hand None has all = (seen, out_of_memory, λ memory. looking.1.1.count ∙ sym all)
 
   -- no key is left
-  pub looking_ends : (answer : Result Cells ScanFault) → answer ≡ ok_or hand Memory → length keys ≡ place → HasGot keys old now answer
+  pub looking_ends : (answer : Result Cells ScanFault) → answer ≡ ok_or hand Memory → length keys ≡ index → HasGot keys old now answer
   looking_ends answer is all = subst (HasGot keys old now) (sym is) (by_hand hand looking.2 all)

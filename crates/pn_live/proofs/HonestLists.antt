@@ -13,11 +13,11 @@ use Rattle.pn_stream.specs.Brokers.{BrokerRecord, up_to, AreHonest}
 use Rattle.pn_stream.specs.Positions.{DeliveryValue}
 use Rattle.pn_tablet.specs.Copies.{TabletCopyValue, IsCopy}
 use Rattle.pn_tablet.specs.Ranges.{Ends, in_range}
-use Rattle.pn_tablet.specs.Steps.{stepped, after_step, taking, state_of}
+use Rattle.pn_tablet.specs.Steps.{tablet_after, after_step, with_join, state_of}
 use Rattle.pn_tablet.specs.Tablets.{TabletStateValue, empty_tablet, lie_in}
 use Rattle.pn_tablet.specs.declared.fault.OpFault.TheVariants.{WrongRange}
-use Rattle.pn_tablet.specs.declared.op.TabletOp.{TabletOp}
-use Rattle.pn_tablet.specs.declared.op.TabletOp.TheVariants.{Lose, Adopt}
+use Rattle.pn_tablet.specs.declared.state.TabletOp.{TabletOp}
+use Rattle.pn_tablet.specs.declared.state.TabletOp.TheVariants.{Lose, Adopt}
 use Rattle.pn_tablet.specs.declared.state.Status.TheVariants.{Serving}
 use Rattle.pn_tablet.proofs.TabletLaws.{never_falls}
 use Rattle.pn_apply.specs.Reducing.{all_images, images_in, join_in}
@@ -40,9 +40,9 @@ use Rattle.pn_region.proofs.StillHeld.{more_held}
 use Rattle.pn_region.proofs.UpTo.{up_to_more}
 use Rattle.pn_live.specs.Honest.{IsHonestList, AreHonestTablets}
 use Rattle.pn_live.specs.Laws.{HasImage}
-use Rattle.pn_live.specs.LiveRegions.{LiveRegionValue, core, publishing, IsHalfPublished}
-use Rattle.pn_live.specs.PublishedTablets.{PublishedTabletValue, state_at, AreNewTablets, appended, all_appended, AreOldOrAppended, note_of}
-use Rattle.pn_live.specs.Recovery.{appended_at, publishing_at, Adopts}
+use Rattle.pn_live.specs.LiveRegions.{LiveRegionValue, core, tablets_after_round, IsHalfPublished}
+use Rattle.pn_live.specs.PublishedTablets.{PublishedTabletValue, state_at, AreNewTablets, with_op, with_ops, AreOldOrAppended, note_of}
+use Rattle.pn_live.specs.Recovery.{with_op_at, after_op_at, Adopts}
 use Rattle.pn_live.specs.TabletReaders.{TabletReaderValue, Finds, Learns, KnowsMore}
 use Rattle.pn_live.proofs.ListLaws.{fold_on, range_kept}
 use Rattle.pn_live.proofs.OneReach.{one_reach}
@@ -69,19 +69,19 @@ begins_or_whole (a ∷ first) (y ∷ list) x (more, is) =
 -- each tablet is as it was, or has one operation more
 abbrev EachGrows : List PublishedTabletValue → List PublishedTabletValue → Type 0
 EachGrows [] [] = Unit {0}
-EachGrows (old ∷ olds) (new ∷ news) = ((new ≡ old) ⊎ ((op : TabletOp) × (new ≡ appended old op))) × EachGrows olds news
+EachGrows (old ∷ olds) (new ∷ news) = ((new ≡ old) ⊎ ((op : TabletOp) × (new ≡ with_op old op))) × EachGrows olds news
 EachGrows _ _ = ⊥
 
 none_grow : (ps : List PublishedTabletValue) → EachGrows ps ps
 none_grow [] = tt
 none_grow (p ∷ ps) = (inl refl, none_grow ps)
 
-all_grow : (ps : List PublishedTabletValue) (ops : List TabletOp) → EachGrows ps (all_appended ps ops)
+all_grow : (ps : List PublishedTabletValue) (ops : List TabletOp) → EachGrows ps (with_ops ps ops)
 all_grow [] ops = tt
 all_grow (p ∷ ps) [] = none_grow (p ∷ ps)
 all_grow (p ∷ ps) (op ∷ ops) = (inr (op, refl), all_grow ps ops)
 
-one_half : (old new : PublishedTabletValue) (op : TabletOp) → (new ≡ old) ⊎ (new ≡ appended old op) → (new ≡ old) ⊎ ((op : TabletOp) × (new ≡ appended old op))
+one_half : (old new : PublishedTabletValue) (op : TabletOp) → (new ≡ old) ⊎ (new ≡ with_op old op) → (new ≡ old) ⊎ ((op : TabletOp) × (new ≡ with_op old op))
 one_half old new op (inl same) = inl same
 one_half old new op (inr more) = inr (op, more)
 
@@ -91,7 +91,7 @@ half_grow (p ∷ ps) [] news half = subst (EachGrows (p ∷ ps)) (sym half) (non
 half_grow (p ∷ ps) (op ∷ ops) [] half = absurd half
 half_grow (p ∷ ps) (op ∷ ops) (new ∷ news) half = (one_half p new op half.0, half_grow ps ops news half.1)
 
-one_grows : (n : ℕ) (op : TabletOp) (ps : List PublishedTabletValue) → EachGrows ps (appended_at n op ps)
+one_grows : (n : ℕ) (op : TabletOp) (ps : List PublishedTabletValue) → EachGrows ps (with_op_at n op ps)
 one_grows n op [] = tt
 one_grows zero op (p ∷ ps) = (inr (op, refl), none_grow ps)
 one_grows (suc n) op (p ∷ ps) = (inl refl, one_grows n op ps)
@@ -105,11 +105,11 @@ module _ (broker : BrokerRecord) where
   now_faithful [] honest = tt
   now_faithful (p ∷ ps) honest = (honest.0 p.list (begins_itself p.list), now_faithful ps honest.1)
 
-  one_grown : (old new : PublishedTabletValue) → (new ≡ old) ⊎ ((op : TabletOp) × (new ≡ appended old op)) → IsHonestTablet old → IsFaithful broker (state_at new) → IsHonestTablet new
+  one_grown : (old new : PublishedTabletValue) → (new ≡ old) ⊎ ((op : TabletOp) × (new ≡ with_op old op)) → IsHonestTablet old → IsFaithful broker (state_at new) → IsHonestTablet new
   one_grown old new (inl same) honest faithful = subst IsHonestTablet (sym same) honest
   one_grown old new (inr (op, more)) honest faithful =
-      let now : IsFaithful broker (state_at (appended old op)) = subst (λ (p : PublishedTabletValue). IsFaithful broker (state_at p)) more faithful in
-      let whole : IsHonestTablet (appended old op) =
+      let now : IsFaithful broker (state_at (with_op old op)) = subst (λ (p : PublishedTabletValue). IsFaithful broker (state_at p)) more faithful in
+      let whole : IsHonestTablet (with_op old op) =
       λ first p. ⊎_elim (λ (early : IsPrefix first old.list). honest first early)
       (λ (is : first ≡ old.list ++ op ∷ []). subst (λ (l : List TabletOp). IsFaithful broker (state_of old.range l)) (sym is) now)
       (begins_or_whole first old.list op p) in
@@ -141,7 +141,7 @@ module _ (broker : BrokerRecord) where
       empty_faithful range = record { images = []; cells = sym table_of-nil; published = λ image there. absurd (omega (arith, there.1)); all = λ image there lies. absurd (omega (arith, there.1)) }
 
   module _ (old new : LiveRegionValue) (is : IsRegion (core old)) (honest : AreHonestTablets broker old.tablets) where
-    pub round_honest : (deliveries : List DeliveryValue) → AreHonest broker deliveries → rounds.round (core old) deliveries ≡ Ok (core new) → new.tablets ≡ publishing old deliveries new.marks → AreHonestTablets broker new.tablets
+    pub round_honest : (deliveries : List DeliveryValue) → AreHonest broker deliveries → rounds.round (core old) deliveries ≡ Ok (core new) → new.tablets ≡ tablets_after_round old deliveries new.marks → AreHonestTablets broker new.tablets
     round_honest deliveries brings leads all =
         grown old.tablets new.tablets (subst (EachGrows old.tablets) (sym all) (all_grow old.tablets (joins (core old) deliveries new.marks))) honest
         (event_faithful broker (round deliveries) (core old) (core new) is (now_faithful old.tablets honest) brings leads)
@@ -159,24 +159,24 @@ module _ (broker : BrokerRecord) where
         grown old.tablets new.tablets (half_grows deliveries half) honest
         (event_faithful broker (half_round deliveries) (core old) (core new) is (now_faithful old.tablets honest) brings leads)
 
-    pub loss_honest : (n : ℕ) → new ≡ publishing_at old n Lose → AreHonestTablets broker new.tablets
+    pub loss_honest : (n : ℕ) → new ≡ after_op_at old n Lose → AreHonestTablets broker new.tablets
     loss_honest n now =
-        let tablets : new.tablets ≡ appended_at n Lose old.tablets = ap (λ (l : LiveRegionValue). l.tablets) now in
+        let tablets : new.tablets ≡ with_op_at n Lose old.tablets = ap (λ (l : LiveRegionValue). l.tablets) now in
         grown old.tablets new.tablets (subst (EachGrows old.tablets) (sym tablets) (one_grows n Lose old.tablets)) honest
         (event_faithful broker (loss n) (core old) (core new) is (now_faithful old.tablets honest) tt
-        (ap core now ∙ core_after old n Lose (appended_at n Lose old.tablets) refl []))
+        (ap core now ∙ core_after old n Lose (with_op_at n Lose old.tablets) refl []))
 
     pub adoption_honest : (copy : TabletCopyValue) → IsCopy copy.range copy.marks copy.cells → IsHonestCopy broker copy → Adopts copy old new → AreHonestTablets broker new.tablets
     adoption_honest copy lawful gives adopts =
-        let tablets : new.tablets ≡ appended_at adopts.tablet (Adopt copy) old.tablets = ap (λ (l : LiveRegionValue). l.tablets) adopts.published in
+        let tablets : new.tablets ≡ with_op_at adopts.tablet (Adopt copy) old.tablets = ap (λ (l : LiveRegionValue). l.tablets) adopts.published in
         grown old.tablets new.tablets (subst (EachGrows old.tablets) (sym tablets) (one_grows adopts.tablet (Adopt copy) old.tablets)) honest
         (event_faithful broker (adoption copy) (core old) (core new) is (now_faithful old.tablets honest) gives
         (record { tablet = adopts.tablet; lawful = lawful; adopted = adopts.adopted }))
 
   -- operations lower no cover
-  covers_on : (t : TabletStateValue) (ops : List TabletOp) → Reaches (fold stepped t ops).cover t.cover
+  covers_on : (t : TabletStateValue) (ops : List TabletOp) → Reaches (fold tablet_after t ops).cover t.cover
   covers_on t [] name = omega arith
-  covers_on t (op ∷ ops) name = omega (arith, never_falls t op name, covers_on (stepped t op) ops name)
+  covers_on t (op ∷ ops) name = omega (arith, never_falls t op name, covers_on (tablet_after t op) ops name)
 
   -- a serving tablet has all images up to its cover
   found_all : (later last : TabletReaderValue) (now : TabletStateValue) → Finds later now last → IsHonestList broker last.range last.seen → now.status ≡ Serving
@@ -213,18 +213,18 @@ module _ (broker : BrokerRecord) where
       (more_in seen.range (up_to broker was.cover) (up_to broker now.cover) (up_to_more broker now.cover was.cover reach))))
 
   -- a join raises the cover to its marks
-  joined_cover : (t : TabletStateValue) (cells : Entries) (marks : Positions) (b : Bool) → b ≡ true → Reaches (after_step t (if b then Ok (taking t cells marks) else Err WrongRange)).cover marks
+  joined_cover : (t : TabletStateValue) (cells : Entries) (marks : Positions) (b : Bool) → b ≡ true → Reaches (after_step t (if b then Ok (with_join t cells marks) else Err WrongRange)).cover marks
   joined_cover t cells marks true inside = new_reached t.cover marks
   joined_cover t cells marks false inside = absurd (cc inside)
 
-  join_reaches : (t : TabletStateValue) (marks : Positions) (images : List Image) (range : Ends) → t.range ≡ range → Reaches (stepped t (join_in marks images range)).cover marks
+  join_reaches : (t : TabletStateValue) (marks : Positions) (images : List Image) (range : Ends) → t.range ≡ range → Reaches (tablet_after t (join_in marks images range)).cover marks
   join_reaches t marks images range ranged =
       joined_cover t (table_of (images_in range images)) marks (lie_in t.range (table_of (images_in range images)))
       (subst (λ (r : Ends). lie_in r (table_of (images_in range images)) ≡ true) (sym ranged) (cells_inside range images))
 
   pub not_missed_across : (tablet : PublishedTabletValue) (old marks : Positions) (deliveries : List DeliveryValue) (reader learnt later last : TabletReaderValue) (now : TabletStateValue)
       → AreHonest broker deliveries → new_marks old deliveries ≡ Ok marks
-      → reader.range ≡ tablet.range → Learns reader (note_of (appended tablet (join_in marks (all_images deliveries) tablet.range))) learnt
+      → reader.range ≡ tablet.range → Learns reader (note_of (with_op tablet (join_in marks (all_images deliveries) tablet.range))) learnt
       → KnowsMore learnt later → Finds later now last → IsHonestList broker last.range last.seen → now.status ≡ Serving
       → (image : Image) → Contains (all_images deliveries) image → IsTrue (in_range tablet.range image.key) → HasImage image (find bytes_cmp image.key now.cells)
   not_missed_across tablet old marks deliveries reader learnt later last now brings accepted ranged learns more found honest serves image there lies =

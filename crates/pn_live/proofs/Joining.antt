@@ -1,18 +1,18 @@
 -- What joins make of drafts.
 use Rattle.std.proofs.Common.{◌≡◌, ◌+◌, Bool, if◌then◌else◌, List, [], ◌∷◌, ◌++◌, map, refl, sym, subst, Ok, Err}
-use Rattle.pn_tablet.specs.Steps.{step, stepped, after_step, taking}
+use Rattle.pn_tablet.specs.Steps.{step, tablet_after, after_step, with_join}
 use Rattle.pn_tablet.specs.Tablets.{TabletStateValue}
 use Rattle.pn_tablet.specs.declared.fault.OpFault.TheVariants.{WrongRange}
-use Rattle.pn_tablet.specs.declared.op.TabletOp.{TabletOp}
-use Rattle.pn_tablet.specs.declared.op.TabletOp.TheVariants.{Join, Lose, Adopt}
+use Rattle.pn_tablet.specs.declared.state.TabletOp.{TabletOp}
+use Rattle.pn_tablet.specs.declared.state.TabletOp.TheVariants.{Join, Lose, Adopt}
 use Rattle.pn_apply.specs.Applying.{IsJoinIn, AreJoinsIn, HavePositions, all_stepped}
 use Rattle.pn_live.specs.Drafts.{Lacks}
 use Rattle.pn_live.specs.PublishedTablets.{PublishedTabletValue, state_at}
 
 -- a join in the tablet's range is not refused
-pub joins_well : (tablet : TabletStateValue) (op : TabletOp) → IsJoinIn tablet op → step tablet op ≡ Ok (stepped tablet op)
+pub joins_well : (tablet : TabletStateValue) (op : TabletOp) → IsJoinIn tablet op → step tablet op ≡ Ok (tablet_after tablet op)
 joins_well tablet (Join cells marks) fit =
-    subst (λ (b : Bool). (if b then Ok (taking tablet cells marks) else Err WrongRange) ≡ Ok (after_step tablet (if b then Ok (taking tablet cells marks) else Err WrongRange))) (sym fit) refl
+    subst (λ (b : Bool). (if b then Ok (with_join tablet cells marks) else Err WrongRange) ≡ Ok (after_step tablet (if b then Ok (with_join tablet cells marks) else Err WrongRange))) (sym fit) refl
 joins_well tablet Lose fit = absurd fit
 joins_well tablet (Adopt copy) fit = absurd fit
 

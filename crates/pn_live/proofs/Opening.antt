@@ -11,7 +11,7 @@ use Rattle.pn_region.specs.Regions.{AreRegionMarks, IsLawfulRegion}
 use Rattle.pn_region.proofs.NewRegion.{new_is}
 use Rattle.pn_live.specs.LiveRegions.{LiveRegionValue, core, tablets_in}
 use Rattle.pn_live.specs.PublishedTablets.{PublishedTabletValue, IsNewTablet, AreNewTablets, state_at}
-use Rattle.pn_live.specs.Readers.{LiveReaderValue, opening, IsNewReader}
+use Rattle.pn_live.specs.Readers.{LiveReaderValue, new_reader_of, IsNewReader}
 use Rattle.pn_live.specs.TabletReaders.{TabletReaderValue}
 
 pub new_more : (rs : List Ends) (ps : List PublishedTabletValue) (r : Ends) (p : PublishedTabletValue) → AreNewTablets rs ps → IsNewTablet r p → AreNewTablets (rs ++ r ∷ []) (ps ++ p ∷ [])
@@ -49,22 +49,22 @@ new_lawful live lawful new none = record {
 }
 
 -- new readers are of their tablets and ranges
-pub opened_books : (ps : List PublishedTabletValue) → map (λ (w : TabletReaderValue). w.book) (map opening ps) ≡ map (λ (p : PublishedTabletValue). p.book) ps
+pub opened_books : (ps : List PublishedTabletValue) → map (λ (w : TabletReaderValue). w.book) (map new_reader_of ps) ≡ map (λ (p : PublishedTabletValue). p.book) ps
 opened_books [] = refl
 opened_books (p ∷ ps) = ap (λ (rest : List Book). p.book ∷ rest) (opened_books ps)
 
-pub opened_ranges : (ps : List PublishedTabletValue) → map (λ (w : TabletReaderValue). w.range) (map opening ps) ≡ map (λ (p : PublishedTabletValue). p.range) ps
+pub opened_ranges : (ps : List PublishedTabletValue) → map (λ (w : TabletReaderValue). w.range) (map new_reader_of ps) ≡ map (λ (p : PublishedTabletValue). p.range) ps
 opened_ranges [] = refl
 opened_ranges (p ∷ ps) = ap (λ (rest : List Ends). p.range ∷ rest) (opened_ranges ps)
 
-opened_new : (rs : List Ends) (ps : List PublishedTabletValue) → AreNewTablets rs ps → AllByRecursion (λ (w : TabletReaderValue). (w.seen ≡ []) × (w.told ≡ [])) (map opening ps)
+opened_new : (rs : List Ends) (ps : List PublishedTabletValue) → AreNewTablets rs ps → AllByRecursion (λ (w : TabletReaderValue). (w.seen ≡ []) × (w.told ≡ [])) (map new_reader_of ps)
 opened_new [] [] new = tt
 opened_new [] (p ∷ ps) new = absurd new
 opened_new (r ∷ rs) [] new = absurd new
 opened_new (r ∷ rs) (p ∷ ps) new = ((new.0.1, new.0.1), opened_new rs ps new.1)
 
 -- a reader of new tablets is new
-pub new_reader : (live : LiveRegionValue) (reader : LiveReaderValue) → AreNewTablets (ranges live.layout) live.tablets → reader.layout ≡ live.layout → reader.tablet_readers ≡ map opening live.tablets
+pub new_reader : (live : LiveRegionValue) (reader : LiveReaderValue) → AreNewTablets (ranges live.layout) live.tablets → reader.layout ≡ live.layout → reader.tablet_readers ≡ map new_reader_of live.tablets
     → IsNewReader (tablets_in live) reader
 new_reader live reader new layout is = (
   (λ i. record { layout = layout i; books = (ap (map (λ (w : TabletReaderValue). w.book)) is ∙ opened_books live.tablets) i }),
@@ -72,7 +72,7 @@ new_reader live reader new layout is = (
 )
 
 pub new_readers : (live : LiveRegionValue) (bounds : Bounds) (tablets : List PublishedTabletValue) (readers : List LiveReaderValue) → AreNewTablets (ranges live.layout) live.tablets → live.layout ≡ bounds → live.tablets ≡ tablets
-    → AllByRecursion (λ (reader : LiveReaderValue). (reader.layout ≡ bounds) × (reader.tablet_readers ≡ map opening tablets)) readers → AllByRecursion (IsNewReader (tablets_in live)) readers
+    → AllByRecursion (λ (reader : LiveReaderValue). (reader.layout ≡ bounds) × (reader.tablet_readers ≡ map new_reader_of tablets)) readers → AllByRecursion (IsNewReader (tablets_in live)) readers
 new_readers live bounds tablets [] new same here all = tt
 new_readers live bounds tablets (reader ∷ readers) new same here all =
-    (new_reader live reader new (all.0.0 ∙ sym same) (all.0.1 ∙ ap (map opening) (sym here)), new_readers live bounds tablets readers new same here all.1)
+    (new_reader live reader new (all.0.0 ∙ sym same) (all.0.1 ∙ ap (map new_reader_of) (sym here)), new_readers live bounds tablets readers new same here all.1)

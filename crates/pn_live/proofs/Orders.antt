@@ -19,42 +19,42 @@ view_later x y None all later = tt
 view_later x y (Some seen) all later = later_on seen x y (all seen refl) later
 
 pub admits : Admits AllBefore None
-admits x views h place seen at = ⊎_elim (h place seen) (λ (e : None ≡ Some seen). absurd (cc e)) (at_snoc views None (Some seen) place at)
+admits x views h index seen at = ⊎_elim (h index seen) (λ (e : None ≡ Some seen). absurd (cc e)) (at_snoc views None (Some seen) index at)
 
 -- a publication or an entry, of something later
-pub turns_at : (place : ℕ) (v : Option PublishedState) (x y : PublishedState) → IsLater x y → TurnsAt AllBefore place v x y GoesOn
-turns_at place v x y later views h at = (
+pub turns_at : (index : ℕ) (v : Option PublishedState) (x y : PublishedState) → IsLater x y → TurnsAt AllBefore index v x y GoesOn
+turns_at index v x y later views h at = (
   Some y,
   (λ j u e. ⊎_elim
-      (λ (t : (j ≡ place) × (Some y ≡ Some u)). let same : y ≡ u = cc (t.1) in subst (λ z. IsLater z y) same (later_itself y))
-      (λ (t : (j ≢ place) × (get_elem? views j ≡ some (Some u))). later_on u x y (h j u t.1) later)
-      (at_set views place j (Some y) (Some u) e)),
-  (view_later x y v (λ seen is. h place seen (at ∙ ap some is)) later, refl),
+      (λ (t : (j ≡ index) × (Some y ≡ Some u)). let same : y ≡ u = cc (t.1) in subst (λ z. IsLater z y) same (later_itself y))
+      (λ (t : (j ≢ index) × (get_elem? views j ≡ some (Some u))). later_on u x y (h j u t.1) later)
+      (at_set views index j (Some y) (Some u) e)),
+  (view_later x y v (λ seen is. h index seen (at ∙ ap some is)) later, refl),
 )
 
-pub turns : (place : ℕ) (v : Option PublishedState) → Turns AllBefore place v (λ x. x) GoesOn
-turns place v x = turns_at place v x x (later_itself x)
+pub turns : (index : ℕ) (v : Option PublishedState) → Turns AllBefore index v (λ x. x) GoesOn
+turns index v x = turns_at index v x x (later_itself x)
 
-pub forks : (place : ℕ) (v : Option PublishedState) → Forks AllBefore place v v v
-forks place v x views h at j u e = ⊎_elim
-    (λ (old : get_elem? (set views place v) j ≡ some (Some u)). ⊎_elim
-    (λ (t : (j ≡ place) × (v ≡ Some u)). h place u (at ∙ ap some t.1))
-    (λ (t : (j ≢ place) × (get_elem? views j ≡ some (Some u))). h j u t.1)
-    (at_set views place j v (Some u) old))
-    (λ (new : v ≡ Some u). h place u (at ∙ ap some new))
-    (at_snoc (set views place v) v (Some u) j e)
+pub forks : (index : ℕ) (v : Option PublishedState) → Forks AllBefore index v v v
+forks index v x views h at j u e = ⊎_elim
+    (λ (old : get_elem? (set views index v) j ≡ some (Some u)). ⊎_elim
+    (λ (t : (j ≡ index) × (v ≡ Some u)). h index u (at ∙ ap some t.1))
+    (λ (t : (j ≢ index) × (get_elem? views j ≡ some (Some u))). h j u t.1)
+    (at_set views index j v (Some u) old))
+    (λ (new : v ≡ Some u). h index u (at ∙ ap some new))
+    (at_snoc (set views index v) v (Some u) j e)
 
-pub merges : (place : ℕ) (v : Option PublishedState) (other : ℕ) (w : Option PublishedState) → Merges AllBefore place v other w w None
-merges place v other w x views h at apart there j u e = ⊎_elim
+pub merges : (index : ℕ) (v : Option PublishedState) (other : ℕ) (w : Option PublishedState) → Merges AllBefore index v other w w None
+merges index v other w x views h at apart there j u e = ⊎_elim
     (λ (t : (j ≡ other) × (None ≡ Some u)). absurd (cc (t.1)))
-    (λ (t : (j ≢ other) × (get_elem? (set views place w) j ≡ some (Some u))). ⊎_elim
-    (λ (s : (j ≡ place) × (w ≡ Some u)). told u s.1)
-    (λ (s : (j ≢ place) × (get_elem? views j ≡ some (Some u))). h j u s.1)
-    (at_set views place j w (Some u) t.1))
-    (at_set (set views place w) other j None (Some u) e)
+    (λ (t : (j ≢ other) × (get_elem? (set views index w) j ≡ some (Some u))). ⊎_elim
+    (λ (s : (j ≡ index) × (w ≡ Some u)). told u s.1)
+    (λ (s : (j ≢ index) × (get_elem? views j ≡ some (Some u))). h j u s.1)
+    (at_set views index j w (Some u) t.1))
+    (at_set (set views index w) other j None (Some u) e)
   where
     told : (u : PublishedState) → w ≡ Some u → IsLater u x
     told u is = ⊎_elim
-        (λ (t : (other ≡ place) × (w ≡ w)). absurd (apart t.0))
-        (λ (t : (other ≢ place) × (get_elem? views other ≡ some w)). h other u (t.1 ∙ ap some is))
-        (at_set views place other w w there)
+        (λ (t : (other ≡ index) × (w ≡ w)). absurd (apart t.0))
+        (λ (t : (other ≢ index) × (get_elem? views other ≡ some w)). h other u (t.1 ∙ ap some is))
+        (at_set views index other w w there)

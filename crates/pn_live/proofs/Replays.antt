@@ -1,8 +1,8 @@
 -- States and histories with one operation more.
 use Rattle.std.proofs.Common.{◌≡◌, List, [], ◌∷◌, ◌++◌, fold, take, length, refl, sym, ap, subst, ◌∙◌, Option, Some, IfSome}
-use Rattle.pn_tablet.specs.Steps.{stepped, state_of}
+use Rattle.pn_tablet.specs.Steps.{tablet_after, state_of}
 use Rattle.pn_tablet.specs.Tablets.{TabletStateValue, empty_tablet}
-use Rattle.pn_tablet.specs.declared.op.TabletOp.{TabletOp}
+use Rattle.pn_tablet.specs.declared.state.TabletOp.{TabletOp}
 use Rattle.pn_live.specs.declared.published_state.PublishedState.{PublishedState}
 use Rattle.pn_live.specs.Orders.{list_of, IsLater, GoesOn}
 use Rattle.pn_live.proofs.Prefixes.{begins_more, begins_on, begins_of_take, take_of_begins}
@@ -13,13 +13,13 @@ pub fold_last : {A B : Type 0} (f : A → B → A) (x : A) (ys : List B) (y : B)
 fold_last f x [] y = refl
 fold_last f x (z ∷ ys) y = fold_last f (f x z) ys y
 
-pub replayed_more : (s n : TabletStateValue) (before after : List TabletOp) (op : TabletOp) → s ≡ state_of s.range before → n ≡ stepped s op → after ≡ before ++ op ∷ [] → n ≡ state_of n.range after
+pub replayed_more : (s n : TabletStateValue) (before after : List TabletOp) (op : TabletOp) → s ≡ state_of s.range before → n ≡ tablet_after s op → after ≡ before ++ op ∷ [] → n ≡ state_of n.range after
 replayed_more s n before after op is next more =
     let same : n.range ≡ s.range = ap (λ (t : TabletStateValue). t.range) next ∙ range_stays s op in
-    let here : n ≡ state_of s.range (before ++ op ∷ []) = next ∙ (ap (λ t. stepped t op) is ∙ sym (fold_last stepped (empty_tablet s.range) before op)) in
+    let here : n ≡ state_of s.range (before ++ op ∷ []) = next ∙ (ap (λ t. tablet_after t op) is ∙ sym (fold_last tablet_after (empty_tablet s.range) before op)) in
     here ∙ (ap (λ ops. state_of s.range ops) (sym more) ∙ ap (λ r. state_of r after) (sym same))
 
-pub later_by : (x y : PublishedState) (op : TabletOp) → y.position.seen.book ≡ x.position.seen.book → y.state ≡ stepped x.state op → list_of y ≡ list_of x ++ op ∷ [] → IsLater x y
+pub later_by : (x y : PublishedState) (op : TabletOp) → y.position.seen.book ≡ x.position.seen.book → y.state ≡ tablet_after x.state op → list_of y ≡ list_of x ++ op ∷ [] → IsLater x y
 later_by x y op book next more = record {
   book = book;
   range = ap (λ (t : TabletStateValue). t.range) next ∙ range_stays x.state op;

@@ -20,16 +20,16 @@ use Rattle.pn_record.specs.CellMap.{Entries, table_of, adds}
 use Rattle.pn_record.proofs.CellLists.{both, cells-append, cell_of-cons}
 use Rattle.pn_record.proofs.CellMaps.{adds-table_of, same_cells_table, cells-spelled, Holds-table_of}
 use Rattle.pn_tablet.specs.Ranges.{Ends, in_range}
-use Rattle.pn_tablet.specs.Steps.{stepped, state_of}
+use Rattle.pn_tablet.specs.Steps.{tablet_after, state_of}
 use Rattle.pn_tablet.specs.Tablets.{TabletStateValue, empty_tablet, lie_in}
-use Rattle.pn_tablet.specs.declared.op.TabletOp.{TabletOp}
+use Rattle.pn_tablet.specs.declared.state.TabletOp.{TabletOp}
 use Rattle.pn_apply.specs.Reducing.{images_in, join_in}
 use Rattle.pn_apply.proofs.ReduceLaws.{cells_inside}
 use Rattle.pn_region.specs.Held.{HoldsStill}
 use Rattle.pn_region.proofs.InRange.{to_images_in}
 use Rattle.pn_region.proofs.StillHeld.{more_held}
 use Rattle.pn_live.specs.Laws.{AreNoLosses, HasNoLossAfter, HasImage}
-use Rattle.pn_live.specs.PublishedTablets.{PublishedTabletValue, note_of, appended}
+use Rattle.pn_live.specs.PublishedTablets.{PublishedTabletValue, note_of, with_op}
 use Rattle.pn_live.specs.TabletReaders.{TabletReaderValue, Finds, Learns, KnowsMore}
 use Rattle.pn_live.proofs.ListLaws.{goes_on_holding, list_listed, range_kept, join_taken, all_has, fold_on}
 use Rattle.pn_live.proofs.Prefixes.{begins_on}
@@ -81,9 +81,9 @@ joined_there range before more images marks kept image there lies =
     let t = state_of range before in
     let inside : IsTrue (lie_in t.range (table_of own)) =
     subst (λ (r : Ends). IsTrue (lie_in r (table_of own))) (sym (range_kept (empty_tablet range) before)) (cells_inside range images) in
-    let taken : (stepped t op).cells ≡ table_of (first.0 ++ own) =
+    let taken : (tablet_after t op).cells ≡ table_of (first.0 ++ own) =
     join_taken t (table_of own) marks (lie_in t.range (table_of own)) inside ∙ (ap (λ (m : Entries). adds m (spell (table_of own))) first.1 ∙ joined_images first.0 own) in
-    let rest = all_has (first.0 ++ own) (stepped t op) more kept taken in
+    let rest = all_has (first.0 ++ own) (tablet_after t op) more kept taken in
     let last : (state_of range ((before ++ op ∷ []) ++ more)).cells ≡ table_of ((first.0 ++ own) ++ rest.0) =
     ap (λ (ops : List TabletOp). (state_of range ops).cells) (append_assoc before (op ∷ []) more) ∙ (ap (λ (u : TabletStateValue). u.cells) (fold_on (empty_tablet range) before (op ∷ more)) ∙ rest.1) in
     let among : (one : Image) → Contains (image ∷ []) one → Contains ((first.0 ++ own) ++ rest.0) one =
@@ -99,7 +99,7 @@ joined_there range before more images marks kept image there lies =
     only_one image one (suc n, within, is) = absurd (omega (arith, within))
 
 pub not_missed : (tablet : PublishedTabletValue) (marks : Positions) (images : List Image) (reader learnt later last : TabletReaderValue) (now : TabletStateValue)
-    → reader.range ≡ tablet.range → Learns reader (note_of (appended tablet (join_in marks images tablet.range))) learnt
+    → reader.range ≡ tablet.range → Learns reader (note_of (with_op tablet (join_in marks images tablet.range))) learnt
     → KnowsMore learnt later → Finds later now last → HasNoLossAfter (length tablet.list + 1) last
     → (image : Image) → Contains images image → IsTrue (in_range tablet.range image.key) → HasImage image (find bytes_cmp image.key now.cells)
 not_missed tablet marks images reader learnt later last now ranged learns more found kept image there lies =

@@ -74,8 +74,8 @@ module _ {A B : Type 0} (Does : A → B → A → Type 0) where
 
 -- elements are moved to another list; while some are left, it is not full
 module _ {A B : Type 0} (f : A → B) (all : List B) (done : List B) (left : List A) (so_far : done ++ map f left ≡ all) where
-  pub moved_room : (a : A) (rest : List A) → left ≡ a ∷ rest → length done < length all
-  moved_room a rest is =
+  pub still_fits : (a : A) (rest : List A) → left ≡ a ∷ rest → length done < length all
+  still_fits a rest is =
       let whole : length (done ++ (f a ∷ map f rest)) ≡ length all = ap length (ap (λ (xs : List A). done ++ map f xs) (sym is) ∙ so_far) in
       omega (arith, whole, length-append done (f a ∷ map f rest))
 

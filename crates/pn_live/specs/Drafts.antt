@@ -1,13 +1,13 @@
 -- Drafts of a live tablet's next state.
 use Rattle.std.specs.Prelude.{◌≡◌}
 use Rattle.pn_tablet.specs.Operations.{HasPositions}
-use Rattle.pn_tablet.specs.Steps.{stepped}
+use Rattle.pn_tablet.specs.Steps.{tablet_after}
 use Rattle.pn_tablet.specs.Tablets.{TabletStateValue}
-use Rattle.pn_tablet.specs.declared.op.TabletOp.{TabletOp}
+use Rattle.pn_tablet.specs.declared.state.TabletOp.{TabletOp}
 use Rattle.pn_apply.specs.Applying.{IsJoinIn}
 
 -- the operation is a join that the draft takes, and makes the published state of it
 pub record Lacks (draft : TabletStateValue) (op : TabletOp) (shown : TabletStateValue) : Type 0 where
   pub join : IsJoinIn draft op
   pub positions : HasPositions op
-  pub makes : stepped draft op ≡ shown
+  pub makes : tablet_after draft op ≡ shown

@@ -5,7 +5,7 @@ use mathlib.Core.List.{IsPrefix}
 use Rattle.pn_stream.specs.Brokers.{BrokerRecord}
 use Rattle.pn_tablet.specs.Ranges.{Ends}
 use Rattle.pn_tablet.specs.Steps.{state_of}
-use Rattle.pn_tablet.specs.declared.op.TabletOp.{TabletOp}
+use Rattle.pn_tablet.specs.declared.state.TabletOp.{TabletOp}
 use Rattle.pn_region.specs.Faith.{IsFaithful}
 use Rattle.pn_live.specs.PublishedTablets.{PublishedTabletValue}
 

@@ -6,8 +6,8 @@ use Rattle.pn_record.specs.Order.{version_cmp}
 use Rattle.pn_record.specs.Sets.{CellValue}
 use Rattle.pn_record.specs.declared.image.Image.{Image}
 use Rattle.pn_live.specs.TabletReaders.{TabletReaderValue, KnowsMore}
-use Rattle.pn_tablet.specs.declared.op.TabletOp.{TabletOp}
-use Rattle.pn_tablet.specs.declared.op.TabletOp.TheVariants.{Lose}
+use Rattle.pn_tablet.specs.declared.state.TabletOp.{TabletOp}
+use Rattle.pn_tablet.specs.declared.state.TabletOp.TheVariants.{Lose}
 
 -- the operation is no loss
 abbrev pub IsNoLoss : TabletOp → Type 0

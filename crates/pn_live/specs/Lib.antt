@@ -6,7 +6,6 @@ pub mod Drafts
 pub mod Events
 pub mod Honest
 pub mod Laws
-pub mod Limits
 pub mod LiveRegions
 pub mod Looks
 pub mod Orders

@@ -1,5 +1,6 @@
 -- The state of a live region, and what its rounds leave.
 use Rattle.std.specs.Prelude.{◌≡◌, List, [], map, MatchResult}
+use Rattle.logbook.specs.Pages.{Book}
 use Rattle.pn_join.specs.Marks.{Positions}
 use Rattle.pn_stream.specs.Positions.{DeliveryValue}
 use Rattle.pn_tablet.specs.Layouts.{Bounds}
@@ -10,15 +11,16 @@ use Rattle.pn_region.specs.Rounds.{joins}
 use Rattle.pn_region.specs.declared.entry.Entry.{Entry}
 use Rattle.pn_region.specs.declared.fault.RoundFault.{RoundFault}
 use Rattle.pn_region.specs.declared.fault.RoundFault.TheVariants.{Memory}
-use Rattle.pn_live.specs.PublishedTablets.{PublishedTabletValue, AreNewTablets, state_at, all_appended, AreOldOrAppended}
+use Rattle.pn_live.specs.PublishedTablets.{PublishedTabletValue, AreNewTablets, books_of, state_at, with_ops, AreOldOrAppended}
 use Rattle.pn_live.specs.Readers.{LiveReaderValue, Tablets, tablets_of}
 
--- a layout, a live tablet for each of its ranges, marks, and the entries of the log
+-- a layout, a live tablet for each of its ranges, marks, the entries of the log, and the tablets that rounds published, in that order
 pub record LiveRegionValue : Type 0 where
   pub layout : Bounds
   pub tablets : List PublishedTabletValue
   pub marks : Positions
   pub log : List Entry
+  pub order : List Book
 
 -- the region that it is: each tablet has the state of what is published
 abbrev pub core : LiveRegionValue → RegionValue
@@ -30,18 +32,19 @@ pub record IsNewLive (bounds : Bounds) (live : LiveRegionValue) : Type 0 where
   pub tablets : AreNewTablets (ranges bounds) live.tablets
   pub marks : live.marks ≡ []
   pub log : live.log ≡ []
+  pub order : live.order ≡ []
 
 -- which tablets it has
 abbrev pub tablets_in : LiveRegionValue → Tablets
-tablets_in live = record { layout = live.layout; books = map (λ tablet. tablet.book) live.tablets }
+tablets_in live = record { layout = live.layout; books = books_of live.tablets }
 
 -- the reader is one of the region's
 abbrev pub IsReaderIn : LiveRegionValue → LiveReaderValue → Type 0
 IsReaderIn live reader = tablets_of reader ≡ tablets_in live
 
 -- the live tablets after a round: the join of each is published
-abbrev pub publishing : LiveRegionValue → List DeliveryValue → Positions → List PublishedTabletValue
-publishing live deliveries marks = all_appended live.tablets (joins (core live) deliveries marks)
+abbrev pub tablets_after_round : LiveRegionValue → List DeliveryValue → Positions → List PublishedTabletValue
+tablets_after_round live deliveries marks = with_ops live.tablets (joins (core live) deliveries marks)
 
 -- what a round leaves that ran out of memory: each tablet's join is published or not, and none if the round would be refused
 abbrev pub IsHalfPublished : LiveRegionValue → List DeliveryValue → LiveRegionValue → Type 0

@@ -3,7 +3,7 @@ use Rattle.std.specs.Prelude.{◌≡◌, ℕ, List, Option, Some, IfSome}
 use mathlib.Core.Option.{some}
 use mathlib.Core.List.{IsPrefix}
 use lib.ListN.{get_elem?}
-use Rattle.pn_tablet.specs.declared.op.TabletOp.{TabletOp}
+use Rattle.pn_tablet.specs.declared.state.TabletOp.{TabletOp}
 use Rattle.pn_live.specs.declared.published_state.PublishedState.{PublishedState}
 use Rattle.pn_live.specs.Attempts.{tried_of}
 
@@ -19,7 +19,7 @@ pub record IsLater (first second : PublishedState) : Type 0 where
 
 -- what is published extends all that anyone saw
 abbrev pub AllBefore : PublishedState → List (Option PublishedState) → Type 0
-AllBefore shown views = (place : ℕ) (seen : PublishedState) → get_elem? views place ≡ some (Some seen) → IsLater seen shown
+AllBefore shown views = (index : ℕ) (seen : PublishedState) → get_elem? views index ≡ some (Some seen) → IsLater seen shown
 
 -- what is seen afterwards is what is published, which extends what was seen before
 abbrev pub GoesOn : Option PublishedState → PublishedState → PublishedState → Option PublishedState → Type 0

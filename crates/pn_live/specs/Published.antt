@@ -3,7 +3,7 @@ use Rattle.std.specs.Prelude.{◌≡◌, List}
 use Rattle.pn_tablet.specs.Ranges.{Ends}
 use Rattle.pn_tablet.specs.Steps.{state_of}
 use Rattle.pn_tablet.specs.Tablets.{TabletStateValue}
-use Rattle.pn_tablet.specs.declared.op.TabletOp.{TabletOp}
+use Rattle.pn_tablet.specs.declared.state.TabletOp.{TabletOp}
 use Rattle.pn_live.specs.Attempts.{settled_of}
 use Rattle.pn_live.specs.Orders.{list_of}
 use Rattle.pn_live.specs.declared.live_tablet.LiveTablet.{LiveTablet}
@@ -11,8 +11,8 @@ use Rattle.pn_live.specs.declared.read_guard.ReadGuard.{ReadGuard}
 use Rattle.pn_live.specs.declared.reader_handle.ReaderHandle.{ReaderHandle}
 
 -- the operations whose publication ended well
-abbrev pub published : LiveTablet → List TabletOp
-published tablet = settled_of tablet.settled.seen.log
+abbrev pub published_ops : LiveTablet → List TabletOp
+published_ops tablet = settled_of tablet.settled.seen.log
 
 -- the state that readers find
 abbrev pub state_in : LiveTablet → TabletStateValue

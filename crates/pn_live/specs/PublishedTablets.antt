@@ -4,13 +4,17 @@ use Rattle.logbook.specs.Pages.{Book}
 use Rattle.pn_tablet.specs.Ranges.{Ends}
 use Rattle.pn_tablet.specs.Steps.{state_of}
 use Rattle.pn_tablet.specs.Tablets.{TabletStateValue}
-use Rattle.pn_tablet.specs.declared.op.TabletOp.{TabletOp}
+use Rattle.pn_tablet.specs.declared.state.TabletOp.{TabletOp}
 
 -- a live tablet: which one it is, its range, and the operations that are published
 pub record PublishedTabletValue : Type 0 where
   pub book : Book
   pub range : Ends
   pub list : List TabletOp
+
+-- which tablets they are
+abbrev pub books_of : List PublishedTabletValue → List Book
+books_of tablets = map (λ tablet. tablet.book) tablets
 
 -- its state is that of what is published
 abbrev pub state_at : PublishedTabletValue → TabletStateValue
@@ -27,20 +31,20 @@ AreNewTablets (range ∷ ranges) (tablet ∷ tablets) = IsNewTablet range tablet
 AreNewTablets _ _ = ⊥
 
 -- the tablet with one operation more
-abbrev pub appended : PublishedTabletValue → TabletOp → PublishedTabletValue
-appended tablet op = record tablet { list = tablet.list ++ op ∷ [] }
+abbrev pub with_op : PublishedTabletValue → TabletOp → PublishedTabletValue
+with_op tablet op = record tablet { list = tablet.list ++ op ∷ [] }
 
 -- the tablets with one operation more each
-abbrev pub all_appended : List PublishedTabletValue → List TabletOp → List PublishedTabletValue
-all_appended (tablet ∷ tablets) (op ∷ ops) = appended tablet op ∷ all_appended tablets ops
-all_appended tablets _ = tablets
+abbrev pub with_ops : List PublishedTabletValue → List TabletOp → List PublishedTabletValue
+with_ops (tablet ∷ tablets) (op ∷ ops) = with_op tablet op ∷ with_ops tablets ops
+with_ops tablets _ = tablets
 
 -- each tablet has its operation, or is as it was
 abbrev pub AreOldOrAppended : List PublishedTabletValue → List TabletOp → List PublishedTabletValue → Type 0
 AreOldOrAppended [] ops nows = nows ≡ []
 AreOldOrAppended tablets [] nows = nows ≡ tablets
 AreOldOrAppended (tablet ∷ tablets) (op ∷ ops) [] = ⊥
-AreOldOrAppended (tablet ∷ tablets) (op ∷ ops) (now ∷ nows) = ((now ≡ tablet) ⊎ (now ≡ appended tablet op)) × AreOldOrAppended tablets ops nows
+AreOldOrAppended (tablet ∷ tablets) (op ∷ ops) (now ∷ nows) = ((now ≡ tablet) ⊎ (now ≡ with_op tablet op)) × AreOldOrAppended tablets ops nows
 
 -- a note of a tablet: which one it is, and the operations that were published
 pub record TabletNoteValue : Type 0 where

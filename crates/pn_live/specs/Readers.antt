@@ -46,8 +46,8 @@ LooksLive old look new =
     × (new ≡ record old { tablet_readers = set old.tablet_readers look.0 now })
 
 -- a new reader of a tablet, which saw and learnt what is published
-abbrev pub opening : PublishedTabletValue → TabletReaderValue
-opening tablet = record { book = tablet.book; range = tablet.range; seen = tablet.list; told = tablet.list }
+abbrev pub new_reader_of : PublishedTabletValue → TabletReaderValue
+new_reader_of tablet = record { book = tablet.book; range = tablet.range; seen = tablet.list; told = tablet.list }
 
 -- a reader of these tablets that saw and learnt nothing
 abbrev pub IsNewReader : Tablets → LiveReaderValue → Type 0

@@ -5,7 +5,7 @@ use Rattle.logbook.specs.Pages.{Book}
 use Rattle.pn_tablet.specs.Ranges.{Ends}
 use Rattle.pn_tablet.specs.Steps.{state_of}
 use Rattle.pn_tablet.specs.Tablets.{TabletStateValue}
-use Rattle.pn_tablet.specs.declared.op.TabletOp.{TabletOp}
+use Rattle.pn_tablet.specs.declared.state.TabletOp.{TabletOp}
 use Rattle.pn_live.specs.PublishedTablets.{TabletNoteValue}
 
 -- which tablet it is, its range, and the operations that the reader saw and learnt
@@ -28,12 +28,12 @@ Sees old None new = new ≡ old
 Sees old (Some state) new = Finds old state new
 
 -- the longer of two lists, or the first where they are as long
-abbrev pub longer : {A : Type 0} → List A → List A → List A
-longer xs ys = if nat_lt (length xs) (length ys) then ys else xs
+abbrev pub longer_of : {A : Type 0} → List A → List A → List A
+longer_of xs ys = if nat_lt (length xs) (length ys) then ys else xs
 
 -- a note was learnt: what the reader was told is then the longer of its own list and the note's, and both begin it
 pub record Learns (old : TabletReaderValue) (heard : TabletNoteValue) (new : TabletReaderValue) : Type 0 where
-  pub same : new ≡ record old { told = longer old.told heard.list }
+  pub same : new ≡ record old { told = longer_of old.told heard.list }
   pub told : IsPrefix old.told new.told
   pub note : IsPrefix heard.list new.told
 

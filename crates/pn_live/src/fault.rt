@@ -10,8 +10,8 @@ use thiserror::Error;
 /// Why a live region was not opened.
 #[derive(Debug, Drop, Error)]
 pub enum OpenFault {
-    /// A tablet has no place for a reader.
-    #[error("no place for a reader")]
+    /// A tablet gave no reader.
+    #[error("no reader is left")]
     NoReader,
     #[error("out of memory")]
     Memory,

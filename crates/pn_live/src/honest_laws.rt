@@ -7,15 +7,15 @@ ghost use Rattle.pn_record.specs.Prelude.{bytes_cmp};
 ghost use Rattle.pn_record.specs.declared.image.Image.{Image};
 ghost use Rattle.pn_stream.specs.Prelude.{BrokerRecord, AreHonest, DeliveryValue};
 ghost use Rattle.pn_tablet.specs.Prelude.{TabletCopyValue, IsCopy, Ends, in_range, TabletStateValue};
-ghost use Rattle.pn_tablet.specs.declared.op.TabletOp.TheVariants.{Lose};
+ghost use Rattle.pn_tablet.specs.declared.state.TabletOp.TheVariants.{Lose};
 ghost use Rattle.pn_tablet.specs.declared.state.Status.TheVariants.{Serving};
 ghost use Rattle.pn_apply.specs.Prelude.{all_images, join_in};
 ghost use Rattle.pn_region.specs.Prelude.{HoldsStill, IsHonestCopy, new_marks, IsRegion, round, IsHalfTaken};
 ghost use Rattle.pn_live.specs.Honest.{IsHonestList, AreHonestTablets};
 ghost use Rattle.pn_live.specs.Laws.{HasImage};
-ghost use Rattle.pn_live.specs.LiveRegions.{LiveRegionValue, core, publishing, IsHalfPublished};
-ghost use Rattle.pn_live.specs.PublishedTablets.{PublishedTabletValue, AreNewTablets, appended, note_of};
-ghost use Rattle.pn_live.specs.Recovery.{publishing_at, Adopts};
+ghost use Rattle.pn_live.specs.LiveRegions.{LiveRegionValue, core, tablets_after_round, IsHalfPublished};
+ghost use Rattle.pn_live.specs.PublishedTablets.{PublishedTabletValue, AreNewTablets, with_op, note_of};
+ghost use Rattle.pn_live.specs.Recovery.{after_op_at, Adopts};
 ghost use Rattle.pn_live.specs.TabletReaders.{TabletReaderValue, Finds, Learns, KnowsMore};
 
 /// Honest deliveries and copies keep what is published honest, through rounds, also those that ran out of memory, losses
@@ -23,10 +23,10 @@ ghost use Rattle.pn_live.specs.TabletReaders.{TabletReaderValue, Finds, Learns, 
 pub fn honest_calls_keep_lists_honest()
     ensures opened { (broker : BrokerRecord) (ranges : List Ends) (tablets : List PublishedTabletValue) → AreNewTablets ranges tablets → AreHonestTablets broker tablets }
     ensures round { (broker : BrokerRecord) (old new : LiveRegionValue) (deliveries : List DeliveryValue) → IsRegion (core old) → AreHonestTablets broker old.tablets → AreHonest broker deliveries
-        → round (core old) deliveries ≡ Ok (core new) → new.tablets ≡ publishing old deliveries new.marks → AreHonestTablets broker new.tablets }
+        → round (core old) deliveries ≡ Ok (core new) → new.tablets ≡ tablets_after_round old deliveries new.marks → AreHonestTablets broker new.tablets }
     ensures half { (broker : BrokerRecord) (old new : LiveRegionValue) (deliveries : List DeliveryValue) → IsRegion (core old) → AreHonestTablets broker old.tablets → AreHonest broker deliveries
         → IsHalfPublished old deliveries new → IsHalfTaken (core old) deliveries (core new) → AreHonestTablets broker new.tablets }
-    ensures loss { (broker : BrokerRecord) (old new : LiveRegionValue) (tablet : ℕ) → IsRegion (core old) → AreHonestTablets broker old.tablets → new ≡ publishing_at old tablet Lose → AreHonestTablets broker new.tablets }
+    ensures loss { (broker : BrokerRecord) (old new : LiveRegionValue) (tablet : ℕ) → IsRegion (core old) → AreHonestTablets broker old.tablets → new ≡ after_op_at old tablet Lose → AreHonestTablets broker new.tablets }
     ensures adoption { (broker : BrokerRecord) (old new : LiveRegionValue) (copy : TabletCopyValue) → IsRegion (core old) → AreHonestTablets broker old.tablets
         → IsCopy copy.range copy.marks copy.cells → IsHonestCopy broker copy → Adopts copy old new → AreHonestTablets broker new.tablets }
 {}
@@ -44,7 +44,7 @@ pub fn answers_never_go_back_across_losses()
 pub fn a_learnt_front_is_not_missed_across_losses()
     ensures { (broker : BrokerRecord) (tablet : PublishedTabletValue) (old marks : Positions) (deliveries : List DeliveryValue) (reader learnt later last : TabletReaderValue) (now : TabletStateValue)
         → AreHonest broker deliveries → new_marks old deliveries ≡ Ok marks
-        → reader.range ≡ tablet.range → Learns reader (note_of (appended tablet (join_in marks (all_images deliveries) tablet.range))) learnt
+        → reader.range ≡ tablet.range → Learns reader (note_of (with_op tablet (join_in marks (all_images deliveries) tablet.range))) learnt
         → KnowsMore learnt later → Finds later now last → IsHonestList broker last.range last.seen → now.status ≡ Serving
         → (image : Image) → Contains (all_images deliveries) image → IsTrue (in_range tablet.range image.key) → HasImage image (find bytes_cmp image.key now.cells) }
 {}

@@ -5,14 +5,14 @@ ghost use Rattle.std.specs.FinMap.{find};
 ghost use Rattle.pn_join.specs.Prelude.{Positions};
 ghost use Rattle.pn_record.specs.Prelude.{Entries, bytes_cmp};
 ghost use Rattle.pn_tablet.specs.Prelude.{IsSpelled, Ends, in_range, state_of, TabletStateValue, lie_in};
-ghost use Rattle.pn_tablet.specs.declared.op.TabletOp.{TabletOp};
-ghost use Rattle.pn_tablet.specs.declared.op.TabletOp.TheVariants.{Join};
+ghost use Rattle.pn_tablet.specs.declared.state.TabletOp.{TabletOp};
+ghost use Rattle.pn_tablet.specs.declared.state.TabletOp.TheVariants.{Join};
 ghost use Rattle.pn_region.specs.Prelude.{HoldsStill};
 ghost use Rattle.pn_apply.specs.Prelude.{join_in};
 ghost use Rattle.pn_record.specs.declared.image.Image.{Image};
 ghost use Rattle.pn_scan.specs.Prelude.{Look, Looks};
 ghost use Rattle.pn_live.specs.Laws.{AreNoLosses, HasImage, HasNoLossAfter, AllKnowMore};
-ghost use Rattle.pn_live.specs.PublishedTablets.{PublishedTabletValue, TabletNoteValue, note_of, appended};
+ghost use Rattle.pn_live.specs.PublishedTablets.{PublishedTabletValue, TabletNoteValue, note_of, with_op};
 ghost use Rattle.pn_live.specs.Readers.{LiveReaderValue, LooksLive};
 ghost use Rattle.pn_live.specs.TabletReaders.{TabletReaderValue, Finds, Learns, AllLearn, KnowsMore};
 
@@ -50,7 +50,7 @@ pub fn answers_never_go_back()
 /// Without a later loss, a reader that learnt the front of a round finds each of its images, or a newer version.
 pub fn a_learnt_front_is_not_missed()
     ensures { (tablet : PublishedTabletValue) (marks : Positions) (images : List Image) (reader learnt later last : TabletReaderValue) (now : TabletStateValue)
-        → reader.range ≡ tablet.range → Learns reader (note_of (appended tablet (join_in marks images tablet.range))) learnt
+        → reader.range ≡ tablet.range → Learns reader (note_of (with_op tablet (join_in marks images tablet.range))) learnt
         → KnowsMore learnt later → Finds later now last → HasNoLossAfter (length tablet.list + 1) last
         → (image : Image) → Contains images image → IsTrue (in_range tablet.range image.key) → HasImage image (find bytes_cmp image.key now.cells) }
 {}

@@ -59,17 +59,17 @@ fn show<R: Wait>(rt: &R, writer: &mut PairWriter, next: PublishedState)
             ensures values { (result.0.shown.value ≡ next) × (result.0.spare.value ≡ desk.shown.value) }
             ensures place { view result.0.place ≡ Some next }
         {
-            let (open, mut place) = desk.open(rt);
-            *place = next;
-            (open.show_as::<ExtendsSeen>(place), ())
+            let (open, mut spare) = desk.open(rt);
+            *spare = next;
+            (open.show_as::<ExtendsSeen>(spare), ())
         },
     )
 }
 
 impl LiveTablet {
-    ghost use Rattle.pn_live.specs.Published.{published, state_in, seen_by, told_to, IsReaderOf};
+    ghost use Rattle.pn_live.specs.Published.{published_ops, state_in, seen_by, told_to, IsReaderOf};
 
-    /// Opens an empty tablet of the range, with room for `readers` readers. It has no reader to wait for.
+    /// Opens an empty tablet of the range, with capacity for `readers` readers. It has no reader to wait for.
     pub fn open<R: Wait>(
         rt: &R,
         alloc: Global,
@@ -77,10 +77,10 @@ impl LiveTablet {
         readers: usize,
     ) -> Result<LiveTablet, NoMemory>
         requires { (0 < readers) × (readers < 2 ^ 32) }
-        ensures { IfOk result (λ tablet. (state_in tablet ≡ empty_tablet range) × (published tablet ≡ [])) }
+        ensures { IfOk result (λ tablet. (state_in tablet ≡ empty_tablet range) × (published_ops tablet ≡ [])) }
     {
         let (counter, latest) = open_book();
-        let empty = shown_as(TabletState::new(alloc, range), &latest);
+        let empty = first_state(TabletState::new(alloc, range), &latest);
         let writer = pair_of(rt, alloc, empty, readers)?;
         let settled = latest.again();
         Ok(LiveTablet {
@@ -98,7 +98,7 @@ impl LiveTablet {
         requires positions { HasPositions operation }
         requires next { step (state_in self.old) operation ≡ Ok next }
         ensures state { state_in self.new ≡ next }
-        ensures list { published self.new ≡ published self.old ++ operation ∷ [] }
+        ensures list { published_ops self.new ≡ published_ops self.old ++ operation ∷ [] }
         ensures book { self.new.settled.seen.book ≡ self.old.settled.seen.book }
     {
         replace_with(
@@ -112,7 +112,7 @@ impl LiveTablet {
         requires positions { HasPositions operation }
         requires next { step (state_in self) operation ≡ Ok next }
         ensures state { state_in result ≡ next }
-        ensures list { published result ≡ published self ++ operation ∷ [] }
+        ensures list { published_ops result ≡ published_ops self ++ operation ∷ [] }
         ensures book { result.settled.seen.book ≡ self.settled.seen.book }
     {
         let LiveTablet {
@@ -140,10 +140,10 @@ impl LiveTablet {
         }
     }
 
-    /// A new reader, which has seen and learnt what is published. `None` when all readers' places are in use.
+    /// A new reader, which has seen and learnt what is published. `None` when there are as many as it has capacity for.
     pub fn new_reader(&mut self) -> Option<ReaderHandle>
         ensures reader { IfSome result (λ handle. IsReaderOf self.new handle) }
-        ensures seen { IfSome result (λ handle. (seen_by handle ≡ published self.old) × (told_to handle ≡ published self.old)) }
+        ensures seen { IfSome result (λ handle. (seen_by handle ≡ published_ops self.old) × (told_to handle ≡ published_ops self.old)) }
         ensures kept { (state_in self.new ≡ state_in self.old) × (self.new.settled ≡ self.old.settled) }
     {
         let factory = self.writer.factory();
@@ -177,8 +177,8 @@ impl LiveTablet {
     }
 }
 
-// An empty tablet's state, to be shown.
-fn shown_as(state: TabletState, position: &PublishPosition<TabletOp>) -> PublishedState
+// An empty tablet's state, to be shown at first.
+fn first_state(state: TabletState, position: &PublishPosition<TabletOp>) -> PublishedState
     requires empty { state ≡ empty_tablet state.range }
     requires none { position.now.seen.log ≡ [] }
     ensures { (result.state ≡ state) × (result.position ≡ position.now) }
@@ -187,7 +187,7 @@ fn shown_as(state: TabletState, position: &PublishPosition<TabletOp>) -> Publish
     PublishedState { state, position }
 }
 
-// A pair that shows the state, with room for `readers` readers.
+// A pair that shows the state, with capacity for `readers` readers.
 fn pair_of<R: Wait>(
     rt: &R,
     alloc: Global,

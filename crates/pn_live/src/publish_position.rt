@@ -1,7 +1,8 @@
 //! Publish positions: how far the attempts to publish a tablet's states had come.
 
-ghost use Rattle.std.specs.Prelude.{◌≡◌, ◌+◌, ◌^◌, ◌<◌, ◌≤◌, ◌++◌, ◌∷◌, [], length, ◌↔◌, IsTrue, OnOk, IfErr, ◌⊎◌};
+ghost use Rattle.std.specs.Prelude.{◌≡◌, ◌+◌, ◌^◌, ◌<◌, ◌≤◌, ◌++◌, ◌∷◌, [], List, length, ◌↔◌, IsTrue, OnOk, IfErr, ◌⊎◌};
 ghost use mathlib.Core.List.{IsPrefix};
+ghost use Rattle.pn_live.specs.declared.attempt.Attempt.{Attempt};
 ghost use Rattle.pn_live.specs.Attempts.{AreLawful, settled_of, tried_of, MayFollow};
 ghost use Rattle.pn_live.specs.Books.{counter_of};
 
@@ -111,7 +112,7 @@ impl<O> PublishPosition<O> {
         ensures exact { IsTrue result ↔ (length self.now.seen.log ≤ length shown.now.seen.log + 1) }
         ensures begins { IsTrue result → IsPrefix (settled_of self.now.seen.log) (tried_of shown.now.seen.log) }
     {
-        self.joined(shown);
+        self.recall_common_log(shown);
         self.count <= shown.count.saturating_add(1)
     }
 
@@ -120,7 +121,7 @@ impl<O> PublishPosition<O> {
         requires { other.now.seen.book ≡ self.now.seen.book }
         ensures { IsTrue result ↔ (self.now.seen.log ≡ other.now.seen.log) }
     {
-        self.joined(other);
+        self.recall_common_log(other);
         self.count == other.count
     }
 
@@ -132,7 +133,7 @@ impl<O> PublishPosition<O> {
         ensures this { IsPrefix (settled_of self.now.seen.log) (settled_of result.seen.log) }
         ensures that { IsPrefix (settled_of other.now.seen.log) (settled_of result.seen.log) }
     {
-        self.joined(other);
+        self.recall_common_log(other);
         if self.count < other.count {
             other.again()
         } else {
@@ -140,15 +141,12 @@ impl<O> PublishPosition<O> {
         }
     }
 
-    // Attempts of the book that both positions begin.
-    fn joined(&self, other: &PublishPosition<O>) -> Seen<Attempt<O>, u64, AttemptRule<O>>
+    // Recalls for the prover that both positions begin some attempts of the book.
+    fn recall_common_log(&self, other: &PublishPosition<O>)
         requires { other.now.seen.book ≡ self.now.seen.book }
-        ensures this { IsPrefix self.now.seen.log result.log }
-        ensures that { IsPrefix other.now.seen.log result.log }
-        ensures lawful { AreLawful result.log }
+        ensures { (log : List (Attempt O)) × IsPrefix self.now.seen.log log × IsPrefix other.now.seen.log log × AreLawful log }
     {
         let mut both = self.seen.again();
         both.learn(&other.seen);
-        both
     }
 }

@@ -1,16 +1,17 @@
 //! The live tablets of a region, as what is published of each.
 
-ghost use Rattle.std.specs.Prelude.{◌≡◌, ◌≤◌, ◌<◌, ◌^◌, length, Ok, IfOk, IfSome, IsTrue};
+ghost use Rattle.std.specs.Prelude.{◌≡◌, ◌≤◌, ◌<◌, ◌^◌, ◌++◌, ◌∷◌, [], length, Ok, IfOk, IfSome, IsTrue};
 ghost use Rattle.pn_tablet.specs.Prelude.{tablet_ends, HasPositions, step};
 ghost use Rattle.pn_live.specs.Closing.{IsOfTablet, KnowsPublished};
 ghost use Rattle.pn_live.specs.Drafts.{Lacks};
-ghost use Rattle.pn_live.specs.PublishedTablets.{IsNewTablet, state_at, appended, note_of};
-ghost use Rattle.pn_live.specs.Readers.{opening};
+ghost use Rattle.pn_live.specs.PublishedTablets.{IsNewTablet, state_at, with_op, note_of};
+ghost use Rattle.pn_live.specs.Readers.{new_reader_of};
 
 mod next_state;
 
 use crate::front::TabletNote;
 use crate::live_tablet::{LiveTablet, StateDraft};
+use crate::publication_order::PublicationOrder;
 use crate::tablet_reader::TabletReader;
 use pn_join::NoMemory;
 use pn_tablet::{Layout, Range, TabletOp, TabletState};
@@ -27,7 +28,7 @@ impl Model for PublishedTablet {
     ghost use Rattle.std.specs.Prelude.{◌≡◌};
     ghost use Rattle.pn_tablet.specs.Prelude.{state_of};
     ghost use Rattle.pn_live.specs.PublishedTablets.{PublishedTabletValue};
-    ghost use Rattle.pn_live.specs.Published.{published, state_in};
+    ghost use Rattle.pn_live.specs.Published.{published_ops, state_in};
 
     ghost Value = { PublishedTabletValue };
 
@@ -35,13 +36,13 @@ impl Model for PublishedTablet {
 
     ghost coded = { published_tablet_code };
 
-    ghost view = { λ tablet. record { book = tablet.live.settled.seen.book; range = (state_in tablet.live).range; list = published tablet.live } };
+    ghost view = { λ tablet. record { book = tablet.live.settled.seen.book; range = (state_in tablet.live).range; list = published_ops tablet.live } };
 
-    ghost invariant = { λ tablet. state_in tablet.live ≡ state_of (state_in tablet.live).range (published tablet.live) };
+    ghost invariant = { λ tablet. state_in tablet.live ≡ state_of (state_in tablet.live).range (published_ops tablet.live) };
 }
 
 impl PublishedTablet {
-    /// An empty tablet of the layout's range of this number, with room for `readers` readers.
+    /// An empty tablet of the layout's range of this number, with capacity for `readers` readers.
     pub fn open<R: Wait>(
         rt: &R,
         alloc: Global,
@@ -67,13 +68,21 @@ impl PublishedTablet {
         self.live.draft(rt, alloc)
     }
 
-    /// Publishes the state that the operation makes of this one.
-    pub fn publish<R: Wait>(&mut self, rt: &R, next: TabletState, operation: TabletOp)
+    /// Publishes the state that the operation makes of this one, and adds the tablet to the order.
+    pub fn publish<R: Wait>(
+        &mut self,
+        rt: &R,
+        next: TabletState,
+        operation: TabletOp,
+        order: &mut PublicationOrder,
+    )
         requires positions { HasPositions operation }
         requires next { step (state_at self.old) operation ≡ Ok next }
-        ensures { self.new ≡ appended self.old operation }
+        ensures list { self.new ≡ with_op self.old operation }
+        ensures order { order.new ≡ order.old ++ self.old.book ∷ [] }
     {
-        self.live.publish(rt, next, operation)
+        self.live.publish(rt, next, operation);
+        order.add(&self.live.position());
     }
 
     /// A note of what is published.
@@ -83,9 +92,9 @@ impl PublishedTablet {
         TabletNote::of(self.live.position())
     }
 
-    /// A new reader, which has seen and learnt what is published. `None` when all readers' places are in use.
+    /// A new reader, which has seen and learnt what is published. `None` when there are as many as it has capacity for.
     pub fn new_reader(&mut self) -> Option<TabletReader>
-        ensures reader { IfSome result (λ reader. reader ≡ opening self.old) }
+        ensures reader { IfSome result (λ reader. reader ≡ new_reader_of self.old) }
         ensures same { self.new ≡ self.old }
     {
         let handle = self.live.new_reader()?;

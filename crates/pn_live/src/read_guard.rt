@@ -12,6 +12,7 @@ use crate::publish_position::PublishPosition;
 use crate::published_state::PublishedState;
 use crate::reader_handle::ReaderHandle;
 use left_right::reader::Reading;
+use pn_region::recall_soundness;
 use pn_tablet::{TabletOp, TabletState};
 use std::snapshot::Snapshot;
 
@@ -72,7 +73,7 @@ impl ReadGuard {
         ensures sound { IsSound result.now }
     {
         let state = &self.reading.get().state;
-        is_sound(state);
+        recall_soundness(state);
         state
     }
 
@@ -103,13 +104,4 @@ impl ReadGuard {
             found,
         }
     }
-}
-
-// Reads what every tablet's type keeps, so that it is known after this call.
-fn is_sound(state: &TabletState)
-    ensures { IsSound state.now }
-{
-    let _ = state.range();
-    let _ = state.cells();
-    let _ = state.reach();
 }

@@ -1,20 +1,19 @@
 //! Readers of a live region.
 
-ghost use Rattle.std.specs.Prelude.{◌≡◌, map, Option};
+ghost use Rattle.std.specs.Prelude.{◌≡◌, ◌+◌, ◌≤◌, ◌<◌, ◌++◌, ◌∷◌, [], true, false, List, map, Option, Some, Ok, Err, IfOk, IfErr, IfSome, IsSomeAnd, IsOkAnd, IsErrOf, length, vec_capacity, vec_len};
 ghost use Rattle.pn_tablet.specs.Prelude.{tablet_of, TabletStateValue};
-ghost use Rattle.pn_scan.specs.Prelude.{IsRead};
+ghost use Rattle.pn_scan.specs.Prelude.{Look, first_page, IsRead, IsGet, IsScan};
+ghost use Rattle.pn_scan.specs.Views.{is_memory};
+ghost use Rattle.pn_live.specs.Copying.{IsCopied};
 ghost use Rattle.pn_live.specs.Readers.{LooksLive, IsFrontFor, AreTabletReadersOf, tablets_of};
 ghost use Rattle.pn_live.specs.TabletReaders.{AllLearn};
 
-mod copying;
-mod getting;
-mod scanning;
-
 use crate::front::{Front, TabletNote};
 use crate::tablet_reader::TabletReader;
+use pn_join::Marks;
 use pn_record::{Cell, Key, Version};
-use pn_scan::{PartResult, Query, ScanFault, View, read_at_least};
-use pn_tablet::Layout;
+use pn_scan::{Page, PartResult, Query, ScanFault, View, page, read_at_least};
+use pn_tablet::{CopyFault, Layout, TabletCopy};
 use std::alloc::Global;
 use std::marker::Model;
 
@@ -87,6 +86,47 @@ impl LiveReader {
     {
         read_at_least(self, key, version)
     }
+
+    /// The cells of keys in order, repeats included; none where there is no record. Each key is read by an entry of its
+    /// own, in that order.
+    ///
+    /// `NoEntry`: an entry is refused. `Recovering`: a key's tablet is recovering. The first key with either ends the
+    /// call. `Memory` comes only where every key was read, and none had either.
+    pub fn get(&mut self, keys: &[Key]) -> Result<Vec<Option<Cell>>, ScanFault>
+        ensures get { (seen : List Look) × IsGet LooksLive self.old.layout keys.now self.old self.new (λ cells. cells.items) result seen
+            × (IsErrOf result ScanFault.Memory → length seen ≡ length keys.now) }
+        ensures same { tablets_of self.new ≡ tablets_of self.old }
+    {
+        let alloc = self.alloc;
+        get_cells(alloc, self, keys)
+    }
+
+    /// The first rows that a query shows, up to its limit, and the query for the rest, if any. Tablets that may have rows
+    /// are entered in order, once each.
+    ///
+    /// `NoEntry`: an entry is refused. `Recovering`: a tablet is recovering. The first tablet with either ends the
+    /// call. `Memory` comes only where a tablet was entered, and none had either.
+    pub fn scan(&mut self, query: &Query) -> Result<Page, ScanFault>
+        ensures scan { (seen : List Look) × IsScan LooksLive self.old.layout query.now self.old self.new (λ page. (page.rows.items, page.next)) result
+            (first_page query.now) seen }
+        ensures same { tablets_of self.new ≡ tablets_of self.old }
+    {
+        let alloc = self.alloc;
+        page(alloc, self, query)
+    }
+
+    /// A copy of a tablet, whose number is below the layout's count, in the state that one entry finds: its range, its
+    /// cover as the marks, and its cells.
+    ///
+    /// `NoEntry`: the entry is refused. Else `Recovering`: the tablet is recovering. Else `Behind`: its cover falls short
+    /// of the need, first in the named stream. `Memory` comes after these.
+    pub fn copy(&mut self, tablet: usize, need: &Marks) -> Result<TabletCopy, CopyFault>
+        requires { tablet ≤ length self.old.layout }
+        ensures copy { (found : Option TabletStateValue) × IsCopied self.old need.now self.new result (tablet, found) }
+        ensures same { tablets_of self.new ≡ tablets_of self.old }
+    {
+        self.tablet_readers[tablet].copy(need)
+    }
 }
 
 // Each tablet reader learns the note of its tablet.
@@ -99,6 +139,46 @@ fn learn_all(tablet_readers: &mut [TabletReader], notes: Vec<TabletNote>)
         tablet_readers[number].learn(note);
         number += 1;
     }
+}
+
+// The cells of keys in order, each read by an entry of its own. Where memory runs out, the other keys are still read,
+// since the fault of a tablet is answered first.
+fn get_cells(
+    alloc: Global,
+    reader: &mut LiveReader,
+    keys: &[Key],
+) -> Result<Vec<Option<Cell>>, ScanFault>
+    ensures { (seen : List Look) × IsGet LooksLive reader.old.layout keys.now reader.old reader.new (λ cells. cells.items) result seen
+        × (IsErrOf result ScanFault.Memory → length seen ≡ length keys.now) }
+{
+    let mut cells = Vec::with_capacity(alloc, keys.len()).ok();
+    for key in keys {
+        cells = with_cell(cells, reader.cell(key))?;
+    }
+    cells.ok_or(ScanFault::Memory)
+}
+
+// The cells with one more, or none once memory ran out.
+fn with_cell(
+    cells: Option<Vec<Option<Cell>>>,
+    read: Result<Option<Cell>, ScanFault>,
+) -> Result<Option<Vec<Option<Cell>>>, ScanFault>
+    requires capacity { IfSome cells (λ cells. vec_len cells < vec_capacity cells) }
+    ensures cells { IfOk result (λ now. IfSome now (λ now. IsSomeAnd cells (λ was. IsOkAnd read (λ cell. now.items ≡ was.items ++ cell ∷ [])))) }
+    ensures kept { IfOk result (λ now. IfSome now (λ now. IsSomeAnd cells (λ was. (vec_len now ≡ vec_len was + 1) × (vec_capacity now ≡ vec_capacity was)))) }
+    ensures memory { IfOk result (λ _. IfErr read (λ fault. is_memory fault ≡ true)) }
+    ensures fault { IfErr result (λ fault. (read ≡ Err fault) × (is_memory fault ≡ false)) }
+{
+    let cell = match read {
+        Ok(cell) => cell,
+        Err(ScanFault::Memory) => return Ok(None),
+        Err(fault) => return Err(fault),
+    };
+    let Some(mut cells) = cells else {
+        return Ok(None);
+    };
+    cells.push_reserved(cell);
+    Ok(Some(cells))
 }
 
 /// Each look is one entry into one tablet.

@@ -5,7 +5,7 @@ ghost use mathlib.Core.List.{IsPrefix};
 ghost use Rattle.left_right.specs.Sides.{view};
 ghost use Rattle.pn_live.specs.Attempts.{settled_of};
 ghost use Rattle.pn_live.specs.Orders.{list_of, IsLater};
-ghost use Rattle.pn_live.specs.TabletReaders.{longer};
+ghost use Rattle.pn_live.specs.TabletReaders.{longer_of};
 
 use crate::publish_order::{ExtendsSeen, PairReader, PublishOrder};
 use crate::publish_position::PublishPosition;
@@ -86,7 +86,7 @@ impl ReaderHandle {
     /// Learns a position: the later one of both is kept.
     pub fn learn(&mut self, note: PublishPosition<TabletOp>)
         requires { note.seen.book ≡ self.old.told.seen.book }
-        ensures longer { told_to self.new ≡ longer (told_to self.old) (settled_of note.seen.log) }
+        ensures longer { told_to self.new ≡ longer_of (told_to self.old) (settled_of note.seen.log) }
         ensures told { IsPrefix (told_to self.old) (told_to self.new) }
         ensures note { IsPrefix (settled_of note.seen.log) (told_to self.new) }
         ensures seen { self.new.seen ≡ self.old.seen }

@@ -2,16 +2,17 @@
 
 ghost use Rattle.std.specs.Prelude.{◌≡◌, ◌≤◌, length, IsTrue};
 ghost use Rattle.pn_join.specs.Prelude.{are_positions};
-ghost use Rattle.pn_region.specs.Prelude.{max_streams};
+ghost use Rattle.pn_region.specs.Prelude.{MAX_STREAMS};
 
 mod closing;
 mod opening;
 mod planning;
-mod publishing;
 mod recovery;
 mod rounds;
 
+use crate::publication_order::PublicationOrder;
 use crate::published_tablet::PublishedTablet;
+pub use opening::MAX_READERS;
 use pn_join::Marks;
 use pn_region::Log;
 use pn_tablet::Layout;
@@ -25,6 +26,7 @@ pub struct LiveRegion {
     tablets: Vec<PublishedTablet>,
     marks: Marks,
     log: Log,
+    order: PublicationOrder,
     alloc: Global,
 }
 
@@ -38,16 +40,16 @@ impl Model for LiveRegion {
 
     ghost coded = { live_code };
 
-    ghost view = { λ live. record { layout = live.layout; tablets = live.tablets.items; marks = live.marks; log = live.log } };
+    ghost view = { λ live. record { layout = live.layout; tablets = live.tablets.items; marks = live.marks; log = live.log; order = live.order } };
 
-    ghost invariant = { λ live. IsLawfulRegion (core (record { layout = live.layout; tablets = live.tablets.items; marks = live.marks; log = live.log })) };
+    ghost invariant = { λ live. IsLawfulRegion (core (record { layout = live.layout; tablets = live.tablets.items; marks = live.marks; log = live.log; order = live.order })) };
 }
 
 impl LiveRegion {
     /// How far streams were taken into every tablet.
     pub fn marks(&self) -> &Marks
         ensures marks { result.now ≡ self.now.marks }
-        ensures few { length self.now.marks ≤ max_streams }
+        ensures few { length self.now.marks ≤ MAX_STREAMS }
         ensures positions { IsTrue (are_positions self.now.marks) }
     {
         &self.marks

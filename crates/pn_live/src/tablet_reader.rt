@@ -3,18 +3,19 @@
 ghost use Rattle.std.specs.Prelude.{◌≡◌, MatchResult, Option};
 ghost use Rattle.pn_tablet.specs.Prelude.{TabletStateValue};
 ghost use Rattle.pn_scan.specs.Prelude.{rows_at, cell_at};
+ghost use Rattle.pn_live.specs.Copying.{IsOneCopy};
 ghost use Rattle.pn_live.specs.Looks.{IsOneLook, left_by};
 ghost use Rattle.pn_live.specs.Published.{seen_by, told_to, range_of, found_by};
 ghost use Rattle.pn_live.specs.TabletReaders.{Finds, Learns};
-
-mod copying;
 
 use crate::front::TabletNote;
 use crate::read_guard::ReadGuard;
 use crate::reader_handle::ReaderHandle;
 use core::mem::replace_with;
+use pn_join::Marks;
 use pn_record::{Cell, Key};
 use pn_scan::{PartResult, Query, ScanFault, cell_of, part_of};
+use pn_tablet::{CopyFault, TabletCopy};
 use std::alloc::Global;
 use std::marker::Model;
 
@@ -75,8 +76,8 @@ impl TabletReader {
         }
     }
 
-    // The reader once it has left the tablet.
-    fn left(guard: ReadGuard) -> TabletReader
+    // Leaves the tablet.
+    fn leave(guard: ReadGuard) -> TabletReader
         ensures { result ≡ left_by guard }
     {
         TabletReader::of(guard.leave())
@@ -86,16 +87,20 @@ impl TabletReader {
     pub fn cell(&mut self, tablet: usize, key: &Key) -> Result<Option<Cell>, ScanFault>
         ensures { (found : Option TabletStateValue) × IsOneLook self.old self.new (λ cell. cell) result (cell_at key.now) tablet found }
     {
-        replace_with(self, key, |reader, key| reader.cell_seen(tablet, key))
+        replace_with(self, key, |reader, key| reader.look_up_cell(tablet, key))
     }
 
-    fn cell_seen(self, tablet: usize, key: &Key) -> (TabletReader, Result<Option<Cell>, ScanFault>)
+    fn look_up_cell(
+        self,
+        tablet: usize,
+        key: &Key,
+    ) -> (TabletReader, Result<Option<Cell>, ScanFault>)
         ensures { (found : Option TabletStateValue) × IsOneLook self result.0 (λ cell. cell) result.1 (cell_at key.now) tablet found }
     {
         match self.enter() {
             Ok(guard) => {
                 let answer = cell_of(guard.state(), tablet, key);
-                (TabletReader::left(guard), answer)
+                (TabletReader::leave(guard), answer)
             }
             Err(reader) => (reader, Err(ScanFault::NoEntry)),
         }
@@ -109,11 +114,11 @@ impl TabletReader {
         replace_with(
             self,
             query,
-            |reader, query| reader.part_seen(alloc, tablet, query, room),
+            |reader, query| reader.look_up_part(alloc, tablet, query, room),
         )
     }
 
-    fn part_seen(
+    fn look_up_part(
         self,
         alloc: Global,
         tablet: usize,
@@ -125,9 +130,28 @@ impl TabletReader {
         match self.enter() {
             Ok(guard) => {
                 let answer = part_of(alloc, guard.state(), tablet, query, room);
-                (TabletReader::left(guard), answer)
+                (TabletReader::leave(guard), answer)
             }
             Err(reader) => (reader, Err(ScanFault::NoEntry)),
+        }
+    }
+
+    /// A copy of the state that one entry finds, as that state gives it; `NoEntry` where the entry is refused.
+    pub fn copy(&mut self, need: &Marks) -> Result<TabletCopy, CopyFault>
+        ensures { (found : Option TabletStateValue) × IsOneCopy self.old need.now self.new result found }
+    {
+        replace_with(self, need, |reader, need| reader.copy_state(need))
+    }
+
+    fn copy_state(self, need: &Marks) -> (TabletReader, Result<TabletCopy, CopyFault>)
+        ensures { (found : Option TabletStateValue) × IsOneCopy self need.now result.0 result.1 found }
+    {
+        match self.enter() {
+            Ok(guard) => {
+                let answer = guard.state().copy(need);
+                (TabletReader::leave(guard), answer)
+            }
+            Err(reader) => (reader, Err(CopyFault::NoEntry)),
         }
     }
 }

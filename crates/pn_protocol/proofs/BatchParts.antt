@@ -1,25 +1,26 @@
 -- The members of a batch and of a `deliver` command.
 use Rattle.std.proofs.Common.{◌≡◌, ℕ, List, [], ◌∷◌, length, codes, true, Option, unwrap_or, option_and_then, Result, Ok, IsOk, IsTrue, refl, sym, ap, ◌∙◌}
 use Rattle.std.specs.Option.{ok_or}
-use Rattle.serde_json.specs.Data.{Data, Items, no_items, item}
-use Rattle.serde_json.specs.Find.{get, as_str, as_array, as_object}
+use Rattle.serde_json.specs.Data.{Data, object, Items, no_items, item}
+use Rattle.serde_json.specs.Find.{get, get_member, as_str, as_array, as_object}
 use Rattle.pn_join.specs.Naming.{is_name}
 use Rattle.pn_json.specs.Members.{whole_number, member_as, each_in}
 use Rattle.pn_json.proofs.Inverses.{bind_ok, guard_ok, ok_or_ok}
 use Rattle.pn_record.specs.Grammar.{shape_in, ranges_in, image_in}
-use Rattle.pn_record.specs.Parts.{text_at}
+use Rattle.pn_json.specs.Members.{text_at}
 use Rattle.pn_record.specs.declared.image.Image.{Image}
 use Rattle.pn_record.proofs.ImageParts.{is_there}
 use Rattle.pn_stream.specs.Positions.{DeliveryValue, are_positions}
-use Rattle.pn_protocol.specs.Command.BatchParts.{batch_in, deliver_at, number_at, items_at}
-use Rattle.pn_protocol.specs.Command.Limits.{max_batches, are_few}
-use Rattle.pn_protocol.specs.Command.Deliveries.{deliver_in}
+use Rattle.pn_protocol.specs.Command.Deliveries.{batch_in, deliver_at, deliver_in, number_at, items_at}
+use Rattle.pn_protocol.specs.Command.Limits.{are_few}
+use Rattle.pn_protocol.specs.declared.command.ranges.TheConstants.{MAX_BATCHES}
 use Rattle.pn_protocol.specs.Command.Meaning.{deliver}
 use Rattle.pn_protocol.specs.Command.RangeChecks.{fits, each_fits, image_fits, batch_fits, batches_fit}
 use Rattle.pn_protocol.specs.Command.ShapeChecks.{named_alone, image_shape, batch_shape}
 use Rattle.pn_protocol.specs.declared.refusal.Part.TheVariants.{Whole, Batches, First, Images, Stream}
 use Rattle.pn_protocol.specs.declared.refusal.Refusal.{Refusal}
 use Rattle.pn_protocol.specs.declared.refusal.Refusal.TheVariants.{BadShape, OutOfRange}
+use Rattle.pn_protocol.proofs.CommandParts.{object_of}
 use Rattle.pn_protocol.proofs.EachFits.{both_fit, as_ok}
 
 -- where each item has its shape and what is in it fits, each is read whole
@@ -68,15 +69,16 @@ batch_parts : (d : Data) (batch : DeliveryValue) → batch_shape d ≡ Ok batch 
 unfolding batch_shape batch_fits
 batch_parts d batch shape fit is =
     let members = bind_ok (ok_or (as_object d) (BadShape Batches)) _ batch shape in
-    let first = bind_ok (member_as whole_number (BadShape First) (get (codes "first") d)) _ batch members.2 in
-    let items = bind_ok (member_as as_array (BadShape Images) (get (codes "images") d)) _ batch first.2 in
+    let first = bind_ok (member_as whole_number (BadShape First) (get_member (codes "first") members.0)) _ batch members.2 in
+    let items = bind_ok (member_as as_array (BadShape Images) (get_member (codes "images") members.0)) _ batch first.2 in
     let images = bind_ok (each_in image_shape items.0) _ batch items.2 in
-    let stream = bind_ok (member_as as_str (BadShape Stream) (get (codes "stream") d)) _ batch images.2 in
+    let stream = bind_ok (member_as as_str (BadShape Stream) (get_member (codes "stream") members.0)) _ batch images.2 in
     let named = bind_ok (named_alone (codes "first" ∷ codes "images" ∷ codes "stream" ∷ []) members.0) _ batch stream.2 in
+    let whole : d ≡ object members.0 = object_of d (BadShape Batches) members.0 members.1 in
     let same = members_same stream.0 first.0 images.0 batch named.2 in
-    let at_first : number_at (get (codes "first") d) ≡ batch.first = number_found _ (BadShape First) first.0 first.1 ∙ same.1 in
-    let at_stream : text_at (get (codes "stream") d) ≡ batch.stream = text_found _ (BadShape Stream) stream.0 stream.1 ∙ same.0 in
-    let array = items_found _ (BadShape Images) items.0 items.1 in
+    let at_first : number_at (get (codes "first") d) ≡ batch.first = ap (λ e. number_at (get (codes "first") e)) whole ∙ number_found _ (BadShape First) first.0 first.1 ∙ same.1 in
+    let at_stream : text_at (get (codes "stream") d) ≡ batch.stream = ap (λ e. text_at (get (codes "stream") e)) whole ∙ text_found _ (BadShape Stream) stream.0 stream.1 ∙ same.0 in
+    let array : items_at (get (codes "images") d) ≡ items.0 = ap (λ e. items_at (get (codes "images") e)) whole ∙ items_found _ (BadShape Images) items.0 items.1 in
     let positions = both_fit (fits First (are_positions batch.first (length batch.images))) _ fit in
     let each = both_fit (each_fits image_fits batch.images) _ positions.1 in
     let shapes : each_in image_shape items.0 ≡ Ok batch.images = images.1 ∙ ap Ok same.2 in
@@ -129,12 +131,14 @@ pub deliver_found : (d : Data) (batches : List DeliveryValue) → deliver_at d �
 unfolding deliver_at deliver_in batches_fit
 deliver_found d batches is =
     let members = bind_ok (ok_or (as_object d) (BadShape Whole)) _ (deliver batches) is in
-    let items = bind_ok (member_as as_array (BadShape Batches) (get (codes "batches") d)) _ (deliver batches) members.2 in
+    let items = bind_ok (member_as as_array (BadShape Batches) (get_member (codes "batches") members.0)) _ (deliver batches) members.2 in
     let found = bind_ok (each_in batch_shape items.0) _ (deliver batches) items.2 in
     let named = bind_ok (named_alone (codes "batches" ∷ codes "do" ∷ []) members.0) _ (deliver batches) found.2 in
     let fit = bind_ok (batches_fit found.0) _ (deliver batches) named.2 in
     let same : found.0 ≡ batches = cc fit.2 in
-    let each = both_fit (fits Batches (are_few max_batches found.0)) _ fit.1 in
-    ap (each_in batch_in) (items_found _ (BadShape Batches) items.0 items.1)
+    let each = both_fit (fits Batches (are_few MAX_BATCHES found.0)) _ fit.1 in
+    let whole : d ≡ object members.0 = object_of d (BadShape Whole) members.0 members.1 in
+    ap (λ e. each_in batch_in (items_at (get (codes "batches") e))) whole
+    ∙ ap (each_in batch_in) (items_found _ (BadShape Batches) items.0 items.1)
     ∙ each_whole batch_shape batch_fits batch_in batch_whole items.0 found.0 found.1 each.1
     ∙ ap Ok same

@@ -3,7 +3,7 @@ use Rattle.std.proofs.Common.{◌≡◌, inl, inr, ℕ, List, [], ◌∷◌, map
 use Rattle.std.specs.List.{list_all}
 use Rattle.std.specs.Option.{ok_or}
 use Rattle.serde_json.specs.Data.{Data, number, string, array, object, unsigned, Members, no_members, member}
-use Rattle.serde_json.specs.Find.{get, get_member, as_str, as_array, as_object}
+use Rattle.serde_json.specs.Find.{get_member, as_str, as_array, as_object}
 use Rattle.serde_json.specs.View.{items_of}
 use Rattle.pn_json.specs.Members.{whole_number, member_as, each_in, only_named}
 use Rattle.pn_record.specs.Limits.{is_key}
@@ -17,22 +17,20 @@ use Rattle.pn_join.specs.Marks.{Positions}
 use Rattle.pn_protocol.specs.Command.Json.{delivery_data, tablet_member, adopt_command, copy_command, deliver_command, get_command, notices_command, read_command, relayout_command, scan_command}
 use Rattle.pn_protocol.specs.Command.Grammar.{IsRequired, Says, IsCommand}
 use Rattle.pn_protocol.specs.Command.Deliveries.{deliver_in}
-use Rattle.pn_protocol.specs.Command.Lookups.{get_in, read_in, scan_in}
-use Rattle.pn_protocol.specs.Command.Overview.{alone_in}
-use Rattle.pn_protocol.specs.Command.Objects.{command_as, allowed_in, command_in}
+use Rattle.pn_protocol.specs.Command.Lookups.{get_in, notices_in, read_in, scan_in}
+use Rattle.pn_protocol.specs.Command.Objects.{alone_in, command_as, allowed_in, command_in}
 use Rattle.pn_protocol.specs.Command.Limits.{may_announce, may_be_asked, may_be_required, is_delivery, is_command}
 use Rattle.pn_protocol.specs.Command.Meaning.{CommandValue, adopt, copy, deliver, lose, marks, notices, read, relayout, scan, tablets}
 use Rattle.pn_protocol.specs.Command.Meaning as meaning
 use Rattle.pn_protocol.specs.Command.Needs.{need_at, need_shape}
-use Rattle.pn_protocol.specs.Command.Notices.{notices_in}
-use Rattle.pn_protocol.specs.Command.Recovery.{adopt_in, copy_in, lose_in}
-use Rattle.pn_protocol.specs.Command.Relayouts.{relayout_in}
+use Rattle.pn_protocol.specs.Command.Tablets.{adopt_in, copy_in, lose_in, relayout_in}
 use Rattle.pn_protocol.specs.Command.Queries.{query_at, query_shape, fitting_query}
 use Rattle.pn_protocol.specs.Command.RangeChecks.{fits, batches_fit, bounds_fit, keys_fit, fitting_version}
-use Rattle.pn_protocol.specs.Command.ShapeChecks.{named_alone, batch_shape, key_shape, version_shape}
+use Rattle.pn_protocol.specs.Command.ShapeChecks.{named_alone, number_alone, keys_alone, batch_shape, key_shape, version_shape}
 use Rattle.pn_protocol.specs.Command.Words.{word_in}
 use Rattle.pn_protocol.specs.declared.command.word.CommandWord.{CommandWord}
 use Rattle.pn_protocol.specs.declared.command.word.CommandWord.TheVariants.{Adopt, Copy, Deliver, Get, Lose, Marks, Notices, Read, Relayout, Scan, Tablets}
+use Rattle.pn_protocol.specs.declared.refusal.Part.{Part}
 use Rattle.pn_protocol.specs.declared.refusal.Part.TheVariants.{Whole, Do, Batches, Bounds, Key, Keys, Lines, Since, Tablet}
 use Rattle.pn_protocol.specs.declared.refusal.Refusal.TheVariants.{BadShape}
 use Rattle.pn_protocol.proofs.CommandNeeds.{need_found, need_again}
@@ -46,21 +44,44 @@ use Rattle.pn_protocol.proofs.CommandParts.{text_at, number_at, array_at, object
 module _ (ms : Members) (order : InOrder (object ms)) where
   abbrev Found : CommandWord → Type 0
   Found word =
-      (command : CommandValue) → get_member (codes "do") ms ≡ Some (string (text_of word)) → command_as word ms (object ms) ≡ Ok command → IsCommand (object ms) command
+      (command : CommandValue) → get_member (codes "do") ms ≡ Some (string (text_of word)) → command_as word ms ≡ Ok command → IsCommand (object ms) command
 
   -- an object of these members alone
   named_object : (names : List (List ℕ)) (ns : Members) → named_alone names ms ≡ Ok tt → Rise ns → only_named names ns ≡ true → SameAt names ms ns → object ms ≡ object ns
   named_object names ns named rise also same = ap object (same_by_name names ms ns (rises (object ms) ms refl order) rise (are_named names ms named) also same)
 
+  -- the number of a command, and the names of its members
+  number_parts : (name : List ℕ) (part : Part) (n : ℕ) → number_alone name part ms ≡ Ok n → (get_member name ms ≡ Some (number (unsigned n))) × (named_alone (codes "do" ∷ name ∷ []) ms ≡ Ok tt)
+  number_parts name part n is =
+      let value = bind_ok (member_as whole_number (BadShape part) (get_member name ms)) _ n is in
+      let named = bind_ok (named_alone (codes "do" ∷ name ∷ []) ms) _ n value.2 in
+      let same : value.0 ≡ n = cc in
+      (number_at part _ value.0 value.1 ∙ ap (λ m. Some (number (unsigned m))) same, named.1)
+
+  -- the keys of a command, and the names of its members
+  keys_parts : (name : List ℕ) (names : List (List ℕ)) (part : Part) (keys : List (List ℕ)) → keys_alone name names part ms ≡ Ok keys
+      → (get_member name ms ≡ Some (array (items_of (map string keys)))) × (named_alone names ms ≡ Ok tt)
+  keys_parts name names part keys is =
+      let items = bind_ok (member_as as_array (BadShape part) (get_member name ms)) _ keys is in
+      let texts = bind_ok (each_in (key_shape part) items.0) _ keys items.2 in
+      let named = bind_ok (named_alone names ms) _ keys texts.2 in
+      let same : texts.0 ≡ keys = cc in
+      let there = array_at part _ items.0 items.1 in
+      let inside = array_in_order name ms items.0 (in_order (object ms) ms refl order) there in (
+        there ∙ ap (λ ds. Some (array ds)) (each_found (key_shape part) string (key_found part) items.0 texts.0 inside texts.1)
+            ∙ ap (λ (texts : List (List ℕ)). Some (array (items_of (map string texts)))) same,
+        named.1,
+      )
+
   adopt_found : Found Adopt
   unfolding adopt_in
   adopt_found command says is =
-      let lines = bind_ok (member_as whole_number (BadShape Lines) (get_member (codes "lines") ms)) _ command is in
-      let named = bind_ok (named_alone (names_of Adopt) ms) _ command lines.2 in
-      let fit = bind_ok (fits Lines (may_announce lines.0)) _ command named.2 in
+      let lines = bind_ok (number_alone (codes "lines") Lines ms) _ command is in
+      let parts = number_parts (codes "lines") Lines lines.0 lines.1 in
+      let fit = bind_ok (fits Lines (may_announce lines.0)) _ command lines.2 in
       let same : adopt lines.0 ≡ command = cc in
-      let whole = named_object (names_of Adopt) (member (codes "do") (string (codes "adopt")) (member (codes "lines") (number (unsigned lines.0)) no_members)) named.1 tt refl
-      (says, (number_at Lines _ lines.0 lines.1, tt)) in
+      let whole = named_object (names_of Adopt) (member (codes "do") (string (codes "adopt")) (member (codes "lines") (number (unsigned lines.0)) no_members)) parts.1 tt refl
+      (says, (parts.0, tt)) in
       subst (λ c. IsCommand (object ms) c) same (record { value = whole; limits = fits_true Lines (may_announce lines.0) fit.1 })
 
   copy_members : (tablet : ℕ) (o : Option Data) → get_member (codes "need") ms ≡ o → get_member (codes "do") ms ≡ Some (string (codes "copy")) → get_member (codes "tablet") ms ≡ Some (number (unsigned tablet))
@@ -100,25 +121,21 @@ module _ (ms : Members) (order : InOrder (object ms)) where
   get_found : Found Get
   unfolding get_in
   get_found command says is =
-      let items = bind_ok (member_as as_array (BadShape Keys) (get_member (codes "keys") ms)) _ command is in
-      let keys = bind_ok (each_in (key_shape Keys) items.0) _ command items.2 in
-      let named = bind_ok (named_alone (names_of Get) ms) _ command keys.2 in
-      let fit = bind_ok (keys_fit keys.0) _ command named.2 in
+      let keys = bind_ok (keys_alone (codes "keys") (names_of Get) Keys ms) _ command is in
+      let parts = keys_parts (codes "keys") (names_of Get) Keys keys.0 keys.1 in
+      let fit = bind_ok (keys_fit keys.0) _ command keys.2 in
       let same : meaning.get keys.0 ≡ command = cc in
-      let at_keys = array_at Keys _ items.0 items.1 in
-      let inside = array_in_order (codes "keys") ms items.0 (in_order (object ms) ms refl order) at_keys in
-      let value : object ms ≡ get_command keys.0 =
-      named_object (names_of Get) (member (codes "do") (string (codes "get")) (member (codes "keys") (array (items_of (map string keys.0))) no_members)) named.1 tt refl
-      (says, (at_keys ∙ ap (λ ds. Some (array ds)) (each_found (key_shape Keys) string (key_found Keys) items.0 keys.0 inside keys.1), tt)) in
-      subst (λ c. IsCommand (object ms) c) same (record { value = value; limits = keys_kept keys.0 fit.1 })
+      let whole = named_object (names_of Get) (member (codes "do") (string (codes "get")) (member (codes "keys") (array (items_of (map string keys.0))) no_members)) parts.1 tt refl
+      (says, (parts.0, tt)) in
+      subst (λ c. IsCommand (object ms) c) same (record { value = whole; limits = keys_kept keys.0 fit.1 })
 
   lose_found : Found Lose
   unfolding lose_in
   lose_found command says is =
-      let tablet = bind_ok (member_as whole_number (BadShape Tablet) (get_member (codes "tablet") ms)) _ command is in
-      let named = bind_ok (named_alone (names_of Lose) ms) _ command tablet.2 in
+      let tablet = bind_ok (number_alone (codes "tablet") Tablet ms) _ command is in
+      let parts = number_parts (codes "tablet") Tablet tablet.0 tablet.1 in
       let same : lose tablet.0 ≡ command = cc in
-      let whole = named_object (names_of Lose) (member (codes "do") (string (codes "lose")) (tablet_member tablet.0)) named.1 tt refl (says, (number_at Tablet _ tablet.0 tablet.1, tt)) in
+      let whole = named_object (names_of Lose) (member (codes "do") (string (codes "lose")) (tablet_member tablet.0)) parts.1 tt refl (says, (parts.0, tt)) in
       subst (λ c. IsCommand (object ms) c) same (record { value = whole; limits = refl })
 
   alone_found : (word : CommandWord) (said : CommandValue) → names_of word ≡ codes "do" ∷ [] → Says (object (member (codes "do") (string (text_of word)) no_members)) said → is_command said ≡ true
@@ -137,12 +154,12 @@ module _ (ms : Members) (order : InOrder (object ms)) where
   notices_found : Found Notices
   unfolding notices_in
   notices_found command says is =
-      let since = bind_ok (member_as whole_number (BadShape Since) (get_member (codes "since") ms)) _ command is in
-      let named = bind_ok (named_alone (names_of Notices) ms) _ command since.2 in
-      let fit = bind_ok (fits Since (may_be_asked since.0)) _ command named.2 in
+      let since = bind_ok (number_alone (codes "since") Since ms) _ command is in
+      let parts = number_parts (codes "since") Since since.0 since.1 in
+      let fit = bind_ok (fits Since (may_be_asked since.0)) _ command since.2 in
       let same : notices since.0 ≡ command = cc in
-      let whole = named_object (names_of Notices) (member (codes "do") (string (codes "notices")) (member (codes "since") (number (unsigned since.0)) no_members)) named.1 tt refl
-      (says, (number_at Since _ since.0 since.1, tt)) in
+      let whole = named_object (names_of Notices) (member (codes "do") (string (codes "notices")) (member (codes "since") (number (unsigned since.0)) no_members)) parts.1 tt refl
+      (says, (parts.0, tt)) in
       subst (λ c. IsCommand (object ms) c) same (record { value = whole; limits = fits_true Since (may_be_asked since.0) fit.1 })
 
   read_members : (key : List ℕ) (o : Option Data) → get_member (codes "version") ms ≡ o → get_member (codes "do") ms ≡ Some (string (codes "read")) → get_member (codes "key") ms ≡ Some (string key)
@@ -169,17 +186,13 @@ module _ (ms : Members) (order : InOrder (object ms)) where
   relayout_found : Found Relayout
   unfolding relayout_in
   relayout_found command says is =
-      let items = bind_ok (member_as as_array (BadShape Bounds) (get_member (codes "bounds") ms)) _ command is in
-      let bounds = bind_ok (each_in (key_shape Bounds) items.0) _ command items.2 in
-      let named = bind_ok (named_alone (names_of Relayout) ms) _ command bounds.2 in
-      let fit = bind_ok (bounds_fit bounds.0) _ command named.2 in
+      let bounds = bind_ok (keys_alone (codes "bounds") (names_of Relayout) Bounds ms) _ command is in
+      let parts = keys_parts (codes "bounds") (names_of Relayout) Bounds bounds.0 bounds.1 in
+      let fit = bind_ok (bounds_fit bounds.0) _ command bounds.2 in
       let same : relayout bounds.0 ≡ command = cc in
-      let at_bounds = array_at Bounds _ items.0 items.1 in
-      let inside = array_in_order (codes "bounds") ms items.0 (in_order (object ms) ms refl order) at_bounds in
-      let value : object ms ≡ relayout_command bounds.0 =
-      named_object (names_of Relayout) (member (codes "bounds") (array (items_of (map string bounds.0))) (member (codes "do") (string (codes "relayout")) no_members)) named.1 tt refl
-      (at_bounds ∙ ap (λ ds. Some (array ds)) (each_found (key_shape Bounds) string (key_found Bounds) items.0 bounds.0 inside bounds.1), (says, tt)) in
-      subst (λ c. IsCommand (object ms) c) same (record { value = value; limits = bounds_kept bounds.0 fit.1 })
+      let whole = named_object (names_of Relayout) (member (codes "bounds") (array (items_of (map string bounds.0))) (member (codes "do") (string (codes "relayout")) no_members)) parts.1 tt refl
+      (parts.0, (says, tt)) in
+      subst (λ c. IsCommand (object ms) c) same (record { value = whole; limits = bounds_kept bounds.0 fit.1 })
 
   scan_found : Found Scan
   unfolding scan_in
@@ -217,10 +230,10 @@ pub command_found : (d : Data) (command : CommandValue) → InOrder d → comman
 unfolding allowed_in
 command_found d command order is =
     let members = bind_ok (ok_or (as_object d) (BadShape Whole)) _ command is in
-    let word = bind_ok (member_as word_in (BadShape Do) (get (codes "do") d)) _ command members.2 in
+    let word = bind_ok (member_as word_in (BadShape Do) (get_member (codes "do") members.0)) _ command members.2 in
     let whole = object_of d (BadShape Whole) members.0 members.1 in
     subst (λ e. IsCommand e command) (sym whole)
-    (word_found members.0 (subst InOrder whole order) word.0 command (ap (get (codes "do")) (sym whole) ∙ word_at _ word.0 word.1) (ap (command_as word.0 members.0) (sym whole) ∙ word.2))
+    (word_found members.0 (subst InOrder whole order) word.0 command (word_at _ word.0 word.1) word.2)
 
 read_again : (key : List ℕ) (required : Option Stamp) (others : Members) → IsRequired others required → is_key key ≡ true → fitting_version required ≡ Ok required
     → command_in (read_command key others) ≡ Ok (read key required)

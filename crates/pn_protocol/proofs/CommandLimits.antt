@@ -17,9 +17,10 @@ use Rattle.pn_json.proofs.Inverses.{guard_ok}
 use Rattle.pn_record.proofs.Limiting.{in_ranges, image_from_ranges}
 use Rattle.pn_stream.specs.Positions.{DeliveryValue, are_positions}
 use Rattle.pn_tablet.specs.Layouts.{Bounds}
-use Rattle.pn_tablet.specs.Limits.{max_bounds}
+use Rattle.pn_tablet.specs.declared.layout.TheConstants.{MAX_BOUNDS}
 use Rattle.pn_protocol.specs.Command.Json.{delivery_data, deliver_command}
-use Rattle.pn_protocol.specs.Command.Limits.{is_delivery, max_keys, are_few, may_be_required, is_command}
+use Rattle.pn_protocol.specs.Command.Limits.{is_delivery, are_few, may_be_required, is_command}
+use Rattle.pn_protocol.specs.declared.command.ranges.TheConstants.{MAX_KEYS}
 use Rattle.pn_protocol.specs.Command.Meaning.{deliver, get, read, relayout}
 use Rattle.pn_protocol.specs.Command.RangeChecks.{fits, each_fits, image_fits, batch_fits, batches_fit, bounds_fit, key_fits, keys_fit, fitting_version}
 use Rattle.pn_protocol.specs.declared.refusal.Part.{Part}
@@ -73,8 +74,8 @@ delivery_again : (delivery : DeliveryValue) → is_delivery delivery ≡ true �
 unfolding batch_fits
 delivery_again delivery keeps =
     let parts = and_parts (is_name delivery.stream && are_positions delivery.first (length delivery.images)) (list_all is_image delivery.images) keeps in
-    let places = and_parts (is_name delivery.stream) (are_positions delivery.first (length delivery.images)) parts.0 in
-    rw (places.0, places.1, fit_each image_fits is_image image_again delivery.images parts.1) refl
+    let named = and_parts (is_name delivery.stream) (are_positions delivery.first (length delivery.images)) parts.0 in
+    rw (named.0, named.1, fit_each image_fits is_image image_again delivery.images parts.1) refl
 
 abbrev pub deliver_members : List DeliveryValue → Members
 deliver_members deliveries =
@@ -110,13 +111,13 @@ key_at [] i other inside are = absurd (omega (arith, inside))
 key_at (key ∷ keys) zero other inside are = (and_parts (is_key key.now) (list_all is_key (texts keys)) are).0
 key_at (key ∷ keys) (suc i) other inside are = key_at keys i other (omega (arith, inside)) (and_parts (is_key key.now) (list_all is_key (texts keys)) are).1
 
-keys_in : (keys : List (List ℕ)) → keys_fit keys ≡ Ok tt → (are_few max_keys keys ≡ true) × (list_all is_key keys ≡ true)
+keys_in : (keys : List (List ℕ)) → keys_fit keys ≡ Ok tt → (are_few MAX_KEYS keys ≡ true) × (list_all is_key keys ≡ true)
 unfolding keys_fit
 keys_in keys is =
     let count = both_fit (fits Keys _) (each_fits (key_fits Keys) keys) is in
     (fits_true Keys _ count.0, all_keys Keys keys count.1)
 
-bounds_in : (bounds : Bounds) → bounds_fit bounds ≡ Ok tt → (nat_le (length bounds) max_bounds ≡ true) × (list_all is_key bounds ≡ true)
+bounds_in : (bounds : Bounds) → bounds_fit bounds ≡ Ok tt → (nat_le (length bounds) MAX_BOUNDS ≡ true) × (list_all is_key bounds ≡ true)
 unfolding bounds_fit
 bounds_in bounds is =
     let count = both_fit (fits part.Bounds _) (each_fits (key_fits part.Bounds) bounds) is in
@@ -148,7 +149,7 @@ keys_again keys keeps =
 pub bounds_again : (bounds : Bounds) → is_command (relayout bounds) ≡ true → bounds_fit bounds ≡ Ok tt
 unfolding bounds_fit
 bounds_again bounds keeps =
-    let parts = and_parts (nat_le (length bounds) max_bounds) (list_all is_key bounds) keeps in
+    let parts = and_parts (nat_le (length bounds) MAX_BOUNDS) (list_all is_key bounds) keeps in
     rw (parts.0, fit_each (key_fits part.Bounds) is_key (key_again part.Bounds) bounds parts.1) refl
 
 version_kept : (required version : Option Stamp) → fitting_version required ≡ Ok version → (required ≡ version) × (may_be_required required ≡ true)

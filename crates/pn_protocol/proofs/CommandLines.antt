@@ -24,14 +24,14 @@ pub line_found : (line : List ℕ) (command : CommandValue) → command_at line 
 unfolding allowed_at value_at
 line_found line command is =
     let value = bind_ok (fault_as refusal_of (value_at line)) command_in command is in
-    let parts = no_fault (ltb 65536 (length line)) image.TooLong (ok_or (reading line) image.NotJson) value.0 (as_ok refusal_of (value_at line) value.0 value.1) in
+    let parts = no_fault (ltb max_line_bytes (length line)) image.TooLong (ok_or (reading line) image.NotJson) value.0 (as_ok refusal_of (value_at line) value.0 value.1) in
     let read = ok_or_ok (reading line) image.NotJson value.0 parts.1 in
     record { short = ltb-false _ _ parts.0; value = value.0; read = read; spelled = command_found value.0 command (in_order line value.0 read) value.2 }
 
 -- a command's line is read as the command
 pub line_again : (line : List ℕ) (command : CommandValue) → IsCommandLine line command → command_at line ≡ Ok command
 unfolding allowed_at value_at
-line_again line command is = rw (le-ltb 65536 (length line) is.short, is.read) (command_again is.value command is.spelled)
+line_again line command is = rw (le-ltb max_line_bytes (length line) is.short, is.read) (command_again is.value command is.spelled)
 
 -- what was answered is the line of what is read
 pub answer_found : (line : List ℕ) {A : Type 0} (show : A → CommandValue) (answer : Result A Refusal) → ShowsUnless Memory show answer (command_at line) → IfOk answer (λ command. IsCommandLine line (show command))
@@ -57,10 +57,10 @@ pub answer_short : (line : List ℕ) {A : Type 0} (answer : Result A Refusal) �
 answer_short line answer long memory = by_test (is_too_long line) (λ is. both_not (sym (long (ltb-true max_line_bytes (length line) is)) ∙ memory))
 
 -- a line that is too long is refused as such
-pub too_long : (allowed : Allowed) (line : List ℕ) → 65536 < length line → allowed_at allowed line ≡ Err TooLong
+pub too_long : (allowed : Allowed) (line : List ℕ) → max_line_bytes < length line → allowed_at allowed line ≡ Err TooLong
 unfolding allowed_at value_at
 too_long allowed line long =
-    let test : nat_lt 65536 (length line) ≡ true = grind (arith, nat_tests) in
+    let test : nat_lt max_line_bytes (length line) ≡ true = grind (arith, nat_tests) in
     ap (λ b. fault_as refusal_of (cond b (Err image.TooLong) (ok_or (reading line) image.NotJson)) >>= allowed_in allowed) test
 
 -- no line is the line of two commands

@@ -5,7 +5,7 @@ use Rattle.std.proofs.lemmas.Slice.Eq.{bytes_eq-Decides}
 use Rattle.std.specs.List.{list_all}
 use Rattle.std.specs.Option.{ok_or}
 use Rattle.serde_json.specs.Data.{Data, null, boolean, number, string, array, object, unsigned, Items, no_items, item, Members, no_members, member}
-use Rattle.serde_json.specs.Find.{get, get_member, as_str, as_array, as_object}
+use Rattle.serde_json.specs.Find.{get_member, as_str, as_array, as_object}
 use Rattle.serde_json.specs.View.{items_of}
 use Rattle.pn_json.specs.Members.{whole_number, member_as, each_in, only_named}
 use Rattle.pn_join.specs.Naming.{is_name}
@@ -126,19 +126,19 @@ pub batch_found : (d : Data) (batch : DeliveryValue) → InOrder d → batch_sha
 unfolding batch_shape
 batch_found d batch order is =
     let members = bind_ok (ok_or (as_object d) (BadShape Batches)) _ batch is in
-    let first = bind_ok (member_as whole_number (BadShape First) (get (codes "first") d)) _ batch members.2 in
-    let items = bind_ok (member_as as_array (BadShape Images) (get (codes "images") d)) _ batch first.2 in
+    let first = bind_ok (member_as whole_number (BadShape First) (get_member (codes "first") members.0)) _ batch members.2 in
+    let items = bind_ok (member_as as_array (BadShape Images) (get_member (codes "images") members.0)) _ batch first.2 in
     let images = bind_ok (each_in image_shape items.0) _ batch items.2 in
-    let stream = bind_ok (member_as as_str (BadShape Stream) (get (codes "stream") d)) _ batch images.2 in
+    let stream = bind_ok (member_as as_str (BadShape Stream) (get_member (codes "stream") members.0)) _ batch images.2 in
     let named = bind_ok (named_alone batch_names members.0) _ batch stream.2 in
     let same : ◌≡◌ {A = DeliveryValue} (record { stream = stream.0; first = first.0; images = images.0 }) batch = cc in
     let whole : d ≡ object members.0 = object_of d (BadShape Batches) members.0 members.1 in
-    let at_images : get_member (codes "images") members.0 ≡ Some (array items.0) = ap (get (codes "images")) (sym whole) ∙ array_at Images _ items.0 items.1 in
+    let at_images : get_member (codes "images") members.0 ≡ Some (array items.0) = array_at Images _ items.0 items.1 in
     let inside = array_in_order (codes "images") members.0 items.0 (in_order d members.0 whole order) at_images in
     let found = batch_named members.0 (record { stream = stream.0; first = first.0; images = images.0 }) (rises d members.0 whole order) (are_named batch_names members.0 named.1)
-    (ap (get (codes "first")) (sym whole) ∙ number_at First _ first.0 first.1)
+    (number_at First _ first.0 first.1)
     (at_images ∙ ap (λ ds. Some (array ds)) (each_found image_shape image_data image_found items.0 images.0 inside images.1))
-    (ap (get (codes "stream")) (sym whole) ∙ text_at Stream _ stream.0 stream.1) in
+    (text_at Stream _ stream.0 stream.1) in
     subst (λ b. d ≡ delivery_data b) same (subst (λ e. e ≡ delivery_data (record { stream = stream.0; first = first.0; images = images.0 })) (sym whole) found)
 
 pub batch_again : (batch : DeliveryValue) → is_delivery batch ≡ true → batch_shape (delivery_data batch) ≡ Ok batch

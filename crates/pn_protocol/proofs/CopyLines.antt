@@ -6,7 +6,7 @@ use Rattle.std.proofs.lemmas.List.Elements.{All-head, All-tail}
 use Rattle.pn_line.specs.Reads.{IsUnbroken}
 use Rattle.pn_line.specs.Text.{lines_of, text_of}
 use Rattle.pn_line.proofs.TextLaws.{lines_of-text, lines_of-nil, text_of-nil, text_of-cons}
-use Rattle.pn_protocol.specs.Reply.Recovery.{is_newline}
+use Rattle.pn_protocol.specs.Reply.Answers.{is_newline}
 
 abbrev newlines : List ℕ → ℕ
 newlines [] = 0

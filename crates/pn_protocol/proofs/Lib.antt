@@ -1,4 +1,5 @@
 pub mod BatchParts
+pub mod Capacity
 pub mod CommandJson
 pub mod CommandLimits
 pub mod CommandLines
@@ -7,5 +8,5 @@ pub mod CommandParts
 pub mod CopyLines
 pub mod EachFits
 pub mod FoundRows
-pub mod RefusalTexts
+pub mod Refusals
 pub mod Walks

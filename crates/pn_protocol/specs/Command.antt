@@ -1,5 +1,4 @@
 -- Lines as commands.
-pub mod BatchParts
 pub mod Deliveries
 pub mod Grammar
 pub mod Json
@@ -8,12 +7,9 @@ pub mod Lines
 pub mod Lookups
 pub mod Meaning
 pub mod Needs
-pub mod Notices
 pub mod Objects
-pub mod Overview
 pub mod Queries
 pub mod RangeChecks
-pub mod Recovery
-pub mod Relayouts
 pub mod ShapeChecks
+pub mod Tablets
 pub mod Words

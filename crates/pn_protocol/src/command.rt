@@ -1,15 +1,12 @@
 //! The commands that lines say.
 
-pub(crate) mod batch;
 mod build;
-pub(crate) mod laws;
-mod notices;
+mod lookups;
+mod members;
 pub(crate) mod parse;
 mod ranges;
-mod records;
-mod recovery;
-mod relayout;
 mod shapes;
+mod tablets;
 pub(crate) mod word;
 
 use pn_join::Marks;

@@ -1,12 +1,11 @@
 //! Replies.
 
 pub(crate) mod answers;
+mod capacity;
 mod errors;
-pub(crate) mod faults;
-pub(crate) mod marks;
 pub(crate) mod notices;
-pub(crate) mod record;
-mod room;
+mod record;
+pub(crate) mod refusals;
 mod rows;
 pub(crate) mod scan;
 pub(crate) mod short;

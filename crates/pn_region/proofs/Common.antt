@@ -1,10 +1,10 @@
--- The names that most proofs cite, passed on from one place.
+-- The names that most proofs cite, passed on by one module.
 pub use Rattle.std.specs.FinMap.{find, is_sorted}
 pub use Rattle.std.specs.List.{flat_map, range_with_len, AllByRecursion}
 pub use Rattle.std.specs.Option.{option_or}
 pub use Rattle.std.specs.Ordering.{eq_by_cmp}
 pub use Rattle.std.specs.Prelude.{Ok, Err, MatchResult, Some, slice_get, Result, IsSome}
-pub use Rattle.pn_join.specs.Marks.{Positions, Reaches, position_of, raised, name_cmp, are_positions}
+pub use Rattle.pn_join.specs.Marks.{Positions, Reaches, position_of, raised_marks, name_cmp, are_positions}
 pub use Rattle.pn_record.specs.CellMap.{Entries, table_of}
 pub use Rattle.pn_record.specs.Cells.{spell, SameImages}
 pub use Rattle.pn_record.specs.Order.{bytes_cmp}
@@ -15,26 +15,27 @@ pub use Rattle.pn_stream.specs.Positions.{DeliveryValue}
 pub use Rattle.pn_tablet.specs.Changes.{changes}
 pub use Rattle.pn_tablet.specs.Copies.{TabletCopyValue}
 pub use Rattle.pn_tablet.specs.Layouts.{Bounds, IsLayout, tablet_ends, tablet_of}
-pub use Rattle.pn_tablet.specs.Needs.{lacking}
+pub use Rattle.pn_tablet.specs.Needs.{need_shortfall}
 pub use Rattle.pn_tablet.specs.Ranges.{Ends, in_range}
-pub use Rattle.pn_tablet.specs.Steps.{stepped, lost, step, after_step}
+pub use Rattle.pn_tablet.specs.Steps.{tablet_after, recovering_tablet, step, after_step}
 pub use Rattle.pn_tablet.specs.Tablets.{TabletStateValue, empty_tablet, lie_in, same_range}
 pub use Rattle.pn_tablet.specs.declared.change.Change.{Change}
 pub use Rattle.pn_tablet.specs.declared.fault.OpFault.TheVariants.{WrongRange}
-pub use Rattle.pn_tablet.specs.declared.needs.Short.{Short}
-pub use Rattle.pn_tablet.specs.declared.op.TabletOp.{TabletOp}
-pub use Rattle.pn_tablet.specs.declared.op.TabletOp.TheVariants.{Join, Lose, Adopt}
+pub use Rattle.pn_tablet.specs.declared.fault.Shortfall.{Shortfall}
+pub use Rattle.pn_tablet.specs.declared.state.TabletOp.{TabletOp}
+pub use Rattle.pn_tablet.specs.declared.state.TabletOp.TheVariants.{Join, Lose, Adopt}
 pub use Rattle.pn_tablet.specs.declared.state.Status.TheVariants.{Serving, Recovering}
 pub use Rattle.pn_apply.specs.Applying.{all_stepped, AreOldOrStepped, all_changes}
 pub use Rattle.pn_apply.specs.Reducing.{all_images, images_in, join_in, ranges, joined_cells}
 pub use Rattle.pn_scan.specs.Pages.{refusal, first_refusal, first_page}
 pub use Rattle.pn_region.specs.Faith.{IsFaithful, AreFaithful}
 pub use Rattle.pn_region.specs.Laws.{HasImages, AreIn, HasBetween}
-pub use Rattle.pn_region.specs.Log.{max_notices, last_number, entries_of}
+pub use Rattle.pn_region.specs.declared.notices.TheConstants.{MAX_NOTICES, LAST_NUMBER}
+pub use Rattle.pn_region.specs.Log.{entries_of}
 pub use Rattle.pn_region.specs.Logged.{LoggedRegion}
-pub use Rattle.pn_region.specs.Marking.{new_marks, last_position, bringing, marked, leaves_gap, marks_after, of_few_streams, all_marked}
+pub use Rattle.pn_region.specs.Marking.{new_marks, last_position, with_images, with_delivery, leaves_gap, marks_after, of_few_streams, with_deliveries}
 pub use Rattle.pn_region.specs.Reads.{look_for, get_in, page_in, all_looks}
-pub use Rattle.pn_region.specs.Recovery.{stepped_at, tablet_for, adopting_by}
+pub use Rattle.pn_region.specs.Recovery.{tablets_after_op, tablet_for, after_adoption_by}
 pub use Rattle.pn_region.specs.Regions.{RegionValue, IsTabletOf, AreTabletsOf, IsRegion, new_region, all_cells, IsSound}
 pub use Rattle.pn_region.specs.Rounds.{joins, IsHalfTaken}
 pub use Rattle.pn_region.specs.Serving.{AllServe}

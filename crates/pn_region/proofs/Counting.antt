@@ -8,7 +8,7 @@ use Rattle.pn_record.specs.CellMap.{adds}
 use Rattle.pn_record.proofs.CellLists.{both, cells-append}
 use Rattle.pn_record.proofs.CellMaps.{rising-table_of, Holds-table_of, cells-spelled}
 use Rattle.pn_tablet.proofs.Changed.{few_changes}
-use Rattle.pn_region.proofs.Common.{flat_map, find, is_sorted, Positions, Image, bytes_cmp, spell, Entries, table_of, changes, Ends, stepped, TabletStateValue, Change, TabletOp, all_changes, images_in, join_in, joined_cells, IsTabletOf, AreTabletsOf}
+use Rattle.pn_region.proofs.Common.{flat_map, find, is_sorted, Positions, Image, bytes_cmp, spell, Entries, table_of, changes, Ends, tablet_after, TabletStateValue, Change, TabletOp, all_changes, images_in, join_in, joined_cells, IsTabletOf, AreTabletsOf}
 use Rattle.pn_region.proofs.RoundSteps.{is_taken, same_list}
 
 -- what lists of changes hold together
@@ -33,7 +33,7 @@ rising_adds old images = rising-table_of (spell old ++ images)
 module _ (marks : Positions) (images : List Image) where
   -- a tablet changes no more cells than its join has
   few_in : (old : Positions) (r : Ends) (t : TabletStateValue) → IsTabletOf old r t
-      → length (changes t.cells (stepped t (join_in marks images r)).cells) ≤ length (table_of (images_in r images))
+      → length (changes t.cells (tablet_after t (join_in marks images r)).cells) ≤ length (table_of (images_in r images))
   few_in old r t is =
       let more = table_of (images_in r images) in
       subst (λ (after : TabletStateValue). length (changes t.cells after.cells) ≤ length more) (sym (is_taken marks images old r t is))
@@ -51,7 +51,7 @@ module _ (marks : Positions) (images : List Image) where
   few_together old (r ∷ rs) [] are = absurd are
   few_together old (r ∷ rs) (t ∷ ts) are =
       let ops = map (join_in marks images) rs in
-      let here = changes t.cells (stepped t (join_in marks images r)).cells in
+      let here = changes t.cells (tablet_after t (join_in marks images r)).cells in
       omega (
         arith,
         few_in old r t are.0,

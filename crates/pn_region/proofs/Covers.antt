@@ -2,12 +2,12 @@
 use Rattle.std.proofs.Common.{◌≡◌, ℕ, ◌<◌, ◌≤◌, true, false, nat_lt, List, [], ◌++◌, length, get_or, refl, sym, ap, ◌∙◌, arith, ◌⊎◌, inl, inr, Contains}
 use Rattle.std.proofs.lemmas.Bool.Decides.{nat_tests}
 use Rattle.std.proofs.lemmas.List.Elements.{Contains-append_left, Contains-append_right}
-use Rattle.pn_join.proofs.MarksFacts.{position_of-raised}
+use Rattle.pn_join.proofs.MarksFacts.{position_of-raised_marks}
 use Rattle.pn_stream.proofs.Published.{Stands, is_up_to, published}
-use Rattle.pn_tablet.specs.Steps.{taking}
+use Rattle.pn_tablet.specs.Steps.{with_join}
 use Rattle.pn_region.specs.Relayouts.{made_of}
 use Rattle.pn_region.specs.Taken.{CoverTells, CoversTell}
-use Rattle.pn_region.proofs.Common.{Ok, Positions, Reaches, position_of, raised, Image, table_of, BrokerRecord, up_to, AreHonest, DeliveryValue, TabletCopyValue, Ends, in_range, lost, TabletStateValue, Serving, all_images, images_in, AreIn, new_marks, RegionValue, IsTabletOf, IsRegion}
+use Rattle.pn_region.proofs.Common.{Ok, Positions, Reaches, position_of, raised_marks, Image, table_of, BrokerRecord, up_to, AreHonest, DeliveryValue, TabletCopyValue, Ends, in_range, recovering_tablet, TabletStateValue, Serving, all_images, images_in, AreIn, new_marks, RegionValue, IsTabletOf, IsRegion}
 use Rattle.pn_region.proofs.EventRules.{none, Rules}
 use Rattle.pn_region.proofs.Faith.{brought, was_brought}
 use Rattle.pn_region.proofs.InRange.{from_images_in, to_images_in}
@@ -54,41 +54,41 @@ second_so f (inr b) = inr (f b)
 -- the raised cover reaches what the old one did, and positions past that, up to the marks
 beyond : (broker : BrokerRecord) (cover marks : Positions) (more : List Image)
     → ((image : Image) (stream : List ℕ) (at : ℕ) → position_of cover stream ≤ at → at < position_of marks stream → at < length (broker stream) → get_or (broker stream) at image ≡ image → Contains more image)
-    → (image : Image) → Contains (up_to broker (raised cover marks)) image → Contains (up_to broker cover) image ⊎ Contains more image
+    → (image : Image) → Contains (up_to broker (raised_marks cover marks)) image → Contains (up_to broker cover) image ⊎ Contains more image
 beyond broker cover marks more past image there =
-    let new = published broker (raised cover marks) image there in
+    let new = published broker (raised_marks cover marks) image there in
     by_place new.stream new.stands
   where
-    by_place : (stream : List ℕ) → Stands (broker stream) (position_of (raised cover marks) stream) image → Contains (up_to broker cover) image ⊎ Contains more image
+    by_place : (stream : List ℕ) → Stands (broker stream) (position_of (raised_marks cover marks) stream) image → Contains (up_to broker cover) image ⊎ Contains more image
     by_place stream stands =
         elim (nat_lt stands.at (position_of cover stream)) as (λ b. nat_lt stands.at (position_of cover stream) ≡ b → Contains (up_to broker cover) image ⊎ Contains more image) [
           | true ↦ λ before. inl (is_up_to broker cover stream image (record { at = stands.at; below = grind (arith, nat_tests); within = stands.within; is = stands.is }))
           | false ↦ λ ahead.
               let reached : position_of cover stream ≤ stands.at = grind (arith, nat_tests) in
-              inr (past image stream stands.at reached (omega (arith, reached, stands.below, position_of-raised cover marks stream)) stands.within stands.is)
+              inr (past image stream stands.at reached (omega (arith, reached, stands.below, position_of-raised_marks cover marks stream)) stands.within stands.is)
         ] refl
 
 -- the reach and the cover of a tablet that takes a round
 round_tells : (broker : BrokerRecord) (marks next : Positions) (deliveries : List DeliveryValue) → AreHonest broker deliveries → new_marks marks deliveries ≡ Ok next
     → (taken left more maybe : List Image) (r : Ends) (t : TabletStateValue) → IsTabletOf marks r t → AreIn more (all_images deliveries) → AreIn (all_images deliveries) (more ++ maybe)
-    → CoverTells broker taken left t → CoverTells broker (taken ++ more) (left ++ maybe) (taking t (table_of (images_in r (all_images deliveries))) next)
+    → CoverTells broker taken left t → CoverTells broker (taken ++ more) (left ++ maybe) (with_join t (table_of (images_in r (all_images deliveries))) next)
 round_tells broker marks next deliveries honest accepted taken left more maybe r t is of to tells =
-    tells_more broker taken left more maybe t (taking t (table_of (images_in r (all_images deliveries))) next) refl (λ name. omega (arith, position_of-raised t.reach next name)) tells
-    (λ image there lies. brought broker marks next deliveries honest accepted (raised t.reach next) (λ name. omega (arith, position_of-raised t.reach next name)) image (of image there))
+    tells_more broker taken left more maybe t (with_join t (table_of (images_in r (all_images deliveries))) next) refl (λ name. omega (arith, position_of-raised_marks t.reach next name)) tells
+    (λ image there lies. brought broker marks next deliveries honest accepted (raised_marks t.reach next) (λ name. omega (arith, position_of-raised_marks t.reach next name)) image (of image there))
     (λ image there lies.
     beyond broker t.cover next (more ++ maybe)
-    (λ one stream at past below within place.
+    (λ one stream at past below within given.
     to one (was_brought broker marks next deliveries honest accepted stream one at (omega (arith, past, is.covered stream)) (omega (arith, below)) within place))
     image there)
 
 -- those of one that adopts a copy of its range
 adopted_tells : (broker : BrokerRecord) (copy : TabletCopyValue) (taken left : List Image) (t : TabletStateValue) → t.range ≡ copy.range → CoverTells broker taken left t
-    → CoverTells broker (taken ++ images_in copy.range (up_to broker copy.marks)) (left ++ []) (record (taking t copy.cells copy.marks) { status = Serving })
+    → CoverTells broker (taken ++ images_in copy.range (up_to broker copy.marks)) (left ++ []) (record (with_join t copy.cells copy.marks) { status = Serving })
 adopted_tells broker copy taken left t ranged tells =
     let more = images_in copy.range (up_to broker copy.marks) in
-    tells_more broker taken left more [] t (record (taking t copy.cells copy.marks) { status = Serving }) refl (λ name. omega (arith, position_of-raised t.reach copy.marks name)) tells
+    tells_more broker taken left more [] t (record (with_join t copy.cells copy.marks) { status = Serving }) refl (λ name. omega (arith, position_of-raised_marks t.reach copy.marks name)) tells
     (λ image there lies.
-    up_to_more broker (raised t.reach copy.marks) copy.marks (λ name. omega (arith, position_of-raised t.reach copy.marks name)) image (from_images_in copy.range (up_to broker copy.marks) image there).there)
+    up_to_more broker (raised_marks t.reach copy.marks) copy.marks (λ name. omega (arith, position_of-raised_marks t.reach copy.marks name)) image (from_images_in copy.range (up_to broker copy.marks) image there).there)
     (λ image there lies.
     second_so
     (λ copied. Contains-append_left more [] image (to_images_in copy.range (up_to broker copy.marks) image copied (ap (λ (ends : Ends). in_range ends image.key) (sym ranged) ∙ lies)))
@@ -115,7 +115,7 @@ cover_rules broker = record {
       tells_more broker taken left more maybe t t refl (λ name. omega arith) tells (λ image there lies. absurd (apart image there lies)) (λ image there lies. inl there);
   takes = round_tells broker;
   loses = λ taken left t tells.
-      tells_more broker taken left [] [] t (lost t) refl (λ name. omega arith) tells (λ image there lies. none image there) (λ image there lies. inl there);
+      tells_more broker taken left [] [] t (recovering_tablet t) refl (λ name. omega arith) tells (λ image there lies. none image there) (λ image there lies. inl there);
   adopts = λ copy honest taken left t ranged lacks tells. adopted_tells broker copy taken left t ranged tells;
   relays = λ region is serve taken left tell r. made_tells broker region is taken left tell r;
 }

@@ -3,14 +3,14 @@ use Rattle.std.proofs.Common.{◌≡◌, ℕ, zero, suc, ◌<◌, Bool, true, fa
 use Rattle.std.specs.Option.{option_and_then}
 use Rattle.std.proofs.lemmas.List.{append_assoc}
 use Rattle.std.proofs.lemmas.List.Elements.{Contains-append_left}
-use Rattle.pn_tablet.specs.Steps.{taking}
+use Rattle.pn_tablet.specs.Steps.{with_join}
 use Rattle.pn_tablet.specs.Steps as steps
 use Rattle.pn_tablet.proofs.Stepping.{one_range}
 use Rattle.pn_region.specs.Events.{RegionEvent, round, half_round, loss, adoption, relayout, LeadsTo, AllLeadTo, IsHonestEvent, AreHonestEvents}
 use Rattle.pn_region.specs.Honest.{IsHonestCopy}
 use Rattle.pn_region.specs.Relayouts.{made_of}
 use Rattle.pn_region.specs.Taken.{taken_by, all_taken, left_by, all_left}
-use Rattle.pn_region.proofs.Common.{MatchResult, AllByRecursion, Positions, Image, table_of, BrokerRecord, up_to, AreHonest, DeliveryValue, TabletCopyValue, lacking, Ends, in_range, lost, after_step, stepped, TabletStateValue, same_range, WrongRange, Short, Lose, Adopt, Serving, all_stepped, AreOldOrStepped, all_images, images_in, join_in, ranges, AreIn, new_marks, stepped_at, RegionValue, IsTabletOf, AreTabletsOf, IsRegion, joins, AllServe}
+use Rattle.pn_region.proofs.Common.{MatchResult, AllByRecursion, Positions, Image, table_of, BrokerRecord, up_to, AreHonest, DeliveryValue, TabletCopyValue, need_shortfall, Ends, in_range, recovering_tablet, after_step, tablet_after, TabletStateValue, same_range, WrongRange, Shortfall, Lose, Adopt, Serving, all_stepped, AreOldOrStepped, all_images, images_in, join_in, ranges, AreIn, new_marks, tablets_after_op, RegionValue, IsTabletOf, AreTabletsOf, IsRegion, joins, AllServe}
 use Rattle.pn_region.proofs.Apart.{Outside, Apart, ranges_apart}
 use Rattle.pn_region.proofs.EventSteps.{adopts, takes, event_is}
 use Rattle.pn_region.proofs.InRange.{from_images_in}
@@ -31,12 +31,12 @@ pub record Rules (broker : BrokerRecord) (T : List Image → List Image → Tabl
   -- in an honest round
   pub takes : (marks next : Positions) (deliveries : List DeliveryValue) → AreHonest broker deliveries → new_marks marks deliveries ≡ Ok next
       → (taken left more maybe : List Image) (r : Ends) (t : TabletStateValue) → IsTabletOf marks r t → AreIn more (all_images deliveries) → AreIn (all_images deliveries) (more ++ maybe)
-      → T taken left t → T (taken ++ more) (left ++ maybe) (taking t (table_of (images_in r (all_images deliveries))) next)
+      → T taken left t → T (taken ++ more) (left ++ maybe) (with_join t (table_of (images_in r (all_images deliveries))) next)
   -- in a loss
-  pub loses : (taken left : List Image) (t : TabletStateValue) → T taken left t → T (taken ++ []) (left ++ []) (lost t)
+  pub loses : (taken left : List Image) (t : TabletStateValue) → T taken left t → T (taken ++ []) (left ++ []) (recovering_tablet t)
   -- in the adoption of an honest copy
-  pub adopts : (copy : TabletCopyValue) → IsHonestCopy broker copy → (taken left : List Image) (t : TabletStateValue) → t.range ≡ copy.range → lacking t.status copy.marks ≡ None
-      → T taken left t → T (taken ++ images_in copy.range (up_to broker copy.marks)) (left ++ []) (record (taking t copy.cells copy.marks) { status = Serving })
+  pub adopts : (copy : TabletCopyValue) → IsHonestCopy broker copy → (taken left : List Image) (t : TabletStateValue) → t.range ≡ copy.range → need_shortfall t.status copy.marks ≡ None
+      → T taken left t → T (taken ++ images_in copy.range (up_to broker copy.marks)) (left ++ []) (record (with_join t copy.cells copy.marks) { status = Serving })
   -- where it is made of others
   pub relays : (region : RegionValue) → IsRegion region → AllServe region → (taken left : List Image) → AllByRecursion (T taken left) region.tablets → (r : Ends) → T (taken ++ []) (left ++ []) (made_of region.tablets r)
 
@@ -49,7 +49,7 @@ module _ (broker : BrokerRecord) (T : List Image → List Image → TabletStateV
     abbrev images : List Image
     images = all_images deliveries
 
-    took_it : (more maybe : List Image) (r : Ends) (t : TabletStateValue) → IsTabletOf marks r t → AreIn more images → AreIn images (more ++ maybe) → T taken left t → T (taken ++ more) (left ++ maybe) (stepped t (join_in next images r))
+    took_it : (more maybe : List Image) (r : Ends) (t : TabletStateValue) → IsTabletOf marks r t → AreIn more images → AreIn images (more ++ maybe) → T taken left t → T (taken ++ more) (left ++ maybe) (tablet_after t (join_in next images r))
     took_it more maybe r t is of to holds = subst (T (taken ++ more) (left ++ maybe)) (sym (is_taken next images marks r t is)) (rules.takes marks next deliveries honest accepted taken left more maybe r t is of to holds)
 
     all_round : (rs : List Ends) (ts : List TabletStateValue) → AreTabletsOf marks rs ts → AllByRecursion (T taken left) ts → AllByRecursion (T (taken ++ images) (left ++ [])) (all_stepped ts (map (join_in next images) rs))
@@ -58,7 +58,7 @@ module _ (broker : BrokerRecord) (T : List Image → List Image → TabletStateV
     all_round (r ∷ rs) [] are all = absurd are
     all_round (r ∷ rs) (t ∷ ts) are all = (took_it images [] r t are.0 (λ image there. there) (first_part images) all.0, all_round rs ts are.1 all.1)
 
-    one_half : (r : Ends) (t u : TabletStateValue) → IsTabletOf marks r t → T taken left t → (u ≡ t) ⊎ (u ≡ stepped t (join_in next images r)) → T (taken ++ []) (left ++ images) u
+    one_half : (r : Ends) (t u : TabletStateValue) → IsTabletOf marks r t → T taken left t → (u ≡ t) ⊎ (u ≡ tablet_after t (join_in next images r)) → T (taken ++ []) (left ++ images) u
     one_half r t u is holds (inl same) = subst (T (taken ++ []) (left ++ images)) (sym same) (rules.itself taken left [] images t (λ image there lies. none image there) holds)
     one_half r t u is holds (inr took) = subst (T (taken ++ []) (left ++ images)) (sym took) (took_it [] images r t is (λ image there. none image there) (λ image there. there) holds)
 
@@ -74,7 +74,7 @@ module _ (broker : BrokerRecord) (T : List Image → List Image → TabletStateV
   all_same maybe [] all = tt
   all_same maybe (t ∷ ts) all = (rules.itself taken left [] maybe t (λ image there lies. none image there) all.0, all_same maybe ts all.1)
 
-  lost_at : (n : ℕ) (ts : List TabletStateValue) → AllByRecursion (T taken left) ts → AllByRecursion (T (taken ++ []) (left ++ [])) (stepped_at n Lose ts)
+  lost_at : (n : ℕ) (ts : List TabletStateValue) → AllByRecursion (T taken left) ts → AllByRecursion (T (taken ++ []) (left ++ [])) (tablets_after_op n Lose ts)
   lost_at n [] all = tt
   lost_at zero (t ∷ ts) all = (rules.loses taken left t all.0, all_same [] ts all.1)
   lost_at (suc n) (t ∷ ts) all = (rules.itself taken left [] [] t (λ image there lies. none image there) all.0, lost_at n ts all.1)
@@ -89,14 +89,14 @@ module _ (broker : BrokerRecord) (T : List Image → List Image → TabletStateV
 
     -- the tablet of this number has the copy's range, and lacks nothing of it
     abbrev Fits : TabletStateValue → Type 0
-    Fits t = (same_range t.range copy.range ≡ true) × (lacking t.status copy.marks ≡ None)
+    Fits t = (same_range t.range copy.range ≡ true) × (need_shortfall t.status copy.marks ≡ None)
 
-    stepped_is : (t : TabletStateValue) → Fits t → stepped t (Adopt copy) ≡ record (taking t copy.cells copy.marks) { status = Serving }
+    stepped_is : (t : TabletStateValue) → Fits t → tablet_after t (Adopt copy) ≡ record (with_join t copy.cells copy.marks) { status = Serving }
     stepped_is t fits =
-        ap (λ (b : Bool). after_step t (if b then steps.adopting t copy (lacking t.status copy.marks) else Err WrongRange)) fits.0
-        ∙ ap (λ (short : Option Short). after_step t (steps.adopting t copy short)) fits.1
+        ap (λ (b : Bool). after_step t (if b then steps.with_copy t copy (need_shortfall t.status copy.marks) else Err WrongRange)) fits.0
+        ∙ ap (λ (short : Option Shortfall). after_step t (steps.with_copy t copy short)) fits.1
 
-    adopted_one : (t : TabletStateValue) → Fits t → T taken left t → T (taken ++ more) (left ++ []) (stepped t (Adopt copy))
+    adopted_one : (t : TabletStateValue) → Fits t → T taken left t → T (taken ++ more) (left ++ []) (tablet_after t (Adopt copy))
     adopted_one t fits holds =
         subst (T (taken ++ more) (left ++ [])) (sym (stepped_is t fits)) (rules.adopts copy honest taken left t (one_range t.range copy.range fits.0) fits.1 holds)
 
@@ -127,7 +127,7 @@ module _ (broker : BrokerRecord) (T : List Image → List Image → TabletStateV
     outside_found range (suc n) (r ∷ rs) (t ∷ ts) are outside fits within key lies lies_too = outside_found range n rs ts are.1 outside.1 fits (omega (arith, within)) key lies lies_too
 
     adopted_at : (n : ℕ) (rs : List Ends) (ts : List TabletStateValue) → AreTabletsOf marks rs ts → Apart rs → ((t : TabletStateValue) → slice_get ts n ≡ Some t → Fits t) → n < length ts
-        → AllByRecursion (T taken left) ts → AllByRecursion (T (taken ++ more) (left ++ [])) (stepped_at n (Adopt copy) ts)
+        → AllByRecursion (T taken left) ts → AllByRecursion (T (taken ++ more) (left ++ [])) (tablets_after_op n (Adopt copy) ts)
     adopted_at n [] [] are apart fits within all = tt
     adopted_at n [] (t ∷ ts) are apart fits within all = absurd are
     adopted_at n (r ∷ rs) [] are apart fits within all = absurd are
@@ -159,7 +159,7 @@ module _ (broker : BrokerRecord) (T : List Image → List Image → TabletStateV
       let known = adopts old copy leads.tablet new leads.adopted in
       subst (λ (r : RegionValue). AllByRecursion (T (taken ++ images_in copy.range (up_to broker copy.marks)) (left ++ [])) r.tablets) (sym known.is)
       (adopted_at copy honest old.marks leads.tablet (ranges old.layout) old.tablets is.tablets (ranges_apart old.layout is.lawful)
-      (λ t there. (found_at old copy leads.tablet t known.found there, sym (ap (option_and_then (λ (state : TabletStateValue). lacking state.status copy.marks)) there) ∙ known.lacks_none))
+      (λ t there. (found_at old copy leads.tablet t known.found there, sym (ap (option_and_then (λ (state : TabletStateValue). need_shortfall state.status copy.marks)) there) ∙ known.lacks_none))
       (found_within old copy leads.tablet known.found) all)
   event_goes_on (relayout bounds) old new is honest leads all =
       let laid = relays old new bounds leads.relaid in

@@ -2,10 +2,10 @@
 use Rattle.std.proofs.Common.{◌≡◌, ℕ, zero, suc, List, [], ◌∷◌, slice_get, Option, None, Some, Result, Ok, Err, refl, sym, ap, ◌∙◌, subst, arith, ◌⊎◌, inl, inr}
 use Rattle.std.specs.Result.{result_map_both}
 use Rattle.pn_region.specs.Events.{RegionEvent, round, half_round, loss, adoption, relayout, LeadsTo, AllLeadTo}
-use Rattle.pn_region.specs.Recovery.{stepping, lacks, adopting_unless, adopting}
+use Rattle.pn_region.specs.Recovery.{after_op, lacks, after_adoption_unless, after_adoption}
 use Rattle.pn_region.specs.Rounds as rounds
 use Rattle.pn_region.specs.Taken.{KeepsLayout, KeepLayout}
-use Rattle.pn_region.proofs.Common.{Positions, Reaches, DeliveryValue, TabletCopyValue, stepped, TabletStateValue, Short, TabletOp, Lose, Adopt, AreOldOrStepped, all_images, ranges, new_marks, stepped_at, tablet_for, adopting_by, RegionValue, IsRegion, RoundFault}
+use Rattle.pn_region.proofs.Common.{Positions, Reaches, DeliveryValue, TabletCopyValue, tablet_after, TabletStateValue, Shortfall, TabletOp, Lose, Adopt, AreOldOrStepped, all_images, ranges, new_marks, tablets_after_op, tablet_for, after_adoption_by, RegionValue, IsRegion, RoundFault}
 use Rattle.pn_region.proofs.HalfRounds.{half_so, half_taken_is}
 use Rattle.pn_region.proofs.OneTablet.{stepping_is}
 use Rattle.pn_region.proofs.Relaying.{relays, relaid_is}
@@ -16,30 +16,30 @@ use Rattle.pn_region.proofs.RoundSteps.{all_taken}
 pub record Adopts (region : RegionValue) (copy : TabletCopyValue) (n : ℕ) (new : RegionValue) : Type 0 where
   pub found : tablet_for region copy ≡ Some n
   pub lacks_none : lacks region copy n ≡ None
-  pub is : new ≡ stepping region n (Adopt copy)
+  pub is : new ≡ after_op region n (Adopt copy)
 
 -- an answer has one value
 one_value : {A E : Type 0} (value other : A) (answer : Result A E) → answer ≡ Ok value → answer ≡ Ok other → value ≡ other
 one_value value other answer is is_too = cc
 
-adopts_unless : (region : RegionValue) (copy : TabletCopyValue) (m n : ℕ) (new : RegionValue) (short : Option Short) → tablet_for region copy ≡ Some m → lacks region copy m ≡ short
-    → adopting_unless region copy m short ≡ Ok (n, new) → Adopts region copy n new
+adopts_unless : (region : RegionValue) (copy : TabletCopyValue) (m n : ℕ) (new : RegionValue) (short : Option Shortfall) → tablet_for region copy ≡ Some m → lacks region copy m ≡ short
+    → after_adoption_unless region copy m short ≡ Ok (n, new) → Adopts region copy n new
 adopts_unless region copy m n new None found none is =
-    let both = one_value (m, stepping region m (Adopt copy)) (n, new) (adopting_unless region copy m None) refl is in
+    let both = one_value (m, after_op region m (Adopt copy)) (n, new) (after_adoption_unless region copy m None) refl is in
     let same : m ≡ n = ap (λ (p : ℕ × RegionValue). p.0) both in
-    let same_region : stepping region m (Adopt copy) ≡ new = ap (λ (p : ℕ × RegionValue). p.1) both in
+    let same_region : after_op region m (Adopt copy) ≡ new = ap (λ (p : ℕ × RegionValue). p.1) both in
     record {
       found = found ∙ ap Some same;
       lacks_none = subst (λ (k : ℕ). lacks region copy k ≡ None) same none;
-      is = sym same_region ∙ ap (λ (k : ℕ). stepping region k (Adopt copy)) same;
+      is = sym same_region ∙ ap (λ (k : ℕ). after_op region k (Adopt copy)) same;
     }
 adopts_unless region copy m n new (Some short) found some is = cc
 
-adopts_by : (region : RegionValue) (copy : TabletCopyValue) (n : ℕ) (new : RegionValue) (found : Option ℕ) → tablet_for region copy ≡ found → adopting_by region copy found ≡ Ok (n, new) → Adopts region copy n new
+adopts_by : (region : RegionValue) (copy : TabletCopyValue) (n : ℕ) (new : RegionValue) (found : Option ℕ) → tablet_for region copy ≡ found → after_adoption_by region copy found ≡ Ok (n, new) → Adopts region copy n new
 adopts_by region copy n new None none is = cc
 adopts_by region copy n new (Some m) found is = adopts_unless region copy m n new (lacks region copy m) found refl is
 
-pub adopts : (region : RegionValue) (copy : TabletCopyValue) (n : ℕ) (new : RegionValue) → adopting region copy ≡ Ok (n, new) → Adopts region copy n new
+pub adopts : (region : RegionValue) (copy : TabletCopyValue) (n : ℕ) (new : RegionValue) → after_adoption region copy ≡ Ok (n, new) → Adopts region copy n new
 adopts region copy n new is = adopts_by region copy n new (tablet_for region copy) refl is
 
 -- what is known of a round that is taken
@@ -75,7 +75,7 @@ events_are (event ∷ events) old new is lead = events_are events lead.0 new (ev
 
 -- the tablet is as it was, or took an operation
 abbrev pub Moves : TabletStateValue → TabletStateValue → Type 0
-Moves t u = (u ≡ t) ⊎ ((op : TabletOp) × (u ≡ stepped t op))
+Moves t u = (u ≡ t) ⊎ ((op : TabletOp) × (u ≡ tablet_after t op))
 
 -- there are as many tablets, and each pair of them fits
 abbrev pub Each : (TabletStateValue → TabletStateValue → Type 0) → List TabletStateValue → List TabletStateValue → Type 0
@@ -101,7 +101,7 @@ each_so R S so [] (u ∷ us) each = absurd each
 each_so R S so (t ∷ ts) [] each = absurd each
 each_so R S so (t ∷ ts) (u ∷ us) each = (so t u each.0, each_so R S so ts us each.1)
 
--- the pair at a place
+-- the pair at an index
 pub each_at : (R : TabletStateValue → TabletStateValue → Type 0) (ts us : List TabletStateValue) (n : ℕ) (t u : TabletStateValue) → Each R ts us → slice_get ts n ≡ Some t → slice_get us n ≡ Some u → R t u
 each_at R [] [] n t u each there there_too = cc
 each_at R [] (v ∷ us) n t u each there there_too = absurd each
@@ -112,7 +112,7 @@ each_at R (s ∷ ts) (v ∷ us) zero t u each there there_too =
     subst (λ (a : TabletStateValue). R a u) same (subst (R s) same_too each.0)
 each_at R (s ∷ ts) (v ∷ us) (suc n) t u each there there_too = each_at R ts us n t u each.1 there there_too
 
-moves_half : (t u : TabletStateValue) (op : TabletOp) → (u ≡ t) ⊎ (u ≡ stepped t op) → Moves t u
+moves_half : (t u : TabletStateValue) (op : TabletOp) → (u ≡ t) ⊎ (u ≡ tablet_after t op) → Moves t u
 moves_half t u op (inl same) = inl same
 moves_half t u op (inr took) = inr (op, took)
 
@@ -124,7 +124,7 @@ halves_move (t ∷ ts) [] us half = absurd half
 halves_move (t ∷ ts) (op ∷ ops) [] half = absurd half
 halves_move (t ∷ ts) (op ∷ ops) (u ∷ us) half = (moves_half t u op half.0, halves_move ts ops us half.1)
 
-one_moves : (n : ℕ) (op : TabletOp) (ts : List TabletStateValue) → Each Moves ts (stepped_at n op ts)
+one_moves : (n : ℕ) (op : TabletOp) (ts : List TabletStateValue) → Each Moves ts (tablets_after_op n op ts)
 one_moves n op [] = tt
 one_moves zero op (t ∷ ts) = (inr (op, refl), each_itself Moves (λ u. inl refl) ts)
 one_moves (suc n) op (t ∷ ts) = (inl refl, one_moves n op ts)

@@ -1,34 +1,34 @@
 -- Events keep covers and reaches, and what tablets that serve hold.
 use Rattle.std.proofs.Common.{◌≡◌, ℕ, zero, suc, ◌≤◌, Bool, true, false, if◌then◌else◌, List, [], ◌∷◌, slice_get, Option, None, Some, Ok, Err, refl, sym, ap, ◌∙◌, subst, arith, inl, inr}
 use Rattle.pn_tablet.specs.Laws.{IsSpelled}
-use Rattle.pn_tablet.specs.Steps.{taking}
+use Rattle.pn_tablet.specs.Steps.{with_join}
 use Rattle.pn_tablet.specs.Steps as steps
 use Rattle.pn_tablet.proofs.TabletLaws.{never_falls, reach_never_falls}
 use Rattle.pn_region.specs.Events.{RegionEvent, round, half_round, loss, adoption, relayout, LeadsTo, AllLeadTo, IsRelayout}
 use Rattle.pn_region.specs.Held.{HoldsStill}
 use Rattle.pn_region.specs.Relayouts.{made_of}
 use Rattle.pn_region.specs.Taken.{KeepsLayout, KeepLayout}
-use Rattle.pn_region.proofs.Common.{find, IsSome, Positions, Reaches, position_of, bytes_cmp, spell, Entries, Bounds, tablet_of, TabletCopyValue, lacking, Ends, after_step, stepped, TabletStateValue, lie_in, same_range, WrongRange, Short, TabletOp, Join, Lose, Adopt, Serving, RegionValue, AreTabletsOf, IsRegion}
+use Rattle.pn_region.proofs.Common.{find, IsSome, Positions, Reaches, position_of, bytes_cmp, spell, Entries, Bounds, tablet_of, TabletCopyValue, need_shortfall, Ends, after_step, tablet_after, TabletStateValue, lie_in, same_range, WrongRange, Shortfall, TabletOp, Join, Lose, Adopt, Serving, RegionValue, AreTabletsOf, IsRegion}
 use Rattle.pn_region.proofs.EventSteps.{adopts, takes, event_is, Moves, each_at, each_moves, each_after, Grows, grows_itself, grows_then}
 use Rattle.pn_region.proofs.KeyTablets.{has_tablet}
 use Rattle.pn_region.proofs.Relaying.{relays, part_at, new_at}
 use Rattle.pn_region.proofs.StillHeld.{itself_held, added_held}
 use Rattle.pn_region.proofs.TakenImages.{one_of}
 
-join_stays : (t : TabletStateValue) (cells : Entries) (marks : Positions) (b : Bool) → (after_step t (if b then Ok (taking t cells marks) else Err WrongRange)).range ≡ t.range
+join_stays : (t : TabletStateValue) (cells : Entries) (marks : Positions) (b : Bool) → (after_step t (if b then Ok (with_join t cells marks) else Err WrongRange)).range ≡ t.range
 join_stays t cells marks true = refl
 join_stays t cells marks false = refl
 
-adopt_stays : (t : TabletStateValue) (copy : TabletCopyValue) (b : Bool) (short : Option Short) → (after_step t (if b then steps.adopting t copy short else Err WrongRange)).range ≡ t.range
+adopt_stays : (t : TabletStateValue) (copy : TabletCopyValue) (b : Bool) (short : Option Shortfall) → (after_step t (if b then steps.with_copy t copy short else Err WrongRange)).range ≡ t.range
 adopt_stays t copy true None = refl
 adopt_stays t copy true (Some short) = refl
 adopt_stays t copy false short = refl
 
 -- no operation changes the range
-pub range_stays : (t : TabletStateValue) (op : TabletOp) → (stepped t op).range ≡ t.range
+pub range_stays : (t : TabletStateValue) (op : TabletOp) → (tablet_after t op).range ≡ t.range
 range_stays t (Join cells marks) = join_stays t cells marks (lie_in t.range cells)
 range_stays t Lose = refl
-range_stays t (Adopt copy) = adopt_stays t copy (same_range t.range copy.range) (lacking t.status copy.marks)
+range_stays t (Adopt copy) = adopt_stays t copy (same_range t.range copy.range) (need_shortfall t.status copy.marks)
 
 grows_move : (t u : TabletStateValue) → Moves t u → Grows t u
 grows_move t u (inl same) = subst (Grows t) (sym same) (grows_itself t)
@@ -47,19 +47,19 @@ events_reach events old new n t u is keep lead there there_too =
     let grows = each_at Grows old.tablets new.tablets n t u (each_after Grows grows_itself grows_then grows_move events old new is keep lead) there there_too in
     (grows.cover, grows.reach)
 
-joined_held : (t : TabletStateValue) (cells : Entries) (marks : Positions) (b : Bool) → IsSpelled t.cells → (key : List ℕ) → HoldsStill (find bytes_cmp key t.cells) (find bytes_cmp key (after_step t (if b then Ok (taking t cells marks) else Err WrongRange)).cells)
+joined_held : (t : TabletStateValue) (cells : Entries) (marks : Positions) (b : Bool) → IsSpelled t.cells → (key : List ℕ) → HoldsStill (find bytes_cmp key t.cells) (find bytes_cmp key (after_step t (if b then Ok (with_join t cells marks) else Err WrongRange)).cells)
 joined_held t cells marks true spelled key = added_held t.cells (spell cells) key spelled
 joined_held t cells marks false spelled key = itself_held (find bytes_cmp key t.cells)
 
-adopted_held : (t : TabletStateValue) (copy : TabletCopyValue) (b : Bool) (short : Option Short) → IsSpelled t.cells → (key : List ℕ) → HoldsStill (find bytes_cmp key t.cells) (find bytes_cmp key (after_step t (if b then steps.adopting t copy short else Err WrongRange)).cells)
+adopted_held : (t : TabletStateValue) (copy : TabletCopyValue) (b : Bool) (short : Option Shortfall) → IsSpelled t.cells → (key : List ℕ) → HoldsStill (find bytes_cmp key t.cells) (find bytes_cmp key (after_step t (if b then steps.with_copy t copy short else Err WrongRange)).cells)
 adopted_held t copy true None spelled key = added_held t.cells (spell copy.cells) key spelled
 adopted_held t copy true (Some short) spelled key = itself_held (find bytes_cmp key t.cells)
 adopted_held t copy false short spelled key = itself_held (find bytes_cmp key t.cells)
 
-step_held : (t : TabletStateValue) (op : TabletOp) → IsSpelled t.cells → (stepped t op).status ≡ Serving → (key : List ℕ) → HoldsStill (find bytes_cmp key t.cells) (find bytes_cmp key (stepped t op).cells)
+step_held : (t : TabletStateValue) (op : TabletOp) → IsSpelled t.cells → (tablet_after t op).status ≡ Serving → (key : List ℕ) → HoldsStill (find bytes_cmp key t.cells) (find bytes_cmp key (tablet_after t op).cells)
 step_held t (Join cells marks) spelled serves key = joined_held t cells marks (lie_in t.range cells) spelled key
 step_held t Lose spelled serves key = cc
-step_held t (Adopt copy) spelled serves key = adopted_held t copy (same_range t.range copy.range) (lacking t.status copy.marks) spelled key
+step_held t (Adopt copy) spelled serves key = adopted_held t copy (same_range t.range copy.range) (need_shortfall t.status copy.marks) spelled key
 
 move_held : (t u : TabletStateValue) → Moves t u → IsSpelled t.cells → u.status ≡ Serving → (key : List ℕ) → HoldsStill (find bytes_cmp key t.cells) (find bytes_cmp key u.cells)
 move_held t u (inl same) spelled serves key = subst (λ (now : TabletStateValue). HoldsStill (find bytes_cmp key t.cells) (find bytes_cmp key now.cells)) (sym same) (itself_held (find bytes_cmp key t.cells))

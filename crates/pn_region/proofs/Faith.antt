@@ -2,15 +2,15 @@
 use Rattle.std.proofs.Common.{◌≡◌, ℕ, ◌+◌, ◌<◌, ◌≤◌, true, false, nat_lt, List, [], ◌∷◌, ◌++◌, map, length, get_or, refl, sym, ap, ◌∙◌, subst, arith, ◌⊎◌, inl, inr, Contains}
 use Rattle.std.proofs.lemmas.Bool.Decides.{nat_tests}
 use Rattle.std.proofs.lemmas.List.Elements.{Contains-append_left, Contains-append_right}
-use Rattle.pn_join.proofs.MarksFacts.{position_of-raised}
+use Rattle.pn_join.proofs.MarksFacts.{position_of-raised_marks}
 use Rattle.pn_record.specs.CellMap.{adds}
 use Rattle.pn_record.proofs.CellMaps.{table_of-nil}
 use Rattle.pn_stream.proofs.Published.{Stands, wider, in_part, part_of, is_up_to, published, brings, is_brought}
-use Rattle.pn_tablet.specs.Steps.{taking}
+use Rattle.pn_tablet.specs.Steps.{with_join}
 use Rattle.pn_apply.proofs.ReduceLaws.{range_joins, same_in}
 use Rattle.pn_tablet.specs.Needs.{needed}
 use Rattle.pn_region.specs.Rounds as rounds
-use Rattle.pn_region.proofs.Common.{Ok, Err, MatchResult, Positions, Reaches, position_of, raised, Image, spell, SameImages, Entries, table_of, DeliveryValue, BrokerRecord, up_to, AreHonest, Bounds, Ends, in_range, stepped, TabletStateValue, empty_tablet, AreOldOrStepped, all_images, images_in, join_in, ranges, IsFaithful, AreFaithful, HasImages, new_marks, last_position, RegionValue, IsTabletOf, AreTabletsOf, IsRegion, new_region, joins, IsHalfTaken}
+use Rattle.pn_region.proofs.Common.{Ok, Err, MatchResult, Positions, Reaches, position_of, raised_marks, Image, spell, SameImages, Entries, table_of, DeliveryValue, BrokerRecord, up_to, AreHonest, Bounds, Ends, in_range, tablet_after, TabletStateValue, empty_tablet, AreOldOrStepped, all_images, images_in, join_in, ranges, IsFaithful, AreFaithful, HasImages, new_marks, last_position, RegionValue, IsTabletOf, AreTabletsOf, IsRegion, new_region, joins, IsHalfTaken}
 use Rattle.pn_region.proofs.MarkLaws.{not_skipped, next_has_last, next_reaches}
 use Rattle.pn_region.proofs.RoundEnds.{taken_half}
 use Rattle.pn_region.proofs.RoundSteps.{is_taken}
@@ -86,7 +86,7 @@ module _ (broker : BrokerRecord) (marks next : Positions) (deliveries : List Del
 
   module _ (r : Ends) (t : TabletStateValue) (of : IsTabletOf marks r t) (faithful : IsFaithful broker t) where
     -- the images up to the raised cover: those up to the old one, and those that were brought
-    up_to_raised : (image : Image) (stream : List ℕ) → Stands (broker stream) (position_of (raised t.cover next) stream) image → in_range t.range image.key ≡ true
+    up_to_raised : (image : Image) (stream : List ℕ) → Stands (broker stream) (position_of (raised_marks t.cover next) stream) image → in_range t.range image.key ≡ true
         → Contains (faithful.images ++ images) image ⊎ Contains (up_to broker (needed t.status)) image
     up_to_raised image stream stands lies =
         elim (nat_lt stands.at (position_of t.cover stream)) as (λ b. nat_lt stands.at (position_of t.cover stream) ≡ b → Contains (faithful.images ++ images) image ⊎ Contains (up_to broker (needed t.status)) image) [
@@ -97,10 +97,10 @@ module _ (broker : BrokerRecord) (marks next : Positions) (deliveries : List Del
               let reached : position_of t.cover stream ≤ stands.at = grind (arith, nat_tests) in
               inl (Contains-append_right faithful.images images image
               (was_brought stream image stands.at (omega (arith, reached, of.covered stream))
-              (omega (arith, reached, stands.below, position_of-raised t.cover next stream)) stands.within stands.is))
+              (omega (arith, reached, stands.below, position_of-raised_marks t.cover next stream)) stands.within stands.is))
         ] refl
 
-    one_keeps : IsFaithful broker (taking t (table_of (images_in r images)) next)
+    one_keeps : IsFaithful broker (with_join t (table_of (images_in r images)) next)
     one_keeps = record {
       images = faithful.images ++ images;
       cells =
@@ -109,17 +109,17 @@ module _ (broker : BrokerRecord) (marks next : Positions) (deliveries : List Del
           ∙ ap (λ (range : Ends). table_of (images_in range (faithful.images ++ images))) (sym of.range);
       published = λ image.
           by_part faithful.images images image
-          (λ there. up_to_more broker (raised t.reach next) t.reach (λ name. omega (arith, position_of-raised t.reach next name)) image (faithful.published image there))
-          (brought (raised t.reach next) (λ name. omega (arith, position_of-raised t.reach next name)) image);
+          (λ there. up_to_more broker (raised_marks t.reach next) t.reach (λ name. omega (arith, position_of-raised_marks t.reach next name)) image (faithful.published image there))
+          (brought (raised_marks t.reach next) (λ name. omega (arith, position_of-raised_marks t.reach next name)) image);
       all = λ image there lies.
-          let new = published broker (raised t.cover next) image there in
+          let new = published broker (raised_marks t.cover next) image there in
           up_to_raised image new.stream new.stands lies;
     }
 
-    stepped_keeps : IsFaithful broker (stepped t (join_in next images r))
+    stepped_keeps : IsFaithful broker (tablet_after t (join_in next images r))
     stepped_keeps = subst (IsFaithful broker) (sym (is_taken next images marks r t of)) one_keeps
 
-    one_half : (u : TabletStateValue) → (u ≡ t) ⊎ (u ≡ stepped t (join_in next images r)) → IsFaithful broker u
+    one_half : (u : TabletStateValue) → (u ≡ t) ⊎ (u ≡ tablet_after t (join_in next images r)) → IsFaithful broker u
     one_half u (inl same) = subst (IsFaithful broker) (sym same) faithful
     one_half u (inr took) = subst (IsFaithful broker) (sym took) stepped_keeps
 

@@ -4,7 +4,7 @@ use Rattle.pn_region.specs.Events.{RegionEvent, round, half_round, loss, adoptio
 use Rattle.pn_region.specs.Honest.{IsHonestCopy}
 use Rattle.pn_region.specs.Relayouts.{made_of, parts_of}
 use Rattle.pn_tablet.specs.Ranges.{meet}
-use Rattle.pn_region.proofs.Common.{AllByRecursion, Reaches, Image, BrokerRecord, TabletCopyValue, Ends, step, after_step, stepped, TabletStateValue, Lose, Adopt, Serving, images_in, ranges, IsFaithful, AreFaithful, stepped_at, RegionValue, IsRegion, AllServe}
+use Rattle.pn_region.proofs.Common.{AllByRecursion, Reaches, Image, BrokerRecord, TabletCopyValue, Ends, step, after_step, tablet_after, TabletStateValue, Lose, Adopt, Serving, images_in, ranges, IsFaithful, AreFaithful, tablets_after_op, RegionValue, IsRegion, AllServe}
 use Rattle.pn_region.proofs.EventSteps.{adopts, takes, event_is}
 use Rattle.pn_region.proofs.Faith.{round_keeps, half_keeps}
 use Rattle.pn_region.proofs.FaithfulCopies.{lost_faithful, adopted_faithful, serving_lacks_none}
@@ -49,19 +49,19 @@ module _ (broker : BrokerRecord) (region : RegionValue) (is : IsRegion region) (
 
 -- faithful tablets stay faithful
 module _ (broker : BrokerRecord) where
-  lost_at : (n : ℕ) (ts : List TabletStateValue) → AllByRecursion (λ (t : TabletStateValue). Reaches t.reach t.cover) ts → AreFaithful broker ts → AreFaithful broker (stepped_at n Lose ts)
+  lost_at : (n : ℕ) (ts : List TabletStateValue) → AllByRecursion (λ (t : TabletStateValue). Reaches t.reach t.cover) ts → AreFaithful broker ts → AreFaithful broker (tablets_after_op n Lose ts)
   lost_at n [] reached faithful = tt
   lost_at zero (t ∷ ts) reached faithful = (lost_faithful broker t reached.0, faithful.1)
   lost_at (suc n) (t ∷ ts) reached faithful = (faithful.0, lost_at n ts reached.1 faithful.1)
 
-  adopted_or_not : (t : TabletStateValue) (copy : TabletCopyValue) → IsHonestCopy broker copy → IsFaithful broker t → IsFaithful broker (stepped t (Adopt copy))
+  adopted_or_not : (t : TabletStateValue) (copy : TabletCopyValue) → IsHonestCopy broker copy → IsFaithful broker t → IsFaithful broker (tablet_after t (Adopt copy))
   adopted_or_not t copy honest faithful =
       elim (step t (Adopt copy)) as (λ right. step t (Adopt copy) ≡ right → IsFaithful broker (after_step t right)) [
         | Ok after ↦ λ is. adopted_faithful broker t after copy faithful honest is
         | Err refusal ↦ λ is. faithful
       ] refl
 
-  adopted_at : (n : ℕ) (copy : TabletCopyValue) (ts : List TabletStateValue) → IsHonestCopy broker copy → AreFaithful broker ts → AreFaithful broker (stepped_at n (Adopt copy) ts)
+  adopted_at : (n : ℕ) (copy : TabletCopyValue) (ts : List TabletStateValue) → IsHonestCopy broker copy → AreFaithful broker ts → AreFaithful broker (tablets_after_op n (Adopt copy) ts)
   adopted_at n copy [] honest faithful = tt
   adopted_at zero copy (t ∷ ts) honest faithful = (adopted_or_not t copy honest faithful.0, faithful.1)
   adopted_at (suc n) copy (t ∷ ts) honest faithful = (faithful.0, adopted_at n copy ts honest faithful.1)

@@ -10,21 +10,21 @@ use Rattle.std.proofs.lemmas.List.{take_more}
 use Rattle.std.proofs.lemmas.List.Elements.{filter-append}
 use Rattle.std.proofs.lemmas.List.Sums.{fold-append}
 use Rattle.pn_join.specs.Marks.{is_position}
-use Rattle.pn_join.proofs.MarksFacts.{position_of-raised, is_sorted-raised, are_positions-raised}
+use Rattle.pn_join.proofs.MarksFacts.{position_of-raised_marks, is_sorted-raised_marks, are_positions-raised_marks}
 use Rattle.pn_record.proofs.HeldRecords.{same_key}
 use Rattle.pn_stream.specs.Positions.{are_positions as fit}
 use Rattle.pn_tablet.proofs.BoundSteps.{is_so}
 use Rattle.pn_tablet.proofs.LayoutFacts.{is_not}
 use Rattle.pn_region.specs.Marking.{brings, last_of, last_of_stream}
-use Rattle.pn_region.proofs.Common.{Ok, Err, eq_by_cmp, find, is_sorted, Positions, name_cmp, position_of, are_positions, DeliveryValue, bringing, last_position, marked, all_marked, leaves_gap, marks_after, of_few_streams, new_marks, TooManyStreams}
+use Rattle.pn_region.proofs.Common.{Ok, Err, eq_by_cmp, find, is_sorted, Positions, name_cmp, position_of, are_positions, DeliveryValue, with_images, last_position, with_delivery, with_deliveries, leaves_gap, marks_after, of_few_streams, new_marks, TooManyStreams}
 use Rattle.pn_region.proofs.MarkLaws.{gap_of}
 
 -- the marks after one more delivery
-pub marked_more : (m : Positions) (ds : List DeliveryValue) (i : ℕ) (d : DeliveryValue) → i < length ds → all_marked m (take (i + 1) ds) ≡ all_marked (all_marked m (take i ds)) (get_or ds i d ∷ [])
+pub marked_more : (m : Positions) (ds : List DeliveryValue) (i : ℕ) (d : DeliveryValue) → i < length ds → with_deliveries m (take (i + 1) ds) ≡ with_deliveries (with_deliveries m (take i ds)) (get_or ds i d ∷ [])
 marked_more m ds i d within =
-    ap (all_marked m) (take_more ds i d within)
-    ∙ ap (fold marked m) (filter-append brings (take i ds) (get_or ds i d ∷ []))
-    ∙ fold-append marked m (bringing (take i ds)) (bringing (get_or ds i d ∷ []))
+    ap (with_deliveries m) (take_more ds i d within)
+    ∙ ap (fold with_delivery m) (filter-append brings (take i ds) (get_or ds i d ∷ []))
+    ∙ fold-append with_delivery m (with_images (take i ds)) (with_images (get_or ds i d ∷ []))
 
 found_name : (m : Positions) (name : List ℕ) → are_positions m ≡ true → is_some (find name_cmp name m) ≡ not (eqb (position_of m name) 0)
 found_name [] name lawful = refl
@@ -62,42 +62,42 @@ own_stream name d own b is same equal =
 
 module _ (m : Positions) (d : DeliveryValue) where
   -- a delivery without images changes nothing
-  pub idle : brings d ≡ false → all_marked m (d ∷ []) ≡ m
-  idle none = ap (λ (b : Bool). fold marked m (cond b (d ∷ []) [])) none
+  pub idle : brings d ≡ false → with_deliveries m (d ∷ []) ≡ m
+  idle none = ap (λ (b : Bool). fold with_delivery m (cond b (d ∷ []) [])) none
 
-  pub idle_after : brings d ≡ false → marks_after m (bringing (d ∷ [])) ≡ Ok (all_marked m (d ∷ []))
+  pub idle_after : brings d ≡ false → marks_after m (with_images (d ∷ [])) ≡ Ok (with_deliveries m (d ∷ []))
   idle_after none = ap (λ (b : Bool). marks_after m (cond b (d ∷ []) [])) none ∙ ap Ok (sym (idle none))
 
-  pub idle_count : brings d ≡ false → length (all_marked m (d ∷ [])) ≡ length m + from_bool false
+  pub idle_count : brings d ≡ false → length (with_deliveries m (d ∷ [])) ≡ length m + from_bool false
   idle_count none = ap length (idle none) ∙ omega arith
 
   -- one with images takes its stream on
-  pub taken : brings d ≡ true → all_marked m (d ∷ []) ≡ marked m d
-  taken some = ap (λ (b : Bool). fold marked m (cond b (d ∷ []) [])) some
+  pub taken : brings d ≡ true → with_deliveries m (d ∷ []) ≡ with_delivery m d
+  taken some = ap (λ (b : Bool). fold with_delivery m (cond b (d ∷ []) [])) some
 
-  pub taken_after : brings d ≡ true → leaves_gap m d ≡ false → marks_after m (bringing (d ∷ [])) ≡ Ok (all_marked m (d ∷ []))
+  pub taken_after : brings d ≡ true → leaves_gap m d ≡ false → marks_after m (with_images (d ∷ [])) ≡ Ok (with_deliveries m (d ∷ []))
   taken_after some joins =
       ap (λ (b : Bool). marks_after m (cond b (d ∷ []) [])) some
-      ∙ ap (λ (b : Bool). cond b (Err (gap_of m d)) (Ok (marked m d))) joins
+      ∙ ap (λ (b : Bool). cond b (Err (gap_of m d)) (Ok (with_delivery m d))) joins
       ∙ ap Ok (sym (taken some))
 
-  pub gap_after : brings d ≡ true → leaves_gap m d ≡ true → marks_after m (bringing (d ∷ [])) ≡ Err (gap_of m d)
+  pub gap_after : brings d ≡ true → leaves_gap m d ≡ true → marks_after m (with_images (d ∷ [])) ≡ Err (gap_of m d)
   gap_after some gap =
       ap (λ (b : Bool). marks_after m (cond b (d ∷ []) [])) some
-      ∙ ap (λ (b : Bool). cond b (Err (gap_of m d)) (Ok (marked m d))) gap
+      ∙ ap (λ (b : Bool). cond b (Err (gap_of m d)) (Ok (with_delivery m d))) gap
 
   -- the marks have a name more where the stream was not there
-  pub taken_count : is_sorted name_cmp m ≡ true → are_positions m ≡ true → brings d ≡ true → length (all_marked m (d ∷ [])) ≡ length m + from_bool (eqb (position_of m d.stream) 0)
+  pub taken_count : is_sorted name_cmp m ≡ true → are_positions m ≡ true → brings d ≡ true → length (with_deliveries m (d ∷ [])) ≡ length m + from_bool (eqb (position_of m d.stream) 0)
   taken_count rising lawful some =
       ap length (taken some)
       ∙ length-put name_cmp nat_list_cmp_total d.stream (max (position_of m d.stream) (last_position d)) m (subst T (sym rising) tt)
       ∙ counted_by (is_some (find name_cmp d.stream m)) (eqb (position_of m d.stream) 0) (length m) (found_name m d.stream lawful)
 
   -- the position of a stream after the delivery
-  pub mark_more : (name : List ℕ) → position_of (all_marked m (d ∷ [])) name ≡ max (position_of m name) (unwrap_or (last_of_stream name d) 0)
+  pub mark_more : (name : List ℕ) → position_of (with_deliveries m (d ∷ [])) name ≡ max (position_of m name) (unwrap_or (last_of_stream name d) 0)
   mark_more name =
-      elim (brings d) as (λ b. position_of (fold marked m (cond b (d ∷ []) [])) name ≡ max (position_of m name) (unwrap_or (cond (eq_by_cmp name_cmp name d.stream) (cond b (Some (last_position d)) None) None) 0)) [
-        | true ↦ position_of-raised m ((d.stream, last_position d) ∷ []) name
+      elim (brings d) as (λ b. position_of (fold with_delivery m (cond b (d ∷ []) [])) name ≡ max (position_of m name) (unwrap_or (cond (eq_by_cmp name_cmp name d.stream) (cond b (Some (last_position d)) None) None) 0)) [
+        | true ↦ position_of-raised_marks m ((d.stream, last_position d) ∷ []) name
         | false ↦ none (eq_by_cmp name_cmp name d.stream)
       ]
     where
@@ -106,10 +106,10 @@ module _ (m : Positions) (d : DeliveryValue) where
       none false = omega arith
 
 -- the marks after deliveries rise
-pub marked_rising : (m : Positions) (d : DeliveryValue) → is_sorted name_cmp m ≡ true → is_sorted name_cmp (all_marked m (d ∷ [])) ≡ true
+pub marked_rising : (m : Positions) (d : DeliveryValue) → is_sorted name_cmp m ≡ true → is_sorted name_cmp (with_deliveries m (d ∷ [])) ≡ true
 marked_rising m d rising =
-    elim (brings d) as (λ b. is_sorted name_cmp (fold marked m (cond b (d ∷ []) [])) ≡ true) [
-      | true ↦ is_sorted-raised m ((d.stream, last_position d) ∷ []) rising
+    elim (brings d) as (λ b. is_sorted name_cmp (fold with_delivery m (cond b (d ∷ []) [])) ≡ true) [
+      | true ↦ is_sorted-raised_marks m ((d.stream, last_position d) ∷ []) rising
       | false ↦ rising
     ]
 
@@ -117,22 +117,22 @@ marked_rising m d rising =
 pub last_lawful : (first count : ℕ) → fit first count ≡ true → eqb count 0 ≡ false → is_position (first + count - 1) ≡ true
 last_lawful first count lawful some = grind (arith, nat_tests)
 
-pub marked_positions : (m : Positions) (d : DeliveryValue) → are_positions m ≡ true → fit d.first (length d.images) ≡ true → are_positions (all_marked m (d ∷ [])) ≡ true
+pub marked_positions : (m : Positions) (d : DeliveryValue) → are_positions m ≡ true → fit d.first (length d.images) ≡ true → are_positions (with_deliveries m (d ∷ [])) ≡ true
 marked_positions m d lawful own =
-    elim (brings d) as (λ b. brings d ≡ b → are_positions (fold marked m (cond b (d ∷ []) [])) ≡ true) [
+    elim (brings d) as (λ b. brings d ≡ b → are_positions (fold with_delivery m (cond b (d ∷ []) [])) ≡ true) [
       | true ↦ λ some.
           let last : is_position (last_position d) ≡ true = grind (arith, nat_tests) in
-          are_positions-raised m ((d.stream, last_position d) ∷ []) lawful (and_from (is_position (last_position d)) true last refl)
+          are_positions-raised_marks m ((d.stream, last_position d) ∷ []) lawful (and_from (is_position (last_position d)) true last refl)
       | false ↦ λ none. lawful
     ] refl
 
 -- with what all deliveries leave, the round is accepted or refused
-pub accepted_marks : (m : Positions) (ds : List DeliveryValue) → marks_after m (bringing ds) ≡ Ok (all_marked m ds) → length (all_marked m ds) ≤ 16 → new_marks m ds ≡ Ok (all_marked m ds)
+pub accepted_marks : (m : Positions) (ds : List DeliveryValue) → marks_after m (with_images ds) ≡ Ok (with_deliveries m ds) → length (with_deliveries m ds) ≤ 16 → new_marks m ds ≡ Ok (with_deliveries m ds)
 accepted_marks m ds is few =
-    let no_more : nat_lt 16 (length (all_marked m ds)) ≡ false = grind (arith, nat_tests) in
-    ap of_few_streams is ∙ ap (λ (b : Bool). cond b (Err TooManyStreams) (Ok (all_marked m ds))) no_more
+    let no_more : nat_lt 16 (length (with_deliveries m ds)) ≡ false = grind (arith, nat_tests) in
+    ap of_few_streams is ∙ ap (λ (b : Bool). cond b (Err TooManyStreams) (Ok (with_deliveries m ds))) no_more
 
-pub too_many_marks : (m : Positions) (ds : List DeliveryValue) → marks_after m (bringing ds) ≡ Ok (all_marked m ds) → 16 < length (all_marked m ds) → new_marks m ds ≡ Err TooManyStreams
+pub too_many_marks : (m : Positions) (ds : List DeliveryValue) → marks_after m (with_images ds) ≡ Ok (with_deliveries m ds) → 16 < length (with_deliveries m ds) → new_marks m ds ≡ Err TooManyStreams
 too_many_marks m ds is many =
-    let more : nat_lt 16 (length (all_marked m ds)) ≡ true = grind (arith, nat_tests) in
-    ap of_few_streams is ∙ ap (λ (b : Bool). cond b (Err TooManyStreams) (Ok (all_marked m ds))) more
+    let more : nat_lt 16 (length (with_deliveries m ds)) ≡ true = grind (arith, nat_tests) in
+    ap of_few_streams is ∙ ap (λ (b : Bool). cond b (Err TooManyStreams) (Ok (with_deliveries m ds))) more

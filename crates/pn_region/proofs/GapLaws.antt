@@ -2,13 +2,13 @@
 use Rattle.std.proofs.Common.{◌≡◌, inl, inr, ℕ, zero, suc, ◌+◌, ◌<◌, ◌≤◌, pred, Bool, true, false, cond, nat_lt, List, [], ◌∷◌, ◌++◌, length, refl, sym, ap, ◌∙◌, arith}
 use Rattle.std.proofs.lemmas.Bool.Decides.{nat_tests}
 use Rattle.std.proofs.lemmas.List.Elements.{filter-append}
-use Rattle.pn_region.proofs.Common.{Result, Ok, Err, Positions, position_of, DeliveryValue, bringing, last_position, marked, leaves_gap, marks_after, of_few_streams, new_marks, RoundFault, Gap, TooManyStreams}
+use Rattle.pn_region.proofs.Common.{Result, Ok, Err, Positions, position_of, DeliveryValue, with_images, last_position, with_delivery, leaves_gap, marks_after, of_few_streams, new_marks, RoundFault, Gap, TooManyStreams}
 use Rattle.pn_region.proofs.MarkLaws.{gap_of, only_gaps, accepted, few, none_skipped, never_fall, some_brings, last_taken}
 use Rattle.pn_region.specs.Laws.{WasTaken, HasNoGap, IsGap}
 use Rattle.pn_region.specs.Marking.{brings}
 
 -- the position is one that the marks have reached by these deliveries
-taken_up_to : (ds : List DeliveryValue) (m n : Positions) (name : List ℕ) (p : ℕ) → marks_after m (bringing ds) ≡ Ok n → p ≤ position_of n name → WasTaken m ds name p
+taken_up_to : (ds : List DeliveryValue) (m n : Positions) (name : List ℕ) (p : ℕ) → marks_after m (with_images ds) ≡ Ok n → p ≤ position_of n name → WasTaken m ds name p
 taken_up_to ds m n name p is within =
     elim (nat_lt (position_of m name) p) as (λ b. nat_lt (position_of m name) p ≡ b → WasTaken m ds name p) [
       | true ↦ λ more. inr (none_skipped ds m n name p is (grind (arith, nat_tests)) within)
@@ -23,7 +23,7 @@ has_images : (first count p : ℕ) → first ≤ p → p < first + count → 0 <
 has_images first count p from before = omega (arith, from, before)
 
 -- and no other was taken
-taken_is_reached : (ds : List DeliveryValue) (m n : Positions) (name : List ℕ) (p : ℕ) → marks_after m (bringing ds) ≡ Ok n → WasTaken m ds name p → p ≤ position_of n name
+taken_is_reached : (ds : List DeliveryValue) (m n : Positions) (name : List ℕ) (p : ℕ) → marks_after m (with_images ds) ≡ Ok n → WasTaken m ds name p → p ≤ position_of n name
 taken_is_reached ds m n name p is (inl within) = omega (arith, within, never_fall ds m n is name)
 taken_is_reached ds m n name p is (inr has) =
     let last : last_position has.delivery ≤ position_of n has.delivery.stream =
@@ -42,32 +42,32 @@ record Parts (m : Positions) (front rest : List DeliveryValue) (next : Positions
 in_parts : (front rest : List DeliveryValue) (m next : Positions) → marks_after m (front ++ rest) ≡ Ok next → Parts m front rest next
 in_parts [] rest m next is = record { reached = m; so_far = refl; then_on = is }
 in_parts (d ∷ front) rest m next is =
-    let passed = accepted (leaves_gap m d) (gap_of m d) (marks_after (marked m d) (front ++ rest)) next is in
-    let parts = in_parts front rest (marked m d) next passed.1 in
+    let passed = accepted (leaves_gap m d) (gap_of m d) (marks_after (with_delivery m d) (front ++ rest)) next is in
+    let parts = in_parts front rest (with_delivery m d) next passed.1 in
     record {
       reached = parts.reached;
-      so_far = ap (λ (b : Bool). cond b (Err (gap_of m d)) (marks_after (marked m d) front)) passed.0 ∙ parts.so_far;
+      so_far = ap (λ (b : Bool). cond b (Err (gap_of m d)) (marks_after (with_delivery m d) front)) passed.0 ∙ parts.so_far;
       then_on = parts.then_on;
     }
 
-brought : (before after : List DeliveryValue) (d : DeliveryValue) → 0 < length d.images → bringing (before ++ d ∷ after) ≡ bringing before ++ d ∷ bringing after
+brought : (before after : List DeliveryValue) (d : DeliveryValue) → 0 < length d.images → with_images (before ++ d ∷ after) ≡ with_images before ++ d ∷ with_images after
 brought before after d some =
     filter-append brings before (d ∷ after)
-    ∙ ap (λ (b : Bool). bringing before ++ cond b (d ∷ bringing after) (bringing after)) (some_brings d some)
+    ∙ ap (λ (b : Bool). with_images before ++ cond b (d ∷ with_images after) (with_images after)) (some_brings d some)
 
 -- where all deliveries are taken there is no gap
-no_gap : (ds : List DeliveryValue) (m n : Positions) → marks_after m (bringing ds) ≡ Ok n → HasNoGap m ds
-no_gap ds m n is before d after p place some below =
-    let parts = in_parts (bringing before) (d ∷ bringing after) m n
-    (ap (marks_after m) (sym (ap bringing place ∙ brought before after d some)) ∙ is) in
-    let passed = accepted (leaves_gap parts.reached d) (gap_of parts.reached d) (marks_after (marked parts.reached d) (bringing after)) n parts.then_on in
+no_gap : (ds : List DeliveryValue) (m n : Positions) → marks_after m (with_images ds) ≡ Ok n → HasNoGap m ds
+no_gap ds m n is before d after p cut some below =
+    let parts = in_parts (with_images before) (d ∷ with_images after) m n
+    (ap (marks_after m) (sym (ap with_images cut ∙ brought before after d some)) ∙ is) in
+    let passed = accepted (leaves_gap parts.reached d) (gap_of parts.reached d) (marks_after (with_delivery parts.reached d) (with_images after)) n parts.then_on in
     taken_up_to before m parts.reached d.stream p parts.so_far (no_gap_reaches (position_of parts.reached d.stream) d.first p passed.0 below)
   where
     no_gap_reaches : (mark first p : ℕ) → nat_lt (mark + 1) first ≡ false → p < first → p ≤ mark
     no_gap_reaches mark first p joins below = grind (arith, nat_tests)
 
 pub none_is_told : (marks next : Positions) (deliveries : List DeliveryValue) → new_marks marks deliveries ≡ Ok next → HasNoGap marks deliveries
-none_is_told marks next deliveries is = no_gap deliveries marks next (few (marks_after marks (bringing deliveries)) next is)
+none_is_told marks next deliveries is = no_gap deliveries marks next (few (marks_after marks (with_images deliveries)) next is)
 
 too_many_after_all : (right : Result Positions RoundFault) (P : Type 0) → (right ≡ Err TooManyStreams → P) → ((n : Positions) → right ≡ Ok n → P) → of_few_streams right ≡ Err TooManyStreams → P
 too_many_after_all (Ok n) P never all is = all n refl
@@ -75,8 +75,8 @@ too_many_after_all (Err fault) P never all is = never is
 
 pub too_many_leave_none : (marks : Positions) (deliveries : List DeliveryValue) → new_marks marks deliveries ≡ Err TooManyStreams → HasNoGap marks deliveries
 too_many_leave_none marks deliveries is =
-    too_many_after_all (marks_after marks (bringing deliveries)) (HasNoGap marks deliveries)
-    (λ never. absurd (only_gaps TooManyStreams (λ d m same. cc) (bringing deliveries) marks never))
+    too_many_after_all (marks_after marks (with_images deliveries)) (HasNoGap marks deliveries)
+    (λ never. absurd (only_gaps TooManyStreams (λ d m same. cc) (with_images deliveries) marks never))
     (λ n all. no_gap deliveries marks n all)
     is
 
@@ -86,22 +86,22 @@ record Met (m : Positions) (ds : List DeliveryValue) (fault : RoundFault) : Type
   delivery : DeliveryValue
   after : List DeliveryValue
   reached : Positions
-  place : ds ≡ before ++ delivery ∷ after
-  so_far : marks_after m (bringing before) ≡ Ok reached
+  parts : ds ≡ before ++ delivery ∷ after
+  so_far : marks_after m (with_images before) ≡ Ok reached
   brings_some : brings delivery ≡ true
   leaves : leaves_gap reached delivery ≡ true
   fault_is : gap_of reached delivery ≡ fault
 
 -- the gap after a delivery that is taken or has no images
 gap_after : (m next : Positions) (d : DeliveryValue) (ds : List DeliveryValue) (fault : RoundFault)
-    → ((before : List DeliveryValue) (n : Positions) → marks_after next (bringing before) ≡ Ok n → marks_after m (bringing (d ∷ before)) ≡ Ok n)
+    → ((before : List DeliveryValue) (n : Positions) → marks_after next (with_images before) ≡ Ok n → marks_after m (with_images (d ∷ before)) ≡ Ok n)
     → Met next ds fault → Met m (d ∷ ds) fault
 gap_after m next d ds fault on met = record {
   before = d ∷ met.before;
   delivery = met.delivery;
   after = met.after;
   reached = met.reached;
-  place = ap (λ (rest : List DeliveryValue). d ∷ rest) met.place;
+  parts = ap (λ (rest : List DeliveryValue). d ∷ rest) met.parts;
   so_far = on met.before met.reached met.so_far;
   brings_some = met.brings_some;
   leaves = met.leaves;
@@ -109,32 +109,32 @@ gap_after m next d ds fault on met = record {
 }
 
 -- the first gap is met after deliveries that are taken
-first_met : (ds : List DeliveryValue) (m : Positions) (fault : RoundFault) → marks_after m (bringing ds) ≡ Err fault → Met m ds fault
+first_met : (ds : List DeliveryValue) (m : Positions) (fault : RoundFault) → marks_after m (with_images ds) ≡ Err fault → Met m ds fault
 first_met [] m fault is = absurd cc
 first_met (d ∷ ds) m fault is =
-    elim (brings d) as (λ b. brings d ≡ b → marks_after m (cond b (d ∷ bringing ds) (bringing ds)) ≡ Err fault → Met m (d ∷ ds) fault) [
+    elim (brings d) as (λ b. brings d ≡ b → marks_after m (cond b (d ∷ with_images ds) (with_images ds)) ≡ Err fault → Met m (d ∷ ds) fault) [
       | true ↦ λ some all.
-          elim (leaves_gap m d) as (λ b. leaves_gap m d ≡ b → cond b (Err (gap_of m d)) (marks_after (marked m d) (bringing ds)) ≡ Err fault → Met m (d ∷ ds) fault) [
+          elim (leaves_gap m d) as (λ b. leaves_gap m d ≡ b → cond b (Err (gap_of m d)) (marks_after (with_delivery m d) (with_images ds)) ≡ Err fault → Met m (d ∷ ds) fault) [
             | true ↦ λ gap now. record {
               before = [];
               delivery = d;
               after = ds;
               reached = m;
-              place = refl;
+              parts = refl;
               so_far = refl;
               brings_some = some;
               leaves = gap;
               fault_is = cc;
             }
-            | false ↦ λ joins rest. gap_after m (marked m d) d ds fault
+            | false ↦ λ joins rest. gap_after m (with_delivery m d) d ds fault
                 (λ before n is.
-                ap (λ (b : Bool). marks_after m (cond b (d ∷ bringing before) (bringing before))) some
-                ∙ ap (λ (b : Bool). cond b (Err (gap_of m d)) (marks_after (marked m d) (bringing before))) joins
+                ap (λ (b : Bool). marks_after m (cond b (d ∷ with_images before) (with_images before))) some
+                ∙ ap (λ (b : Bool). cond b (Err (gap_of m d)) (marks_after (with_delivery m d) (with_images before))) joins
                 ∙ is)
-                (first_met ds (marked m d) fault rest)
+                (first_met ds (with_delivery m d) fault rest)
           ] refl all
       | false ↦ λ none rest. gap_after m m d ds fault
-          (λ before n is. ap (λ (b : Bool). marks_after m (cond b (d ∷ bringing before) (bringing before))) none ∙ is)
+          (λ before n is. ap (λ (b : Bool). marks_after m (cond b (d ∷ with_images before) (with_images before))) none ∙ is)
           (first_met ds m fault rest)
     ] refl is
 
@@ -153,7 +153,7 @@ met_is_gap m ds stream wanted got met =
       before = met.before;
       delivery = met.delivery;
       after = met.after;
-      place = met.place;
+      parts = met.parts;
       brings = brings_images met.delivery met.brings_some;
       stream_is = stream_is;
       got_is = got_is;
@@ -177,4 +177,4 @@ gap_after_all (Err fault) stream wanted got is = is
 pub gap_is_missing : (marks : Positions) (deliveries : List DeliveryValue) (stream : List ℕ) (wanted got : ℕ) → new_marks marks deliveries ≡ Err (Gap stream wanted got) → IsGap marks deliveries stream wanted got
 gap_is_missing marks deliveries stream wanted got is =
     met_is_gap marks deliveries stream wanted got
-    (first_met deliveries marks (Gap stream wanted got) (gap_after_all (marks_after marks (bringing deliveries)) stream wanted got is))
+    (first_met deliveries marks (Gap stream wanted got) (gap_after_all (marks_after marks (with_images deliveries)) stream wanted got is))

@@ -4,13 +4,13 @@ use Rattle.std.proofs.lemmas.List.Elements.{Contains-append_left, Contains-appen
 use Rattle.pn_record.specs.CellMap.{adds}
 use Rattle.pn_record.proofs.CellMaps.{table_of-nil}
 use Rattle.pn_tablet.specs.Needs.{needed}
-use Rattle.pn_tablet.specs.Steps.{taking}
+use Rattle.pn_tablet.specs.Steps.{with_join}
 use Rattle.pn_tablet.specs.declared.state.Status.{Status}
 use Rattle.pn_apply.proofs.ReduceLaws.{range_joins}
 use Rattle.pn_region.specs.Honest.{IsHonestCopy}
 use Rattle.pn_region.specs.Relayouts.{made_of}
 use Rattle.pn_region.specs.Taken.{CoverTells, HoldsTaken}
-use Rattle.pn_region.proofs.Common.{AllByRecursion, Positions, Image, spell, Entries, table_of, BrokerRecord, up_to, DeliveryValue, TabletCopyValue, lacking, Ends, in_range, lost, TabletStateValue, Serving, all_images, images_in, AreIn, RegionValue, IsTabletOf, IsRegion, AllServe}
+use Rattle.pn_region.proofs.Common.{AllByRecursion, Positions, Image, spell, Entries, table_of, BrokerRecord, up_to, DeliveryValue, TabletCopyValue, need_shortfall, Ends, in_range, recovering_tablet, TabletStateValue, Serving, all_images, images_in, AreIn, RegionValue, IsTabletOf, IsRegion, AllServe}
 use Rattle.pn_region.proofs.Covers.{among_more, among_new, without_none, cover_rules}
 use Rattle.pn_region.proofs.EventRules.{none, Rules}
 use Rattle.pn_region.proofs.Faith.{left_so}
@@ -39,7 +39,7 @@ module _ (broker : BrokerRecord) (taken left : List Image) where
 
   -- in a round
   round_holds : (deliveries : List DeliveryValue) (marks next : Positions) (more maybe : List Image) (r : Ends) (t : TabletStateValue) → IsTabletOf marks r t → AreIn more (all_images deliveries) → AreIn (all_images deliveries) (more ++ maybe)
-      → HoldsTaken broker taken left t → HoldsTaken broker (taken ++ more) (left ++ maybe) (taking t (table_of (images_in r (all_images deliveries))) next)
+      → HoldsTaken broker taken left t → HoldsTaken broker (taken ++ more) (left ++ maybe) (with_join t (table_of (images_in r (all_images deliveries))) next)
   round_holds deliveries marks next more maybe r t is of to holds =
       let images = all_images deliveries in
       record {
@@ -55,7 +55,7 @@ module _ (broker : BrokerRecord) (taken left : List Image) where
       }
 
   -- in a loss: what was taken is up to the reach, which is the need
-  lost_holds : (t : TabletStateValue) → CoverTells broker taken left t → HoldsTaken broker (taken ++ []) (left ++ []) (lost t)
+  lost_holds : (t : TabletStateValue) → CoverTells broker taken left t → HoldsTaken broker (taken ++ []) (left ++ []) (recovering_tablet t)
   lost_holds t tells = record {
     images = [];
     cells = sym table_of-nil;
@@ -64,7 +64,7 @@ module _ (broker : BrokerRecord) (taken left : List Image) where
   }
 
   -- in the adoption of an honest copy
-  module _ (copy : TabletCopyValue) (honest : IsHonestCopy broker copy) (t : TabletStateValue) (ranged : t.range ≡ copy.range) (lacks : lacking t.status copy.marks ≡ None) (holds : HoldsTaken broker taken left t) where
+  module _ (copy : TabletCopyValue) (honest : IsHonestCopy broker copy) (t : TabletStateValue) (ranged : t.range ≡ copy.range) (lacks : need_shortfall t.status copy.marks ≡ None) (holds : HoldsTaken broker taken left t) where
     abbrev copied : List Image
     copied = up_to broker copy.marks
 
@@ -75,7 +75,7 @@ module _ (broker : BrokerRecord) (taken left : List Image) where
     not_needed image (inl there) = Contains-append_left holds.images copied image there
     not_needed image (inr needs) = Contains-append_right holds.images copied image (up_to_more broker copy.marks (needed t.status) (need_reached t.status copy.marks lacks) image needs)
 
-    adopted_holds : HoldsTaken broker (taken ++ more) (left ++ []) (record (taking t copy.cells copy.marks) { status = Serving })
+    adopted_holds : HoldsTaken broker (taken ++ more) (left ++ []) (record (with_join t copy.cells copy.marks) { status = Serving })
     adopted_holds = record {
       images = holds.images ++ copied;
       cells =

@@ -2,10 +2,10 @@
 use Rattle.std.proofs.Common.{◌≡◌, inr, ℕ, ◌+◌, ◌-◌, min, List, [], ◌∷◌, ◌++◌, length, drop, refl, sym, ap, ◌∙◌, subst, arith, append_assoc, append-nil, length-append, length-drop, drop-drop}
 use Rattle.std.proofs.lemmas.List.{drop-append-le, map-append}
 use Rattle.circular_buffer.specs.Buffer.{Buffer, buffer, keep_last}
-use Rattle.pn_region.specs.declared.entry.Entry.{Entry}
-use Rattle.pn_region.specs.declared.entry.Entry.TheVariants.{Changed, Break}
+use Rattle.pn_region.specs.declared.notices.Entry.{Entry}
+use Rattle.pn_region.specs.declared.notices.Entry.TheVariants.{Changed, Break}
 use Rattle.pn_region.specs.Kept.{AreKept, kept_with, IsLog}
-use Rattle.pn_region.proofs.Common.{Change, max_notices, last_number, entries_of}
+use Rattle.pn_region.proofs.Common.{Change, MAX_NOTICES, LAST_NUMBER, entries_of}
 
 -- to keep the last ones of what was kept and one more is to keep the last ones of all
 pub kept_more : {X : Type 0} (n : ℕ) (xs : List X) (x : X) → keep_last n (keep_last n xs ++ x ∷ []) ≡ keep_last n (xs ++ x ∷ [])
@@ -23,13 +23,13 @@ changed_more changes change before entries parts =
     ap (λ es. es ++ Changed change ∷ []) parts ∙ append_assoc before (entries_of changes) (Changed change ∷ []) ∙ ap (λ es. before ++ es) (sym (map-append Changed changes (change ∷ [])))
 
 -- one more entry
-kept_on : (entries : List Entry) (kept : List Change) (entry : Entry) → AreKept entries kept → AreKept (entries ++ entry ∷ []) (kept_with entry max_notices kept)
+kept_on : (entries : List Entry) (kept : List Change) (entry : Entry) → AreKept entries kept → AreKept (entries ++ entry ∷ []) (kept_with entry MAX_NOTICES kept)
 kept_on entries kept (Changed change) are = record {
   before = are.before;
   later = are.later ++ change ∷ [];
   parts = changed_more are.later change are.before entries are.parts;
   is_cut = are.is_cut;
-  last = ap (λ l. keep_last max_notices (l ++ change ∷ [])) are.last ∙ kept_more max_notices are.later change;
+  last = ap (λ l. keep_last MAX_NOTICES (l ++ change ∷ [])) are.last ∙ kept_more MAX_NOTICES are.later change;
 }
 kept_on entries kept Break are = record {
   before = entries ++ Break ∷ [];
@@ -40,7 +40,7 @@ kept_on entries kept Break are = record {
 }
 
 pub goes_on : (entries more : List Entry) (last next : ℕ) (kept left : Buffer Change) (entry : Entry) → IsLog entries last kept
-    → more ≡ entries ++ entry ∷ [] → next ≡ min (last + 1) (last_number + 1) → left ≡ buffer (kept_with entry kept.capacity kept.items) kept.capacity
+    → more ≡ entries ++ entry ∷ [] → next ≡ min (last + 1) (LAST_NUMBER + 1) → left ≡ buffer (kept_with entry kept.capacity kept.items) kept.capacity
     → IsLog more next left
 goes_on entries more last next kept left entry is are number keeps =
     let long = length-append entries (entry ∷ []) in

@@ -7,7 +7,7 @@ use Rattle.pn_region.specs.Held.{HoldsStill}
 use Rattle.pn_region.specs.Honest.{IsHonestCopy}
 use Rattle.pn_region.specs.Rounds as rounds
 use Rattle.pn_region.specs.Taken.{KeepsLayout}
-use Rattle.pn_region.proofs.Common.{find, Positions, Image, bytes_cmp, CellValue, BrokerRecord, TabletCopyValue, tablet_of, tablet_ends, Ends, in_range, stepped, TabletStateValue, TabletOp, Join, Lose, Adopt, Serving, Recovering, AreOldOrStepped, all_images, join_in, ranges, IsFaithful, AreFaithful, stepped_at, RegionValue, AreTabletsOf, IsRegion}
+use Rattle.pn_region.proofs.Common.{find, Positions, Image, bytes_cmp, CellValue, BrokerRecord, TabletCopyValue, tablet_of, tablet_ends, Ends, in_range, tablet_after, TabletStateValue, TabletOp, Join, Lose, Adopt, Serving, Recovering, AreOldOrStepped, all_images, join_in, ranges, IsFaithful, AreFaithful, tablets_after_op, RegionValue, AreTabletsOf, IsRegion}
 use Rattle.pn_region.proofs.Events.{by_layout, at_key, same_number, one_found, relaid_at, IsRelaidAt, found_at_key, spelled_at}
 use Rattle.pn_region.proofs.EventSteps.{adopts, takes, event_is, Each, each_at}
 use Rattle.pn_region.proofs.HalfRounds.{half_so}
@@ -26,14 +26,14 @@ module _ (broker : BrokerRecord) where
 
   -- the tablet is as it was, or took such an operation
   abbrev pub Bears : TabletStateValue → TabletStateValue → Type 0
-  Bears t u = (u ≡ t) ⊎ ((op : TabletOp) × IsHonestOp op × (u ≡ stepped t op))
+  Bears t u = (u ≡ t) ⊎ ((op : TabletOp) × IsHonestOp op × (u ≡ tablet_after t op))
 
   bear_itself : (ts : List TabletStateValue) → Each Bears ts ts
   bear_itself [] = tt
   bear_itself (t ∷ ts) = (inl refl, bear_itself ts)
 
   module _ (marks : Positions) (images : List Image) where
-    half_bears : (r : Ends) (t u : TabletStateValue) → (u ≡ t) ⊎ (u ≡ stepped t (join_in marks images r)) → Bears t u
+    half_bears : (r : Ends) (t u : TabletStateValue) → (u ≡ t) ⊎ (u ≡ tablet_after t (join_in marks images r)) → Bears t u
     half_bears r t u (inl same) = inl same
     half_bears r t u (inr took) = inr (join_in marks images r, tt, took)
 
@@ -45,7 +45,7 @@ module _ (broker : BrokerRecord) where
     halves_bear (r ∷ rs) (t ∷ ts) [] half = absurd half
     halves_bear (r ∷ rs) (t ∷ ts) (u ∷ us) half = (half_bears r t u half.0, halves_bear rs ts us half.1)
 
-  one_bears : (n : ℕ) (op : TabletOp) (ts : List TabletStateValue) → IsHonestOp op → Each Bears ts (stepped_at n op ts)
+  one_bears : (n : ℕ) (op : TabletOp) (ts : List TabletStateValue) → IsHonestOp op → Each Bears ts (tablets_after_op n op ts)
   one_bears n op [] honest = tt
   one_bears zero op (t ∷ ts) honest = (inr (op, honest, refl), bear_itself ts)
   one_bears (suc n) op (t ∷ ts) honest = (inl refl, one_bears n op ts honest)

@@ -1,19 +1,19 @@
 -- What a tablet keeps of a record that was there: the record, or the need of a copy that has it.
 use Rattle.std.proofs.Common.{◌≡◌, ℕ, Bool, true, false, if◌then◌else◌, List, Option, None, Some, Ok, Err, refl, sym, ap, ◌∙◌, subst, arith, ◌⊎◌, inl, inr}
-use Rattle.pn_join.proofs.MarksFacts.{position_of-raised}
+use Rattle.pn_join.proofs.MarksFacts.{position_of-raised_marks}
 use Rattle.pn_record.specs.Cells.{cells}
 use Rattle.pn_record.specs.CellMap.{adds}
 use Rattle.pn_record.proofs.CellLists.{both, both-assoc, both-comm, both-same, all_absorbed}
 use Rattle.pn_record.proofs.CellMaps.{Holds-table_of, cells-spelled}
 use Rattle.pn_tablet.specs.Laws.{IsSpelled}
-use Rattle.pn_tablet.specs.Steps.{taking}
+use Rattle.pn_tablet.specs.Steps.{with_join}
 use Rattle.pn_tablet.specs.Steps as steps
 use Rattle.pn_tablet.specs.declared.state.Status.{Status}
 use Rattle.pn_tablet.proofs.Recovery.{nothing_short}
 use Rattle.pn_tablet.proofs.Stepping.{one_range}
 use Rattle.pn_region.specs.Held.{HoldsStill}
 use Rattle.pn_region.specs.Honest.{IsHonestCopy}
-use Rattle.pn_region.proofs.Common.{find, Positions, Reaches, raised, Image, bytes_cmp, CellValue, spell, Entries, BrokerRecord, up_to, TabletCopyValue, lacking, Ends, in_range, after_step, stepped, TabletStateValue, lie_in, same_range, WrongRange, Short, TabletOp, Join, Lose, Adopt, Serving, Recovering, images_in, IsFaithful}
+use Rattle.pn_region.proofs.Common.{find, Positions, Reaches, raised_marks, Image, bytes_cmp, CellValue, spell, Entries, BrokerRecord, up_to, TabletCopyValue, need_shortfall, Ends, in_range, after_step, tablet_after, TabletStateValue, lie_in, same_range, WrongRange, Shortfall, TabletOp, Join, Lose, Adopt, Serving, Recovering, images_in, IsFaithful}
 use Rattle.pn_region.proofs.FoundIn.{cells_in}
 use Rattle.pn_region.proofs.InRange.{from_images_in}
 use Rattle.pn_region.proofs.StillHeld.{found_added, found_spelled, taken_in_held}
@@ -39,8 +39,8 @@ abbrev pub Brings : List ℕ → Option CellValue → Positions → TabletOp →
 Brings key was from (Adopt copy) = in_range copy.range key ≡ true → Reaches copy.marks from → both was (cells (spell copy.cells) key) ≡ cells (spell copy.cells) key
 Brings key was from _ = Unit {0}
 
-raised_on : (reach marks from : Positions) → Reaches reach from → Reaches (raised reach marks) from
-raised_on reach marks from reaches name = omega (arith, position_of-raised reach marks name, reaches name)
+raised_on : (reach marks from : Positions) → Reaches reach from → Reaches (raised_marks reach marks) from
+raised_on reach marks from reaches name = omega (arith, position_of-raised_marks reach marks name, reaches name)
 
 module _ (key : List ℕ) (was : Option CellValue) (from : Positions) where
   has_still : (own : Entries) (images : List Image) → IsSpelled own → Has key was own → Has key was (adds own images)
@@ -61,29 +61,29 @@ module _ (key : List ℕ) (was : Option CellValue) (from : Positions) where
   joined_has t images spelled (inl has) = inl (has_still t.cells images spelled has)
   joined_has t images spelled (inr needs) = inr needs
 
-  joined_keeps : (t : TabletStateValue) (more : Entries) (marks : Positions) (b : Bool) → IsSpelled t.cells → Keeps key was from t → Keeps key was from (after_step t (if b then Ok (taking t more marks) else Err WrongRange))
+  joined_keeps : (t : TabletStateValue) (more : Entries) (marks : Positions) (b : Bool) → IsSpelled t.cells → Keeps key was from t → Keeps key was from (after_step t (if b then Ok (with_join t more marks) else Err WrongRange))
   joined_keeps t more marks true spelled keeps = record { reach = raised_on t.reach marks from keeps.reach; has = joined_has t (spell more) spelled keeps.has }
   joined_keeps t more marks false spelled keeps = keeps
 
   module _ (t : TabletStateValue) (copy : TabletCopyValue) (lies : in_range t.range key ≡ true) (spelled : IsSpelled t.cells) (brings : Brings key was from (Adopt copy)) where
-    adopted_has : same_range t.range copy.range ≡ true → lacking t.status copy.marks ≡ None → Has key was t.cells ⊎ NeedsAll from t.status → Has key was (adds t.cells (spell copy.cells))
+    adopted_has : same_range t.range copy.range ≡ true → need_shortfall t.status copy.marks ≡ None → Has key was t.cells ⊎ NeedsAll from t.status → Has key was (adds t.cells (spell copy.cells))
     adopted_has same none (inl has) = has_still t.cells (spell copy.cells) spelled has
     adopted_has same none (inr needs) =
-        let lacks_none = nothing_short copy.marks needs.need (ap (λ (status : Status). lacking status copy.marks) (sym needs.is) ∙ none) in
+        let lacks_none = nothing_short copy.marks needs.need (ap (λ (status : Status). need_shortfall status copy.marks) (sym needs.is) ∙ none) in
         has_then t.cells (spell copy.cells)
         (brings (ap (λ (ends : Ends). in_range ends key) (sym (one_range t.range copy.range same)) ∙ lies) (λ name. omega (arith, needs.reach name, lacks_none name)))
 
-    adopted_keeps : (b : Bool) (short : Option Short) → same_range t.range copy.range ≡ b → lacking t.status copy.marks ≡ short → Keeps key was from t
-        → Keeps key was from (after_step t (if b then steps.adopting t copy short else Err WrongRange))
+    adopted_keeps : (b : Bool) (short : Option Shortfall) → same_range t.range copy.range ≡ b → need_shortfall t.status copy.marks ≡ short → Keeps key was from t
+        → Keeps key was from (after_step t (if b then steps.with_copy t copy short else Err WrongRange))
     adopted_keeps true None same none keeps = record { reach = raised_on t.reach copy.marks from keeps.reach; has = inl (adopted_has same none keeps.has) }
     adopted_keeps true (Some short) same lacks keeps = keeps
     adopted_keeps false short same lacks keeps = keeps
 
   -- no operation ends that, where a copy that it brings has the cell
-  pub one_keeps : (t : TabletStateValue) (op : TabletOp) → in_range t.range key ≡ true → IsSpelled t.cells → Brings key was from op → Keeps key was from t → Keeps key was from (stepped t op)
+  pub one_keeps : (t : TabletStateValue) (op : TabletOp) → in_range t.range key ≡ true → IsSpelled t.cells → Brings key was from op → Keeps key was from t → Keeps key was from (tablet_after t op)
   one_keeps t (Join more marks) lies spelled brings keeps = joined_keeps t more marks (lie_in t.range more) spelled keeps
   one_keeps t Lose lies spelled brings keeps = record { reach = keeps.reach; has = inr (record { need = t.reach; is = refl; reach = keeps.reach }) }
-  one_keeps t (Adopt copy) lies spelled brings keeps = adopted_keeps t copy lies spelled brings (same_range t.range copy.range) (lacking t.status copy.marks) refl refl keeps
+  one_keeps t (Adopt copy) lies spelled brings keeps = adopted_keeps t copy lies spelled brings (same_range t.range copy.range) (need_shortfall t.status copy.marks) refl refl keeps
 
   -- so a tablet that serves has it
   pub kept_held : (t : TabletStateValue) → t.status ≡ Serving → Keeps key was from t → HoldsStill was (find bytes_cmp key t.cells)

@@ -1,7 +1,7 @@
 -- A change of layout leaves the images that tablets have between the sure ones and others.
 use Rattle.std.proofs.Common.{List, [], ◌∷◌, map, None, refl, sym, subst}
 use Rattle.pn_region.specs.Laws.{IsBetween, HoldsBetween, AllHoldBetween}
-use Rattle.pn_region.specs.Relayouts.{made_of, relaid}
+use Rattle.pn_region.specs.Relayouts.{made_of, with_layout}
 use Rattle.pn_region.proofs.Common.{AllByRecursion, Positions, Image, Bounds, Ends, TabletStateValue, ranges, HasBetween, RegionValue, AreTabletsOf, IsRegion}
 use Rattle.pn_region.proofs.Relaying.{part_at}
 use Rattle.pn_region.proofs.United.{united, from_united, to_united, united_cells}
@@ -38,6 +38,6 @@ module _ (sure maybe : List Image) where
     made_between [] = tt
     made_between (r ∷ rs) = ((all_own, between, united_cells Between own region all is (λ t one. one.2) r), made_between rs)
 
-pub relaid_between : (region : RegionValue) (bounds : Bounds) (sure maybe : List Image) → IsRegion region → HasBetween sure maybe region → HasBetween sure maybe (relaid region bounds)
+pub relaid_between : (region : RegionValue) (bounds : Bounds) (sure maybe : List Image) → IsRegion region → HasBetween sure maybe region → HasBetween sure maybe (with_layout region bounds)
 relaid_between region bounds sure maybe is has =
     made_between sure maybe region is (each_between sure maybe region.marks (ranges region.layout) region.tablets is.tablets has) (ranges bounds)

@@ -5,9 +5,10 @@ use Rattle.std.proofs.lemmas.Bool.{cases_lt, and_parts, leb-true}
 use Rattle.std.proofs.lemmas.List.{drop-append-le, length-map, map-append}
 use Rattle.std.proofs.lemmas.List.Elements.{Contains-append_left, Contains-append_right, Contains-push}
 use Rattle.pn_tablet.specs.declared.change.Change.{Change}
-use Rattle.pn_region.specs.declared.entry.Entry.{Entry}
-use Rattle.pn_region.specs.declared.entry.Entry.TheVariants.{Changed, Break}
-use Rattle.pn_region.specs.Log.{max_notices, last_number, entries_of, changes_in, is_recent, changes_after, numbered, last_of}
+use Rattle.pn_region.specs.declared.notices.Entry.{Entry}
+use Rattle.pn_region.specs.declared.notices.Entry.TheVariants.{Changed, Break}
+use Rattle.pn_region.specs.declared.notices.TheConstants.{MAX_NOTICES, LAST_NUMBER}
+use Rattle.pn_region.specs.Log.{entries_of, changes_in, is_recent, changes_after, notices_from, last_of}
 use Rattle.pn_region.proofs.Telling.{le_true, unless, broken}
 
 -- entries that are changes
@@ -36,16 +37,16 @@ when false value x is = let never : ⊥ = cc in absurd never
 
 pub record IsRecent (entries : List Entry) (n : ℕ) : Type 0 where
   pub there : n ≤ length entries
-  pub near : length entries ≤ n + max_notices
-  pub given : length entries ≤ last_number
+  pub near : length entries ≤ n + MAX_NOTICES
+  pub given : length entries ≤ LAST_NUMBER
 
 recent : (entries : List Entry) (n : ℕ) → is_recent entries n ≡ true → IsRecent entries n
 recent entries n yet =
-    let parts = and_parts (nat_le n (length entries) && nat_le (length entries) (n + max_notices)) (nat_le (length entries) last_number) yet in
-    let first = and_parts (nat_le n (length entries)) (nat_le (length entries) (n + max_notices)) parts.0 in record {
+    let parts = and_parts (nat_le n (length entries) && nat_le (length entries) (n + MAX_NOTICES)) (nat_le (length entries) LAST_NUMBER) yet in
+    let first = and_parts (nat_le n (length entries)) (nat_le (length entries) (n + MAX_NOTICES)) parts.0 in record {
       there = leb-true n (length entries) first.0;
-      near = leb-true (length entries) (n + max_notices) first.1;
-      given = leb-true (length entries) last_number parts.1;
+      near = leb-true (length entries) (n + MAX_NOTICES) first.1;
+      given = leb-true (length entries) LAST_NUMBER parts.1;
     }
 
 module _ (entries : List Entry) (n : ℕ) (changes : List Change) (is : changes_after entries n ≡ Some changes) where
@@ -63,7 +64,7 @@ module _ (entries : List Entry) (n : ℕ) (changes : List Change) (is : changes_
   pub told_last : last_of entries ≡ n + length changes
   told_last = omega (arith, told_recent.given, told_count)
 
-  pub told_few : length changes ≤ max_notices
+  pub told_few : length changes ≤ MAX_NOTICES
   told_few = omega (arith, told_recent.near, told_count)
 
 -- two answers, one after the other
@@ -76,11 +77,11 @@ both_told entries more n first second one two =
     ∙ (λ i. told_entries entries n first one i ++ later i)
     ∙ sym (map-append Changed first second)
 
-pub numbers_go_on : (n : ℕ) (first second : List Change) → numbered n (first ++ second) ≡ numbered n first ++ numbered (n + length first) second
-numbers_go_on n [] second = ap (λ k. numbered k second) (omega arith)
+pub numbers_go_on : (n : ℕ) (first second : List Change) → notices_from n (first ++ second) ≡ notices_from n first ++ notices_from (n + length first) second
+numbers_go_on n [] second = ap (λ k. notices_from k second) (omega arith)
 numbers_go_on n (change ∷ first) second =
     let on : n + 1 + length first ≡ n + length (change ∷ first) = omega arith in
-    ap (λ rest. record { number = n + 1; change = change } ∷ rest) (numbers_go_on (n + 1) first second ∙ ap (λ k. numbered (n + 1) first ++ numbered k second) on)
+    ap (λ rest. record { number = n + 1; change = change } ∷ rest) (numbers_go_on (n + 1) first second ∙ ap (λ k. notices_from (n + 1) first ++ notices_from k second) on)
 
 -- no answer reaches over a break
 pub below_break : (before after : List Entry) (n : ℕ) (changes : List Change) → changes_after (before ++ Break ∷ after) n ≡ Some changes → length before < n
@@ -92,14 +93,14 @@ below_break before after n changes is = elim (cases_lt (length before) n) [
       let never : ⊥ = cc in absurd never
 ]
 
-pub break_after : (entries : List Entry) (n : ℕ) → changes_after entries n ≡ None → n ≤ length entries → length entries ≤ n + max_notices → length entries ≤ last_number
+pub break_after : (entries : List Entry) (n : ℕ) → changes_after entries n ≡ None → n ≤ length entries → length entries ≤ n + MAX_NOTICES → length entries ≤ LAST_NUMBER
     → Contains (drop n entries) Break
 break_after entries n none there near given =
     let yet : is_recent entries n ≡ true =
-    λ i. le_true n (length entries) there i && le_true (length entries) (n + max_notices) near i && le_true (length entries) last_number given i in
+    λ i. le_true n (length entries) there i && le_true (length entries) (n + MAX_NOTICES) near i && le_true (length entries) LAST_NUMBER given i in
     has_break (drop n entries) (ap (λ (b : Bool). if b then changes_in (drop n entries) else None) (sym yet) ∙ none)
 
-pub over : (entries : List Entry) (n : ℕ) → last_number < length entries → (changes_after entries n ≡ None) × (last_of entries ≡ last_number)
+pub over : (entries : List Entry) (n : ℕ) → LAST_NUMBER < length entries → (changes_after entries n ≡ None) × (last_of entries ≡ LAST_NUMBER)
 over entries n past = (
   unless (is_recent entries n) (changes_in (drop n entries)) (λ (yet : is_recent entries n ≡ true). let never : ⊥ = omega (arith, (recent entries n yet).given) in absurd never),
   omega arith,

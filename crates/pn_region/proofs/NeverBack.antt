@@ -3,8 +3,8 @@ use Rattle.std.proofs.Common.{◌≡◌, ℕ, true, false, List, [], ◌∷◌, 
 use Rattle.pn_record.specs.Older.{NotOlder}
 use Rattle.pn_record.proofs.NeverOlder.{joined_not_older}
 use Rattle.pn_tablet.proofs.TabletLaws.{never_older}
-use Rattle.pn_region.specs.Rounds.{taking}
-use Rattle.pn_region.proofs.Common.{find, Positions, DeliveryValue, Image, bytes_cmp, CellValue, Ends, in_range, stepped, TabletStateValue, all_stepped, AreOldOrStepped, all_images, join_in, ranges, RegionValue, IsTabletOf, AreTabletsOf, IsRegion, all_cells, IsHalfTaken}
+use Rattle.pn_region.specs.Rounds.{after_joins}
+use Rattle.pn_region.proofs.Common.{find, Positions, DeliveryValue, Image, bytes_cmp, CellValue, Ends, in_range, tablet_after, TabletStateValue, all_stepped, AreOldOrStepped, all_images, join_in, ranges, RegionValue, IsTabletOf, AreTabletsOf, IsRegion, all_cells, IsHalfTaken}
 use Rattle.pn_region.proofs.Apart.{Apart, ranges_apart}
 use Rattle.pn_region.proofs.Pieces.{cells_of, none_outside, found_after, found_before, none_there}
 use Rattle.pn_region.proofs.HalfRounds.{half_so}
@@ -47,10 +47,10 @@ itself_not_older None = tt
 itself_not_older (Some cell) = joined_not_older (Some cell) None
 
 module _ (key : List ℕ) (marks old : Positions) (images : List Image) where
-  one_taken : (r : Ends) (t : TabletStateValue) → IsTabletOf old r t → NotOlder (find bytes_cmp key t.cells) (find bytes_cmp key (stepped t (join_in marks images r)).cells)
+  one_taken : (r : Ends) (t : TabletStateValue) → IsTabletOf old r t → NotOlder (find bytes_cmp key t.cells) (find bytes_cmp key (tablet_after t (join_in marks images r)).cells)
   one_taken r t is = never_older t (join_in marks images r) is.spelled (λ lost. cc) key
 
-  one_half : (r : Ends) (t u : TabletStateValue) → IsTabletOf old r t → (u ≡ t) ⊎ (u ≡ stepped t (join_in marks images r)) → NotOlder (find bytes_cmp key t.cells) (find bytes_cmp key u.cells)
+  one_half : (r : Ends) (t u : TabletStateValue) → IsTabletOf old r t → (u ≡ t) ⊎ (u ≡ tablet_after t (join_in marks images r)) → NotOlder (find bytes_cmp key t.cells) (find bytes_cmp key u.cells)
   one_half r t u is (inl same) = subst (λ (now : TabletStateValue). NotOlder (find bytes_cmp key t.cells) (find bytes_cmp key now.cells)) (sym same) (itself_not_older (find bytes_cmp key t.cells))
   one_half r t u is (inr took) = subst (λ (now : TabletStateValue). NotOlder (find bytes_cmp key t.cells) (find bytes_cmp key now.cells)) (sym took) (one_taken r t is)
 
@@ -64,12 +64,12 @@ module _ (key : List ℕ) (marks old : Positions) (images : List Image) where
 
 -- a round leaves no record older
 pub round_not_older : (region : RegionValue) (deliveries : List DeliveryValue) (marks : Positions) → IsRegion region → (key : List ℕ)
-    → NotOlder (find bytes_cmp key (all_cells region)) (find bytes_cmp key (all_cells (taking region deliveries marks)))
+    → NotOlder (find bytes_cmp key (all_cells region)) (find bytes_cmp key (all_cells (after_joins region deliveries marks)))
 round_not_older region deliveries marks is key =
     let images = all_images deliveries in
     let rs = ranges region.layout in
     none_older key region.marks marks rs region.tablets (all_stepped region.tablets (map (join_in marks images) rs)) (ranges_apart region.layout is.lawful) is.tablets
-    (all_taken marks images region.marks rs region.tablets is.tablets) (each_half key marks region.marks images rs region.tablets (taking region deliveries marks).tablets is.tablets (taken_half region deliveries is marks))
+    (all_taken marks images region.marks rs region.tablets is.tablets) (each_half key marks region.marks images rs region.tablets (after_joins region deliveries marks).tablets is.tablets (taken_half region deliveries is marks))
 
 -- nor does one that ran out of memory
 pub half_not_older : (old new : RegionValue) (deliveries : List DeliveryValue) → IsRegion old → IsHalfTaken old deliveries new → (key : List ℕ)

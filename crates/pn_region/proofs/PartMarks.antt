@@ -3,30 +3,30 @@ use Rattle.std.proofs.Common.{◌≡◌, ℕ, zero, suc, ◌+◌, ◌<◌, Bool,
 use Rattle.std.specs.Prelude.{filter, fold}
 use Rattle.std.proofs.lemmas.List.Elements.{filter_more}
 use Rattle.std.proofs.lemmas.List.Sums.{fold-append}
-use Rattle.pn_join.specs.Marks.{least}
-use Rattle.pn_join.proofs.LeastFacts.{position_of-least, are_positions-least}
-use Rattle.pn_join.proofs.MarksFacts.{position_of-raised}
+use Rattle.pn_join.specs.Marks.{least_marks}
+use Rattle.pn_join.proofs.LeastFacts.{position_of-least_marks, are_positions-least_marks}
+use Rattle.pn_join.proofs.MarksFacts.{position_of-raised_marks}
 use Rattle.pn_tablet.specs.Ranges.{meet}
 use Rattle.pn_region.specs.Relayouts.{parts_of, least_cover, greatest_reach}
-use Rattle.pn_region.proofs.Common.{AllByRecursion, Positions, Reaches, position_of, raised, are_positions, Ends, TabletStateValue, AreTabletsOf}
+use Rattle.pn_region.proofs.Common.{AllByRecursion, Positions, Reaches, position_of, raised_marks, are_positions, Ends, TabletStateValue, AreTabletsOf}
 
 abbrev lesser : Positions → TabletStateValue → Positions
-lesser cover part = least cover part.cover
+lesser cover part = least_marks cover part.cover
 
 abbrev greater : Positions → TabletStateValue → Positions
-greater reach part = raised reach part.reach
+greater reach part = raised_marks reach part.reach
 
 -- the least is nowhere above the first
 below_first : (cover : Positions) (ts : List TabletStateValue) → Reaches cover (fold lesser cover ts)
 below_first cover [] name = omega arith
-below_first cover (t ∷ ts) name = omega (arith, below_first (least cover t.cover) ts name, position_of-least cover t.cover name)
+below_first cover (t ∷ ts) name = omega (arith, below_first (least_marks cover t.cover) ts name, position_of-least_marks cover t.cover name)
 
 below_other : (cover : Positions) (ts : List TabletStateValue) (n : ℕ) (t : TabletStateValue) → slice_get ts n ≡ Some t → Reaches t.cover (fold lesser cover ts)
 below_other cover [] n t there name = cc
 below_other cover (u ∷ ts) zero t there name =
     let same : u ≡ t = cc in
-    omega (arith, below_first (least cover u.cover) ts name, position_of-least cover u.cover name, ap (λ (part : TabletStateValue). position_of part.cover name) same)
-below_other cover (u ∷ ts) (suc n) t there name = below_other (least cover u.cover) ts n t there name
+    omega (arith, below_first (least_marks cover u.cover) ts name, position_of-least_marks cover u.cover name, ap (λ (part : TabletStateValue). position_of part.cover name) same)
+below_other cover (u ∷ ts) (suc n) t there name = below_other (least_marks cover u.cover) ts n t there name
 
 -- nor above any
 pub least_below : (ts : List TabletStateValue) (n : ℕ) (t : TabletStateValue) → slice_get ts n ≡ Some t → Reaches t.cover (least_cover ts)
@@ -38,14 +38,14 @@ least_below (u ∷ ts) (suc n) t there name = below_other u.cover ts n t there n
 
 above_first : (reach : Positions) (ts : List TabletStateValue) → Reaches (fold greater reach ts) reach
 above_first reach [] name = omega arith
-above_first reach (t ∷ ts) name = omega (arith, above_first (raised reach t.reach) ts name, position_of-raised reach t.reach name)
+above_first reach (t ∷ ts) name = omega (arith, above_first (raised_marks reach t.reach) ts name, position_of-raised_marks reach t.reach name)
 
 above_other : (reach : Positions) (ts : List TabletStateValue) (n : ℕ) (t : TabletStateValue) → slice_get ts n ≡ Some t → Reaches (fold greater reach ts) t.reach
 above_other reach [] n t there name = cc
 above_other reach (u ∷ ts) zero t there name =
     let same : u ≡ t = cc in
-    omega (arith, above_first (raised reach u.reach) ts name, position_of-raised reach u.reach name, ap (λ (part : TabletStateValue). position_of part.reach name) same)
-above_other reach (u ∷ ts) (suc n) t there name = above_other (raised reach u.reach) ts n t there name
+    omega (arith, above_first (raised_marks reach u.reach) ts name, position_of-raised_marks reach u.reach name, ap (λ (part : TabletStateValue). position_of part.reach name) same)
+above_other reach (u ∷ ts) (suc n) t there name = above_other (raised_marks reach u.reach) ts n t there name
 
 -- the greatest is nowhere below any
 pub greatest_above : (ts : List TabletStateValue) (n : ℕ) (t : TabletStateValue) → slice_get ts n ≡ Some t → Reaches (greatest_reach ts) t.reach
@@ -54,7 +54,7 @@ greatest_above ts n t there = above_other [] ts n t there
 least_reaches_from : (marks cover : Positions) (ts : List TabletStateValue) → Reaches cover marks → AllByRecursion (λ (t : TabletStateValue). Reaches t.cover marks) ts → Reaches (fold lesser cover ts) marks
 least_reaches_from marks cover [] first all name = first name
 least_reaches_from marks cover (t ∷ ts) first all name =
-    least_reaches_from marks (least cover t.cover) ts (λ other. omega (arith, first other, all.0 other, position_of-least cover t.cover other)) all.1 name
+    least_reaches_from marks (least_marks cover t.cover) ts (λ other. omega (arith, first other, all.0 other, position_of-least_marks cover t.cover other)) all.1 name
 
 -- marks that all reach the least reaches, if there are any
 pub least_reaches : (marks : Positions) (ts : List TabletStateValue) (n : ℕ) (t : TabletStateValue) → slice_get ts n ≡ Some t → AllByRecursion (λ (u : TabletStateValue). Reaches u.cover marks) ts → Reaches (least_cover ts) marks
@@ -107,19 +107,19 @@ least_so_far (t ∷ ts) = Some (least_cover (t ∷ ts))
 
 -- the least with one more cover
 abbrev pub with_own : Option Positions → Positions → Positions
-with_own own marks = unwrap_or (option_map (λ some. least some marks) own) marks
+with_own own marks = unwrap_or (option_map (λ some. least_marks some marks) own) marks
 
 -- one more part
 pub least_more : (ts : List TabletStateValue) (t : TabletStateValue) → least_so_far (ts ++ t ∷ []) ≡ Some (with_own (least_so_far ts) t.cover)
 least_more [] t = refl
 least_more (u ∷ ts) t = ap Some (fold-append lesser u.cover ts (t ∷ []))
 
-pub greatest_more : (ts : List TabletStateValue) (t : TabletStateValue) → greatest_reach (ts ++ t ∷ []) ≡ raised (greatest_reach ts) t.reach
+pub greatest_more : (ts : List TabletStateValue) (t : TabletStateValue) → greatest_reach (ts ++ t ∷ []) ≡ raised_marks (greatest_reach ts) t.reach
 greatest_more ts t = fold-append greater [] ts (t ∷ [])
 
 -- the reach of one more part reaches the least cover with it
-pub more_reached : (ts : List TabletStateValue) (t : TabletStateValue) → Reaches t.reach t.cover → Reaches (raised (greatest_reach ts) t.reach) (least_cover (ts ++ t ∷ []))
-more_reached ts t reach name = omega (arith, position_of-raised (greatest_reach ts) t.reach name, reach name, least_below (ts ++ t ∷ []) (length ts) t (last_at ts t) name)
+pub more_reached : (ts : List TabletStateValue) (t : TabletStateValue) → Reaches t.reach t.cover → Reaches (raised_marks (greatest_reach ts) t.reach) (least_cover (ts ++ t ∷ []))
+more_reached ts t reach name = omega (arith, position_of-raised_marks (greatest_reach ts) t.reach name, reach name, least_below (ts ++ t ∷ []) (length ts) t (last_at ts t) name)
   where
     last_at : (ts : List TabletStateValue) (t : TabletStateValue) → slice_get (ts ++ t ∷ []) (length ts) ≡ Some t
     last_at [] t = refl
@@ -128,7 +128,7 @@ more_reached ts t reach name = omega (arith, position_of-raised (greatest_reach 
 -- the positions stay those of messages
 pub least_positions : (own : Option Positions) (marks : Positions) → IsTrue (are_positions (unwrap_or own [])) → IsTrue (are_positions marks) → IsTrue (are_positions (with_own own marks))
 least_positions None marks fine fine_too = fine_too
-least_positions (Some some) marks fine fine_too = are_positions-least some marks fine
+least_positions (Some some) marks fine fine_too = are_positions-least_marks some marks fine
 
 -- the least of all is that of the parts
 pub least_of_all : (ts : List TabletStateValue) → unwrap_or (least_so_far ts) [] ≡ least_cover ts
@@ -156,10 +156,10 @@ module _ (range : Ends) (ts : List TabletStateValue) (i : ℕ) (t : TabletStateV
   pub cover_step : (own : Option Positions) (both : Positions) → meet t.range range ≡ true → own ≡ least_so_far before → both ≡ with_own own t.cover → Some both ≡ least_so_far after
   cover_step own both meets so_far one = ap Some (one ∙ ap (λ (o : Option Positions). with_own o t.cover) so_far) ∙ sym (least_more before t) ∙ ap least_so_far (sym (added meets))
 
-  pub reach_step : (own both : Positions) → meet t.range range ≡ true → own ≡ greatest_reach before → both ≡ raised own t.reach → both ≡ greatest_reach after
-  reach_step own both meets so_far one = one ∙ ap (λ (reach : Positions). raised reach t.reach) so_far ∙ sym (greatest_more before t) ∙ ap greatest_reach (sym (added meets))
+  pub reach_step : (own both : Positions) → meet t.range range ≡ true → own ≡ greatest_reach before → both ≡ raised_marks own t.reach → both ≡ greatest_reach after
+  reach_step own both meets so_far one = one ∙ ap (λ (reach : Positions). raised_marks reach t.reach) so_far ∙ sym (greatest_more before t) ∙ ap greatest_reach (sym (added meets))
 
-  pub reached_step : (own both : Positions) → meet t.range range ≡ true → own ≡ greatest_reach before → both ≡ raised own t.reach → Reaches t.reach t.cover → Reaches both (least_cover after)
+  pub reached_step : (own both : Positions) → meet t.range range ≡ true → own ≡ greatest_reach before → both ≡ raised_marks own t.reach → Reaches t.reach t.cover → Reaches both (least_cover after)
   reached_step own both meets so_far one reached =
-      subst (λ (reach : Positions). Reaches reach (least_cover after)) (sym (one ∙ ap (λ (reach : Positions). raised reach t.reach) so_far))
-      (subst (λ (parts : List TabletStateValue). Reaches (raised (greatest_reach before) t.reach) (least_cover parts)) (sym (added meets)) (more_reached before t reached))
+      subst (λ (reach : Positions). Reaches reach (least_cover after)) (sym (one ∙ ap (λ (reach : Positions). raised_marks reach t.reach) so_far))
+      (subst (λ (parts : List TabletStateValue). Reaches (raised_marks (greatest_reach before) t.reach) (least_cover parts)) (sym (added meets)) (more_reached before t reached))

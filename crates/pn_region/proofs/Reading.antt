@@ -7,7 +7,7 @@ use Rattle.pn_scan.specs.Queries.{QueryValue}
 use Rattle.pn_scan.specs.Candidates.{Look, cells_in}
 use Rattle.pn_scan.specs.Pages.{PageValue, unless}
 use Rattle.pn_scan.specs.Views.{Looks}
-use Rattle.pn_scan.specs.Reads.{IsGet, cells_got}
+use Rattle.pn_scan.specs.Reads.{IsGet, cells_of_keys}
 use Rattle.pn_scan.specs.Visits.{IsScan}
 use Rattle.pn_scan.specs.declared.fault.ScanFault.{ScanFault}
 use Rattle.pn_scan.specs.declared.fault.ScanFault.TheVariants as fault
@@ -29,7 +29,7 @@ first_of (look ∷ seen) more why refused =
       | Some first ↦ λ here. here
     ] refused
 
-got_each : (region : RegionValue) (keys : List (List ℕ)) → cells_got keys (map (look_for region) keys) ≡ map (λ key. find bytes_cmp key (cells_in (look_for region key).1)) keys
+got_each : (region : RegionValue) (keys : List (List ℕ)) → cells_of_keys keys (map (look_for region) keys) ≡ map (λ key. find bytes_cmp key (cells_in (look_for region key).1)) keys
 got_each region [] = refl
 got_each region (key ∷ keys) = ap (λ (l : List (Option CellValue)). find bytes_cmp key (cells_in (look_for region key).1) ∷ l) (got_each region keys)
 
@@ -45,19 +45,19 @@ for_keys region (look ∷ seen) (key ∷ keys) stand order =
 
 -- what a get answered, by looks into the tablets of the first keys
 module _ (region : RegionValue) (keys : List (List ℕ)) (seen : List Look) (stands : seen ≡ map (look_for region) (take (length seen) keys)) where
-  all_got : (cells : List (Option CellValue)) → length seen ≡ length keys → unless (first_refusal seen) (cells_got keys seen) ≡ Ok cells → get_in region keys ≡ Ok cells
+  all_got : (cells : List (Option CellValue)) → length seen ≡ length keys → unless (first_refusal seen) (cells_of_keys keys seen) ≡ Ok cells → get_in region keys ≡ Ok cells
   all_got cells whole right =
       let all : seen ≡ map (look_for region) keys = stands ∙ ap (map (look_for region)) (ap (λ n. take n keys) whole ∙ take_all (length keys) keys (omega arith)) in
-      let got = ap (cells_got keys) all ∙ got_each region keys in
+      let got = ap (cells_of_keys keys) all ∙ got_each region keys in
       (λ i. unless (first_refusal (sym all i)) (sym got i)) ∙ right
 
-  get_refused : (why : ScanFault) → unless (first_refusal seen) (cells_got keys seen) ≡ Err why → get_in region keys ≡ Err why
+  get_refused : (why : ScanFault) → unless (first_refusal seen) (cells_of_keys keys seen) ≡ Err why → get_in region keys ≡ Err why
   get_refused why right =
       let more = map (look_for region) (drop (length seen) keys) in
       let parts : map (look_for region) keys ≡ seen ++ more =
       ap (map (look_for region)) (sym (take-append-drop (length seen) keys)) ∙ map-append (look_for region) (take (length seen) keys) (drop (length seen) keys) ∙ ap (λ (l : List Look). l ++ more) (sym stands) in
       ap (λ (o : Option ScanFault). unless o (map (λ key. find bytes_cmp key (cells_in (look_for region key).1)) keys))
-      (ap first_refusal parts ∙ first_of seen more why (err_value (first_refusal seen) (cells_got keys seen) why right))
+      (ap first_refusal parts ∙ first_of seen more why (err_value (first_refusal seen) (cells_of_keys keys seen) why right))
 
 module _ {V : Type 0} (region_of : V → RegionValue) {looks : V → Look → V → Type 0} (steps : (old new : V) (look : Look) → looks old look new → (new ≡ old) × IsThere (region_of old) look) where
   -- what was found is the state there

@@ -12,7 +12,7 @@ use Rattle.pn_tablet.specs.declared.state.Status.{Status}
 use Rattle.pn_tablet.proofs.LayoutFacts.{key_in_tablet, tablet_of_within, ends_in_order}
 use Rattle.pn_apply.proofs.Cuts.{all_pieces}
 use Rattle.pn_apply.proofs.Tables.{entries_that, table_that, all_that}
-use Rattle.pn_region.specs.Relayouts.{made_of, parts_of, relaid, relaid_unless, relaying, is_recovering, first_recovering}
+use Rattle.pn_region.specs.Relayouts.{made_of, parts_of, with_layout, with_layout_unless, after_relayout, is_recovering, first_recovering}
 use Rattle.pn_region.proofs.Common.{find, IsSome, AllByRecursion, range_with_len, Reaches, bytes_cmp, spell, Bounds, IsLayout, Ends, in_range, tablet_of, tablet_ends, TabletStateValue, Serving, Recovering, ranges, RegionValue, IsTabletOf, AreTabletsOf, IsRegion, all_cells, AllServe}
 use Rattle.pn_region.proofs.FoundIn.{found_in}
 use Rattle.pn_region.proofs.KeyTablets.{range_at, has_tablet, has_its_cell}
@@ -25,7 +25,7 @@ pub use Rattle.pn_region.proofs.United.{united, IsOf, from_united, to_united, un
 
 -- what is known of a change of layout
 pub record Relays (old : RegionValue) (bounds : Bounds) (new : RegionValue) : Type 0 where
-  pub is : new ≡ relaid old bounds
+  pub is : new ≡ with_layout old bounds
   pub served : AllServe old
   pub serve : AllServe new
 
@@ -56,17 +56,17 @@ all_made : (ts : List TabletStateValue) (rs : List Ends) → AllByRecursion (λ 
 all_made ts [] = tt
 all_made ts (r ∷ rs) = (refl, all_made ts rs)
 
-relays_by : (old new : RegionValue) (bounds : Bounds) (first : Option ℕ) → first_recovering old.tablets ≡ first → relaid_unless old bounds first ≡ Ok new → Relays old bounds new
+relays_by : (old new : RegionValue) (bounds : Bounds) (first : Option ℕ) → first_recovering old.tablets ≡ first → with_layout_unless old bounds first ≡ Ok new → Relays old bounds new
 relays_by old new bounds None none is =
-    let same : relaid old bounds ≡ new = cc in
+    let same : with_layout old bounds ≡ new = cc in
     record { is = sym same; served = none_recovers old.tablets none; serve = subst AllServe same (all_made old.tablets (ranges bounds)) }
 relays_by old new bounds (Some tablet) some is = cc
 
-pub relays : (old new : RegionValue) (bounds : Bounds) → relaying old bounds ≡ Ok new → Relays old bounds new
+pub relays : (old new : RegionValue) (bounds : Bounds) → after_relayout old bounds ≡ Ok new → Relays old bounds new
 relays old new bounds is = relays_by old new bounds (first_recovering old.tablets) refl is
 
 -- all tablets together have the cells that they had
-pub same_records : (region : RegionValue) (bounds : Bounds) → IsLayout bounds → IsRegion region → all_cells (relaid region bounds) ≡ all_cells region
+pub same_records : (region : RegionValue) (bounds : Bounds) → IsLayout bounds → IsRegion region → all_cells (with_layout region bounds) ≡ all_cells region
 same_records region bounds lawful is =
     flat_map-map (λ (t : TabletStateValue). t.cells) (made_of region.tablets) (ranges bounds) ∙ all_pieces bounds (all_cells region) lawful (all_rising region is)
 
@@ -124,7 +124,7 @@ mapped_at f (y ∷ xs) zero x there =
 mapped_at f (y ∷ xs) (suc n) x there = mapped_at f xs n x there
 
 -- the new tablet of a key, and what it is made of
-pub new_at : (region : RegionValue) (bounds : Bounds) (key : List ℕ) → IsLayout bounds → (r : Ends) × (slice_get (relaid region bounds).tablets (tablet_of bounds key) ≡ Some (made_of region.tablets r)) × (in_range r key ≡ true)
+pub new_at : (region : RegionValue) (bounds : Bounds) (key : List ℕ) → IsLayout bounds → (r : Ends) × (slice_get (with_layout region bounds).tablets (tablet_of bounds key) ≡ Some (made_of region.tablets r)) × (in_range r key ≡ true)
 new_at region bounds key lawful =
     let n = tablet_of bounds key in
     (tablet_ends bounds n, mapped_at (made_of region.tablets) (ranges bounds) n (tablet_ends bounds n) (range_at bounds n (tablet_of_within bounds key)), key_in_tablet bounds key lawful.rising)
@@ -191,5 +191,5 @@ module _ (region : RegionValue) (bounds : Bounds) (lawful : IsLayout bounds) (is
   made_from a (suc n) within = (made_is (tablet_ends bounds a) (range_has_part a (omega (arith, within))), made_from (a + 1) n (omega (arith, within)))
 
 -- the region is one in the new layout
-pub relaid_is : (region : RegionValue) (bounds : Bounds) → IsLayout bounds → IsRegion region → IsRegion (relaid region bounds)
+pub relaid_is : (region : RegionValue) (bounds : Bounds) → IsLayout bounds → IsRegion region → IsRegion (with_layout region bounds)
 relaid_is region bounds lawful is = record { lawful = lawful; tablets = made_from region bounds lawful is 0 (length bounds + 1) (omega arith) }

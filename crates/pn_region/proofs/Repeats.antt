@@ -1,7 +1,7 @@
 -- A round that ran out of memory, and its repeat.
 use Rattle.std.proofs.Common.{◌≡◌, List, [], ◌∷◌, map, Ok, Err, refl, sym, ap, ◌∙◌, subst}
 use Rattle.std.specs.Result.{result_map_both}
-use Rattle.pn_join.proofs.MarksFacts.{raised-repeats}
+use Rattle.pn_join.proofs.MarksFacts.{raised_marks-repeats}
 use Rattle.pn_tablet.specs.Laws.{Rise}
 use Rattle.pn_region.specs.Events.{RegionEvent, round, half_round, loss, adoption, relayout, LeadsTo, AllLeadTo}
 use Rattle.pn_region.specs.Rising.{AllRise}
@@ -60,13 +60,13 @@ module _ (first : Positions) (images : List Image) (rise_first : Rise first) (la
         new = record { layout = layout; tablets = on.0; marks = marks };
         leads = (refl, refl, subst (λ (right : Result Positions RoundFault). MatchResult right (λ next. AreOldOrStepped ts (rounds.joins old deliveries next) on.0) (λ fault. on.0 ≡ ts)) (sym accepted) on.1);
         runs = record { same = refl; tablets = on.2; rise = all_rise (record { layout = layout; tablets = on.0; marks = marks }) rise.marks (half_joins_rise next (all_images deliveries) (ranges layout) ts on.0 (tablets_rise old rise) on.1) };
-        below = raised-repeats marks rise.marks;
+        below = raised_marks-repeats marks rise.marks;
       }
   half_by deliveries vs (Err fault) refused left = record {
     new = old;
     leads = (refl, refl, subst (λ (right : Result Positions RoundFault). MatchResult right (λ next. AreOldOrStepped ts (rounds.joins old deliveries next) ts) (λ fault. ts ≡ ts)) (sym refused) refl);
     runs = record { same = refl; tablets = subst (AreOldOrStepped ts (map (join_in first images) (ranges layout))) (sym left) half; rise = rise };
-    below = raised-repeats marks rise.marks;
+    below = raised_marks-repeats marks rise.marks;
   }
 
   half_catches : (deliveries : List DeliveryValue) (new : RegionValue) → IsHalfTaken ahead deliveries new → Catches first images (half_round deliveries) old new
@@ -85,7 +85,7 @@ module _ (first : Positions) (images : List Image) (rise_first : Rise first) (la
 module _ (first : Positions) (images : List Image) (rise_first : Rise first) where
   all_catch : (events : List RegionEvent) (region further later : RegionValue) → AreRounds events → RunsAhead first images region further → AllLeadTo events further later
       → (other : RegionValue) × AllLeadTo events region other × RunsAhead first images other later × IsBelow region.marks other.marks
-  all_catch [] region further later are runs lead = (region, refl, subst (RunsAhead first images region) (sym lead) runs, raised-repeats region.marks runs.rise.marks)
+  all_catch [] region further later are runs lead = (region, refl, subst (RunsAhead first images region) (sym lead) runs, raised_marks-repeats region.marks runs.rise.marks)
   all_catch (event ∷ events) region further later are runs lead =
       let leads = subst (λ (r : RegionValue). LeadsTo event r lead.0) runs.same lead.1 in
       let step = event_catches first images rise_first region.layout region.tablets further.tablets region.marks runs.tablets runs.rise event lead.0 are.0 leads in

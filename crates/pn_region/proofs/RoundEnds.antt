@@ -5,7 +5,7 @@ use Rattle.std.specs.Result.{result_map_both}
 use Rattle.pn_apply.specs.Applying.{AreJoinsIn, IsSomeOld}
 use Rattle.pn_apply.proofs.Prefixes.{all_old, old_or_stepped, stepped_whole}
 use Rattle.pn_apply.proofs.ReduceLaws.{joins_fit}
-use Rattle.pn_region.specs.Rounds.{taking, round, Leaves}
+use Rattle.pn_region.specs.Rounds.{after_joins, round, Leaves}
 use Rattle.pn_region.proofs.Common.{Result, Ok, Err, MatchResult, Positions, DeliveryValue, TabletStateValue, changes, Change, TabletOp, flat_map, all_stepped, all_changes, AreOldOrStepped, all_images, joined_cells, ranges, new_marks, RegionValue, AreTabletsOf, IsRegion, all_cells, joins, RoundFault, Gap, TooManyStreams, Memory}
 use Rattle.pn_region.proofs.Apart.{ranges_apart}
 use Rattle.pn_region.proofs.Counting.{few_together}
@@ -30,8 +30,8 @@ module _ (old : RegionValue) (deliveries : List DeliveryValue) (is : IsRegion ol
   fit marks = joins_fit old.layout marks (all_images deliveries) old.tablets (own_ranges old.marks (ranges old.layout) old.tablets is.tablets)
 
   -- a round that is taken leaves each tablet with its join
-  pub taken_half : (marks : Positions) → AreOldOrStepped old.tablets (joins old deliveries marks) (taking old deliveries marks).tablets
-  taken_half marks = each_taken old.tablets (taking old deliveries marks).tablets (joins old deliveries marks) (fit marks) refl
+  pub taken_half : (marks : Positions) → AreOldOrStepped old.tablets (joins old deliveries marks) (after_joins old deliveries marks).tablets
+  taken_half marks = each_taken old.tablets (after_joins old deliveries marks).tablets (joins old deliveries marks) (fit marks) refl
 
   half_none : (right : Result Positions RoundFault) → MatchResult right (λ marks. AreOldOrStepped old.tablets (joins old deliveries marks) old.tablets) (λ fault. old.tablets ≡ old.tablets)
   half_none (Ok marks) = none_taken old.tablets (joins old deliveries marks) (fit marks)
@@ -63,7 +63,7 @@ module _ (old : RegionValue) (deliveries : List DeliveryValue) (is : IsRegion ol
   pub round_ok : (marks : Positions) (us : List TabletStateValue) → new_marks old.marks deliveries ≡ Ok marks → us ≡ all_stepped old.tablets (joins old deliveries marks)
       → round old deliveries ≡ Ok (record { layout = old.layout; tablets = us; marks = marks })
   round_ok marks us accepted taken =
-      ap (result_map_both (taking old deliveries) (λ fault. fault)) accepted
+      ap (result_map_both (after_joins old deliveries) (λ fault. fault)) accepted
       ∙ ap (λ (ts : List TabletStateValue). Ok (record { layout = old.layout; tablets = ts; marks = marks })) (sym taken)
 
   pub told_changes : (marks : Positions) (us : List TabletStateValue) (all : List Change) → us ≡ all_stepped old.tablets (joins old deliveries marks)

@@ -1,11 +1,11 @@
 -- What a round makes of tablets.
 use Rattle.std.proofs.Common.{◌≡◌, Bool, List, [], ◌∷◌, ◌++◌, map, if◌then◌else◌, Ok, Err, refl, sym, ap, ◌∙◌, subst, arith, ◌⊎◌, inl, inr}
 use Rattle.std.specs.Prelude.{zip}
-use Rattle.pn_join.proofs.MarksFacts.{position_of-raised}
-use Rattle.pn_tablet.specs.Steps.{taking}
+use Rattle.pn_join.proofs.MarksFacts.{position_of-raised_marks}
+use Rattle.pn_tablet.specs.Steps.{with_join}
 use Rattle.pn_tablet.proofs.Keeping.{spelled_adds}
 use Rattle.pn_apply.proofs.ReduceLaws.{cells_inside}
-use Rattle.pn_region.proofs.Common.{flat_map, Positions, Reaches, raised, Image, spell, Entries, table_of, Ends, TabletStateValue, lie_in, after_step, stepped, changes, Change, TabletOp, WrongRange, all_stepped, all_changes, AreOldOrStepped, images_in, join_in, IsTabletOf, AreTabletsOf}
+use Rattle.pn_region.proofs.Common.{flat_map, Positions, Reaches, raised_marks, Image, spell, Entries, table_of, Ends, TabletStateValue, lie_in, after_step, tablet_after, changes, Change, TabletOp, WrongRange, all_stepped, all_changes, AreOldOrStepped, images_in, join_in, IsTabletOf, AreTabletsOf}
 use Rattle.pn_region.proofs.Apart.{Apart}
 use Rattle.pn_region.proofs.Pieces.{cells_of, changes_by_tablet}
 use Rattle.pn_region.proofs.Spelled.{taken_inside}
@@ -21,15 +21,15 @@ own_ranges marks (r ∷ rs) [] are = absurd are
 own_ranges marks (r ∷ rs) (t ∷ ts) are = λ i. are.0.range i ∷ own_ranges marks rs ts are.1 i
 
 -- the marks that a round may leave are reached once they are taken
-pub new_reached : (cover marks : Positions) → Reaches (raised cover marks) marks
-new_reached cover marks name = omega (arith, position_of-raised cover marks name)
+pub new_reached : (cover marks : Positions) → Reaches (raised_marks cover marks) marks
+new_reached cover marks name = omega (arith, position_of-raised_marks cover marks name)
 
-pub old_reached : (cover marks old : Positions) → Reaches cover old → Reaches (raised cover marks) old
-old_reached cover marks old reach name = omega (arith, position_of-raised cover marks name, reach name)
+pub old_reached : (cover marks old : Positions) → Reaches cover old → Reaches (raised_marks cover marks) old
+old_reached cover marks old reach name = omega (arith, position_of-raised_marks cover marks name, reach name)
 
 -- a reach that reaches the cover does so once both are raised
-pub both_reached : (reach cover marks : Positions) → Reaches reach cover → Reaches (raised reach marks) (raised cover marks)
-both_reached reach cover marks reached name = omega (arith, position_of-raised reach marks name, position_of-raised cover marks name, reached name)
+pub both_reached : (reach cover marks : Positions) → Reaches reach cover → Reaches (raised_marks reach marks) (raised_marks cover marks)
+both_reached reach cover marks reached name = omega (arith, position_of-raised_marks reach marks name, position_of-raised_marks cover marks name, reached name)
 
 module _ (marks : Positions) (images : List Image) where
   abbrev join : Ends → TabletOp
@@ -39,12 +39,12 @@ module _ (marks : Positions) (images : List Image) where
   cells_in range = table_of (images_in range images)
 
   -- the join in a tablet's range is taken
-  pub is_taken : (old : Positions) (r : Ends) (t : TabletStateValue) → IsTabletOf old r t → stepped t (join r) ≡ taking t (cells_in r) marks
+  pub is_taken : (old : Positions) (r : Ends) (t : TabletStateValue) → IsTabletOf old r t → tablet_after t (join r) ≡ with_join t (cells_in r) marks
   is_taken old r t is =
-      ap (λ (b : Bool). after_step t (if b then Ok (taking t (cells_in r) marks) else Err WrongRange)) (ap (λ (range : Ends). lie_in range (cells_in r)) is.range ∙ cells_inside r images)
+      ap (λ (b : Bool). after_step t (if b then Ok (with_join t (cells_in r) marks) else Err WrongRange)) (ap (λ (range : Ends). lie_in range (cells_in r)) is.range ∙ cells_inside r images)
 
   -- and the tablet stays one of its range
-  one_taken : (old later : Positions) (r : Ends) (t : TabletStateValue) → IsTabletOf old r t → Reaches (raised t.cover marks) later → IsTabletOf later r (stepped t (join r))
+  one_taken : (old later : Positions) (r : Ends) (t : TabletStateValue) → IsTabletOf old r t → Reaches (raised_marks t.cover marks) later → IsTabletOf later r (tablet_after t (join r))
   one_taken old later r t is reach =
       subst (IsTabletOf later r) (sym (is_taken old r t is)) (record {
         range = is.range;
@@ -60,7 +60,7 @@ module _ (marks : Positions) (images : List Image) where
   all_taken old (r ∷ rs) [] are = absurd are
   all_taken old (r ∷ rs) (t ∷ ts) are = (one_taken old marks r t are.0 (new_reached t.cover marks), all_taken old rs ts are.1)
 
-  half_one : (old : Positions) (r : Ends) (t u : TabletStateValue) → IsTabletOf old r t → (u ≡ t) ⊎ (u ≡ stepped t (join r)) → IsTabletOf old r u
+  half_one : (old : Positions) (r : Ends) (t u : TabletStateValue) → IsTabletOf old r t → (u ≡ t) ⊎ (u ≡ tablet_after t (join r)) → IsTabletOf old r u
   half_one old r t u is (inl same) = subst (IsTabletOf old r) (sym same) is
   half_one old r t u is (inr taken) = subst (IsTabletOf old r) (sym taken) (one_taken old old r t is (old_reached t.cover marks old is.covered))
 
@@ -77,7 +77,7 @@ module _ (marks : Positions) (images : List Image) where
   changes_of_joins old [] [] are = refl
   changes_of_joins old [] (t ∷ ts) are = absurd are
   changes_of_joins old (r ∷ rs) [] are = absurd are
-  changes_of_joins old (r ∷ rs) (t ∷ ts) are = ap (λ (rest : List Change). changes t.cells (stepped t (join r)).cells ++ rest) (changes_of_joins old rs ts are.1)
+  changes_of_joins old (r ∷ rs) (t ∷ ts) are = ap (λ (rest : List Change). changes t.cells (tablet_after t (join r)).cells ++ rest) (changes_of_joins old rs ts are.1)
 
   -- the changes of each tablet, one after another, are those of all cells together
   pub changes_together : (old : Positions) (rs : List Ends) (ts : List TabletStateValue) → Apart rs → AreTabletsOf old rs ts

@@ -1,18 +1,18 @@
 -- Rounds leave tablets serving that served.
 use Rattle.std.proofs.Common.{◌≡◌, ◌⊎◌, inl, inr, Bool, true, false, cond, List, [], ◌∷◌, map, Ok, Err, refl, ap, ◌∙◌}
-use Rattle.pn_tablet.specs.Steps.{taking}
+use Rattle.pn_tablet.specs.Steps.{with_join}
 use Rattle.pn_region.specs.Rounds as rounds
-use Rattle.pn_region.proofs.Common.{AllByRecursion, Positions, Image, Entries, DeliveryValue, Bounds, Ends, after_step, stepped, TabletStateValue, empty_tablet, lie_in, WrongRange, Join, Serving, all_stepped, AreOldOrStepped, all_images, join_in, ranges, RegionValue, new_region, IsHalfTaken, AllServe}
+use Rattle.pn_region.proofs.Common.{AllByRecursion, Positions, Image, Entries, DeliveryValue, Bounds, Ends, after_step, tablet_after, TabletStateValue, empty_tablet, lie_in, WrongRange, Join, Serving, all_stepped, AreOldOrStepped, all_images, join_in, ranges, RegionValue, new_region, IsHalfTaken, AllServe}
 use Rattle.pn_region.proofs.HalfRounds.{half_so}
 
 abbrev Serve : List TabletStateValue → Type 0
 Serve tablets = AllByRecursion (λ tablet. tablet.status ≡ Serving) tablets
 
-left_serving : (t : TabletStateValue) (cells : Entries) (marks : Positions) (b : Bool) → (after_step t (cond b (Ok (taking t cells marks)) (Err WrongRange))).status ≡ t.status
+left_serving : (t : TabletStateValue) (cells : Entries) (marks : Positions) (b : Bool) → (after_step t (cond b (Ok (with_join t cells marks)) (Err WrongRange))).status ≡ t.status
 left_serving t cells marks true = refl
 left_serving t cells marks false = refl
 
-join_serving : (t : TabletStateValue) (cells : Entries) (marks : Positions) → (stepped t (Join cells marks)).status ≡ t.status
+join_serving : (t : TabletStateValue) (cells : Entries) (marks : Positions) → (tablet_after t (Join cells marks)).status ≡ t.status
 join_serving t cells marks = left_serving t cells marks (lie_in t.range cells)
 
 empty_ones : (rs : List Ends) → Serve (map empty_tablet rs)
@@ -28,7 +28,7 @@ module _ (marks : Positions) (images : List Image) where
   all_taken [] (t ∷ ts) serve = tt
   all_taken (r ∷ rs) (t ∷ ts) serve = (join_serving t _ marks ∙ serve.0, all_taken rs ts serve.1)
 
-  now_serves : (t now : TabletStateValue) (r : Ends) → t.status ≡ Serving → (now ≡ t) ⊎ (now ≡ stepped t (join_in marks images r)) → now.status ≡ Serving
+  now_serves : (t now : TabletStateValue) (r : Ends) → t.status ≡ Serving → (now ≡ t) ⊎ (now ≡ tablet_after t (join_in marks images r)) → now.status ≡ Serving
   now_serves t now r serves (inl old) = ap (λ (tablet : TabletStateValue). tablet.status) old ∙ serves
   now_serves t now r serves (inr new) = ap (λ (tablet : TabletStateValue). tablet.status) new ∙ join_serving t _ marks ∙ serves
 

@@ -9,10 +9,10 @@ use Rattle.std.proofs.lemmas.List.Folds.{list_any-append}
 use Rattle.std.proofs.lemmas.Map.Keys.{IsDistinct-cons}
 use Rattle.std.proofs.lemmas.Map.Made.{length-from_keys}
 use Rattle.pn_join.specs.Tables.{optional_joined}
-use Rattle.pn_join.proofs.MarksFacts.{find-raised, is_sorted-raised}
+use Rattle.pn_join.proofs.MarksFacts.{find-raised_marks, is_sorted-raised_marks}
 use Rattle.pn_join.proofs.Rising.{Below, Rising, Rising-from_sorted}
 use Rattle.pn_tablet.specs.Refusals.{Refuses}
-use Rattle.pn_region.proofs.Common.{Ok, Err, AllByRecursion, eq_by_cmp, find, is_sorted, Positions, name_cmp, DeliveryValue, bringing, last_position, marked, leaves_gap, marks_after, of_few_streams, new_marks, RoundFault, Gap, TooManyStreams, Memory}
+use Rattle.pn_region.proofs.Common.{Ok, Err, AllByRecursion, eq_by_cmp, find, is_sorted, Positions, name_cmp, DeliveryValue, with_images, last_position, with_delivery, leaves_gap, marks_after, of_few_streams, new_marks, RoundFault, Gap, TooManyStreams, Memory}
 use Rattle.pn_region.proofs.MarkLaws.{gap_of, only_gaps, accepted}
 use Rattle.pn_region.specs.Laws.{named, stream_count}
 use Rattle.pn_region.specs.Marking.{is_memory}
@@ -47,15 +47,15 @@ either_side true b c = refl
 either_side false b c = refl
 
 -- marks after a delivery have its name besides
-one_more : (m : Positions) (d : DeliveryValue) (name : List ℕ) → has_name (names_of (marked m d)) name ≡ (has_name (names_of m) name || eq_by_cmp name_cmp name d.stream)
+one_more : (m : Positions) (d : DeliveryValue) (name : List ℕ) → has_name (names_of (with_delivery m d)) name ≡ (has_name (names_of m) name || eq_by_cmp name_cmp name d.stream)
 one_more m d name =
-    sym (is_some-find name_cmp name (marked m d))
-    ∙ ap is_some (find-raised m ((d.stream, last_position d) ∷ []) name)
+    sym (is_some-find name_cmp name (with_delivery m d))
+    ∙ ap is_some (find-raised_marks m ((d.stream, last_position d) ∷ []) name)
     ∙ joined_is (find name_cmp name m) (eq_by_cmp name_cmp name d.stream) (last_position d)
     ∙ ap (λ b. b || eq_by_cmp name_cmp name d.stream) (is_some-find name_cmp name m)
 
-marked_rises : (m : Positions) (d : DeliveryValue) → IsTrue (is_sorted name_cmp m) → IsTrue (is_sorted name_cmp (marked m d))
-marked_rises m d rising = is_sorted-raised m ((d.stream, last_position d) ∷ []) rising
+marked_rises : (m : Positions) (d : DeliveryValue) → IsTrue (is_sorted name_cmp m) → IsTrue (is_sorted name_cmp (with_delivery m d))
+marked_rises m d rising = is_sorted-raised_marks m ((d.stream, last_position d) ∷ []) rising
 
 -- marks that rise do so after deliveries
 still_rise : (ds : List DeliveryValue) (m next : Positions) → IsTrue (is_sorted name_cmp m) → marks_after m ds ≡ Ok next → IsTrue (is_sorted name_cmp next)
@@ -63,7 +63,7 @@ still_rise [] m next rising is =
     let same : m ≡ next = cc in
     subst (λ (marks : Positions). IsTrue (is_sorted name_cmp marks)) same rising
 still_rise (d ∷ ds) m next rising is =
-    still_rise ds (marked m d) next (marked_rises m d rising) (accepted (leaves_gap m d) (gap_of m d) (marks_after (marked m d) ds) next is).1
+    still_rise ds (with_delivery m d) next (marked_rises m d rising) (accepted (leaves_gap m d) (gap_of m d) (marks_after (with_delivery m d) ds) next is).1
 
 -- they have the names of the marks before, and those of the deliveries
 have_both : (ds : List DeliveryValue) (m next : Positions) (name : List ℕ) → marks_after m ds ≡ Ok next → has_name (names_of next) name ≡ (has_name (names_of m) name || has_name (streams_of ds) name)
@@ -75,17 +75,17 @@ have_both [] m next name is =
     or_none true = refl
     or_none false = refl
 have_both (d ∷ ds) m next name is =
-    have_both ds (marked m d) next name (accepted (leaves_gap m d) (gap_of m d) (marks_after (marked m d) ds) next is).1
+    have_both ds (with_delivery m d) next name (accepted (leaves_gap m d) (gap_of m d) (marks_after (with_delivery m d) ds) next is).1
     ∙ ap (λ b. b || has_name (streams_of ds) name) (one_more m d name)
     ∙ either_side (has_name (names_of m) name) (eq_by_cmp name_cmp name d.stream) (has_name (streams_of ds) name)
 
 -- so there are as many as these name
-counted : (ds : List DeliveryValue) (m next : Positions) → IsTrue (is_sorted name_cmp m) → marks_after m (bringing ds) ≡ Ok next → length next ≡ stream_count m ds
+counted : (ds : List DeliveryValue) (m next : Positions) → IsTrue (is_sorted name_cmp m) → marks_after m (with_images ds) ≡ Ok next → length next ≡ stream_count m ds
 counted ds m next rising is =
     sym (length-map next (λ mark. mark.0))
     ∙ length-from_keys (eq_by_cmp_equiv nat_list_cmp_total) (names_of next) (named m ds)
-    (each_once next (Rising-from_sorted name_cmp next (still_rise (bringing ds) m next rising is)))
-    (λ name. have_both (bringing ds) m next name is ∙ sym (list_any-append (eq_by_cmp name_cmp name) (names_of m) (streams_of (bringing ds))))
+    (each_once next (Rising-from_sorted name_cmp next (still_rise (with_images ds) m next rising is)))
+    (λ name. have_both (with_images ds) m next name is ∙ sym (list_any-append (eq_by_cmp name_cmp name) (names_of m) (streams_of (with_images ds))))
 
 no_more : (n : ℕ) (b : Bool) → nat_lt 16 n ≡ b → b ≡ false → n ≤ 16
 no_more n b is holds = grind (arith, nat_tests)
@@ -93,7 +93,7 @@ no_more n b is holds = grind (arith, nat_tests)
 -- new marks name exactly the streams, at most 16
 pub few_streams : (marks next : Positions) (deliveries : List DeliveryValue) → IsTrue (is_sorted name_cmp marks) → new_marks marks deliveries ≡ Ok next → (length next ≡ stream_count marks deliveries) × (stream_count marks deliveries ≤ 16)
 few_streams marks next deliveries rising is =
-    elim (marks_after marks (bringing deliveries)) as (λ r. marks_after marks (bringing deliveries) ≡ r → of_few_streams r ≡ Ok next → (length next ≡ stream_count marks deliveries) × (stream_count marks deliveries ≤ 16)) [
+    elim (marks_after marks (with_images deliveries)) as (λ r. marks_after marks (with_images deliveries) ≡ r → of_few_streams r ≡ Ok next → (length next ≡ stream_count marks deliveries) × (stream_count marks deliveries ≤ 16)) [
       | Ok all ↦ λ after few.
           let passed = accepted (nat_lt 16 (length all)) TooManyStreams (Ok all) next few in
           let same : all ≡ next = cc in
@@ -109,21 +109,21 @@ more false marks is = cc
 -- too many streams are more than 16
 pub many_streams : (marks : Positions) (deliveries : List DeliveryValue) → IsTrue (is_sorted name_cmp marks) → new_marks marks deliveries ≡ Err TooManyStreams → 16 < stream_count marks deliveries
 many_streams marks deliveries rising is =
-    elim (marks_after marks (bringing deliveries)) as (λ r. marks_after marks (bringing deliveries) ≡ r → of_few_streams r ≡ Err TooManyStreams → 16 < stream_count marks deliveries) [
+    elim (marks_after marks (with_images deliveries)) as (λ r. marks_after marks (with_images deliveries) ≡ r → of_few_streams r ≡ Err TooManyStreams → 16 < stream_count marks deliveries) [
       | Ok all ↦ λ after many.
           let so = more (nat_lt 16 (length all)) all many in
           let as_many = counted deliveries marks all rising after in
           grind (arith, nat_tests)
-      | Err fault ↦ λ after many. absurd (only_gaps TooManyStreams (λ d m same. cc) (bringing deliveries) marks (after ∙ many))
+      | Err fault ↦ λ after many. absurd (only_gaps TooManyStreams (λ d m same. cc) (with_images deliveries) marks (after ∙ many))
     ] refl is
 
 -- marks never answer out of memory
 pub never_memory : (marks : Positions) (deliveries : List DeliveryValue) → new_marks marks deliveries ≡ Err Memory → ⊥
 never_memory marks deliveries is =
-    elim (marks_after marks (bringing deliveries)) as (λ r. marks_after marks (bringing deliveries) ≡ r → of_few_streams r ≡ Err Memory → ⊥) [
+    elim (marks_after marks (with_images deliveries)) as (λ r. marks_after marks (with_images deliveries) ≡ r → of_few_streams r ≡ Err Memory → ⊥) [
       | Ok all ↦ λ after wants.
           elim (nat_lt 16 (length all)) as (λ b. cond b (Err TooManyStreams) (Ok all) ≡ Err Memory → ⊥) [ true ↦ λ no. cc | false ↦ λ no. cc ] wants
-      | Err fault ↦ λ after wants. only_gaps Memory (λ d m same. cc) (bringing deliveries) marks (after ∙ wants)
+      | Err fault ↦ λ after wants. only_gaps Memory (λ d m same. cc) (with_images deliveries) marks (after ∙ wants)
     ] refl is
 
 -- the fault that marks answer is not out of memory

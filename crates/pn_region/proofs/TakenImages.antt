@@ -6,8 +6,8 @@ use Rattle.pn_record.proofs.CellLists.{cells-same}
 use Rattle.pn_record.proofs.CellMaps.{table_of-nil, same_cells_table}
 use Rattle.pn_apply.proofs.ReduceLaws.{range_joins}
 use Rattle.pn_region.specs.Laws.{IsBetween, HoldsBetween, AllHoldBetween}
-use Rattle.pn_region.specs.Rounds.{taking}
-use Rattle.pn_region.proofs.Common.{AllByRecursion, Positions, DeliveryValue, Image, spell, Entries, table_of, Bounds, Ends, in_range, stepped, TabletStateValue, empty_tablet, all_stepped, AreOldOrStepped, all_images, images_in, join_in, ranges, HasImages, AreIn, HasBetween, RegionValue, IsTabletOf, AreTabletsOf, IsRegion, new_region, IsHalfTaken}
+use Rattle.pn_region.specs.Rounds.{after_joins}
+use Rattle.pn_region.proofs.Common.{AllByRecursion, Positions, DeliveryValue, Image, spell, Entries, table_of, Bounds, Ends, in_range, tablet_after, TabletStateValue, empty_tablet, all_stepped, AreOldOrStepped, all_images, images_in, join_in, ranges, HasImages, AreIn, HasBetween, RegionValue, IsTabletOf, AreTabletsOf, IsRegion, new_region, IsHalfTaken}
 use Rattle.pn_region.proofs.HalfRounds.{half_so, left_as}
 use Rattle.pn_region.proofs.InRange.{from_images_in, to_images_in}
 use Rattle.pn_region.proofs.RoundSteps.{is_taken}
@@ -62,7 +62,7 @@ alike_in range images others to from =
           to_images_in range images image (from image is.there is.lies) is.lies,
     )))
 
--- what is true of all is true of the one at a place
+-- what is true of all is true of the one at an index
 pub one_of : (P : TabletStateValue → Type 0) (ts : List TabletStateValue) (n : ℕ) (t : TabletStateValue) → AllByRecursion P ts → slice_get ts n ≡ Some t → P t
 one_of P [] n t all there = cc
 one_of P (u ∷ ts) zero t all there =
@@ -100,7 +100,7 @@ module _ (sure maybe images more : List Image) (between : IsBetween sure maybe i
 
 module _ (marks old : Positions) (images : List Image) where
   -- a tablet that has the cells of images in its range takes those of more
-  one_takes : (taken : List Image) (r : Ends) (t : TabletStateValue) → IsTabletOf old r t → t.cells ≡ table_of (images_in r taken) → (stepped t (join_in marks images r)).cells ≡ table_of (images_in r (taken ++ images))
+  one_takes : (taken : List Image) (r : Ends) (t : TabletStateValue) → IsTabletOf old r t → t.cells ≡ table_of (images_in r taken) → (tablet_after t (join_in marks images r)).cells ≡ table_of (images_in r (taken ++ images))
   one_takes taken r t is has =
       ap (λ (after : TabletStateValue). after.cells) (is_taken marks images old r t is)
       ∙ ap (λ (cells : Entries). adds cells (spell (table_of (images_in r images)))) has ∙ range_joins r taken images
@@ -121,7 +121,7 @@ module _ (marks old : Positions) (images : List Image) where
   all_surely sure maybe (r ∷ rs) (t ∷ ts) are has =
       ((has.0.0 ++ images, sure_more sure maybe has.0.0 images has.0.1, one_takes has.0.0 r t are.0 has.0.2), all_surely sure maybe rs ts are.1 has.1)
 
-  one_perhaps : (sure maybe : List Image) (r : Ends) (t u : TabletStateValue) → IsTabletOf old r t → HoldsBetween sure maybe r t.cells → (u ≡ t) ⊎ (u ≡ stepped t (join_in marks images r)) → HoldsBetween sure (maybe ++ images) r u.cells
+  one_perhaps : (sure maybe : List Image) (r : Ends) (t u : TabletStateValue) → IsTabletOf old r t → HoldsBetween sure maybe r t.cells → (u ≡ t) ⊎ (u ≡ tablet_after t (join_in marks images r)) → HoldsBetween sure (maybe ++ images) r u.cells
   one_perhaps sure maybe r t u is has (inl same) = (has.0, maybe_none sure maybe has.0 images has.1, ap (λ (after : TabletStateValue). after.cells) same ∙ has.2)
   one_perhaps sure maybe r t u is has (inr took) =
       (has.0 ++ images, maybe_all sure maybe has.0 images has.1, ap (λ (after : TabletStateValue). after.cells) took ∙ one_takes has.0 r t is has.2)
@@ -141,10 +141,10 @@ none_perhaps sure maybe more (r ∷ rs) [] has = absurd has
 none_perhaps sure maybe more (r ∷ rs) (t ∷ ts) has = ((has.0.0, maybe_none sure maybe has.0.0 more has.0.1, has.0.2), none_perhaps sure maybe more rs ts has.1)
 
 -- a round takes its images
-pub round_takes : (region : RegionValue) (deliveries : List DeliveryValue) (marks : Positions) (taken : List Image) → IsRegion region → HasImages region taken → HasImages (taking region deliveries marks) (taken ++ all_images deliveries)
+pub round_takes : (region : RegionValue) (deliveries : List DeliveryValue) (marks : Positions) (taken : List Image) → IsRegion region → HasImages region taken → HasImages (after_joins region deliveries marks) (taken ++ all_images deliveries)
 round_takes region deliveries marks taken is has = all_take marks region.marks (all_images deliveries) taken (ranges region.layout) region.tablets is.tablets has
 
-pub round_surely_takes : (region : RegionValue) (deliveries : List DeliveryValue) (marks : Positions) (sure maybe : List Image) → IsRegion region → HasBetween sure maybe region → HasBetween (sure ++ all_images deliveries) maybe (taking region deliveries marks)
+pub round_surely_takes : (region : RegionValue) (deliveries : List DeliveryValue) (marks : Positions) (sure maybe : List Image) → IsRegion region → HasBetween sure maybe region → HasBetween (sure ++ all_images deliveries) maybe (after_joins region deliveries marks)
 round_surely_takes region deliveries marks sure maybe is has = all_surely marks region.marks (all_images deliveries) sure maybe (ranges region.layout) region.tablets is.tablets has
 
 -- a round that ran out of memory may have taken them

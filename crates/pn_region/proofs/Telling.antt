@@ -8,11 +8,12 @@ use Rattle.std.proofs.lemmas.List.{drop-append-le, drop-map, drop_more, length-m
 use Rattle.std.proofs.lemmas.Option.{slice_get_within, get_or_from_slice_get}
 use Rattle.circular_buffer.specs.Buffer.{Buffer}
 use Rattle.pn_tablet.specs.declared.change.Change.{Change}
-use Rattle.pn_region.specs.declared.entry.Entry.{Entry}
-use Rattle.pn_region.specs.declared.entry.Entry.TheVariants.{Changed, Break}
-use Rattle.pn_region.specs.declared.since.Notice.{Notice}
-use Rattle.pn_region.specs.declared.since.Since.TheVariants.{Notices, Missed}
-use Rattle.pn_region.specs.Log.{max_notices, last_number, entries_of, changes_in, is_recent, changes_after, numbered}
+use Rattle.pn_region.specs.declared.notices.Entry.{Entry}
+use Rattle.pn_region.specs.declared.notices.Entry.TheVariants.{Changed, Break}
+use Rattle.pn_region.specs.declared.notices.Notice.{Notice}
+use Rattle.pn_region.specs.declared.notices.Since.TheVariants.{Notices, Missed}
+use Rattle.pn_region.specs.declared.notices.TheConstants.{MAX_NOTICES, LAST_NUMBER}
+use Rattle.pn_region.specs.Log.{entries_of, changes_in, is_recent, changes_after, notices_from}
 use Rattle.pn_region.specs.Kept.{AreKept, IsLog}
 use Rattle.pn_region.specs.Since.{IsSince}
 
@@ -30,25 +31,25 @@ module _ (entries : List Entry) (kept : List Change) (are : AreKept entries kept
   count : length entries ≡ length are.before + length are.later
   count = ap length are.parts ∙ length-append are.before (entries_of are.later) ∙ ap (λ k. length are.before + k) (length-map are.later Changed)
 
-  kept_count : length kept ≡ length are.later - (length are.later - max_notices)
-  kept_count = ap length are.last ∙ length-drop (length are.later - max_notices) are.later
+  kept_count : length kept ≡ length are.later - (length are.later - MAX_NOTICES)
+  kept_count = ap length are.last ∙ length-drop (length are.later - MAX_NOTICES) are.later
 
-  few_kept : length kept ≤ max_notices
+  few_kept : length kept ≤ MAX_NOTICES
   few_kept = omega (arith, kept_count)
 
-  -- the changes kept from a place on are those after a number
-  told : (n place : ℕ) → place ≤ length kept → n + length kept ≡ length entries + place → changes_in (drop n entries) ≡ Some (drop place kept)
-  told n place within at =
+  -- the changes kept from an index on are those after a number
+  told : (n index : ℕ) → index ≤ length kept → n + length kept ≡ length entries + index → changes_in (drop n entries) ≡ Some (drop index kept)
+  told n index within at =
       let m = n - length are.before in
       let reached : n ≡ length are.before + m = omega (arith, count, kept_count) in
-      let passed : (length are.later - max_notices) + place ≡ m = omega (arith, count, kept_count) in
+      let passed : (length are.later - MAX_NOTICES) + index ≡ m = omega (arith, count, kept_count) in
       (λ i. changes_in (drop (reached i) (are.parts i)))
       ∙ ap changes_in (drop-append-add are.before (entries_of are.later) m ∙ drop-map Changed m are.later)
       ∙ all_in (drop m are.later)
-      ∙ ap Some (sym (ap (drop place) are.last ∙ drop-drop place (length are.later - max_notices) are.later ∙ ap (λ k. drop k are.later) passed))
+      ∙ ap Some (sym (ap (drop index) are.last ∙ drop-drop index (length are.later - MAX_NOTICES) are.later ∙ ap (λ k. drop k are.later) passed))
 
   -- after a lower number there is a break
-  untold : (n : ℕ) → n + length kept < length entries → length entries ≤ n + max_notices → changes_in (drop n entries) ≡ None
+  untold : (n : ℕ) → n + length kept < length entries → length entries ≤ n + MAX_NOTICES → changes_in (drop n entries) ≡ None
   untold n below recent =
       let lower : n < length are.before = omega (arith, count, kept_count) in
       elim are.is_cut [
@@ -70,45 +71,45 @@ unless true value none = none refl
 unless false value none = refl
 
 module _ (entries : List Entry) (last n : ℕ) (kept : Buffer Change) (is : IsLog entries last kept) where
-  pub known : (place : ℕ) → last ≤ last_number → place ≤ length kept.items → n + length kept.items ≡ last + place
-      → changes_after entries n ≡ Some (drop place kept.items)
-  known place given within at =
+  pub known : (index : ℕ) → last ≤ LAST_NUMBER → index ≤ length kept.items → n + length kept.items ≡ last + place
+      → changes_after entries n ≡ Some (drop index kept.items)
+  known index given within at =
       let are = is.are_kept (omega (arith, is.number)) in
       let all : last ≡ length entries = omega (arith, is.number) in
       let few = few_kept entries kept.items are in
       let recent : is_recent entries n ≡ true =
-      λ i. le_true n (length entries) (omega arith) i && le_true (length entries) (n + max_notices) (omega arith) i && le_true (length entries) last_number (omega arith) i in
-      ap (λ b. if b then changes_in (drop n entries) else None) recent ∙ told entries kept.items are n place within (at ∙ ap (λ k. k + place) all)
+      λ i. le_true n (length entries) (omega arith) i && le_true (length entries) (n + MAX_NOTICES) (omega arith) i && le_true (length entries) LAST_NUMBER (omega arith) i in
+      ap (λ b. if b then changes_in (drop n entries) else None) recent ∙ told entries kept.items are n index within (at ∙ ap (λ k. k + index) all)
 
-  gone : n ≤ length entries → length entries ≤ n + max_notices → length entries ≤ last_number → (last_number < last) ⊎ ((last < n) ⊎ (n + length kept.items < last))
+  gone : n ≤ length entries → length entries ≤ n + MAX_NOTICES → length entries ≤ LAST_NUMBER → (LAST_NUMBER < last) ⊎ ((last < n) ⊎ (n + length kept.items < last))
       → changes_in (drop n entries) ≡ None
   gone there recent given (inl over) = let never : ⊥ = omega (arith, is.number) in absurd never
   gone there recent given (inr (inl past)) = let never : ⊥ = omega (arith, is.number) in absurd never
   gone there recent given (inr (inr lower)) = untold entries kept.items (is.are_kept given) n (omega (arith, is.number)) recent
 
-  pub unknown : (last_number < last) ⊎ ((last < n) ⊎ (n + length kept.items < last)) → changes_after entries n ≡ None
+  pub unknown : (LAST_NUMBER < last) ⊎ ((last < n) ⊎ (n + length kept.items < last)) → changes_after entries n ≡ None
   unknown why = unless (is_recent entries n) (changes_in (drop n entries)) (λ (yet : is_recent entries n ≡ true).
-      let parts = and_parts (nat_le n (length entries) && nat_le (length entries) (n + max_notices)) (nat_le (length entries) last_number) yet in
-      let first = and_parts (nat_le n (length entries)) (nat_le (length entries) (n + max_notices)) parts.0 in
-      gone (leb-true n (length entries) first.0) (leb-true (length entries) (n + max_notices) first.1) (leb-true (length entries) last_number parts.1) why)
+      let parts = and_parts (nat_le n (length entries) && nat_le (length entries) (n + MAX_NOTICES)) (nat_le (length entries) LAST_NUMBER) yet in
+      let first = and_parts (nat_le n (length entries)) (nat_le (length entries) (n + MAX_NOTICES)) parts.0 in
+      gone (leb-true n (length entries) first.0) (leb-true (length entries) (n + MAX_NOTICES) first.1) (leb-true (length entries) LAST_NUMBER parts.1) why)
 
   -- so the answers are those of the log
-  pub tells : (next place most : ℕ) (list : Vec Notice Global) → next ≡ min last last_number → most ≡ length kept.items
-      → (last ≤ last_number) × (place ≤ most) × (n + most ≡ last + place) → list.items ≡ numbered n (drop place kept.items) → IsSince entries n (Notices next list)
-  tells next place most list at all is_place told = (
+  pub tells : (next index most : ℕ) (list : Vec Notice Global) → next ≡ min last LAST_NUMBER → most ≡ length kept.items
+      → (last ≤ LAST_NUMBER) × (index ≤ most) × (n + most ≡ last + index) → list.items ≡ notices_from n (drop index kept.items) → IsSince entries n (Notices next list)
+  tells next index most list at all is_index told = (
     omega (arith, is.number),
-    ap (option_map (numbered n)) (known place is_place.0 (omega (arith, is_place.1)) (omega (arith, is_place.2))) ∙ ap Some (sym told),
+    ap (option_map (notices_from n)) (known index is_index.0 (omega (arith, is_index.1)) (omega (arith, is_index.2))) ∙ ap Some (sym told),
   )
 
-  pub misses : (next most : ℕ) → next ≡ min last last_number → most ≡ length kept.items → (last_number < last) ⊎ ((last < n) ⊎ (n + most < last)) → IsSince entries n (Missed next)
-  misses next most at all why = (omega (arith, is.number), unknown (subst (λ k. (last_number < last) ⊎ ((last < n) ⊎ (n + k < last))) all why))
+  pub misses : (next most : ℕ) → next ≡ min last LAST_NUMBER → most ≡ length kept.items → (LAST_NUMBER < last) ⊎ ((last < n) ⊎ (n + most < last)) → IsSince entries n (Missed next)
+  misses next most at all why = (omega (arith, is.number), unknown (subst (λ k. (LAST_NUMBER < last) ⊎ ((last < n) ⊎ (n + k < last))) all why))
 
 -- one more change is numbered
 drop_got : {X : Type 0} (xs : List X) (i : ℕ) (x : X) → slice_get xs i ≡ Some x → drop i xs ≡ x ∷ drop (i + 1) xs
 drop_got xs i x got = drop_more xs i x (slice_get_within xs i x got) ∙ ap (λ y. y ∷ drop (i + 1) xs) (get_or_from_slice_get xs i x x got)
 
-pub told_more : (xs : List Change) (place number : ℕ) (x : Change) (list all : List Notice) → slice_get xs place ≡ Some x → list ++ numbered number (drop place xs) ≡ all
-    → (list ++ record { number = number + 1; change = x } ∷ []) ++ numbered (number + 1) (drop (place + 1) xs) ≡ all
-told_more xs place number x list all got told =
-    append_assoc list (record { number = number + 1; change = x } ∷ []) (numbered (number + 1) (drop (place + 1) xs))
-    ∙ ap (λ rest. list ++ numbered number rest) (sym (drop_got xs place x got)) ∙ told
+pub told_more : (xs : List Change) (index number : ℕ) (x : Change) (list all : List Notice) → slice_get xs index ≡ Some x → list ++ notices_from number (drop index xs) ≡ all
+    → (list ++ record { number = number + 1; change = x } ∷ []) ++ notices_from (number + 1) (drop (index + 1) xs) ≡ all
+told_more xs index number x list all got told =
+    append_assoc list (record { number = number + 1; change = x } ∷ []) (notices_from (number + 1) (drop (index + 1) xs))
+    ∙ ap (λ rest. list ++ notices_from number rest) (sym (drop_got xs index x got)) ∙ told

@@ -5,7 +5,7 @@ use Rattle.pn_record.specs.CellMap.{adds}
 use Rattle.pn_record.proofs.CellLists.{both, both-assoc, both-comm, cells-append, all_absorbed}
 use Rattle.pn_record.proofs.CellMaps.{Holds-table_of, cells-spelled, same_cells_table}
 use Rattle.pn_tablet.specs.Laws.{AreJoins}
-use Rattle.pn_tablet.specs.Steps.{taking}
+use Rattle.pn_tablet.specs.Steps.{with_join}
 use Rattle.pn_tablet.specs.Steps as steps
 use Rattle.pn_tablet.specs.declared.state.Status.{Status}
 use Rattle.pn_tablet.proofs.Recovery.{nothing_short}
@@ -14,7 +14,7 @@ use Rattle.pn_tablet.proofs.TabletLaws.{adopted}
 use Rattle.pn_apply.proofs.ReduceLaws.{same_in}
 use Rattle.pn_region.specs.Held.{HoldsStill}
 use Rattle.pn_region.specs.Honest.{IsHonestCopy}
-use Rattle.pn_region.proofs.Common.{find, Positions, Reaches, raised, Image, bytes_cmp, CellValue, spell, Entries, table_of, BrokerRecord, up_to, TabletCopyValue, lacking, Ends, lost, step, after_step, stepped, TabletStateValue, lie_in, same_range, WrongRange, TabletOp, Join, Lose, Adopt, Serving, Recovering, images_in, IsFaithful}
+use Rattle.pn_region.proofs.Common.{find, Positions, Reaches, raised_marks, Image, bytes_cmp, CellValue, spell, Entries, table_of, BrokerRecord, up_to, TabletCopyValue, need_shortfall, Ends, recovering_tablet, step, after_step, tablet_after, TabletStateValue, lie_in, same_range, WrongRange, TabletOp, Join, Lose, Adopt, Serving, Recovering, images_in, IsFaithful}
 use Rattle.pn_region.proofs.FaithfulCopies.{was_so, serving_has_all}
 use Rattle.pn_region.proofs.InRange.{more_in}
 use Rattle.pn_region.proofs.StillHeld.{joined_held, found_added}
@@ -40,7 +40,7 @@ record Beside (t away kept : TabletStateValue) : Type 0 where
   pub status : kept.status ≡ t.status
   pub held : (key : List ℕ) → cells (spell kept.cells) key ≡ both (cells (spell t.cells) key) (cells (spell away.cells) key)
 
-at_loss : (t : TabletStateValue) → Beside t (lost t) t
+at_loss : (t : TabletStateValue) → Beside t (recovering_tablet t) t
 at_loss t = record {
   range = refl;
   own = refl;
@@ -52,12 +52,12 @@ at_loss t = record {
 }
 
 join_beside : (t away kept : TabletStateValue) (more : Entries) (marks : Positions) (b : Bool) → Beside t away kept
-    → Beside t (after_step away (if b then Ok (taking away more marks) else Err WrongRange)) (after_step kept (if b then Ok (taking kept more marks) else Err WrongRange))
+    → Beside t (after_step away (if b then Ok (with_join away more marks) else Err WrongRange)) (after_step kept (if b then Ok (with_join kept more marks) else Err WrongRange))
 join_beside t away kept more marks true beside = record {
   range = beside.range;
   own = beside.own;
-  cover = ap (λ (cover : Positions). raised cover marks) beside.cover;
-  reach = ap (λ (reach : Positions). raised reach marks) beside.reach;
+  cover = ap (λ (cover : Positions). raised_marks cover marks) beside.cover;
+  reach = ap (λ (reach : Positions). raised_marks reach marks) beside.reach;
   needs = beside.needs;
   status = beside.status;
   held = λ key.
@@ -68,32 +68,32 @@ join_beside t away kept more marks true beside = record {
 }
 join_beside t away kept more marks false beside = beside
 
-joins_beside : (t away kept : TabletStateValue) (joins : List TabletOp) → AreJoins joins → Beside t away kept → Beside t (fold stepped away joins) (fold stepped kept joins)
+joins_beside : (t away kept : TabletStateValue) (joins : List TabletOp) → AreJoins joins → Beside t away kept → Beside t (fold tablet_after away joins) (fold tablet_after kept joins)
 joins_beside t away kept [] are beside = beside
 joins_beside t away kept (Join more marks ∷ joins) are beside =
-    joins_beside t (stepped away (Join more marks)) (stepped kept (Join more marks)) joins are.1
-    (subst (λ (b : Bool). Beside t (stepped away (Join more marks)) (after_step kept (if b then Ok (taking kept more marks) else Err WrongRange)))
+    joins_beside t (tablet_after away (Join more marks)) (tablet_after kept (Join more marks)) joins are.1
+    (subst (λ (b : Bool). Beside t (tablet_after away (Join more marks)) (after_step kept (if b then Ok (with_join kept more marks) else Err WrongRange)))
     (ap (λ (range : Ends). lie_in range more) (sym beside.range))
     (join_beside t away kept more marks (lie_in away.range more) beside))
 joins_beside t away kept (Lose ∷ joins) are beside = absurd are.0
 joins_beside t away kept (Adopt copy ∷ joins) are beside = absurd are.0
 
 module _ (broker : BrokerRecord) (t after : TabletStateValue) (joins : List TabletOp) (copy : TabletCopyValue) (are : AreJoins joins) (faithful : IsFaithful broker t) (serves : t.status ≡ Serving) (honest : IsHonestCopy broker copy)
-    (is : step (fold stepped (lost t) joins) (Adopt copy) ≡ Ok after) where
+    (is : step (fold tablet_after (recovering_tablet t) joins) (Adopt copy) ≡ Ok after) where
   abbrev away : TabletStateValue
-  away = fold stepped (lost t) joins
+  away = fold tablet_after (recovering_tablet t) joins
 
   abbrev kept : TabletStateValue
-  kept = fold stepped t joins
+  kept = fold tablet_after t joins
 
   beside : Beside t away kept
-  beside = joins_beside t (lost t) t joins are (at_loss t)
+  beside = joins_beside t (recovering_tablet t) t joins are (at_loss t)
 
   same : same_range away.range copy.range ≡ true
-  same = was_so (same_range away.range copy.range) (steps.adopting away copy (lacking away.status copy.marks)) after is
+  same = was_so (same_range away.range copy.range) (steps.with_copy away copy (need_shortfall away.status copy.marks)) after is
 
   reaches : Reaches copy.marks t.reach
-  reaches = nothing_short copy.marks t.reach (ap (λ (status : Status). lacking status copy.marks) (sym beside.needs) ∙ (adopted away copy after is).reaches)
+  reaches = nothing_short copy.marks t.reach (ap (λ (status : Status). need_shortfall status copy.marks) (sym beside.needs) ∙ (adopted away copy after is).reaches)
 
   abbrev had : List Image
   had = images_in copy.range faithful.images
@@ -127,13 +127,13 @@ module _ (broker : BrokerRecord) (t after : TabletStateValue) (joins : List Tabl
   -- what it holds is what it would hold had it never been lost
   pub untraced : step kept (Adopt copy) ≡ Ok after
   untraced =
-      ap (λ (b : Bool). if b then steps.adopting kept copy (lacking kept.status copy.marks) else Err WrongRange) (ap (λ (range : Ends). same_range range copy.range) beside.range ∙ same)
-      ∙ ap (λ (status : Status). steps.adopting kept copy (lacking status copy.marks)) (beside.status ∙ serves)
+      ap (λ (b : Bool). if b then steps.with_copy kept copy (need_shortfall kept.status copy.marks) else Err WrongRange) (ap (λ (range : Ends). same_range range copy.range) beside.range ∙ same)
+      ∙ ap (λ (status : Status). steps.with_copy kept copy (need_shortfall status copy.marks)) (beside.status ∙ serves)
       ∙ (λ i. Ok (record {
         range = beside.range i;
         cells = same_added kept.cells away.cells (spell copy.cells) (λ key. ap (λ (o : Option CellValue). both o (cells (spell copy.cells) key)) (beside.held key) ∙ brought key) i;
-        cover = raised (beside.cover i) copy.marks;
-        reach = raised (beside.reach i) copy.marks;
+        cover = raised_marks (beside.cover i) copy.marks;
+        reach = raised_marks (beside.reach i) copy.marks;
         status = Serving;
       }))
       ∙ ap Ok (sym (adopted away copy after is).taken)

@@ -6,9 +6,9 @@ use Rattle.pn_stream.specs.Positions.{DeliveryValue}
 use Rattle.pn_tablet.specs.Copies.{TabletCopyValue, IsCopy}
 use Rattle.pn_tablet.specs.Layouts.{Bounds, IsLayout}
 use Rattle.pn_region.specs.Honest.{IsHonestCopy}
-use Rattle.pn_region.specs.Recovery.{losing, adopting}
+use Rattle.pn_region.specs.Recovery.{after_loss, after_adoption}
 use Rattle.pn_region.specs.Regions.{RegionValue}
-use Rattle.pn_region.specs.Relayouts.{relaying}
+use Rattle.pn_region.specs.Relayouts.{after_relayout}
 use Rattle.pn_region.specs.Rounds as rounds
 
 -- a round, a round that ran out of memory, the loss of a tablet, the adoption of a copy, or a change of layout
@@ -23,18 +23,18 @@ pub data RegionEvent : Type 0 where
 pub record IsAdoption (copy : TabletCopyValue) (old new : RegionValue) : Type 0 where
   pub tablet : ℕ
   pub lawful : IsCopy copy.range copy.marks copy.cells
-  pub adopted : adopting old copy ≡ Ok (tablet, new)
+  pub adopted : after_adoption old copy ≡ Ok (tablet, new)
 
 -- the layout becomes this one
 pub record IsRelayout (bounds : Bounds) (old new : RegionValue) : Type 0 where
   pub lawful : IsLayout bounds
-  pub relaid : relaying old bounds ≡ Ok new
+  pub relaid : after_relayout old bounds ≡ Ok new
 
 -- the event leads from one region to another
 abbrev pub LeadsTo : RegionEvent → RegionValue → RegionValue → Type 0
 LeadsTo (round deliveries) old new = rounds.round old deliveries ≡ Ok new
 LeadsTo (half_round deliveries) old new = rounds.IsHalfTaken old deliveries new
-LeadsTo (loss tablet) old new = new ≡ losing old tablet
+LeadsTo (loss tablet) old new = new ≡ after_loss old tablet
 LeadsTo (adoption copy) old new = IsAdoption copy old new
 LeadsTo (relayout bounds) old new = IsRelayout bounds old new
 

@@ -9,7 +9,7 @@ use Rattle.pn_stream.specs.Positions.{DeliveryValue}
 use Rattle.pn_tablet.specs.Ranges.{Ends}
 use Rattle.pn_tablet.specs.Tablets.{TabletStateValue}
 use Rattle.pn_apply.specs.Reducing.{images_in, ranges}
-use Rattle.pn_region.specs.Marking.{bringing}
+use Rattle.pn_region.specs.Marking.{with_images}
 use Rattle.pn_region.specs.Regions.{RegionValue}
 
 -- each tablet has the cells of the images that lie in its range
@@ -49,7 +49,7 @@ pub record HasPosition (deliveries : List DeliveryValue) (name : List ℕ) (posi
 
 -- the streams of the marks, and those of the deliveries with images
 abbrev pub named : Positions → List DeliveryValue → List (List ℕ)
-named marks deliveries = map (λ mark. mark.0) marks ++ map (λ delivery. delivery.stream) (bringing deliveries)
+named marks deliveries = map (λ mark. mark.0) marks ++ map (λ delivery. delivery.stream) (with_images deliveries)
 
 -- how many different streams these are
 abbrev pub stream_count : Positions → List DeliveryValue → ℕ
@@ -70,7 +70,7 @@ pub record IsGap (marks : Positions) (deliveries : List DeliveryValue) (stream :
   pub before : List DeliveryValue
   pub delivery : DeliveryValue
   pub after : List DeliveryValue
-  pub place : deliveries ≡ before ++ delivery ∷ after
+  pub parts : deliveries ≡ before ++ delivery ∷ after
   pub brings : 0 < length delivery.images
   pub stream_is : stream ≡ delivery.stream
   pub got_is : got ≡ delivery.first

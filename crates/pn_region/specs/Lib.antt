@@ -5,7 +5,6 @@ pub mod Histories
 pub mod Honest
 pub mod Kept
 pub mod Laws
-pub mod Limits
 pub mod Log
 pub mod Logged
 pub mod Marking

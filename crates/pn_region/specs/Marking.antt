@@ -1,9 +1,9 @@
 -- The marks of streams after deliveries.
 use Rattle.std.specs.Prelude.{ℕ, ◌+◌, pred, Bool, true, false, not, nat_eq, nat_lt, if◌then◌else◌, List, [], ◌∷◌, length, filter, fold, Option, Some, None, Result, Ok, Err}
 use Rattle.std.specs.Ordering.{eq_by_cmp}
-use Rattle.pn_join.specs.Marks.{Positions, name_cmp, position_of, raised}
+use Rattle.pn_join.specs.Marks.{Positions, name_cmp, position_of, raised_marks}
 use Rattle.pn_stream.specs.Positions.{DeliveryValue}
-use Rattle.pn_region.specs.Limits.{max_streams}
+use Rattle.pn_region.specs.declared.marking.TheConstants.{MAX_STREAMS}
 use Rattle.pn_region.specs.declared.fault.RoundFault.{RoundFault}
 use Rattle.pn_region.specs.declared.fault.RoundFault.TheVariants.{Gap, TooManyStreams, Memory}
 
@@ -12,8 +12,8 @@ abbrev pub brings : DeliveryValue → Bool
 brings delivery = not (nat_eq (length delivery.images) 0)
 
 -- the deliveries that bring images
-abbrev pub bringing : List DeliveryValue → List DeliveryValue
-bringing deliveries = filter brings deliveries
+abbrev pub with_images : List DeliveryValue → List DeliveryValue
+with_images deliveries = filter brings deliveries
 
 -- the position of a delivery's last image
 abbrev pub last_position : DeliveryValue → ℕ
@@ -28,12 +28,12 @@ abbrev pub last_of_stream : List ℕ → DeliveryValue → Option ℕ
 last_of_stream stream delivery = if eq_by_cmp name_cmp stream delivery.stream then last_of delivery else None
 
 -- the marks after a delivery: its stream is taken up to the greater of its mark and the last position
-abbrev pub marked : Positions → DeliveryValue → Positions
-marked marks delivery = raised marks ((delivery.stream, last_position delivery) ∷ [])
+abbrev pub with_delivery : Positions → DeliveryValue → Positions
+with_delivery marks delivery = raised_marks marks ((delivery.stream, last_position delivery) ∷ [])
 
 -- the marks after deliveries, whether or not there is a gap between them
-abbrev pub all_marked : Positions → List DeliveryValue → Positions
-all_marked marks deliveries = fold marked marks (bringing deliveries)
+abbrev pub with_deliveries : Positions → List DeliveryValue → Positions
+with_deliveries marks deliveries = fold with_delivery marks (with_images deliveries)
 
 -- the delivery begins past the position after its stream's mark
 abbrev pub leaves_gap : Positions → DeliveryValue → Bool
@@ -45,16 +45,16 @@ marks_after marks [] = Ok marks
 marks_after marks (delivery ∷ deliveries) =
     if leaves_gap marks delivery
     then Err (Gap delivery.stream (position_of marks delivery.stream + 1) delivery.first)
-    else marks_after (marked marks delivery) deliveries
+    else marks_after (with_delivery marks delivery) deliveries
 
 -- the marks, unless they are of more streams than a region takes
 abbrev pub of_few_streams : Result Positions RoundFault → Result Positions RoundFault
-of_few_streams (Ok marks) = if nat_lt max_streams (length marks) then Err TooManyStreams else Ok marks
+of_few_streams (Ok marks) = if nat_lt MAX_STREAMS (length marks) then Err TooManyStreams else Ok marks
 of_few_streams (Err fault) = Err fault
 
 -- the new marks of a round, or why it is refused
 abbrev pub new_marks : Positions → List DeliveryValue → Result Positions RoundFault
-new_marks marks deliveries = of_few_streams (marks_after marks (bringing deliveries))
+new_marks marks deliveries = of_few_streams (marks_after marks (with_images deliveries))
 
 -- the fault says that memory ran out
 abbrev pub is_memory : RoundFault → Bool

@@ -8,7 +8,7 @@ use Rattle.pn_tablet.specs.Laws.{IsSpelled}
 use Rattle.pn_tablet.specs.Ranges.{Ends}
 use Rattle.pn_tablet.specs.Tablets.{TabletStateValue, empty_tablet, lie_in}
 use Rattle.pn_apply.specs.Reducing.{ranges}
-use Rattle.pn_region.specs.Limits.{max_streams}
+use Rattle.pn_region.specs.declared.marking.TheConstants.{MAX_STREAMS}
 
 -- a layout, the tablets of its ranges, and the marks
 pub record RegionValue : Type 0 where
@@ -54,7 +54,7 @@ pub record IsRegion (region : RegionValue) : Type 0 where
 
 -- marks of at most 16 streams, whose positions are those of messages
 pub record AreRegionMarks (marks : Positions) : Type 0 where
-  pub few : length marks ≤ max_streams
+  pub few : length marks ≤ MAX_STREAMS
   pub positions : IsTrue (are_positions marks)
 
 -- a region with such marks

@@ -4,7 +4,7 @@ use Rattle.std.specs.Result.{result_map_both}
 use Rattle.pn_join.specs.Marks.{Positions}
 use Rattle.pn_stream.specs.Positions.{DeliveryValue}
 use Rattle.pn_tablet.specs.Changes.{changes}
-use Rattle.pn_tablet.specs.declared.op.TabletOp.{TabletOp}
+use Rattle.pn_tablet.specs.declared.state.TabletOp.{TabletOp}
 use Rattle.pn_apply.specs.Applying.{all_stepped, AreOldOrStepped}
 use Rattle.pn_apply.specs.Reducing.{all_images, joins_of}
 use Rattle.pn_region.specs.Marking.{new_marks}
@@ -17,16 +17,16 @@ abbrev pub joins : RegionValue → List DeliveryValue → Positions → List Tab
 joins region deliveries marks = joins_of region.layout marks (all_images deliveries)
 
 -- each tablet takes its join, and the marks are the new ones
-abbrev pub taking : RegionValue → List DeliveryValue → Positions → RegionValue
-taking region deliveries marks = record region { tablets = all_stepped region.tablets (joins region deliveries marks); marks = marks }
+abbrev pub after_joins : RegionValue → List DeliveryValue → Positions → RegionValue
+after_joins region deliveries marks = record region { tablets = all_stepped region.tablets (joins region deliveries marks); marks = marks }
 
 -- the region after a round, or why it is refused
 abbrev pub round : RegionValue → List DeliveryValue → Result RegionValue RoundFault
-round region deliveries = result_map_both (taking region deliveries) (λ fault. fault) (new_marks region.marks deliveries)
+round region deliveries = result_map_both (after_joins region deliveries) (λ fault. fault) (new_marks region.marks deliveries)
 
 -- how many records differ in all tablets together
-abbrev pub changed : RegionValue → RegionValue → ℕ
-changed old new = length (changes (all_cells old) (all_cells new))
+abbrev pub changed_count : RegionValue → RegionValue → ℕ
+changed_count old new = length (changes (all_cells old) (all_cells new))
 
 -- each tablet is as it was, or has taken its join if the round is not refused
 abbrev pub IsHalfTaken : RegionValue → List DeliveryValue → RegionValue → Type 0

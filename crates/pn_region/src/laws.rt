@@ -6,17 +6,19 @@ ghost use Rattle.pn_join.specs.Prelude.{Positions, Reaches, name_cmp, position_o
 ghost use Rattle.pn_record.specs.declared.image.Image.{Image};
 ghost use Rattle.pn_record.specs.Prelude.{bytes_cmp, table_of, NotOlder};
 ghost use Rattle.pn_stream.specs.Prelude.{BrokerRecord, AreHonest, up_to, DeliveryValue};
-ghost use Rattle.pn_tablet.specs.Prelude.{Bounds, IsLayout, tablet_of, TabletCopyValue, copy_of, IsSpelled, lost, step, TabletStateValue};
-ghost use Rattle.pn_tablet.specs.declared.op.TabletOp.TheVariants.{Adopt};
+ghost use Rattle.pn_tablet.specs.Prelude.{Bounds, IsLayout, tablet_of, TabletCopyValue, copy_of, IsSpelled, recovering_tablet, step, TabletStateValue};
+ghost use Rattle.pn_tablet.specs.declared.state.TabletOp.TheVariants.{Adopt};
 ghost use Rattle.pn_tablet.specs.declared.state.Status.TheVariants.{Serving};
 ghost use Rattle.pn_apply.specs.Prelude.{all_images, images_in};
 ghost use Rattle.pn_region.specs.Faith.{IsFaithful, AreFaithful};
 ghost use Rattle.pn_region.specs.Honest.{IsHonestCopy};
 ghost use Rattle.pn_region.specs.Laws.{AreIn, HasImages, HasBetween, HasNoGap, HasPosition, IsGap, stream_count};
-ghost use Rattle.pn_region.specs.Limits.{max_streams};
+ghost use Rattle.pn_region.specs.declared.marking.TheConstants.{MAX_STREAMS};
 ghost use Rattle.pn_region.specs.Marking.{last_position, new_marks};
 ghost use Rattle.pn_region.specs.Regions.{RegionValue, IsRegion, new_region, all_cells};
-ghost use Rattle.pn_region.specs.Rounds.{taking, IsHalfTaken};
+ghost use Rattle.pn_region.specs.Relayouts.{after_relayout};
+ghost use Rattle.pn_region.specs.Rounds.{after_joins, IsHalfTaken};
+ghost use Rattle.pn_region.specs.Serving.{AllServe};
 ghost use Rattle.pn_region.specs.declared.fault.RoundFault.TheVariants.{Gap, TooManyStreams, Memory};
 
 /// A new region is a region, and has the cells of no image.
@@ -29,7 +31,7 @@ pub fn a_new_region_has_taken_nothing()
 /// Every round leaves a region, also one that runs out of memory.
 pub fn a_round_leaves_a_region()
     ensures taken { (region : RegionValue) (deliveries : List DeliveryValue) (marks : Positions)
-        → IsRegion region → IsRegion (taking region deliveries marks) }
+        → IsRegion region → IsRegion (after_joins region deliveries marks) }
     ensures half_taken { (old new : RegionValue) (deliveries : List DeliveryValue)
         → IsRegion old → IsHalfTaken old deliveries new → IsRegion new }
 {}
@@ -39,10 +41,10 @@ pub fn a_round_leaves_a_region()
 pub fn a_round_takes_its_images()
     ensures images { (region : RegionValue) (deliveries : List DeliveryValue) (marks : Positions) (taken : List Image)
         → IsRegion region → HasImages region taken
-        → HasImages (taking region deliveries marks) (taken ++ all_images deliveries) }
+        → HasImages (after_joins region deliveries marks) (taken ++ all_images deliveries) }
     ensures surely { (region : RegionValue) (deliveries : List DeliveryValue) (marks : Positions) (sure maybe : List Image)
         → IsRegion region → HasBetween sure maybe region
-        → HasBetween (sure ++ all_images deliveries) maybe (taking region deliveries marks) }
+        → HasBetween (sure ++ all_images deliveries) maybe (after_joins region deliveries marks) }
     ensures perhaps { (old new : RegionValue) (deliveries : List DeliveryValue) (sure maybe : List Image)
         → IsRegion old → HasBetween sure maybe old → IsHalfTaken old deliveries new
         → HasBetween sure (maybe ++ all_images deliveries) new }
@@ -71,7 +73,7 @@ pub fn all_cells_are_those_of_the_images_taken()
 pub fn a_round_never_goes_back()
     ensures taken { (region : RegionValue) (deliveries : List DeliveryValue) (marks : Positions)
         → IsRegion region → (key : List ℕ)
-        → NotOlder (find bytes_cmp key (all_cells region)) (find bytes_cmp key (all_cells (taking region deliveries marks))) }
+        → NotOlder (find bytes_cmp key (all_cells region)) (find bytes_cmp key (all_cells (after_joins region deliveries marks))) }
     ensures half_taken { (old new : RegionValue) (deliveries : List DeliveryValue)
         → IsRegion old → IsHalfTaken old deliveries new → (key : List ℕ)
         → NotOlder (find bytes_cmp key (all_cells old)) (find bytes_cmp key (all_cells new)) }
@@ -121,7 +123,7 @@ pub fn a_gap_is_a_missing_position()
 pub fn new_marks_name_at_most_16_streams()
     ensures few { (marks next : Positions) (deliveries : List DeliveryValue)
         → IsTrue (is_sorted name_cmp marks) → new_marks marks deliveries ≡ Ok next
-        → (length next ≡ stream_count marks deliveries) × (stream_count marks deliveries ≤ max_streams) }
+        → (length next ≡ stream_count marks deliveries) × (stream_count marks deliveries ≤ MAX_STREAMS) }
     ensures too_many { (marks : Positions) (deliveries : List DeliveryValue)
         → IsTrue (is_sorted name_cmp marks) → new_marks marks deliveries ≡ Err TooManyStreams
         → 16 < stream_count marks deliveries }
@@ -136,7 +138,7 @@ pub fn honest_rounds_keep_tablets_faithful()
     ensures taken { (broker : BrokerRecord) (region : RegionValue) (deliveries : List DeliveryValue) (marks : Positions)
         → IsRegion region → AreFaithful broker region.tablets → AreHonest broker deliveries
         → new_marks region.marks deliveries ≡ Ok marks
-        → AreFaithful broker (taking region deliveries marks).tablets }
+        → AreFaithful broker (after_joins region deliveries marks).tablets }
     ensures half_taken { (broker : BrokerRecord) (old new : RegionValue) (deliveries : List DeliveryValue)
         → IsRegion old → AreFaithful broker old.tablets → AreHonest broker deliveries
         → IsHalfTaken old deliveries new → AreFaithful broker new.tablets }
@@ -149,7 +151,7 @@ pub fn marks_tell_what_was_taken()
     ensures taken { (broker : BrokerRecord) (region : RegionValue) (deliveries : List DeliveryValue) (marks : Positions)
         → IsRegion region → HasImages region (up_to broker region.marks) → AreHonest broker deliveries
         → new_marks region.marks deliveries ≡ Ok marks
-        → HasImages (taking region deliveries marks) (up_to broker marks) }
+        → HasImages (after_joins region deliveries marks) (up_to broker marks) }
 {}
 
 /// A lost tablet is faithful, and adopting an honest copy keeps a tablet faithful.
@@ -157,7 +159,7 @@ pub fn marks_tell_what_was_taken()
 /// A faithful tablet that serves, and whose cover is its reach, has the cells of all images in its range up to there.
 /// The copies that a faithful tablet gives are honest.
 pub fn honest_copies_keep_tablets_faithful()
-    ensures lost { (broker : BrokerRecord) (tablet : TabletStateValue) → Reaches tablet.reach tablet.cover → IsFaithful broker (lost tablet) }
+    ensures recovering_tablet { (broker : BrokerRecord) (tablet : TabletStateValue) → Reaches tablet.reach tablet.cover → IsFaithful broker (recovering_tablet tablet) }
     ensures adopted { (broker : BrokerRecord) (tablet after : TabletStateValue) (copy : TabletCopyValue)
         → IsFaithful broker tablet → IsHonestCopy broker copy → step tablet (Adopt copy) ≡ Ok after
         → IsFaithful broker after }
@@ -166,4 +168,12 @@ pub fn honest_copies_keep_tablets_faithful()
         → tablet.cells ≡ table_of (images_in tablet.range (up_to broker tablet.cover)) }
     ensures given { (broker : BrokerRecord) (tablet : TabletStateValue) (need : Positions) (copy : TabletCopyValue)
         → IsFaithful broker tablet → copy_of tablet need ≡ Ok copy → IsHonestCopy broker copy }
+{}
+
+/// A change of layout leaves the records of all tablets together as they were. All tablets serve before and after it.
+pub fn a_change_of_layout_keeps_all_records()
+    ensures cells { (old new : RegionValue) (bounds : Bounds) → IsRegion old → IsLayout bounds → after_relayout old bounds ≡ Ok new
+        → all_cells new ≡ all_cells old }
+    ensures served { (old new : RegionValue) (bounds : Bounds) → after_relayout old bounds ≡ Ok new → AllServe old }
+    ensures serve { (old new : RegionValue) (bounds : Bounds) → after_relayout old bounds ≡ Ok new → AllServe new }
 {}

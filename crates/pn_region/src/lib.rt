@@ -6,7 +6,6 @@
 
 #![tactic(auto)]
 
-mod entry;
 mod fault;
 mod history;
 pub mod laws;
@@ -17,15 +16,11 @@ pub mod read_laws;
 mod reads;
 pub mod recovery_laws;
 mod region;
-pub mod relayout_laws;
-mod since;
 
-pub use entry::Entry;
 pub use fault::{RelayoutFault, RoundFault};
 pub use history::History;
-pub use marking::next_marks;
-pub use notices::Log;
+pub use marking::{MAX_STREAMS, next_marks};
+pub use notices::{Entry, LAST_NUMBER, Log, Notice, Since};
 /// Why a copy was not adopted. `WrongRange`: no tablet has its range.
 pub use pn_tablet::OpFault as AdoptFault;
-pub use region::{Region, Round};
-pub use since::{Notice, Since};
+pub use region::{Region, Round, recall_soundness};

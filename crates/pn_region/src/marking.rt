@@ -5,15 +5,15 @@ ghost use Rattle.std.specs.FinMap.{is_sorted};
 ghost use Rattle.std.specs.Int.{from_bool};
 ghost use Rattle.pn_join.specs.Prelude.{name_cmp, is_position, position_of, are_positions};
 ghost use Rattle.pn_tablet.specs.Prelude.{Refuses};
-ghost use Rattle.pn_region.specs.Limits.{max_streams};
-ghost use Rattle.pn_region.specs.Marking.{bringing, last_of as the_last_of, last_of_stream as the_last_of_stream, all_marked, marks_after, new_marks, is_memory};
+ghost use Rattle.pn_region.specs.declared.marking.TheConstants.{MAX_STREAMS};
+ghost use Rattle.pn_region.specs.Marking.{with_images, last_of as the_last_of, last_of_stream as the_last_of_stream, with_deliveries, marks_after, new_marks, is_memory};
 
 use crate::RoundFault;
 use pn_join::{Dup, Marks, NoMemory, StreamName, raise_at};
 use pn_stream::Delivery;
 
 /// The most streams that a region takes.
-const MAX_STREAMS: usize = 16;
+pub const MAX_STREAMS: usize = 16;
 
 /// The marks after the deliveries, in order. One with images raises its stream's mark to its last position.
 /// The positions of the marks are 1 to 10^15, before and after.
@@ -25,22 +25,22 @@ pub fn next_marks(marks: &Marks, deliveries: &[Delivery]) -> Result<Marks, Round
     ensures ok { IfOk result (λ next. new_marks marks.now deliveries.now ≡ Ok next) }
     ensures refused { IfErr result (λ fault. Refuses is_memory fault (new_marks marks.now deliveries.now)) }
     ensures positions { IfOk result (λ next. IsTrue (are_positions next)) }
-    ensures few { IfOk result (λ next. length next ≤ max_streams) }
+    ensures few { IfOk result (λ next. length next ≤ MAX_STREAMS) }
 {
     check(marks, deliveries)?;
-    Ok(followed(marks, deliveries)?)
+    Ok(raise_all(marks, deliveries)?)
 }
 
 // The first fault of the deliveries: a gap, or else too many streams.
 fn check(marks: &Marks, deliveries: &[Delivery]) -> Result<(), RoundFault>
     requires { IsTrue (are_positions marks.now) }
-    ensures ok { OnOk result (new_marks marks.now deliveries.now ≡ Ok (all_marked marks.now deliveries.now)) }
-    ensures few { OnOk result (length (all_marked marks.now deliveries.now) ≤ max_streams) }
+    ensures ok { OnOk result (new_marks marks.now deliveries.now ≡ Ok (with_deliveries marks.now deliveries.now)) }
+    ensures few { OnOk result (length (with_deliveries marks.now deliveries.now) ≤ MAX_STREAMS) }
     ensures refused { IfErr result (λ fault. new_marks marks.now deliveries.now ≡ Err fault) }
 {
     let mut streams = marks.len();
-    for (place, delivery) in deliveries.iter().enumerate() {
-        let is_new = is_new_stream(marks, &deliveries[..place], delivery)?;
+    for (index, delivery) in deliveries.iter().enumerate() {
+        let is_new = is_new_stream(marks, &deliveries[..index], delivery)?;
         streams = streams.saturating_add(usize::from(is_new));
     }
     if streams > MAX_STREAMS {
@@ -55,15 +55,15 @@ fn is_new_stream(
     before: &[Delivery],
     delivery: &Delivery,
 ) -> Result<bool, RoundFault>
-    requires positions { IsTrue (are_positions (all_marked marks.now before.now)) }
-    requires rising { IsTrue (is_sorted name_cmp (all_marked marks.now before.now)) }
-    ensures ok { OnOk result (marks_after (all_marked marks.now before.now) (bringing (delivery.now ∷ []))
-        ≡ Ok (all_marked (all_marked marks.now before.now) (delivery.now ∷ []))) }
-    ensures count { IfOk result (λ is_new. length (all_marked (all_marked marks.now before.now) (delivery.now ∷ []))
-        ≡ length (all_marked marks.now before.now) + from_bool is_new) }
-    ensures positions { OnOk result (IsTrue (are_positions (all_marked (all_marked marks.now before.now) (delivery.now ∷ [])))) }
+    requires positions { IsTrue (are_positions (with_deliveries marks.now before.now)) }
+    requires rising { IsTrue (is_sorted name_cmp (with_deliveries marks.now before.now)) }
+    ensures ok { OnOk result (marks_after (with_deliveries marks.now before.now) (with_images (delivery.now ∷ []))
+        ≡ Ok (with_deliveries (with_deliveries marks.now before.now) (delivery.now ∷ []))) }
+    ensures count { IfOk result (λ is_new. length (with_deliveries (with_deliveries marks.now before.now) (delivery.now ∷ []))
+        ≡ length (with_deliveries marks.now before.now) + from_bool is_new) }
+    ensures positions { OnOk result (IsTrue (are_positions (with_deliveries (with_deliveries marks.now before.now) (delivery.now ∷ [])))) }
     ensures refused { IfErr result (λ fault.
-        marks_after (all_marked marks.now before.now) (bringing (delivery.now ∷ [])) ≡ Err fault) }
+        marks_after (with_deliveries marks.now before.now) (with_images (delivery.now ∷ [])) ≡ Err fault) }
 {
     if delivery.images().is_empty() {
         return Ok(false);
@@ -71,11 +71,8 @@ fn is_new_stream(
     let mark = mark_after(marks, before, delivery.stream());
     let first = delivery.first();
     if mark < first - 1 {
-        let Ok(stream) = delivery.stream().dup() else {
-            unreachable!()
-        };
         return Err(RoundFault::Gap {
-            stream,
+            stream: *delivery.stream(),
             wanted: mark + 1,
             got: first,
         });
@@ -85,7 +82,7 @@ fn is_new_stream(
 
 // The mark of the stream after the deliveries, whether or not there is a gap between them.
 fn mark_after(marks: &Marks, deliveries: &[Delivery], stream: &StreamName) -> u64
-    ensures { result ≡ position_of (all_marked marks.now deliveries.now) stream.now }
+    ensures { result ≡ position_of (with_deliveries marks.now deliveries.now) stream.now }
 {
     let mut mark = marks.position(stream);
     for delivery in deliveries {
@@ -117,27 +114,27 @@ fn last_of(delivery: &Delivery) -> Option<u64>
 }
 
 // The marks after deliveries without a gap between them.
-fn followed(marks: &Marks, deliveries: &[Delivery]) -> Result<Marks, NoMemory>
+fn raise_all(marks: &Marks, deliveries: &[Delivery]) -> Result<Marks, NoMemory>
     requires { IsTrue (are_positions marks.now) }
-    ensures ok { IfOk result (λ next. next ≡ all_marked marks.now deliveries.now) }
+    ensures ok { IfOk result (λ next. next ≡ with_deliveries marks.now deliveries.now) }
     ensures positions { IfOk result (λ next. IsTrue (are_positions next)) }
 {
     let mut next = marks.dup()?;
     for delivery in deliveries {
-        follow(&mut next, delivery)?;
+        raise_by(&mut next, delivery)?;
     }
     Ok(next)
 }
 
 // Raises the mark of the delivery's stream.
-fn follow(marks: &mut Marks, delivery: &Delivery) -> Result<(), NoMemory>
+fn raise_by(marks: &mut Marks, delivery: &Delivery) -> Result<(), NoMemory>
     requires { IsTrue (are_positions marks.old) }
-    ensures ok { OnOk result (marks.new ≡ all_marked marks.old (delivery.now ∷ [])) }
+    ensures ok { OnOk result (marks.new ≡ with_deliveries marks.old (delivery.now ∷ [])) }
     ensures positions { OnOk result (IsTrue (are_positions marks.new)) }
 {
     let Some(last) = last_of(delivery) else {
         return Ok(());
     };
-    raise_at(marks, delivery.stream().dup()?, last)?;
+    raise_at(marks, *delivery.stream(), last)?;
     Ok(())
 }

@@ -1,13 +1,14 @@
 //! The log of a region: its notices, each with a number.
 
 ghost use Rattle.std.specs.Prelude.{◌≡◌, ◌≤◌, ◌<◌, ◌+◌, ◌^◌, [], ◌∷◌, ◌++◌, length, drop, IfOk, IfSome, None, ◌⊎◌};
-ghost use Rattle.pn_region.specs.Log.{entries_of, last_number, numbered};
+ghost use Rattle.pn_region.specs.declared.notices.TheConstants.{LAST_NUMBER};
+ghost use Rattle.pn_region.specs.Log.{entries_of, notices_from};
 ghost use Rattle.pn_region.specs.Since.{IsSince};
 ghost use Rattle.pn_region.specs.Kept.{kept_with};
 ghost use Rattle.std.specs.List.{flat_map};
 ghost use Rattle.circular_buffer.specs.Buffer.{buffer};
 
-use crate::{Entry, History, Notice, Since};
+use crate::History;
 use circular_buffer::HeapCircularBuffer;
 use pn_join::{Dup, NoMemory};
 use pn_tablet::Change;
@@ -18,7 +19,32 @@ use std::marker::Model;
 const MAX_NOTICES: usize = 1024;
 
 /// The last number that an entry has.
-const LAST_NUMBER: u64 = 1_000_000_000_000_000_000;
+pub const LAST_NUMBER: u64 = 1_000_000_000_000_000_000;
+
+/// An entry of a log. Entries are numbered from 1.
+#[derive(Drop)]
+pub enum Entry {
+    /// A round changed a record.
+    Changed(Change),
+    /// Records may have changed without notices.
+    Break,
+}
+
+/// A change, with its number in the log.
+#[derive(Debug, Drop)]
+pub struct Notice {
+    pub number: u64,
+    pub change: Change,
+}
+
+/// The changes after a number. `next` is the last number that was given: the number to ask with next.
+#[derive(Debug, Drop)]
+pub enum Since {
+    /// All changes after the number.
+    Notices { next: u64, list: Vec<Notice> },
+    /// They are not known: there was a break, they are more than the log keeps, or the number was not given yet.
+    Missed { next: u64 },
+}
 
 /// The entries of a region, in order. It keeps the last 1,024 changes after the last break; their memory is
 /// taken once.
@@ -33,7 +59,7 @@ pub struct Log {
 
 impl Model for Log {
     ghost use Rattle.std.specs.Prelude.{List};
-    ghost use Rattle.pn_region.specs.declared.entry.Entry.{Entry};
+    ghost use Rattle.pn_region.specs.declared.notices.Entry.{Entry};
     ghost use Rattle.pn_region.specs.Kept.{IsLog};
 
     ghost Value = { List Entry };
@@ -96,10 +122,10 @@ impl Log {
         ensures { IfOk result (λ since. IsSince self.now number since) }
     {
         let next = self.last.min(LAST_NUMBER);
-        match place_after(number, self.last, self.kept.len()) {
-            Some(place) => Ok(Since::Notices {
+        match index_after(number, self.last, self.kept.len()) {
+            Some(index) => Ok(Since::Notices {
                 next,
-                list: notices(self.alloc, &self.kept, place, number)?,
+                list: copy_notices(self.alloc, &self.kept, index, number)?,
             }),
             None => Ok(Since::Missed { next }),
         }
@@ -119,9 +145,9 @@ fn keep(kept: &mut HeapCircularBuffer<Change>, entry: Entry)
 }
 
 // Where the changes after a number begin among those that are kept. None if some of them are not kept.
-fn place_after(number: u64, last: u64, kept: usize) -> Option<usize>
-    ensures some { IfSome result (λ place. (last ≤ last_number) × (place ≤ kept) × (number + kept ≡ last + place)) }
-    ensures none { result ≡ None → (last_number < last) ⊎ ((last < number) ⊎ (number + kept < last)) }
+fn index_after(number: u64, last: u64, kept: usize) -> Option<usize>
+    ensures some { IfSome result (λ index. (last ≤ LAST_NUMBER) × (index ≤ kept) × (number + kept ≡ last + index)) }
+    ensures none { result ≡ None → (LAST_NUMBER < last) ⊎ ((last < number) ⊎ (number + kept < last)) }
 {
     if last > LAST_NUMBER {
         return None;
@@ -130,21 +156,21 @@ fn place_after(number: u64, last: u64, kept: usize) -> Option<usize>
     kept.checked_sub(later as usize)
 }
 
-// The changes from a place on, numbered from the one after `before`.
-fn notices(
+// Copies of the changes from an index on, numbered from the one after `before`.
+fn copy_notices(
     alloc: Global,
     kept: &HeapCircularBuffer<Change>,
     first: usize,
     before: u64,
 ) -> Result<Vec<Notice>, NoMemory>
-    requires place { first ≤ length kept.now.items }
+    requires index { first ≤ length kept.now.items }
     requires numbers { before + length kept.now.items < 2 ^ 64 }
-    ensures { IfOk result (λ list. list.items ≡ numbered before (drop first kept.now.items)) }
+    ensures { IfOk result (λ list. list.items ≡ notices_from before (drop first kept.now.items)) }
 {
     let mut list = Vec::with_capacity(alloc, kept.len() - first)?;
     let mut number = before;
-    for place in first..kept.len() {
-        let Some(change) = kept.get(place) else {
+    for index in first..kept.len() {
+        let Some(change) = kept.get(index) else {
             unreachable!();
         };
         number += 1;

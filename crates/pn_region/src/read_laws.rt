@@ -14,7 +14,7 @@ ghost use Rattle.pn_scan.specs.declared.fault.ScanFault.TheVariants.{NoEntry};
 ghost use Rattle.pn_region.specs.PageWalks.{IsAnswered, IsAnsweredOf};
 ghost use Rattle.pn_region.specs.Reads.{read_in, get_in, page_in};
 ghost use Rattle.pn_region.specs.Regions.{RegionValue, IsRegion, new_region, all_cells};
-ghost use Rattle.pn_region.specs.Rounds.{taking, IsHalfTaken};
+ghost use Rattle.pn_region.specs.Rounds.{after_joins, IsHalfTaken};
 ghost use Rattle.pn_region.specs.Serving.{AllServe, ArePagesOf};
 
 /// No read of a region answers `NoEntry`.
@@ -29,7 +29,7 @@ pub fn no_entry_is_refused()
 pub fn rounds_leave_tablets_serving()
     ensures new { (bounds : Bounds) → AllServe (new_region bounds) }
     ensures taken { (region : RegionValue) (deliveries : List DeliveryValue) (marks : Positions)
-        → AllServe region → AllServe (taking region deliveries marks) }
+        → AllServe region → AllServe (after_joins region deliveries marks) }
     ensures half_taken { (old new : RegionValue) (deliveries : List DeliveryValue)
         → AllServe old → IsHalfTaken old deliveries new → AllServe new }
 {}

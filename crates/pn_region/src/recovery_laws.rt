@@ -6,9 +6,9 @@ ghost use Rattle.pn_join.specs.Prelude.{Positions, Reaches};
 ghost use Rattle.pn_record.specs.declared.image.Image.{Image};
 ghost use Rattle.pn_record.specs.Prelude.{SameImages, table_of, NotOlder, bytes_cmp, CellValue};
 ghost use Rattle.pn_stream.specs.Prelude.{BrokerRecord, DeliveryValue};
-ghost use Rattle.pn_tablet.specs.Prelude.{TabletCopyValue, copy_of, AreJoins, Bounds, IsLayout, tablet_of, lost, step, stepped, TabletStateValue};
-ghost use Rattle.pn_tablet.specs.declared.op.TabletOp.{TabletOp};
-ghost use Rattle.pn_tablet.specs.declared.op.TabletOp.TheVariants.{Adopt};
+ghost use Rattle.pn_tablet.specs.Prelude.{TabletCopyValue, copy_of, AreJoins, Bounds, IsLayout, tablet_of, recovering_tablet, step, tablet_after, TabletStateValue};
+ghost use Rattle.pn_tablet.specs.declared.state.TabletOp.{TabletOp};
+ghost use Rattle.pn_tablet.specs.declared.state.TabletOp.TheVariants.{Adopt};
 ghost use Rattle.pn_tablet.specs.declared.state.Status.TheVariants.{Serving};
 ghost use Rattle.pn_region.specs.Events.{RegionEvent, LeadsTo, AllLeadTo, IsHonestEvent, AreHonestEvents};
 ghost use Rattle.pn_region.specs.Faith.{IsFaithful, AreFaithful};
@@ -95,8 +95,8 @@ pub fn records_served_never_go_back()
 pub fn a_recovery_leaves_no_trace()
     ensures { (broker : BrokerRecord) (tablet after : TabletStateValue) (joins : List TabletOp) (copy : TabletCopyValue) → AreJoins joins
         → IsFaithful broker tablet → tablet.status ≡ Serving → IsHonestCopy broker copy
-        → step (fold stepped (lost tablet) joins) (Adopt copy) ≡ Ok after
-        → step (fold stepped tablet joins) (Adopt copy) ≡ Ok after }
+        → step (fold tablet_after (recovering_tablet tablet) joins) (Adopt copy) ≡ Ok after
+        → step (fold tablet_after tablet joins) (Adopt copy) ≡ Ok after }
 {}
 
 /// Such a tablet still holds each record it held before the loss: at a greater version, or at the same one with
@@ -106,7 +106,7 @@ pub fn a_recovery_leaves_no_trace()
 pub fn a_recovery_brings_all_back()
     ensures whole { (broker : BrokerRecord) (tablet after : TabletStateValue) (joins : List TabletOp) (copy : TabletCopyValue) → AreJoins joins
         → IsFaithful broker tablet → tablet.status ≡ Serving → IsHonestCopy broker copy
-        → step (fold stepped (lost tablet) joins) (Adopt copy) ≡ Ok after
+        → step (fold tablet_after (recovering_tablet tablet) joins) (Adopt copy) ≡ Ok after
         → (key : List ℕ) → HoldsStill (find bytes_cmp key tablet.cells) (find bytes_cmp key after.cells) }
     ensures covers { (broker : BrokerRecord) (tablet other : TabletStateValue) → IsFaithful broker tablet → IsFaithful broker other
         → tablet.status ≡ Serving → other.status ≡ Serving → tablet.range ≡ other.range

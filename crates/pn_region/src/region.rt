@@ -4,13 +4,13 @@ ghost use Rattle.std.specs.Prelude.{◌≡◌, ◌+◌, ◌≤◌, ◌<◌, ◌^
 ghost use Rattle.std.specs.List.{flat_map};
 ghost use Rattle.pn_join.specs.Prelude.{are_positions};
 ghost use Rattle.pn_tablet.specs.Prelude.{tablet_ends, Refuses, empty_tablet, changes};
-ghost use Rattle.pn_apply.specs.Prelude.{AreJoinsIn, HavePositions, all_stepped, all_changes, AreOldOrStepped, IsSomeOld, max_workers, joined_cells, ranges};
+ghost use Rattle.pn_apply.specs.Prelude.{AreJoinsIn, HavePositions, all_stepped, all_changes, AreOldOrStepped, IsSomeOld, MAX_WORKERS, joined_cells, ranges};
 ghost use Rattle.pn_scan.specs.Prelude.{IsStateOf};
-ghost use Rattle.pn_region.specs.Limits.{max_streams};
-ghost use Rattle.pn_region.specs.Logged.{new_logged, noting, refused_log};
+ghost use Rattle.pn_region.specs.declared.marking.TheConstants.{MAX_STREAMS};
+ghost use Rattle.pn_region.specs.Logged.{new_logged, with_notices, refused_log};
 ghost use Rattle.pn_region.specs.Marking.{is_memory};
 ghost use Rattle.pn_region.specs.Regions.{IsRegion, all_cells};
-ghost use Rattle.pn_region.specs.Rounds.{round, changed, Leaves};
+ghost use Rattle.pn_region.specs.Rounds.{round, changed_count, Leaves};
 ghost use Rattle.pn_region.specs.Since.{IsSince};
 
 mod parts;
@@ -18,6 +18,7 @@ mod recovery;
 mod relayout;
 
 use crate::{Log, RoundFault, Since, next_marks};
+pub use parts::recall_soundness;
 use pn_apply::{Gate, apply_all, reduce_owned};
 use pn_join::{Dup, Marks, NoMemory};
 use pn_stream::Delivery;
@@ -77,7 +78,7 @@ impl Region {
     /// How far streams were taken into every tablet.
     pub fn marks(&self) -> &Marks
         ensures marks { result.now ≡ self.now.state.marks }
-        ensures few { length self.now.state.marks ≤ max_streams }
+        ensures few { length self.now.state.marks ≤ MAX_STREAMS }
         ensures positions { IsTrue (are_positions self.now.state.marks) }
     {
         &self.marks
@@ -116,18 +117,10 @@ impl Region {
         &self.tablets
     }
 
-    /// Takes deliveries, in order; those without images are passed over. There are 1 to 16 workers, whose number
-    /// does not change the answer.
+    /// Takes deliveries, in order, by 1 to 16 workers, each of which enters the gate before each of its tablets.
     ///
-    /// A worker enters the gate before each of its tablets.
-    ///
-    /// `Gap` comes exactly where a delivery begins more than one past its stream's mark, and names the first;
-    /// else `TooManyStreams` exactly where there would be more than 16 streams.
-    ///
-    /// Both change nothing. After `Memory` each tablet is as it was or has taken its part, and at least one is
-    /// as it was; the marks are as they were.
-    ///
-    /// A round adds its changes to the log, in key order, or a break if it ran out of memory.
+    /// `Gap` names the first delivery that begins past its stream's next position; else `TooManyStreams` comes. Both
+    /// change nothing. After `Memory` some tablets have taken their parts, and the log has a break.
     pub fn round<R: Threads + Sync, G: Gate + Sync>(
         &mut self,
         rt: &R,
@@ -135,10 +128,10 @@ impl Region {
         workers: usize,
         gate: &G,
     ) -> Result<Round, RoundFault>
-        requires workers { (1 ≤ workers) × (workers ≤ max_workers) }
+        requires workers { (1 ≤ workers) × (workers ≤ MAX_WORKERS) }
         ensures ok { OnOk result (round self.old.state deliveries.items ≡ Ok self.new.state) }
-        ensures changed { IfOk result (λ done. done.changed ≡ changed self.old.state self.new.state) }
-        ensures noted { OnOk result (self.new.log ≡ noting self.old.log self.old.state self.new.state) }
+        ensures changed { IfOk result (λ done. done.changed ≡ changed_count self.old.state self.new.state) }
+        ensures noted { OnOk result (self.new.log ≡ with_notices self.old.log self.old.state self.new.state) }
         ensures refused { IfErr result (λ fault. Refuses is_memory fault (round self.old.state deliveries.items)) }
         ensures err { IfErr result (λ fault. Leaves fault self.old.state deliveries.items self.new.state) }
         ensures left { OnErr result (IsSomeOld self.old.state.tablets self.new.state.tablets) }
@@ -146,7 +139,7 @@ impl Region {
     {
         match self.take(rt, deliveries, workers, gate) {
             Ok(lists) => {
-                let changed = count_of(&lists) as u64;
+                let changed = count_changes(&lists) as u64;
                 self.log.add(lists);
                 Ok(Round { changed })
             }
@@ -166,7 +159,7 @@ impl Region {
         workers: usize,
         gate: &G,
     ) -> Result<Vec<Vec<Change>>, RoundFault>
-        requires workers { (1 ≤ workers) × (workers ≤ max_workers) }
+        requires workers { (1 ≤ workers) × (workers ≤ MAX_WORKERS) }
         ensures ok { OnOk result (round self.old.state deliveries.items ≡ Ok self.new.state) }
         ensures changes { IfOk result (λ lists. flat_map (λ list. list.items) lists.items ≡ changes (all_cells self.old.state) (all_cells self.new.state)) }
         ensures few { IfOk result (λ lists. length (flat_map (λ list. list.items) lists.items) < 2 ^ 64) }
@@ -230,7 +223,7 @@ fn take_joins<R: Threads + Sync, G: Gate + Sync>(
 ) -> Result<Vec<Vec<Change>>, NoMemory>
     requires joins { AreJoinsIn tablets.old joins.now }
     requires positions { HavePositions joins.now }
-    requires workers { (1 ≤ workers) × (workers ≤ max_workers) }
+    requires workers { (1 ≤ workers) × (workers ≤ MAX_WORKERS) }
     requires some { 0 < length tablets.old }
     requires few { length (flat_map (λ list. list) (all_changes tablets.old joins.now)) ≤ length (flat_map joined_cells joins.now) }
     ensures ok { OnOk result (tablets.new ≡ all_stepped tablets.old joins.now) }
@@ -271,7 +264,7 @@ fn joined_count(join: &TabletOp) -> usize
 }
 
 // How many changes the lists have together.
-fn count_of(lists: &[Vec<Change>]) -> usize
+fn count_changes(lists: &[Vec<Change>]) -> usize
     requires { length (flat_map (λ list. list.items) lists.now) < 2 ^ 64 }
     ensures { result ≡ length (flat_map (λ list. list.items) lists.now) }
 {

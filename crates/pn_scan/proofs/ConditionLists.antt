@@ -10,13 +10,13 @@ use Rattle.serde_json.specs.View.{view, items_view}
 use Rattle.serde_json.specs.declared.value.Value.{Value}
 use Rattle.pn_json.specs.Answers.{◌>>=◌}
 use Rattle.pn_json.specs.Members.{each_in}
-use Rattle.pn_scan.specs.Queries.{ConditionValue, is_condition, max_conditions, shown_condition}
-use Rattle.pn_scan.specs.declared.condition.Condition.{Condition}
+use Rattle.pn_scan.specs.Queries.{ConditionValue, OwnCondition, is_condition, shown_condition}
+use Rattle.pn_scan.specs.declared.query.TheConstants.{MAX_CONDITIONS}
 use Rattle.std.specs.Option.{MatchOption}
 use Rattle.pn_scan.specs.ConditionReading.{condition_in, condition_at}
 use Rattle.pn_scan.specs.UncheckedQueries.{conditions_among, are_conditions, may_fit, all_fit, AreParsed}
-use Rattle.pn_scan.specs.declared.query_fault.QueryFault.{QueryFault}
-use Rattle.pn_scan.specs.declared.query_fault.QueryFault.TheVariants.{BadShape}
+use Rattle.pn_scan.specs.declared.query_reading.QueryFault.{QueryFault}
+use Rattle.pn_scan.specs.declared.query_reading.QueryFault.TheVariants.{BadShape}
 
 -- the condition that a value may be
 abbrev spelled : Value → Option ConditionValue
@@ -70,11 +70,11 @@ all_fitting (value ∷ values) = ap (λ b. may_fit (spelled value) && b) (all_fi
 
 -- values that are all conditions keep the limits where the conditions do
 pub fit_all : (values : List Value) (among : List ConditionValue) → among ≡ conditions_among values → IsTrue (are_conditions values)
-    → (nat_le (length values) max_conditions && all_fit values) ≡ (nat_le (length among) max_conditions && list_all is_condition among)
+    → (nat_le (length values) MAX_CONDITIONS && all_fit values) ≡ (nat_le (length among) MAX_CONDITIONS && list_all is_condition among)
 fit_all values among is all =
     let count : length values ≡ length among = sym (ap length is ∙ all_counted values all) in
     let fit : all_fit values ≡ list_all is_condition among = all_fitting values ∙ ap (list_all is_condition) (sym is) in
-    λ i. nat_le (count i) max_conditions && fit i
+    λ i. nat_le (count i) MAX_CONDITIONS && fit i
 
 -- ---- one value after another
 
@@ -116,7 +116,7 @@ module _ (values : List Value) (i : ℕ) (value : Value) (c : ConditionValue) (h
       ∙ ap (λ o. conditions_among (take i values) ++ (option_to_list o ++ [])) is
 
   -- those that were made so far, and then this one
-  pub one_more_shown : {V : Type 0} (items : V → List Condition) (made more : Option V) → IfSome made (λ some. map shown_condition (items some) ≡ conditions_among (take i values))
+  pub one_more_shown : {V : Type 0} (items : V → List OwnCondition) (made more : Option V) → IfSome made (λ some. map shown_condition (items some) ≡ conditions_among (take i values))
       → IfSome more (λ all. MatchOption made ⊥ (λ some. map shown_condition (items all) ≡ map shown_condition (items some) ++ c ∷ []))
       → IfSome more (λ all. map shown_condition (items all) ≡ conditions_among (take (i + 1) values))
   one_more_shown items made None so_far one = tt
@@ -124,14 +124,14 @@ module _ (values : List Value) (i : ℕ) (value : Value) (c : ConditionValue) (h
   one_more_shown items (Some some) (Some all) so_far one = one ∙ ap (λ cs. cs ++ c ∷ []) so_far ∙ sym one_more_among
 
 -- at the end
-pub same_parsed : {V : Type 0} (items : V → List Condition) (values : List Value) (i : ℕ) (fit : Bool) (made : Option V) → length values ≤ i → are_conditions (take i values) ≡ true
-    → fit ≡ (nat_le (length values) max_conditions && all_fit (take i values)) → IfSome made (λ some. map shown_condition (items some) ≡ conditions_among (take i values))
+pub same_parsed : {V : Type 0} (items : V → List OwnCondition) (values : List Value) (i : ℕ) (fit : Bool) (made : Option V) → length values ≤ i → are_conditions (take i values) ≡ true
+    → fit ≡ (nat_le (length values) MAX_CONDITIONS && all_fit (take i values)) → IfSome made (λ some. map shown_condition (items some) ≡ conditions_among (take i values))
     → AreParsed values fit (option_map items made)
 same_parsed {V = V} items values i fit made past all fits shown =
     let whole = take_all i values past in
     record {
       all = ap are_conditions (sym whole) ∙ all;
-      fits = fits ∙ ap (λ vs. nat_le (length values) max_conditions && all_fit vs) whole;
+      fits = fits ∙ ap (λ vs. nat_le (length values) MAX_CONDITIONS && all_fit vs) whole;
       shown = shown_all made shown whole;
     } where
       shown_all : (made : Option V) → IfSome made (λ some. map shown_condition (items some) ≡ conditions_among (take i values)) → take i values ≡ values

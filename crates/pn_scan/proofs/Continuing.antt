@@ -12,7 +12,7 @@ use Rattle.pn_record.specs.Order.{bytes_cmp}
 use Rattle.pn_record.specs.Sets.{CellValue}
 use Rattle.pn_record.proofs.Sorted.{is_less, both_true, first_true, second_true}
 use Rattle.pn_tablet.specs.Ranges.{is_below, is_from, is_before}
-use Rattle.pn_scan.specs.Queries.{QueryValue, continued}
+use Rattle.pn_scan.specs.Queries.{QueryValue, query_after}
 use Rattle.pn_scan.specs.Shown.{is_after, is_shown, has_shown, shown_rows}
 use Rattle.pn_scan.proofs.Numbers.{keeps_all, kept_pass}
 
@@ -109,7 +109,7 @@ mixed true true c false d implies = refl
 mixed true false c false d implies = refl
 mixed false b c false d implies = refl
 
-continued_shown : (query : QueryValue) (key : List ℕ) (row : Row) → is_after query.after key ≡ true → is_shown (continued query key) row ≡ (above key row && is_shown query row)
+continued_shown : (query : QueryValue) (key : List ℕ) (row : Row) → is_after query.after key ≡ true → is_shown (query_after query key) row ≡ (above key row && is_shown query row)
 continued_shown query key row asked =
     mixed (is_from query.from row.0) (is_before query.to row.0) (is_after query.after row.0) (is_below key row.0) (has_shown query.conditions row.1) (after_too query.after key row.0 asked)
 
@@ -129,13 +129,13 @@ both_kept p q (row ∷ rows) =
 
 -- the continuation after the first rows shows the others
 pub shown_after : (query : QueryValue) (cells : Entries) (n : ℕ) (row : Row) → Rising bytes_cmp cells → last_or None (take n (shown_rows query cells)) ≡ Some row
-    → shown_rows (continued query row.0) cells ≡ drop n (shown_rows query cells)
+    → shown_rows (query_after query row.0) cells ≡ drop n (shown_rows query cells)
 shown_after query cells n row rises is =
     let rows = shown_rows query cells in
     let shown = last_shown query (take n rows) row (all_front (is_shown query) n rows (kept_pass (is_shown query) cells)) is in
     let asked : is_after query.after row.0 ≡ true = third_true (is_from query.from row.0) (is_before query.to row.0) (is_after query.after row.0) (has_shown query.conditions row.1) shown in
     let parts : take n rows ++ drop n rows ≡ rows = take-append-drop n rows in
-    filter_agree (is_shown (continued query row.0)) (λ other. above row.0 other && is_shown query other) (λ other. continued_shown query row.0 other asked) cells
+    filter_agree (is_shown (query_after query row.0)) (λ other. above row.0 other && is_shown query other) (λ other. continued_shown query row.0 other asked) cells
     ∙ both_kept (above row.0) (is_shown query) cells
     ∙ ap (filter (above row.0)) (sym parts)
     ∙ after_last (take n rows) (drop n rows) row (subst (Rising bytes_cmp) (sym parts) (rising_kept (is_shown query) cells rises)) is

@@ -4,7 +4,7 @@ use Rattle.std.specs.List.{list_all}
 use Rattle.std.proofs.lemmas.List.{at_drop_more, at_drop_all}
 
 module _ {X Y : Type 0} (p : Y → Bool) (g : X → Y) (xs : List X) where
-  -- those from a place on all pass
+  -- those from an index on all pass
   abbrev pub rest : ℕ → Bool
   rest n = list_all p (map g (drop n xs))
 

@@ -5,7 +5,7 @@ use Rattle.std.specs.Ordering.{eq_by_cmp}
 use Rattle.std.proofs.lemmas.List.{at_drop_more, at_drop_all}
 
 module _ {X K V : Type 0} (cmp : K → K → Ordering) (key : K) (g : X → K × V) (xs : List X) where
-  -- what is found from a place on
+  -- what is found from an index on
   abbrev pub rest : ℕ → Option V
   rest n = find cmp key (map g (drop n xs))
 

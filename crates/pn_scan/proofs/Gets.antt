@@ -10,28 +10,28 @@ use Rattle.pn_tablet.specs.Refusals.{IsRight, Refuses}
 use Rattle.pn_scan.specs.Candidates.{Look, cells_in}
 use Rattle.pn_scan.specs.Pages.{refusal, first_refusal, unless}
 use Rattle.pn_scan.specs.Views.{IsFoundIn, Looks, is_memory, cell_at}
-use Rattle.pn_scan.specs.Reads.{IsGet, cells_got}
+use Rattle.pn_scan.specs.Reads.{IsGet, cells_of_keys}
 use Rattle.pn_scan.specs.declared.fault.ScanFault.{ScanFault}
 use Rattle.pn_scan.proofs.Scans.{looks_more, found_more, refused_last, none_refused_front, is_right_too, ok_value}
 
-none_got : (keys : List (List ℕ)) → [] ≡ cells_got keys []
+none_got : (keys : List (List ℕ)) → [] ≡ cells_of_keys keys []
 none_got [] = refl
 none_got (key ∷ keys) = refl
 
 -- the cell of one key more
-got_more : (keys : List (List ℕ)) (seen : List Look) (key : List ℕ) (look : Look) → length seen < length keys → key ≡ get_or keys (length seen) key → cells_got keys (seen ++ look ∷ []) ≡ cells_got keys seen ++ find bytes_cmp key (cells_in look.1) ∷ []
+got_more : (keys : List (List ℕ)) (seen : List Look) (key : List ℕ) (look : Look) → length seen < length keys → key ≡ get_or keys (length seen) key → cells_of_keys keys (seen ++ look ∷ []) ≡ cells_of_keys keys seen ++ find bytes_cmp key (cells_in look.1) ∷ []
 got_more [] seen key look inside here = absurd (omega arith)
 got_more (k ∷ ks) [] key look inside here = λ i. find bytes_cmp (sym here i) (cells_in look.1) ∷ sym (none_got ks) i
 got_more (k ∷ ks) (first ∷ seen) key look inside here = ap (λ (cells : List (Option CellValue)). find bytes_cmp k (cells_in first.1) ∷ cells) (got_more ks seen key look (omega arith) here)
 
 -- a get so far: one key after another was found
-pub record IsGetting {V : Type 0} (looks : V → Look → V → Type 0) (bounds : Bounds) (keys : List (List ℕ)) (place : ℕ) (old now : V) (cells : List (Option CellValue)) (seen : List Look) : Type 0 where
+pub record IsGetting {V : Type 0} (looks : V → Look → V → Type 0) (bounds : Bounds) (keys : List (List ℕ)) (index : ℕ) (old now : V) (cells : List (Option CellValue)) (seen : List Look) : Type 0 where
   pub looked : Looks looks old seen now
   pub found : AllByRecursion (IsFoundIn bounds) seen
-  pub count : length seen ≡ place
+  pub count : length seen ≡ index
   pub order : map (λ look. look.0) seen ≡ map (tablet_of bounds) (take (length seen) keys)
   pub none_refused : first_refusal seen ≡ None
-  pub got : cells ≡ cells_got keys seen
+  pub got : cells ≡ cells_of_keys keys seen
 
 pub getting_none : {V : Type 0} (looks : V → Look → V → Type 0) (bounds : Bounds) (keys : List (List ℕ)) (now : V) → IsGetting looks bounds keys 0 now now [] []
 getting_none looks bounds keys now = record { looked = refl; found = tt; count = refl; order = refl; none_refused = refl; got = none_got keys }
@@ -43,13 +43,13 @@ get_fails_at_once looks bounds keys now show why memory = record {
   found = tt;
   order = refl;
   only = λ n inside. absurd (omega (arith, inside));
-  answers = subst (λ b. IsRight b why (Ok (cells_got keys []))) (sym memory) refl;
+  answers = subst (λ b. IsRight b why (Ok (cells_of_keys keys []))) (sym memory) refl;
   whole = tt;
 }
 
-module _ {V : Type 0} {looks : V → Look → V → Type 0} {bounds : Bounds} {keys : List (List ℕ)} {place : ℕ} {old now : V} {cells : List (Option CellValue)} {seen : List Look} (getting : IsGetting looks bounds keys place old now cells seen) where
+module _ {V : Type 0} {looks : V → Look → V → Type 0} {bounds : Bounds} {keys : List (List ℕ)} {index : ℕ} {old now : V} {cells : List (Option CellValue)} {seen : List Look} (getting : IsGetting looks bounds keys index old now cells seen) where
   -- one look more
-  module _ {key : List ℕ} (inside : place < length keys) (at : key ≡ get_or keys place key) {look : Look} {new : V} {same : Bounds} (is : same ≡ bounds) (here : look.0 ≡ tablet_of same key) (looked : looks now look new) (there : IsFoundIn same look) where
+  module _ {key : List ℕ} (inside : index < length keys) (at : key ≡ get_or keys index key) {look : Look} {new : V} {same : Bounds} (is : same ≡ bounds) (here : look.0 ≡ tablet_of same key) (looked : looks now look new) (there : IsFoundIn same look) where
     found : IsFoundIn bounds look
     found = subst (λ (b : Bounds). IsFoundIn b look) is there
 
@@ -80,12 +80,12 @@ module _ {V : Type 0} {looks : V → Look → V → Type 0} {bounds : Bounds} {k
       found = found_more bounds seen look getting.found found;
       order = order;
       only = only;
-      answers = subst (λ (o : Option ScanFault). Refuses is_memory why (unless o (cells_got keys (seen ++ look ∷ [])))) (sym refused)
-          (is_right_too (is_memory why) why (refusal look) _ (cells_got keys (seen ++ look ∷ [])) refuses);
+      answers = subst (λ (o : Option ScanFault). Refuses is_memory why (unless o (cells_of_keys keys (seen ++ look ∷ [])))) (sym refused)
+          (is_right_too (is_memory why) why (refusal look) _ (cells_of_keys keys (seen ++ look ∷ [])) refuses);
       whole = tt;
     })
 
-    pub getting_more : (cell : Option CellValue) {more : List (Option CellValue)} → more ≡ cells ++ cell ∷ [] → cell_at key look ≡ Ok cell → IsGetting looks bounds keys (place + 1) old new more (seen ++ look ∷ [])
+    pub getting_more : (cell : Option CellValue) {more : List (Option CellValue)} → more ≡ cells ++ cell ∷ [] → cell_at key look ≡ Ok cell → IsGetting looks bounds keys (index + 1) old new more (seen ++ look ∷ [])
     getting_more cell pushed right =
         let parts = ok_value (refusal look) _ cell right in
         record {
@@ -98,12 +98,12 @@ module _ {V : Type 0} {looks : V → Look → V → Type 0} {bounds : Bounds} {k
         }
 
   -- where every key was found, all are
-  pub get_ends : {A : Type 0} (show : A → List (Option CellValue)) (answer : A) → show answer ≡ cells → length keys ≡ place → IsGet looks bounds keys old now show (Ok answer) seen
+  pub get_ends : {A : Type 0} (show : A → List (Option CellValue)) (answer : A) → show answer ≡ cells → length keys ≡ index → IsGet looks bounds keys old now show (Ok answer) seen
   get_ends show answer shows all = record {
     looked = getting.looked;
     found = getting.found;
     order = getting.order;
     only = λ n inside. none_refused_front n seen getting.none_refused;
-    answers = ap (λ (o : Option ScanFault). unless o (cells_got keys seen)) getting.none_refused ∙ ap (λ (l : List (Option CellValue)). Ok l) (sym getting.got ∙ sym shows);
+    answers = ap (λ (o : Option ScanFault). unless o (cells_of_keys keys seen)) getting.none_refused ∙ ap (λ (l : List (Option CellValue)). Ok l) (sym getting.got ∙ sym shows);
     whole = getting.count ∙ sym all;
   }

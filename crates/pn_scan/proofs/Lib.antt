@@ -15,7 +15,6 @@ pub mod RisingPages
 pub mod SameConditions
 pub mod SameQuery
 pub mod Scans
-pub mod Searches
 pub mod Settled
 pub mod Visiting
 pub mod WalkLaws

@@ -8,7 +8,7 @@ use Rattle.std.proofs.lemmas.List.Elements.{filter-append}
 use Rattle.pn_record.proofs.Sorted.{both_true, first_true, second_true}
 use Rattle.pn_tablet.specs.Layouts.{Bounds}
 use Rattle.pn_scan.specs.Queries.{QueryValue}
-use Rattle.pn_scan.specs.Candidates.{Look, is_candidate, candidates, rows_in, below, is_visited, candidates_of, visited}
+use Rattle.pn_scan.specs.Candidates.{Look, is_candidate, candidates, rows_in, looks_below, is_visited, candidates_of, visited}
 
 -- the numbers of the tablets count up from one
 abbrev pub Numbered : ℕ → List Look → Type 0
@@ -41,15 +41,15 @@ lt_false m n more = grind (arith, nat_tests)
 le_true : (m n : ℕ) → m ≤ n → nat_le m n ≡ true
 le_true m n le = grind (arith, nat_tests)
 
-none_below : (t n : ℕ) (looks : List Look) → t ≤ n → Numbered n looks → below t looks ≡ []
+none_below : (t n : ℕ) (looks : List Look) → t ≤ n → Numbered n looks → looks_below t looks ≡ []
 none_below t n [] le numbered = refl
 none_below t n (l ∷ ls) le numbered =
-    ap (λ b. cond b (l ∷ below t ls) (below t ls)) (lt_false l.0 t (omega (arith, numbered.0))) ∙ none_below t (n + 1) ls (omega arith) numbered.1
+    ap (λ b. cond b (l ∷ looks_below t ls) (looks_below t ls)) (lt_false l.0 t (omega (arith, numbered.0))) ∙ none_below t (n + 1) ls (omega arith) numbered.1
 
-all_below : (t n : ℕ) (looks : List Look) → n + length looks ≤ t → Numbered n looks → below t looks ≡ looks
+all_below : (t n : ℕ) (looks : List Look) → n + length looks ≤ t → Numbered n looks → looks_below t looks ≡ looks
 all_below t n [] le numbered = refl
 all_below t n (l ∷ ls) le numbered =
-    ap (λ b. cond b (l ∷ below t ls) (below t ls)) (lt_true l.0 t (omega (arith, numbered.0)))
+    ap (λ b. cond b (l ∷ looks_below t ls) (looks_below t ls)) (lt_true l.0 t (omega (arith, numbered.0)))
     ∙ ap (λ more. l ∷ more) (all_below t (n + 1) ls (omega arith) numbered.1)
 
 pub numbered_split : (n : ℕ) (front back : List Look) → Numbered n (front ++ back) → Numbered n front × Numbered (n + length front) back
@@ -60,7 +60,7 @@ numbered_split n (l ∷ ls) back numbered =
     ((numbered.0, rest.0), subst (λ m. Numbered m back) e rest.1)
 
 -- the tablets below one are those before it
-pub below_here : (n : ℕ) (front : List Look) (look : Look) (back : List Look) → Numbered n (front ++ look ∷ back) → below look.0 (front ++ look ∷ back) ≡ front
+pub below_here : (n : ℕ) (front : List Look) (look : Look) (back : List Look) → Numbered n (front ++ look ∷ back) → looks_below look.0 (front ++ look ∷ back) ≡ front
 below_here n front look back numbered =
     let parts = numbered_split n front (look ∷ back) numbered in
     filter-append (λ (other : Look). nat_lt other.0 look.0) front (look ∷ back)
@@ -77,8 +77,8 @@ each_visited : (query : QueryValue) (n : ℕ) (front back : List Look) → Numbe
 each_visited query n front [] numbered few = refl
 each_visited query n front (look ∷ back) numbered few =
     let short : length front < length (front ++ look ∷ back) = omega (arith, length-append front (look ∷ back)) in
-    let before : take (length front) (front ++ look ∷ back) ≡ below look.0 (front ++ look ∷ back) = take-append_seam front (look ∷ back) ∙ sym (below_here n front look back numbered) in
-    let here : Few query (below look.0 (front ++ look ∷ back)) = subst (Few query) before (few (length front) short) in
+    let before : take (length front) (front ++ look ∷ back) ≡ looks_below look.0 (front ++ look ∷ back) = take-append_seam front (look ∷ back) ∙ sym (below_here n front look back numbered) in
+    let here : Few query (looks_below look.0 (front ++ look ∷ back)) = subst (Few query) before (few (length front) short) in
     let same : (front ++ look ∷ []) ++ back ≡ front ++ look ∷ back = append_assoc front (look ∷ []) back in
     let rest = each_visited query n (front ++ look ∷ []) back (subst (Numbered n) (sym same) numbered) (subst (AllFew query) (sym same) few) in
     both_true _ _ (le_true _ query.limit here) (subst (λ (all : List Look). list_all (is_visited query all) back ≡ true) same rest)

@@ -6,7 +6,7 @@ last_at : {A : Type 0} (o : Option A) (x : A) (xs : List A) → last_or o (x ∷
 last_at o x [] = refl
 last_at o x (y ∷ ys) = last_at (Some x) y ys
 
--- the last item is that at the last place
-pub last_place : {A : Type 0} (xs : List A) → last_or None xs ≡ slice_get xs (length xs - 1)
-last_place [] = refl
-last_place (x ∷ xs) = let e : length xs ≡ suc (length xs) - 1 = omega arith in last_at None x xs ∙ ap (slice_get (x ∷ xs)) e
+-- the last item is that at the last index
+pub last_index : {A : Type 0} (xs : List A) → last_or None xs ≡ slice_get xs (length xs - 1)
+last_index [] = refl
+last_index (x ∷ xs) = let e : length xs ≡ suc (length xs) - 1 = omega arith in last_at None x xs ∙ ap (slice_get (x ∷ xs)) e

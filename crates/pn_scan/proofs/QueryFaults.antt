@@ -8,8 +8,8 @@ use Rattle.pn_json.specs.Members.{whole_number, each_in, only_named, no_others}
 use Rattle.pn_scan.specs.Queries.{QueryValue, is_query}
 use Rattle.pn_scan.specs.ConditionReading.{condition_in, condition_at, conditions_in}
 use Rattle.pn_scan.specs.QueryReading.{query_members, key_of, key_in, limit_in, shape_in, query_in}
-use Rattle.pn_scan.specs.declared.query_fault.QueryFault.{QueryFault}
-use Rattle.pn_scan.specs.declared.query_fault.QueryFault.TheVariants.{BadShape, OutOfRange}
+use Rattle.pn_scan.specs.declared.query_reading.QueryFault.{QueryFault}
+use Rattle.pn_scan.specs.declared.query_reading.QueryFault.TheVariants.{BadShape, OutOfRange}
 
 -- a fault, if there is one, is of the shape
 abbrev OfShape : {A : Type 0} → Result A QueryFault → Type 0

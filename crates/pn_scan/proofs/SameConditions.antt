@@ -19,7 +19,7 @@ use Rattle.pn_scan.specs.Queries.{ConditionValue, has, eq, lt, gt, prefix, is_co
 use Rattle.pn_scan.specs.QueryJson.{parts_data, condition_data, conditions_data}
 use Rattle.pn_scan.specs.ConditionWords.{lone_condition, prefix_condition, comparing_condition}
 use Rattle.pn_scan.specs.ConditionReading.{lone_in, comparing_in, condition_in, condition_at, conditions_at}
-use Rattle.pn_scan.specs.declared.query_fault.QueryFault.TheVariants.{BadShape}
+use Rattle.pn_scan.specs.declared.query_reading.QueryFault.TheVariants.{BadShape}
 
 -- ---- numbers
 

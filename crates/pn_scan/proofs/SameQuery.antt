@@ -7,11 +7,14 @@ use Rattle.serde_json.specs.Data.{Data, null, boolean, number, string, array, ob
 use Rattle.serde_json.specs.Find.{get, get_member, as_object}
 use Rattle.pn_json.specs.Members.{whole_number, only_named, no_others}
 use Rattle.pn_json.proofs.Inverses.{bind_ok, guard_ok, ok_or_ok, object_from_as_object, number_from_whole}
-use Rattle.pn_scan.specs.Queries.{ConditionValue, QueryValue, is_end, is_limit, is_condition, max_conditions, query_fits, is_query, operand_fits}
-use Rattle.pn_scan.specs.QueryJson.{conditions_data, key_data, query_data}
+use Rattle.pn_scan.specs.Queries.{ConditionValue, QueryValue, is_limit, is_condition, query_fits, is_query, operand_fits}
+use Rattle.pn_scan.specs.declared.query.TheConstants.{MAX_CONDITIONS}
+use Rattle.pn_tablet.specs.Ranges.{is_end, key_data}
+use Rattle.pn_scan.specs.QueryJson.{conditions_data, query_data}
 use Rattle.pn_scan.specs.ConditionReading.{conditions_in}
-use Rattle.pn_scan.specs.QueryReading.{query_members, usual_page, key_of, key_in, limit_in, shape_in, query_in, IsGiven}
-use Rattle.pn_scan.specs.declared.query_fault.QueryFault.TheVariants.{BadShape, OutOfRange}
+use Rattle.pn_scan.specs.QueryReading.{query_members, key_of, key_in, limit_in, shape_in, query_in, IsGiven}
+use Rattle.pn_scan.specs.declared.unchecked_query.TheConstants.{USUAL_PAGE}
+use Rattle.pn_scan.specs.declared.query_reading.QueryFault.TheVariants.{BadShape, OutOfRange}
 use Rattle.pn_scan.proofs.SameConditions.{conditions_fit, each_again, conditions_found}
 
 -- ---- members
@@ -44,11 +47,11 @@ key_again o None (inl is) = rw is refl
 key_again o (Some key) (inl is) = rw is refl
 key_again o key (inr is) = rw (is.0, is.1) refl
 
-limit_found : (o : Option Data) (limit : ℕ) → limit_in o ≡ Ok limit → IsGiven o (number (unsigned limit)) (limit ≡ usual_page)
+limit_found : (o : Option Data) (limit : ℕ) → limit_in o ≡ Ok limit → IsGiven o (number (unsigned limit)) (limit ≡ USUAL_PAGE)
 limit_found None limit is = inr (refl, cc)
 limit_found (Some d) limit is = inl (ap Some (number_from_whole d limit (ok_or_ok (whole_number d) BadShape limit is)))
 
-limit_again : (o : Option Data) (limit : ℕ) → IsGiven o (number (unsigned limit)) (limit ≡ usual_page) → limit_in o ≡ Ok limit
+limit_again : (o : Option Data) (limit : ℕ) → IsGiven o (number (unsigned limit)) (limit ≡ USUAL_PAGE) → limit_in o ≡ Ok limit
 limit_again o limit (inl is) = rw is refl
 limit_again o limit (inr is) = rw (is.0, is.1) refl
 
@@ -59,7 +62,7 @@ abbrev IsObjectOf : Data → QueryValue → Type 0
 IsObjectOf d query = (ms : Members) × (d ≡ object ms) × IsTrue (only_named query_members ms)
     × IsGiven (get_member (codes "after") ms) (key_data query.after) (query.after ≡ None)
     × IsGiven (get_member (codes "from") ms) (key_data query.from) (query.from ≡ None)
-    × IsGiven (get_member (codes "limit") ms) (number (unsigned query.limit)) (query.limit ≡ usual_page)
+    × IsGiven (get_member (codes "limit") ms) (number (unsigned query.limit)) (query.limit ≡ USUAL_PAGE)
     × IsGiven (get_member (codes "to") ms) (key_data query.to) (query.to ≡ None)
     × IsGiven (get_member (codes "where") ms) (conditions_data query.conditions) (query.conditions ≡ [])
     × IsTrue (list_all operand_fits query.conditions)
@@ -115,7 +118,7 @@ query_again d query is = rw (is.0, is.1) refl
 numbers_fit : (query : QueryValue) → is_query query ≡ true → list_all operand_fits query.conditions ≡ true
 numbers_fit query limits =
     let fits = and_parts (is_end query.after && is_end query.from && is_end query.to) (query_fits query.conditions query.limit) limits in
-    conditions_fit query.conditions (and_parts (is_limit query.limit && nat_le (length query.conditions) max_conditions) (list_all is_condition query.conditions) fits.1).1
+    conditions_fit query.conditions (and_parts (is_limit query.limit && nat_le (length query.conditions) MAX_CONDITIONS) (list_all is_condition query.conditions) fits.1).1
 
 -- the JSON of a query is read as the query
 pub written_again : (query : QueryValue) → is_query query ≡ true → query_in (query_data query) ≡ Ok query

@@ -11,7 +11,7 @@ use Rattle.pn_record.specs.CellMap.{Entries}
 use Rattle.pn_json.specs.Answers.{ShowsUnless}
 use Rattle.pn_tablet.specs.Layouts.{Bounds, IsLayout}
 use Rattle.pn_tablet.specs.Tablets.{TabletStateValue}
-use Rattle.pn_scan.specs.Queries.{QueryValue, continued}
+use Rattle.pn_scan.specs.Queries.{QueryValue, query_after}
 use Rattle.pn_scan.specs.Candidates.{Look, is_candidate, candidates, rows_in, is_visited, candidates_of, visited}
 use Rattle.pn_scan.specs.Pages.{PageValue, refusal, first_refusal, first_page, page_of, unless}
 use Rattle.pn_scan.specs.Views.{IsFoundIn, Looks, LooksAt}
@@ -34,7 +34,7 @@ full_front query rows more full =
     let front : take query.limit (rows ++ more) ≡ take query.limit rows = take-append-le query.limit rows more (omega arith) in
     let size = length-append rows more in
     let is : nat_lt query.limit (length (rows ++ more)) ≡ nat_lt query.limit (length rows) = lt_true query.limit (length (rows ++ more)) (omega arith) ∙ sym (lt_true query.limit (length rows) full) in
-    λ i. (front i, cond (is i) (option_map (λ row. continued query row.0) (last_or None (front i))) None)
+    λ i. (front i, cond (is i) (option_map (λ row. query_after query row.0) (last_or None (front i))) None)
 
 by_first : (o p q : Option ScanFault) (why : ScanFault) → option_or o p ≡ Some why → (p ≡ Some why → q ≡ Some why) → option_or o q ≡ Some why
 by_first None p q why is follows = follows is

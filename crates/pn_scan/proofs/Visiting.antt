@@ -9,7 +9,7 @@ use Rattle.pn_record.proofs.Sorted.{both_true}
 use Rattle.pn_tablet.specs.Layouts.{Bounds, IsLayout, tablet_of, tablet_ends}
 use Rattle.pn_tablet.proofs.LayoutFacts.{tablet_of_within}
 use Rattle.pn_scan.specs.Queries.{QueryValue}
-use Rattle.pn_scan.specs.Candidates.{Look, first_tablet, begins_before, candidates, rows_in, below, is_visited}
+use Rattle.pn_scan.specs.Candidates.{Look, first_tablet, begins_before, candidates, rows_in, looks_below, is_visited}
 use Rattle.pn_scan.proofs.CandidateRange.{candidates_between, ends_there}
 use Rattle.pn_scan.proofs.Numbers.{Numbered, AllFew, below_here}
 use Rattle.pn_scan.proofs.Scans.{rows-append}
@@ -68,12 +68,12 @@ pub visited_in : (query : QueryValue) (n : ℕ) (front back more : List Look) �
 visited_in query n front [] more numbered few = refl
 visited_in query n front (look ∷ back) more numbered few =
     let short : length front < length (front ++ look ∷ back) = omega (arith, length-append front (look ∷ back)) in
-    let before : take (length front) (front ++ look ∷ back) ≡ below look.0 (front ++ look ∷ (back ++ more)) = take-append_seam front (look ∷ back) ∙ sym (below_here n front look (back ++ more) numbered) in
+    let before : take (length front) (front ++ look ∷ back) ≡ looks_below look.0 (front ++ look ∷ (back ++ more)) = take-append_seam front (look ∷ back) ∙ sym (below_here n front look (back ++ more) numbered) in
     let here = subst (λ (l : List Look). length (rows_in query l) ≤ query.limit) before (few (length front) short) in
     let same : (front ++ look ∷ []) ++ (back ++ more) ≡ front ++ look ∷ (back ++ more) = append_assoc front (look ∷ []) (back ++ more) in
     let same_few : (front ++ look ∷ []) ++ back ≡ front ++ look ∷ back = append_assoc front (look ∷ []) back in
     let rest = visited_in query n (front ++ look ∷ []) back more (subst (Numbered n) (sym same) numbered) (subst (AllFew query) (sym same_few) few) in
-    both_true _ _ (le_true (length (rows_in query (below look.0 (front ++ look ∷ (back ++ more))))) query.limit here) (subst (λ (all : List Look). list_all (is_visited query all) back ≡ true) same rest)
+    both_true _ _ (le_true (length (rows_in query (looks_below look.0 (front ++ look ∷ (back ++ more))))) query.limit here) (subst (λ (all : List Look). list_all (is_visited query all) back ≡ true) same rest)
 
 -- and after a full page none is
 pub not_visited : (query : QueryValue) (n : ℕ) (seen front back : List Look) → Numbered n (seen ++ (front ++ back)) → query.limit < length (rows_in query seen) → filter (is_visited query (seen ++ (front ++ back))) back ≡ []
@@ -81,9 +81,9 @@ not_visited query n seen front [] numbered full = refl
 not_visited query n seen front (look ∷ back) numbered full =
     let all = seen ++ (front ++ look ∷ back) in
     let parted : (seen ++ front) ++ look ∷ back ≡ all = append_assoc seen front (look ∷ back) in
-    let before : below look.0 all ≡ seen ++ front = ap (below look.0) (sym parted) ∙ below_here n (seen ++ front) look back (subst (Numbered n) (sym parted) numbered) in
+    let before : looks_below look.0 all ≡ seen ++ front = ap (looks_below look.0) (sym parted) ∙ below_here n (seen ++ front) look back (subst (Numbered n) (sym parted) numbered) in
     let size = ap (λ (l : List Look). length (rows_in query l)) before ∙ ap (λ (es : Entries). length es) (rows-append query seen front) ∙ length-append (rows_in query seen) (rows_in query front) in
-    let hides : is_visited query all look ≡ false = le_false (length (rows_in query (below look.0 all))) query.limit (omega (arith, size, full)) in
+    let hides : is_visited query all look ≡ false = le_false (length (rows_in query (looks_below look.0 all))) query.limit (omega (arith, size, full)) in
     let same : (front ++ look ∷ []) ++ back ≡ front ++ look ∷ back = append_assoc front (look ∷ []) back in
     ap (λ b. cond b (look ∷ filter (is_visited query all) back) (filter (is_visited query all) back)) hides
     ∙ subst (λ (l : List Look). filter (is_visited query (seen ++ l)) back ≡ []) same (not_visited query n seen (front ++ look ∷ []) back (subst (λ (l : List Look). Numbered n (seen ++ l)) (sym same) numbered) full)

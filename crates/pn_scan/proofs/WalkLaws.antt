@@ -10,7 +10,7 @@ use Rattle.pn_join.proofs.Rising.{Rising}
 use Rattle.pn_record.specs.CellMap.{Entries}
 use Rattle.pn_record.specs.Order.{bytes_cmp}
 use Rattle.pn_tablet.specs.Layouts.{Bounds}
-use Rattle.pn_scan.specs.Queries.{QueryValue, continued}
+use Rattle.pn_scan.specs.Queries.{QueryValue, query_after}
 use Rattle.pn_scan.specs.Shown.{shown_rows}
 use Rattle.pn_scan.specs.Candidates.{Look, cells_in, rows_in, is_candidate, is_visited, candidates_of, visited}
 use Rattle.pn_scan.specs.Pages.{PageValue, refusal, first_refusal, next_of, first_page, page_of, unless}
@@ -22,7 +22,7 @@ use Rattle.pn_scan.proofs.Scans.{or_none, ok_value}
 -- how a page ends: with all rows, or with a continuation after the last of its own
 pub data Ending (query : QueryValue) (rows : Entries) (page : PageValue) : Type 0 where
   whole : page.1 ≡ None → page.0 ≡ rows → length rows ≤ query.limit → Ending query rows page
-  goes_on : (row : Row) → last_or None (take query.limit rows) ≡ Some row → page.1 ≡ Some (continued query row.0) → page.0 ≡ take query.limit rows → query.limit < length rows → Ending query rows page
+  goes_on : (row : Row) → last_or None (take query.limit rows) ≡ Some row → page.1 ≡ Some (query_after query row.0) → page.0 ≡ take query.limit rows → query.limit < length rows → Ending query rows page
 
 has_last : {A : Type 0} (o : Option A) (x : A) (xs : List A) → (y : A) × (last_or o (x ∷ xs) ≡ Some y)
 has_last o x [] = (x, refl)
@@ -45,7 +45,7 @@ ending_of query rows page some is =
       | inl within ↦
           let last = has_last_of query.limit rows some within in
           goes_on last.0 last.1
-          (ap (λ (p : PageValue). p.1) is ∙ ap (λ b. cond b (next_of query rows) None) (lt_true query.limit (length rows) within) ∙ ap (option_map (λ (row : Row). continued query row.0)) last.1)
+          (ap (λ (p : PageValue). p.1) is ∙ ap (λ b. cond b (next_of query rows) None) (lt_true query.limit (length rows) within) ∙ ap (option_map (λ (row : Row). query_after query row.0)) last.1)
           (ap (λ (p : PageValue). p.0) is) within
       | inr few ↦
           whole (ap (λ (p : PageValue). p.1) is ∙ ap (λ b. cond b (next_of query rows) None) (lt_false query.limit (length rows) few))
@@ -154,7 +154,7 @@ module _ (bounds : Bounds) (looks : List Look) (rises : Rising bytes_cmp (flat_m
         | goes_on row at next front within ↦
             let rest = shown_after query (flat_map (λ (look : Look). cells_in look.1) looks) query.limit row rises at in
             let size = ap (λ (es : Entries). length es) rest ∙ length-drop query.limit (rows_in query looks) in
-            page_before query (continued query row.0) next (by_count n (continued query row.0) some (omega (arith, size)))
+            page_before query (query_after query row.0) next (by_count n (query_after query row.0) some (omega (arith, size)))
       ]
 
   pub walk_ends : (query : QueryValue) → 0 < query.limit → Walk query

@@ -116,7 +116,7 @@ greater_of m n P at_m at_n =
       | inr more ↦ let e : m ≡ max m n = omega arith in subst P e at_m
     ]
 
--- before the greater of the two places none is shown
+-- before the greater of the two indices none is shown
 pub begin_there : (q : QueryValue) (es : Entries) (a b : ℕ) → Rising bytes_cmp es → a ≡ lesser_at q.from es → b ≡ lesser_at q.after es → shown_rows q (drop (max a b) es) ≡ shown_rows q es
 begin_there q es a b rising is_a is_b =
     greater_of a b (λ n. shown_rows q (drop n es) ≡ shown_rows q es)
@@ -131,24 +131,24 @@ open_below : (es : Entries) → NoneBelow None es
 open_below [] = tt
 open_below (e ∷ es) = (refl, open_below es)
 
-from_place : (key : List ℕ) (es : Entries) (n : ℕ) → Rising bytes_cmp es → lesser key es ≤ n → NoneBelow (Some key) (drop n es)
-from_place key [] zero rising past = tt
-from_place key [] (suc n) rising past = tt
-from_place key (e ∷ es) zero rising past =
+from_index : (key : List ℕ) (es : Entries) (n : ℕ) → Rising bytes_cmp es → lesser key es ≤ n → NoneBelow (Some key) (drop n es)
+from_index key [] zero rising past = tt
+from_index key [] (suc n) rising past = tt
+from_index key (e ∷ es) zero rising past =
     elim (is_below e.0 key) as (λ b. is_below e.0 key ≡ b → NoneBelow (Some key) (e ∷ es)) [
       | true ↦ λ p. absurd (omega (arith, past, lesser-cons key e es true p))
-      | false ↦ λ p. (ap not p, from_place key es zero rising.1 (omega (arith, past, lesser-cons key e es false p)))
+      | false ↦ λ p. (ap not p, from_index key es zero rising.1 (omega (arith, past, lesser-cons key e es false p)))
     ] refl
-from_place key (e ∷ es) (suc n) rising past =
+from_index key (e ∷ es) (suc n) rising past =
     elim (is_below e.0 key) as (λ b. is_below e.0 key ≡ b → NoneBelow (Some key) (drop n es)) [
-      | true ↦ λ p. from_place key es n rising.1 (omega (arith, past, lesser-cons key e es true p))
-      | false ↦ λ p. from_place key es n rising.1 (omega (arith, none_lesser key e.0 es p rising.0))
+      | true ↦ λ p. from_index key es n rising.1 (omega (arith, past, lesser-cons key e es true p))
+      | false ↦ λ p. from_index key es n rising.1 (omega (arith, none_lesser key e.0 es p rising.0))
     ] refl
 
--- at the place of an end, or after it, no key is below the end
+-- at the index of an end, or after it, no key is below the end
 pub from_there : (end : Option (List ℕ)) (es : Entries) (n : ℕ) → Rising bytes_cmp es → lesser_at end es ≤ n → NoneBelow end (drop n es)
 from_there None es n rising past = open_below (drop n es)
-from_there (Some key) es n rising past = from_place key es n rising past
+from_there (Some key) es n rising past = from_index key es n rising past
 
 -- the rows that were found are the first, and whether there are more
 module _ {A : Type 0} where

@@ -41,15 +41,17 @@ abbrev pub rows_in : QueryValue → List Look → Entries
 rows_in query looks = shown_rows query (flat_map (λ look. cells_in look.1) looks)
 
 -- the tablets below a number
-abbrev pub below : ℕ → List Look → List Look
-below tablet looks = filter (λ look. nat_lt look.0 tablet) looks
+abbrev pub looks_below : ℕ → List Look → List Look
+looks_below tablet looks = filter (λ look. nat_lt look.0 tablet) looks
 
 -- a candidate is visited where the candidates below it show at most a page of rows
 abbrev pub is_visited : QueryValue → List Look → Look → Bool
-is_visited query looks look = nat_le (length (rows_in query (below look.0 looks))) query.limit
+is_visited query looks look = nat_le (length (rows_in query (looks_below look.0 looks))) query.limit
 
+-- the looks into candidates
 abbrev pub candidates_of : Bounds → QueryValue → List Look → List Look
 candidates_of bounds query looks = filter (λ look. is_candidate bounds query look.0) looks
 
+-- the looks into candidates that are visited
 abbrev pub visited : Bounds → QueryValue → List Look → List Look
 visited bounds query looks = filter (is_visited query (candidates_of bounds query looks)) (candidates_of bounds query looks)

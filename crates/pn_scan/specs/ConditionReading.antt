@@ -7,8 +7,8 @@ use Rattle.pn_json.specs.Answers.{◌>>=◌}
 use Rattle.pn_json.specs.Members.{each_in}
 use Rattle.pn_record.specs.BodyGrammar.{value_in}
 use Rattle.pn_scan.specs.Queries.{ConditionValue}
-use Rattle.pn_scan.specs.declared.query_fault.QueryFault.{QueryFault}
-use Rattle.pn_scan.specs.declared.query_fault.QueryFault.TheVariants.{BadShape}
+use Rattle.pn_scan.specs.declared.query_reading.QueryFault.{QueryFault}
+use Rattle.pn_scan.specs.declared.query_reading.QueryFault.TheVariants.{BadShape}
 use Rattle.pn_scan.specs.ConditionWords.{lone_condition, comparing_condition}
 
 -- the condition of two parts, a word and a field's name

@@ -6,16 +6,17 @@ use Rattle.pn_record.specs.CellMap.{Entries}
 use Rattle.pn_tablet.specs.Layouts.{Bounds}
 use Rattle.pn_tablet.specs.declared.state.Status.{Status}
 use Rattle.pn_tablet.specs.declared.state.Status.TheVariants.{Serving, Recovering}
-use Rattle.pn_scan.specs.Queries.{QueryValue, continued}
+use Rattle.pn_scan.specs.Queries.{QueryValue, query_after}
 use Rattle.pn_scan.specs.declared.fault.ScanFault.{ScanFault}
 use Rattle.pn_scan.specs.declared.fault.ScanFault.TheVariants as fault
 use Rattle.pn_scan.specs.Candidates.{Look, rows_in, visited}
 
--- why nothing can be read of a tablet: the entry was refused, or it is recovering
+-- why nothing can be read of a tablet of this status: it is recovering
 abbrev pub refusal_by : ℕ → Status → Option ScanFault
 refusal_by tablet Serving = None
 refusal_by tablet (Recovering need) = Some (fault.Recovering tablet)
 
+-- why a look finds nothing: the entry was refused, or the tablet is recovering
 abbrev pub refusal : Look → Option ScanFault
 refusal (tablet, None) = Some fault.NoEntry
 refusal (tablet, Some state) = refusal_by tablet state.status
@@ -36,7 +37,7 @@ PageValue = Entries × Option QueryValue
 
 -- the query for the records after the rows of a page
 abbrev pub next_of : QueryValue → Entries → Option QueryValue
-next_of query rows = option_map (λ row. continued query row.0) (last_or None (take query.limit rows))
+next_of query rows = option_map (λ row. query_after query row.0) (last_or None (take query.limit rows))
 
 -- the first rows up to the limit, and the query for the next page exactly where there are more
 abbrev pub first_page : QueryValue → Entries → PageValue

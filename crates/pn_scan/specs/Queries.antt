@@ -1,17 +1,16 @@
 -- Queries, their conditions and their limits.
-use Rattle.std.specs.Prelude.{ℕ, Bool, true, ◌&&◌, nat_le, List, [], length, Option, Some, None, string_bytes}
+use Rattle.std.specs.Prelude.{ℕ, Bool, true, ◌&&◌, nat_le, List, [], length, Option, Some, None, String, string_bytes}
+use Rattle.std.specs.Borrow.{Bor}
 use Rattle.std.specs.List.{list_all}
-use Rattle.pn_record.specs.Limits.{FieldValue, number_value, text_value, is_number, is_field, is_key}
-use Rattle.pn_record.specs.Showing.{shown_value}
+use Rattle.std.specs.declared.alloc.Global.{Global}
+use Rattle.pn_record.specs.Limits.{FieldValue, number_value, text_value, is_number, is_field}
+use Rattle.pn_record.specs.Showing.{shown_ref, shown_value}
+use Rattle.pn_record.specs.declared.content.Value.{Value}
+use Rattle.pn_record.specs.declared.value_ref.ValueRef.{ValueRef}
+use Rattle.pn_tablet.specs.Ranges.{is_end}
 use Rattle.pn_scan.specs.declared.condition.Condition.{Condition}
 use Rattle.pn_scan.specs.declared.condition.Condition.TheVariants.{Has, Eq, Lt, Gt, Prefix}
-
--- the most rows of a page, and the most conditions of a query
-abbrev pub max_page_rows : ℕ
-max_page_rows = 1000
-
-abbrev pub max_conditions : ℕ
-max_conditions = 16
+use Rattle.pn_scan.specs.declared.query.TheConstants.{MAX_CONDITIONS, MAX_PAGE_ROWS}
 
 -- a condition on the field of a name: it is there, or its value is equal, less or greater, or begins with this text
 pub data ConditionValue : Type 0 where
@@ -29,13 +28,29 @@ pub record QueryValue : Type 0 where
   pub conditions : List ConditionValue
   pub limit : ℕ
 
+-- a condition with texts of its own
+abbrev pub OwnCondition : Type 0
+OwnCondition = Condition (String Global) Value
+
+-- a condition whose texts are borrowed
+abbrev pub BorrowedCondition : Type 0
+BorrowedCondition = Condition (Bor (List ℕ)) ValueRef
+
 -- the condition as contracts show it
-abbrev pub shown_condition : Condition → ConditionValue
+abbrev pub shown_condition : OwnCondition → ConditionValue
 shown_condition (Has field) = has (string_bytes field)
 shown_condition (Eq field value) = eq (string_bytes field) (shown_value value)
 shown_condition (Lt field value) = lt (string_bytes field) (shown_value value)
 shown_condition (Gt field value) = gt (string_bytes field) (shown_value value)
 shown_condition (Prefix field value) = prefix (string_bytes field) (string_bytes value)
+
+-- the borrowed condition as contracts show it
+abbrev pub shown_condition_ref : BorrowedCondition → ConditionValue
+shown_condition_ref (Has field) = has field.now
+shown_condition_ref (Eq field value) = eq field.now (shown_ref value)
+shown_condition_ref (Lt field value) = lt field.now (shown_ref value)
+shown_condition_ref (Gt field value) = gt field.now (shown_ref value)
+shown_condition_ref (Prefix field value) = prefix field.now value.now
 
 -- the field's name and the value keep the limits of fields
 abbrev pub is_condition : ConditionValue → Bool
@@ -60,21 +75,16 @@ operand_fits (prefix field value) = true
 
 -- a limit of 1 to 1,000 rows
 abbrev pub is_limit : ℕ → Bool
-is_limit limit = nat_le 1 limit && nat_le limit max_page_rows
+is_limit limit = nat_le 1 limit && nat_le limit MAX_PAGE_ROWS
 
 -- a limit of a page, and at most 16 conditions, each within its limits
 abbrev pub query_fits : List ConditionValue → ℕ → Bool
-query_fits conditions limit = is_limit limit && nat_le (length conditions) max_conditions && list_all is_condition conditions
-
--- a key within its limits, or none
-abbrev pub is_end : Option (List ℕ) → Bool
-is_end None = true
-is_end (Some key) = is_key key
+query_fits conditions limit = is_limit limit && nat_le (length conditions) MAX_CONDITIONS && list_all is_condition conditions
 
 -- the keys, the conditions and the limit keep the limits
 abbrev pub is_query : QueryValue → Bool
 is_query query = is_end query.after && is_end query.from && is_end query.to && query_fits query.conditions query.limit
 
 -- the query for the records after a key
-abbrev pub continued : QueryValue → List ℕ → QueryValue
-continued query last = record { from = query.from; to = query.to; after = Some last; conditions = query.conditions; limit = query.limit }
+abbrev pub query_after : QueryValue → List ℕ → QueryValue
+query_after query last = record { from = query.from; to = query.to; after = Some last; conditions = query.conditions; limit = query.limit }

@@ -1,10 +1,11 @@
 -- The JSON of queries.
 use Rattle.std.specs.Prelude.{ℕ, List, ◌∷◌, map, codes, Option, Some, None}
 use Rattle.std.specs.Option.{option_to_list}
-use Rattle.serde_json.specs.Data.{Data, null, number, string, array, object, unsigned, no_members, member}
+use Rattle.serde_json.specs.Data.{Data, number, string, array, object, unsigned, no_members, member}
 use Rattle.serde_json.specs.View.{items_of}
 use Rattle.pn_record.specs.Limits.{FieldValue, text_value}
 use Rattle.pn_record.specs.Writing.{value_data}
+use Rattle.pn_tablet.specs.Ranges.{key_data}
 use Rattle.pn_scan.specs.Queries.{ConditionValue, has, eq, lt, gt, prefix, QueryValue}
 
 -- an array of a word, a field's name, and a value, if there is one
@@ -22,11 +23,6 @@ condition_data (prefix field value) = parts_data (codes "prefix") field (Some (t
 -- an array of the conditions
 abbrev pub conditions_data : List ConditionValue → Data
 conditions_data conditions = array (items_of (map condition_data conditions))
-
--- a key, or null where there is none
-abbrev pub key_data : Option (List ℕ) → Data
-key_data None = null
-key_data (Some key) = string key
 
 -- all five members
 abbrev pub query_data : QueryValue → Data

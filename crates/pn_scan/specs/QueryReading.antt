@@ -7,16 +7,13 @@ use Rattle.pn_json.specs.Answers.{◌>>=◌}
 use Rattle.pn_json.specs.Members.{whole_number, no_others}
 use Rattle.pn_scan.specs.ConditionReading.{conditions_in}
 use Rattle.pn_scan.specs.Queries.{QueryValue, is_query}
-use Rattle.pn_scan.specs.declared.query_fault.QueryFault.{QueryFault}
-use Rattle.pn_scan.specs.declared.query_fault.QueryFault.TheVariants.{BadShape, OutOfRange}
+use Rattle.pn_scan.specs.declared.query_reading.QueryFault.{QueryFault}
+use Rattle.pn_scan.specs.declared.query_reading.QueryFault.TheVariants.{BadShape, OutOfRange}
+use Rattle.pn_scan.specs.declared.unchecked_query.TheConstants.{USUAL_PAGE}
 
 -- the names of a query's members
 abbrev pub query_members : List (List ℕ)
 query_members = codes "after" ∷ codes "from" ∷ codes "limit" ∷ codes "to" ∷ codes "where" ∷ []
-
--- the limit where none is given
-abbrev pub usual_page : ℕ
-usual_page = 100
 
 -- a key, or none where the value is null
 abbrev pub key_of : Data → Result (Option (List ℕ)) QueryFault
@@ -34,7 +31,7 @@ key_in (Some d) = key_of d
 
 -- the limit, which is the usual one where the member is absent
 abbrev pub limit_in : Option Data → Result ℕ QueryFault
-limit_in None = Ok usual_page
+limit_in None = Ok USUAL_PAGE
 limit_in (Some d) = ok_or (whole_number d) BadShape
 
 -- the query that the value has the shape of; no limit is checked

@@ -15,8 +15,8 @@ use Rattle.pn_scan.specs.declared.fault.ScanFault.{ScanFault}
 use Rattle.pn_scan.specs.declared.fault.ScanFault.TheVariants as fault
 
 -- the cells of keys, each in what was found of the key's tablet
-abbrev pub cells_got : List (List ℕ) → List Look → List (Option CellValue)
-cells_got keys seen = map (λ pair. find bytes_cmp pair.0 (cells_in pair.1.1)) (zip keys seen)
+abbrev pub cells_of_keys : List (List ℕ) → List Look → List (Option CellValue)
+cells_of_keys keys seen = map (λ pair. find bytes_cmp pair.0 (cells_in pair.1.1)) (zip keys seen)
 
 -- the cells of keys were read through a view by these looks, key by key, up to the first refusal
 pub record IsGet {V A : Type 0} (looks : V → Look → V → Type 0) (bounds : Bounds) (keys : List (List ℕ)) (old new : V) (show : A → List (Option CellValue)) (answer : Result A ScanFault) (seen : List Look) : Type 0 where
@@ -24,7 +24,7 @@ pub record IsGet {V A : Type 0} (looks : V → Look → V → Type 0) (bounds : 
   pub found : AllByRecursion (IsFoundIn bounds) seen
   pub order : map (λ look. look.0) seen ≡ map (tablet_of bounds) (take (length seen) keys)
   pub only : (n : ℕ) → n < length seen → first_refusal (take n seen) ≡ None
-  pub answers : Answers show answer (unless (first_refusal seen) (cells_got keys seen))
+  pub answers : Answers show answer (unless (first_refusal seen) (cells_of_keys keys seen))
   pub whole : OnOk answer (length seen ≡ length keys)
 
 -- the version, if there is one, is not less than the required one, if there is one

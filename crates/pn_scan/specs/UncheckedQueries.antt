@@ -1,6 +1,5 @@
 -- Parts of queries that are borrowed from a value.
-use Rattle.std.specs.Prelude.{◌≡◌, ℕ, Bool, true, ◌&&◌, nat_le, List, map, length, Option, Some, None, option_map, is_some, IsTrue, IfSome}
-use Rattle.std.specs.Borrow.{Bor}
+use Rattle.std.specs.Prelude.{◌≡◌, ℕ, Bool, true, ◌&&◌, nat_le, List, map, length, Option, Some, None, is_some, IsTrue, IfSome}
 use Rattle.std.specs.List.{flat_map, list_all}
 use Rattle.std.specs.Option.{option_to_list}
 use Rattle.json.specs.Token.{Token}
@@ -10,8 +9,8 @@ use Rattle.pn_json.specs.Tokens.{value_tokens}
 use Rattle.pn_record.specs.Showing.{shown_ref}
 use Rattle.pn_record.specs.Writing.{value_data}
 use Rattle.pn_record.specs.declared.value_ref.ValueRef.{ValueRef}
-use Rattle.pn_scan.specs.Queries.{ConditionValue, is_condition, max_conditions, shown_condition}
-use Rattle.pn_scan.specs.declared.condition.Condition.{Condition}
+use Rattle.pn_scan.specs.Queries.{ConditionValue, OwnCondition, is_condition, shown_condition}
+use Rattle.pn_scan.specs.declared.query.TheConstants.{MAX_CONDITIONS}
 use Rattle.pn_scan.specs.ConditionReading.{condition_in}
 
 -- the conditions among values
@@ -32,14 +31,10 @@ abbrev pub all_fit : List Value → Bool
 all_fit values = list_all (λ value. may_fit (condition_in (view value))) values
 
 -- the values are conditions, and `fit` whether they keep the limits; `made`, unless none, are those conditions
-pub record AreParsed (values : List Value) (fit : Bool) (made : Option (List Condition)) : Type 0 where
+pub record AreParsed (values : List Value) (fit : Bool) (made : Option (List OwnCondition)) : Type 0 where
   pub all : IsTrue (are_conditions values)
-  pub fits : fit ≡ (nat_le (length values) max_conditions && all_fit values)
+  pub fits : fit ≡ (nat_le (length values) MAX_CONDITIONS && all_fit values)
   pub shown : IfSome made (λ conditions. map shown_condition conditions ≡ conditions_among values)
-
--- a borrowed text, where there is one
-abbrev pub seen_text : Option (Bor (List ℕ)) → Option (List ℕ)
-seen_text text = option_map (λ t. t.now) text
 
 -- the tokens of a value, if there is one
 abbrev pub operand_tokens : Option ValueRef → List Token

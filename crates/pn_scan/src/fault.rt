@@ -5,7 +5,6 @@ ghost use Rattle.pn_scan.specs.declared.fault.ScanFault.TheVariants.{Memory};
 
 use pn_join::NoMemory;
 use pn_record::Version;
-use std::alloc::AllocError;
 use thiserror::Error;
 
 /// Why a page, a get or a read was refused.
@@ -28,14 +27,6 @@ impl From<NoMemory> for ScanFault {
     ghost from_gives = { λ _ fault. fault ≡ Memory };
 
     fn from(_error: NoMemory) -> ScanFault {
-        ScanFault::Memory
-    }
-}
-
-impl From<AllocError> for ScanFault {
-    ghost from_gives = { λ _ fault. fault ≡ Memory };
-
-    fn from(_error: AllocError) -> ScanFault {
         ScanFault::Memory
     }
 }

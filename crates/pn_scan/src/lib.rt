@@ -2,31 +2,26 @@
 #![tactic(auto)]
 
 mod condition;
-mod conditions;
 mod fault;
+mod filter;
 pub mod laws;
 mod pages;
 mod part;
 mod query;
-mod query_fault;
 pub mod query_laws;
 mod query_reading;
 mod query_writing;
 mod reads;
-mod row;
-mod unchecked_condition;
 mod unchecked_conditions;
 mod unchecked_query;
 mod view;
 
 pub use condition::Condition;
 pub use fault::ScanFault;
-pub use pages::page;
-pub use part::{PartResult, cell_of, part_of};
+pub use pages::{Page, page};
+pub use part::{PartResult, Row, cell_of, part_of};
 pub use query::{MAX_CONDITIONS, MAX_PAGE_ROWS, Query};
-pub use query_fault::QueryFault;
-pub use query_reading::read_query;
+pub use query_reading::{QueryFault, read_query};
 pub use query_writing::{query_value, write_query};
 pub use reads::{get, read_at_least};
-pub use row::{Page, Row};
 pub use view::View;

@@ -5,17 +5,24 @@ ghost use Rattle.std.specs.List.{range_with_len, last_or};
 ghost use Rattle.std.specs.Option.{option_copied};
 ghost use Rattle.pn_record.specs.Prelude.{Entries};
 ghost use Rattle.pn_tablet.specs.Prelude.{tablet_ends, TabletStateValue};
-ghost use Rattle.pn_scan.specs.Queries.{continued};
+ghost use Rattle.pn_scan.specs.Queries.{query_after};
 ghost use Rattle.pn_scan.specs.Candidates.{Look, candidates as all_candidates, first_tablet as named_tablet, begins_before as bound_before};
 ghost use Rattle.pn_scan.specs.Pages.{first_page};
 ghost use Rattle.pn_scan.specs.Views.{LooksOnce};
 ghost use Rattle.pn_scan.specs.Visits.{IsScan, rows_after};
 
-use crate::{Page, Query, Row, ScanFault, View};
+use crate::{Query, Row, ScanFault, View};
 use pn_join::NoMemory;
 use pn_record::Key;
 use pn_tablet::Layout;
 use std::alloc::Global;
+
+/// A page of rows in key order, and the query for the next page, if there is more.
+#[derive(Debug, Drop)]
+pub struct Page {
+    pub rows: Vec<Row>,
+    pub next: Option<Query>,
+}
 
 /// The first rows of a query, at most its limit, and the query for the next page exactly where there is more.
 ///
@@ -28,12 +35,12 @@ pub fn page<V: View>(alloc: Global, view: &mut V, query: &Query) -> Result<Page,
         (first_page query.now) seen }
     ensures layout { V.bounds view.new ≡ V.bounds view.old }
 {
-    let rows = gathered(alloc, view, query)?;
+    let rows = gather_rows(alloc, view, query)?;
     Ok(page_of(alloc, query, rows)?)
 }
 
 // The rows of a page, and the one after them, if there is one.
-fn gathered<V: View>(alloc: Global, view: &mut V, query: &Query) -> Result<Vec<Row>, ScanFault>
+fn gather_rows<V: View>(alloc: Global, view: &mut V, query: &Query) -> Result<Vec<Row>, ScanFault>
     ensures scan { (seen : List Look) × IsScan V.looks (V.bounds view.old) query.now view.old view.new (λ rows. rows.items) result
         (take (query.now.limit + 1)) seen }
     ensures layout { V.bounds view.new ≡ V.bounds view.old }
@@ -137,10 +144,10 @@ fn page_of(alloc: Global, query: &Query, mut rows: Vec<Row>) -> Result<Page, NoM
 }
 
 fn next_query(alloc: Global, query: &Query, rows: &[Row]) -> Result<Option<Query>, NoMemory>
-    ensures { IfOk result (λ next. next ≡ option_map (λ row. continued query.now row.0) (last_or None rows.now)) }
+    ensures { IfOk result (λ next. next ≡ option_map (λ row. query_after query.now row.0) (last_or None rows.now)) }
 {
     match rows.last() {
-        Some(row) => Ok(Some(query.continued(alloc, &row.key)?)),
+        Some(row) => Ok(Some(query.continue_after(alloc, &row.key)?)),
         None => Ok(None),
     }
 }

@@ -2,8 +2,8 @@
 
 ghost use Rattle.std.specs.Prelude.{◌≡◌, true, take, drop, length, count_by, nat_lt, Some, IfOk, IsTrue};
 ghost use Rattle.std.specs.FinMap.{is_sorted};
-ghost use Rattle.std.specs.List.{AllByRecursion};
 ghost use Rattle.std.specs.Option.{option_copied, option_map_or};
+ghost use Rattle.std.specs.List.{AllByRecursion};
 ghost use Rattle.std.specs.Ordering.{is_lt};
 ghost use Rattle.pn_record.specs.Prelude.{bytes_cmp};
 ghost use Rattle.pn_tablet.specs.Prelude.{is_from};
@@ -11,12 +11,34 @@ ghost use Rattle.pn_scan.specs.Pages.{refusal, unless};
 ghost use Rattle.pn_scan.specs.Shown.{shown_rows};
 ghost use Rattle.pn_scan.specs.Views.{Answers, rows_at, cell_at};
 
-use crate::conditions::{is_before, is_shown};
-use crate::{Query, Row, ScanFault};
+use crate::filter::is_shown;
+use crate::{Query, ScanFault};
 use pn_join::{Dup, NoMemory};
 use pn_record::{Cell, Key, Records};
-use pn_tablet::{Status, TabletState};
+use pn_tablet::{Status, TabletState, is_before};
 use std::alloc::Global;
+use std::marker::Model;
+
+/// A record of a page: its key and its whole cell.
+#[derive(Debug, Drop)]
+pub struct Row {
+    pub key: Key,
+    pub cell: Cell,
+}
+
+impl Model for Row {
+    ghost use Rattle.std.specs.Prelude.{ℕ, List};
+    ghost use Rattle.std.specs.Coded.{coded_ℕ, coded_list, coded×};
+    ghost use Rattle.std.specs.FinMap as map;
+    ghost use base.Stored.{coded_unit};
+    ghost use Rattle.pn_record.specs.Prelude.{shown_code, CellValue};
+
+    ghost Value = { List ℕ × CellValue };
+
+    ghost coded = { coded× (coded_list coded_ℕ) (coded× (coded× coded_ℕ coded_ℕ) (map.code shown_code coded_unit)) };
+
+    ghost view = { λ row. (row.key, row.cell) };
+}
 
 /// The first rows that a query shows of a tablet, and whether it shows more; or why none were read.
 pub type PartResult = Result<(Vec<Row>, bool), ScanFault>;
@@ -70,9 +92,9 @@ fn first_rows(
         × (part.1 ≡ nat_lt room (length (shown_rows query.now cells.now)))) }
 {
     let mut rows = Vec::with_capacity(alloc, room.min(cells.len()))?;
-    let place = first_place(cells, query);
-    prefetch_cells(cells, place, query, room);
-    for (key, cell) in cells.iter_from(place) {
+    let index = first_index(cells, query);
+    prefetch_cells(cells, index, query, room);
+    for (key, cell) in cells.iter_from(index) {
         if !is_before(query.to(), key) {
             return Ok((rows, false));
         }
@@ -87,8 +109,8 @@ fn first_rows(
 }
 
 // Prefetches the counters that copies of the cells raise. No clause depends on it.
-fn prefetch_cells(cells: &Records, place: usize, query: &Query, room: usize) {
-    for (key, cell) in cells.iter_from(place).take(room) {
+fn prefetch_cells(cells: &Records, index: usize, query: &Query, room: usize) {
+    for (key, cell) in cells.iter_from(index).take(room) {
         if !is_before(query.to(), key) {
             return;
         }
@@ -96,17 +118,17 @@ fn prefetch_cells(cells: &Records, place: usize, query: &Query, room: usize) {
     }
 }
 
-// A place before which no record is shown, and after which no key is below `from`.
-fn first_place(cells: &Records, query: &Query) -> usize
+// An index before which no record is shown, and after which no key is below `from`.
+fn first_index(cells: &Records, query: &Query) -> usize
     requires { IsTrue (is_sorted bytes_cmp cells.now) }
     ensures shown { shown_rows query.now (drop result cells.now) ≡ shown_rows query.now cells.now }
     ensures from { AllByRecursion (λ e. is_from query.now.from e.0 ≡ true) (drop result cells.now) }
 {
-    place_of(cells, query.from()).max(place_of(cells, query.after()))
+    index_of(cells, query.from()).max(index_of(cells, query.after()))
 }
 
-fn place_of(cells: &Records, key: Option<&Key>) -> usize
-    ensures place { result ≡ option_map_or (λ key. count_by (λ e. is_lt (bytes_cmp e.0 key)) cells.now) (option_copied key.entry) 0 }
+fn index_of(cells: &Records, key: Option<&Key>) -> usize
+    ensures index { result ≡ option_map_or (λ key. count_by (λ e. is_lt (bytes_cmp e.0 key)) cells.now) (option_copied key.entry) 0 }
 {
     match key {
         Some(key) => cells.lower_bound(key),

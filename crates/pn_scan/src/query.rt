@@ -2,11 +2,11 @@
 
 ghost use Rattle.std.specs.Prelude.{◌≡◌, Some, map, ◌↔◌, IsTrue, IsSome, IfSome, IfOk, option_map};
 ghost use Rattle.std.specs.Option.{option_copied};
-ghost use Rattle.pn_scan.specs.Queries.{query_fits, is_limit as in_limit, shown_condition, continued};
+ghost use Rattle.pn_scan.specs.Queries.{query_fits, is_limit as in_limit, shown_condition, query_after};
 
 use crate::Condition;
-use crate::condition::{are_conditions, copied_conditions};
-use pn_join::{Dup, NoMemory};
+use crate::condition::{are_conditions, copy_conditions};
+use pn_join::{Dup, NoMemory, dup_optional};
 use pn_record::Key;
 use std::alloc::Global;
 use std::marker::Model;
@@ -102,14 +102,14 @@ impl Query {
     }
 
     /// The query for the records after the key.
-    pub fn continued(&self, alloc: Global, last: &Key) -> Result<Query, NoMemory>
-        ensures { IfOk result (λ query. query ≡ continued self.now last.now) }
+    pub fn continue_after(&self, alloc: Global, last: &Key) -> Result<Query, NoMemory>
+        ensures { IfOk result (λ query. query ≡ query_after self.now last.now) }
     {
         Ok(Query {
-            from: copied_key(self.from())?,
-            to: copied_key(self.to())?,
+            from: dup_optional(self.from())?,
+            to: dup_optional(self.to())?,
             after: Some(last.dup()?),
-            conditions: copied_conditions(alloc, &self.conditions)?,
+            conditions: copy_conditions(alloc, &self.conditions)?,
             limit: self.limit,
         })
     }
@@ -119,13 +119,4 @@ pub(crate) fn is_limit(limit: usize) -> bool
     ensures { result ≡ in_limit limit }
 {
     1 <= limit && limit <= MAX_PAGE_ROWS
-}
-
-fn copied_key(key: Option<&Key>) -> Result<Option<Key>, NoMemory>
-    ensures { IfOk result (λ copy. copy ≡ option_copied key.entry) }
-{
-    match key {
-        None => Ok(None),
-        Some(key) => Ok(Some(key.dup()?)),
-    }
 }

@@ -7,9 +7,11 @@ ghost use Rattle.serde_json.specs.Find.{get_member};
 ghost use Rattle.pn_json.specs.Prelude.{only_named};
 ghost use Rattle.pn_scan.specs.ConditionReading.{conditions_at};
 ghost use Rattle.pn_scan.specs.Queries.{ConditionValue, QueryValue, is_query, operand_fits};
-ghost use Rattle.pn_scan.specs.QueryJson.{conditions_data, key_data, query_data};
-ghost use Rattle.pn_scan.specs.QueryReading.{query_members, usual_page, shape_in, query_in, IsGiven};
-ghost use Rattle.pn_scan.specs.declared.query_fault.QueryFault.TheVariants.{BadShape, OutOfRange};
+ghost use Rattle.pn_scan.specs.QueryJson.{conditions_data, query_data};
+ghost use Rattle.pn_tablet.specs.Ranges.{key_data};
+ghost use Rattle.pn_scan.specs.QueryReading.{query_members, shape_in, query_in, IsGiven};
+ghost use Rattle.pn_scan.specs.declared.unchecked_query.TheConstants.{USUAL_PAGE};
+ghost use Rattle.pn_scan.specs.declared.query_reading.QueryFault.TheVariants.{BadShape, OutOfRange};
 
 /// A value has the shape of a query exactly where it is an object of its members, each given or, if usual, absent, and
 /// all numbers of its conditions have 64 bits.
@@ -18,7 +20,7 @@ pub fn a_query_is_an_object_of_its_members()
         × IsTrue (only_named query_members members)
         × IsGiven (get_member (codes "after") members) (key_data query.after) (query.after ≡ None)
         × IsGiven (get_member (codes "from") members) (key_data query.from) (query.from ≡ None)
-        × IsGiven (get_member (codes "limit") members) (number (unsigned query.limit)) (query.limit ≡ usual_page)
+        × IsGiven (get_member (codes "limit") members) (number (unsigned query.limit)) (query.limit ≡ USUAL_PAGE)
         × IsGiven (get_member (codes "to") members) (key_data query.to) (query.to ≡ None)
         × IsGiven (get_member (codes "where") members) (conditions_data query.conditions) (query.conditions ≡ [])
         × IsTrue (list_all operand_fits query.conditions)) }

@@ -4,18 +4,19 @@ ghost use Rattle.std.specs.Prelude.{◌≡◌, map, Ok, IfOk, OnOk, IsTrue};
 ghost use Rattle.std.specs.Option.{option_copied};
 ghost use Rattle.serde_json.specs.Data.{put};
 ghost use Rattle.serde_json.specs.View.{view, members_view};
-ghost use Rattle.pn_json.specs.Prelude.{Appends, member_tokens, value_tokens};
-ghost use Rattle.pn_scan.specs.Queries.{is_end, is_query, shown_condition};
-ghost use Rattle.pn_scan.specs.QueryJson.{condition_data, conditions_data, key_data, query_data};
+ghost use Rattle.pn_json.specs.Prelude.{Appends, value_tokens};
+ghost use Rattle.pn_scan.specs.Queries.{is_query, shown_condition};
+ghost use Rattle.pn_tablet.specs.Ranges.{is_end, key_data};
+ghost use Rattle.pn_scan.specs.QueryJson.{condition_data, conditions_data, query_data};
 ghost use Rattle.pn_scan.specs.QueryReading.{query_in};
 ghost use Rattle.pn_scan.specs.UncheckedQueries.{operand_tokens};
 
-use crate::condition::parts_of;
 use crate::{Condition, Query};
 use json::Writer;
 use pn_join::NoMemory;
-use pn_json::{write_null_member, write_number_member, write_text_member};
+use pn_json::write_number_member;
 use pn_record::{Key, ValueRef, write_field_value};
+use pn_tablet::write_end_member;
 use serde_json::{Map, Value, json};
 use std::alloc::Global;
 
@@ -80,7 +81,7 @@ fn conditions_value(alloc: Global, conditions: &[Condition]) -> Result<Value, No
 fn condition_value(alloc: Global, condition: &Condition) -> Result<Value, NoMemory>
     ensures { IfOk result (λ value. view value ≡ condition_data (shown_condition condition.now)) }
 {
-    let (word, field, value) = parts_of(condition);
+    let (word, field, value) = condition.as_ref().parts();
     match value {
         None => Ok(json!(in alloc; [word, field])?),
         Some(ValueRef::Number(number)) => Ok(json!(in alloc; [word, field, number])?),
@@ -93,23 +94,14 @@ pub fn write_query(writer: &mut Writer, query: &Query) -> Result<(), NoMemory>
     ensures { OnOk result (Appends writer.old writer.new (value_tokens (query_data query.now))) }
 {
     writer.begin_object()?;
-    write_key_member(writer, "after", query.after())?;
-    write_key_member(writer, "from", query.from())?;
+    write_end_member(writer, "after", query.after())?;
+    write_end_member(writer, "from", query.from())?;
     write_number_member(writer, "limit", query.limit() as u64)?;
-    write_key_member(writer, "to", query.to())?;
+    write_end_member(writer, "to", query.to())?;
     writer.key("where")?;
     write_conditions(writer, query.conditions())?;
     writer.end_object()?;
     Ok(())
-}
-
-fn write_key_member(writer: &mut Writer, name: &str, key: Option<&Key>) -> Result<(), NoMemory>
-    ensures { OnOk result (Appends writer.old writer.new (member_tokens name.now (key_data (option_copied key.entry)))) }
-{
-    match key {
-        None => write_null_member(writer, name),
-        Some(key) => write_text_member(writer, name, key.as_str()),
-    }
 }
 
 fn write_conditions(writer: &mut Writer, conditions: &[Condition]) -> Result<(), NoMemory>
@@ -127,7 +119,7 @@ fn write_conditions(writer: &mut Writer, conditions: &[Condition]) -> Result<(),
 fn write_condition(writer: &mut Writer, condition: &Condition) -> Result<(), NoMemory>
     ensures { OnOk result (Appends writer.old writer.new (value_tokens (condition_data (shown_condition condition.now)))) }
 {
-    let (word, field, value) = parts_of(condition);
+    let (word, field, value) = condition.as_ref().parts();
     writer.begin_array()?;
     writer.string(word)?;
     writer.string(field)?;

@@ -1,6 +1,6 @@
 //! Reads of single records.
 
-ghost use Rattle.std.specs.Prelude.{◌≡◌, List, Option, Ok, Err, Result, if◌then◌else◌};
+ghost use Rattle.std.specs.Prelude.{◌≡◌, ◌≤◌, [], List, Option, Ok, Err, Result, if◌then◌else◌, IfOk, vec_capacity, vec_len};
 ghost use Rattle.std.specs.Option.{option_copied};
 ghost use Rattle.pn_tablet.specs.Prelude.{version_at, tablet_of, TabletStateValue};
 ghost use Rattle.pn_scan.specs.Candidates.{Look};
@@ -8,6 +8,7 @@ ghost use Rattle.pn_scan.specs.Reads.{IsGet, IsRead, reaches as version_reaches}
 ghost use Rattle.pn_scan.specs.declared.fault.ScanFault.TheVariants.{Behind};
 
 use crate::{ScanFault, View};
+use pn_join::NoMemory;
 use pn_record::{Cell, Key, Version};
 use std::alloc::Global;
 
@@ -22,11 +23,20 @@ pub fn get<V: View>(
     ensures get { (seen : List Look) × IsGet V.looks (V.bounds view.old) keys.now view.old view.new (λ cells. cells.items) result seen }
     ensures layout { V.bounds view.new ≡ V.bounds view.old }
 {
-    let mut cells = Vec::with_capacity(alloc, keys.len())?;
+    let mut cells = reserve_cells(alloc, keys.len())?;
     for key in keys {
         cells.push_reserved(view.cell(key)?);
     }
     Ok(cells)
+}
+
+// An empty list that takes `count` cells without growing.
+fn reserve_cells(alloc: Global, count: usize) -> Result<Vec<Option<Cell>>, NoMemory>
+    ensures items { IfOk result (λ cells. cells.items ≡ []) }
+    ensures capacity { IfOk result (λ cells. count ≤ vec_capacity cells) }
+    ensures len { IfOk result (λ cells. vec_len cells ≡ 0) }
+{
+    Ok(Vec::with_capacity(alloc, count)?)
 }
 
 /// The cell of a key, or none where there is no record. A required version is reached.

@@ -4,15 +4,17 @@ ghost use Rattle.std.specs.Prelude.{◌≡◌, false, map, IfOk, IfErr, IfSome, 
 ghost use Rattle.std.specs.List.{list_all};
 ghost use Rattle.serde_json.specs.View.{view, items_view};
 ghost use Rattle.pn_json.specs.Prelude.{seen, each_in};
-ghost use Rattle.pn_scan.specs.Queries.{shown_condition, is_condition, max_conditions};
-ghost use Rattle.pn_scan.specs.ConditionReading.{conditions_in, conditions_at as conditions_spelled, condition_at};
+ghost use Rattle.pn_record.specs.Prelude.{shown_ref};
+ghost use Rattle.pn_scan.specs.Queries.{shown_condition, is_condition};
+ghost use Rattle.pn_scan.specs.ConditionReading.{condition_in, lone_in, comparing_in, conditions_in, conditions_at as conditions_spelled, condition_at};
+ghost use Rattle.pn_scan.specs.ConditionWords.{lone_condition as lone_of, comparing_condition as comparing_of};
 ghost use Rattle.pn_scan.specs.UncheckedQueries.{AreParsed, are_conditions};
 
-use crate::query::MAX_CONDITIONS;
-use crate::unchecked_condition::{UncheckedCondition, condition_of};
-use crate::{Condition, QueryFault};
+use crate::condition::ConditionRef;
+use crate::{Condition, MAX_CONDITIONS, QueryFault};
 use pn_join::NoMemory;
 use pn_json::items_of;
+use pn_record::{ValueRef, value_of};
 use serde_json::Value;
 use std::alloc::Global;
 use std::marker::Model;
@@ -64,14 +66,14 @@ fn conditions_among(alloc: Global, values: &[Value]) -> Result<UncheckedConditio
     ensures exact { result ≡ each_in condition_at (items_view values.now) }
     ensures faults { IfErr result (λ fault. fault ≡ QueryFault.BadShape) }
 {
-    let Some((fit, made)) = parsed(alloc, values) else {
+    let Some((fit, made)) = parse_conditions(alloc, values) else {
         return Err(QueryFault::BadShape);
     };
     Ok(UncheckedConditions { values, fit, made })
 }
 
 // Whether all conditions keep the limits, and the conditions. None where a value is no condition.
-fn parsed(alloc: Global, values: &[Value]) -> Option<(bool, Option<Vec<Condition>>)>
+fn parse_conditions(alloc: Global, values: &[Value]) -> Option<(bool, Option<Vec<Condition>>)>
     ensures parsed { IfSome result (λ seen. AreParsed values.now seen.0 (option_map (λ made. made.items) seen.1)) }
     ensures none { result ≡ None → are_conditions values.now ≡ false }
 {
@@ -93,7 +95,7 @@ fn with_condition(
     alloc: Global,
     fit: bool,
     made: Option<Vec<Condition>>,
-    condition: &UncheckedCondition<'_>,
+    condition: &ConditionRef<'_>,
 ) -> (bool, Option<Vec<Condition>>)
     ensures fit { result.0 ≡ (fit && is_condition condition.now) }
     ensures made { IfSome result.1 (λ all. MatchOption made ⊥ (λ some.
@@ -102,36 +104,86 @@ fn with_condition(
     if !fit || !condition.fits() {
         return (false, None);
     }
-    (true, pushed(alloc, made, condition))
+    (true, push_copy(alloc, made, condition))
 }
 
 // The conditions with one more. None where memory ran out, now or before.
-fn pushed(
+fn push_copy(
     alloc: Global,
     made: Option<Vec<Condition>>,
-    condition: &UncheckedCondition<'_>,
+    condition: &ConditionRef<'_>,
 ) -> Option<Vec<Condition>>
     ensures { IfSome result (λ all. MatchOption made ⊥ (λ some.
         map shown_condition all.items ≡ map shown_condition some.items ++ condition.now ∷ [])) }
 {
     let mut conditions = made?;
-    conditions.push(condition.condition(alloc).ok()?).ok()?;
+    conditions.push(condition.to_condition(alloc).ok()?).ok()?;
     Some(conditions)
 }
 
 impl UncheckedConditions<'_> {
     /// Whether they are at most 16, each on a field of 1 to 64 bytes and with a number or a text of at most 4,096.
     pub(crate) fn fit(&self) -> bool
-        ensures { result ≡ (nat_le (length self.now) max_conditions && list_all is_condition self.now) }
+        ensures { result ≡ (nat_le (length self.now) MAX_CONDITIONS && list_all is_condition self.now) }
     {
         self.fit
     }
 
-    /// The conditions.
+    /// The conditions that were made of the values.
     pub(crate) fn conditions(self) -> Result<Vec<Condition>, NoMemory>
-        requires { IsTrue (nat_le (length self) max_conditions && list_all is_condition self) }
+        requires { IsTrue (nat_le (length self) MAX_CONDITIONS && list_all is_condition self) }
         ensures { IfOk result (λ conditions. map shown_condition conditions.items ≡ self.entry) }
     {
         self.made.ok_or(NoMemory)
     }
+}
+
+// The condition that a value is, if it has the shape of one.
+fn condition_of(value: &Value) -> Option<ConditionRef<'_>>
+    ensures { result ≡ condition_in (view value.now) }
+{
+    let parts = value.as_array()?;
+    lone_condition(parts).or(comparing_condition(parts))
+}
+
+fn lone_condition(parts: &[Value]) -> Option<ConditionRef<'_>>
+    ensures { result ≡ lone_in (items_view parts.now) }
+{
+    let [word, field] = parts else {
+        return None;
+    };
+    lone(word.as_str()?, field.as_str()?)
+}
+
+fn comparing_condition(parts: &[Value]) -> Option<ConditionRef<'_>>
+    ensures { result ≡ comparing_in (items_view parts.now) }
+{
+    let [word, field, value] = parts else {
+        return None;
+    };
+    comparing(word.as_str()?, field.as_str()?, value_of(value)?)
+}
+
+fn lone<'v>(word: &str, field: &'v str) -> Option<ConditionRef<'v>>
+    ensures { result ≡ lone_of word.now field.now }
+{
+    match word {
+        "has" => Some(ConditionRef {
+            condition: Condition::Has { field },
+        }),
+        _ => None,
+    }
+}
+
+fn comparing<'v>(word: &str, field: &'v str, value: ValueRef<'v>) -> Option<ConditionRef<'v>>
+    ensures { result ≡ comparing_of word.now field.now (shown_ref value.entry) }
+{
+    let condition = match (word, value) {
+        ("eq", value) => Condition::Eq { field, value },
+        ("lt", value) => Condition::Lt { field, value },
+        ("gt", value) => Condition::Gt { field, value },
+        ("prefix", ValueRef::Text(value)) => Condition::Prefix { field, value },
+        _ => return None,
+    };
+    Some(ConditionRef { condition })
 }

@@ -2,19 +2,15 @@
 
 ghost use Rattle.std.specs.Prelude.{◌≡◌, IfOk, IfErr, IsTrue};
 ghost use Rattle.serde_json.specs.View.{view};
-ghost use Rattle.pn_json.specs.Prelude.{seen, Shows};
-ghost use Rattle.pn_record.specs.Prelude.{is_key as in_key};
-ghost use Rattle.pn_scan.specs.Queries.{is_end as in_end, is_limit, is_query};
+ghost use Rattle.pn_json.specs.Prelude.{seen, Shows, seen_text};
+ghost use Rattle.pn_scan.specs.Queries.{is_limit, is_query};
 ghost use Rattle.pn_scan.specs.QueryReading.{key_of as key_spelled, key_in, limit_in, shape_in};
-ghost use Rattle.pn_scan.specs.UncheckedQueries.{seen_text};
 
-use crate::query::MAX_PAGE_ROWS;
 use crate::unchecked_conditions::{UncheckedConditions, conditions_of};
-use crate::{Query, QueryFault};
+use crate::{MAX_PAGE_ROWS, Query, QueryFault};
 use pn_join::NoMemory;
 use pn_json::{check_names, whole_number_of};
-use pn_record::limits::MAX_KEY_BYTES;
-use pn_record::{Key, KeyFault};
+use pn_tablet::Range;
 use serde_json::Value;
 use std::alloc::Global;
 use std::marker::Model;
@@ -34,7 +30,7 @@ pub(crate) struct UncheckedQuery<'v> {
 
 impl<'v> Model for UncheckedQuery<'v> {
     ghost use Rattle.pn_scan.specs.Queries.{QueryValue};
-    ghost use Rattle.pn_scan.specs.UncheckedQueries.{seen_text};
+    ghost use Rattle.pn_json.specs.Prelude.{seen_text};
 
     ghost Value = { QueryValue };
 
@@ -100,9 +96,9 @@ impl UncheckedQuery<'_> {
     pub(crate) fn fits(&self) -> bool
         ensures { result ≡ is_query self.now }
     {
-        is_end(self.after)
-            && is_end(self.from)
-            && is_end(self.to)
+        Range::is_end(self.after)
+            && Range::is_end(self.from)
+            && Range::is_end(self.to)
             && is_page(self.limit)
             && self.conditions.fit()
     }
@@ -113,53 +109,17 @@ impl UncheckedQuery<'_> {
         ensures { IfOk result (λ query. query ≡ self.entry) }
     {
         Ok(Query {
-            from: end_of(alloc, self.from)?,
-            to: end_of(alloc, self.to)?,
-            after: end_of(alloc, self.after)?,
+            from: Range::end_of(alloc, self.from)?,
+            to: Range::end_of(alloc, self.to)?,
+            after: Range::end_of(alloc, self.after)?,
             conditions: self.conditions.conditions()?,
             limit: self.limit as usize,
         })
     }
 }
 
-fn is_end(text: Option<&str>) -> bool
-    ensures { result ≡ in_end (seen_text text.entry) }
-{
-    match text {
-        None => true,
-        Some(text) => is_key(text),
-    }
-}
-
-fn is_key(text: &str) -> bool
-    ensures { result ≡ in_key text.now }
-{
-    !text.is_empty() && text.len() <= MAX_KEY_BYTES
-}
-
 fn is_page(limit: u64) -> bool
     ensures { result ≡ is_limit limit }
 {
     1 <= limit && limit <= MAX_PAGE_ROWS as u64
-}
-
-fn end_of(alloc: Global, text: Option<&str>) -> Result<Option<Key>, NoMemory>
-    requires { IsTrue (in_end (seen_text text)) }
-    ensures { IfOk result (λ key. key ≡ seen_text text.entry) }
-{
-    match text {
-        None => Ok(None),
-        Some(text) => Ok(Some(key_of(alloc, text)?)),
-    }
-}
-
-fn key_of(alloc: Global, text: &str) -> Result<Key, NoMemory>
-    requires { IsTrue (in_key text.now) }
-    ensures { IfOk result (λ key. key ≡ text.now) }
-{
-    match Key::of(alloc, text) {
-        Ok(key) => Ok(key),
-        Err(KeyFault::Memory) => Err(NoMemory),
-        Err(KeyFault::OutOfRange) => unreachable!(),
-    }
 }

@@ -13,11 +13,11 @@ use Rattle.pn_protocol.specs.declared.refusal.Refusal.TheVariants.{TooLong, NotJ
 use Rattle.pn_protocol.specs.Command.Lines.{command_at, is_too_long}
 use Rattle.pn_protocol.specs.Command.Meaning.{CommandValue, adopt, copy, deliver, get, lose, marks, notices, read, relayout, scan, tablets}
 use Rattle.pn_serve.specs.Machine.Announced.{unless_call, with_line}
-use Rattle.pn_serve.specs.Machine.Modes.{bytes_of, with_mode, IsDone}
-use Rattle.pn_serve.specs.Machine.Outcomes.{Outcome, done, line, call, round, announced, Machine, Turn, waiting, refusing, silent}
-use Rattle.pn_serve.specs.Machine.Recovering.{adopting_text}
-use Rattle.pn_serve.specs.Machine.Turns.{obeying, turn_of, outcome_at, turn}
-use Rattle.pn_serve.specs.Machine.LastTurns.{obeying_last, last_of, end_turn}
+use Rattle.pn_serve.specs.Machine.Modes.{bytes_of, with_mode, IsAnswer}
+use Rattle.pn_serve.specs.Machine.Outcomes.{Outcome, done, line, call, round, announced, Machine, Turn, machine_over, refusal_turn, silent_turn}
+use Rattle.pn_serve.specs.Machine.Recovering.{text_adoption_turn}
+use Rattle.pn_serve.specs.Machine.Turns.{command_turn, turn_of, outcome_at, turn}
+use Rattle.pn_serve.specs.Machine.LastTurns.{last_command_turn, last_of, end_turn}
 use Rattle.pn_serve.specs.Machine.Answers.{IsReadUnless, TurnedBy, AnswersBy, ConcludesBy, Obeys}
 use Rattle.pn_serve.specs.Machine.Ways.{ComesTo, IsJoined, IsAlone, HandlesTo, LastsBy}
 use Rattle.pn_protocol.specs.Reply.Texts.{reply_text, is_refusal}
@@ -50,24 +50,24 @@ twice line next text = refl
 twice (round flags) next text = refl
 
 -- by one outcome a text that may be out of memory is adopted
-adopted_by : (old new : LoggedRegion) (text : Option (List ℕ)) (reply : Reply) → ComesTo (adopting_text old text) old new reply
-    → TurnedBy ⊥ (λ outcome. adopting_text old (unless_call outcome text)) (waiting new) reply
+adopted_by : (old new : LoggedRegion) (text : Option (List ℕ)) (reply : Reply) → ComesTo (text_adoption_turn old text) old new reply
+    → TurnedBy ⊥ (λ outcome. text_adoption_turn old (unless_call outcome text)) (machine_over new) reply
 adopted_by old new text reply (inl (machine, replied, refused)) = record { outcome = done; read = tt; machine_is = machine; replied = replied; refused = refused }
 adopted_by old new text reply (inr (same, is)) = record {
   outcome = call;
   read = tt;
-  machine_is = ap waiting (sym same);
+  machine_is = ap machine_over (sym same);
   replied = ap reply_text (sym is);
   refused = ap is_refusal (sym is);
 }
 
 -- a text is adopted after a line that may have run out of memory
-adopted_after : (old new : LoggedRegion) (before text : Option (List ℕ)) (reply : Reply) (joined : (outcome : Outcome) × (text ≡ unless_call outcome before)) → ComesTo (adopting_text old text) old new reply
-    → TurnedBy ⊥ (λ outcome. adopting_text old (unless_call outcome before)) (waiting new) reply
+adopted_after : (old new : LoggedRegion) (before text : Option (List ℕ)) (reply : Reply) (joined : (outcome : Outcome) × (text ≡ unless_call outcome before)) → ComesTo (text_adoption_turn old text) old new reply
+    → TurnedBy ⊥ (λ outcome. text_adoption_turn old (unless_call outcome before)) (machine_over new) reply
 adopted_after old new before text reply (outcome, is) comes =
     let by = adopted_by old new text reply comes in
-    turned_as ⊥ (λ next. adopting_text old (unless_call next text)) (λ next. adopting_text old (unless_call next before)) (waiting new) reply by (either_call outcome by.outcome) (either_read outcome by.outcome by.read)
-    (ap (adopting_text old) (twice outcome by.outcome before ∙ ap (unless_call by.outcome) (sym is)))
+    turned_as ⊥ (λ next. text_adoption_turn old (unless_call next text)) (λ next. text_adoption_turn old (unless_call next before)) (machine_over new) reply by (either_call outcome by.outcome) (either_read outcome by.outcome by.read)
+    (ap (text_adoption_turn old) (twice outcome by.outcome before ∙ ap (unless_call by.outcome) (sym is)))
 
 -- an announced line came
 module _ (old : LoggedRegion) (lines : Announced) (bytes : List ℕ) where
@@ -77,16 +77,16 @@ module _ (old : LoggedRegion) (lines : Announced) (bytes : List ℕ) where
 
   tested : (outcome : Outcome) (test : Bool) → nat_le lines.left 1 ≡ test
       → turn (with_mode (Some lines) old) outcome bytes
-      ≡ (if test then adopting_text old (unless_call outcome longer) else silent (record { mode = announced (lines.left - 1) (unless_call outcome longer); region = old.state; log = old.log }))
+      ≡ (if test then text_adoption_turn old (unless_call outcome longer) else silent_turn (record { mode = announced (lines.left - 1) (unless_call outcome longer); region = old.state; log = old.log }))
   tested outcome test is =
-      ap (λ (b : Bool). if b then adopting_text old (unless_call outcome longer) else silent (record { mode = announced (lines.left - 1) (unless_call outcome longer); region = old.state; log = old.log })) is
+      ap (λ (b : Bool). if b then text_adoption_turn old (unless_call outcome longer) else silent_turn (record { mode = announced (lines.left - 1) (unless_call outcome longer); region = old.state; log = old.log })) is
 
   -- the last one
   pub came_last : (new : LoggedRegion) (text : Option (List ℕ)) (reply : Reply) → lines.left ≤ 1
-      → IsJoined (bytes_of lines.text) bytes (10 ∷ []) text → ComesTo (adopting_text old text) old new reply → AnswersBy ⊥ (with_mode (Some lines) old) bytes (waiting new) reply
+      → IsJoined (bytes_of lines.text) bytes (10 ∷ []) text → ComesTo (text_adoption_turn old text) old new reply → AnswersBy ⊥ (with_mode (Some lines) old) bytes (machine_over new) reply
   came_last new text reply last joined comes =
       let by = adopted_after old new longer text reply joined comes in
-      turned_as ⊥ (λ outcome. adopting_text old (unless_call outcome longer)) (λ outcome. turn (with_mode (Some lines) old) outcome bytes) (waiting new) reply by by.outcome by.read
+      turned_as ⊥ (λ outcome. text_adoption_turn old (unless_call outcome longer)) (λ outcome. turn (with_mode (Some lines) old) outcome bytes) (machine_over new) reply by by.outcome by.read
       (tested by.outcome true (grind (arith, nat_tests, last)))
 
   -- not the last one
@@ -104,7 +104,7 @@ module _ (old : LoggedRegion) (lines : Announced) (bytes : List ℕ) where
 
 -- the input ended after a part of what was announced
 pub came_part : (old new : LoggedRegion) (lines : Announced) (bytes : List ℕ) (text : Option (List ℕ)) (reply : Reply) → IsJoined (bytes_of lines.text) bytes [] text
-    → ComesTo (adopting_text old text) old new reply → ConcludesBy ⊥ (with_mode (Some lines) old) bytes (waiting new) reply
+    → ComesTo (text_adoption_turn old text) old new reply → ConcludesBy ⊥ (with_mode (Some lines) old) bytes (machine_over new) reply
 came_part old new lines bytes text reply joined comes = adopted_after old new (with_line (bytes_of lines.text) bytes []) text reply joined comes
 
 -- a line was announced, and so is not read as a command
@@ -123,7 +123,7 @@ concluded_on may waits lines old part new reply is concludes =
 -- ---- the last command
 
 -- a command that announces no lines
-alone : (machine : Machine) (outcome : Outcome) (command : CommandValue) → IsAlone command → obeying_last machine outcome command ≡ obeying machine outcome command
+alone : (machine : Machine) (outcome : Outcome) (command : CommandValue) → IsAlone command → last_command_turn machine outcome command ≡ command_turn machine outcome command
 alone machine outcome (adopt lines) is = absurd is
 alone machine outcome (copy need tablet) is = refl
 alone machine outcome (deliver deliveries) is = refl
@@ -136,13 +136,13 @@ alone machine outcome (relayout bounds) is = refl
 alone machine outcome (scan query) is = refl
 alone machine outcome tablets is = refl
 
-as_last : (machine : Machine) (outcome : Outcome) (command : CommandValue) → last_of machine (read_whole outcome) (Ok command) ≡ obeying_last machine (read_whole outcome) command
+as_last : (machine : Machine) (outcome : Outcome) (command : CommandValue) → last_of machine (read_whole outcome) (Ok command) ≡ last_command_turn machine (read_whole outcome) command
 as_last machine done command = refl
 as_last machine line command = refl
 as_last machine call command = refl
 as_last machine (round flags) command = refl
 
-as_done : (machine : Machine) (outcome : Outcome) (command : CommandValue) → obeying machine (read_whole outcome) command ≡ obeying machine outcome command
+as_done : (machine : Machine) (outcome : Outcome) (command : CommandValue) → command_turn machine (read_whole outcome) command ≡ command_turn machine outcome command
 as_done machine done command = refl
 as_done machine line command = refl
 as_done machine call command = refl
@@ -150,41 +150,41 @@ as_done machine (round flags) command = refl
 
 -- a command that is not too long, as the last one
 last_said : (old : LoggedRegion) (bytes : List ℕ) (command : CommandValue) (outcome : Outcome) → command_at bytes ≡ Ok command
-    → last_of (waiting old) (outcome_at (read_whole outcome) bytes) (command_at bytes) ≡ obeying_last (waiting old) (read_whole outcome) command
+    → last_of (machine_over old) (outcome_at (read_whole outcome) bytes) (command_at bytes) ≡ last_command_turn (machine_over old) (read_whole outcome) command
 last_said old bytes command outcome said =
-    ap (λ (o : Outcome). last_of (waiting old) o (command_at bytes)) (as_it_goes (read_whole outcome) bytes (within bytes command said))
-    ∙ ap (last_of (waiting old) (read_whole outcome)) said ∙ as_last (waiting old) outcome command
+    ap (λ (o : Outcome). last_of (machine_over old) o (command_at bytes)) (as_it_goes (read_whole outcome) bytes (within bytes command said))
+    ∙ ap (last_of (machine_over old) (read_whole outcome)) said ∙ as_last (machine_over old) outcome command
 
-pub last_obeyed : (may : Type 0) (old new : LoggedRegion) (bytes : List ℕ) (command : CommandValue) (reply : Reply) → command_at bytes ≡ Ok command → IsAlone command → Obeys (waiting old) command (waiting new) reply → LastsBy may old bytes new reply
+pub last_obeyed : (may : Type 0) (old new : LoggedRegion) (bytes : List ℕ) (command : CommandValue) (reply : Reply) → command_at bytes ≡ Ok command → IsAlone command → Obeys (machine_over old) command (machine_over new) reply → LastsBy may old bytes new reply
 last_obeyed may old new bytes command reply said is obeys =
-    turned_read may (λ outcome. obeying (waiting old) outcome command) (λ outcome. last_of (waiting old) (outcome_at outcome bytes) (command_at bytes)) (waiting new) reply obeys (read_whole obeys.outcome) (read_always may obeys.outcome)
-    (last_said old bytes command obeys.outcome said ∙ alone (waiting old) (read_whole obeys.outcome) command is ∙ as_done (waiting old) obeys.outcome command)
+    turned_read may (λ outcome. command_turn (machine_over old) outcome command) (λ outcome. last_of (machine_over old) (outcome_at outcome bytes) (command_at bytes)) (machine_over new) reply obeys (read_whole obeys.outcome) (read_always may obeys.outcome)
+    (last_said old bytes command obeys.outcome said ∙ alone (machine_over old) (read_whole obeys.outcome) command is ∙ as_done (machine_over old) obeys.outcome command)
 
-pub last_adopted : (may : Type 0) (old new : LoggedRegion) (bytes : List ℕ) (lines : ℕ) (reply : Reply) → command_at bytes ≡ Ok (adopt lines) → ComesTo (adopting_text old (Some [])) old new reply → LastsBy may old bytes new reply
+pub last_adopted : (may : Type 0) (old new : LoggedRegion) (bytes : List ℕ) (lines : ℕ) (reply : Reply) → command_at bytes ≡ Ok (adopt lines) → ComesTo (text_adoption_turn old (Some [])) old new reply → LastsBy may old bytes new reply
 last_adopted may old new bytes lines reply said comes =
     let by = adopted_by old new (Some []) reply comes in
-    turned_as may (λ outcome. adopting_text old (unless_call outcome (Some []))) (λ outcome. last_of (waiting old) (outcome_at outcome bytes) (command_at bytes)) (waiting new) reply by (read_whole by.outcome) (read_always may by.outcome)
-    (last_said old bytes (adopt lines) by.outcome said ∙ ap (adopting_text old) (whole_text by.outcome (Some [])))
+    turned_as may (λ outcome. text_adoption_turn old (unless_call outcome (Some []))) (λ outcome. last_of (machine_over old) (outcome_at outcome bytes) (command_at bytes)) (machine_over new) reply by (read_whole by.outcome) (read_always may by.outcome)
+    (last_said old bytes (adopt lines) by.outcome said ∙ ap (text_adoption_turn old) (whole_text by.outcome (Some [])))
 
 -- the last line announces lines, of which none comes
 pub last_announced : (may : Type 0) (old begun new : LoggedRegion) (bytes : List ℕ) (command : CommandValue) (lines : ℕ) (text : List ℕ) (reply : Reply) → command_at bytes ≡ Ok command
-    → (command ≡ adopt lines) × (begun ≡ old) → text ≡ [] → ComesTo (adopting_text begun (Some text)) begun new reply → LastsBy may old bytes new reply
+    → (command ≡ adopt lines) × (begun ≡ old) → text ≡ [] → ComesTo (text_adoption_turn begun (Some text)) begun new reply → LastsBy may old bytes new reply
 last_announced may old begun new bytes command lines text reply said announces none comes =
     last_adopted may old new bytes lines reply (said ∙ ap Ok announces.0)
-    (subst (λ (came : List ℕ). ComesTo (adopting_text old (Some came)) old new reply) none
-    (subst (λ (region : LoggedRegion). ComesTo (adopting_text region (Some text)) region new reply) announces.1 comes))
+    (subst (λ (came : List ℕ). ComesTo (text_adoption_turn old (Some came)) old new reply) none
+    (subst (λ (region : LoggedRegion). ComesTo (text_adoption_turn region (Some text)) region new reply) announces.1 comes))
 
 -- memory ran out before a command was found
 pub last_unread : (may : Type 0) (old : LoggedRegion) (bytes : List ℕ) → may → is_too_long bytes ≡ false → LastsBy may old bytes old (Refused Memory)
 last_unread may old bytes out short =
-    let same : last_of (waiting old) (outcome_at line bytes) (command_at bytes) ≡ refusing (waiting old) Memory = ap (λ (o : Outcome). last_of (waiting old) o (command_at bytes)) (as_it_goes line bytes short) in
+    let same : last_of (machine_over old) (outcome_at line bytes) (command_at bytes) ≡ refusal_turn (machine_over old) Memory = ap (λ (o : Outcome). last_of (machine_over old) o (command_at bytes)) (as_it_goes line bytes short) in
     record { outcome = line; read = out; machine_is = ap (λ (t : Turn). t.machine) same; replied = ap (λ (t : Turn). t.reply) same; refused = ap (λ (t : Turn). t.refused) same }
 
 -- the line was refused
 pub last_fault : (may : Type 0) (old : LoggedRegion) (bytes : List ℕ) (refusal : Refusal) → command_at bytes ≡ Err refusal → LastsBy may old bytes old (Refused refusal)
 last_fault may old bytes refusal said =
-    let same : last_of (waiting old) (outcome_at done bytes) (command_at bytes) ≡ refusing (waiting old) refusal =
-    ap (λ (o : Outcome). last_of (waiting old) o (command_at bytes)) (as_said (is_too_long bytes)) ∙ ap (last_of (waiting old) done) said in
+    let same : last_of (machine_over old) (outcome_at done bytes) (command_at bytes) ≡ refusal_turn (machine_over old) refusal =
+    ap (λ (o : Outcome). last_of (machine_over old) o (command_at bytes)) (as_said (is_too_long bytes)) ∙ ap (last_of (machine_over old) done) said in
     record { outcome = done; read = tt; machine_is = ap (λ (t : Turn). t.machine) same; replied = ap (λ (t : Turn). t.reply) same; refused = ap (λ (t : Turn). t.refused) same }
 
 -- it was refused, or memory ran out before a command was found
@@ -198,23 +198,23 @@ last_err may old bytes ReadOnly is short out = last_fault may old bytes ReadOnly
 last_err may old bytes (OutOfRange part) is short out = last_fault may old bytes (OutOfRange part) (is (λ same. cc))
 
 -- if the input ends after a newline, nothing is left to do
-pub concluded_nothing : (may : Type 0) (old : LoggedRegion) → ConcludesBy may (waiting old) [] (waiting old) Silent
+pub concluded_nothing : (may : Type 0) (old : LoggedRegion) → ConcludesBy may (machine_over old) [] (machine_over old) Silent
 concluded_nothing may old = record { outcome = done; read = tt; machine_is = refl; replied = refl; refused = refl }
 
 -- what the last line comes to is what the end of the input does
-pub concluded_last : (may : Type 0) (old new : LoggedRegion) (b : ℕ) (bytes : List ℕ) (reply : Reply) → LastsBy may old (b ∷ bytes) new reply → ConcludesBy may (waiting old) (b ∷ bytes) (waiting new) reply
+pub concluded_last : (may : Type 0) (old new : LoggedRegion) (b : ℕ) (bytes : List ℕ) (reply : Reply) → LastsBy may old (b ∷ bytes) new reply → ConcludesBy may (machine_over old) (b ∷ bytes) (machine_over new) reply
 concluded_last may old new b bytes reply lasts = lasts
 
 -- ---- a command and the lines that it announces
 
 pub begun_said : (may : Type 0) (old new : LoggedRegion) (bytes : List ℕ) (command : CommandValue) (begun : Handled) (reply : Reply) (lines : Option Announced) → command_at bytes ≡ Ok command
-    → HandlesTo old command new begun → IsDone begun reply lines → AnswersBy may (waiting old) bytes (with_mode lines new) reply
+    → HandlesTo old command new begun → IsAnswer begun reply lines → AnswersBy may (machine_over old) bytes (with_mode lines new) reply
 begun_said may old new bytes command (Obeyed told) reply lines said (alone, obeys) (same, none) =
-    subst (λ (l : Option Announced). AnswersBy may (waiting old) bytes (with_mode l new) reply) (sym none)
-    (subst (λ (r : Reply). AnswersBy may (waiting old) bytes (waiting new) r) (sym same) (turned_said may bytes command old (waiting new) told said obeys))
+    subst (λ (l : Option Announced). AnswersBy may (machine_over old) bytes (with_mode l new) reply) (sym none)
+    (subst (λ (r : Reply). AnswersBy may (machine_over old) bytes (machine_over new) r) (sym same) (turned_said may bytes command old (machine_over new) told said obeys))
 begun_said may old new bytes command (Announces count) reply lines said (adopts, stays) (none, mode) =
-    let goes : turn (waiting old) done bytes ≡ silent (record { mode = announced count (Some []); region = old.state; log = old.log }) =
-    ap (λ (o : Outcome). turn_of (waiting old) o (command_at bytes)) (as_said (is_too_long bytes)) ∙ ap (turn_of (waiting old) done) (said ∙ ap Ok adopts) in record {
+    let goes : turn (machine_over old) done bytes ≡ silent_turn (record { mode = announced count (Some []); region = old.state; log = old.log }) =
+    ap (λ (o : Outcome). turn_of (machine_over old) o (command_at bytes)) (as_said (is_too_long bytes)) ∙ ap (turn_of (machine_over old) done) (said ∙ ap Ok adopts) in record {
       outcome = done;
       read = tt;
       machine_is = ap (λ (t : Turn). t.machine) goes ∙ sym (λ i. record { mode = mode i; region = (stays i).state; log = (stays i).log });

@@ -4,8 +4,8 @@ use Rattle.std.specs.Prelude.{Option, Result, Ok, Err, IsTrue, ◌↔◌}
 use Rattle.std.proofs.lemmas.Bool.{cases_lt}
 use Rattle.std.proofs.lemmas.Bool.Decides.{nat_tests}
 use Rattle.serde_json.specs.Data.{Data}
-use Rattle.pn_line.specs.Line.{LineBufferValue, so_far, kept}
-use Rattle.pn_line.proofs.LineLaws.{kept-short, length-kept_long}
+use Rattle.pn_line.specs.Line.{LineBufferValue, so_far, kept_bytes}
+use Rattle.pn_line.proofs.LineLaws.{kept_bytes-short, length-kept_bytes_long}
 use Rattle.pn_record.specs.Sets.{CellValue}
 use Rattle.pn_tablet.specs.Layouts.{Bounds}
 use Rattle.pn_scan.specs.Candidates.{Look}
@@ -71,23 +71,23 @@ answers_err old line ReadOnly is short = answers_fault old line ReadOnly (is (λ
 answers_err old line (OutOfRange part) is short = answers_fault old line (OutOfRange part) (is (λ same. cc))
 
 -- a line says what its kept bytes say
-said_kept : (line : List ℕ) → (lookup_at (kept line) ≡ lookup_at line) × (is_too_long (kept line) ≡ is_too_long line)
+said_kept : (line : List ℕ) → (lookup_at (kept_bytes line) ≡ lookup_at line) × (is_too_long (kept_bytes line) ≡ is_too_long line)
 said_kept line = elim (cases_lt 65536 (length line)) [
   | inl long ↦
       (
-      let long_too : 65536 < length (kept line) = omega (arith, length-kept_long line long) in
-      let here : is_too_long (kept line) ≡ true = grind (arith, nat_tests) in
+      let long_too : 65536 < length (kept_bytes line) = omega (arith, length-kept_bytes_long line long) in
+      let here : is_too_long (kept_bytes line) ≡ true = grind (arith, nat_tests) in
       let there : is_too_long line ≡ true = grind (arith, nat_tests) in
-      (too_long _ (kept line) long_too ∙ sym (too_long _ line long), here ∙ sym there)
+      (too_long _ (kept_bytes line) long_too ∙ sym (too_long _ line long), here ∙ sym there)
       )
-  | inr short ↦ (ap lookup_at (kept-short line short), ap is_too_long (kept-short line short))
+  | inr short ↦ (ap lookup_at (kept_bytes-short line short), ap is_too_long (kept_bytes-short line short))
 ]
 
-answers_kept : (old new : LiveReaderValue) (line : List ℕ) (reply : Reply) → AnswersLine old (kept line) new reply → AnswersLine old line new reply
+answers_kept : (old new : LiveReaderValue) (line : List ℕ) (reply : Reply) → AnswersLine old (kept_bytes line) new reply → AnswersLine old line new reply
 answers_kept old new line reply answered =
     let same = said_kept line in
     subst (λ (r : Result CommandValue Refusal). Tells old r new reply ⊎ ((is_too_long line ≡ false) × RefusesLine old Memory new reply)) same.0
-    (subst (λ (b : Bool). Tells old (lookup_at (kept line)) new reply ⊎ ((b ≡ false) × RefusesLine old Memory new reply)) same.1 answered)
+    (subst (λ (b : Bool). Tells old (lookup_at (kept_bytes line)) new reply ⊎ ((b ≡ false) × RefusesLine old Memory new reply)) same.1 answered)
 
 pub answers_so_far : (old new : LiveReaderValue) (line : LineBufferValue) (text : List ℕ) (reply : Reply) → line ≡ so_far text → AnswersLine old line.bytes new reply → AnswersLine old text new reply
 answers_so_far old new line text reply is answered =

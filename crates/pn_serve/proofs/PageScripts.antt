@@ -7,7 +7,7 @@ use Rattle.std.specs.Ordering.{eq_by_cmp}
 use Rattle.std.proofs.lemmas.Bool.{and_parts}
 use Rattle.std.proofs.lemmas.Bool.Decides.{nat_tests}
 use Rattle.std.proofs.lemmas.List.{take-append-drop}
-use Rattle.pn_join.proofs.Places.{not_found_below}
+use Rattle.pn_join.proofs.Indices.{not_found_below}
 use Rattle.pn_join.proofs.Rising.{Rising, Rising-from_sorted}
 use Rattle.pn_json.specs.Lines.{line_of}
 use Rattle.pn_record.specs.CellMap.{Entries}
@@ -15,7 +15,7 @@ use Rattle.pn_record.specs.Order.{bytes_cmp}
 use Rattle.pn_record.specs.Sets.{CellValue}
 use Rattle.pn_record.proofs.HeldRecords.{tied_keys}
 use Rattle.pn_scan.specs.Pages.{PageValue}
-use Rattle.pn_scan.specs.Queries.{QueryValue, continued, max_conditions, is_condition, is_end, is_limit, query_fits, is_query}
+use Rattle.pn_scan.specs.Queries.{QueryValue, query_after, MAX_CONDITIONS, is_condition, is_end, is_limit, query_fits, is_query}
 use Rattle.pn_scan.specs.Shown.{is_shown, shown_rows}
 use Rattle.pn_scan.specs.Walks.{ArePages, left_by, rows_of}
 use Rattle.pn_scan.specs.declared.fault.ScanFault.{ScanFault}
@@ -35,11 +35,11 @@ use Rattle.pn_protocol.specs.Command.Lines.{command_at}
 use Rattle.pn_protocol.specs.Command.Meaning.{CommandValue, scan}
 use Rattle.pn_protocol.specs.Reply.Scan.{scan_data}
 use Rattle.pn_protocol.proofs.CommandLines.{line_found}
-use Rattle.pn_serve.specs.Machine.Doing.{looking}
+use Rattle.pn_serve.specs.Machine.Doing.{lookup_turn}
 use Rattle.pn_serve.specs.Machine.LastTurns.{last_of, end_in, end_turn}
-use Rattle.pn_serve.specs.Machine.Outcomes.{Outcome, done, line, call, round, Mode, idle, Machine, Turn}
+use Rattle.pn_serve.specs.Machine.Outcomes.{Outcome, done, line, call, round, Mode, awaits_command, Machine, Turn}
 use Rattle.pn_serve.specs.Machine.Turns.{turn_of, outcome_at, turn_in, turn}
-use Rattle.pn_serve.specs.Script.Events.{happened_in}
+use Rattle.pn_serve.specs.Script.Events.{events_in}
 use Rattle.pn_serve.specs.Script.Inputs.{InputEnd, Input}
 use Rattle.pn_serve.specs.Script.Pages.{ShowsPage, ShowsNext, EndsPages, ShowPages, shown_cell}
 use Rattle.pn_serve.specs.Script.Lines.{ToldLine, told_lines, after_line}
@@ -53,7 +53,7 @@ module _ (m : Machine) (query : QueryValue) where
   abbrev Found : Turn → Type 0
   Found turned = (page : PageValue) × (page_in m.region query ≡ Ok page) × (turned.reply ≡ line_of (scan_data page))
 
-  found_by : (right : Result PageValue ScanFault) → page_in m.region query ≡ right → (looking m scan_data right).refused ≡ false → Found (looking m scan_data right)
+  found_by : (right : Result PageValue ScanFault) → page_in m.region query ≡ right → (lookup_turn m scan_data right).refused ≡ false → Found (lookup_turn m scan_data right)
   found_by (Ok page) is accepted = (page, is, refl)
   found_by (Err fault) is accepted = cc
 
@@ -63,7 +63,7 @@ module _ (m : Machine) (query : QueryValue) where
   scan_found call accepted = cc
   scan_found (round flags) accepted = found_by (page_in m.region query) refl accepted
 
-  pub line_shows : (text : List ℕ) (outcome : Outcome) → m.mode ≡ idle → command_at text ≡ Ok (scan query) → (turn m outcome text).refused ≡ false → (page : PageValue) × ShowsPage m text (turn m outcome text) query page
+  pub line_shows : (text : List ℕ) (outcome : Outcome) → m.mode ≡ awaits_command → command_at text ≡ Ok (scan query) → (turn m outcome text).refused ≡ false → (page : PageValue) × ShowsPage m text (turn m outcome text) query page
   line_shows text outcome waits says accepted =
       let at = outcome_at outcome text in
       let same : turn m outcome text ≡ turn_of m at (Ok (scan query)) = ap (λ (mode : Mode). turn_in mode m outcome text) waits ∙ ap (λ (said : Result CommandValue Refusal). turn_of m at said) says in
@@ -76,7 +76,7 @@ module _ (m : Machine) (query : QueryValue) where
   last_as_line call = refl
   last_as_line (round flags) = refl
 
-  pub end_shows : (text : List ℕ) (outcome : Outcome) → text ≢ [] → m.mode ≡ idle → command_at text ≡ Ok (scan query) → (end_turn m outcome text).refused ≡ false → (page : PageValue) × ShowsPage m text (end_turn m outcome text) query page
+  pub end_shows : (text : List ℕ) (outcome : Outcome) → text ≢ [] → m.mode ≡ awaits_command → command_at text ≡ Ok (scan query) → (end_turn m outcome text).refused ≡ false → (page : PageValue) × ShowsPage m text (end_turn m outcome text) query page
   end_shows [] outcome there waits says accepted = absurd (there refl)
   end_shows (b ∷ part) outcome there waits says accepted =
       let at = outcome_at outcome (b ∷ part) in
@@ -93,8 +93,8 @@ some_rows limit is = grind (arith, nat_tests)
 query_room : (query : QueryValue) → is_query query ≡ true → 0 < query.limit
 query_room query is =
     let fits = (and_parts (is_end query.after && is_end query.from && is_end query.to) (query_fits query.conditions query.limit) is).1 in
-    let few = and_parts (is_limit query.limit && nat_le (length query.conditions) max_conditions) (list_all is_condition query.conditions) fits in
-    some_rows query.limit (and_parts (is_limit query.limit) (nat_le (length query.conditions) max_conditions) few.0).0
+    let few = and_parts (is_limit query.limit && nat_le (length query.conditions) MAX_CONDITIONS) (list_all is_condition query.conditions) fits in
+    some_rows query.limit (and_parts (is_limit query.limit) (nat_le (length query.conditions) MAX_CONDITIONS) few.0).0
 
 line_room : (text : List ℕ) (query : QueryValue) → command_at text ≡ Ok (scan query) → 0 < query.limit
 line_room text query says = query_room query (line_found text (scan query) says).spelled.limits
@@ -107,7 +107,7 @@ one_is (event ∷ []) old new lead is = event_is event old new is lead
 one_is (event ∷ next ∷ later) old new lead is = absurd lead
 
 line_is : (m : Machine) (text : ToldLine) → IsRegion m.region → IsRegion (after_line m text).region
-line_is m text is = one_is (happened_in m.mode m text.outcome text.text) m.region (after_line m text).region (line_leads m text.outcome text.text is) is
+line_is m text is = one_is (events_in m.mode m text.outcome text.text) m.region (after_line m text).region (line_leads m text.outcome text.text is) is
 
 module _ (Holds : RegionValue → Type 0) where
   -- a region with the property has the page; the query asks for at least one row
@@ -208,8 +208,8 @@ module _ (key : List ℕ) (cell : Option CellValue) where
       ap (λ (es : Entries). find bytes_cmp key es) ((λ i. all i ++ none last i) ∙ append-nil (shown_rows query cells)) ∙ find_shown query key cells rises ∙ ap (shown_cell query key) is
   page_stays query cells rises is page later (goes_on row at next front within) found none =
       let rows = shown_rows query cells in
-      let rest : find bytes_cmp key (drop query.limit rows) ≡ shown_cell (continued query row.0) key cell =
-      ap (λ (es : Entries). find bytes_cmp key es) (sym (shown_after query cells query.limit row rises at)) ∙ find_shown (continued query row.0) key cells rises ∙ ap (shown_cell (continued query row.0) key) is in
+      let rest : find bytes_cmp key (drop query.limit rows) ≡ shown_cell (query_after query row.0) key cell =
+      ap (λ (es : Entries). find bytes_cmp key es) (sym (shown_after query cells query.limit row rises at)) ∙ find_shown (query_after query row.0) key cells rises ∙ ap (shown_cell (query_after query row.0) key) is in
       ap (λ (es : Entries). find bytes_cmp key (es ++ later)) front
       ∙ find_after key (take query.limit rows) later (drop query.limit rows) (found ∙ ap asked_cell next ∙ sym rest)
       ∙ ap (λ (es : Entries). find bytes_cmp key es) (take-append-drop query.limit rows)

@@ -18,6 +18,7 @@ use Rattle.pn_json.specs.Members.{each_in}
 use Rattle.pn_json.proofs.Inverses.{bind_ok}
 use Rattle.pn_record.specs.Limits.{is_key}
 use Rattle.pn_record.specs.Reading.{reading}
+use Rattle.pn_live.specs.Prelude.{MAX_READERS}
 use Rattle.pn_tablet.specs.Layouts.{Bounds, layout_of}
 use Rattle.pn_tablet.specs.declared.layout.LayoutFault.{LayoutFault}
 use Rattle.pn_serve.specs.Arguments.Bounds.{bounds_in, key_in, or_bounds}
@@ -170,11 +171,11 @@ no_words written command text e = subst (λ r. IfErr r IsOfOption) e (one_of_bot
 -- a plan of a script, or to serve with a few sessions
 abbrev IsPlanned : PlanValue → Type 0
 IsPlanned (replay settings) = Unit {0}
-IsPlanned (serve settings service streams) = (1 ≤ service.sessions) × (service.sessions ≤ 16)
+IsPlanned (serve settings service streams) = (1 ≤ service.sessions) × (service.sessions ≤ MAX_READERS)
 IsPlanned help = ⊥
 IsPlanned version = ⊥
 
-in_range : (n : ℕ) → (1 ≤ max 1 (min n 16)) × (max 1 (min n 16) ≤ 16)
+in_range : (n : ℕ) → (1 ≤ max 1 (min n MAX_READERS)) × (max 1 (min n MAX_READERS) ≤ MAX_READERS)
 in_range n = (omega arith, omega arith)
 
 serve_plans : (written : Option IpAddr) (options : List Row) (value : PlanValue) → serve_in written options ≡ Ok value → IsPlanned value

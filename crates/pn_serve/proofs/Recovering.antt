@@ -12,12 +12,12 @@ use Rattle.pn_tablet.specs.CopyReading.{copy_at}
 use Rattle.pn_tablet.specs.Refusals.{Refuses, Answers}
 use Rattle.pn_tablet.specs.Steps as steps
 use Rattle.pn_tablet.specs.Tablets.{TabletStateValue}
-use Rattle.pn_tablet.specs.declared.copy_fault.CopyTextFault.{CopyTextFault}
-use Rattle.pn_tablet.specs.declared.copy_fault.CopyTextFault.TheVariants as text
+use Rattle.pn_tablet.specs.declared.fault.CopyTextFault.{CopyTextFault}
+use Rattle.pn_tablet.specs.declared.fault.CopyTextFault.TheVariants as text
 use Rattle.pn_tablet.specs.declared.fault.CopyFault.{CopyFault}
 use Rattle.pn_tablet.specs.declared.fault.CopyFault.TheVariants as copying
-use Rattle.pn_region.specs.Logged.{LoggedRegion, breaking}
-use Rattle.pn_region.specs.Recovery.{adopting}
+use Rattle.pn_region.specs.Logged.{LoggedRegion, with_break}
+use Rattle.pn_region.specs.Recovery.{after_adoption}
 use Rattle.pn_region.specs.Recovery as recovery
 use Rattle.pn_region.specs.Regions.{RegionValue, IsRegion}
 use Rattle.pn_tablet.specs.declared.fault.OpFault.{OpFault as AdoptFault}
@@ -28,26 +28,27 @@ use Rattle.pn_protocol.specs.declared.reply.Reply.TheVariants.{Adopted, Changed,
 use Rattle.pn_protocol.specs.declared.refusal.Part.TheVariants.{Tablet}
 use Rattle.pn_protocol.specs.declared.refusal.Refusal.TheVariants.{OutOfRange, Memory}
 use Rattle.pn_protocol.specs.Command.Meaning.{CommandValue, copy, lose}
-use Rattle.pn_serve.specs.Machine.Doing.{doing}
-use Rattle.pn_serve.specs.Machine.Outcomes.{done, idle, Turn, waiting}
-use Rattle.pn_serve.specs.Machine.Recovering.{at_tablet, showing_copy, adopted, adopting_read, adopting_text}
-use Rattle.pn_serve.specs.Machine.Turns.{obeying}
+use Rattle.pn_serve.specs.Machine.Doing.{plain_turn}
+use Rattle.pn_serve.specs.Machine.Outcomes.{done, awaits_command, Turn, machine_over}
+use Rattle.pn_serve.specs.Machine.Recovering.{at_tablet, copy_reply_turn, adoption_turn, read_adoption_turn, text_adoption_turn}
+use Rattle.pn_serve.specs.Machine.Turns.{command_turn}
 use Rattle.pn_serve.specs.Machine.Answers.{Obeys}
 use Rattle.pn_protocol.specs.Reply.Answers.{ShowsCopy, ShowsCopyOf}
-use Rattle.pn_protocol.specs.Reply.Refusals.{Tells, TellsNoCopy, TellsBadText, TellsNotAdopted}
+use Rattle.pn_protocol.specs.Reply.Refusals.{Tells, Refuses as RefusesBy}
+use Rattle.pn_protocol.specs.declared.reply.refusals.CommandFault.TheVariants.{Copy, CopyText, Adoption}
 use Rattle.pn_serve.specs.Machine.Ways.{ComesTo}
-use Rattle.pn_protocol.specs.Reply.Recovery.{bad_text_data, not_adopted_data}
+use Rattle.pn_protocol.specs.Reply.Faults.{copy_text_fault_data, adopt_fault_data}
 use Rattle.pn_protocol.specs.Reply.Short.{lost_data}
 use Rattle.pn_serve.proofs.Turns.{turned_call}
 
 -- a refusal that changes nothing
 abbrev telling : LoggedRegion → Data → Turn
-telling region said = record { machine = waiting region; reply = line_of said; refused = true }
+telling region said = record { machine = machine_over region; reply = line_of said; refused = true }
 
 -- a refusal was answered, or memory ran out
 pub told : (turn : Turn) (old new : LoggedRegion) (right : Type 0) (said : Data) (reply : Reply) → new ≡ old → (right → turn ≡ telling old said) → Tells right said reply → ComesTo turn old new reply
 told turn old new right said (NotTaken text) same is (knows, says) =
-    inl (ap (λ (t : Turn). t.machine) (is knows) ∙ ap waiting (sym same), ap (λ (t : Turn). t.reply) (is knows) ∙ sym says, ap (λ (t : Turn). t.refused) (is knows))
+    inl (ap (λ (t : Turn). t.machine) (is knows) ∙ ap machine_over (sym same), ap (λ (t : Turn). t.reply) (is knows) ∙ sym says, ap (λ (t : Turn). t.refused) (is knows))
 told turn old new right said (Adopted tablet) same is tells = inr (same, tells)
 told turn old new right said (Changed count) same is tells = inr (same, tells)
 told turn old new right said (Copied lines text) same is tells = inr (same, tells)
@@ -63,30 +64,30 @@ came_as one other old new reply same comes = subst (λ (t : Turn). ComesTo t old
 
 -- ---- adoptions
 
-pub adopts : (old new : LoggedRegion) (given : TabletCopyValue) (tablet : ℕ) → adopting old.state given ≡ Ok (tablet, new.state) → new.log ≡ breaking old.log → ComesTo (adopted old (adopting old.state given)) old new (Adopted tablet)
-adopts old new given tablet is noted = came_as _ _ old new (Adopted tablet) (ap (adopted old) is) (inl (λ i. record { mode = idle; region = new.state; log = sym noted i }, refl, refl))
+pub adopts : (old new : LoggedRegion) (given : TabletCopyValue) (tablet : ℕ) → after_adoption old.state given ≡ Ok (tablet, new.state) → new.log ≡ with_break old.log → ComesTo (adoption_turn old (after_adoption old.state given)) old new (Adopted tablet)
+adopts old new given tablet is noted = came_as _ _ old new (Adopted tablet) (ap (adoption_turn old) is) (inl (λ i. record { mode = awaits_command; region = new.state; log = sym noted i }, refl, refl))
 
 not_memory : (fault : AdoptFault) (right : Result (ℕ × RegionValue) AdoptFault) → Refuses steps.is_memory fault right → fault ≢ adoption.Memory → right ≡ Err fault
 not_memory adoption.WrongRange right is other = is
 not_memory (adoption.TooOld stream has needs) right is other = is
 not_memory adoption.Memory right is other = absurd (other refl)
 
-pub adopts_not : (old new : LoggedRegion) (given : TabletCopyValue) (fault : AdoptFault) (reply : Reply) → new ≡ old → Refuses steps.is_memory fault (adopting old.state given) → TellsNotAdopted fault reply
-    → ComesTo (adopted old (adopting old.state given)) old new reply
+pub adopts_not : (old new : LoggedRegion) (given : TabletCopyValue) (fault : AdoptFault) (reply : Reply) → new ≡ old → Refuses steps.is_memory fault (after_adoption old.state given) → RefusesBy (Adoption fault) reply
+    → ComesTo (adoption_turn old (after_adoption old.state given)) old new reply
 adopts_not old new given fault reply same right tells =
-    told (adopted old (adopting old.state given)) old new (fault ≢ adoption.Memory) (not_adopted_data fault) reply same (λ other. ap (adopted old) (not_memory fault (adopting old.state given) right other)) tells
+    told (adoption_turn old (after_adoption old.state given)) old new (fault ≢ adoption.Memory) (adopt_fault_data fault) reply same (λ other. ap (adoption_turn old) (not_memory fault (after_adoption old.state given) right other)) tells
 
-pub adopts_text : (old new : LoggedRegion) (bytes : List ℕ) (given : TabletCopyValue) (reply : Reply) → copy_at bytes ≡ Ok given → ComesTo (adopted old (adopting old.state given)) old new reply
-    → ComesTo (adopting_text old (Some bytes)) old new reply
-adopts_text old new bytes given reply is comes = came_as _ _ old new reply (ap (adopting_read old) is) comes
+pub adopts_text : (old new : LoggedRegion) (bytes : List ℕ) (given : TabletCopyValue) (reply : Reply) → copy_at bytes ≡ Ok given → ComesTo (adoption_turn old (after_adoption old.state given)) old new reply
+    → ComesTo (text_adoption_turn old (Some bytes)) old new reply
+adopts_text old new bytes given reply is comes = came_as _ _ old new reply (ap (read_adoption_turn old) is) comes
 
 no_text : (fault : CopyTextFault) (right : Result TabletCopyValue CopyTextFault) → IsUnless text.Memory (Err fault) right → fault ≢ text.Memory → right ≡ Err fault
 no_text fault right is other = is other
 
-pub adopts_no_text : (old : LoggedRegion) (bytes : List ℕ) (fault : CopyTextFault) (reply : Reply) → IsUnless {A = TabletCopyValue} text.Memory (Err fault) (copy_at bytes) → TellsBadText fault reply
-    → ComesTo (adopting_text old (Some bytes)) old old reply
+pub adopts_no_text : (old : LoggedRegion) (bytes : List ℕ) (fault : CopyTextFault) (reply : Reply) → IsUnless {A = TabletCopyValue} text.Memory (Err fault) (copy_at bytes) → RefusesBy (CopyText fault) reply
+    → ComesTo (text_adoption_turn old (Some bytes)) old old reply
 adopts_no_text old bytes fault reply right tells =
-    told (adopting_text old (Some bytes)) old old (fault ≢ text.Memory) (bad_text_data fault) reply refl (λ other. ap (adopting_read old) (no_text fault (copy_at bytes) right other)) tells
+    told (text_adoption_turn old (Some bytes)) old old (fault ≢ text.Memory) (copy_text_fault_data fault) reply refl (λ other. ap (read_adoption_turn old) (no_text fault (copy_at bytes) right other)) tells
 
 -- ---- losses and copies
 
@@ -95,16 +96,16 @@ no_tablet region tablet is past = slice_get_past region.tablets tablet (omega (a
 
 -- there is no such tablet
 refused_there : (region : LoggedRegion) (tablet : ℕ) (command : CommandValue) (does : TabletStateValue → Turn) → slice_get region.state.tablets tablet ≡ None
-    → doing (waiting region) command ≡ at_tablet (waiting region) (slice_get region.state.tablets tablet) does → obeying (waiting region) done command ≡ doing (waiting region) command
-    → Obeys (waiting region) command (waiting region) (Refused (OutOfRange Tablet))
+    → plain_turn (machine_over region) command ≡ at_tablet (machine_over region) (slice_get region.state.tablets tablet) does → command_turn (machine_over region) done command ≡ plain_turn (machine_over region) command
+    → Obeys (machine_over region) command (machine_over region) (Refused (OutOfRange Tablet))
 refused_there region tablet command does none is obeys =
-    let all = obeys ∙ is ∙ ap (λ (found : Option TabletStateValue). at_tablet (waiting region) found does) none in
+    let all = obeys ∙ is ∙ ap (λ (found : Option TabletStateValue). at_tablet (machine_over region) found does) none in
     record { outcome = done; machine_is = ap (λ (t : Turn). t.machine) all; replied = ap (λ (t : Turn). t.reply) all; refused = ap (λ (t : Turn). t.refused) all }
 
-pub lost_nothing : (region : LoggedRegion) (tablet : ℕ) → slice_get region.state.tablets tablet ≡ None → Obeys (waiting region) (lose tablet) (waiting region) (Refused (OutOfRange Tablet))
+pub lost_nothing : (region : LoggedRegion) (tablet : ℕ) → slice_get region.state.tablets tablet ≡ None → Obeys (machine_over region) (lose tablet) (machine_over region) (Refused (OutOfRange Tablet))
 lost_nothing region tablet none = refused_there region tablet (lose tablet) _ none refl refl
 
-pub copied_nothing : (region : LoggedRegion) (need : Positions) (tablet : ℕ) → slice_get region.state.tablets tablet ≡ None → Obeys (waiting region) (copy need tablet) (waiting region) (Refused (OutOfRange Tablet))
+pub copied_nothing : (region : LoggedRegion) (need : Positions) (tablet : ℕ) → slice_get region.state.tablets tablet ≡ None → Obeys (machine_over region) (copy need tablet) (machine_over region) (Refused (OutOfRange Tablet))
 copied_nothing region need tablet none = refused_there region tablet (copy need tablet) _ none refl refl
 
 -- there is a tablet of each number below the layout's count
@@ -114,23 +115,23 @@ tablet_there region tablet is within = elim (slice_get_cases region.tablets tabl
   | inr (past, none) ↦ absurd (omega (arith, past, within, tablet_count region.marks region.layout region.tablets is.tablets))
 ]
 
-pub lost_there : (old new : LoggedRegion) (tablet : ℕ) (state : TabletStateValue) → slice_get old.state.tablets tablet ≡ Some state → new.state ≡ recovery.losing old.state tablet → new.log ≡ breaking old.log → Obeys (waiting old) (lose tablet) (waiting new) (Lost tablet)
+pub lost_there : (old new : LoggedRegion) (tablet : ℕ) (state : TabletStateValue) → slice_get old.state.tablets tablet ≡ Some state → new.state ≡ recovery.after_loss old.state tablet → new.log ≡ with_break old.log → Obeys (machine_over old) (lose tablet) (machine_over new) (Lost tablet)
 lost_there old new tablet state there is noted =
-    let does : TabletStateValue → Turn = λ state. record { machine = record { mode = idle; region = recovery.losing old.state tablet; log = breaking old.log }; reply = line_of (lost_data tablet); refused = false } in
-    let all = ap (λ (found : Option TabletStateValue). at_tablet (waiting old) found does) there in
-    record { outcome = done; machine_is = ap (λ (t : Turn). t.machine) all ∙ (λ i. record { mode = idle; region = sym is i; log = sym noted i }); replied = ap (λ (t : Turn). t.reply) all; refused = ap (λ (t : Turn). t.refused) all }
+    let does : TabletStateValue → Turn = λ state. record { machine = record { mode = awaits_command; region = recovery.after_loss old.state tablet; log = with_break old.log }; reply = line_of (lost_data tablet); refused = false } in
+    let all = ap (λ (found : Option TabletStateValue). at_tablet (machine_over old) found does) there in
+    record { outcome = done; machine_is = ap (λ (t : Turn). t.machine) all ∙ (λ i. record { mode = awaits_command; region = sym is i; log = sym noted i }); replied = ap (λ (t : Turn). t.reply) all; refused = ap (λ (t : Turn). t.refused) all }
 
 -- a copy was looked for in a tablet
 module _ (region : LoggedRegion) (need : Positions) (tablet : ℕ) (state : TabletStateValue) (there : slice_get region.state.tablets tablet ≡ Some state) where
-  looked : (right : Result TabletCopyValue CopyFault) → copy_of state need ≡ right → obeying (waiting region) done (copy need tablet) ≡ showing_copy (waiting region) tablet right
+  looked : (right : Result TabletCopyValue CopyFault) → copy_of state need ≡ right → command_turn (machine_over region) done (copy need tablet) ≡ copy_reply_turn (machine_over region) tablet right
   looked right is =
-      ap (λ (found : Option TabletStateValue). at_tablet (waiting region) found (λ state. showing_copy (waiting region) tablet (copy_of state need))) there
-      ∙ ap (showing_copy (waiting region) tablet) is
+      ap (λ (found : Option TabletStateValue). at_tablet (machine_over region) found (λ state. copy_reply_turn (machine_over region) tablet (copy_of state need))) there
+      ∙ ap (copy_reply_turn (machine_over region) tablet) is
 
-  out : (reply : Reply) → reply ≡ Refused Memory → Obeys (waiting region) (copy need tablet) (waiting region) reply
-  out reply is = subst (λ (r : Reply). Obeys (waiting region) (copy need tablet) (waiting region) r) (sym is) (turned_call region region (copy need tablet) refl refl)
+  out : (reply : Reply) → reply ≡ Refused Memory → Obeys (machine_over region) (copy need tablet) (machine_over region) reply
+  out reply is = subst (λ (r : Reply). Obeys (machine_over region) (copy need tablet) (machine_over region) r) (sym is) (turned_call region region (copy need tablet) refl refl)
 
-  copied_there : (copied : TabletCopyValue) (reply : Reply) → copy_of state need ≡ Ok copied → ShowsCopy copied reply → Obeys (waiting region) (copy need tablet) (waiting region) reply
+  copied_there : (copied : TabletCopyValue) (reply : Reply) → copy_of state need ≡ Ok copied → ShowsCopy copied reply → Obeys (machine_over region) (copy need tablet) (machine_over region) reply
   copied_there copied (Copied lines text) is shows =
       let all = looked (Ok copied) is in
       record { outcome = done; machine_is = ap (λ (t : Turn). t.machine) all; replied = ap (λ (t : Turn). t.reply) all ∙ sym shows; refused = ap (λ (t : Turn). t.refused) all }
@@ -149,7 +150,7 @@ module _ (region : LoggedRegion) (need : Positions) (tablet : ℕ) (state : Tabl
   right_fault copying.NoEntry right is other = is
   right_fault copying.Memory right is other = absurd (other refl)
 
-  not_copied_there : (fault : CopyFault) (reply : Reply) → Refuses is_memory fault (copy_of state need) → TellsNoCopy tablet fault reply → Obeys (waiting region) (copy need tablet) (waiting region) reply
+  not_copied_there : (fault : CopyFault) (reply : Reply) → Refuses is_memory fault (copy_of state need) → RefusesBy (Copy tablet fault) reply → Obeys (machine_over region) (copy need tablet) (machine_over region) reply
   not_copied_there fault (NotTaken text) right (other, says) =
       let all = looked (Err fault) (right_fault fault (copy_of state need) right other) in
       record { outcome = done; machine_is = ap (λ (t : Turn). t.machine) all; replied = ap (λ (t : Turn). t.reply) all ∙ sym says; refused = ap (λ (t : Turn). t.refused) all }
@@ -163,7 +164,7 @@ module _ (region : LoggedRegion) (need : Positions) (tablet : ℕ) (state : Tabl
   not_copied_there fault (Refused refusal) right tells = out _ tells
 
   -- what was found of the tablet was shown
-  pub answered_there : (copied : Result TabletCopyValue CopyFault) (reply : Reply) → Answers is_memory copied (copy_of state need) → ShowsCopyOf tablet copied reply → Obeys (waiting region) (copy need tablet) (waiting region) reply
+  pub answered_there : (copied : Result TabletCopyValue CopyFault) (reply : Reply) → Answers is_memory copied (copy_of state need) → ShowsCopyOf tablet copied reply → Obeys (machine_over region) (copy need tablet) (machine_over region) reply
   answered_there (Ok copied) reply is shows = copied_there copied reply is shows
   answered_there (Err fault) reply is tells = not_copied_there fault reply is tells
 

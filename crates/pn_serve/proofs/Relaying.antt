@@ -3,14 +3,14 @@ use Rattle.std.proofs.Common.{◌≡◌, ◌≢◌, ℕ, ◌+◌, nat_lt, true, 
 use Rattle.std.proofs.lemmas.Bool.Decides.{nat_tests}
 use Rattle.std.specs.Prelude.{Result, Ok, Err, Option, Some, None}
 use Rattle.pn_tablet.specs.Layouts.{Bounds, IsLayout, first_fall, rising_layout, layout_of}
-use Rattle.pn_tablet.specs.Limits.{max_bounds}
+use Rattle.pn_tablet.specs.Prelude.{MAX_BOUNDS}
 use Rattle.pn_tablet.specs.Refusals.{Refuses}
 use Rattle.pn_tablet.specs.declared.layout.LayoutFault.{LayoutFault}
 use Rattle.pn_tablet.specs.declared.layout.LayoutFault.TheVariants.{TooMany}
 use Rattle.pn_tablet.proofs.BoundSteps.{rising_from_none}
 use Rattle.pn_region.specs.Logged.{LoggedRegion}
 use Rattle.pn_region.specs.Regions.{RegionValue}
-use Rattle.pn_region.specs.Relayouts.{relaying, is_memory}
+use Rattle.pn_region.specs.Relayouts.{after_relayout, is_memory}
 use Rattle.pn_region.specs.declared.fault.RelayoutFault.{RelayoutFault}
 use Rattle.pn_region.specs.declared.fault.RelayoutFault.TheVariants as fault_of
 use Rattle.pn_protocol.specs.declared.reply.Reply.{Reply}
@@ -18,12 +18,13 @@ use Rattle.pn_protocol.specs.declared.reply.Reply.TheVariants.{Relaid, Refused}
 use Rattle.pn_protocol.specs.declared.refusal.Part.TheVariants as part
 use Rattle.pn_protocol.specs.declared.refusal.Refusal.TheVariants.{OutOfRange}
 use Rattle.pn_protocol.specs.Command.Meaning.{relayout}
-use Rattle.pn_protocol.specs.Reply.Refusals.{TellsNotRelaid}
-use Rattle.pn_protocol.specs.Reply.Relayouts.{not_relaid_data}
+use Rattle.pn_protocol.specs.Reply.Faults.{relayout_fault_data}
+use Rattle.pn_protocol.specs.Reply.Refusals.{Refuses as RefusesBy}
+use Rattle.pn_protocol.specs.declared.reply.refusals.CommandFault.TheVariants.{Relayout}
 use Rattle.pn_serve.specs.Machine.Answers.{Obeys}
-use Rattle.pn_serve.specs.Machine.Outcomes.{done, idle, Turn, waiting}
-use Rattle.pn_serve.specs.Machine.Relaying.{relaid_turn, relaying_it}
-use Rattle.pn_serve.specs.Machine.Turns.{obeying}
+use Rattle.pn_serve.specs.Machine.Outcomes.{done, awaits_command, Turn, machine_over}
+use Rattle.pn_serve.specs.Machine.Relaying.{relaid_turn, relayout_turn}
+use Rattle.pn_serve.specs.Machine.Turns.{command_turn}
 use Rattle.pn_serve.specs.Machine.Ways.{ComesTo}
 use Rattle.pn_serve.proofs.Recovering.{told, came_as}
 use Rattle.pn_serve.proofs.Turns.{turned_call}
@@ -36,7 +37,7 @@ rising_is (Some place) bounds layout is = absurd (cc)
 
 pub lawful_bounds : (bounds layout : Bounds) → layout_of bounds ≡ Ok layout → (layout ≡ bounds) × IsLayout bounds
 lawful_bounds bounds layout is =
-    elim (nat_lt max_bounds (length bounds)) as (λ b. nat_lt max_bounds (length bounds) ≡ b → cond b (Err TooMany) (rising_layout (first_fall bounds) bounds) ≡ Ok layout → (layout ≡ bounds) × IsLayout bounds) [
+    elim (nat_lt MAX_BOUNDS (length bounds)) as (λ b. nat_lt MAX_BOUNDS (length bounds) ≡ b → cond b (Err TooMany) (rising_layout (first_fall bounds) bounds) ≡ Ok layout → (layout ≡ bounds) × IsLayout bounds) [
       | true ↦ λ many is. absurd (cc)
       | false ↦ λ few is.
           let rises = rising_is (first_fall bounds) bounds layout is in
@@ -45,30 +46,30 @@ lawful_bounds bounds layout is =
 
 -- ---- changes of the layout
 
-pub relays : (old new : LoggedRegion) (count : ℕ) (right : Result RegionValue RelayoutFault) → right ≡ Ok new.state → new.log ≡ old.log → ComesTo (relaid_turn (waiting old) count right) old new (Relaid count)
+pub relays : (old new : LoggedRegion) (count : ℕ) (right : Result RegionValue RelayoutFault) → right ≡ Ok new.state → new.log ≡ old.log → ComesTo (relaid_turn (machine_over old) count right) old new (Relaid count)
 relays old new count right is kept =
-    came_as _ _ old new (Relaid count) (ap (relaid_turn (waiting old) count) is) (inl (λ i. record { mode = idle; region = new.state; log = sym kept i }, refl, refl))
+    came_as _ _ old new (Relaid count) (ap (relaid_turn (machine_over old) count) is) (inl (λ i. record { mode = awaits_command; region = new.state; log = sym kept i }, refl, refl))
 
 not_memory : (fault : RelayoutFault) (right : Result RegionValue RelayoutFault) → Refuses is_memory fault right → fault ≢ fault_of.Memory → right ≡ Err fault
 not_memory (fault_of.StillRecovering tablet) right is other = is
 not_memory fault_of.Memory right is other = absurd (other refl)
 
-pub relays_not : (old new : LoggedRegion) (count : ℕ) (right : Result RegionValue RelayoutFault) (fault : RelayoutFault) (reply : Reply) → new ≡ old → Refuses is_memory fault right → TellsNotRelaid fault reply
-    → ComesTo (relaid_turn (waiting old) count right) old new reply
+pub relays_not : (old new : LoggedRegion) (count : ℕ) (right : Result RegionValue RelayoutFault) (fault : RelayoutFault) (reply : Reply) → new ≡ old → Refuses is_memory fault right → RefusesBy (Relayout fault) reply
+    → ComesTo (relaid_turn (machine_over old) count right) old new reply
 relays_not old new count right fault reply same refuses tells =
-    told (relaid_turn (waiting old) count right) old new (fault ≢ fault_of.Memory) (not_relaid_data fault) reply same (λ other. ap (relaid_turn (waiting old) count) (not_memory fault right refuses other)) tells
+    told (relaid_turn (machine_over old) count right) old new (fault ≢ fault_of.Memory) (relayout_fault_data fault) reply same (λ other. ap (relaid_turn (machine_over old) count) (not_memory fault right refuses other)) tells
 
 -- what a change of the layout comes to, the command does
-pub relaid_obeys : (old new : LoggedRegion) (bounds layout : Bounds) (reply : Reply) → layout_of bounds ≡ Ok layout → ComesTo (relaid_turn (waiting old) (length layout + 1) (relaying old.state layout)) old new reply
-    → Obeys (waiting old) (relayout bounds) (waiting new) reply
+pub relaid_obeys : (old new : LoggedRegion) (bounds layout : Bounds) (reply : Reply) → layout_of bounds ≡ Ok layout → ComesTo (relaid_turn (machine_over old) (length layout + 1) (after_relayout old.state layout)) old new reply
+    → Obeys (machine_over old) (relayout bounds) (machine_over new) reply
 relaid_obeys old new bounds layout reply is (inl comes) =
-    let all : obeying (waiting old) done (relayout bounds) ≡ relaid_turn (waiting old) (length layout + 1) (relaying old.state layout) = ap (relaying_it (waiting old)) is in
+    let all : command_turn (machine_over old) done (relayout bounds) ≡ relaid_turn (machine_over old) (length layout + 1) (after_relayout old.state layout) = ap (relayout_turn (machine_over old)) is in
     record { outcome = done; machine_is = ap (λ (t : Turn). t.machine) all ∙ comes.0; replied = ap (λ (t : Turn). t.reply) all ∙ comes.1; refused = ap (λ (t : Turn). t.refused) all ∙ comes.2 }
 relaid_obeys old new bounds layout reply is (inr out) =
-    subst (λ (r : Reply). Obeys (waiting old) (relayout bounds) (waiting new) r) (sym out.1) (turned_call old new (relayout bounds) refl out.0)
+    subst (λ (r : Reply). Obeys (machine_over old) (relayout bounds) (machine_over new) r) (sym out.1) (turned_call old new (relayout bounds) refl out.0)
 
 -- the bounds are those of no layout
-pub relaid_not : (region : LoggedRegion) (bounds : Bounds) (fault : LayoutFault) → layout_of bounds ≡ Err fault → Obeys (waiting region) (relayout bounds) (waiting region) (Refused (OutOfRange part.Bounds))
+pub relaid_not : (region : LoggedRegion) (bounds : Bounds) (fault : LayoutFault) → layout_of bounds ≡ Err fault → Obeys (machine_over region) (relayout bounds) (machine_over region) (Refused (OutOfRange part.Bounds))
 relaid_not region bounds fault is =
-    let all : obeying (waiting region) done (relayout bounds) ≡ relaying_it (waiting region) (Err fault) = ap (relaying_it (waiting region)) is in
+    let all : command_turn (machine_over region) done (relayout bounds) ≡ relayout_turn (machine_over region) (Err fault) = ap (relayout_turn (machine_over region)) is in
     record { outcome = done; machine_is = ap (λ (t : Turn). t.machine) all; replied = ap (λ (t : Turn). t.reply) all; refused = ap (λ (t : Turn). t.refused) all }

@@ -8,19 +8,19 @@ use Rattle.pn_stream.specs.Positions.{DeliveryValue}
 use Rattle.pn_region.specs.Events.{RegionEvent}
 use Rattle.pn_region.specs.Marking.{new_marks}
 use Rattle.pn_region.specs.Regions.{RegionValue}
-use Rattle.pn_region.specs.Rounds.{taking}
+use Rattle.pn_region.specs.Rounds.{after_joins}
 use Rattle.pn_region.specs.declared.fault.RoundFault.{RoundFault}
 use Rattle.pn_protocol.specs.declared.refusal.Refusal.{Refusal}
 use Rattle.pn_protocol.specs.Command.Lines.{command_at}
 use Rattle.pn_protocol.specs.Command.Meaning.{CommandValue, adopt, copy, deliver, get, lose, marks, notices, read, relayout, scan, tablets}
 use Rattle.pn_serve.specs.Machine.Announced.{unless_call, with_line}
-use Rattle.pn_serve.specs.Machine.Doing.{delivering}
+use Rattle.pn_serve.specs.Machine.Doing.{delivery_turn}
 use Rattle.pn_serve.specs.Machine.LastTurns.{last_of, end_in, end_turn}
-use Rattle.pn_serve.specs.Machine.Outcomes.{Outcome, done, line, call, round, Mode, idle, announced, Machine, Turn, logged}
-use Rattle.pn_serve.specs.Machine.Recovering.{adopting_text}
+use Rattle.pn_serve.specs.Machine.Outcomes.{Outcome, done, line, call, round, Mode, awaits_command, announced, Machine, Turn, logged_region}
+use Rattle.pn_serve.specs.Machine.Recovering.{text_adoption_turn}
 use Rattle.pn_serve.specs.Machine.Turns.{turn_of, outcome_at, turn_in, turn}
-use Rattle.pn_serve.specs.Script.Events.{happened_by, happened_by_text, happened_in}
-use Rattle.pn_serve.specs.Script.Inputs.{InputEnd, ended}
+use Rattle.pn_serve.specs.Script.Events.{events_by, events_by_text, events_in}
+use Rattle.pn_serve.specs.Script.Inputs.{InputEnd, machine_at_end}
 use Rattle.pn_serve.specs.Script.Lines.{ToldLine, after_line}
 use Rattle.pn_serve.specs.Script.Repeats.{Delivers, IsAccepted, IsAcceptedAtEnd}
 use Rattle.pn_serve.proofs.LineSteps.{Alike, said_steps, text_steps, line_steps}
@@ -46,13 +46,13 @@ same_then k m n first second = record { region = first.region ∙ second.region;
 
 module _ (m n : Machine) (same : Same m n) where
   said_same : (outcome : Outcome) (said : Result CommandValue Refusal) → Same (turn_of m outcome said).machine (turn_of n outcome said).machine
-  said_same outcome said = (said_steps Equal Any equal_carries m n same outcome said (any_events (happened_by m outcome said))).machines
+  said_same outcome said = (said_steps Equal Any equal_carries m n same outcome said (any_events (events_by m outcome said))).machines
 
   line_same : (text : ToldLine) → Same (after_line m text) (after_line n text)
-  line_same text = (line_steps Equal Any equal_carries m n same text.outcome text.text (any_events (happened_in m.mode m text.outcome text.text))).machines
+  line_same text = (line_steps Equal Any equal_carries m n same text.outcome text.text (any_events (events_in m.mode m text.outcome text.text))).machines
 
-  text_same : (text : Option (List ℕ)) → Same (adopting_text (logged m) text).machine (adopting_text (logged n) text).machine
-  text_same text = (text_steps Equal Any equal_carries m n same text (any_events (happened_by_text (logged m) text))).machines
+  text_same : (text : Option (List ℕ)) → Same (text_adoption_turn (logged_region m) text).machine (text_adoption_turn (logged_region n) text).machine
+  text_same text = (text_steps Equal Any equal_carries m n same text (any_events (events_by_text (logged_region m) text))).machines
 
   last_same : (outcome : Outcome) (said : Result CommandValue Refusal) → Same (last_of m outcome said).machine (last_of n outcome said).machine
   last_same line said = same
@@ -94,11 +94,11 @@ module _ (m n : Machine) (same : Same m n) where
   last_same (round flags) (Err refusal) = same
 
   end_in_same : (mode : Mode) (outcome : Outcome) (part : List ℕ) → Same (end_in mode m outcome part).machine (end_in mode n outcome part).machine
-  end_in_same idle outcome [] = same
-  end_in_same idle outcome (b ∷ part) = last_same (outcome_at outcome (b ∷ part)) (command_at (b ∷ part))
+  end_in_same awaits_command outcome [] = same
+  end_in_same awaits_command outcome (b ∷ part) = last_same (outcome_at outcome (b ∷ part)) (command_at (b ∷ part))
   end_in_same (announced left came) outcome part = text_same (unless_call outcome (with_line came part []))
 
-  ended_same : (end : Option InputEnd) → Same (ended m end) (ended n end)
+  ended_same : (end : Option InputEnd) → Same (machine_at_end m end) (machine_at_end n end)
   ended_same None = same
   ended_same (Some end) = subst (λ (mode : Mode). Same (end_turn m end.outcome end.part).machine (end_in mode n end.outcome end.part).machine) same.mode (end_in_same m.mode end.outcome end.part)
 
@@ -108,7 +108,7 @@ after_lines m [] = m
 after_lines m (text ∷ lines) = after_lines (after_line m text) lines
 
 abbrev pub finished : Machine → List ToldLine → Option InputEnd → Machine
-finished m lines end = ended (after_lines m lines) end
+finished m lines end = machine_at_end (after_lines m lines) end
 
 pub finished_same : (m n : Machine) (lines : List ToldLine) (end : Option InputEnd) → Same m n → Same (finished m lines end) (finished n lines end)
 finished_same m n [] end same = ended_same m n same end
@@ -134,7 +134,7 @@ deliver_end m (b ∷ part) deliveries outcome there delivers =
     ∙ last_as_line m (outcome_at outcome (b ∷ part)) deliveries
 
 abbrev pub round_of : Machine → List DeliveryValue → Result Positions RoundFault → Turn
-round_of m deliveries right = delivering m (result_map_both (taking m.region deliveries) (λ fault. fault) right)
+round_of m deliveries right = delivery_turn m (result_map_both (after_joins m.region deliveries) (λ fault. fault) right)
 
 -- ---- an accepted round
 
@@ -198,11 +198,11 @@ module _ (m n : Machine) (deliveries : List DeliveryValue) where
       (subst (λ (t : Turn). Same (turn_of m (outcome_at text.outcome text.text) (Ok (deliver deliveries))).machine t.machine) (sym second)
       (caught (outcome_at text.outcome text.text) alike (sym (ap (λ (t : Turn). t.refused) first) ∙ is.accepted)))
 
-  pub caught_end : (end : Option InputEnd) → Alike (RunsAhead deliveries) m n → IsAcceptedAtEnd m end deliveries → Same (ended m end) (ended n end)
+  pub caught_end : (end : Option InputEnd) → Alike (RunsAhead deliveries) m n → IsAcceptedAtEnd m end deliveries → Same (machine_at_end m end) (machine_at_end n end)
   caught_end None alike is = absurd is
   caught_end (Some end) alike is =
       let first = deliver_end m end.part deliveries end.outcome is.there is.delivers in
       let second = deliver_end n end.part deliveries end.outcome is.there (delivers_too end.part alike.mode is.delivers) in
-      subst (λ (t : Turn). Same t.machine (ended n (Some end))) (sym first)
+      subst (λ (t : Turn). Same t.machine (machine_at_end n (Some end))) (sym first)
       (subst (λ (t : Turn). Same (turn_of m (outcome_at end.outcome end.part) (Ok (deliver deliveries))).machine t.machine) (sym second)
       (caught (outcome_at end.outcome end.part) alike (sym (ap (λ (t : Turn). t.refused) first) ∙ is.accepted)))

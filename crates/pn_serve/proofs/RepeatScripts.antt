@@ -16,12 +16,12 @@ use Rattle.pn_region.proofs.EventSteps.{event_is, events_are}
 use Rattle.pn_region.proofs.RisingRegions.{new_region_rises, event_rises}
 use Rattle.pn_region.proofs.RoundEnds.{fit}
 use Rattle.pn_protocol.specs.Command.Meaning.{deliver}
-use Rattle.pn_serve.specs.Machine.Outcomes.{Outcome, done, line, call, round, Machine, Turn, serving}
-use Rattle.pn_serve.specs.Machine.PartRounds.{partly_marked}
+use Rattle.pn_serve.specs.Machine.Outcomes.{Outcome, done, line, call, round, Machine, Turn, new_machine}
+use Rattle.pn_serve.specs.Machine.PartRounds.{after_part_with_marks}
 use Rattle.pn_serve.specs.Machine.Turns.{turn_of, outcome_at, turn}
-use Rattle.pn_serve.specs.Script.Events.{happened_in}
-use Rattle.pn_serve.specs.Script.Happened.{happened}
-use Rattle.pn_serve.specs.Script.Inputs.{InputEnd, Input, ended, after_input}
+use Rattle.pn_serve.specs.Script.Events.{events_in}
+use Rattle.pn_serve.specs.Script.Happened.{events_of_input}
+use Rattle.pn_serve.specs.Script.Inputs.{InputEnd, Input, machine_at_end, after_input}
 use Rattle.pn_serve.specs.Script.Lines.{ToldLine, told_lines, after_line}
 use Rattle.pn_serve.specs.Script.Repeats.{IsRefused, IsRepeated, AreWithout, IsToldWithout}
 use Rattle.pn_serve.specs.Script.Told.{Told, machine_of}
@@ -43,7 +43,7 @@ module _ (m : Machine) (deliveries : List DeliveryValue) where
   abbrev IsAhead : RegionValue → Type 0
   IsAhead region = (region ≡ m.region) ⊎ RunsAhead deliveries region m.region
 
-  half_ahead : (flags : List Bool) (right : Result Positions RoundFault) → new_marks m.region.marks deliveries ≡ right → IsRegion m.region → AllRise m.region → IsAhead (partly_marked m.region deliveries flags right)
+  half_ahead : (flags : List Bool) (right : Result Positions RoundFault) → new_marks m.region.marks deliveries ≡ right → IsRegion m.region → AllRise m.region → IsAhead (after_part_with_marks m.region deliveries flags right)
   half_ahead flags (Err fault) is stands rise = inl refl
   half_ahead flags (Ok first) is stands rise = inr (record {
     base = m.region.marks;
@@ -112,7 +112,7 @@ one_stands (event ∷ []) old new lead stands = record { is = event_is event old
 one_stands (event ∷ next ∷ later) old new lead stands = absurd lead
 
 line_stands : (m : Machine) (text : ToldLine) → Stands m.region → Stands (after_line m text).region
-line_stands m text stands = one_stands (happened_in m.mode m text.outcome text.text) m.region (after_line m text).region (line_leads m text.outcome text.text stands.is) stands
+line_stands m text stands = one_stands (events_in m.mode m text.outcome text.text) m.region (after_line m text).region (line_leads m text.outcome text.text stands.is) stands
 
 -- ---- inputs
 
@@ -161,17 +161,17 @@ after_told m [] outcomes = refl
 after_told m (text ∷ lines) outcomes = after_told (turn m (first_outcome outcomes) text).machine lines (later_outcomes outcomes)
 
 finished_input : (m : Machine) (input : Input) → finished m (told_lines input.lines input.outcomes) input.end ≡ after_input m input
-finished_input m input = ap (λ (k : Machine). ended k input.end) (after_told m input.lines input.outcomes)
+finished_input m input = ap (λ (k : Machine). machine_at_end k input.end) (after_told m input.lines input.outcomes)
 
 -- ---- the laws
 
 pub told_without : (one other : Told) → IsToldWithout one other → Same (machine_of one) (machine_of other)
 told_without one other without =
-    let m = serving (new_region one.layout) in
+    let m = new_machine (new_region one.layout) in
     let stands : Stands (new_region one.layout) = record { is = new_one one.layout one.lawful; rise = new_region_rises one.layout } in
     let lines = told_lines one.input.lines one.input.outcomes in
     let fewer = told_lines other.input.lines other.input.outcomes in
-    subst (λ (bounds : Bounds). Same (machine_of one) (after_input (serving (new_region bounds)) other.input)) without.layout
+    subst (λ (bounds : Bounds). Same (machine_of one) (after_input (new_machine (new_region bounds)) other.input)) without.layout
     (subst (λ (k : Machine). Same k (after_input m other.input)) (finished_input m one.input)
     (subst (λ (k : Machine). Same (finished m lines one.input.end) k) (finished_input m other.input)
     (subst (λ (end : Option InputEnd). Same (finished m lines one.input.end) (finished m fewer end)) (sym without.end)
@@ -185,8 +185,8 @@ told_stands : (told : Told) → Stands (machine_of told).region
 told_stands told =
     let lead = lead_after (λ name. []) told.layout told.lawful told.input in
     record {
-      is = events_are (happened (new_region told.layout) told.input) (new_region told.layout) (machine_of told).region (new_one told.layout told.lawful) lead;
-      rise = events_rise (happened (new_region told.layout) told.input) (new_region told.layout) (machine_of told).region (new_region_rises told.layout) lead;
+      is = events_are (events_of_input (new_region told.layout) told.input) (new_region told.layout) (machine_of told).region (new_one told.layout told.lawful) lead;
+      rise = events_rise (events_of_input (new_region told.layout) told.input) (new_region told.layout) (machine_of told).region (new_region_rises told.layout) lead;
     }
 
 pub line_without : (told : Told) (text : ToldLine) (deliveries : List DeliveryValue) (more : Input) → IsRefused (machine_of told) text deliveries

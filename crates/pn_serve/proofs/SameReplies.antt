@@ -7,14 +7,14 @@ use Rattle.pn_tablet.specs.Copying.{copy_of}
 use Rattle.pn_tablet.specs.CopyReading.{copy_at}
 use Rattle.pn_tablet.specs.Layouts.{Bounds, layout_of}
 use Rattle.pn_tablet.specs.Tablets.{TabletStateValue}
-use Rattle.pn_tablet.specs.declared.copy_fault.CopyTextFault.{CopyTextFault}
+use Rattle.pn_tablet.specs.declared.fault.CopyTextFault.{CopyTextFault}
 use Rattle.pn_tablet.specs.declared.fault.CopyFault.{CopyFault}
 use Rattle.pn_tablet.specs.declared.layout.LayoutFault.{LayoutFault}
 use Rattle.pn_tablet.specs.declared.fault.OpFault.{OpFault as AdoptFault}
-use Rattle.pn_region.specs.Logged.{breaking}
-use Rattle.pn_region.specs.Recovery.{losing, adopting}
+use Rattle.pn_region.specs.Logged.{with_break}
+use Rattle.pn_region.specs.Recovery.{after_loss, after_adoption}
 use Rattle.pn_region.specs.Regions.{RegionValue}
-use Rattle.pn_region.specs.Relayouts.{relaying}
+use Rattle.pn_region.specs.Relayouts.{after_relayout}
 use Rattle.pn_region.specs.Rounds.{round as taken_round}
 use Rattle.pn_region.specs.declared.entry.Entry.{Entry}
 use Rattle.pn_region.specs.declared.fault.RelayoutFault.{RelayoutFault}
@@ -25,12 +25,12 @@ use Rattle.pn_protocol.specs.Command.Lines.{command_at}
 use Rattle.pn_protocol.specs.Command.Meaning.{CommandValue, adopt, copy, deliver, get, lose, marks, notices, read, relayout, scan, tablets}
 use Rattle.pn_protocol.specs.Reply.Short.{lost_data}
 use Rattle.pn_serve.specs.Machine.Announced.{unless_call, with_line}
-use Rattle.pn_serve.specs.Machine.Doing.{delivering}
-use Rattle.pn_serve.specs.Machine.LastTurns.{obeying_last, last_of, end_in, end_turn}
-use Rattle.pn_serve.specs.Machine.Outcomes.{Outcome, done, line, call, round, Mode, idle, announced, Machine, Turn, logged, silent}
-use Rattle.pn_serve.specs.Machine.Recovering.{at_tablet, showing_copy, copying, losing_it, adopted, adopting_read, adopting_text}
-use Rattle.pn_serve.specs.Machine.Relaying.{relaid_turn, relaying_it}
-use Rattle.pn_serve.specs.Machine.Turns.{obeying, turn_of, outcome_at, turn_in, turn}
+use Rattle.pn_serve.specs.Machine.Doing.{delivery_turn}
+use Rattle.pn_serve.specs.Machine.LastTurns.{last_command_turn, last_of, end_in, end_turn}
+use Rattle.pn_serve.specs.Machine.Outcomes.{Outcome, done, line, call, round, Mode, awaits_command, announced, Machine, Turn, logged_region, silent_turn}
+use Rattle.pn_serve.specs.Machine.Recovering.{at_tablet, copy_reply_turn, copy_turn, loss_turn, adoption_turn, read_adoption_turn, text_adoption_turn}
+use Rattle.pn_serve.specs.Machine.Relaying.{relaid_turn, relayout_turn}
+use Rattle.pn_serve.specs.Machine.Turns.{command_turn, turn_of, outcome_at, turn_in, turn}
 use Rattle.pn_serve.specs.Script.Lines.{AsksNoNotices}
 use Rattle.pn_serve.proofs.RepeatLaws.{Same}
 
@@ -45,40 +45,40 @@ module _ (mode : Mode) (region : RegionValue) (log others : List Entry) where
   abbrev Replies : Turn → Turn → Type 0
   Replies turned other = turned.reply ≡ other.reply
 
-  shown_replies : (tablet : ℕ) (right : Result TabletCopyValue CopyFault) → Replies (showing_copy m tablet right) (showing_copy n tablet right)
+  shown_replies : (tablet : ℕ) (right : Result TabletCopyValue CopyFault) → Replies (copy_reply_turn m tablet right) (copy_reply_turn n tablet right)
   shown_replies tablet (Ok given) = refl
   shown_replies tablet (Err fault) = refl
 
-  copy_replies : (need : Positions) (tablet : ℕ) → Replies (copying m need tablet) (copying n need tablet)
+  copy_replies : (need : Positions) (tablet : ℕ) → Replies (copy_turn m need tablet) (copy_turn n need tablet)
   copy_replies need tablet = at (slice_get region.tablets tablet)
     where
-      at : (found : Option TabletStateValue) → Replies (at_tablet m found (λ state. showing_copy m tablet (copy_of state need))) (at_tablet n found (λ state. showing_copy n tablet (copy_of state need)))
+      at : (found : Option TabletStateValue) → Replies (at_tablet m found (λ state. copy_reply_turn m tablet (copy_of state need))) (at_tablet n found (λ state. copy_reply_turn n tablet (copy_of state need)))
       at None = refl
       at (Some state) = shown_replies tablet (copy_of state need)
 
-  round_replies : (right : Result RegionValue RoundFault) → Replies (delivering m right) (delivering n right)
+  round_replies : (right : Result RegionValue RoundFault) → Replies (delivery_turn m right) (delivery_turn n right)
   round_replies (Ok after) = refl
   round_replies (Err fault) = refl
 
   abbrev losing_found : Machine → ℕ → Option TabletStateValue → Turn
-  losing_found k tablet found = at_tablet k found (λ state. record { machine = record k { region = losing k.region tablet; log = breaking k.log }; reply = line_of (lost_data tablet); refused = false })
+  losing_found k tablet found = at_tablet k found (λ state. record { machine = record k { region = after_loss k.region tablet; log = with_break k.log }; reply = line_of (lost_data tablet); refused = false })
 
   loss_by : (tablet : ℕ) (found : Option TabletStateValue) → Replies (losing_found m tablet found) (losing_found n tablet found)
   loss_by tablet None = refl
   loss_by tablet (Some state) = refl
 
-  loss_replies : (tablet : ℕ) → Replies (losing_it m tablet) (losing_it n tablet)
+  loss_replies : (tablet : ℕ) → Replies (loss_turn m tablet) (loss_turn n tablet)
   loss_replies tablet = loss_by tablet (slice_get region.tablets tablet)
 
   relaid_replies : (count : ℕ) (right : Result RegionValue RelayoutFault) → Replies (relaid_turn m count right) (relaid_turn n count right)
   relaid_replies count (Ok after) = refl
   relaid_replies count (Err fault) = refl
 
-  layout_replies : (right : Result Bounds LayoutFault) → Replies (relaying_it m right) (relaying_it n right)
-  layout_replies (Ok bounds) = relaid_replies (length bounds + 1) (relaying region bounds)
+  layout_replies : (right : Result Bounds LayoutFault) → Replies (relayout_turn m right) (relayout_turn n right)
+  layout_replies (Ok bounds) = relaid_replies (length bounds + 1) (after_relayout region bounds)
   layout_replies (Err fault) = refl
 
-  obey_replies : (outcome : Outcome) (command : CommandValue) → AsksNoNotices (Ok command) → Replies (obeying m outcome command) (obeying n outcome command)
+  obey_replies : (outcome : Outcome) (command : CommandValue) → AsksNoNotices (Ok command) → Replies (command_turn m outcome command) (command_turn n outcome command)
   obey_replies done (adopt lines) free = refl
   obey_replies line (adopt lines) free = refl
   obey_replies call (adopt lines) free = refl
@@ -130,28 +130,28 @@ module _ (mode : Mode) (region : RegionValue) (log others : List Entry) where
   said_replies call (Err refusal) free = refl
   said_replies (round flags) (Err refusal) free = refl
 
-  adopted_replies : (right : Result (ℕ × RegionValue) AdoptFault) → Replies (adopted (logged m) right) (adopted (logged n) right)
+  adopted_replies : (right : Result (ℕ × RegionValue) AdoptFault) → Replies (adoption_turn (logged_region m) right) (adoption_turn (logged_region n) right)
   adopted_replies (Ok (tablet, after)) = refl
   adopted_replies (Err fault) = refl
 
-  read_replies : (right : Result TabletCopyValue CopyTextFault) → Replies (adopting_read (logged m) right) (adopting_read (logged n) right)
-  read_replies (Ok given) = adopted_replies (adopting region given)
+  read_replies : (right : Result TabletCopyValue CopyTextFault) → Replies (read_adoption_turn (logged_region m) right) (read_adoption_turn (logged_region n) right)
+  read_replies (Ok given) = adopted_replies (after_adoption region given)
   read_replies (Err fault) = refl
 
-  text_replies : (text : Option (List ℕ)) → Replies (adopting_text (logged m) text) (adopting_text (logged n) text)
+  text_replies : (text : Option (List ℕ)) → Replies (text_adoption_turn (logged_region m) text) (text_adoption_turn (logged_region n) text)
   text_replies None = refl
   text_replies (Some text) = read_replies (copy_at text)
 
   came_replies : (left : ℕ) (text : Option (List ℕ)) (last : Bool)
-      → Replies (if last then adopting_text (logged m) text else silent (record m { mode = announced (left - 1) text })) (if last then adopting_text (logged n) text else silent (record n { mode = announced (left - 1) text }))
+      → Replies (if last then text_adoption_turn (logged_region m) text else silent_turn (record m { mode = announced (left - 1) text })) (if last then text_adoption_turn (logged_region n) text else silent_turn (record n { mode = announced (left - 1) text }))
   came_replies left text true = text_replies text
   came_replies left text false = refl
 
   mode_replies : (how : Mode) (outcome : Outcome) (text : List ℕ) → AsksNoNotices (command_at text) → Replies (turn_in how m outcome text) (turn_in how n outcome text)
-  mode_replies idle outcome text free = said_replies (outcome_at outcome text) (command_at text) free
+  mode_replies awaits_command outcome text free = said_replies (outcome_at outcome text) (command_at text) free
   mode_replies (announced left came) outcome text free = came_replies left (unless_call outcome (with_line came text (10 ∷ []))) (nat_le left 1)
 
-  obey_last_replies : (outcome : Outcome) (command : CommandValue) → AsksNoNotices (Ok command) → Replies (obeying_last m outcome command) (obeying_last n outcome command)
+  obey_last_replies : (outcome : Outcome) (command : CommandValue) → AsksNoNotices (Ok command) → Replies (last_command_turn m outcome command) (last_command_turn n outcome command)
   obey_last_replies outcome (adopt lines) free = text_replies (unless_call outcome (Some []))
   obey_last_replies outcome (copy need tablet) free = obey_replies outcome (copy need tablet) free
   obey_last_replies outcome (deliver deliveries) free = obey_replies outcome (deliver deliveries) free
@@ -174,8 +174,8 @@ module _ (mode : Mode) (region : RegionValue) (log others : List Entry) where
   last_replies (round flags) (Err refusal) free = refl
 
   end_replies : (how : Mode) (outcome : Outcome) (part : List ℕ) → AsksNoNotices (command_at part) → Replies (end_in how m outcome part) (end_in how n outcome part)
-  end_replies idle outcome [] free = refl
-  end_replies idle outcome (b ∷ part) free = last_replies (outcome_at outcome (b ∷ part)) (command_at (b ∷ part)) free
+  end_replies awaits_command outcome [] free = refl
+  end_replies awaits_command outcome (b ∷ part) free = last_replies (outcome_at outcome (b ∷ part)) (command_at (b ∷ part)) free
   end_replies (announced left came) outcome part free = text_replies (unless_call outcome (with_line came part []))
 
 module _ (one other : Machine) (same : Same one other) (outcome : Outcome) (text : List ℕ) (free : AsksNoNotices (command_at text)) where

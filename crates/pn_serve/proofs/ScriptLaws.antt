@@ -32,17 +32,17 @@ use Rattle.pn_protocol.specs.declared.refusal.Refusal.TheVariants.{Memory}
 use Rattle.pn_protocol.specs.Command.Meaning.{CommandValue, adopt, copy, deliver, get, lose, marks, notices, read, relayout, scan, tablets}
 use Rattle.pn_protocol.specs.Command.Lines.{command_at}
 use Rattle.pn_protocol.specs.Command.Lookups.{AsksForRecords}
-use Rattle.pn_serve.specs.Machine.Doing.{found_data, looking}
-use Rattle.pn_serve.specs.Machine.Outcomes.{Outcome, done, line, call, round as in_part, Mode, idle, Machine, serving}
+use Rattle.pn_serve.specs.Machine.Doing.{found_data, lookup_turn}
+use Rattle.pn_serve.specs.Machine.Outcomes.{Outcome, done, line, call, round as in_part, Mode, awaits_command, Machine, new_machine}
 use Rattle.pn_serve.specs.Machine.Turns.{turn_of, outcome_at, turn_in, turn}
 use Rattle.pn_serve.specs.Machine.LastTurns.{last_of, end_in, end_turn}
 use Rattle.pn_protocol.specs.Reply.Record.{read_data, get_data}
 use Rattle.pn_protocol.specs.Reply.Scan.{scan_data}
 use Rattle.pn_protocol.specs.Reply.Short.{refusal_data}
-use Rattle.pn_serve.specs.Script.Events.{happened_in}
-use Rattle.pn_serve.specs.Script.Happened.{happened, happened_after, happened_since}
+use Rattle.pn_serve.specs.Script.Events.{events_in}
+use Rattle.pn_serve.specs.Script.Happened.{events_of_input, events_of_end, events_since}
 use Rattle.pn_serve.specs.Script.Inputs.{Input, after_input, region_after}
-use Rattle.pn_serve.specs.Script.Taken.{taken, NothingLost, AllHonest, Settled}
+use Rattle.pn_serve.specs.Script.Taken.{images_taken, NothingLost, AllHonest, Settled}
 use Rattle.pn_serve.specs.Script.Told.{Told, machine_of, records_of, images_of, TookTheSame, AwaitsCommand, reply_of, last_reply, AreAlike, IsNoOlder}
 use Rattle.pn_serve.proofs.Happened.{OneLeads, line_leads, end_leads, input_leads}
 
@@ -69,23 +69,23 @@ module _ (broker : BrokerRecord) (bounds : Bounds) (lawful : IsLayout bounds) (i
   abbrev after : RegionValue
   after = region_after (new_region bounds) input
 
-  pub lead_after : AllLeadTo (happened (new_region bounds) input) (new_region bounds) after
-  lead_after = input_leads (serving (new_region bounds)) input (new_one bounds lawful)
+  pub lead_after : AllLeadTo (events_of_input (new_region bounds) input) (new_region bounds) after
+  lead_after = input_leads (new_machine (new_region bounds)) input (new_one bounds lawful)
 
   pub after_is : IsRegion after
-  after_is = events_are (happened (new_region bounds) input) (new_region bounds) after (new_one bounds lawful) lead_after
+  after_is = events_are (events_of_input (new_region bounds) input) (new_region bounds) after (new_one bounds lawful) lead_after
 
   whole_serves : NothingLost (new_region bounds) input ⊎ (AllHonest broker (new_region bounds) input × AllServe after) → AllServe after
-  whole_serves (inl none) = events_serve (happened (new_region bounds) input) (new_region bounds) after none lead_after (new_serves bounds)
+  whole_serves (inl none) = events_serve (events_of_input (new_region bounds) input) (new_region bounds) after none lead_after (new_serves bounds)
   whole_serves (inr honest) = honest.1
 
   pub serves : Settled broker (new_region bounds) input → AllServe after
   serves settled = whole_serves settled.whole
 
-  pub held_records : Settled broker (new_region bounds) input → all_cells after ≡ table_of (taken broker (new_region bounds) input)
+  pub held_records : Settled broker (new_region bounds) input → all_cells after ≡ table_of (images_taken broker (new_region bounds) input)
   held_records settled = elim settled.whole [
-    | inl none ↦ rounds_together broker bounds (happened (new_region bounds) input) after lawful lead_after none settled.retried
-    | inr honest ↦ taken_together broker bounds (happened (new_region bounds) input) after lawful lead_after honest.0 honest.1 settled.retried
+    | inl none ↦ rounds_together broker bounds (events_of_input (new_region bounds) input) after lawful lead_after none settled.retried
+    | inr honest ↦ taken_together broker bounds (events_of_input (new_region bounds) input) after lawful lead_after honest.0 honest.1 settled.retried
   ]
 
 -- regions that took the same images
@@ -102,7 +102,7 @@ module _ (broker : BrokerRecord) (one other : Told) (took : TookTheSame broker o
   pub both_records : (records_of one ≡ table_of (images_of broker one)) × (records_of other ≡ table_of (images_of broker one))
   both_records = (first_records, sym same_records ∙ first_records)
 
-found_alike : {A : Type 0} (m n : Machine) (show : A → Data) (one other : Result A ScanFault) → one ≡ other → (looking m show one).reply ≡ (looking n show other).reply
+found_alike : {A : Type 0} (m n : Machine) (show : A → Data) (one other : Result A ScanFault) → one ≡ other → (lookup_turn m show one).reply ≡ (lookup_turn n show other).reply
 found_alike m n show one other same = ap (λ right. line_of (found_data show right)) same
 
 -- what holds of a region whose tablets serve
@@ -197,10 +197,10 @@ alike_if (inr went) (inl short) same = inl (inr short)
 alike_if (inr went) (inr goes) same = inr (went ∙ same ∙ sym goes)
 
 -- replies of a machine that waits for a command
-replied : (m : Machine) (outcome : Outcome) (text : List ℕ) → m.mode ≡ idle → (turn m outcome text).reply ≡ (turn_of m (outcome_at outcome text) (command_at text)).reply
+replied : (m : Machine) (outcome : Outcome) (text : List ℕ) → m.mode ≡ awaits_command → (turn m outcome text).reply ≡ (turn_of m (outcome_at outcome text) (command_at text)).reply
 replied m outcome text waits = ap (λ (mode : Mode). (turn_in mode m outcome text).reply) waits
 
-module _ (m n : Machine) (waits : m.mode ≡ idle) (waits_too : n.mode ≡ idle) (same : (said : Result CommandValue Refusal) → AsksForRecords said → (turn_of m done said).reply ≡ (turn_of n done said).reply) (went goes : Outcome) where
+module _ (m n : Machine) (waits : m.mode ≡ awaits_command) (waits_too : n.mode ≡ awaits_command) (same : (said : Result CommandValue Refusal) → AsksForRecords said → (turn_of m done said).reply ≡ (turn_of n done said).reply) (went goes : Outcome) where
   said_alike : (text : List ℕ) → AsksForRecords (command_at text) → AreAlike (turn_of m (outcome_at went text) (command_at text)).reply (turn_of n (outcome_at goes text) (command_at text)).reply
   said_alike text asks = alike_if (as_it_says m (outcome_at went text) (command_at text) asks) (as_it_says n (outcome_at goes text) (command_at text) asks) (same (command_at text) asks)
 
@@ -209,17 +209,17 @@ module _ (m n : Machine) (waits : m.mode ≡ idle) (waits_too : n.mode ≡ idle)
       subst (λ (r : List ℕ). AreAlike r (turn n goes text).reply) (sym (replied m went text waits))
       (subst (λ (r : List ℕ). AreAlike (turn_of m (outcome_at went text) (command_at text)).reply r) (sym (replied n goes text waits_too)) (said_alike text asks))
 
-  ends_in : (text : List ℕ) → AsksForRecords (command_at text) → AreAlike (end_in idle m went text).reply (end_in idle n goes text).reply
+  ends_in : (text : List ℕ) → AsksForRecords (command_at text) → AreAlike (end_in awaits_command m went text).reply (end_in awaits_command n goes text).reply
   ends_in [] asks = inr refl
   ends_in (b ∷ part) asks =
       let text = b ∷ part in
-      subst (λ (r : List ℕ). AreAlike r (end_in idle n goes text).reply) (sym (last_alike m (outcome_at went text) (command_at text) asks))
+      subst (λ (r : List ℕ). AreAlike r (end_in awaits_command n goes text).reply) (sym (last_alike m (outcome_at went text) (command_at text) asks))
       (subst (λ (r : List ℕ). AreAlike (turn_of m (outcome_at went text) (command_at text)).reply r) (sym (last_alike n (outcome_at goes text) (command_at text) asks)) (said_alike text asks))
 
   ends_alike : (text : List ℕ) → AsksForRecords (command_at text) → AreAlike (end_turn m went text).reply (end_turn n goes text).reply
   ends_alike text asks =
       subst (λ (r : List ℕ). AreAlike r (end_turn n goes text).reply) (sym (ap (λ (mode : Mode). (end_in mode m went text).reply) waits))
-      (subst (λ (r : List ℕ). AreAlike (end_in idle m went text).reply r) (sym (ap (λ (mode : Mode). (end_in mode n goes text).reply) waits_too)) (ends_in text asks))
+      (subst (λ (r : List ℕ). AreAlike (end_in awaits_command m went text).reply r) (sym (ap (λ (mode : Mode). (end_in mode n goes text).reply) waits_too)) (ends_in text asks))
 
 pub same_replies : (broker : BrokerRecord) (one other : Told) → TookTheSame broker one other → AwaitsCommand one → AwaitsCommand other
     → (text : List ℕ) (went goes : Outcome) → AsksForRecords (command_at text)
@@ -245,21 +245,21 @@ pub line_held : (told : Told) (outcome : Outcome) (text key : List ℕ) → IsNo
 line_held told outcome text key serves_before serves_after =
     let before = machine_of told in
     let is = after_is (λ name. []) told.layout told.lawful told.input in
-    one_held (happened_in before.mode before outcome text) before.region (turn before outcome text).machine.region key is (line_leads before outcome text is) serves_before serves_after
+    one_held (events_in before.mode before outcome text) before.region (turn before outcome text).machine.region key is (line_leads before outcome text is) serves_before serves_after
 
 pub end_held : (told : Told) (outcome : Outcome) (part key : List ℕ) → IsNoOlder (machine_of told).region (end_turn (machine_of told) outcome part).machine.region key
 end_held told outcome part key serves_before serves_after =
     let before = machine_of told in
     let is = after_is (λ name. []) told.layout told.lawful told.input in
-    one_held (happened_after before.mode before outcome part) before.region (end_turn before outcome part).machine.region key is (end_leads before outcome part is) serves_before serves_after
+    one_held (events_of_end before.mode before outcome part) before.region (end_turn before outcome part).machine.region key is (end_leads before outcome part is) serves_before serves_after
 
 pub input_held : (broker : BrokerRecord) (told : Told) (more : Input) (key : List ℕ)
-    → AreHonestEvents broker (happened (new_region told.layout) told.input) → AreHonestEvents broker (happened_since (machine_of told) more)
+    → AreHonestEvents broker (events_of_input (new_region told.layout) told.input) → AreHonestEvents broker (events_since (machine_of told) more)
     → IsNoOlder (machine_of told).region (after_input (machine_of told) more).region key
 input_held broker told more key honest honest_too serves_before serves_after =
     let before = machine_of told in
     let region = new_region told.layout in
     let is = after_is broker told.layout told.lawful told.input in
-    events_record broker (happened_since before more) before.region (after_input before more).region key is
-    (events_faithful broker (happened region told.input) region before.region (new_one told.layout told.lawful) (new_faithful broker told.layout) honest (lead_after broker told.layout told.lawful told.input))
+    events_record broker (events_since before more) before.region (after_input before more).region key is
+    (events_faithful broker (events_of_input region told.input) region before.region (new_one told.layout told.lawful) (new_faithful broker told.layout) honest (lead_after broker told.layout told.lawful told.input))
     honest_too (input_leads before more is) serves_before serves_after

@@ -16,13 +16,12 @@ use Rattle.pn_serve.specs.Lines.Ends.{EndsBy}
 use Rattle.pn_serve.specs.Lines.States.{Start}
 use Rattle.pn_serve.specs.Lines.Served.{AllAnswer}
 use Rattle.pn_serve.specs.Lines.Replies.{texts_of, refusals_of}
-use Rattle.pn_serve.specs.Machine.Outcomes.{Outcome, done, Machine, serving}
+use Rattle.pn_serve.specs.Machine.Outcomes.{Outcome, done, Machine, new_machine}
 use Rattle.pn_serve.specs.Machine.Turns.{turn}
 use Rattle.pn_serve.specs.Machine.LastTurns.{end_turn}
 use Rattle.pn_serve.specs.Machine.Answers.{Answers, Concludes}
 use Rattle.pn_protocol.specs.Reply.Texts.{reply_text, is_refusal}
-use Rattle.pn_serve.specs.Runs.Starts.{RunStart}
-use Rattle.pn_serve.specs.Runs.Ends.{Ended, Broken, Cut, Exceeded, Ends}
+use Rattle.pn_serve.specs.Runs.Ends.{RunStart, Ended, Broken, Cut, Exceeded, Ends}
 use Rattle.pn_serve.specs.Runs.Bounds.{lines_within}
 use Rattle.pn_serve.specs.Script.Parts.{parts_of}
 use Rattle.pn_serve.specs.Script.Written.{replies_from, machine_after, refusals_from, replies, refusals, end_of, one_if}
@@ -72,28 +71,28 @@ module _ (region : RegionValue) (left written : Option (List ℕ)) where
   begun = record { region = region; left = left; written = written }
 
   abbrev start : Start Machine
-  start = record { machine = serving region; left = left; written = written }
+  start = record { machine = new_machine region; left = left; written = written }
 
   -- all replies to a script whose lines and end were answered
-  module _ (script : List ℕ) (texts : List (List ℕ)) (part : List ℕ) (parts : parts_of script ≡ (texts, part)) (said : List Reply) (reached now : Machine) (all : Outcomes (serving region) texts said reached)
+  module _ (script : List ℕ) (texts : List (List ℕ)) (part : List ℕ) (parts : parts_of script ≡ (texts, part)) (said : List Reply) (reached now : Machine) (all : Outcomes (new_machine region) texts said reached)
       (last : Reply) (ended : Concludes reached part now last) where
     all_replies : replies region script all.outcomes ended.outcome ≡ texts_of said ++ reply_text last
     all_replies =
-        ap (λ (p : List (List ℕ) × List ℕ). replies_from (serving region) p.0 all.outcomes ++ (end_turn (machine_after (serving region) p.0 all.outcomes) ended.outcome p.1).reply) parts
-        ∙ ap (λ (m : Machine). replies_from (serving region) texts all.outcomes ++ (end_turn m ended.outcome part).reply) all.machine
+        ap (λ (p : List (List ℕ) × List ℕ). replies_from (new_machine region) p.0 all.outcomes ++ (end_turn (machine_after (new_machine region) p.0 all.outcomes) ended.outcome p.1).reply) parts
+        ∙ ap (λ (m : Machine). replies_from (new_machine region) texts all.outcomes ++ (end_turn m ended.outcome part).reply) all.machine
         ∙ (λ i. all.replied i ++ ended.replied i)
 
     all_refusals : refusals region script all.outcomes ended.outcome ≡ refusals_of said + one_if (is_refusal last)
     all_refusals =
-        ap (λ (p : List (List ℕ) × List ℕ). refusals_from (serving region) p.0 all.outcomes + one_if (end_turn (machine_after (serving region) p.0 all.outcomes) ended.outcome p.1).refused) parts
-        ∙ ap (λ (m : Machine). refusals_from (serving region) texts all.outcomes + one_if (end_turn m ended.outcome part).refused) all.machine
+        ap (λ (p : List (List ℕ) × List ℕ). refusals_from (new_machine region) p.0 all.outcomes + one_if (end_turn (machine_after (new_machine region) p.0 all.outcomes) ended.outcome p.1).refused) parts
+        ∙ ap (λ (m : Machine). refusals_from (new_machine region) texts all.outcomes + one_if (end_turn m ended.outcome part).refused) all.machine
         ∙ (λ i. all.refused i + one_if (ended.refused i))
 
   script_ended : (script : List ℕ) (leaves wrote : Option (List ℕ)) (now : Machine) (counts : Counts) → lines.Ended Answers Concludes start script leaves wrote now counts → Ended begun script leaves wrote counts
   script_ended script leaves wrote now counts is =
       let texts = (parts_of script).0 in
       let part = (parts_of script).1 in
-      let all = outcomes_of (serving region) texts is.replies is.reached is.made in
+      let all = outcomes_of (new_machine region) texts is.replies is.reached is.made in
       let ended : Concludes is.reached part now is.last = is.ended in record {
         outcomes = all.outcomes;
         last = ended.outcome;
@@ -106,7 +105,7 @@ module _ (region : RegionValue) (left written : Option (List ℕ)) where
 
   script_broken : (script : List ℕ) (leaves wrote : Option (List ℕ)) (now : Machine) → stopped.Broken Answers Concludes start script leaves wrote now → Broken begun script leaves wrote
   script_broken script leaves wrote now is =
-      let all = outcomes_of (serving region) is.lines is.replies now is.made in record {
+      let all = outcomes_of (new_machine region) is.lines is.replies now is.made in record {
         lines = is.lines;
         part = is.part;
         read = is.read;
@@ -116,7 +115,7 @@ module _ (region : RegionValue) (left written : Option (List ℕ)) where
 
   script_exceeded : (script : List ℕ) (leaves wrote : Option (List ℕ)) (now : Machine) → stopped.Exceeded Answers Concludes start script leaves wrote now → Exceeded begun script leaves wrote
   script_exceeded script leaves wrote now is =
-      let all = outcomes_of (serving region) (lines_within script) is.replies now is.made in record {
+      let all = outcomes_of (new_machine region) (lines_within script) is.replies now is.made in record {
         part = is.part;
         read = is.read;
         stopped = is.stopped;
@@ -127,7 +126,7 @@ module _ (region : RegionValue) (left written : Option (List ℕ)) where
 
   -- a prefix of the replies to the first lines is one of the replies to all
   cut_first : (script : List ℕ) (leaves wrote : Option (List ℕ)) (texts : List (List ℕ)) (part : List ℕ) (said : List Reply) (reached : Machine) → PartRead script leaves texts part
-      → Outcomes (serving region) texts said reached → AppendsPrefix written wrote (texts_of said) → Cut begun script leaves wrote
+      → Outcomes (new_machine region) texts said reached → AppendsPrefix written wrote (texts_of said) → Cut begun script leaves wrote
   cut_first script leaves wrote texts part said reached read all sent =
       let more = (parts_of (part ++ read.rest)).0 in record {
         lines = texts;
@@ -137,13 +136,13 @@ module _ (region : RegionValue) (left written : Option (List ℕ)) where
         last = done;
         prefix = AppendsPrefix-more (end_of region script all.outcomes done).reply
             (subst (λ (r : List ℕ). AppendsPrefix written wrote r)
-            (sym (replies_from-more (serving region) texts all.outcomes more all.paired) ∙ ap (λ (l : List (List ℕ)). replies_from (serving region) l all.outcomes) (sym (lines_in read)))
-            (AppendsPrefix-more (replies_from (machine_after (serving region) texts all.outcomes) more []) (subst (λ (r : List ℕ). AppendsPrefix written wrote r) (sym all.replied) sent)));
+            (sym (replies_from-more (new_machine region) texts all.outcomes more all.paired) ∙ ap (λ (l : List (List ℕ)). replies_from (new_machine region) l all.outcomes) (sym (lines_in read)))
+            (AppendsPrefix-more (replies_from (machine_after (new_machine region) texts all.outcomes) more []) (subst (λ (r : List ℕ). AppendsPrefix written wrote r) (sym all.replied) sent)));
       }
 
   -- or the input was at its end
   cut_last : (script : List ℕ) (leaves wrote : Option (List ℕ)) (texts : List (List ℕ)) (part : List ℕ) (said : List Reply) (reached now : Machine) (last : List ℕ) → PartRead script leaves texts part
-      → Outcomes (serving region) texts said reached → ((now ≡ reached) × (last ≡ [])) ⊎ ((leaves ≡ Some []) × ((reply : Reply) × (last ≡ reply_text reply) × Concludes reached part now reply))
+      → Outcomes (new_machine region) texts said reached → ((now ≡ reached) × (last ≡ [])) ⊎ ((leaves ≡ Some []) × ((reply : Reply) × (last ≡ reply_text reply) × Concludes reached part now reply))
       → AppendsPrefix written wrote (texts_of said ++ last) → Cut begun script leaves wrote
   cut_last script leaves wrote texts part said reached now last read all (inl none) sent =
       cut_first script leaves wrote texts part said reached read all
@@ -161,7 +160,7 @@ module _ (region : RegionValue) (left written : Option (List ℕ)) where
 
   script_cut : (script : List ℕ) (leaves wrote : Option (List ℕ)) (now : Machine) → stopped.Cut Answers Concludes start script leaves wrote now → Cut begun script leaves wrote
   script_cut script leaves wrote now is =
-      cut_last script leaves wrote is.lines is.part is.replies is.reached now is.last is.read (outcomes_of (serving region) is.lines is.replies is.reached is.made) is.ended is.prefix
+      cut_last script leaves wrote is.lines is.part is.replies is.reached now is.last is.read (outcomes_of (new_machine region) is.lines is.replies is.reached is.made) is.ended is.prefix
 
 on_told : (left : Option (List ℕ)) (P Q : List ℕ → Type 0) → ((text : List ℕ) → P text → Q text) → IfSome left P → IfSome left Q
 on_told None P Q f h = tt
@@ -169,14 +168,14 @@ on_told (Some text) P Q f h = f text h
 
 -- where the run of a script ends
 script_ends : (region : RegionValue) (left written leaves wrote : Option (List ℕ)) (now : Machine) (result : Result Counts RunFault)
-    → EndsBy Answers Concludes (record { machine = serving region; left = left; written = written }) leaves wrote now result → Ends (record { region = region; left = left; written = written }) leaves wrote result
+    → EndsBy Answers Concludes (record { machine = new_machine region; left = left; written = written }) leaves wrote now result → Ends (record { region = region; left = left; written = written }) leaves wrote result
 script_ends region left written leaves wrote now (Ok counts) is = on_told left _ _ (λ script. script_ended region left written script leaves wrote now counts) is
 script_ends region left written leaves wrote now (Err Read) is = on_told left _ _ (λ script. script_broken region left written script leaves wrote now) is
 script_ends region left written leaves wrote now (Err Write) is = on_told left _ _ (λ script. script_cut region left written script leaves wrote now) is
 script_ends region left written leaves wrote now (Err TooManyTurns) is = on_told left _ _ (λ script. script_exceeded region left written script leaves wrote now) is
 script_ends region left written leaves wrote now (Err Memory) is = (is.0, is.1)
 
-pub as_script : (machine : Machine) (region : RegionValue) (left written leaves wrote : Option (List ℕ)) (now : Machine) (result : Result Counts RunFault) → machine ≡ serving region
+pub as_script : (machine : Machine) (region : RegionValue) (left written leaves wrote : Option (List ℕ)) (now : Machine) (result : Result Counts RunFault) → machine ≡ new_machine region
     → EndsBy Answers Concludes (record { machine = machine; left = left; written = written }) leaves wrote now result → Ends (record { region = region; left = left; written = written }) leaves wrote result
 as_script machine region left written leaves wrote now result is ends =
     script_ends region left written leaves wrote now result

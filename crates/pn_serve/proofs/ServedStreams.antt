@@ -8,7 +8,7 @@ use Rattle.pn_stream.specs.Batches as batches
 use Rattle.pn_tablet.specs.Layouts.{Bounds}
 use Rattle.pn_live.specs.LiveRegions.{LiveRegionValue, IsNewLive}
 use Rattle.pn_serve.specs.Server.Faults.{names_of, NamesOne, IsOfRounds}
-use Rattle.pn_serve.specs.Server.Reading.{ReadToEnds, ReadUpTo, ReadsStreams}
+use Rattle.pn_serve.specs.Server.Reading.{ReadToEnds, ReadUpTo, RunsRounds}
 use Rattle.pn_serve.specs.Server.Served.{EndsReading, Serves, EndsRegion, EndsServing}
 use Rattle.pn_serve.specs.Server.Whole.{IsTakenWhole}
 use Rattle.pn_serve.specs.declared.server.fault.ServeFault.{ServeFault}
@@ -43,19 +43,19 @@ module _ {S : Type 0} (left : S → Option (List ℕ)) (streams : List (batches.
       subst (EndsReading left streams old old) (sym is) (subst (λ (f : ServeFault). EndsReading left streams old old (Err f)) (sym (same ∙ start)) refl)
 
   -- all threads ended, or sessions were refused
-  pub reading_ends : {P : Type 0} (name : P → List ℕ) (places : List P) (read_by : List (batches.Stream S)) (old new : LiveRegionValue) (is_refused : Bool) (marks : Positions) (read result : Result (Unit {0}) ServeFault)
-      → map name places ≡ names_of streams → read_by ≡ streams → (is_refused ≡ true → (read ≡ Err Start) × (new ≡ old)) → (is_refused ≡ false → ReadsStreams (length places) old new read)
-      → (is_refused ≡ false → IfErr read (IsOfRounds (map name places))) → IfErr read (λ fault. result ≡ Err fault)
+  pub reading_ends : {P : Type 0} (name : P → List ℕ) (mailboxes : List P) (read_by : List (batches.Stream S)) (old new : LiveRegionValue) (is_refused : Bool) (marks : Positions) (read result : Result (Unit {0}) ServeFault)
+      → map name mailboxes ≡ names_of streams → read_by ≡ streams → (is_refused ≡ true → (read ≡ Err Start) × (new ≡ old)) → (is_refused ≡ false → RunsRounds (length mailboxes) old new read)
+      → (is_refused ≡ false → IfErr read (IsOfRounds (map name mailboxes))) → IfErr read (λ fault. result ≡ Err fault)
       → marks ≡ new.marks → OnOk read (OnOk result (All (IsTakenWhole left marks) read_by)) → OnOk read (IfErr result (NamesOne (names_of read_by))) → EndsReading left streams old new result
-  reading_ends name places read_by old new true marks read result names are refused reads named first same taken rest =
+  reading_ends name mailboxes read_by old new true marks read result names are refused reads named first same taken rest =
       let start = subst (λ (r : Result (Unit {0}) ServeFault). IfErr r (λ fault. result ≡ Err fault)) (refused refl).0 first in
       subst (EndsReading left streams old new) (sym start) (refused refl).1
-  reading_ends name places read_by old new false marks (Err fault) result names are refused reads named first same taken rest =
-      let count : length places ≡ length streams = sym (length-map places name) ∙ ap length names ∙ length-map streams (λ (stream : batches.Stream S). stream.name) in
+  reading_ends name mailboxes read_by old new false marks (Err fault) result names are refused reads named first same taken rest =
+      let count : length mailboxes ≡ length streams = sym (length-map mailboxes name) ∙ ap length names ∙ length-map streams (λ (stream : batches.Stream S). stream.name) in
       let read_up : ReadUpTo (length streams) old new fault = subst (λ (n : ℕ). ReadUpTo n old new fault) count (reads refl) in
       subst (EndsReading left streams old new) (sym first) (rounds_stopped old new fault (subst (λ (ns : List (List ℕ)). IsOfRounds ns fault) names (named refl)) read_up)
-  reading_ends name places read_by old new false marks (Ok done) result names are refused reads named first same taken rest =
-      let count : length places ≡ length streams = sym (length-map places name) ∙ ap length names ∙ length-map streams (λ (stream : batches.Stream S). stream.name) in
+  reading_ends name mailboxes read_by old new false marks (Ok done) result names are refused reads named first same taken rest =
+      let count : length mailboxes ≡ length streams = sym (length-map mailboxes name) ∙ ap length names ∙ length-map streams (λ (stream : batches.Stream S). stream.name) in
       all_read old new result (subst (λ (n : ℕ). ReadToEnds n old new) count (reads refl))
       (subst (λ (ss : List (batches.Stream S)). OnOk result (All (IsTakenWhole left new.marks) ss)) are (subst (λ (m : Positions). OnOk result (All (IsTakenWhole left m) read_by)) same taken))
       (subst (λ (ss : List (batches.Stream S)). IfErr result (NamesOne (names_of ss))) are rest)

@@ -11,14 +11,14 @@ use Rattle.pn_stream.specs.declared.fault.StreamFault.{StreamFault}
 use Rattle.pn_stream.proofs.Runs.{Run-append, SoFar-none, on_rest}
 use Rattle.pn_serve.specs.declared.server.messages.Messages.{Messages}
 use Rattle.pn_serve.specs.declared.server.reports.Report.{Report}
-use Rattle.pn_serve.specs.declared.server.reports.Report.TheVariants.{Taken, End, Fault}
+use Rattle.pn_serve.specs.declared.server.reports.Report.TheVariants.{Messages as of_messages, End, Fault}
 use Rattle.pn_serve.specs.Server.Faults.{names_of}
-use Rattle.pn_serve.specs.Server.Messages.{max_messages}
-use Rattle.pn_serve.specs.Server.Reports.{IsTaken, Leaves}
+use Rattle.pn_serve.specs.declared.server.messages.TheConstants.{MAX_MESSAGES}
+use Rattle.pn_serve.specs.Server.Reports.{HasMessages, Leaves}
 use Rattle.pn_serve.specs.Server.Whole.{IsAllMessages, IsReadUpTo, IsWholeTo, EndsStream, IsTakenWhole, WasRead}
 use Rattle.pn_serve.specs.declared.server.fault.ServeFault.{ServeFault}
 use Rattle.pn_serve.specs.declared.server.fault.ServeFault.TheVariants.{Stream as of_stream}
-use Rattle.pn_serve.specs.declared.server.streams.StreamEnd.{StreamEnd}
+use Rattle.pn_serve.specs.declared.server.stream_threads.StreamEnd.{StreamEnd}
 
 none_yet : (position : ℕ) (part : List ℕ) (left : Option (List ℕ)) → IfSome left (λ text. SoFar position (part ++ text) [] part left) → IfSome left (λ text. IsReadUpTo position (part ++ text) position part left)
 none_yet position part None so = tt
@@ -29,12 +29,12 @@ pub read_none : {S : Type 0} (left : S → Option (List ℕ)) (stream : Stream S
 read_none left stream none = (none, none_yet stream.position stream.part (left stream.source) (SoFar-none stream.position stream.part [] (left stream.source) refl))
 
 one_more : (position last : ℕ) (front part now : List ℕ) (images : List Image) (first left leaves : Option (List ℕ)) (fault : Option StreamFault) → fault ≡ None
-    → IfSome first (λ text. IsReadUpTo position (front ++ text) last part left) → IfSome left (λ text. Batch 1 max_messages last (part ++ text) images fault now leaves)
+    → IfSome first (λ text. IsReadUpTo position (front ++ text) last part left) → IfSome left (λ text. Batch 1 MAX_MESSAGES last (part ++ text) images fault now leaves)
     → IfSome first (λ text. IsReadUpTo position (front ++ text) (last + length images) now leaves)
 one_more position last front part now images None left leaves fault none read batch = tt
 one_more position last front part now images (Some text) left leaves (Some fault) none read batch = let waits = none in cc
 one_more position last front part now images (Some text) left leaves None none read batch =
-    let more = on_rest read.read.rest part left (λ (t : List ℕ). Batch 1 max_messages last t images None now leaves) read.read.is_left batch in
+    let more = on_rest read.read.rest part left (λ (t : List ℕ). Batch 1 MAX_MESSAGES last t images None now leaves) read.read.is_left batch in
     let run : Run (position + length read.images) read.read.rest images more.rest = subst (λ (n : ℕ). Run n read.read.rest images more.rest) read.last_is more.run in
     record {
       images = read.images ++ images;
@@ -42,7 +42,7 @@ one_more position last front part now images (Some text) left leaves None none r
       last_is = omega (arith, read.last_is, length-append read.images images);
     }
 
-more_taken : {S : Type 0} (left : S → Option (List ℕ)) (first old new : Stream S) (messages : Messages) → WasRead left first old → Leaves left old (Taken messages) new → WasRead left first new
+more_taken : {S : Type 0} (left : S → Option (List ℕ)) (first old new : Stream S) (messages : Messages) → WasRead left first old → Leaves left old (of_messages messages) new → WasRead left first new
 more_taken left first old new messages read leaves none =
     let before = read leaves.0 in (
       before.0,
@@ -51,16 +51,16 @@ more_taken left first old new messages read leaves none =
     )
 
 -- once more messages were taken
-pub read_on : {S : Type 0} (left : S → Option (List ℕ)) (first old new : Stream S) (report : Report) → WasRead left first old → Leaves left old report new → IsTaken report → WasRead left first new
-read_on left first old new (Taken messages) read leaves taken = more_taken left first old new messages read leaves
+pub read_on : {S : Type 0} (left : S → Option (List ℕ)) (first old new : Stream S) (report : Report) → WasRead left first old → Leaves left old report new → HasMessages report → WasRead left first new
+read_on left first old new (of_messages messages) read leaves taken = more_taken left first old new messages read leaves
 read_on left first old new End read leaves taken = absurd taken
 read_on left first old new Fault read leaves taken = absurd taken
 
 all_messages : (position last : ℕ) (front part now : List ℕ) (first left leaves : Option (List ℕ)) → IfSome first (λ text. IsReadUpTo position (front ++ text) last part left)
-    → IfSome left (λ text. Batch 1 max_messages last (part ++ text) [] None now leaves) → IfSome first (λ text. IsAllMessages position (front ++ text) last)
+    → IfSome left (λ text. Batch 1 MAX_MESSAGES last (part ++ text) [] None now leaves) → IfSome first (λ text. IsAllMessages position (front ++ text) last)
 all_messages position last front part now None left leaves read batch = tt
 all_messages position last front part now (Some text) left leaves read batch =
-    let more = on_rest read.read.rest part left (λ (t : List ℕ). Batch 1 max_messages last t [] None now leaves) read.read.is_left batch in
+    let more = on_rest read.read.rest part left (λ (t : List ℕ). Batch 1 MAX_MESSAGES last t [] None now leaves) read.read.is_left batch in
     let run : Run (position + length read.images) read.read.rest [] more.rest = subst (λ (n : ℕ). Run n read.read.rest [] more.rest) read.last_is more.run in
     record {
       images = read.images ++ [];

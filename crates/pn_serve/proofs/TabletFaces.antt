@@ -4,7 +4,7 @@ use Rattle.std.specs.Prelude.{Option, Some, None, slice_get}
 use Rattle.std.specs.List.{prefix_len}
 use Rattle.std.specs.Option.{option_and_then}
 use Rattle.pn_tablet.specs.Copies.{TabletCopyValue}
-use Rattle.pn_tablet.specs.Needs.{lacking}
+use Rattle.pn_tablet.specs.Needs.{need_shortfall}
 use Rattle.pn_tablet.specs.Tablets.{TabletStateValue, same_range}
 use Rattle.pn_tablet.specs.declared.state.Status.{Status}
 use Rattle.pn_region.specs.Recovery.{tablet_for}
@@ -39,11 +39,11 @@ same_place given a b faces =
     λ i. cond (nat_lt (first i) (same_count a.tablets b.tablets faces i)) (Some (first i)) None
 
 pub lack_at : (given : TabletCopyValue) (n : ℕ) (ts us : List TabletStateValue) → SameFaces ts us
-    → option_and_then (λ (s : TabletStateValue). lacking s.status given.marks) (slice_get ts n) ≡ option_and_then (λ (s : TabletStateValue). lacking s.status given.marks) (slice_get us n)
+    → option_and_then (λ (s : TabletStateValue). need_shortfall s.status given.marks) (slice_get ts n) ≡ option_and_then (λ (s : TabletStateValue). need_shortfall s.status given.marks) (slice_get us n)
 lack_at given n [] [] faces = refl
 lack_at given n [] (u ∷ us) faces = absurd faces
 lack_at given n (t ∷ ts) [] faces = absurd faces
-lack_at given zero (t ∷ ts) (u ∷ us) faces = ap (λ (s : Status). lacking s given.marks) faces.0.1
+lack_at given zero (t ∷ ts) (u ∷ us) faces = ap (λ (s : Status). need_shortfall s given.marks) faces.0.1
 lack_at given (suc n) (t ∷ ts) (u ∷ us) faces = lack_at given n ts us faces.1
 
 -- both are there, or neither is

@@ -11,13 +11,15 @@ use Rattle.std.specs.declared.alloc.Global.{Global}
 use Rattle.pn_join.specs.Marks.{Positions}
 use Rattle.pn_stream.specs.Positions.{DeliveryValue}
 use Rattle.pn_tablet.specs.Tablets.{TabletStateValue}
-use Rattle.pn_tablet.specs.declared.op.TabletOp.{TabletOp}
+use Rattle.pn_tablet.specs.declared.state.TabletOp.{TabletOp}
 use Rattle.pn_apply.specs.Applying.{AreOldOrStepped}
-use Rattle.pn_region.specs.Marking.{new_marks}
-use Rattle.pn_region.specs.Logged.{LoggedRegion, noting, breaking}
+use Rattle.pn_region.specs.Marking.{is_memory, new_marks}
+use Rattle.pn_region.specs.Logged.{LoggedRegion, refused_log, with_notices, with_break}
 use Rattle.pn_region.specs.Regions.{RegionValue}
-use Rattle.pn_region.specs.Rounds.{joins, changed, IsHalfTaken, round as taken_round}
+use Rattle.pn_region.specs.Rounds.{joins, changed_count, IsHalfTaken, Leaves, round as taken_round}
 use Rattle.pn_region.specs.declared.fault.RoundFault.{RoundFault}
+use Rattle.pn_region.specs.declared.fault.RoundFault.TheVariants as round_fault
+use Rattle.pn_tablet.specs.Refusals.{Refuses}
 use Rattle.pn_protocol.specs.declared.reply.Reply.{Reply}
 use Rattle.pn_protocol.specs.declared.reply.Reply.TheVariants.{Adopted, Changed, Copied, Lost, Relaid, Silent, Text, Refused, NotTaken}
 use Rattle.pn_protocol.specs.declared.refusal.Refusal.{Refusal}
@@ -25,27 +27,28 @@ use Rattle.pn_protocol.specs.declared.refusal.Refusal.TheVariants.{TooLong, NotJ
 use Rattle.pn_protocol.specs.Command.Meaning.{CommandValue, deliver}
 use Rattle.pn_protocol.specs.Command.Lines.{command_at, is_too_long}
 use Rattle.pn_protocol.proofs.CommandLines.{too_long}
-use Rattle.pn_serve.specs.Machine.Outcomes.{Outcome, Machine, done, line, call, round, idle, Turn, waiting, refusing, showing}
-use Rattle.pn_serve.specs.Machine.PartRounds.{some_stepped, partly_marked}
-use Rattle.pn_serve.specs.Machine.Doing.{delivering, looking}
-use Rattle.pn_serve.specs.Machine.Turns.{obeying, turn_of, outcome_at, turn}
+use Rattle.pn_serve.specs.Machine.Outcomes.{Outcome, Machine, done, line, call, round, awaits_command, Turn, machine_over, refusal_turn, reply_turn}
+use Rattle.pn_serve.specs.Machine.PartRounds.{some_after, after_part_with_marks}
+use Rattle.pn_serve.specs.Machine.Doing.{delivery_turn, lookup_turn}
+use Rattle.pn_serve.specs.Machine.Turns.{command_turn, turn_of, outcome_at, turn}
 use Rattle.pn_serve.specs.Machine.Answers.{IsReadUnless, Turned, TurnedBy, AnswersBy, Obeys}
 use Rattle.pn_protocol.specs.Reply.Answers.{ShowsFound}
-use Rattle.pn_protocol.specs.Reply.Refusals.{Refuses}
-use Rattle.pn_protocol.specs.Reply.Faults.{fault_data}
+use Rattle.pn_protocol.specs.Reply.Refusals.{Tells, Refuses as RefusesBy}
+use Rattle.pn_protocol.specs.Reply.Faults.{round_fault_data}
+use Rattle.pn_protocol.specs.declared.reply.refusals.CommandFault.TheVariants as command_fault
 use Rattle.pn_protocol.specs.Reply.Short.{changed_data}
 use Rattle.pn_json.specs.Answers.{ShowsUnless}
 use Rattle.pn_json.specs.Lines.{line_of}
 
 -- out of memory in a call, a command is refused so
 abbrev pub RunsOut : LoggedRegion → CommandValue → Type 0
-RunsOut region command = obeying (waiting region) call command ≡ refusing (waiting region) Memory
+RunsOut region command = command_turn (machine_over region) call command ≡ refusal_turn (machine_over region) Memory
 
 -- memory ran out, and nothing changed
-pub turned_call : (old new : LoggedRegion) (command : CommandValue) → RunsOut old command → new ≡ old → Obeys (waiting old) command (waiting new) (Refused Memory)
+pub turned_call : (old new : LoggedRegion) (command : CommandValue) → RunsOut old command → new ≡ old → Obeys (machine_over old) command (machine_over new) (Refused Memory)
 turned_call old new command out same = record {
   outcome = call;
-  machine_is = ap (λ (t : Turn). t.machine) out ∙ ap waiting (sym same);
+  machine_is = ap (λ (t : Turn). t.machine) out ∙ ap machine_over (sym same);
   replied = ap (λ (t : Turn). t.reply) out;
   refused = ap (λ (t : Turn). t.refused) out;
 }
@@ -61,7 +64,7 @@ read_always may line = tt
 read_always may call = tt
 read_always may (round flags) = tt
 
-as_obeyed : (machine : Machine) (outcome : Outcome) (command : CommandValue) → turn_of machine (read_whole outcome) (Ok command) ≡ obeying machine outcome command
+as_obeyed : (machine : Machine) (outcome : Outcome) (command : CommandValue) → turn_of machine (read_whole outcome) (Ok command) ≡ command_turn machine outcome command
 as_obeyed machine done command = refl
 as_obeyed machine line command = refl
 as_obeyed machine call command = refl
@@ -115,29 +118,29 @@ pub turned_always : (may : Type 0) (turns : Outcome → Turn) (machine : Machine
 turned_always may turns machine reply is = turned_as may turns turns machine reply is is.outcome (weaker may is.outcome is.read) refl
 
 -- the command of a line was run
-pub turned_said : (may : Type 0) (text : List ℕ) (command : CommandValue) (old : LoggedRegion) (new : Machine) (reply : Reply) → command_at text ≡ Ok command → Obeys (waiting old) command new reply → AnswersBy may (waiting old) text new reply
+pub turned_said : (may : Type 0) (text : List ℕ) (command : CommandValue) (old : LoggedRegion) (new : Machine) (reply : Reply) → command_at text ≡ Ok command → Obeys (machine_over old) command new reply → AnswersBy may (machine_over old) text new reply
 turned_said may text command old new reply said obeys =
     let outcome = read_whole obeys.outcome in
-    turned_read may (λ outcome. obeying (waiting old) outcome command) (λ outcome. turn (waiting old) outcome text) new reply obeys outcome (read_always may obeys.outcome)
-    (ap (λ (o : Outcome). turn_of (waiting old) o (command_at text)) (as_it_goes outcome text (within text command said))
-    ∙ ap (turn_of (waiting old) outcome) said ∙ as_obeyed (waiting old) obeys.outcome command)
+    turned_read may (λ outcome. command_turn (machine_over old) outcome command) (λ outcome. turn (machine_over old) outcome text) new reply obeys outcome (read_always may obeys.outcome)
+    (ap (λ (o : Outcome). turn_of (machine_over old) o (command_at text)) (as_it_goes outcome text (within text command said))
+    ∙ ap (turn_of (machine_over old) outcome) said ∙ as_obeyed (machine_over old) obeys.outcome command)
 
 -- memory ran out before a command was found, in a line that is not too long
-pub turned_unread : (may : Type 0) (text : List ℕ) (region : LoggedRegion) → may → is_too_long text ≡ false → AnswersBy may (waiting region) text (waiting region) (Refused Memory)
+pub turned_unread : (may : Type 0) (text : List ℕ) (region : LoggedRegion) → may → is_too_long text ≡ false → AnswersBy may (machine_over region) text (machine_over region) (Refused Memory)
 turned_unread may text region out short =
-    let same : turn (waiting region) line text ≡ refusing (waiting region) Memory = ap (λ (o : Outcome). turn_of (waiting region) o (command_at text)) (as_it_goes line text short) in
+    let same : turn (machine_over region) line text ≡ refusal_turn (machine_over region) Memory = ap (λ (o : Outcome). turn_of (machine_over region) o (command_at text)) (as_it_goes line text short) in
     record { outcome = line; read = out; machine_is = ap (λ (t : Turn). t.machine) same; replied = ap (λ (t : Turn). t.reply) same; refused = ap (λ (t : Turn). t.refused) same }
 
 -- the line was refused
-pub turned_fault : (may : Type 0) (text : List ℕ) (region : LoggedRegion) (refusal : Refusal) → command_at text ≡ Err refusal → AnswersBy may (waiting region) text (waiting region) (Refused refusal)
+pub turned_fault : (may : Type 0) (text : List ℕ) (region : LoggedRegion) (refusal : Refusal) → command_at text ≡ Err refusal → AnswersBy may (machine_over region) text (machine_over region) (Refused refusal)
 turned_fault may text region refusal said =
-    let same : turn (waiting region) done text ≡ refusing (waiting region) refusal =
-    ap (λ (o : Outcome). turn_of (waiting region) o (command_at text)) (as_said (is_too_long text)) ∙ ap (turn_of (waiting region) done) said in
+    let same : turn (machine_over region) done text ≡ refusal_turn (machine_over region) refusal =
+    ap (λ (o : Outcome). turn_of (machine_over region) o (command_at text)) (as_said (is_too_long text)) ∙ ap (turn_of (machine_over region) done) said in
     record { outcome = done; read = tt; machine_is = ap (λ (t : Turn). t.machine) same; replied = ap (λ (t : Turn). t.reply) same; refused = ap (λ (t : Turn). t.refused) same }
 
 -- it was refused, or memory ran out before a command was found
 pub turned_err : (may : Type 0) (text : List ℕ) (region : LoggedRegion) (refusal : Refusal) → (refusal ≢ Memory → command_at text ≡ Err refusal) → (refusal ≡ Memory → is_too_long text ≡ false) → (refusal ≡ Memory → may)
-    → AnswersBy may (waiting region) text (waiting region) (Refused refusal)
+    → AnswersBy may (machine_over region) text (machine_over region) (Refused refusal)
 turned_err may text region Memory is short out = turned_unread may text region (out refl) (short refl)
 turned_err may text region TooLong is short out = turned_fault may text region TooLong (is (λ same. cc))
 turned_err may text region NotJson is short out = turned_fault may text region NotJson (is (λ same. cc))
@@ -146,24 +149,24 @@ turned_err may text region ReadOnly is short out = turned_fault may text region 
 turned_err may text region (OutOfRange part) is short out = turned_fault may text region (OutOfRange part) (is (λ same. cc))
 
 -- a text was shown, and nothing changed
-pub turned_text : (old new : LoggedRegion) (command : CommandValue) (reply : List ℕ) (text : Vec ℕ Global) → obeying (waiting old) done command ≡ showing (waiting old) reply → new ≡ old → text.items ≡ reply
-    → Obeys (waiting old) command (waiting new) (Text text)
+pub turned_text : (old new : LoggedRegion) (command : CommandValue) (reply : List ℕ) (text : Vec ℕ Global) → command_turn (machine_over old) done command ≡ reply_turn (machine_over old) reply → new ≡ old → text.items ≡ reply
+    → Obeys (machine_over old) command (machine_over new) (Text text)
 turned_text old new command reply text shows same is = record {
   outcome = done;
-  machine_is = ap (λ (t : Turn). t.machine) shows ∙ ap waiting (sym same);
+  machine_is = ap (λ (t : Turn). t.machine) shows ∙ ap machine_over (sym same);
   replied = ap (λ (t : Turn). t.reply) shows ∙ sym is;
   refused = ap (λ (t : Turn). t.refused) shows;
 }
 
 -- a lookup of the region, and what is right for it
-module _ {A : Type 0} (region : LoggedRegion) (command : CommandValue) (show : A → Data) (right : Result A ScanFault) (does : obeying (waiting region) done command ≡ looking (waiting region) show right) (out : RunsOut region command) where
-  no_memory : (reply : Reply) → reply ≡ Refused Memory → Obeys (waiting region) command (waiting region) reply
-  no_memory reply is = subst (λ (r : Reply). Obeys (waiting region) command (waiting region) r) (sym is) (turned_call region region command out refl)
+module _ {A : Type 0} (region : LoggedRegion) (command : CommandValue) (show : A → Data) (right : Result A ScanFault) (does : command_turn (machine_over region) done command ≡ lookup_turn (machine_over region) show right) (out : RunsOut region command) where
+  no_memory : (reply : Reply) → reply ≡ Refused Memory → Obeys (machine_over region) command (machine_over region) reply
+  no_memory reply is = subst (λ (r : Reply). Obeys (machine_over region) command (machine_over region) r) (sym is) (turned_call region region command out refl)
 
   -- it was refused
-  pub turned_why : (fault : ScanFault) (reply : Reply) → (fault ≢ scan.Memory → right ≡ Err fault) → Refuses fault reply → Obeys (waiting region) command (waiting region) reply
+  pub turned_why : (fault : ScanFault) (reply : Reply) → (fault ≢ scan.Memory → right ≡ Err fault) → RefusesBy (command_fault.Lookup fault) reply → Obeys (machine_over region) command (machine_over region) reply
   turned_why fault (NotTaken text) is (other, says) =
-      let all : obeying (waiting region) done command ≡ looking (waiting region) show (Err fault) = does ∙ ap (looking (waiting region) show) (is other) in record {
+      let all : command_turn (machine_over region) done command ≡ lookup_turn (machine_over region) show (Err fault) = does ∙ ap (lookup_turn (machine_over region) show) (is other) in record {
         outcome = done;
         machine_is = ap (λ (t : Turn). t.machine) all;
         replied = ap (λ (t : Turn). t.reply) all ∙ sym says;
@@ -180,8 +183,8 @@ module _ {A : Type 0} (region : LoggedRegion) (command : CommandValue) (show : A
 
   -- what it found was shown, or there was no memory for the text
   pub turned_shown : {B : Type 0} (seen : B → A) (found : Result B ScanFault) (reply : Reply) → ShowsUnless scan.Memory seen found right → ShowsFound (λ b. show (seen b)) found reply
-      → Obeys (waiting region) command (waiting region) reply
-  turned_shown seen (Ok found) (Text text) is shows = turned_text region region command (line_of (show (seen found))) text (does ∙ ap (looking (waiting region) show) is) refl shows
+      → Obeys (machine_over region) command (machine_over region) reply
+  turned_shown seen (Ok found) (Text text) is shows = turned_text region region command (line_of (show (seen found))) text (does ∙ ap (lookup_turn (machine_over region) show) is) refl shows
   turned_shown seen (Ok found) (Adopted tablet) is shows = no_memory (Adopted tablet) shows
   turned_shown seen (Ok found) (Changed count) is shows = no_memory (Changed count) shows
   turned_shown seen (Ok found) (Copied lines text) is shows = no_memory (Copied lines text) shows
@@ -202,25 +205,25 @@ read_shows before right (Err scan.NoEntry) is = λ other. is
 
 module _ (old new : LoggedRegion) (deliveries : List DeliveryValue) where
   -- the round ended
-  pub turned_ok : (count : ℕ) → taken_round old.state deliveries ≡ Ok new.state → new.log ≡ noting old.log old.state new.state → count ≡ changed old.state new.state → Obeys (waiting old) (deliver deliveries) (waiting new) (Changed count)
+  pub turned_ok : (count : ℕ) → taken_round old.state deliveries ≡ Ok new.state → new.log ≡ with_notices old.log old.state new.state → count ≡ changed_count old.state new.state → Obeys (machine_over old) (deliver deliveries) (machine_over new) (Changed count)
   turned_ok count ended noted counted = record {
     outcome = done;
-    machine_is = ap (λ (r : Result RegionValue RoundFault). (delivering (waiting old) r).machine) ended ∙ (λ i. record { mode = idle; region = new.state; log = sym noted i });
-    replied = ap (λ (r : Result RegionValue RoundFault). (delivering (waiting old) r).reply) ended ∙ ap (λ (n : ℕ). line_of (changed_data n)) (sym counted);
-    refused = ap (λ (r : Result RegionValue RoundFault). (delivering (waiting old) r).refused) ended;
+    machine_is = ap (λ (r : Result RegionValue RoundFault). (delivery_turn (machine_over old) r).machine) ended ∙ (λ i. record { mode = awaits_command; region = new.state; log = sym noted i });
+    replied = ap (λ (r : Result RegionValue RoundFault). (delivery_turn (machine_over old) r).reply) ended ∙ ap (λ (n : ℕ). line_of (changed_data n)) (sym counted);
+    refused = ap (λ (r : Result RegionValue RoundFault). (delivery_turn (machine_over old) r).refused) ended;
   }
 
   -- the round was refused
-  pub turned_refused : (fault : RoundFault) (text : Vec ℕ Global) → taken_round old.state deliveries ≡ Err fault → new.state ≡ old.state → new.log ≡ old.log → text.items ≡ line_of (fault_data fault) → Obeys (waiting old) (deliver deliveries) (waiting new) (NotTaken text)
+  pub turned_refused : (fault : RoundFault) (text : Vec ℕ Global) → taken_round old.state deliveries ≡ Err fault → new.state ≡ old.state → new.log ≡ old.log → text.items ≡ line_of (round_fault_data fault) → Obeys (machine_over old) (deliver deliveries) (machine_over new) (NotTaken text)
   turned_refused fault text refused same kept is = record {
     outcome = done;
-    machine_is = ap (λ (r : Result RegionValue RoundFault). (delivering (waiting old) r).machine) refused ∙ (λ i. record { mode = idle; region = sym same i; log = sym kept i });
-    replied = ap (λ (r : Result RegionValue RoundFault). (delivering (waiting old) r).reply) refused ∙ sym is;
-    refused = ap (λ (r : Result RegionValue RoundFault). (delivering (waiting old) r).refused) refused;
+    machine_is = ap (λ (r : Result RegionValue RoundFault). (delivery_turn (machine_over old) r).machine) refused ∙ (λ i. record { mode = awaits_command; region = sym same i; log = sym kept i });
+    replied = ap (λ (r : Result RegionValue RoundFault). (delivery_turn (machine_over old) r).reply) refused ∙ sym is;
+    refused = ap (λ (r : Result RegionValue RoundFault). (delivery_turn (machine_over old) r).refused) refused;
   }
 
 -- which tablets took their part
-which : (ts us : List TabletStateValue) (ops : List TabletOp) → AreOldOrStepped ts ops us → (flags : List Bool) × (us ≡ some_stepped flags ts ops)
+which : (ts us : List TabletStateValue) (ops : List TabletOp) → AreOldOrStepped ts ops us → (flags : List Bool) × (us ≡ some_after flags ts ops)
 which [] [] [] half = ([], refl)
 which [] [] (op ∷ ops) half = absurd half
 which [] (u ∷ us) ops half = absurd (none ops half)
@@ -242,14 +245,43 @@ which (t ∷ ts) (u ∷ us) (op ∷ ops) half =
 
 half_found : (old new : RegionValue) (deliveries : List DeliveryValue) (right : Result Positions RoundFault) → new.layout ≡ old.layout → new.marks ≡ old.marks
     → MatchResult right (λ next. AreOldOrStepped old.tablets (joins old deliveries next) new.tablets) (λ fault. new.tablets ≡ old.tablets)
-    → (flags : List Bool) × (partly_marked old deliveries flags right ≡ new)
+    → (flags : List Bool) × (after_part_with_marks old deliveries flags right ≡ new)
 half_found old new deliveries (Ok next) layout positions half =
     let (flags, is) = which old.tablets new.tablets (joins old deliveries next) half in
     (flags, λ i. record { layout = sym layout i; tablets = sym is i; marks = sym positions i })
 half_found old new deliveries (Err fault) layout positions same = ([], λ i. record { layout = sym layout i; tablets = sym same i; marks = sym positions i })
 
 -- the round ran out of memory
-pub turned_half : (old new : LoggedRegion) (deliveries : List DeliveryValue) → IsHalfTaken old.state deliveries new.state → new.log ≡ breaking old.log → Obeys (waiting old) (deliver deliveries) (waiting new) (Refused Memory)
+pub turned_half : (old new : LoggedRegion) (deliveries : List DeliveryValue) → IsHalfTaken old.state deliveries new.state → new.log ≡ with_break old.log → Obeys (machine_over old) (deliver deliveries) (machine_over new) (Refused Memory)
 turned_half old new deliveries half broken =
     let (flags, is) = half_found old.state new.state deliveries (new_marks old.state.marks deliveries) half.0 half.1 half.2 in
-    record { outcome = round flags; machine_is = λ i. record { mode = idle; region = is i; log = sym broken i }; replied = refl; refused = refl }
+    record { outcome = round flags; machine_is = λ i. record { mode = awaits_command; region = is i; log = sym broken i }; replied = refl; refused = refl }
+
+-- what a reply comes to that tells this, or that memory ran out
+told_or_out : (P : Reply → Type 0) (right : Type 0) (said : Data) (reply : Reply) → ((text : Vec ℕ Global) → right → text.items ≡ line_of said → P (NotTaken text)) → P (Refused Memory) → Tells right said reply → P reply
+told_or_out P right said (NotTaken text) tells out (knows, says) = tells text knows says
+told_or_out P right said (Adopted tablet) tells out is = subst P (sym is) out
+told_or_out P right said (Changed count) tells out is = subst P (sym is) out
+told_or_out P right said (Copied lines text) tells out is = subst P (sym is) out
+told_or_out P right said (Lost tablet) tells out is = subst P (sym is) out
+told_or_out P right said (Relaid count) tells out is = subst P (sym is) out
+told_or_out P right said Silent tells out is = subst P (sym is) out
+told_or_out P right said (Text text) tells out is = subst P (sym is) out
+told_or_out P right said (Refused refusal) tells out is = subst P (sym is) out
+
+-- the round has a fault, and the reply says which, or that memory ran out
+module _ (old new : LoggedRegion) (deliveries : List DeliveryValue) where
+  abbrev Comes : Reply → Type 0
+  Comes reply = Obeys (machine_over old) (deliver deliveries) (machine_over new) reply
+
+  refused_whole : (fault : RoundFault) (reply : Reply) → taken_round old.state deliveries ≡ Err fault → new.state ≡ old.state → new.log ≡ old.log → Tells (fault ≢ round_fault.Memory) (round_fault_data fault) reply → Comes reply
+  refused_whole fault reply refused same kept tells =
+      told_or_out Comes (fault ≢ round_fault.Memory) (round_fault_data fault) reply (λ text other says. turned_refused old new deliveries fault text refused same kept says)
+      (turned_call old new (deliver deliveries) refl (λ i. record { state = same i; log = kept i })) tells
+
+  pub turned_fault_of_round : (fault : RoundFault) (reply : Reply) → Refuses is_memory fault (taken_round old.state deliveries) → Leaves fault old.state deliveries new.state → new.log ≡ refused_log old.log fault
+      → RefusesBy (command_fault.Round fault) reply → Comes reply
+  turned_fault_of_round (round_fault.Gap stream wanted got) reply refused leaves kept tells = refused_whole (round_fault.Gap stream wanted got) reply refused leaves kept tells
+  turned_fault_of_round round_fault.TooManyStreams reply refused leaves kept tells = refused_whole round_fault.TooManyStreams reply refused leaves kept tells
+  turned_fault_of_round round_fault.Memory reply refused leaves broken tells =
+      told_or_out Comes (round_fault.Memory ≢ round_fault.Memory) (round_fault_data round_fault.Memory) reply (λ text other says. absurd (other refl)) (turned_half old new deliveries leaves broken) tells

@@ -1,4 +1,3 @@
 -- Where the run of a script ends.
 pub mod Bounds
 pub mod Ends
-pub mod Starts

@@ -3,7 +3,6 @@ pub mod Events
 pub mod Happened
 pub mod Inputs
 pub mod Lines
-pub mod Losses
 pub mod Pages
 pub mod Parts
 pub mod Repeats

@@ -5,21 +5,24 @@ ghost use Rattle.std.specs.declared.net.ip_addr.IpAddr.{IpAddr};
 ghost use Rattle.clap.specs.Words.{found_of, kind_of, rows_of, subcommand_rows_of};
 ghost use Rattle.pn_json.specs.Prelude.{IsUnless, ShowsUnless};
 ghost use Rattle.pn_serve.specs.Arguments.Plans.{Answers, Gives, HasSessions, Plans};
-ghost use Rattle.pn_serve.specs.Arguments.Commands.{idle_in, is_set, listens_at, place_in, replay_in, serve_in, service_in, settings_in, stay_in, Spells};
-ghost use Rattle.pn_serve.specs.Arguments.PlanValues.{place_value, plan_value, service_value};
+ghost use Rattle.pn_serve.specs.Arguments.Commands.{idle_in, is_set, listens_at, address_in, replay_in, serve_in, service_in, settings_in, stay_in, Spells};
+ghost use Rattle.pn_serve.specs.Arguments.PlanValues.{address_value, plan_value, service_value};
 
 mod bounds;
-pub(crate) mod laws;
-mod options;
+pub(crate) mod options;
 pub(crate) mod plans;
 mod streams;
 
 use crate::arguments::bounds::layout_of;
-use crate::arguments::options::{command, option_count, option_number, option_text};
+use crate::arguments::options::{
+    MAX_CONNECTIONS, MAX_IDLE, MAX_PORT, command, option_number, option_text,
+};
 use crate::arguments::streams::named_streams;
-use crate::{Place, Plan, PlanFault, Service, Settings};
+use crate::{Address, Plan, PlanFault, Service, Settings};
 use clap::error::ErrorKind;
 use clap::{ArgMatches, Error};
+use pn_apply::MAX_WORKERS;
+use pn_live::MAX_READERS;
 use std::alloc::Global;
 use std::net::IpAddr;
 
@@ -67,23 +70,19 @@ fn command_plan(alloc: Global, name: &str, options: &ArgMatches<'_>) -> Result<P
 }
 
 fn serve_of(alloc: Global, options: &ArgMatches<'_>) -> Result<Plan, PlanFault>
-    ensures { (address : Option IpAddr) × Spells (listens_at (rows_of (found_of options.now))) address
-        × ShowsUnless PlanFault.Memory plan_value result (serve_in address (rows_of (found_of options.now))) }
+    ensures { (host : Option IpAddr) × Spells (listens_at (rows_of (found_of options.now))) host
+        × ShowsUnless PlanFault.Memory plan_value result (serve_in host (rows_of (found_of options.now))) }
 {
-    let address = address_of(options);
-    plan_at(alloc, address, options)
+    let host = host_of(options);
+    plan_at(alloc, host, options)
 }
 
-fn plan_at(
-    alloc: Global,
-    address: Option<IpAddr>,
-    options: &ArgMatches<'_>,
-) -> Result<Plan, PlanFault>
-    ensures { ShowsUnless PlanFault.Memory plan_value result (serve_in address (rows_of (found_of options.now))) }
+fn plan_at(alloc: Global, host: Option<IpAddr>, options: &ArgMatches<'_>) -> Result<Plan, PlanFault>
+    ensures { ShowsUnless PlanFault.Memory plan_value result (serve_in host (rows_of (found_of options.now))) }
 {
     let settings = settings_of(alloc, options)?;
-    let address = address.ok_or(PlanFault::Address)?;
-    let service = service_of(alloc, address, options)?;
+    let host = host.ok_or(PlanFault::Address)?;
+    let service = service_of(alloc, host, options)?;
     let streams = named_streams(alloc, options)?;
     Ok(Plan::Serve {
         settings,
@@ -92,41 +91,37 @@ fn plan_at(
     })
 }
 
-// The address that is listened at, where the text is one.
-fn address_of(options: &ArgMatches<'_>) -> Option<IpAddr>
+// The host that is listened at, where the text is an address of one.
+fn host_of(options: &ArgMatches<'_>) -> Option<IpAddr>
     ensures { Spells (listens_at (rows_of (found_of options.now))) result }
 {
     match IpAddr::parse_ascii(option_text(options, "listen").as_bytes()) {
-        Ok(address) => Some(address),
+        Ok(host) => Some(host),
         Err(_) => None,
     }
 }
 
-fn service_of(
-    alloc: Global,
-    address: IpAddr,
-    options: &ArgMatches<'_>,
-) -> Result<Service, PlanFault>
-    ensures { ShowsUnless PlanFault.Memory service_value result (Ok (service_in address (rows_of (found_of options.now)))) }
+fn service_of(alloc: Global, host: IpAddr, options: &ArgMatches<'_>) -> Result<Service, PlanFault>
+    ensures { ShowsUnless PlanFault.Memory service_value result (Ok (service_in host (rows_of (found_of options.now)))) }
 {
     Ok(Service {
-        sessions: usize::from(option_number(options, "sessions", 16)),
-        place: place_of(alloc, address, options)?,
+        sessions: option_number(options, "sessions", MAX_READERS as u32) as usize,
+        address: address_of(alloc, host, options)?,
         stay: stay_of(options),
         idle: idle_of(options),
         is_progress_told: is_given(options, "progress"),
     })
 }
 
-// The Unix socket that is named, or else the port at the address.
-fn place_of(alloc: Global, address: IpAddr, options: &ArgMatches<'_>) -> Result<Place, PlanFault>
-    ensures { ShowsUnless PlanFault.Memory place_value result (Ok (place_in address (rows_of (found_of options.now)))) }
+// The Unix socket that is named, or else the port of the host.
+fn address_of(alloc: Global, host: IpAddr, options: &ArgMatches<'_>) -> Result<Address, PlanFault>
+    ensures { ShowsUnless PlanFault.Memory address_value result (Ok (address_in host (rows_of (found_of options.now)))) }
 {
     let path = option_text(options, "socket");
     if path.is_empty() {
-        Ok(Place::Port(address, option_number(options, "port", 65_535)))
+        Ok(Address::Port(host, option_number(options, "port", MAX_PORT) as u16))
     } else {
-        Ok(Place::Path(String::from_str(alloc, path)?))
+        Ok(Address::Path(String::from_str(alloc, path)?))
     }
 }
 
@@ -135,7 +130,7 @@ fn stay_of(options: &ArgMatches<'_>) -> Option<u32>
     ensures { result ≡ stay_in (rows_of (found_of options.now)) }
 {
     if is_given(options, "stay") {
-        Some(option_count(options, "connections", 65_536))
+        Some(option_number(options, "connections", MAX_CONNECTIONS))
     } else {
         None
     }
@@ -148,7 +143,7 @@ fn idle_of(options: &ArgMatches<'_>) -> Option<u32>
     if option_text(options, "idle").is_empty() {
         None
     } else {
-        Some(option_count(options, "idle", 86_400))
+        Some(option_number(options, "idle", MAX_IDLE))
     }
 }
 
@@ -168,7 +163,7 @@ fn settings_of(alloc: Global, options: &ArgMatches<'_>) -> Result<Settings, Plan
     ensures { IsUnless PlanFault.Memory result (settings_in (rows_of (found_of options.now))) }
 {
     let layout = layout_of(alloc, option_text(options, "bounds"))?;
-    let workers = usize::from(option_number(options, "workers", 16));
+    let workers = option_number(options, "workers", MAX_WORKERS as u32) as usize;
     match Settings::new(layout, workers) {
         Some(settings) => Ok(settings),
         None => unreachable!(),

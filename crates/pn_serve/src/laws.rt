@@ -12,9 +12,9 @@ ghost use Rattle.pn_protocol.specs.Prelude.{command_at, AsksForRecords};
 ghost use Rattle.pn_serve.specs.Machine.LastTurns.{end_turn};
 ghost use Rattle.pn_serve.specs.Machine.Outcomes.{Outcome};
 ghost use Rattle.pn_serve.specs.Machine.Turns.{turn};
-ghost use Rattle.pn_serve.specs.Script.Happened.{happened, happened_since};
+ghost use Rattle.pn_serve.specs.Script.Happened.{events_of_input, events_since};
 ghost use Rattle.pn_serve.specs.Script.Inputs.{Input, all_lines, after_input};
-ghost use Rattle.pn_serve.specs.Script.Losses.{NoLosses};
+ghost use Rattle.pn_serve.specs.Script.Lines.{NoLosses};
 ghost use Rattle.pn_serve.specs.Script.Taken.{NothingLost};
 ghost use Rattle.pn_serve.specs.Script.Told.{Told, machine_of, records_of, images_of, TookTheSame, AwaitsCommand, reply_of, last_reply, AreAlike, IsNoOlder};
 ghost use Rattle.pn_stream.specs.Prelude.{BrokerRecord};
@@ -38,7 +38,7 @@ pub fn regions_converge()
         → IsNoOlder (machine_of told).region (turn (machine_of told) outcome text).machine.region key
         × IsNoOlder (machine_of told).region (end_turn (machine_of told) outcome text).machine.region key }
     ensures nor_later { (broker : BrokerRecord) (told : Told) (more : Input) (key : List ℕ)
-        → AreHonestEvents broker (happened (new_region told.layout) told.input) → AreHonestEvents broker (happened_since (machine_of told) more)
+        → AreHonestEvents broker (events_of_input (new_region told.layout) told.input) → AreHonestEvents broker (events_since (machine_of told) more)
         → IsNoOlder (machine_of told).region (after_input (machine_of told) more).region key }
     ensures any_record { (broker other : BrokerRecord) (told : Told) → NothingLost (new_region told.layout) told.input
         → images_of broker told ≡ images_of other told }

@@ -11,9 +11,9 @@ mod server;
 mod sessions;
 mod settings;
 
-pub use arguments::laws::numbers_are_as_written;
+pub use arguments::options::numbers_are_as_written;
 pub use arguments::plan;
-pub use arguments::plans::{Place, Plan, PlanFault, Service};
+pub use arguments::plans::{Address, Plan, PlanFault, Service};
 pub use laws::regions_converge;
 pub use machine::line_handler::LineHandler;
 pub use page_laws::{
@@ -21,9 +21,8 @@ pub use page_laws::{
     pages_of_a_script_are_together_its_rows,
 };
 pub use pn_protocol::{
-    Command, Part, Refusal, Reply, ShortReply, a_line_is_one_command, adopted_reply,
-    bad_text_reply, changed_reply, command_of, fault_reply, lines_reply, lost_reply, no_copy_reply,
-    not_adopted_reply, not_relaid_reply, refusal_reply, refused_reply, relaid_reply, scan_reply,
+    Command, CommandFault, NumberName, Part, Refusal, Reply, ShortReply, a_line_is_one_command,
+    command_of, number_reply, refusal_reply, refuse, scan_reply,
 };
 pub use repeat_laws::{
     a_repeated_deliver_leaves_no_trace_of_a_refused_one, repeated_delivers_leave_the_same_region,
@@ -31,8 +30,8 @@ pub use repeat_laws::{
 pub use script::line_loop::LineLoop;
 pub use script::{Counts, MAX_LINES, RunFault, run, run_to_exit};
 pub use server::{
-    ComesBack, Door, Feed, Origin, Running, ServeFault, Tally, close, end_sessions, open,
-    read_feeds, serve,
+    Acceptor, ComesBack, Counter, Origin, ServeFault, SessionThread, Stream, close_region,
+    join_sessions, open_region, read_streams, serve,
 };
 pub use sessions::session;
 pub use settings::Settings;

@@ -1,66 +1,64 @@
 //! Runs the commands of lines over a region.
 
 ghost use Rattle.std.specs.Prelude.{◌≡◌, ◌≤◌};
-ghost use Rattle.pn_apply.specs.Prelude.{max_workers};
+ghost use Rattle.pn_apply.specs.Prelude.{MAX_WORKERS};
 ghost use Rattle.pn_protocol.specs.Prelude.{command_value, deliver as asking};
 ghost use Rattle.pn_serve.specs.Machine.Modes.{IsDone, with_mode};
-ghost use Rattle.pn_serve.specs.Machine.Outcomes.{waiting};
+ghost use Rattle.pn_serve.specs.Machine.Outcomes.{machine_over};
 ghost use Rattle.pn_serve.specs.Machine.Answers.{AnswersBy, ConcludesBy, Obeys};
 ghost use Rattle.pn_serve.specs.Machine.Ways.{HandlesTo, LastsBy};
 
 pub(crate) mod adoption;
 pub(crate) mod command_reader;
-pub(crate) mod layouts;
 pub(crate) mod line_handler;
 pub(crate) mod lookups;
 pub(crate) mod script_handler;
 pub(crate) mod tablets;
 
-use crate::machine::adoption::{Announced, adopt, finish, go_on};
+use crate::machine::adoption::{Announced, adopt, take_last_part, take_line};
 use crate::machine::command_reader::CommandReader;
-use crate::machine::layouts::relayout;
-use crate::machine::lookups::{get, notices, read, scan};
-use crate::machine::tablets::{copy, lose};
+use crate::machine::lookups::{get, look_up_notices, read, scan};
+use crate::machine::tablets::{copy_tablet, lose_tablet, relayout};
 use pn_apply::Open;
-use pn_protocol::{Command, Refusal, Reply, fault_reply, marks_reply, shown, tablets_reply};
-use pn_region::{Region, RoundFault};
+use pn_protocol::{Command, CommandFault, Reply, answer_text, marks_reply, refuse, tablets_reply};
+use pn_region::Region;
 use pn_stream::Delivery;
 use std::alloc::Global;
 use std::thread::Threads;
 
 /// The reply to a line, and the lines that it announces.
-pub(crate) type Done = (Reply, Option<Announced>);
+pub(crate) type Answer = (Reply, Option<Announced>);
 
 /// Answers a line with its newline: a command, or an announced line. Only a round out of memory leaves some
 /// tablets changed.
 ///
 /// If `C` never runs out of memory, losses never do.
-pub(crate) fn answer<R: Threads + Sync, C: CommandReader>(
+pub(crate) fn answer_line<R: Threads + Sync, C: CommandReader>(
     rt: &R,
     alloc: Global,
     region: &mut Region,
     workers: usize,
     announced: Option<Announced>,
     line: &[u8],
-) -> Done
-    requires workers { (1 ≤ workers) × (workers ≤ max_workers) }
+) -> Answer
+    requires workers { (1 ≤ workers) × (workers ≤ MAX_WORKERS) }
     ensures { AnswersBy C.may_run_out (with_mode announced region.old) line.now (with_mode result.1 region.new) result.0 }
 {
     match announced {
-        None => command::<R, C>(rt, alloc, region, workers, line),
-        Some(announced) => go_on(alloc, region, announced, line),
+        None => run_command::<R, C>(rt, alloc, region, workers, line),
+        Some(announced) => take_line(alloc, region, announced, line),
     }
 }
 
-fn command<R: Threads + Sync, C: CommandReader>(
+fn run_command<R: Threads + Sync, C: CommandReader>(
     rt: &R,
     alloc: Global,
     region: &mut Region,
     workers: usize,
     line: &[u8],
-) -> Done
-    requires workers { (1 ≤ workers) × (workers ≤ max_workers) }
-    ensures { AnswersBy C.may_run_out (waiting region.old) line.now (with_mode result.1 region.new) result.0 }
+) -> Answer
+    requires workers { (1 ≤ workers) × (workers ≤ MAX_WORKERS) }
+    ensures { AnswersBy C.may_run_out (machine_over region.old) line.now (with_mode result.1 region.new) result.0 }
 {
     match C::command_of(alloc, line) {
         Ok(command) => announce(alloc, obey(rt, alloc, region, workers, command)),
@@ -69,7 +67,7 @@ fn command<R: Threads + Sync, C: CommandReader>(
 }
 
 // Waits for the lines that a command announces.
-fn announce(alloc: Global, handled: Handled) -> Done
+fn announce(alloc: Global, handled: Handled) -> Answer
     ensures { IsDone handled result.0 result.1 }
 {
     match handled {
@@ -79,7 +77,7 @@ fn announce(alloc: Global, handled: Handled) -> Done
 }
 
 /// Answers the end of the input, after a part of a line without newline: a command, an announced part, or nothing.
-pub(crate) fn end<R: Threads + Sync, C: CommandReader>(
+pub(crate) fn answer_end<R: Threads + Sync, C: CommandReader>(
     rt: &R,
     alloc: Global,
     region: &mut Region,
@@ -87,25 +85,25 @@ pub(crate) fn end<R: Threads + Sync, C: CommandReader>(
     announced: Option<Announced>,
     part: &[u8],
 ) -> Reply
-    requires workers { (1 ≤ workers) × (workers ≤ max_workers) }
-    ensures { ConcludesBy C.may_run_out (with_mode announced region.old) part.now (waiting region.new) result }
+    requires workers { (1 ≤ workers) × (workers ≤ MAX_WORKERS) }
+    ensures { ConcludesBy C.may_run_out (with_mode announced region.old) part.now (machine_over region.new) result }
 {
     match announced {
-        Some(announced) => finish(alloc, region, announced, part),
+        Some(announced) => take_last_part(alloc, region, announced, part),
         None if part.is_empty() => Reply::Silent,
-        None => last_command::<R, C>(rt, alloc, region, workers, part),
+        None => run_last_command::<R, C>(rt, alloc, region, workers, part),
     }
 }
 
 // Answers a last line without newline. No line that it announces can come.
-fn last_command<R: Threads + Sync, C: CommandReader>(
+fn run_last_command<R: Threads + Sync, C: CommandReader>(
     rt: &R,
     alloc: Global,
     region: &mut Region,
     workers: usize,
     line: &[u8],
 ) -> Reply
-    requires workers { (1 ≤ workers) × (workers ≤ max_workers) }
+    requires workers { (1 ≤ workers) × (workers ≤ MAX_WORKERS) }
     ensures { LastsBy C.may_run_out region.old line.now region.new result }
 {
     match C::command_of(alloc, line) {
@@ -122,7 +120,7 @@ fn last_command<R: Threads + Sync, C: CommandReader>(
 enum Handled {
     /// It was run, with this reply.
     Obeyed(Reply),
-    /// It announces this many lines.
+    /// It announces this many lines, which are to come.
     Announces(u64),
 }
 
@@ -133,23 +131,25 @@ fn obey<R: Threads + Sync>(
     workers: usize,
     command: Command,
 ) -> Handled
-    requires workers { (1 ≤ workers) × (workers ≤ max_workers) }
+    requires workers { (1 ≤ workers) × (workers ≤ MAX_WORKERS) }
     ensures { HandlesTo region.old (command_value command) region.new result }
 {
     match command {
         Command::Adopt { lines } => Handled::Announces(lines),
-        Command::Copy { need, tablet } => Handled::Obeyed(copy(alloc, region, &need, tablet)),
+        Command::Copy { need, tablet } => Handled::Obeyed(copy_tablet(
+            alloc, region, &need, tablet,
+        )),
         Command::Deliver(deliveries) => Handled::Obeyed(deliver(
             rt, alloc, region, workers, deliveries,
         )),
         Command::Get(keys) => Handled::Obeyed(get(alloc, region, &keys)),
-        Command::Lose { tablet } => Handled::Obeyed(lose(region, tablet)),
-        Command::Marks => Handled::Obeyed(shown(marks_reply(alloc, region.marks()))),
-        Command::Notices { since } => Handled::Obeyed(notices(alloc, region, since)),
+        Command::Lose { tablet } => Handled::Obeyed(lose_tablet(region, tablet)),
+        Command::Marks => Handled::Obeyed(answer_text(marks_reply(alloc, region.marks()))),
+        Command::Notices { since } => Handled::Obeyed(look_up_notices(alloc, region, since)),
         Command::Read { key, version } => Handled::Obeyed(read(alloc, region, &key, version)),
         Command::Relayout(bounds) => Handled::Obeyed(relayout(alloc, region, bounds)),
         Command::Scan(query) => Handled::Obeyed(scan(alloc, region, &query)),
-        Command::Tablets => Handled::Obeyed(shown(tablets_reply(alloc, region))),
+        Command::Tablets => Handled::Obeyed(answer_text(tablets_reply(alloc, region))),
     }
 }
 
@@ -161,15 +161,11 @@ fn deliver<R: Threads + Sync>(
     workers: usize,
     deliveries: Vec<Delivery>,
 ) -> Reply
-    requires workers { (1 ≤ workers) × (workers ≤ max_workers) }
-    ensures { Obeys (waiting region.old) (asking deliveries.items) (waiting region.new) result }
+    requires workers { (1 ≤ workers) × (workers ≤ MAX_WORKERS) }
+    ensures { Obeys (machine_over region.old) (asking deliveries.items) (machine_over region.new) result }
 {
     match region.round(rt, deliveries, workers, &Open) {
         Ok(round) => Reply::Changed(round.changed),
-        Err(RoundFault::Memory) => Reply::Refused(Refusal::Memory),
-        Err(fault) => match fault_reply(alloc, &fault) {
-            Ok(text) => Reply::NotTaken(text),
-            Err(_) => Reply::Refused(Refusal::Memory),
-        },
+        Err(fault) => refuse(alloc, CommandFault::Round(fault)),
     }
 }

@@ -1,13 +1,14 @@
 //! Scripts: each line is read and answered, and its reply is written.
 
-ghost use Rattle.std.specs.Prelude.{◌≡◌, ◌+◌, ◌≤◌, [], IfOk, OnOk, IsErrOf};
+ghost use Rattle.std.specs.Prelude.{◌≡◌, ◌≢◌, ◌+◌, ◌≤◌, [], IfOk, IfErr, OnOk, IsErrOf};
 ghost use Rattle.pn_serve.specs.declared.script.RunFault.TheVariants.{Write, Memory};
 ghost use Rattle.pn_serve.specs.Lines.Ends.{EndsBy};
 ghost use Rattle.pn_serve.specs.Lines.Waiting.{HandsOn, looks_of_input};
-ghost use Rattle.pn_serve.specs.Lines.States.{Start};
+ghost use Rattle.pn_region.specs.Prelude.{new_region};
+ghost use Rattle.pn_serve.specs.Lines.States.{Start, new_loop};
 ghost use Rattle.pn_serve.specs.Lines.Served.{Served};
-ghost use Rattle.pn_serve.specs.Runs.Ends.{Ends};
-ghost use Rattle.pn_serve.specs.Runs.Starts.{begins};
+ghost use Rattle.pn_serve.specs.Machine.Outcomes.{new_machine};
+ghost use Rattle.pn_serve.specs.Runs.Ends.{Ends, run_start};
 ghost use Rattle.pn_serve.specs.Session.Knowing.{KnowsNoLess};
 
 mod blocks;
@@ -17,7 +18,6 @@ use crate::Settings;
 use crate::machine::line_handler::LineHandler;
 use crate::machine::script_handler::ScriptHandler;
 use crate::script::line_loop::{LineLoop, Next};
-use pn_join::NoMemory;
 use pn_line::{Sink, Source, WriteFault};
 use std::alloc::Global;
 use std::mem;
@@ -60,14 +60,6 @@ impl From<WriteFault> for RunFault {
     }
 }
 
-impl From<NoMemory> for RunFault {
-    ghost from_gives = { λ _ fault. fault ≡ Memory };
-
-    fn from(_error: NoMemory) -> RunFault {
-        RunFault::Memory
-    }
-}
-
 /// Answers each line of a script with one reply, over a new region. Replies are written before it waits for more
 /// input.
 pub fn run<R: Threads + Sync, S: Source, W: Sink>(
@@ -77,17 +69,17 @@ pub fn run<R: Threads + Sync, S: Source, W: Sink>(
     output: &mut W,
     settings: Settings,
 ) -> Result<Counts, RunFault>
-    ensures ends { Ends (begins settings (S.left input.old) (W.contents output.old)) (S.left input.new) (W.contents output.new) result }
+    ensures ends { Ends (run_start settings (S.left input.old) (W.contents output.old)) (S.left input.new) (W.contents output.new) result }
     ensures read { IsErrOf result RunFault.Read → S.may_fail }
     ensures write { IsErrOf result RunFault.Write → W.may_fail }
     ensures few { IfOk result (λ counts. counts.lines ≤ MAX_LINES) }
     ensures out { HandsOn result (W.is_handed_on output.new) }
     ensures looks { S.looks input.new ≤ S.looks input.old + looks_of_input }
     ensures end { OnOk result S.may_end }
+    ensures unread { IsErrOf result RunFault.Memory → S.looks input.new ≡ S.looks input.old }
 {
-    let mut lines = LineLoop::new(alloc)?;
-    let mut machine = ScriptHandler::new(rt, alloc, settings)?;
-    answer_all(&mut machine, &mut lines, input, output)
+    let (mut lines, mut machine) = start_script(rt, alloc, settings)?;
+    answer_lines(&mut machine, &mut lines, input, output)
 }
 
 /// [`run`] for a process that ends afterwards: the region's memory goes with the process and is not freed.
@@ -98,23 +90,42 @@ pub fn run_to_exit<R: Threads + Sync, S: Source, W: Sink>(
     output: &mut W,
     settings: Settings,
 ) -> Result<Counts, RunFault>
-    ensures ends { Ends (begins settings (S.left input.old) (W.contents output.old)) (S.left input.new) (W.contents output.new) result }
+    ensures ends { Ends (run_start settings (S.left input.old) (W.contents output.old)) (S.left input.new) (W.contents output.new) result }
     ensures read { IsErrOf result RunFault.Read → S.may_fail }
     ensures write { IsErrOf result RunFault.Write → W.may_fail }
     ensures few { IfOk result (λ counts. counts.lines ≤ MAX_LINES) }
     ensures out { HandsOn result (W.is_handed_on output.new) }
     ensures looks { S.looks input.new ≤ S.looks input.old + looks_of_input }
     ensures end { OnOk result S.may_end }
+    ensures unread { IsErrOf result RunFault.Memory → S.looks input.new ≡ S.looks input.old }
 {
-    let mut lines = LineLoop::new(alloc)?;
-    let mut kept = ScriptHandler::new(rt, alloc, settings)?;
-    let ended = answer_all(&mut kept, &mut lines, input, output);
+    let (mut lines, mut kept) = start_script(rt, alloc, settings)?;
+    let ended = answer_lines(&mut kept, &mut lines, input, output);
     mem::forget(kept);
     ended
 }
 
-/// Answers all lines.
-pub(crate) fn answer_all<M: LineHandler, S: Source, W: Sink>(
+// The line loop and the new region of a script.
+fn start_script<'a, R: Threads + Sync>(
+    rt: &'a R,
+    alloc: Global,
+    settings: Settings,
+) -> Result<(LineLoop, ScriptHandler<'a, R>), RunFault>
+    ensures lines { IfOk result (λ begun. begun.0 ≡ new_loop) }
+    ensures machine { IfOk result (λ begun. begun.1 ≡ new_machine (new_region settings.layout)) }
+    ensures fault { IfErr result (λ fault. fault ≡ Memory) }
+{
+    match (
+        LineLoop::new(alloc),
+        ScriptHandler::new(rt, alloc, settings),
+    ) {
+        (Ok(lines), Ok(machine)) => Ok((lines, machine)),
+        _ => Err(RunFault::Memory),
+    }
+}
+
+/// Answers all lines of an input, and its end.
+pub(crate) fn answer_lines<M: LineHandler, S: Source, W: Sink>(
     machine: &mut M,
     lines: &mut LineLoop,
     input: &mut S,
@@ -132,6 +143,7 @@ pub(crate) fn answer_all<M: LineHandler, S: Source, W: Sink>(
     ensures out { HandsOn result (W.is_handed_on output.new) }
     ensures looks { S.looks input.new ≤ S.looks input.old + looks_of_input }
     ensures end { OnOk result S.may_end }
+    ensures begun { IfErr result (λ fault. fault ≢ RunFault.Memory) }
 {
     'turns: for _turn in 0..MAX_LINES {
         match lines.turn(machine, input, output)? {

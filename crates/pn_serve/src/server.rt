@@ -2,34 +2,33 @@
 
 ghost use Rattle.std.specs.Prelude.{◌≡◌, ◌≢◌, ◌≤◌, map, vec_len, vec_capacity, All, Ok, Err, IfOk, IfErr, IsOk, OnOk, OnErr, IsErrOf, IsTrue, IsFalse, MatchResult};
 ghost use Rattle.std.specs.Io.KnownBytes.{Appends, Keeps};
-ghost use Rattle.pn_apply.specs.Prelude.{max_workers};
+ghost use Rattle.pn_apply.specs.Prelude.{MAX_WORKERS};
 ghost use Rattle.pn_line.specs.Prelude.{AppendsPrefix};
-ghost use Rattle.pn_live.specs.Prelude.{max_readers, IsNewLive, tablets_in};
+ghost use Rattle.pn_live.specs.Prelude.{MAX_READERS, IsNewLive, tablets_in};
 ghost use Rattle.pn_serve.specs.Server.Faults.{IsOfRounds, NamesOne, names_of};
-ghost use Rattle.pn_serve.specs.Server.Reading.{ReadsStreams};
+ghost use Rattle.pn_serve.specs.Server.Reading.{RunsRounds};
 ghost use Rattle.pn_serve.specs.Server.Served.{EndsReading, EndsRegion, EndsServing};
 ghost use Rattle.pn_serve.specs.Server.Sessions.{AllRead};
 ghost use Rattle.pn_serve.specs.Server.Whole.{IsTakenWhole};
 ghost use Rattle.pn_protocol.specs.Prelude.{served_line};
 
-mod bell;
-mod connections;
+mod counter;
 mod fault;
-mod feeding;
-mod mailbox;
+mod mailboxes;
 mod messages;
 mod reports;
 mod rounds;
+mod session_threads;
+mod stream_threads;
 mod streams;
-mod tally;
 
 use crate::Settings;
-use crate::server::connections::{StartedSessions, begin_sessions};
-use crate::server::rounds::take_rounds;
-use crate::server::streams::{Feeding, Feeds, Reading, begin_reading, end_reading};
-pub use connections::{ComesBack, Door, Running, end_sessions};
+use crate::server::mailboxes::StreamMailboxes;
+use crate::server::rounds::run_rounds;
+use crate::server::session_threads::{StartedSessions, start_sessions};
+use crate::server::stream_threads::{StartedStreams, StreamThread, join_streams, start_streams};
+pub use counter::Counter;
 pub use fault::ServeFault;
-pub use feeding::{Feed, Origin, read_feeds};
 use pn_join::{Marks, NoMemory};
 use pn_line::{Sink, Source, WriteFault, write_all_of};
 use pn_live::{LiveReader, LiveRegion};
@@ -37,13 +36,14 @@ use pn_protocol::served_reply;
 use pn_region::Region;
 use pn_stream::StreamReader;
 use pn_tablet::Layout;
+pub use session_threads::{Acceptor, ComesBack, SessionThread, join_sessions};
 use std::alloc::Global;
 use std::sync::Wait;
 use std::thread::Threads;
-pub use tally::Tally;
+pub use streams::{Origin, Stream, read_streams};
 
 /// A live region and its readers.
-struct Opened {
+struct ServedRegion {
     live: LiveRegion,
     readers: Vec<LiveReader>,
 }
@@ -64,10 +64,10 @@ pub fn serve<R, L, S, W>(
 ) -> Result<(), ServeFault>
 where
     R: Threads + Wait + Sync + Copy + Send + 'static,
-    L: Door + Drop + Send + 'static,
+    L: Acceptor + Drop + Send + 'static,
     S: Source + Drop + Send + 'static,
     W: Sink,
-    requires { (1 ≤ sessions) × (sessions ≤ max_readers) }
+    requires { (1 ≤ sessions) × (sessions ≤ MAX_READERS) }
     ensures ends { EndsServing S.left settings.layout streams.items result }
     ensures served { OnOk result (Appends (W.contents out.old) (W.contents out.new) (served_line sessions)) }
     ensures silent { IfErr result (λ fault. fault ≢ ServeFault.Write → Keeps (W.contents out.old) (W.contents out.new)) }
@@ -75,12 +75,12 @@ where
     ensures write { IsErrOf result ServeFault.Write → W.may_fail }
     ensures handed_on { OnOk result (W.is_handed_on out.new) }
 {
-    let served = serve_region(rt, alloc, listener, settings, sessions, streams);
-    conclude(served, out)
+    let served = serve_region(rt, alloc, settings, listener, sessions, streams);
+    tell_served(served, out)
 }
 
 // Writes `served N`, unless an earlier fault is answered.
-fn conclude<W: Sink>(served: Result<usize, ServeFault>, out: &mut W) -> Result<(), ServeFault>
+fn tell_served<W: Sink>(served: Result<usize, ServeFault>, out: &mut W) -> Result<(), ServeFault>
     ensures fault { IfErr served (λ fault. (result ≡ Err fault) × (out.new ≡ out.old)) }
     ensures all { OnOk result (IsOk served) }
     ensures ok { IfOk served (λ count. OnOk result (Appends (W.contents out.old) (W.contents out.new) (served_line count))) }
@@ -98,38 +98,38 @@ fn conclude<W: Sink>(served: Result<usize, ServeFault>, out: &mut W) -> Result<(
 fn serve_region<R, L, S>(
     rt: &R,
     alloc: Global,
-    listener: &L,
     settings: Settings,
+    listener: &L,
     sessions: usize,
     streams: Vec<StreamReader<S>>,
 ) -> Result<usize, ServeFault>
 where
     R: Threads + Wait + Sync + Copy + Send + 'static,
-    L: Door + Drop + Send + 'static,
+    L: Acceptor + Drop + Send + 'static,
     S: Source + Drop + Send + 'static,
-    requires { (1 ≤ sessions) × (sessions ≤ max_readers) }
+    requires { (1 ≤ sessions) × (sessions ≤ MAX_READERS) }
     ensures ends { EndsRegion S.left settings.layout streams.items result }
     ensures fault { IfErr result (λ fault. fault ≢ ServeFault.Write) }
     ensures count { IfOk result (λ count. count ≡ sessions) }
 {
     let Settings { layout, workers } = settings;
-    let (live, readers) = open(rt, alloc, layout, sessions)?;
-    let mut opened = Opened { live, readers };
-    let served = serve_all(rt, alloc, listener, &mut opened, workers, streams);
-    let Opened { live, readers } = opened;
+    let (live, readers) = open_region(rt, alloc, layout, sessions)?;
+    let mut region = ServedRegion { live, readers };
+    let served = serve_streams(rt, alloc, listener, &mut region, workers, streams);
+    let ServedRegion { live, readers } = region;
     let count = readers.len();
-    let closed = close(rt, live, readers);
-    end(served, closed, count)
+    let closed = close_region(rt, live, readers);
+    conclude(served, closed, count)
 }
 
 /// Opens a live region with this many readers.
-pub fn open<R: Wait>(
+pub fn open_region<R: Wait>(
     rt: &R,
     alloc: Global,
     layout: Layout,
     readers: usize,
 ) -> Result<(LiveRegion, Vec<LiveReader>), ServeFault>
-    requires { (1 ≤ readers) × (readers ≤ max_readers) }
+    requires { (1 ≤ readers) × (readers ≤ MAX_READERS) }
     ensures is_new { IfOk result (λ opened. IsNewLive layout opened.0) }
     ensures own { IfOk result (λ opened. AllRead (tablets_in opened.0) opened.1.items) }
     ensures count { IfOk result (λ opened. vec_len opened.1 ≡ readers) }
@@ -142,7 +142,7 @@ pub fn open<R: Wait>(
 }
 
 /// Closes a live region, whose readers came back.
-pub fn close<R: Wait>(
+pub fn close_region<R: Wait>(
     rt: &R,
     live: LiveRegion,
     readers: Vec<LiveReader>,
@@ -153,7 +153,7 @@ pub fn close<R: Wait>(
 }
 
 // How many readers came back, unless there is a fault. An earlier one outranks out of memory while closing.
-fn end(
+fn conclude(
     served: Result<(), ServeFault>,
     closed: Result<Region, NoMemory>,
     count: usize,
@@ -169,43 +169,62 @@ fn end(
 }
 
 // Reads the streams while the sessions are served, and takes the readers back from the sessions.
-fn serve_all<R, L, S>(
+fn serve_streams<R, L, S>(
     rt: &R,
     alloc: Global,
     listener: &L,
-    opened: &mut Opened,
+    region: &mut ServedRegion,
     workers: usize,
     streams: Vec<StreamReader<S>>,
 ) -> Result<(), ServeFault>
 where
     R: Threads + Wait + Sync + Copy + Send + 'static,
-    L: Door + Drop + Send + 'static,
+    L: Acceptor + Drop + Send + 'static,
     S: Source + Drop + Send + 'static,
-    requires workers { (1 ≤ workers) × (workers ≤ max_workers) }
-    requires own { AllRead (tablets_in opened.old.live) opened.old.readers.items }
-    ensures own { AllRead (tablets_in opened.new.live) opened.new.readers.items }
-    ensures all { OnOk result (vec_len opened.new.readers ≡ vec_len opened.old.readers) }
-    ensures ends { EndsReading S.left streams.items opened.old.live opened.new.live result }
+    requires workers { (1 ≤ workers) × (workers ≤ MAX_WORKERS) }
+    requires own { AllRead (tablets_in region.old.live) region.old.readers.items }
+    ensures own { AllRead (tablets_in region.new.live) region.new.readers.items }
+    ensures all { OnOk result (vec_len region.new.readers ≡ vec_len region.old.readers) }
+    ensures ends { EndsReading S.left streams.items region.old.live region.new.live result }
 {
-    let reading = begin_reading(rt, alloc, streams)?;
+    let started = start_streams(rt, alloc, streams, listener.round_counter())?;
+    let StartedStreams { mailboxes, threads } = started;
     let StartedSessions {
         running,
         is_refused,
-    } = begin_sessions(rt, alloc, listener, &opened.live, &mut opened.readers);
-    let Reading { feeds, threads } = reading;
-    let mut feeds = feeds;
-    feeds.rounds = listener.rounds();
-    let read = take_all(rt, alloc, &mut opened.live, workers, &feeds, is_refused);
-    feeds.close(rt);
-    end_sessions(rt, &opened.live, running, &mut opened.readers);
-    end_all(rt, read, threads, opened.live.marks())
+    } = start_sessions(rt, alloc, listener, &region.live, &mut region.readers);
+    let read = run_unless_refused(rt, alloc, &mut region.live, workers, &mailboxes, is_refused);
+    mailboxes.close(rt);
+    join_sessions(rt, &region.live, running, &mut region.readers);
+    join_after_rounds(rt, read, threads, region.live.marks())
 }
 
-// A fault of the rounds outranks that of a stream.
-fn end_all<R: Threads, S: Source + Drop>(
+// Runs the rounds, unless a session was refused.
+fn run_unless_refused<R: Threads + Wait + Sync>(
+    rt: &R,
+    alloc: Global,
+    live: &mut LiveRegion,
+    workers: usize,
+    mailboxes: &StreamMailboxes,
+    is_refused: bool,
+) -> Result<(), ServeFault>
+    requires workers { (1 ≤ workers) × (workers ≤ MAX_WORKERS) }
+    ensures refused { IsTrue is_refused → (result ≡ Err ServeFault.Start) × (live.new ≡ live.old) }
+    ensures reads { IsFalse is_refused → RunsRounds (vec_len mailboxes.now.streams) live.old live.new result }
+    ensures named { IsFalse is_refused → IfErr result (IsOfRounds (map (λ stream. stream.name) mailboxes.now.streams.items)) }
+    ensures same { tablets_in live.new ≡ tablets_in live.old }
+{
+    if is_refused {
+        return Err(ServeFault::Start);
+    }
+    run_rounds(rt, alloc, live, workers, mailboxes)
+}
+
+// Waits for the threads of streams, unless the rounds have a fault, which outranks that of a stream.
+fn join_after_rounds<R: Threads, S: Source + Drop>(
     rt: &R,
     read: Result<(), ServeFault>,
-    threads: Vec<Feeding<S>>,
+    threads: Vec<StreamThread<S>>,
     marks: &Marks,
 ) -> Result<(), ServeFault>
     ensures first { IfErr read (λ fault. result ≡ Err fault) }
@@ -213,30 +232,9 @@ fn end_all<R: Threads, S: Source + Drop>(
     ensures named { OnOk read (IfErr result (NamesOne (names_of (map (λ thread. thread.promise.0.value) threads.items)))) }
 {
     match read {
-        Ok(()) => end_reading(rt, threads, marks),
+        Ok(()) => join_streams(rt, threads, marks),
         Err(fault) => Err(fault),
     }
-}
-
-// Runs the rounds, unless a session was refused.
-fn take_all<R: Threads + Wait + Sync>(
-    rt: &R,
-    alloc: Global,
-    live: &mut LiveRegion,
-    workers: usize,
-    feeds: &Feeds,
-    is_refused: bool,
-) -> Result<(), ServeFault>
-    requires workers { (1 ≤ workers) × (workers ≤ max_workers) }
-    ensures refused { IsTrue is_refused → (result ≡ Err ServeFault.Start) × (live.new ≡ live.old) }
-    ensures reads { IsFalse is_refused → ReadsStreams (vec_len feeds.now.places) live.old live.new result }
-    ensures named { IsFalse is_refused → IfErr result (IsOfRounds (map (λ place. place.name) feeds.now.places.items)) }
-    ensures same { tablets_in live.new ≡ tablets_in live.old }
-{
-    if is_refused {
-        return Err(ServeFault::Start);
-    }
-    take_rounds(rt, alloc, live, workers, feeds)
 }
 
 // Writes `served N`.

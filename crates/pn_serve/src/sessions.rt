@@ -4,14 +4,14 @@ ghost use Rattle.std.specs.Prelude.{◌≡◌, ◌+◌, ◌≤◌, IfOk, OnOk, I
 ghost use Rattle.pn_serve.specs.Lines.Ends.{EndsBy};
 ghost use Rattle.pn_serve.specs.Lines.Waiting.{HandsOn, looks_of_input};
 ghost use Rattle.pn_serve.specs.Session.Knowing.{KnowsNoLess};
-ghost use Rattle.pn_serve.specs.Session.Lines.{AnswersLine, EndsLines, starts};
+ghost use Rattle.pn_serve.specs.Session.Lines.{AnswersLine, EndsLines, session_start};
 
 mod lookups;
 
 use crate::machine::line_handler::LineHandler;
 use crate::script::line_loop::LineLoop;
-use crate::script::{MAX_LINES, answer_all};
-use crate::sessions::lookups::answer;
+use crate::script::{MAX_LINES, answer_lines};
+use crate::sessions::lookups::answer_line;
 use crate::{Counts, RunFault};
 use pn_line::{LineBuffer, Sink, Source};
 use pn_live::LiveReader;
@@ -28,7 +28,7 @@ pub fn session<S: Source, W: Sink>(
     input: &mut S,
     output: &mut W,
 ) -> Result<Counts, RunFault>
-    ensures ends { EndsBy AnswersLine EndsLines (starts reader.old (S.left input.old) (W.contents output.old)) (S.left input.new) (W.contents output.new) reader.new result }
+    ensures ends { EndsBy AnswersLine EndsLines (session_start reader.old (S.left input.old) (W.contents output.old)) (S.left input.new) (W.contents output.new) reader.new result }
     ensures read { IsErrOf result RunFault.Read → S.may_fail }
     ensures write { IsErrOf result RunFault.Write → W.may_fail }
     ensures knows { KnowsNoLess reader.old reader.new }
@@ -36,9 +36,12 @@ pub fn session<S: Source, W: Sink>(
     ensures out { HandsOn result (W.is_handed_on output.new) }
     ensures looks { S.looks input.new ≤ S.looks input.old + looks_of_input }
     ensures end { OnOk result S.may_end }
+    ensures unread { IsErrOf result RunFault.Memory → S.looks input.new ≡ S.looks input.old }
 {
-    let mut lines = LineLoop::new(alloc)?;
-    answer_all(reader, &mut lines, input, output)
+    let Ok(mut lines) = LineLoop::new(alloc) else {
+        return Err(RunFault::Memory);
+    };
+    answer_lines(reader, &mut lines, input, output)
 }
 
 impl LineHandler for LiveReader {
@@ -55,13 +58,13 @@ impl LineHandler for LiveReader {
     ghost reader = { λ reader. reader };
 
     fn answer(&mut self, alloc: Global, line: &LineBuffer) -> Reply {
-        answer(alloc, self, line.bytes())
+        answer_line(alloc, self, line.bytes())
     }
 
-    fn end(&mut self, alloc: Global, part: &LineBuffer) -> Reply {
+    fn answer_end(&mut self, alloc: Global, part: &LineBuffer) -> Reply {
         if part.is_empty() {
             return Reply::Silent;
         }
-        answer(alloc, self, part.bytes())
+        answer_line(alloc, self, part.bytes())
     }
 }

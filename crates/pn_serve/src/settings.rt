@@ -2,7 +2,7 @@
 
 ghost use Rattle.std.specs.Prelude.{◌≡◌, ◌≤◌, ◌↔◌, IfSome, IsSome};
 ghost use Rattle.pn_tablet.specs.Prelude.{IsLayout};
-ghost use Rattle.pn_apply.specs.Prelude.{max_workers};
+ghost use Rattle.pn_apply.specs.Prelude.{MAX_WORKERS};
 
 use pn_apply::MAX_WORKERS;
 use pn_tablet::Layout;
@@ -18,35 +18,34 @@ pub struct Settings {
 impl Model for Settings {
     ghost use Rattle.std.specs.Prelude.{◌≤◌};
     ghost use Rattle.pn_tablet.specs.Prelude.{IsLayout};
-    ghost use Rattle.pn_apply.specs.Prelude.{max_workers};
+    ghost use Rattle.pn_apply.specs.Prelude.{MAX_WORKERS};
     ghost use Rattle.pn_serve.specs.Settings.{SettingsValue};
 
     ghost Value = { SettingsValue };
 
     ghost view = { λ settings. record { layout = settings.layout; workers = settings.workers } };
 
-    ghost invariant = { λ settings. IsLayout settings.layout × (1 ≤ settings.workers) × (settings.workers ≤ max_workers) };
+    ghost invariant = { λ settings. IsLayout settings.layout × (1 ≤ settings.workers) × (settings.workers ≤ MAX_WORKERS) };
 }
 
 impl Settings {
     /// None unless there are 1 to 16 workers.
     pub fn new(layout: Layout, workers: usize) -> Option<Settings>
         ensures made { IfSome result (λ settings. settings ≡ record { layout = layout; workers = workers }) }
-        ensures exactly { IsSome result ↔ ((1 ≤ workers) × (workers ≤ max_workers)) }
+        ensures exactly { IsSome result ↔ ((1 ≤ workers) × (workers ≤ MAX_WORKERS)) }
     {
         if workers < 1 || workers > MAX_WORKERS {
             return None;
         }
-        // (shows that the layout is lawful)
-        let _ = layout.count();
+        layout.recall_order();
         Some(Settings { layout, workers })
     }
 
-    /// The layout and the workers.
+    /// Takes the settings apart into the layout and the workers.
     pub fn into_parts(self) -> (Layout, usize)
         ensures layout { result.0 ≡ self.layout }
         ensures workers { result.1 ≡ self.workers }
-        ensures within { (1 ≤ result.1) × (result.1 ≤ max_workers) }
+        ensures within { (1 ≤ result.1) × (result.1 ≤ MAX_WORKERS) }
     {
         (self.layout, self.workers)
     }
@@ -62,7 +61,7 @@ impl Settings {
     /// How many workers a round has.
     pub fn workers(&self) -> usize
         ensures workers { result ≡ self.now.workers }
-        ensures within { (1 ≤ result) × (result ≤ max_workers) }
+        ensures within { (1 ≤ result) × (result ≤ MAX_WORKERS) }
     {
         self.workers
     }

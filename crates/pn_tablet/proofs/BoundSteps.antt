@@ -33,9 +33,9 @@ rising_from_none (a ∷ b ∷ bounds) none =
       | false ↦ λ p is. cc
     ] refl none
 
--- the first fall after a place
+-- the first fall after an index
 abbrev pub fall_from : ℕ → Bounds → Option ℕ
-fall_from place bounds = option_map (λ k. place + k) (first_fall (drop place bounds))
+fall_from index bounds = option_map (λ k. index + k) (first_fall (drop index bounds))
 
 pub fall_from-zero : (bounds : Bounds) → first_fall bounds ≡ fall_from 0 bounds
 fall_from-zero bounds = same (first_fall bounds) where
@@ -98,15 +98,15 @@ is_so true h = refl
 is_so false h = cc
 
 -- where they end is how many they are
-pub partition_count : (bounds : Bounds) (key : List ℕ) (place : ℕ) → IsStrictlySortedBy bytes_cmp bounds → place ≤ length bounds → IsPartitionPoint (λ bound. not (is_below key bound) ≡ true) (λ bound. not (is_below key bound) ≡ false) bounds place → place ≡ tablet_of bounds key
+pub partition_count : (bounds : Bounds) (key : List ℕ) (index : ℕ) → IsStrictlySortedBy bytes_cmp bounds → index ≤ length bounds → IsPartitionPoint (λ bound. not (is_below key bound) ≡ true) (λ bound. not (is_below key bound) ≡ false) bounds index → index ≡ tablet_of bounds key
 unfolding IsStrictlySortedBy
-partition_count [] key place rising within point = omega arith
+partition_count [] key index rising within point = omega arith
 partition_count (bound ∷ bounds) key zero rising within point =
     let below : is_below key bound ≡ true = is_so _ (point.1 0 bound (omega arith) (omega arith)) in
     sym (tablet_of-cons bound bounds key true below ∙ zero-add _ ∙ first_tablet bound bounds key below rising.0)
-partition_count (bound ∷ bounds) key (suc place) rising within point =
+partition_count (bound ∷ bounds) key (suc index) rising within point =
     let above : is_below key bound ≡ false = is_not _ (point.0 0 bound (omega arith) (omega arith)) in
-    let later = partition_count bounds key place rising.1 (omega arith) ((λ k d ge lt. point.0 (suc k) d (omega arith) (omega arith)), (λ k d ge lt. point.1 (suc k) d (omega arith) (omega arith))) in
+    let later = partition_count bounds key index rising.1 (omega arith) ((λ k d ge lt. point.0 (suc k) d (omega arith) (omega arith)), (λ k d ge lt. point.1 (suc k) d (omega arith) (omega arith))) in
     ap suc later ∙ sym (tablet_of-cons bound bounds key false above ∙ one-add _)
 
 flipped : (o : Ordering) → is_le (ordering_reverse o) ≡ not (is_lt o)
@@ -127,9 +127,9 @@ one_test key i bound = sym (ap is_le (nat_list_cmp_total.antisymm bound key) ∙
 pub partitioned_by_test : (bounds : Bounds) (key : List ℕ) → IsStrictlySortedBy bytes_cmp bounds → IsPartitionedBy (λ bound. is_le (bytes_cmp bound key)) bounds
 partitioned_by_test bounds key rising = subst (λ (p : List ℕ → Bool). IsPartitionedBy p bounds) (one_test key) (partitioned bounds key rising)
 
-pub count_by_test : (bounds : Bounds) (key : List ℕ) (place : ℕ) → IsStrictlySortedBy bytes_cmp bounds → place ≤ length bounds → IsPartitionPoint (λ bound. is_le (bytes_cmp bound key) ≡ true) (λ bound. is_le (bytes_cmp bound key) ≡ false) bounds place → place ≡ tablet_of bounds key
-count_by_test bounds key place rising within point =
-    partition_count bounds key place rising within (subst (λ (p : List ℕ → Bool). IsPartitionPoint (λ bound. p bound ≡ true) (λ bound. p bound ≡ false) bounds place) (sym (one_test key)) point)
+pub count_by_test : (bounds : Bounds) (key : List ℕ) (index : ℕ) → IsStrictlySortedBy bytes_cmp bounds → index ≤ length bounds → IsPartitionPoint (λ bound. is_le (bytes_cmp bound key) ≡ true) (λ bound. is_le (bytes_cmp bound key) ≡ false) bounds index → index ≡ tablet_of bounds key
+count_by_test bounds key index rising within point =
+    partition_count bounds key index rising within (subst (λ (p : List ℕ → Bool). IsPartitionPoint (λ bound. p bound ≡ true) (λ bound. p bound ≡ false) bounds index) (sym (one_test key)) point)
 
 pub not_less : (o : Ordering) → is_ge o ≡ true → is_lt o ≡ false
 not_less Less is = cc

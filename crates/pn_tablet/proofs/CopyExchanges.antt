@@ -27,7 +27,7 @@ use Rattle.pn_tablet.specs.declared.form.Form.{Form}
 use Rattle.pn_tablet.specs.declared.form.Form.TheVariants.{Numbers}
 use Rattle.pn_tablet.specs.declared.copy_line.CopyLine.{CopyLine}
 use Rattle.pn_tablet.specs.declared.copy_line.CopyLine.TheVariants.{Mark, Record, End}
-use Rattle.pn_tablet.specs.declared.copy_fault.CopyTextFault.TheVariants.{Truncated}
+use Rattle.pn_tablet.specs.declared.fault.CopyTextFault.TheVariants.{Truncated}
 use Rattle.pn_tablet.proofs.CopyLineCounts.{same_lines}
 use Rattle.pn_tablet.proofs.CopyValues.{line_at-again}
 use Rattle.pn_tablet.proofs.FormLines.{lines_in, held_all}
@@ -42,7 +42,7 @@ image_total = then_total (on_total (λ (i : Image). i.key) bytes_cmp_total) (on_
 
 -- a line of a copy comes before another
 abbrev Comes : CopyLine → CopyLine → Type 0
-Comes (Mark name at) (Mark other place) = name_cmp name other ≡ Less
+Comes (Mark name at) (Mark other later) = name_cmp name other ≡ Less
 Comes (Mark name at) (Record image) = Unit {0}
 Comes (Mark name at) (End count) = Unit {0}
 Comes (Record image) (Mark name at) = ⊥
@@ -57,7 +57,7 @@ not_both total x y first second =
 
 -- no two come before each other
 one_way : (says other : CopyLine) → Comes says other → Comes other says → ⊥
-one_way (Mark name at) (Mark other place) first second = not_both bytes_cmp_total name other first second
+one_way (Mark name at) (Mark other later) first second = not_both bytes_cmp_total name other first second
 one_way (Mark name at) (Record image) first second = second
 one_way (Mark name at) (End count) first second = second
 one_way (Record image) (Mark name at) first second = first

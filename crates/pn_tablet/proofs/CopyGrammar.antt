@@ -16,14 +16,14 @@ use Rattle.pn_record.proofs.CellMaps.{adds-table_of, table_of-nil}
 use Rattle.pn_tablet.specs.Copies.{TabletCopyValue}
 use Rattle.pn_tablet.specs.CopyLines.{IsValue, AreLines}
 use Rattle.pn_tablet.specs.CopyLineReading.{line_at}
-use Rattle.pn_tablet.specs.CopyReading.{is_over, with_mark, with_image, ended, after, read_on}
+use Rattle.pn_tablet.specs.CopyReading.{is_over, with_mark, with_image, finish, after, read_on}
 use Rattle.pn_tablet.specs.CopyTexts.{comes_after, images_rise}
-use Rattle.pn_tablet.specs.Drafts.{DraftValue, whole}
+use Rattle.pn_tablet.specs.Drafts.{DraftValue, copy_of_draft}
 use Rattle.pn_tablet.specs.Ranges.{Ends, in_range}
 use Rattle.pn_tablet.specs.declared.form.Form.{Form}
 use Rattle.pn_tablet.specs.declared.copy_line.CopyLine.{CopyLine}
 use Rattle.pn_tablet.specs.declared.copy_line.CopyLine.TheVariants.{Mark, Record, End}
-use Rattle.pn_tablet.specs.declared.copy_fault.CopyTextFault.TheVariants.{BadLine, OutsideRange, NotRising, BadEnd}
+use Rattle.pn_tablet.specs.declared.fault.CopyTextFault.TheVariants.{BadLine, OutsideRange, NotRising, BadEnd}
 use Rattle.pn_tablet.proofs.CopySteps.{read_on-cons, then_ok}
 use Rattle.pn_tablet.proofs.CopyValues.{line_at-again, line_at-found}
 use Rattle.pn_tablet.proofs.Drafting.{is_after_all}
@@ -154,9 +154,9 @@ after_first (Some last) image images later rise = and_from _ _ later rise
 
 module _ (form : Form) (n : ℕ) (draft : DraftValue) (done : List Image) (line : List ℕ) (pieces : List (List ℕ)) (copy : TabletCopyValue) (some : 2 ≤ n) (cells_are : draft.cells ≡ table_of done)
     (next : (longer : DraftValue) (more : List Image) → longer.cells ≡ table_of more → read_on form (n + 1) longer pieces ≡ Ok copy → Follow form (n + 1) longer more pieces copy) where
-  follow_end : (count : ℕ) → IsLine (IsValue form) line (End count) → ended n draft count (is_over pieces) ≡ Ok copy → Follow form n draft done (line ∷ pieces) copy
+  follow_end : (count : ℕ) → IsLine (IsValue form) line (End count) → finish n draft count (is_over pieces) ≡ Ok copy → Follow form n draft done (line ∷ pieces) copy
   follow_end count line_is is =
-      let parts = guard_ok (count == n - 2 && is_over pieces) (whole draft) copy BadEnd is in
+      let parts = guard_ok (count == n - 2 && is_over pieces) (copy_of_draft draft) copy BadEnd is in
       let tests = and_parts (count == n - 2) (is_over pieces) parts.0 in
       let counts : count ≡ n - 2 + 0 = omega (arith, eqb-true count (n - 2) tests.0) in
       record {

@@ -9,18 +9,21 @@ use Rattle.std.specs.List.{list_all, sum_by}
 use Rattle.json.specs.Print.{escape_byte, escape_letter, escape, quoted}
 use Rattle.serde_json.specs.Data.{Data, null, boolean, number, string, array, object, unsigned, negative, float, Items, no_items, item, Members, no_members, member}
 use Rattle.serde_json.specs.Written.{compact_text, items_text, members_text, comma_if}
-use Rattle.pn_join.specs.Marks.{is_position, last_position}
+use Rattle.pn_join.specs.Marks.{is_position}
+use Rattle.pn_join.specs.declared.marks.TheConstants.{LAST_POSITION}
 use Rattle.pn_join.specs.Naming.{is_name, is_name_byte}
 use Rattle.pn_line.specs.Reads.{IsUnbroken}
 use Rattle.pn_record.specs.declared.image.Image.{Image}
 use Rattle.pn_record.specs.Canonical.{is_image}
 use Rattle.pn_record.specs.Bodies.{field_size, fields_fit, names_rise, is_body, is_content}
-use Rattle.pn_record.specs.Limits.{FieldValue, number_value, text_value, Field, is_value, is_field, is_key, is_version, greatest}
+use Rattle.pn_record.specs.Limits.{FieldValue, number_value, text_value, Field, is_value, is_field, is_key, is_version}
+use Rattle.pn_record.specs.declared.limits.TheConstants.{MAX_VERSION_NUMBER}
 use Rattle.pn_record.specs.Marks.{is_mark}
 use Rattle.pn_record.specs.Writing.{value_data, fields_data, body_data, image_data}
 use Rattle.pn_record.proofs.ImageText.{length-quoted}
 use Rattle.pn_record.proofs.Values.{field_value}
-use Rattle.pn_tablet.specs.CopyLines.{key_data, head_data, mark_data, end_data, is_end}
+use Rattle.pn_tablet.specs.CopyLines.{head_data, mark_data, end_data}
+use Rattle.pn_tablet.specs.Ranges.{key_data, is_end}
 use Rattle.pn_tablet.specs.Forms.{form_number}
 use Rattle.pn_tablet.specs.declared.form.Form.{Form}
 use Rattle.pn_tablet.specs.declared.form.Form.TheVariants.{Texts, Numbers}
@@ -163,13 +166,13 @@ small_body : (f : Option (List Field)) (rest : Members) → is_body f ≡ true �
 small_body None rest is small = (tt, small)
 small_body (Some fields) rest is small = (small_fields fields (fields_are fields is), small)
 
-below_word : (n : ℕ) → leb n greatest ≡ true → n < 2 ^ 64
-below_word n is = omega (arith, leb-true n greatest is)
+below_word : (n : ℕ) → leb n MAX_VERSION_NUMBER ≡ true → n < 2 ^ 64
+below_word n is = omega (arith, leb-true n MAX_VERSION_NUMBER is)
 
 pub below_version : (version : ℕ × ℕ) → is_version version ≡ true → (version.0 < 2 ^ 64) × (version.1 < 2 ^ 64)
 below_version version is =
-    let second = and_parts (leb 1 version.0 && leb version.0 greatest) (leb version.1 greatest) is in
-    let first = and_parts (leb 1 version.0) (leb version.0 greatest) second.0 in
+    let second = and_parts (leb 1 version.0 && leb version.0 MAX_VERSION_NUMBER) (leb version.1 MAX_VERSION_NUMBER) is in
+    let first = and_parts (leb 1 version.0) (leb version.0 MAX_VERSION_NUMBER) second.0 in
     (below_word version.0 first.1, below_word version.1 second.1)
 
 pub small_image : (image : Image) → is_image image ≡ true → Small (image_data image)
@@ -182,7 +185,7 @@ small_image image is =
 pub small_mark : (name : List ℕ) (position : ℕ) → is_mark (name, position) ≡ true → Small (mark_data (name, position))
 small_mark name position is =
     let parts = and_parts (is_name name) (is_position position) is in
-    let range = and_parts (leb 1 position) (leb position last_position) parts.1 in
+    let range = and_parts (leb 1 position) (leb position LAST_POSITION) parts.1 in
     (below_word position range.1, (tt, tt))
 
 small_key : (key : Option (List ℕ)) → Small (key_data key)
@@ -207,7 +210,7 @@ short_end count small = omega (arith, length-append (quoted (codes "end")) (58 �
 pub short_mark : (name : List ℕ) (position : ℕ) → is_mark (name, position) ≡ true → length (compact_text (mark_data (name, position))) ≤ 65536
 short_mark name position is =
     let parts = and_parts (is_name name) (is_position position) is in
-    let range = and_parts (leb 1 position) (leb position last_position) parts.1 in
+    let range = and_parts (leb 1 position) (leb position LAST_POSITION) parts.1 in
     let named = and_parts (leb 1 (length name) && leb (length name) 32) (list_all is_name_byte name) parts.0 in
     let size = and_parts (leb 1 (length name)) (leb (length name) 32) named.0 in
     let last = quoted name ++ 125 ∷ [] in

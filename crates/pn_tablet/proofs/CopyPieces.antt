@@ -111,7 +111,7 @@ pieces-cut text at found =
     ap pieces_of (cut_there text at found.0.high (eqb-true _ _ found.1))
     ∙ pieces_of-line (take at text) (drop (at + 1) text) (IsUnbroken-before text at found)
 
--- the rest of a list after a place
+-- the rest of a list after an index
 pub rest_whole : (at : ℕ) (text : List ℕ) → take (length text - at) (drop at text) ≡ drop at text
 rest_whole at text = take_all (length text - at) (drop at text) (omega (arith, length-drop at text))
 

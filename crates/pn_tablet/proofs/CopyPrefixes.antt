@@ -10,12 +10,12 @@ use Rattle.pn_tablet.specs.Copies.{TabletCopyValue}
 use Rattle.pn_tablet.specs.CopyLineReading.{head_at, line_at}
 use Rattle.pn_tablet.specs.CopyReading.{pieces_of, is_over, with_mark, with_image, after, read_on, copy_in, copy_at}
 use Rattle.pn_tablet.specs.CopyTexts.{IsCopyText}
-use Rattle.pn_tablet.specs.Drafts.{DraftValue, begun, whole}
+use Rattle.pn_tablet.specs.Drafts.{DraftValue, empty_draft, copy_of_draft}
 use Rattle.pn_tablet.specs.declared.form.Form.{Form}
 use Rattle.pn_tablet.specs.declared.copy_line.CopyLine.{CopyLine}
 use Rattle.pn_tablet.specs.declared.copy_line.CopyLine.TheVariants.{Mark, Record, End}
-use Rattle.pn_tablet.specs.declared.copy_fault.CopyTextFault.{CopyTextFault}
-use Rattle.pn_tablet.specs.declared.copy_fault.CopyTextFault.TheVariants.{Truncated, BadLine, BadEnd}
+use Rattle.pn_tablet.specs.declared.fault.CopyTextFault.{CopyTextFault}
+use Rattle.pn_tablet.specs.declared.fault.CopyTextFault.TheVariants.{Truncated, BadLine, BadEnd}
 use Rattle.pn_tablet.proofs.CopyPieces.{pieces_of-line, pieces_of-last, pieces_of-text, pieces_of-nil}
 use Rattle.pn_tablet.proofs.CopySteps.{read_on-cons, read_on-last, then_ok}
 use Rattle.pn_tablet.proofs.CopyTextFacts.{text_again}
@@ -58,7 +58,7 @@ module _ (form : Form) (n : ℕ) (draft : DraftValue) (line : List ℕ) (lines m
       read_on-cons form n draft line piece more rest there ∙ then_ok _ _ (Record image) said
       ∙ then_ok (with_image n draft image) (λ longer. read_on form (n + 1) longer more) taken.0 taken.1 ∙ next taken.0 taken.2
   cut_line (End count) said is =
-      let parts = guard_ok (count == n - 2 && is_over (lines ++ [] ∷ [])) (whole draft) copy BadEnd is in
+      let parts = guard_ok (count == n - 2 && is_over (lines ++ [] ∷ [])) (copy_of_draft draft) copy BadEnd is in
       absurd (false≢true (sym (not_over lines more front) ∙ (and_parts (count == n - 2) (is_over (lines ++ [] ∷ [])) parts.0).1))
 
 cut_on : (form : Form) (n : ℕ) (draft : DraftValue) (lines pieces : List (List ℕ)) (copy : TabletCopyValue) → AreFront lines pieces → read_on form n draft (lines ++ [] ∷ []) ≡ Ok copy → read_on form n draft pieces ≡ Err Truncated
@@ -74,13 +74,13 @@ cut_in : (head : List ℕ) (lines pieces : List (List ℕ)) (copy : TabletCopyVa
 cut_in head lines pieces copy (inl last) is = ap copy_in last.1
 cut_in head lines pieces copy (inr first) is =
     let (piece, rest, there) = some_there lines in
-    let read = bind_ok (head_at (BadLine 1) head) (λ read. read_on read.0 2 (begun read.1) (lines ++ [] ∷ [])) copy (sym (head_on head (lines ++ [] ∷ []) piece rest there) ∙ is) in
+    let read = bind_ok (head_at (BadLine 1) head) (λ read. read_on read.0 2 (empty_draft read.1) (lines ++ [] ∷ [])) copy (sym (head_on head (lines ++ [] ∷ []) piece rest there) ∙ is) in
     let (next, more, some) = front_some lines first.0 first.2 in
     ap copy_in first.1 ∙ head_on head first.0 next more some
-    ∙ then_ok (head_at (BadLine 1) head) (λ read. read_on read.0 2 (begun read.1) first.0) read.0 read.1
-    ∙ cut_on read.0.0 2 (begun read.0.1) lines first.0 copy first.2 read.2
+    ∙ then_ok (head_at (BadLine 1) head) (λ read. read_on read.0 2 (empty_draft read.1) first.0) read.0 read.1
+    ∙ cut_on read.0.0 2 (empty_draft read.0.1) lines first.0 copy first.2 read.2
   where
-    head_on : (head : List ℕ) (pieces : List (List ℕ)) (piece : List ℕ) (more : List (List ℕ)) → pieces ≡ piece ∷ more → copy_in (head ∷ pieces) ≡ (head_at (BadLine 1) head >>= (λ read. read_on read.0 2 (begun read.1) pieces))
+    head_on : (head : List ℕ) (pieces : List (List ℕ)) (piece : List ℕ) (more : List (List ℕ)) → pieces ≡ piece ∷ more → copy_in (head ∷ pieces) ≡ (head_at (BadLine 1) head >>= (λ read. read_on read.0 2 (empty_draft read.1) pieces))
     head_on head pieces piece more is = rw is refl
 
 -- ---- the pieces of a front

@@ -7,14 +7,14 @@ use Rattle.pn_join.specs.Naming.{is_name}
 use Rattle.pn_tablet.specs.CopyFaults.{is_memory}
 use Rattle.pn_tablet.specs.CopyLineReading.{head_at, line_at}
 use Rattle.pn_tablet.specs.CopyReading.{pieces_of, is_over, after, read_on, copy_in, copy_at}
-use Rattle.pn_tablet.specs.Drafts.{DraftValue, begun}
+use Rattle.pn_tablet.specs.Drafts.{DraftValue, empty_draft}
 use Rattle.pn_tablet.specs.CopyLines.{Head}
 use Rattle.pn_tablet.specs.Refusals.{Answers, Refuses}
 use Rattle.pn_tablet.specs.declared.form.Form.{Form}
 use Rattle.pn_tablet.specs.declared.copy_line.CopyLine.{CopyLine}
 use Rattle.pn_tablet.specs.declared.copy_line.CopyLine.TheVariants.{Mark}
-use Rattle.pn_tablet.specs.declared.copy_fault.CopyTextFault.{CopyTextFault}
-use Rattle.pn_tablet.specs.declared.copy_fault.CopyTextFault.TheVariants.{Truncated, BadLine, OutsideRange, NotRising, BadEnd, Memory}
+use Rattle.pn_tablet.specs.declared.fault.CopyTextFault.{CopyTextFault}
+use Rattle.pn_tablet.specs.declared.fault.CopyTextFault.TheVariants.{Truncated, BadLine, OutsideRange, NotRising, BadEnd, Memory}
 use Rattle.pn_tablet.proofs.CopyPieces.{pieces_of-some}
 use Rattle.pn_tablet.proofs.CopyValues.{line_at-found}
 
@@ -76,11 +76,11 @@ mark_position form fault line name position is = (and_parts (is_name name) (is_p
 
 -- ---- the head
 
-head_on : (head : List ℕ) (pieces : List (List ℕ)) (piece : List ℕ) (more : List (List ℕ)) → pieces ≡ piece ∷ more → copy_in (head ∷ pieces) ≡ (head_at (BadLine 1) head >>= (λ read. read_on read.0 2 (begun read.1) pieces))
+head_on : (head : List ℕ) (pieces : List (List ℕ)) (piece : List ℕ) (more : List (List ℕ)) → pieces ≡ piece ∷ more → copy_in (head ∷ pieces) ≡ (head_at (BadLine 1) head >>= (λ read. read_on read.0 2 (empty_draft read.1) pieces))
 head_on head pieces piece more is = rw is refl
 
 module _ (text head rest : List ℕ) (cut : pieces_of text ≡ head ∷ pieces_of rest) where
-  begins : copy_at text ≡ (head_at (BadLine 1) head >>= (λ read. read_on read.0 2 (begun read.1) (pieces_of rest)))
+  begins : copy_at text ≡ (head_at (BadLine 1) head >>= (λ read. read_on read.0 2 (empty_draft read.1) (pieces_of rest)))
   unfolding copy_at
   begins =
       let (piece, more, is) = pieces_of-some rest in
@@ -89,5 +89,5 @@ module _ (text head rest : List ℕ) (cut : pieces_of text ≡ head ∷ pieces_o
   pub copy_at-bad : (fault : CopyTextFault) → head_at (BadLine 1) head ≡ Err fault → copy_at text ≡ Err fault
   copy_at-bad fault is = begins ∙ rw is refl
 
-  pub copy_at-begun : (says : Head) → head_at (BadLine 1) head ≡ Ok says → copy_at text ≡ read_on says.0 2 (begun says.1) (pieces_of rest)
-  copy_at-begun says is = begins ∙ rw is refl
+  pub copy_at-empty_draft : (says : Head) → head_at (BadLine 1) head ≡ Ok says → copy_at text ≡ read_on says.0 2 (empty_draft says.1) (pieces_of rest)
+  copy_at-empty_draft says is = begins ∙ rw is refl

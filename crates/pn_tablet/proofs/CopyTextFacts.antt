@@ -11,9 +11,9 @@ use Rattle.pn_tablet.specs.Copies.{TabletCopyValue}
 use Rattle.pn_tablet.specs.CopyLineReading.{head_at}
 use Rattle.pn_tablet.specs.CopyReading.{pieces_of, read_on, copy_in, copy_at}
 use Rattle.pn_tablet.specs.CopyTexts.{IsCopyText}
-use Rattle.pn_tablet.specs.Drafts.{begun}
-use Rattle.pn_tablet.specs.declared.copy_fault.CopyTextFault.{CopyTextFault}
-use Rattle.pn_tablet.specs.declared.copy_fault.CopyTextFault.TheVariants.{BadLine, Memory}
+use Rattle.pn_tablet.specs.Drafts.{empty_draft}
+use Rattle.pn_tablet.specs.declared.fault.CopyTextFault.{CopyTextFault}
+use Rattle.pn_tablet.specs.declared.fault.CopyTextFault.TheVariants.{BadLine, Memory}
 use Rattle.pn_tablet.specs.CopyLines.{AreLines}
 use Rattle.pn_tablet.proofs.CopyGrammar.{lines_with, lines_again, follow}
 use Rattle.pn_tablet.proofs.CopyPieces.{pieces_of-nil, pieces_of-text, pieces_of-some, pieces_of-newline, pieces_of-byte}
@@ -83,8 +83,8 @@ text_again text copy is =
     let pieces : pieces_of text ≡ is.head ∷ (is.lines ++ [] ∷ []) =
     ap pieces_of (is.text_is ∙ sym (append-nil (text_of (is.head ∷ is.lines)))) ∙ pieces_of-text (is.head ∷ is.lines) [] is.unbroken ∙ ap (λ rest. (is.head ∷ is.lines) ++ rest) pieces_of-nil in
     ap copy_in (pieces ∙ ap (λ rest. is.head ∷ rest) after)
-    ∙ then_ok (head_at (BadLine 1) is.head) (λ read. read_on read.0 2 (begun read.1) (piece ∷ more)) (is.form, copy.range) (head_at-again (BadLine 1) is.head (is.form, copy.range) is.head_is)
-    ∙ ap (read_on is.form 2 (begun copy.range)) (sym after)
+    ∙ then_ok (head_at (BadLine 1) is.head) (λ read. read_on read.0 2 (empty_draft read.1) (piece ∷ more)) (is.form, copy.range) (head_at-again (BadLine 1) is.head (is.form, copy.range) is.head_is)
+    ∙ ap (read_on is.form 2 (empty_draft copy.range)) (sym after)
     ∙ lines_again is.form copy.range is.images is.images_rise is.inside 2 [] copy.marks is.lines (length copy.marks + length is.images) (omega arith) (omega arith) is.lines_are is.names_rise
     ∙ ap (λ cells. Ok (record { range = copy.range; marks = copy.marks; cells = cells })) (sym is.cells)
 
@@ -93,8 +93,8 @@ spelled_by : (text : List ℕ) (pieces : List (List ℕ)) (copy : TabletCopyValu
 spelled_by text [] copy cut is = absurd (cc)
 spelled_by text (part ∷ []) copy cut is = absurd (cc)
 spelled_by text (head ∷ piece ∷ pieces) copy cut is =
-    let read = bind_ok (head_at (BadLine 1) head) (λ read. read_on read.0 2 (begun read.1) (piece ∷ pieces)) copy is in
-    let f = follow read.0.0 2 (begun read.0.1) [] (piece ∷ pieces) copy (omega arith) (sym table_of-nil) read.2 in
+    let read = bind_ok (head_at (BadLine 1) head) (λ read. read_on read.0 2 (empty_draft read.1) (piece ∷ pieces)) copy is in
+    let f = follow read.0.0 2 (empty_draft read.0.1) [] (piece ∷ pieces) copy (omega arith) (sym table_of-nil) read.2 in
     let all : pieces_of text ≡ (head ∷ f.lines) ++ [] ∷ [] = cut ∙ ap (λ rest. head ∷ rest) f.pieces_are in
     rw f.copy_is (record {
       form = read.0.0;

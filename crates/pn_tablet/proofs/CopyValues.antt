@@ -19,10 +19,10 @@ use Rattle.pn_record.proofs.Lines as lines
 use Rattle.pn_record.proofs.ReadImages.{image_in_order}
 use Rattle.pn_record.proofs.ReadInOrder.{InOrder, in_order}
 use Rattle.pn_record.proofs.SameImage.{image_again}
-use Rattle.pn_tablet.specs.CopyLines.{Head, key_data, head_data, is_range, IsHead, IsValue}
+use Rattle.pn_tablet.specs.CopyLines.{Head, head_data, is_range, IsHead, IsValue}
+use Rattle.pn_tablet.specs.Ranges.{key_data, Ends}
 use Rattle.pn_tablet.specs.CopyLineReading.{or_as, if_fits, end_of, head_in, mark_in, end_in, record_in, line_in, head_at, line_at}
 use Rattle.pn_tablet.specs.Forms.{form_number, form_at, may_hold}
-use Rattle.pn_tablet.specs.Ranges.{Ends}
 use Rattle.pn_tablet.specs.declared.form.Form.{Form}
 use Rattle.pn_tablet.specs.declared.form.Form.TheVariants.{Texts, Numbers}
 use Rattle.pn_tablet.specs.declared.copy_line.CopyLine.{CopyLine}

@@ -31,11 +31,11 @@ use Rattle.pn_record.specs.Reading.{reading}
 use Rattle.pn_record.specs.Writing.{image_data}
 use Rattle.pn_record.proofs.ImageText.{depth-image_data, length-image_data}
 use Rattle.pn_tablet.specs.Copies.{TabletCopyValue}
-use Rattle.pn_tablet.specs.CopyLines.{Head, head_data, mark_data, end_data, is_end, is_range, IsHead, IsValue, AreLines}
+use Rattle.pn_tablet.specs.CopyLines.{Head, head_data, mark_data, end_data, is_range, IsHead, IsValue, AreLines}
+use Rattle.pn_tablet.specs.Ranges.{is_end, Ends, in_range, are_ends}
 use Rattle.pn_tablet.specs.CopyTexts.{images_rise, mark_line, lines_after_head, IsCopyText}
 use Rattle.pn_tablet.specs.CopyWriting.{line_data, line_text, lines_text, copy_text, IsReadAgain, WritesValue, IsWritten, IsWrittenLine, WritesLines}
 use Rattle.pn_tablet.specs.Forms.{form_of}
-use Rattle.pn_tablet.specs.Ranges.{Ends, in_range, are_ends}
 use Rattle.pn_tablet.specs.declared.form.Form.{Form}
 use Rattle.pn_tablet.specs.declared.form.Form.TheVariants.{Numbers}
 use Rattle.pn_tablet.specs.declared.copy_line.CopyLine.{CopyLine}

@@ -7,8 +7,8 @@ use Rattle.std.specs.Option.{option_map_or}
 use Rattle.std.specs.Ordering.{is_lt, is_eq, ordering_reverse}
 use Rattle.std.specs.FinMap.{find, put, is_sorted}
 use Rattle.std.specs.FinMap.Entries.{by_order}
-use Rattle.pn_join.specs.Marks.{Positions, name_cmp, is_position, are_positions, raised}
-use Rattle.pn_join.proofs.MarksFacts.{are_positions-raised}
+use Rattle.pn_join.specs.Marks.{Positions, name_cmp, is_position, are_positions, raised_marks}
+use Rattle.pn_join.proofs.MarksFacts.{are_positions-raised_marks}
 use Rattle.pn_record.specs.declared.image.Image.{Image}
 use Rattle.pn_record.specs.Cells.{Holds, spell}
 use Rattle.pn_record.specs.CellMap.{Entries, table_of, adds}
@@ -18,7 +18,7 @@ use Rattle.pn_record.proofs.CellLists.{both, cells-append}
 use Rattle.pn_record.proofs.CellMaps.{Holds-table_of, rising-table_of, held_adds}
 use Rattle.pn_record.proofs.HeldRecords.{Holds-one}
 use Rattle.pn_tablet.specs.Copies.{IsCopy}
-use Rattle.pn_tablet.specs.CopyReading.{with_mark, with_image, ended}
+use Rattle.pn_tablet.specs.CopyReading.{with_mark, with_image, finish}
 use Rattle.pn_tablet.specs.CopyTexts.{comes_after}
 use Rattle.pn_tablet.specs.Drafts.{DraftValue, IsDraft, with_last}
 use Rattle.pn_tablet.specs.Ranges.{Ends, in_range}
@@ -54,8 +54,8 @@ put-after (mark ∷ marks) name n after =
     ∙ ap (λ l. mark ∷ l) (put-after marks name n parts.1)
 
 -- a mark after all others is the last one
-pub raised-after : (marks : Positions) (name : List ℕ) (n : ℕ) → is_after_all marks name ≡ true → raised marks ((name, n) ∷ []) ≡ marks ++ (name, n) ∷ []
-raised-after marks name n after =
+pub raised_marks-after : (marks : Positions) (name : List ℕ) (n : ℕ) → is_after_all marks name ≡ true → raised_marks marks ((name, n) ∷ []) ≡ marks ++ (name, n) ∷ []
+raised_marks-after marks name n after =
     ap (λ (o : Option ℕ). put name_cmp name (max (unwrap_or o 0) n) marks) (find-after marks name after)
     ∙ ap (λ m. put name_cmp name m marks) (zero_max n) ∙ put-after marks name n after
   where
@@ -95,19 +95,19 @@ taken (Err e) old new image spelled held rising = tt
 
 -- ---- what holds of all drafts
 
-pub draft-begun : (range : Ends) (marks : Positions) (cells : Entries) → marks ≡ [] → cells ≡ [] → IsDraft range marks cells None
-draft-begun range marks cells no_marks no_cells = record {
+pub draft-empty : (range : Ends) (marks : Positions) (cells : Entries) → marks ≡ [] → cells ≡ [] → IsDraft range marks cells None
+draft-empty range marks cells no_marks no_cells = record {
   inside = subst (λ m. lie_in range m ≡ true) (sym no_cells) refl;
   spelled = no_cells ∙ spelled_nil ∙ ap (λ m. table_of (spell m)) (sym no_cells);
   positions = ap are_positions no_marks;
 }
 
 pub draft-mark : (range : Ends) (marks new : Positions) (cells : Entries) (last : Option Image) (name : List ℕ) (n : ℕ)
-    → IsDraft range marks cells last → is_position n ≡ true → new ≡ raised marks ((name, n) ∷ []) → IsDraft range new cells last
+    → IsDraft range marks cells last → is_position n ≡ true → new ≡ raised_marks marks ((name, n) ∷ []) → IsDraft range new cells last
 draft-mark range marks new cells last name n was position is = record {
   inside = was.inside;
   spelled = was.spelled;
-  positions = ap are_positions is ∙ are_positions-raised marks ((name, n) ∷ []) was.positions (and_from (is_position n) true position refl);
+  positions = ap are_positions is ∙ are_positions-raised_marks marks ((name, n) ∷ []) was.positions (and_from (is_position n) true position refl);
 }
 
 pub draft-image : (range : Ends) (marks : Positions) (cells new : Entries) (last : Option Image) (image : Image)
@@ -127,9 +127,9 @@ draft-copy range marks cells new last was is = record {
 -- ---- what each step comes to
 
 pub marked : (n : ℕ) (draft : DraftValue) (name : List ℕ) (position : ℕ) (new : Positions) → is_some draft.last ≡ false → is_after_all draft.marks name ≡ true
-    → new ≡ raised draft.marks ((name, position) ∷ []) → with_mark n draft (name, position) ≡ Ok (record draft { marks = new })
+    → new ≡ raised_marks draft.marks ((name, position) ∷ []) → with_mark n draft (name, position) ≡ Ok (record draft { marks = new })
 marked n draft name position new no_image after is =
-    let last : new ≡ draft.marks ++ (name, position) ∷ [] = is ∙ raised-after draft.marks name position after in
+    let last : new ≡ draft.marks ++ (name, position) ∷ [] = is ∙ raised_marks-after draft.marks name position after in
     rw (no_image, after, last) refl
 
 pub imaged : (n : ℕ) (draft : DraftValue) (image : Image) (new : Entries) → in_range draft.range image.key ≡ true → option_map_or (λ last. comes_after last image) draft.last true ≡ true
@@ -137,5 +137,5 @@ pub imaged : (n : ℕ) (draft : DraftValue) (image : Image) (new : Entries) → 
 imaged n draft image new here after is = rw (here, after, is) refl
 
 pub closed : (n : ℕ) (draft : DraftValue) (count : ℕ) (over : Bool) (new : Entries) → (count == n - 2) ≡ true → over ≡ true → new ≡ draft.cells
-    → ended n draft count over ≡ Ok (record { range = draft.range; marks = draft.marks; cells = new })
+    → finish n draft count over ≡ Ok (record { range = draft.range; marks = draft.marks; cells = new })
 closed n draft count over new counts is_over is = rw (counts, is_over, is) refl

@@ -20,14 +20,14 @@ use Rattle.pn_tablet.specs.CopyLines.{Head, IsValue, AreLines}
 use Rattle.pn_tablet.specs.CopyLineReading.{head_at, line_at}
 use Rattle.pn_tablet.specs.CopyReading.{pieces_of, is_over, after, read_on, copy_in, copy_at}
 use Rattle.pn_tablet.specs.CopyTexts.{comes_after, images_rise, mark_line}
-use Rattle.pn_tablet.specs.Drafts.{DraftValue, begun, whole}
+use Rattle.pn_tablet.specs.Drafts.{DraftValue, empty_draft, copy_of_draft}
 use Rattle.pn_tablet.specs.Ranges.{Ends, in_range}
 use Rattle.pn_tablet.specs.declared.form.Form.{Form}
 use Rattle.pn_tablet.specs.declared.copy_line.CopyLine.{CopyLine}
 use Rattle.pn_tablet.specs.declared.copy_line.CopyLine.TheVariants.{Mark, Record, End}
-use Rattle.pn_tablet.specs.declared.copy_fault.CopyTextFault.{CopyTextFault}
-use Rattle.pn_tablet.specs.declared.copy_fault.CopyTextFault.TheVariants.{Truncated, BadLine, OutsideRange, NotRising, BadEnd, Memory}
-use Rattle.pn_tablet.proofs.BegunCopies.{last_with, drafted, text_cut}
+use Rattle.pn_tablet.specs.declared.fault.CopyTextFault.{CopyTextFault}
+use Rattle.pn_tablet.specs.declared.fault.CopyTextFault.TheVariants.{Truncated, BadLine, OutsideRange, NotRising, BadEnd, Memory}
+use Rattle.pn_tablet.proofs.CopyStarts.{last_with, drafted, text_cut}
 use Rattle.pn_tablet.proofs.CopyExchanges.{says_one}
 use Rattle.pn_tablet.proofs.CopyGrammar.{all_inside, sorted_after, sorted_push}
 use Rattle.pn_tablet.proofs.CopyLineCounts.{as_many}
@@ -168,7 +168,7 @@ module _ (text : List ℕ) (lines : List (List ℕ)) (form : Form) (range : Ends
       (here, Record image, line_is, (is_inside, false_from_ne_true _ (λ rise. false≢true (sym is_later ∙ rise_last images image rise))))
 
   end_right : (count : ℕ) → IsLine (IsValue form) line (End count) → (counts over : Bool) → (count == length lines + 1 - 2) ≡ counts → is_over (piece ∷ more) ≡ over
-      → IsRight text (if counts && over then Ok (whole (drafted range marks images)) else Err BadEnd)
+      → IsRight text (if counts && over then Ok (copy_of_draft (drafted range marks images)) else Err BadEnd)
   end_right count line_is true true counts ends = tt
   end_right count line_is true false counts ends =
       (length lines + 1, here, count, line_is, λ right. false≢true (sym ends ∙ none_left piece more right.1))
@@ -220,11 +220,11 @@ right_in text (head ∷ piece ∷ more) parts is =
     let unbroken : All IsUnbroken (head ∷ []) = All-cons IsUnbroken head [] (All-head IsUnbroken head (piece ∷ more) parts) (All-nil IsUnbroken) in
     let first : text ≡ text_of (head ∷ []) ++ joined (piece ∷ more) =
     is ∙ ap (λ t. t ++ (head ++ 10 ∷ joined (piece ∷ more))) (sym text_of-nil) ∙ sym (text_cut [] head (joined (piece ∷ more))) in
-    elim (head_or_not (BadLine 1) head) as (λ _. IsRight text (head_at (BadLine 1) head >>= (λ read. read_on read.0 2 (begun read.1) (piece ∷ more)))) [
+    elim (head_or_not (BadLine 1) head) as (λ _. IsRight text (head_at (BadLine 1) head >>= (λ read. read_on read.0 2 (empty_draft read.1) (piece ∷ more)))) [
       | inl read ↦
           let begin : Begin (head ∷ []) read.0.0 read.0.1 [] [] =
           record { head = head; later = []; lines_are = refl; head_is = head_at-found (BadLine 1) head read.0 read.1; later_are = tt; names_rise = refl; images_rise = refl; inside = refl } in
-          let none : drafted read.0.1 [] [] ≡ begun read.0.1 = λ i. record { range = read.0.1; marks = []; cells = table_of-nil i; last = None } in
+          let none : drafted read.0.1 [] [] ≡ empty_draft read.0.1 = λ i. record { range = read.0.1; marks = []; cells = table_of-nil i; last = None } in
           rw read.1 (subst (λ (d : DraftValue). IsRight text (read_on read.0.0 2 d (piece ∷ more))) none (right_on text (head ∷ []) read.0.0 read.0.1 [] [] (piece ∷ more) begin unbroken (All-tail IsUnbroken head (piece ∷ more) parts) first))
       | inr bad ↦
           rw bad (inl (refl, (head, joined (piece ∷ more), record { text_is = first; unbroken = unbroken }, λ says is_head. no_head (sym bad ∙ head_at-again (BadLine 1) head says is_head))))

@@ -13,13 +13,13 @@ use Rattle.pn_tablet.specs.CopyLines.{IsValue}
 use Rattle.pn_tablet.specs.CopyLineReading.{head_at}
 use Rattle.pn_tablet.specs.CopyReading.{pieces_of, is_over, with_mark, with_image, after, read_on, copy_in, copy_at}
 use Rattle.pn_tablet.specs.CopyTexts.{comes_after}
-use Rattle.pn_tablet.specs.Drafts.{DraftValue, whole}
+use Rattle.pn_tablet.specs.Drafts.{DraftValue, copy_of_draft}
 use Rattle.pn_tablet.specs.Ranges.{Ends, in_range}
 use Rattle.pn_tablet.specs.declared.form.Form.{Form}
 use Rattle.pn_tablet.specs.declared.copy_line.CopyLine.{CopyLine}
 use Rattle.pn_tablet.specs.declared.copy_line.CopyLine.TheVariants.{Mark, Record, End}
-use Rattle.pn_tablet.specs.declared.copy_fault.CopyTextFault.TheVariants.{Truncated, BadLine, OutsideRange, NotRising, BadEnd, Memory}
-use Rattle.pn_tablet.proofs.BegunCopies.{last_with, drafted, begun_read, text_cut, last_unbroken, reached}
+use Rattle.pn_tablet.specs.declared.fault.CopyTextFault.TheVariants.{Truncated, BadLine, OutsideRange, NotRising, BadEnd, Memory}
+use Rattle.pn_tablet.proofs.CopyStarts.{last_with, drafted, begun_read, text_cut, last_unbroken, reached}
 use Rattle.pn_tablet.proofs.CopyGrammar.{sorted_push}
 use Rattle.pn_tablet.proofs.CopyPieces.{pieces_of-last, pieces_of-line, is_over-pieces_of}
 use Rattle.pn_tablet.proofs.CopySteps.{read_on-bad, read_on-said, read_on-last, copy_at-bad, then_err}
@@ -81,7 +81,7 @@ module _ (text : List ℕ) (n : ℕ) (at : Reaches text n) where
         omega (arith, eqb-true count (n - 2) parts.0, at.number, begin_count at.lines at.form at.range at.marks at.images at.begin),
         empty at.rest (eqb-true (length at.rest) 0 (sym (is_over-pieces_of at.rest) ∙ parts.1)),
       )) in
-      said (End count) is ∙ ap (λ test. if test then Ok (whole draft) else Err BadEnd) refused
+      said (End count) is ∙ ap (λ test. if test then Ok (copy_of_draft draft) else Err BadEnd) refused
     where
       empty : (rest : List ℕ) → length rest ≡ 0 → rest ≡ []
       empty [] none = refl

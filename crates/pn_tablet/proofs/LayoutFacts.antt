@@ -53,11 +53,11 @@ key_in_tablet (bound ∷ bounds) key rising =
     ] refl
 
 -- what a tablet begins with is not less than the first bound
-begins_above : (bound : List ℕ) (bounds : Bounds) (key : List ℕ) (place : ℕ) → AllByRecursion (λ other. bytes_cmp bound other ≡ Less) bounds → place < length (bound ∷ bounds) → is_from (slice_get (bound ∷ bounds) place) key ≡ true → is_below key bound ≡ false
+begins_above : (bound : List ℕ) (bounds : Bounds) (key : List ℕ) (index : ℕ) → AllByRecursion (λ other. bytes_cmp bound other ≡ Less) bounds → index < length (bound ∷ bounds) → is_from (slice_get (bound ∷ bounds) index) key ≡ true → is_below key bound ≡ false
 begins_above bound bounds key zero rises within from = is_not (is_below key bound) from
-begins_above bound [] key (suc place) rises within from = absurd (omega arith)
+begins_above bound [] key (suc index) rises within from = absurd (omega arith)
 begins_above bound (next ∷ bounds) key (suc zero) rises within from = not_below key bound next rises.0 (is_not (is_below key next) from)
-begins_above bound (next ∷ bounds) key (suc (suc place)) rises within from = begins_above bound bounds key (suc place) rises.1 (omega arith) from
+begins_above bound (next ∷ bounds) key (suc (suc index)) rises within from = begins_above bound bounds key (suc index) rises.1 (omega arith) from
 
 -- a key is in no other tablet
 pub tablet_of_key : (bounds : Bounds) (key : List ℕ) (tablet : ℕ) → IsStrictlySortedBy bytes_cmp bounds → tablet ≤ length bounds → IsTrue (in_range (tablet_ends bounds tablet) key) → tablet ≡ tablet_of bounds key

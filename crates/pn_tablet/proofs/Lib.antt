@@ -1,4 +1,3 @@
-pub mod BegunCopies
 pub mod BoundSteps
 pub mod Changed
 pub mod CopyExchanges
@@ -7,6 +6,7 @@ pub mod CopyLineCounts
 pub mod CopyLineTexts
 pub mod CopyPieces
 pub mod CopyPrefixes
+pub mod CopyStarts
 pub mod CopySteps
 pub mod CopyTextFacts
 pub mod CopyValueTexts
@@ -23,7 +23,7 @@ pub mod Joined
 pub mod Keeping
 pub mod LayoutFacts
 pub mod LineFaults
-pub mod Progressing
+pub mod Coverages
 pub mod Recovery
 pub mod SameSpelling
 pub mod SpelledImages

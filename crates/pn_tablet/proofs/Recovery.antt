@@ -17,25 +17,25 @@ use Rattle.pn_record.proofs.CellMaps.{Holds-table_of, cells-spelled}
 use Rattle.pn_record.proofs.NeverOlder.{joined_not_older}
 use Rattle.pn_tablet.specs.Copies.{TabletCopyValue}
 use Rattle.pn_tablet.specs.Laws.{Rise, AreJoins, Grows}
-use Rattle.pn_tablet.specs.Needs.{lacking, first_short}
-use Rattle.pn_tablet.specs.Steps.{taking, lost, step, after_step, stepped}
+use Rattle.pn_tablet.specs.Needs.{need_shortfall, first_shortfall}
+use Rattle.pn_tablet.specs.Steps.{with_join, recovering_tablet, step, after_step, tablet_after}
 use Rattle.pn_tablet.specs.Tablets.{TabletStateValue, lie_in}
 use Rattle.pn_tablet.specs.declared.state.Status.{Status}
 use Rattle.pn_tablet.specs.declared.state.Status.TheVariants.{Recovering}
-use Rattle.pn_tablet.specs.declared.op.TabletOp.{TabletOp}
-use Rattle.pn_tablet.specs.declared.op.TabletOp.TheVariants.{Join, Lose, Adopt}
+use Rattle.pn_tablet.specs.declared.state.TabletOp.{TabletOp}
+use Rattle.pn_tablet.specs.declared.state.TabletOp.TheVariants.{Join, Lose, Adopt}
 use Rattle.pn_tablet.specs.declared.fault.OpFault.TheVariants.{WrongRange}
 use Rattle.pn_tablet.proofs.TabletLaws.{adopted}
 
 -- joins leave the status as it is
-status_left : (t : TabletStateValue) (cells : Entries) (marks : Positions) (b : Bool) → (after_step t (if b then Ok (taking t cells marks) else Err WrongRange)).status ≡ t.status
+status_left : (t : TabletStateValue) (cells : Entries) (marks : Positions) (b : Bool) → (after_step t (if b then Ok (with_join t cells marks) else Err WrongRange)).status ≡ t.status
 status_left t cells marks true = refl
 status_left t cells marks false = refl
 
-joins_leave : (t : TabletStateValue) (status : Status) (ops : List TabletOp) → t.status ≡ status → AreJoins ops → (fold stepped t ops).status ≡ status
+joins_leave : (t : TabletStateValue) (status : Status) (ops : List TabletOp) → t.status ≡ status → AreJoins ops → (fold tablet_after t ops).status ≡ status
 joins_leave t status [] is joins = is
 joins_leave t status (Join cells marks ∷ ops) is joins =
-    joins_leave (stepped t (Join cells marks)) status ops (status_left t cells marks (lie_in t.range cells) ∙ is) joins.1
+    joins_leave (tablet_after t (Join cells marks)) status ops (status_left t cells marks (lie_in t.range cells) ∙ is) joins.1
 joins_leave t status (Lose ∷ ops) is joins = absurd joins.0
 joins_leave t status (Adopt copy ∷ ops) is joins = absurd joins.0
 
@@ -64,7 +64,7 @@ module _ {X Y : Type 0} (p : X → Bool) (f : X → Y) where
   none_found xs none = found_by xs (nat_lt (position_or_len p xs) (length xs)) refl none
 
 -- marks that lack nothing of a need reach it
-pub nothing_short : (marks need : Positions) → first_short marks need ≡ None → Reaches marks need
+pub nothing_short : (marks need : Positions) → first_shortfall marks need ≡ None → Reaches marks need
 nothing_short marks need none =
     reached marks need (none_found (falls_short marks) (λ wanted. record { stream = wanted.0; has = position_of marks wanted.0; wanted = wanted.1 }) need none)
 
@@ -86,13 +86,13 @@ copied_back own was images all key =
 pub adoption_brings_back : (upto : Positions → List Image) → Grows upto → (t after : TabletStateValue) (joins : List TabletOp) (copy : TabletCopyValue) → AreJoins joins
     → Rise t.reach → Rise copy.marks → (images : List Image) → t.cells ≡ table_of images → ((image : Image) → Contains images image → Contains (upto t.reach) image)
     → copy.cells ≡ table_of (upto copy.marks)
-    → step (fold stepped (stepped t Lose) joins) (Adopt copy) ≡ Ok after
+    → step (fold tablet_after (tablet_after t Lose) joins) (Adopt copy) ≡ Ok after
     → (key : List ℕ) → NotOlder (find bytes_cmp key t.cells) (find bytes_cmp key after.cells)
 adoption_brings_back upto grows t after joins copy are g h images was held copied is key =
-    let before = fold stepped (lost t) joins in
+    let before = fold tablet_after (recovering_tablet t) joins in
     let known = adopted before copy after is in
-    let needs : before.status ≡ Recovering t.reach = joins_leave (lost t) (Recovering t.reach) joins refl are in
-    let reaches = nothing_short copy.marks t.reach (ap (λ status. lacking status copy.marks) (sym needs) ∙ known.reaches) in
+    let needs : before.status ≡ Recovering t.reach = joins_leave (recovering_tablet t) (Recovering t.reach) joins refl are in
+    let reaches = nothing_short copy.marks t.reach (ap (λ status. need_shortfall status copy.marks) (sym needs) ∙ known.reaches) in
     subst (λ m. NotOlder (find bytes_cmp key m) (find bytes_cmp key after.cells)) (sym was)
     (subst (λ (a : TabletStateValue). NotOlder (find bytes_cmp key (table_of images)) (find bytes_cmp key a.cells)) (sym known.taken)
     (subst (λ m. NotOlder (find bytes_cmp key (table_of images)) (find bytes_cmp key (adds before.cells (spell m)))) (sym copied)

@@ -1,8 +1,8 @@
 -- The laws of tablets that `src/laws.rt` states.
 use Rattle.std.proofs.Common.{◌≡◌, ℕ, ◌≤◌, Bool, true, false, if◌then◌else◌, List, ◌++◌, Option, None, Some, Result, Ok, Err, refl, sym, subst, arith}
 use Rattle.std.specs.FinMap.{find}
-use Rattle.pn_join.specs.Marks.{Positions, Reaches, position_of, raised}
-use Rattle.pn_join.proofs.MarksFacts.{position_of-raised}
+use Rattle.pn_join.specs.Marks.{Positions, Reaches, position_of, raised_marks}
+use Rattle.pn_join.proofs.MarksFacts.{position_of-raised_marks}
 use Rattle.pn_record.specs.declared.image.Image.{Image}
 use Rattle.pn_record.specs.Order.{bytes_cmp}
 use Rattle.pn_record.specs.Sets.{CellValue}
@@ -12,13 +12,13 @@ use Rattle.pn_record.specs.Older.{NotOlder}
 use Rattle.pn_record.proofs.NeverOlder.{joined_not_older, held_not_older}
 use Rattle.pn_tablet.specs.Copies.{TabletCopyValue}
 use Rattle.pn_tablet.specs.Laws.{IsSpelled}
-use Rattle.pn_tablet.specs.Needs.{lacking}
-use Rattle.pn_tablet.specs.Steps.{taking, adopting, step, after_step, stepped}
+use Rattle.pn_tablet.specs.Needs.{need_shortfall}
+use Rattle.pn_tablet.specs.Steps.{with_join, with_copy, step, after_step, tablet_after}
 use Rattle.pn_tablet.specs.Tablets.{TabletStateValue, lie_in, same_range}
 use Rattle.pn_tablet.specs.declared.state.Status.TheVariants.{Serving}
-use Rattle.pn_tablet.specs.declared.needs.Short.{Short}
-use Rattle.pn_tablet.specs.declared.op.TabletOp.{TabletOp}
-use Rattle.pn_tablet.specs.declared.op.TabletOp.TheVariants.{Join, Lose, Adopt}
+use Rattle.pn_tablet.specs.declared.fault.Shortfall.{Shortfall}
+use Rattle.pn_tablet.specs.declared.state.TabletOp.{TabletOp}
+use Rattle.pn_tablet.specs.declared.state.TabletOp.TheVariants.{Join, Lose, Adopt}
 use Rattle.pn_tablet.specs.declared.fault.OpFault.{OpFault}
 use Rattle.pn_tablet.specs.declared.fault.OpFault.TheVariants.{WrongRange}
 
@@ -32,30 +32,30 @@ passed true right after is = is
 passed false right after is = cc
 
 -- the state after a join that is taken
-joined_is : (t : TabletStateValue) (cells : Entries) (marks : Positions) (after : TabletStateValue) → step t (Join cells marks) ≡ Ok after → after ≡ taking t cells marks
-joined_is t cells marks after is = let taken = passed (lie_in t.range cells) (Ok (taking t cells marks)) after is in cc
+joined_is : (t : TabletStateValue) (cells : Entries) (marks : Positions) (after : TabletStateValue) → step t (Join cells marks) ≡ Ok after → after ≡ with_join t cells marks
+joined_is t cells marks after is = let taken = passed (lie_in t.range cells) (Ok (with_join t cells marks)) after is in cc
 
 -- what is known of an adoption that is taken
 pub record Adopted (t : TabletStateValue) (copy : TabletCopyValue) (after : TabletStateValue) : Type 0 where
-  pub reaches : lacking t.status copy.marks ≡ None
-  pub taken : after ≡ record (taking t copy.cells copy.marks) { status = Serving }
+  pub reaches : need_shortfall t.status copy.marks ≡ None
+  pub taken : after ≡ record (with_join t copy.cells copy.marks) { status = Serving }
 
-adopted_by : (t : TabletStateValue) (copy : TabletCopyValue) (short : Option Short) (after : TabletStateValue) → lacking t.status copy.marks ≡ short → adopting t copy short ≡ Ok after → Adopted t copy after
+adopted_by : (t : TabletStateValue) (copy : TabletCopyValue) (short : Option Shortfall) (after : TabletStateValue) → need_shortfall t.status copy.marks ≡ short → with_copy t copy short ≡ Ok after → Adopted t copy after
 adopted_by t copy None after none is = record { reaches = none; taken = cc }
 adopted_by t copy (Some short) after some is = cc
 
 pub adopted : (t : TabletStateValue) (copy : TabletCopyValue) (after : TabletStateValue) → step t (Adopt copy) ≡ Ok after → Adopted t copy after
 adopted t copy after is =
-    adopted_by t copy (lacking t.status copy.marks) after refl (passed (same_range t.range copy.range) (adopting t copy (lacking t.status copy.marks)) after is)
+    adopted_by t copy (need_shortfall t.status copy.marks) after refl (passed (same_range t.range copy.range) (with_copy t copy (need_shortfall t.status copy.marks)) after is)
 
 -- raised marks reach what they were
-raised_reaches : (a b : Positions) → Reaches (raised a b) a
-raised_reaches a b name = let is = position_of-raised a b name in subst (λ n. position_of a name ≤ n) (sym is) (omega arith)
+raised_reaches : (a b : Positions) → Reaches (raised_marks a b) a
+raised_reaches a b name = let is = position_of-raised_marks a b name in subst (λ n. position_of a name ≤ n) (sym is) (omega arith)
 
 same_reaches : (a : Positions) → Reaches a a
 same_reaches a name = omega arith
 
-pub never_falls : (t : TabletStateValue) (op : TabletOp) → Reaches (stepped t op).cover t.cover
+pub never_falls : (t : TabletStateValue) (op : TabletOp) → Reaches (tablet_after t op).cover t.cover
 never_falls t (Join cells marks) =
     by_step (λ after. Reaches after.cover t.cover) t (step t (Join cells marks)) (same_reaches t.cover)
     (λ after is. subst (λ a. Reaches a.cover t.cover) (sym (joined_is t cells marks after is)) (raised_reaches t.cover marks))
@@ -64,7 +64,7 @@ never_falls t (Adopt copy) =
     by_step (λ after. Reaches after.cover t.cover) t (step t (Adopt copy)) (same_reaches t.cover)
     (λ after is. subst (λ a. Reaches a.cover t.cover) (sym (adopted t copy after is).taken) (raised_reaches t.cover copy.marks))
 
-pub reach_never_falls : (t : TabletStateValue) (op : TabletOp) → Reaches (stepped t op).reach t.reach
+pub reach_never_falls : (t : TabletStateValue) (op : TabletOp) → Reaches (tablet_after t op).reach t.reach
 reach_never_falls t (Join cells marks) =
     by_step (λ after. Reaches after.reach t.reach) t (step t (Join cells marks)) (same_reaches t.reach)
     (λ after is. subst (λ a. Reaches a.reach t.reach) (sym (joined_is t cells marks after is)) (raised_reaches t.reach marks))
@@ -82,7 +82,7 @@ unfolding adds
 added_not_older own images key spelled =
     subst (λ m. NotOlder (find bytes_cmp key m) (find bytes_cmp key (table_of (spell own ++ images)))) (sym spelled) (held_not_older (spell own) images key)
 
-pub never_older : (t : TabletStateValue) (op : TabletOp) → IsSpelled t.cells → (op ≡ Lose → ⊥) → (key : List ℕ) → NotOlder (find bytes_cmp key t.cells) (find bytes_cmp key (stepped t op).cells)
+pub never_older : (t : TabletStateValue) (op : TabletOp) → IsSpelled t.cells → (op ≡ Lose → ⊥) → (key : List ℕ) → NotOlder (find bytes_cmp key t.cells) (find bytes_cmp key (tablet_after t op).cells)
 never_older t (Join cells marks) spelled not_lost key =
     by_step (λ after. NotOlder (find bytes_cmp key t.cells) (find bytes_cmp key after.cells)) t (step t (Join cells marks)) (itself_not_older (find bytes_cmp key t.cells))
     (λ after is. subst (λ a. NotOlder (find bytes_cmp key t.cells) (find bytes_cmp key a.cells)) (sym (joined_is t cells marks after is)) (added_not_older t.cells (spell cells) key spelled))
@@ -91,7 +91,7 @@ never_older t (Adopt copy) spelled not_lost key =
     by_step (λ after. NotOlder (find bytes_cmp key t.cells) (find bytes_cmp key after.cells)) t (step t (Adopt copy)) (itself_not_older (find bytes_cmp key t.cells))
     (λ after is. subst (λ a. NotOlder (find bytes_cmp key t.cells) (find bytes_cmp key a.cells)) (sym (adopted t copy after is).taken) (added_not_older t.cells (spell copy.cells) key spelled))
 
-pub never_older_served : (t : TabletStateValue) (op : TabletOp) → IsSpelled t.cells → (stepped t op).status ≡ Serving → (key : List ℕ) → NotOlder (find bytes_cmp key t.cells) (find bytes_cmp key (stepped t op).cells)
+pub never_older_served : (t : TabletStateValue) (op : TabletOp) → IsSpelled t.cells → (tablet_after t op).status ≡ Serving → (key : List ℕ) → NotOlder (find bytes_cmp key t.cells) (find bytes_cmp key (tablet_after t op).cells)
 never_older_served t (Join cells marks) spelled serves key = never_older t (Join cells marks) spelled (λ e. cc) key
 never_older_served t Lose spelled serves key = cc
 never_older_served t (Adopt copy) spelled serves key = never_older t (Adopt copy) spelled (λ e. cc) key

@@ -9,8 +9,8 @@ use Rattle.pn_record.specs.CellMap.{Entries}
 use Rattle.pn_record.specs.SameCells.{same_at}
 use Rattle.pn_tablet.specs.Tablets.{TabletStateValue}
 use Rattle.pn_tablet.specs.declared.change.Change.{Change}
-use Rattle.pn_tablet.specs.declared.op.TabletOp.{TabletOp}
-use Rattle.pn_tablet.specs.declared.op.TabletOp.TheVariants.{Join}
+use Rattle.pn_tablet.specs.declared.state.TabletOp.{TabletOp}
+use Rattle.pn_tablet.specs.declared.state.TabletOp.TheVariants.{Join}
 
 -- the version of a cell, if there is one
 abbrev pub version_at : Option CellValue → Option Stamp
@@ -30,8 +30,8 @@ answer (Join cells marks) before after = changes before.cells after.cells
 answer _ before after = []
 
 -- the change that a join reports
-abbrev pub change_told : TableChange (List ℕ) CellValue → Change
-change_told told = record { key = told.key; before = version_at told.before; after = told.after.0 }
+abbrev pub reported_change : TableChange (List ℕ) CellValue → Change
+reported_change told = record { key = told.key; before = version_at told.before; after = told.after.0 }
 
 -- the change of a key when a cell is joined to the one that it had
 abbrev pub change_by : Option CellValue → List ℕ × CellValue → Option Change

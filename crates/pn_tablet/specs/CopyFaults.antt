@@ -13,8 +13,8 @@ use Rattle.pn_tablet.specs.Ranges.{Ends, in_range}
 use Rattle.pn_tablet.specs.declared.form.Form.{Form}
 use Rattle.pn_tablet.specs.declared.copy_line.CopyLine.{CopyLine}
 use Rattle.pn_tablet.specs.declared.copy_line.CopyLine.TheVariants.{Mark, Record, End}
-use Rattle.pn_tablet.specs.declared.copy_fault.CopyTextFault.{CopyTextFault}
-use Rattle.pn_tablet.specs.declared.copy_fault.CopyTextFault.TheVariants.{Memory}
+use Rattle.pn_tablet.specs.declared.fault.CopyTextFault.{CopyTextFault}
+use Rattle.pn_tablet.specs.declared.fault.CopyTextFault.TheVariants.{Memory}
 
 -- the fault says that memory ran out
 abbrev pub is_memory : CopyTextFault → Bool

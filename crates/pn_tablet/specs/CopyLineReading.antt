@@ -72,5 +72,6 @@ line_in form fault d = if is_some (get (codes "at") d) then mark_in fault d else
 unfoldable pub head_at : {F : Type 0} → F → List ℕ → Result Head F
 head_at fault line = or_as fault (value_at line) >>= head_in fault
 
+-- what a line after the head says, or the fault
 unfoldable pub line_at : {F : Type 0} → Form → F → List ℕ → Result CopyLine F
 line_at form fault line = or_as fault (value_at line) >>= line_in form fault

@@ -1,30 +1,24 @@
 -- The lines of a copy's text, and the JSON of each.
-use Rattle.std.specs.Prelude.{◌≡◌, ℕ, Bool, true, ◌&&◌, List, [], ◌∷◌, codes, Option, None, Some, option_map, IsTrue}
-use Rattle.std.specs.Borrow.{Bor}
-use Rattle.serde_json.specs.Data.{Data, null, number, string, object, unsigned, no_members, member}
-use Rattle.pn_record.specs.Limits.{is_key}
+use Rattle.std.specs.Prelude.{◌≡◌, ℕ, Bool, ◌&&◌, List, [], ◌∷◌, codes, IsTrue}
+use Rattle.serde_json.specs.Data.{Data, number, string, object, unsigned, no_members, member}
 use Rattle.pn_record.specs.Marks.{is_mark}
 use Rattle.pn_record.specs.Reading.{IsLine}
 use Rattle.pn_record.specs.Canonical.{IsImage}
 use Rattle.pn_tablet.specs.Forms.{form_number, may_hold}
-use Rattle.pn_tablet.specs.Ranges.{Ends, are_ends}
+use Rattle.pn_tablet.specs.Ranges.{Ends, are_ends, is_end, key_data}
 use Rattle.pn_tablet.specs.declared.form.Form.{Form}
 use Rattle.pn_tablet.specs.declared.copy_line.CopyLine.{CopyLine}
 use Rattle.pn_tablet.specs.declared.copy_line.CopyLine.TheVariants.{Mark, Record, End}
-
--- an end of a range: its key, or null where the range is open
-abbrev pub key_data : Option (List ℕ) → Data
-key_data None = null
-key_data (Some key) = string key
 
 -- what a head says: the form of the copy, and its range
 abbrev pub Head : Type 0
 Head = Form × Ends
 
--- the head: the number of the form, and the two ends of the range
+-- the JSON of a head: a number, and two ends
 abbrev pub head_with : ℕ → Data → Data → Data
 head_with n from to = object (member (codes "copy") (number (unsigned n)) (member (codes "from") from (member (codes "to") to no_members)))
 
+-- the JSON of the head of a form and a range
 abbrev pub head_data : Head → Data
 head_data head = head_with (form_number head.0) (key_data head.1.0) (key_data head.1.1)
 
@@ -35,15 +29,6 @@ mark_data mark = object (member (codes "at") (number (unsigned mark.1)) (member 
 -- the end: the number of marks and images before it
 abbrev pub end_data : ℕ → Data
 end_data count = object (member (codes "end") (number (unsigned count)) no_members)
-
--- an end of a range is a key, or open
-abbrev pub is_end : Option (List ℕ) → Bool
-is_end None = true
-is_end (Some key) = is_key key
-
--- a borrowed text, where there is one
-abbrev pub seen_text : Option (Bor (List ℕ)) → Option (List ℕ)
-seen_text text = option_map (λ t. t.now) text
 
 -- the ends are keys or open, and the first is less where both are keys
 abbrev pub is_range : Ends → Bool

@@ -11,13 +11,13 @@ use Rattle.pn_record.specs.CellMap.{adds}
 use Rattle.pn_tablet.specs.Copies.{TabletCopyValue}
 use Rattle.pn_tablet.specs.CopyLineReading.{head_at, line_at}
 use Rattle.pn_tablet.specs.CopyTexts.{comes_after}
-use Rattle.pn_tablet.specs.Drafts.{DraftValue, begun, whole}
+use Rattle.pn_tablet.specs.Drafts.{DraftValue, empty_draft, copy_of_draft}
 use Rattle.pn_tablet.specs.Ranges.{in_range}
 use Rattle.pn_tablet.specs.declared.form.Form.{Form}
 use Rattle.pn_tablet.specs.declared.copy_line.CopyLine.{CopyLine}
 use Rattle.pn_tablet.specs.declared.copy_line.CopyLine.TheVariants.{Mark, Record, End}
-use Rattle.pn_tablet.specs.declared.copy_fault.CopyTextFault.{CopyTextFault}
-use Rattle.pn_tablet.specs.declared.copy_fault.CopyTextFault.TheVariants.{Truncated, BadLine, OutsideRange, NotRising, BadEnd}
+use Rattle.pn_tablet.specs.declared.fault.CopyTextFault.{CopyTextFault}
+use Rattle.pn_tablet.specs.declared.fault.CopyTextFault.TheVariants.{Truncated, BadLine, OutsideRange, NotRising, BadEnd}
 
 -- the pieces of a text between its newlines: its lines, and then the rest, which has no newline
 unfoldable pub pieces_of : List ℕ → List (List ℕ)
@@ -43,14 +43,14 @@ with_image n draft image =
     then Ok (record draft { cells = adds draft.cells (image ∷ []); last = Some image }) else Err (NotRising n))
 
 -- the end counts the lines between the head and itself, and nothing follows it
-abbrev pub ended : ℕ → DraftValue → ℕ → Bool → Result TabletCopyValue CopyTextFault
-ended n draft count over = if count == n - 2 && over then Ok (whole draft) else Err BadEnd
+abbrev pub finish : ℕ → DraftValue → ℕ → Bool → Result TabletCopyValue CopyTextFault
+finish n draft count over = if count == n - 2 && over then Ok (copy_of_draft draft) else Err BadEnd
 
 -- line n, and then the lines after it
 abbrev pub after : ℕ → DraftValue → (DraftValue → Result TabletCopyValue CopyTextFault) → Bool → CopyLine → Result TabletCopyValue CopyTextFault
 after n draft next over (Mark name position) = with_mark n draft (name, position) >>= next
 after n draft next over (Record image) = with_image n draft image >>= next
-after n draft next over (End count) = ended n draft count over
+after n draft next over (End count) = finish n draft count over
 
 -- the copy, from what was read before line n and the pieces from there on
 unfoldable pub read_on : Form → ℕ → DraftValue → List (List ℕ) → Result TabletCopyValue CopyTextFault
@@ -63,7 +63,7 @@ read_on form n draft (line ∷ piece ∷ pieces) =
 abbrev pub copy_in : List (List ℕ) → Result TabletCopyValue CopyTextFault
 copy_in [] = Err Truncated
 copy_in (part ∷ []) = Err Truncated
-copy_in (head ∷ piece ∷ pieces) = head_at (BadLine 1) head >>= λ read. read_on read.0 2 (begun read.1) (piece ∷ pieces)
+copy_in (head ∷ piece ∷ pieces) = head_at (BadLine 1) head >>= λ read. read_on read.0 2 (empty_draft read.1) (piece ∷ pieces)
 
 -- the copy that the text spells, or the fault of the first line that has one
 unfoldable pub copy_at : List ℕ → Result TabletCopyValue CopyTextFault

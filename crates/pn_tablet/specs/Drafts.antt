@@ -16,12 +16,12 @@ pub record DraftValue : Type 0 where
   pub last : Option Image
 
 -- a copy of which only the head was read
-abbrev pub begun : Ends → DraftValue
-begun range = record { range = range; marks = []; cells = []; last = None }
+abbrev pub empty_draft : Ends → DraftValue
+empty_draft range = record { range = range; marks = []; cells = []; last = None }
 
 -- the copy, once all was read
-abbrev pub whole : DraftValue → TabletCopyValue
-whole draft = record { range = draft.range; marks = draft.marks; cells = draft.cells }
+abbrev pub copy_of_draft : DraftValue → TabletCopyValue
+copy_of_draft draft = record { range = draft.range; marks = draft.marks; cells = draft.cells }
 
 -- the cells with the last image, if there is one
 abbrev pub with_last : Entries → Option Image → Entries

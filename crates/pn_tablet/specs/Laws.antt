@@ -5,8 +5,8 @@ use Rattle.pn_join.specs.Marks.{Positions, Reaches, name_cmp}
 use Rattle.pn_record.specs.declared.image.Image.{Image}
 use Rattle.pn_record.specs.Cells.{spell}
 use Rattle.pn_record.specs.CellMap.{Entries, table_of}
-use Rattle.pn_tablet.specs.declared.op.TabletOp.{TabletOp}
-use Rattle.pn_tablet.specs.declared.op.TabletOp.TheVariants.{Join}
+use Rattle.pn_tablet.specs.declared.state.TabletOp.{TabletOp}
+use Rattle.pn_tablet.specs.declared.state.TabletOp.TheVariants.{Join}
 
 -- the cells are the table of the images that spell them, as every tablet's are
 abbrev pub IsSpelled : Entries → Type 0

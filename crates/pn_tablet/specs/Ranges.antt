@@ -1,11 +1,23 @@
 -- Ranges of keys, from one end, inclusive, to another, exclusive. Without an end a range is open there.
 use Rattle.std.specs.Prelude.{ℕ, Bool, true, not, ◌&&◌, List, Option, Some, None}
 use Rattle.std.specs.Ordering.{is_lt}
+use Rattle.serde_json.specs.Data.{Data, null, string}
+use Rattle.pn_record.specs.Limits.{is_key}
 use Rattle.pn_record.specs.Order.{bytes_cmp}
 
 -- the ends of a range
 abbrev pub Ends : Type 0
 Ends = Option (List ℕ) × Option (List ℕ)
+
+-- an end of a range is a key, or open
+abbrev pub is_end : Option (List ℕ) → Bool
+is_end None = true
+is_end (Some key) = is_key key
+
+-- the JSON of an end: its key, or null where the range is open
+abbrev pub key_data : Option (List ℕ) → Data
+key_data None = null
+key_data (Some key) = string key
 
 -- one key is less than the other by its bytes
 abbrev pub is_below : List ℕ → List ℕ → Bool

@@ -37,12 +37,12 @@ HasNeed (Some spare) reach status = spare ≡ reach
 HasNeed None reach status = status ≡ Recovering reach
 
 -- a cover and a reach
-pub record ProgressValue : Type 0 where
+pub record CoverageValue : Type 0 where
   pub cover : Positions
   pub reach : Positions
 
 -- what holds of every tablet's cover and reach: the positions are those of messages, and the reach is nowhere less
-pub record IsProgress (cover reach : Positions) : Type 0 where
+pub record IsCoverage (cover reach : Positions) : Type 0 where
   pub positions : IsTrue (are_positions cover)
   pub reach_positions : IsTrue (are_positions reach)
   pub reached : Reaches reach cover

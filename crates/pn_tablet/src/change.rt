@@ -1,7 +1,7 @@
 //! The changes that a join makes to the cells of keys.
 
 ghost use Rattle.std.specs.Prelude.{◌≡◌, ◌≤◌, [], length, map, vec_capacity, IfOk};
-ghost use Rattle.pn_tablet.specs.Changes.{change_told, version_at};
+ghost use Rattle.pn_tablet.specs.Changes.{reported_change, version_at};
 
 use pn_join::{NoMemory, TableChange};
 use pn_record::{Cell, Key, Version};
@@ -15,18 +15,18 @@ pub struct Change {
     pub after: Version,
 }
 
-// An empty list with room for `count` changes.
-pub fn room_for(alloc: Global, count: usize) -> Result<Vec<Change>, NoMemory>
+// An empty list that takes `count` changes without growing.
+pub fn reserve_changes(alloc: Global, count: usize) -> Result<Vec<Change>, NoMemory>
     ensures { IfOk result (λ changes. (changes.items ≡ []) × (count ≤ vec_capacity changes)) }
 {
     Ok(Vec::with_capacity(alloc, count)?)
 }
 
-// Adds the changes that a join reports.
-pub fn add_told(changes: &mut Vec<Change>, told: Vec<TableChange<Key, Cell>>)
+// Adds the changes that a join reports, to an empty list.
+pub fn add_changes(changes: &mut Vec<Change>, told: Vec<TableChange<Key, Cell>>)
     requires none { changes.old.items ≡ [] }
-    requires room { length told.items ≤ vec_capacity changes.old }
-    ensures { changes.new.items ≡ map change_told told.items }
+    requires capacity { length told.items ≤ vec_capacity changes.old }
+    ensures { changes.new.items ≡ map reported_change told.items }
 {
     for change in told {
         changes.push_reserved(change_of(change));
@@ -34,7 +34,7 @@ pub fn add_told(changes: &mut Vec<Change>, told: Vec<TableChange<Key, Cell>>)
 }
 
 fn change_of(told: TableChange<Key, Cell>) -> Change
-    ensures { result ≡ change_told told }
+    ensures { result ≡ reported_change told }
 {
     let TableChange { key, before, after } = told;
     Change {

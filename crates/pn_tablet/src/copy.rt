@@ -1,10 +1,10 @@
 //! Copies of a tablet.
 
 ghost use Rattle.std.specs.Prelude.{◌≡◌};
-ghost use Rattle.pn_tablet.specs.Copying.{copy_of, copy_short, is_memory};
+ghost use Rattle.pn_tablet.specs.Copying.{copy_of, copy_shortfall, is_memory};
 ghost use Rattle.pn_tablet.specs.Refusals.{Answers};
 
-use crate::needs::{Short, first_short};
+use crate::fault::{Shortfall, first_shortfall};
 use crate::{CopyFault, Range, Status, TabletState};
 use pn_join::{Dup, Marks};
 use pn_record::Records;
@@ -45,7 +45,7 @@ impl TabletState {
         if let Status::Recovering { .. } = self.status() {
             return Err(CopyFault::Recovering);
         }
-        if let Some(short) = self.copy_short(need) {
+        if let Some(short) = self.copy_shortfall(need) {
             return Err(CopyFault::Behind {
                 stream: short.stream,
                 has: short.has,
@@ -60,12 +60,12 @@ impl TabletState {
     }
 
     // The first stream at which the cover falls short of the need, or else of the tablet's reach.
-    fn copy_short(&self, need: &Marks) -> Option<Short>
-        ensures { result ≡ copy_short self.now need.now }
+    fn copy_shortfall(&self, need: &Marks) -> Option<Shortfall>
+        ensures { result ≡ copy_shortfall self.now need.now }
     {
-        match first_short(self.cover(), need) {
+        match first_shortfall(self.cover(), need) {
             Some(short) => Some(short),
-            None => first_short(self.cover(), self.reach()),
+            None => first_shortfall(self.cover(), self.reach()),
         }
     }
 }

@@ -7,14 +7,14 @@ ghost use Rattle.std.specs.Ordering.{is_lt};
 ghost use Rattle.pn_join.specs.Prelude.{is_position, name_cmp};
 ghost use Rattle.pn_record.specs.Prelude.{spell, table_of};
 ghost use Rattle.pn_tablet.specs.CopyFaults.{is_memory};
-ghost use Rattle.pn_tablet.specs.CopyReading.{with_mark, with_image, ended};
+ghost use Rattle.pn_tablet.specs.CopyReading.{with_mark, with_image, finish};
 ghost use Rattle.pn_tablet.specs.CopyTexts.{comes_after};
-ghost use Rattle.pn_tablet.specs.Drafts.{begun, with_last};
+ghost use Rattle.pn_tablet.specs.Drafts.{empty_draft, with_last};
 ghost use Rattle.pn_tablet.specs.Refusals.{Answers};
 
 use crate::{CopyTextFault, Range, TabletCopy};
 use pn_join::{Marks, NoMemory, StreamName, raise_at};
-use pn_record::{Image, Records, take_image};
+use pn_record::{Image, Records, add_image};
 use std::alloc::Global;
 use std::cmp::Ordering;
 use std::marker::Model;
@@ -45,7 +45,7 @@ impl Model for CopyDraft {
 impl CopyDraft {
     /// A copy of which only the head was read.
     pub(crate) fn new(alloc: Global, range: Range) -> CopyDraft
-        ensures { result ≡ begun range }
+        ensures { result ≡ empty_draft range }
     {
         CopyDraft {
             range,
@@ -96,14 +96,14 @@ impl CopyDraft {
     }
 
     /// The whole copy, where line `number` is its end with the right count and nothing follows it.
-    pub(crate) fn ended(
+    pub(crate) fn finish(
         mut self,
         number: u64,
         count: u64,
         is_over: bool,
     ) -> Result<TabletCopy, CopyTextFault>
         requires { 2 ≤ number }
-        ensures { Answers is_memory result (ended number self count is_over) }
+        ensures { Answers is_memory result (finish number self count is_over) }
     {
         if count != number - 2 || !is_over {
             return Err(CopyTextFault::BadEnd);
@@ -145,7 +145,7 @@ fn settle(alloc: Global, cells: &mut Records, last: Option<Image>) -> Result<(),
     ensures { OnOk result (cells.new ≡ with_last cells.old last) }
 {
     match last {
-        Some(image) => take_image(alloc, cells, image),
+        Some(image) => add_image(alloc, cells, image),
         None => Ok(()),
     }
 }

@@ -6,7 +6,7 @@ ghost use Rattle.pn_tablet.specs.Copies.{TabletCopyValue};
 ghost use Rattle.pn_tablet.specs.CopyFaults.{IsCutOff, HasBadLine, LeavesRange, HasFall, HasBadEnd};
 ghost use Rattle.pn_tablet.specs.CopyReading.{copy_at};
 ghost use Rattle.pn_tablet.specs.CopyTexts.{IsCopyText};
-ghost use Rattle.pn_tablet.specs.declared.copy_fault.CopyTextFault.TheVariants.{Truncated, BadLine, OutsideRange, NotRising, BadEnd, Memory};
+ghost use Rattle.pn_tablet.specs.declared.fault.CopyTextFault.TheVariants.{Truncated, BadLine, OutsideRange, NotRising, BadEnd, Memory};
 
 /// A text is read as a copy exactly where it spells it.
 pub fn a_copy_is_read_where_it_is_spelled()

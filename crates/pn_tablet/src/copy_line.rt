@@ -1,18 +1,17 @@
 //! The lines of a copy's text, read one by one.
 
-ghost use Rattle.std.specs.Prelude.{◌≡◌, IfOk, IsTrue};
+ghost use Rattle.std.specs.Prelude.{◌≡◌};
 ghost use Rattle.serde_json.specs.View.{view};
-ghost use Rattle.pn_json.specs.Prelude.{IsUnless, Shows, ShowsUnless, seen, member_as};
+ghost use Rattle.pn_json.specs.Prelude.{IsUnless, Shows, ShowsUnless, seen, member_as, seen_text};
 ghost use Rattle.pn_record.specs.Prelude.{value_at};
-ghost use Rattle.pn_tablet.specs.CopyLines.{is_end as in_end, is_range, seen_text};
-ghost use Rattle.pn_tablet.specs.CopyLineReading.{end_of as end_spelled, or_as, if_fits, head_in, mark_in, end_in, record_in, line_in, head_at, line_at};
+ghost use Rattle.pn_tablet.specs.CopyLines.{is_range};
+ghost use Rattle.pn_tablet.specs.CopyLineReading.{end_of as end_spelled, or_as, if_fits, head_in, mark_in, end_in, record_in, head_at, line_at};
 
 use crate::form::Form;
 use crate::{CopyTextFault, Range};
-use pn_join::{LAST_POSITION, Name, NoMemory, StreamName};
+use pn_join::{LAST_POSITION, Name, StreamName};
 use pn_json::{check_names, text_of, whole_number_of};
-use pn_record::limits::MAX_KEY_BYTES;
-use pn_record::{Image, ImageFault, Key, KeyFault, image_of, read_value};
+use pn_record::{Image, ImageFault, read_value, try_image_from};
 use serde_json::Value;
 use std::alloc::Global;
 
@@ -41,7 +40,7 @@ pub(crate) fn read_head(
 }
 
 /// The line after the head that is read, or the fault.
-#[tactic(auto, unfolding(crate::specs::CopyLineReading::line_at))]
+#[tactic(auto, unfolding(crate::specs::CopyLineReading::line_at, crate::specs::CopyLineReading::line_in))]
 pub(crate) fn read_line(
     alloc: Global,
     form: Form,
@@ -51,7 +50,13 @@ pub(crate) fn read_line(
     ensures { IsUnless CopyTextFault.Memory result (line_at form fault line.now) }
 {
     let value = read_json(alloc, line, fault)?;
-    line_of(alloc, form, &value, fault)
+    if value.get("at").is_some() {
+        mark_of(&value, fault)
+    } else if value.get("end").is_some() {
+        end_line_of(&value, fault)
+    } else {
+        record_of(alloc, form, value, fault)
+    }
 }
 
 // The JSON value of a line, or the fault.
@@ -107,52 +112,12 @@ fn range_of(
     ensures { IsUnless CopyTextFault.Memory result
         (if_fits (is_range (seen_text from.entry, seen_text to.entry)) fault (seen_text from.entry, seen_text to.entry)) }
 {
-    if !is_end(from) || !is_end(to) {
+    if !Range::is_end(from) || !Range::is_end(to) {
         return Err(fault);
     }
-    let from = key_of(alloc, from)?;
-    let to = key_of(alloc, to)?;
+    let from = Range::end_of(alloc, from)?;
+    let to = Range::end_of(alloc, to)?;
     Range::new(from, to).ok_or(fault)
-}
-
-fn is_end(text: Option<&str>) -> bool
-    ensures { result ≡ in_end (seen_text text.entry) }
-{
-    match text {
-        None => true,
-        Some(text) => !text.is_empty() && text.len() <= MAX_KEY_BYTES,
-    }
-}
-
-fn key_of(alloc: Global, text: Option<&str>) -> Result<Option<Key>, NoMemory>
-    requires { IsTrue (in_end (seen_text text)) }
-    ensures { IfOk result (λ key. key ≡ seen_text text.entry) }
-{
-    match text {
-        None => Ok(None),
-        Some(text) => match Key::of(alloc, text) {
-            Ok(key) => Ok(Some(key)),
-            Err(_) => Err(NoMemory),
-        },
-    }
-}
-
-#[tactic(auto, unfolding(crate::specs::CopyLineReading::line_in))]
-fn line_of(
-    alloc: Global,
-    form: Form,
-    value: &Value,
-    fault: CopyTextFault,
-) -> Result<CopyLine, CopyTextFault>
-    ensures { IsUnless CopyTextFault.Memory result (line_in form fault (view value.now)) }
-{
-    if value.get("at").is_some() {
-        mark_of(value, fault)
-    } else if value.get("end").is_some() {
-        end_line_of(value, fault)
-    } else {
-        record_of(alloc, form, value, fault)
-    }
 }
 
 #[tactic(auto, unfolding(crate::specs::CopyLineReading::mark_in))]
@@ -183,12 +148,12 @@ fn end_line_of(value: &Value, fault: CopyTextFault) -> Result<CopyLine, CopyText
 fn record_of(
     alloc: Global,
     form: Form,
-    value: &Value,
+    value: Value,
     fault: CopyTextFault,
 ) -> Result<CopyLine, CopyTextFault>
-    ensures { IsUnless CopyTextFault.Memory result (record_in form fault (view value.now)) }
+    ensures { IsUnless CopyTextFault.Memory result (record_in form fault (view value)) }
 {
-    match image_of(alloc, value) {
+    match try_image_from(alloc, value) {
         Ok(image) if form.may_hold(&image) => Ok(CopyLine::Record(image)),
         Ok(_) => Err(fault),
         Err(ImageFault::Memory) => Err(CopyTextFault::Memory),

@@ -1,21 +1,20 @@
 //! The lines of a copy, each written straight into the text.
 
 ghost use Rattle.std.specs.Prelude.{◌≡◌, ◌∷◌, [], ◌++◌, IfOk, OnOk, IsTrue};
-ghost use Rattle.std.specs.Option.{option_copied};
 ghost use Rattle.serde_json.specs.Data.{Data};
 ghost use Rattle.pn_join.specs.Prelude.{is_position};
-ghost use Rattle.pn_json.specs.Prelude.{Appends, member_tokens, value_tokens};
+ghost use Rattle.pn_json.specs.Prelude.{Appends, value_tokens};
 ghost use Rattle.pn_record.specs.Prelude.{is_image, image_data};
-ghost use Rattle.pn_tablet.specs.CopyLines.{key_data, is_end, head_data, mark_data, end_data, IsHead};
+ghost use Rattle.pn_tablet.specs.CopyLines.{head_data, mark_data, end_data, IsHead};
+ghost use Rattle.pn_tablet.specs.Ranges.{is_end, are_ends};
 ghost use Rattle.pn_tablet.specs.CopyWriting.{line_text, IsWritten, WritesValue, WritesLines};
-ghost use Rattle.pn_tablet.specs.Ranges.{are_ends};
 ghost use Rattle.pn_tablet.specs.declared.copy_line.CopyLine.TheVariants.{Mark, Record, End};
 
-use crate::Range;
 use crate::form::Form;
+use crate::{Range, write_end_member};
 use json::Writer;
 use pn_join::{NoMemory, StreamName};
-use pn_json::{write_null_member, write_number_member, write_text_member};
+use pn_json::{write_number_member, write_text_member};
 use pn_record::{Content, Key, Version, write_body, write_version};
 
 /// Writes the line of a copy's head.
@@ -83,21 +82,10 @@ fn put_head(line: &mut Writer, form: Form, range: &Range) -> Result<(), NoMemory
 {
     line.begin_object()?;
     write_number_member(line, "copy", form.number())?;
-    put_key(line, "from", range.from())?;
-    put_key(line, "to", range.to())?;
+    write_end_member(line, "from", range.from())?;
+    write_end_member(line, "to", range.to())?;
     line.end_object()?;
     Ok(())
-}
-
-// A member that is an end of a range.
-fn put_key(line: &mut Writer, name: &str, key: Option<&Key>) -> Result<(), NoMemory>
-    ensures value { OnOk result (Appends line.old line.new (member_tokens name.now (key_data (option_copied key.entry)))) }
-    ensures limits { OnOk result (IsTrue (is_end (option_copied key.entry))) }
-{
-    match key {
-        None => write_null_member(line, name),
-        Some(key) => write_text_member(line, name, key.as_str()),
-    }
 }
 
 fn put_mark(line: &mut Writer, name: &str, position: u64) -> Result<(), NoMemory>

@@ -16,7 +16,7 @@ use std::alloc::Global;
 
 /// The copy that a text spells, read in one pass. It takes the memory of the copy and of one line.
 ///
-/// The first faulty line decides: `BadLine` above 65,536 bytes, out of place, out of its limits or with a number in
+/// The first faulty line decides: `BadLine` above 65,536 bytes, where it may not stand, out of its limits or with a number in
 /// form 1, `OutsideRange`, `NotRising`, `BadEnd`. `Truncated` where the text ends before, which `Memory` never
 /// replaces where it has no newline.
 pub fn read_copy(alloc: Global, text: &[u8]) -> Result<TabletCopy, CopyTextFault>
@@ -27,11 +27,11 @@ pub fn read_copy(alloc: Global, text: &[u8]) -> Result<TabletCopy, CopyTextFault
     ensures exact { IsUnless CopyTextFault.Memory result (copy_at text.now) }
     ensures no_line { IsUnbroken text.now → result ≡ Err CopyTextFault.Truncated }
 {
-    checked_copy(alloc, text)
+    read_text(alloc, text)
 }
 
 #[tactic(auto, unfolding(crate::specs::CopyReading::copy_at))]
-fn checked_copy(alloc: Global, text: &[u8]) -> Result<TabletCopy, CopyTextFault>
+fn read_text(alloc: Global, text: &[u8]) -> Result<TabletCopy, CopyTextFault>
     ensures exact { IsUnless CopyTextFault.Memory result (copy_at text.now) }
     ensures no_line { pieces_of text.now ≡ text.now ∷ [] → result ≡ Err CopyTextFault.Truncated }
 {
@@ -46,19 +46,19 @@ fn checked_copy(alloc: Global, text: &[u8]) -> Result<TabletCopy, CopyTextFault>
 fn read_lines(
     alloc: Global,
     form: Form,
-    begun: CopyDraft,
+    empty: CopyDraft,
     text: &[u8],
 ) -> Result<TabletCopy, CopyTextFault>
-    ensures { IsUnless CopyTextFault.Memory result (read_on form 2 begun (pieces_of text.now)) }
+    ensures { IsUnless CopyTextFault.Memory result (read_on form 2 empty (pieces_of text.now)) }
 {
-    let mut draft = begun;
+    let mut draft = empty;
     let mut rest = text;
     let mut number = 2;
     'lines: while let Some((line, after)) = cut_line(rest) {
         match read_line(alloc, form, line, CopyTextFault::BadLine(number))? {
             CopyLine::Mark(name, position) => draft = draft.with_mark(number, name, position)?,
             CopyLine::Record(image) => draft = draft.with_image(number, image)?,
-            CopyLine::End(count) => return draft.ended(number, count, after.is_empty()),
+            CopyLine::End(count) => return draft.finish(number, count, after.is_empty()),
         }
         rest = after;
         number += 1;

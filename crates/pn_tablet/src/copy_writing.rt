@@ -58,7 +58,7 @@ fn write_marks(text: Vec<u8>, marks: &Marks) -> Result<Vec<u8>, NoMemory>
 fn write_cells(text: Vec<u8>, cells: &Records) -> Result<(Vec<u8>, usize), NoMemory>
     ensures written { IfOk result (λ new. WritesLines text.items new.0.items (map Record (spell cells.now))) }
     ensures count { IfOk result (λ new. new.1 ≡ length (spell cells.now)) }
-    ensures room { IfOk result (λ new. length text.items + new.1 ≤ length new.0.items) }
+    ensures longer { IfOk result (λ new. length text.items + new.1 ≤ length new.0.items) }
     ensures table { IsTable bytes_cmp HasContents cells.now }
 {
     let mut text = text;

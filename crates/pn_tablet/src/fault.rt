@@ -1,10 +1,12 @@
-//! Why an operation or a copy was refused.
+//! Why an operation, a copy or the text of a copy was refused.
 
 ghost use Rattle.std.specs.Prelude.{◌≡◌};
+ghost use Rattle.pn_tablet.specs.Needs.{first_shortfall as the_first_shortfall};
 ghost use Rattle.pn_tablet.specs.declared.fault.OpFault.TheVariants.{Memory as no_memory};
 ghost use Rattle.pn_tablet.specs.declared.fault.CopyFault.TheVariants.{Memory as no_memory_to_copy};
+ghost use Rattle.pn_tablet.specs.declared.fault.CopyTextFault.TheVariants.{Memory as no_memory_to_read};
 
-use pn_join::{NoMemory, StreamName};
+use pn_join::{Marks, NoMemory, StreamName};
 use thiserror::Error;
 
 /// Why an operation was refused. The tablet stays as it was.
@@ -23,6 +25,22 @@ pub enum OpFault {
     },
     #[error("out of memory")]
     Memory,
+}
+
+impl From<NoMemory> for OpFault {
+    ghost from_gives = { λ _ fault. fault ≡ no_memory };
+
+    fn from(_error: NoMemory) -> OpFault {
+        OpFault::Memory
+    }
+}
+
+/// A stream at which marks fall short of a need: the position that they have, 0 for none, and the one wanted.
+#[derive(Drop)]
+pub struct Shortfall {
+    pub stream: StreamName,
+    pub has: u64,
+    pub wanted: u64,
 }
 
 /// Why no copy was made.
@@ -46,18 +64,53 @@ pub enum CopyFault {
     NoEntry,
 }
 
-impl From<NoMemory> for OpFault {
-    ghost from_gives = { λ _ fault. fault ≡ no_memory };
-
-    fn from(_error: NoMemory) -> OpFault {
-        OpFault::Memory
-    }
-}
-
 impl From<NoMemory> for CopyFault {
     ghost from_gives = { λ _ fault. fault ≡ no_memory_to_copy };
 
     fn from(_error: NoMemory) -> CopyFault {
         CopyFault::Memory
+    }
+}
+
+/// The first stream, in byte order, at which marks fall short of a need.
+pub fn first_shortfall(marks: &Marks, need: &Marks) -> Option<Shortfall>
+    ensures { result ≡ the_first_shortfall marks.now need.now }
+{
+    let index = marks.shortfall(need)?;
+    let (stream, wanted) = need.entry_at(index)?;
+    Some(Shortfall {
+        stream: *stream,
+        has: marks.position(stream),
+        wanted: wanted.0,
+    })
+}
+
+/// Why a text is no copy: its first fault. Lines are counted from 1.
+#[derive(Clone, Copy, Debug, PartialEq, Eq, Error)]
+pub enum CopyTextFault {
+    /// The text ends before the newline of its end line.
+    #[error("the text of the copy is truncated")]
+    Truncated,
+    /// The line is too long, may not stand where it does, or has a number in a copy of form 1.
+    #[error("line {0} of the copy is bad")]
+    BadLine(u64),
+    /// The key of the line's image is not in the range of the head.
+    #[error("line {0} of the copy is outside of its range")]
+    OutsideRange(u64),
+    /// The line's mark or image does not come after the one before it.
+    #[error("line {0} of the copy does not rise")]
+    NotRising(u64),
+    /// The end line's count is wrong, or something follows it.
+    #[error("the end of the copy is bad")]
+    BadEnd,
+    #[error("out of memory")]
+    Memory,
+}
+
+impl From<NoMemory> for CopyTextFault {
+    ghost from_gives = { λ _ fault. fault ≡ no_memory_to_read };
+
+    fn from(_error: NoMemory) -> CopyTextFault {
+        CopyTextFault::Memory
     }
 }

@@ -39,8 +39,7 @@ fn end_before(to: Option<&Key>, cells: &Records) -> bool
 pub fn cells_within(range: &Range, cells: &Records) -> Result<Records, NoMemory>
     ensures { IfOk result (λ part. part ≡ filter (λ entry. in_range range.now entry.0) cells.now) }
 {
-    // A call on the cells tells the checker that their keys rise.
-    let _ = cells.len();
+    cells.recall_order();
     let from = count_below(range.from(), cells);
     let to = count_before(range.to(), cells);
     cells.slice(from, to)

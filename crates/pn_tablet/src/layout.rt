@@ -11,7 +11,7 @@ use std::marker::Model;
 use thiserror::Error;
 
 /// The most bounds of a layout.
-const MAX_BOUNDS: usize = 63;
+pub const MAX_BOUNDS: usize = 63;
 
 /// Bounds that divide all keys into 1 to 64 tablets, each from the bound before it, inclusive, to the one after it,
 /// exclusive.
@@ -27,7 +27,7 @@ pub struct Layout {
 pub enum LayoutFault {
     #[error("a layout has at most 63 bounds")]
     TooMany,
-    /// The place of the first bound that is not greater than the one before it.
+    /// The index of the first bound that is not greater than the one before it.
     #[error("bound {0} is not greater than the one before it")]
     NotRising(usize),
 }
@@ -43,7 +43,7 @@ impl Model for Layout {
 }
 
 impl Layout {
-    /// `TooMany` above 63 bounds; otherwise `NotRising` with the place, from 0, of the first bound that is not
+    /// `TooMany` above 63 bounds; otherwise `NotRising` with the index, from 0, of the first bound that is not
     /// greater than the one before it.
     pub fn new(bounds: Vec<Key>) -> Result<Layout, LayoutFault>
         ensures { result ≡ layout_of bounds.items }
@@ -52,7 +52,7 @@ impl Layout {
             return Err(LayoutFault::TooMany);
         }
         match first_fall(&bounds) {
-            Some(place) => Err(LayoutFault::NotRising(place)),
+            Some(index) => Err(LayoutFault::NotRising(index)),
             None => Ok(Layout { bounds }),
         }
     }
@@ -63,6 +63,13 @@ impl Layout {
         ensures lawful { IsLayout self.now }
     {
         self.bounds.len() + 1
+    }
+
+    /// Recalls for the prover that the bounds are at most 63, and rise.
+    pub fn recall_order(&self)
+        ensures { IsLayout self.now }
+    {
+        let _ = &self.bounds;
     }
 
     /// The tablet of the key: the number of bounds that are not greater.
@@ -90,9 +97,9 @@ impl Layout {
 fn first_fall(bounds: &[Key]) -> Option<usize>
     ensures { result ≡ first_fall bounds.now }
 {
-    for place in 1..bounds.len() {
-        if bounds[place - 1] >= bounds[place] {
-            return Some(place);
+    for index in 1..bounds.len() {
+        if bounds[index - 1] >= bounds[index] {
+            return Some(index);
         }
     }
     None

@@ -1,16 +1,20 @@
 //! Ranges of keys.
 
-ghost use Rattle.std.specs.Prelude.{◌≡◌, ◌&&◌, ◌↔◌, IsTrue, IsSome, IfSome, IfOk, option_map};
+ghost use Rattle.std.specs.Prelude.{◌≡◌, ◌&&◌, ◌↔◌, IsTrue, IsSome, IfSome, IfOk, OnOk, option_map};
 ghost use Rattle.std.specs.Option.{option_copied, option_eq};
 ghost use Rattle.std.specs.Str.{bytes_eq};
 ghost use Rattle.std.specs.Ordering.{eq_of_both, on};
 ghost use Rattle.std.specs.Cmp.{partial_equiv_from_equiv};
 ghost use Rattle.std.specs.Cmp.Rules.{comparing};
 ghost use Rattle.std.proofs.Common.{rules};
-ghost use Rattle.pn_tablet.specs.Ranges.{is_from, is_before, in_range, are_ends, meet};
+ghost use Rattle.pn_json.specs.Prelude.{Appends, member_tokens, seen_text};
+ghost use Rattle.pn_tablet.specs.Ranges.{is_from, is_before, in_range, are_ends, is_end, key_data, meet};
 
-use pn_join::{Dup, NoMemory};
+use json::Writer;
+use pn_join::{Dup, NoMemory, dup_optional};
+use pn_json::{write_null_member, write_text_member};
 use pn_record::Key;
+use std::alloc::Global;
 use std::marker::Model;
 
 /// The keys from `from`, inclusive, to `to`, exclusive. Without an end it is open there; of two ends the first is
@@ -52,9 +56,30 @@ impl Range {
         ensures { IfOk result (λ range. range ≡ (option_copied from.entry, option_copied to.entry)) }
     {
         Ok(Range {
-            from: dup_end(from)?,
-            to: dup_end(to)?,
+            from: dup_optional(from)?,
+            to: dup_optional(to)?,
         })
+    }
+
+    /// Whether an end may be made of the text, if there is one.
+    pub fn is_end(text: Option<&str>) -> bool
+        ensures { result ≡ is_end (seen_text text.entry) }
+    {
+        match text {
+            None => true,
+            Some(text) => Key::fits(text),
+        }
+    }
+
+    /// The end of a text, if there is one.
+    pub fn end_of(alloc: Global, text: Option<&str>) -> Result<Option<Key>, NoMemory>
+        requires { IsTrue (is_end (seen_text text)) }
+        ensures { IfOk result (λ key. key ≡ seen_text text.entry) }
+    {
+        match text {
+            None => Ok(None),
+            Some(text) => Ok(Some(Key::of_fitting(alloc, text)?)),
+        }
     }
 
     /// The least key of the range; none where it is open.
@@ -97,7 +122,8 @@ fn is_from(from: Option<&Key>, key: &Key) -> bool
     }
 }
 
-fn is_before(to: Option<&Key>, key: &Key) -> bool
+/// Whether the key is below the end, if there is one.
+pub fn is_before(to: Option<&Key>, key: &Key) -> bool
     ensures { result ≡ is_before (option_copied to.entry) key.now }
 {
     match to {
@@ -112,6 +138,17 @@ fn are_ends(from: Option<&Key>, to: Option<&Key>) -> bool
     match from {
         None => true,
         Some(from) => is_before(to, from),
+    }
+}
+
+/// Writes a member that is an end: its key, or null where there is none.
+pub fn write_end_member(writer: &mut Writer, name: &str, end: Option<&Key>) -> Result<(), NoMemory>
+    ensures value { OnOk result (Appends writer.old writer.new (member_tokens name.now (key_data (option_copied end.entry)))) }
+    ensures limits { OnOk result (IsTrue (is_end (option_copied end.entry))) }
+{
+    match end {
+        None => write_null_member(writer, name),
+        Some(key) => write_text_member(writer, name, key.as_str()),
     }
 }
 
@@ -138,14 +175,5 @@ impl Dup for Range {
         ensures { IfOk result (λ copy. copy ≡ self.now) }
     {
         Range::from_ends(self.from(), self.to())
-    }
-}
-
-fn dup_end(key: Option<&Key>) -> Result<Option<Key>, NoMemory>
-    ensures { IfOk result (λ copy. copy ≡ option_copied key.entry) }
-{
-    match key {
-        None => Ok(None),
-        Some(key) => Ok(Some(key.dup()?)),
     }
 }

@@ -1,22 +1,22 @@
 //! The state of a tablet, and the operations on it.
 
 ghost use Rattle.std.specs.Prelude.{◌≡◌, Ok, IsOk, IsTrue, IfOk, IfErr, OnOk, OnErr};
-ghost use Rattle.pn_join.specs.Prelude.{raised, are_positions};
+ghost use Rattle.pn_join.specs.Prelude.{raised_marks, are_positions};
 ghost use Rattle.pn_tablet.specs.Operations.{HasPositions};
 ghost use Rattle.pn_tablet.specs.Tablets.{empty_tablet};
-ghost use Rattle.pn_tablet.specs.Needs.{lacking as all_lacking};
+ghost use Rattle.pn_tablet.specs.Needs.{need_shortfall as shortfall_of_need};
 ghost use Rattle.pn_tablet.specs.Refusals.{Refuses};
-ghost use Rattle.pn_tablet.specs.Steps.{step, lost, is_memory};
+ghost use Rattle.pn_tablet.specs.Steps.{step, recovering_tablet, is_memory};
 ghost use Rattle.pn_tablet.specs.Changes.{answer, changes};
-ghost use Rattle.pn_tablet.specs.declared.op.TabletOp.TheVariants.{Join, Lose, Adopt};
+ghost use Rattle.pn_tablet.specs.declared.state.TabletOp.TheVariants.{Join, Lose, Adopt};
 
 mod parts;
 
-use crate::change::{add_told, room_for};
+use crate::change::{add_changes, reserve_changes};
+use crate::coverage::Coverage;
+use crate::fault::{Shortfall, first_shortfall};
 use crate::inside::lie_in;
-use crate::needs::{Short, first_short};
-use crate::progress::Progress;
-use crate::{Change, OpFault, Range, TabletCopy, TabletOp};
+use crate::{Change, OpFault, Range, TabletCopy};
 use pn_join::{Dup, Marks, NoMemory};
 use pn_record::{Records, join_and_tell, join_records};
 use std::alloc::Global;
@@ -29,13 +29,24 @@ pub enum Status {
     Recovering { need: Marks },
 }
 
+/// One event of a tablet.
+#[derive(Drop)]
+pub enum TabletOp {
+    /// Cells are joined into the tablet's, and the marks raise its cover and its reach, even while it recovers.
+    Join { cells: Records, marks: Marks },
+    /// The tablet loses its records. It then recovers, and needs a copy that reaches its reach.
+    Lose,
+    /// A copy of the tablet is joined in, and the tablet serves again.
+    Adopt(TabletCopy),
+}
+
 /// A tablet: a range of keys, the cells of its records, the positions up to which it took streams, and whether it
 /// serves.
 #[derive(Drop)]
 pub struct TabletState {
     range: Range,
     cells: Records,
-    progress: Progress,
+    coverage: Coverage,
     status: Status,
     spare: Option<Marks>,
     alloc: Global,
@@ -52,9 +63,9 @@ impl Model for TabletState {
 
     ghost use Rattle.pn_tablet.specs.Tablets.{IsTablet};
 
-    ghost view = { λ state. record { range = state.range; cells = state.cells; cover = state.progress.cover; reach = state.progress.reach; status = state.status } };
+    ghost view = { λ state. record { range = state.range; cells = state.cells; cover = state.coverage.cover; reach = state.coverage.reach; status = state.status } };
 
-    ghost invariant = { λ state. IsTablet state.range state.cells state.progress.reach state.status state.spare };
+    ghost invariant = { λ state. IsTablet state.range state.cells state.coverage.reach state.status state.spare };
 }
 
 impl TabletState {
@@ -65,7 +76,7 @@ impl TabletState {
         TabletState {
             range,
             cells: Records::new(alloc),
-            progress: Progress::new(alloc),
+            coverage: Coverage::new(alloc),
             status: Status::Serving,
             spare: Some(Marks::new(alloc)),
             alloc,
@@ -112,20 +123,19 @@ impl TabletState {
         if !lie_in(&self.range, cells) {
             return Err(OpFault::WrongRange);
         }
-        let mut changes = room_for(self.alloc, cells.len())?;
-        let (progress, spare) = raised_by(&self.progress, marks)?;
+        let mut changes = reserve_changes(self.alloc, cells.len())?;
+        let (coverage, spare) = raise_coverage(&self.coverage, marks)?;
         let told = join_and_tell(&mut self.cells, cells)?;
-        add_told(&mut changes, told);
-        self.progress = progress;
+        add_changes(&mut changes, told);
+        self.coverage = coverage;
         self.spare = Some(spare);
         Ok(changes)
     }
 
     fn lose(&mut self)
-        ensures { self.new ≡ lost self.old }
+        ensures { self.new ≡ recovering_tablet self.old }
     {
-        // A call on the progress tells the checker that its positions are those of messages.
-        let _ = self.progress.reach();
+        self.coverage.recall_positions();
         self.cells = Records::new(self.alloc);
         if let Some(need) = self.spare.take() {
             self.status = Status::Recovering { need };
@@ -140,38 +150,38 @@ impl TabletState {
         if self.range != copy.range {
             return Err(OpFault::WrongRange);
         }
-        if let Some(short) = self.lacking(&copy.marks) {
+        if let Some(short) = self.need_shortfall(&copy.marks) {
             return Err(OpFault::TooOld {
                 stream: short.stream,
                 has: short.has,
                 needs: short.wanted,
             });
         }
-        let (progress, spare) = raised_by(&self.progress, &copy.marks)?;
+        let (coverage, spare) = raise_coverage(&self.coverage, &copy.marks)?;
         join_records(&mut self.cells, &copy.cells)?;
-        self.progress = progress;
+        self.coverage = coverage;
         self.spare = Some(spare);
         self.status = Status::Serving;
         Ok(())
     }
 
-    // The first stream at which the marks fall short of the tablet's need.
-    fn lacking(&self, marks: &Marks) -> Option<Short>
-        ensures { result ≡ all_lacking self.now.status marks.now }
+    /// The first stream, in byte order, at which the marks fall short of what the tablet needs; none while it serves.
+    pub fn need_shortfall(&self, marks: &Marks) -> Option<Shortfall>
+        ensures { result ≡ shortfall_of_need self.now.status marks.now }
     {
         match &self.status {
             Status::Serving => None,
-            Status::Recovering { need } => first_short(marks, need),
+            Status::Recovering { need } => first_shortfall(marks, need),
         }
     }
 }
 
-// The progress raised by the marks, and a copy of its reach, which a later loss takes as the need.
-fn raised_by(progress: &Progress, marks: &Marks) -> Result<(Progress, Marks), NoMemory>
+// The coverage raised by the marks, and a copy of its reach, which a later loss takes as the need.
+fn raise_coverage(coverage: &Coverage, marks: &Marks) -> Result<(Coverage, Marks), NoMemory>
     requires { IsTrue (are_positions marks.now) }
-    ensures { IfOk result (λ both. (both.0.cover ≡ raised progress.now.cover marks.now) × ((both.0.reach ≡ raised progress.now.reach marks.now) × (both.1 ≡ both.0.reach))) }
+    ensures { IfOk result (λ both. (both.0.cover ≡ raised_marks coverage.now.cover marks.now) × ((both.0.reach ≡ raised_marks coverage.now.reach marks.now) × (both.1 ≡ both.0.reach))) }
 {
-    let higher = progress.raised_by(marks)?;
+    let higher = coverage.with_marks(marks)?;
     let spare = higher.reach().dup()?;
     Ok((higher, spare))
 }
@@ -184,9 +194,9 @@ impl Dup for TabletState {
         Ok(TabletState {
             range: self.range.dup()?,
             cells: self.cells.dup()?,
-            progress: self.progress.dup()?,
+            coverage: self.coverage.dup()?,
             status: self.status.dup()?,
-            spare: Some(self.progress.reach().dup()?),
+            spare: Some(self.coverage.reach().dup()?),
             alloc: self.alloc,
         })
     }

@@ -28,11 +28,11 @@ pub(crate) fn slice(alloc: Global, text: &str) -> Result<String, Fail> {
 }
 
 // A table cut at an index, and put together again.
-fn cut_at(table: &Counts, place: usize) -> Result<Counts, NoMemory> {
+fn cut_at(table: &Counts, index: usize) -> Result<Counts, NoMemory> {
     let count = table.len();
-    let place = place.min(count);
-    let front = table.slice(0, place)?;
-    front.followed_by(table, place, count)
+    let index = index.min(count);
+    let front = table.slice(0, index)?;
+    front.followed_by(table, index, count)
 }
 
 // How many leaves a table has.
@@ -47,10 +47,10 @@ pub(crate) fn cut(alloc: Global, text: &str) -> Result<String, Fail> {
     let mut table = table(alloc, &mut words)?;
     let before = leaves(&table);
     for word in words {
-        let place = word.parse::<usize>()?;
-        table = match cut_at(&table, place) {
+        let index = word.parse::<usize>()?;
+        table = match cut_at(&table, index) {
             Ok(table) => table,
-            Err(NoMemory) => cut_at(&table, place)?,
+            Err(NoMemory) => cut_at(&table, index)?,
         };
     }
     let few = leaves(&table) <= before;

@@ -18,15 +18,15 @@ fn number(words: &mut Split<'_, char>) -> Result<u64, Fail> {
 pub(crate) fn table(alloc: Global, words: &mut Split<'_, char>) -> Result<Counts, Fail> {
     let (first, step) = (number(words)?, number(words)?);
     let mut table = Counts::new(alloc);
-    for place in 0..number(words)? {
-        let key = Highest(first.saturating_add(place.saturating_mul(step)));
+    for index in 0..number(words)? {
+        let key = Highest(first.saturating_add(index.saturating_mul(step)));
         table.join_entry(key, key)?;
     }
     Ok(table)
 }
 
-fn key_at(table: &Counts, place: usize) -> Option<u64> {
-    match table.entry_at(place) {
+fn key_at(table: &Counts, index: usize) -> Option<u64> {
+    match table.entry_at(index) {
         Some((key, _content)) => Some(key.0),
         None => None,
     }
@@ -36,8 +36,8 @@ fn key_at(table: &Counts, place: usize) -> Option<u64> {
 fn is_in_leaves(table: &Counts) -> bool {
     let leaves = table.leaves();
     let mut entries = table.iter();
-    for place in 0..leaves.count() {
-        let leaf = leaves.leaf(place).unwrap_or_default();
+    for index in 0..leaves.count() {
+        let leaf = leaves.leaf(index).unwrap_or_default();
         if leaf.is_empty() || leaf.len() > 64 {
             return false;
         }

@@ -4,7 +4,7 @@
 #![tactic(auto)]
 
 ghost use Rattle.std.specs.Prelude.{◌≡◌, ◌≤◌, All, IfOk, IfSome};
-ghost use Rattle.pn_live.specs.Limits.{max_readers};
+ghost use Rattle.pn_live.specs.Prelude.{MAX_READERS};
 ghost use Rattle.pn_live.specs.LiveRegions.{IsReaderIn};
 ghost use Rattle.pn_live.specs.Readers.{tablets_of};
 
@@ -18,20 +18,20 @@ use std::alloc::Global;
 use std::sync::Wait;
 
 /// Opens a live region, whose readers read its tablets.
-pub fn opened<R: Wait>(
+pub fn open<R: Wait>(
     rt: &R,
     alloc: Global,
     layout: Layout,
     readers: usize,
 ) -> Result<(LiveRegion, Vec<LiveReader>), OpenFault>
-    requires { (1 ≤ readers) × (readers ≤ max_readers) }
+    requires { (1 ≤ readers) × (readers ≤ MAX_READERS) }
     ensures { IfOk result (λ opened. All (IsReaderIn opened.0) opened.1.items) }
 {
     LiveRegion::open(rt, alloc, layout, readers)
 }
 
 /// Closes a live region, whose readers are handed back.
-pub fn closed<R: Wait>(
+pub fn close<R: Wait>(
     rt: &R,
     live: LiveRegion,
     readers: Vec<LiveReader>,
@@ -45,7 +45,7 @@ pub fn closed<R: Wait>(
 pub fn open_one<R: Wait>(rt: &R, alloc: Global, layout: Layout) -> Option<(LiveRegion, LiveReader)>
     ensures { IfSome result (λ opened. IsReaderIn opened.0 opened.1) }
 {
-    let (live, mut readers) = opened(rt, alloc, layout, 1).ok()?;
+    let (live, mut readers) = open(rt, alloc, layout, 1).ok()?;
     let Some(reader) = take_out(&live, &mut readers) else {
         end(rt, alloc, live);
         return None;
@@ -55,11 +55,11 @@ pub fn open_one<R: Wait>(rt: &R, alloc: Global, layout: Layout) -> Option<(LiveR
 
 /// Closes a live region whose readers are not looked at. Whether it closed.
 pub fn end<R: Wait>(rt: &R, alloc: Global, live: LiveRegion) -> bool {
-    closed(rt, live, Vec::new(alloc)).is_ok()
+    close(rt, live, Vec::new(alloc)).is_ok()
 }
 
 /// The version in which a reader finds a key, and how many contents it has; none where there is no record.
-pub fn found(reader: &mut LiveReader, key: &Key) -> Result<Option<(Version, usize)>, ScanFault>
+pub fn find(reader: &mut LiveReader, key: &Key) -> Result<Option<(Version, usize)>, ScanFault>
     ensures { tablets_of reader.new ≡ tablets_of reader.old }
 {
     let cell = reader.read(key, None)?;

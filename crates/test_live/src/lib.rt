@@ -3,6 +3,8 @@
 #![tactic(auto)]
 
 #[cfg(test)]
+mod holding;
+#[cfg(test)]
 mod meeting;
 #[cfg(test)]
 mod memory;
@@ -12,5 +14,3 @@ mod race;
 mod recovery;
 #[cfg(test)]
 mod rows;
-#[cfg(test)]
-mod served;

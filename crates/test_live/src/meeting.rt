@@ -1,8 +1,11 @@
-//! Two workers of a round that meet, in a plain region and in a live one.
+//! Workers of a round that meet, in a plain region and in a live one: two, three and sixteen.
+
+ghost use Rattle.std.specs.Prelude.{◌≤◌};
+ghost use Rattle.pn_apply.specs.Prelude.{MAX_WORKERS};
 
 use pn_apply::Gate;
 use pn_live::LiveRegion;
-use pn_region::{Region, Round, RoundFault};
+use pn_region::Region;
 use std::alloc::Global;
 use std::sync::Wait;
 use std::sync::atomic::{AtomicBool, AtomicU64, Ordering};
@@ -11,21 +14,55 @@ use std::thread::Threads;
 use test_kit::{deliveries, layout};
 use test_kit_live::{end, open_one};
 
-/// How often a worker looks whether the other has come.
+/// How often a worker looks whether the others have come.
 const MAX_TURNS: u64 = 1_000_000;
 
-/// Holds a worker up until the other of two tablets was entered as often.
+/// Tablets of which each gets a worker: the bounds between them, and a key of each.
+#[derive(Clone, Copy)]
+struct Tablets {
+    count: usize,
+    bounds: &'static str,
+    keys: &'static str,
+    ghost few: { (1 ≤ count) × (count ≤ MAX_WORKERS) },
+}
+
+const TWO: Tablets = Tablets {
+    count: 2,
+    bounds: "m",
+    keys: "l m",
+};
+
+const THREE: Tablets = Tablets {
+    count: 3,
+    bounds: "m t",
+    keys: "l m t",
+};
+
+const SIXTEEN: Tablets = Tablets {
+    count: 16,
+    bounds: "b c d e f g h i j k l m n o p",
+    keys: "a b c d e f g h i j k l m n o p",
+};
+
+/// Holds each worker up until all tablets were entered as often as its own.
 #[derive(Drop)]
 struct Meeting {
-    entered: [AtomicU64; 2],
+    entered: Vec<AtomicU64>,
     missed: AtomicBool,
 }
 
 impl Gate for Meeting {
     fn enter(&self, tablet: usize) {
-        let mine = self.entered[tablet % 2].fetch_add(1, Ordering::SeqCst);
+        let Some(own) = self.entered.get(tablet) else {
+            return;
+        };
+        let before = own.fetch_add(1, Ordering::SeqCst);
         for _ in 0..MAX_TURNS {
-            if self.entered[1 - tablet % 2].load(Ordering::SeqCst) > mine {
+            if self
+                .entered
+                .iter()
+                .all(|count| count.load(Ordering::SeqCst) > before)
+            {
                 return;
             }
             thread::yield_now();
@@ -35,11 +72,15 @@ impl Gate for Meeting {
 }
 
 impl Meeting {
-    fn new() -> Meeting {
-        Meeting {
-            entered: [AtomicU64::new(0), AtomicU64::new(0)],
-            missed: AtomicBool::new(false),
+    fn new(alloc: Global, tablets: usize) -> Option<Meeting> {
+        let mut entered = Vec::with_capacity(alloc, tablets).ok()?;
+        for _ in 0..tablets {
+            entered.push(AtomicU64::new(0)).ok()?;
         }
+        Some(Meeting {
+            entered,
+            missed: AtomicBool::new(false),
+        })
     }
 
     // Whether the workers met in both steps of a round: where images are joined, and where tablets take them.
@@ -52,48 +93,61 @@ impl Meeting {
     }
 }
 
-// How many records a round of two tablets changes, with a worker for each.
-fn plain<R: Threads + Sync>(rt: &R, alloc: Global, gate: &Meeting) -> Option<u64> {
-    let mut region = Region::new(alloc, layout(alloc, "m")?).ok()?;
-    match deliveries(alloc, 1, "l m", 0) {
-        Some(given) => changed(region.round(rt, given, 2, gate)),
-        None => None,
-    }
+// How many records a round changes where each tablet has a worker, and whether they met.
+fn meet<R: Threads + Sync>(rt: &R, alloc: Global, tablets: Tablets) -> Option<(u64, bool)> {
+    let gate = Meeting::new(alloc, tablets.count)?;
+    let mut region = Region::new(alloc, layout(alloc, tablets.bounds)?).ok()?;
+    let given = deliveries(alloc, 1, tablets.keys, 0)?;
+    let round = region.round(rt, given, tablets.count, &gate).ok()?;
+    Some((round.changed, gate.met_twice()))
 }
 
-fn changed(round: Result<Round, RoundFault>) -> Option<u64> {
-    let round = round.ok()?;
-    Some(round.changed)
-}
-
-fn live<R: Threads + Wait + Sync>(
+fn take<R: Threads + Wait + Sync>(
     rt: &R,
     alloc: Global,
     live: &mut LiveRegion,
+    tablets: Tablets,
     gate: &Meeting,
 ) -> Option<u64> {
-    let given = deliveries(alloc, 1, "l m", 0)?;
-    let (round, _front) = live.round(rt, given, 2, gate).ok()?;
+    let given = deliveries(alloc, 1, tablets.keys, 0)?;
+    let (round, _front) = live.round(rt, given, tablets.count, gate).ok()?;
     Some(round.changed)
+}
+
+// The same in a live region.
+fn meet_live<R: Threads + Wait + Sync>(
+    rt: &R,
+    alloc: Global,
+    tablets: Tablets,
+) -> Option<(u64, bool)> {
+    let gate = Meeting::new(alloc, tablets.count)?;
+    let (mut live, _reader) = open_one(rt, alloc, layout(alloc, tablets.bounds)?)?;
+    let changed = take(rt, alloc, &mut live, tablets, &gate);
+    end(rt, alloc, live);
+    Some((changed?, gate.met_twice()))
 }
 
 #[test]
 fn two_workers_meet(rt: HostRuntime) {
-    let gate = Meeting::new();
-    assert_eq!(rt; plain(&rt, rt.alloc(), &gate), Some(2));
-    assert!(rt; gate.met_twice());
+    assert_eq!(rt; meet(&rt, rt.alloc(), TWO), Some((2, true)));
 }
 
-fn met_live<R: Threads + Wait + Sync>(rt: &R, alloc: Global, gate: &Meeting) -> Option<u64> {
-    let (mut region, _reader) = open_one(rt, alloc, layout(alloc, "m")?)?;
-    let changed = live(rt, alloc, &mut region, gate);
-    end(rt, alloc, region);
-    changed
+#[test]
+fn three_workers_meet(rt: HostRuntime) {
+    assert_eq!(rt; meet(&rt, rt.alloc(), THREE), Some((3, true)));
+}
+
+#[test]
+fn sixteen_workers_meet(rt: HostRuntime) {
+    assert_eq!(rt; meet(&rt, rt.alloc(), SIXTEEN), Some((16, true)));
 }
 
 #[test]
 fn two_workers_meet_in_a_live_region(rt: HostRuntime) {
-    let gate = Meeting::new();
-    assert_eq!(rt; met_live(&rt, rt.alloc(), &gate), Some(2));
-    assert!(rt; gate.met_twice());
+    assert_eq!(rt; meet_live(&rt, rt.alloc(), TWO), Some((2, true)));
+}
+
+#[test]
+fn three_workers_meet_in_a_live_region(rt: HostRuntime) {
+    assert_eq!(rt; meet_live(&rt, rt.alloc(), THREE), Some((3, true)));
 }

@@ -11,7 +11,7 @@ use std::alloc::Global;
 use std::sync::Wait;
 use std::thread::Threads;
 use test_kit::{deliveries, keys, layout};
-use test_kit_live::{end, found, open_one};
+use test_kit_live::{end, find, open_one};
 
 /// A key of each tablet, and the bounds between them.
 const KEYS: &str = "a n z";
@@ -46,7 +46,7 @@ fn take<R: Threads + Wait + Sync>(
 fn is_read(alloc: Global, reader: &mut LiveReader, number: u64) -> bool {
     let keys = keys(alloc, KEYS).unwrap_or(Vec::new(alloc));
     for key in &keys {
-        match found(reader, key) {
+        match find(reader, key) {
             Ok(Some((version, 1))) if version.number == number => {}
             _ => return false,
         }
@@ -132,7 +132,7 @@ fn adopt<R: Wait>(rt: &R, live: &mut LiveRegion, copy: Option<TabletCopy>) -> bo
 }
 
 // A round, a loss, an adoption, and a round after them.
-fn lives<R: Threads + Wait + Sync>(
+fn go_through<R: Threads + Wait + Sync>(
     rt: &R,
     alloc: Global,
     live: &mut LiveRegion,
@@ -154,7 +154,7 @@ fn life<R: Threads + Wait + Sync>(rt: &R, alloc: Global) -> End {
     let Some((mut live, mut reader)) = begin(rt, alloc) else {
         return End::Again;
     };
-    let lived = lives(rt, alloc, &mut live, &mut reader);
+    let lived = go_through(rt, alloc, &mut live, &mut reader);
     match (lived, end(rt, alloc, live)) {
         (false, _) => End::Badly,
         (true, false) => End::Again,

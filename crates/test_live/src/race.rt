@@ -10,7 +10,7 @@ use std::alloc::Global;
 use std::sync::Wait;
 use std::thread::{Threads, join_mut};
 use test_kit::{deliveries, layout};
-use test_kit_live::{end, found, open_one};
+use test_kit_live::{end, find, open_one};
 
 /// How often the reader reads, and how many rounds the writer takes before it looks up, twice.
 const READS: u64 = 5_000;
@@ -29,7 +29,7 @@ struct Work {
 fn read_on(reader: &mut LiveReader, key: &Key) -> bool {
     let mut last = 0;
     for pass in 0..READS {
-        let number = match found(reader, key) {
+        let number = match find(reader, key) {
             Ok(Some((version, 1))) => version.number,
             Ok(None) if last == 0 => 0,
             Err(ScanFault::Recovering(_)) => last,
@@ -91,7 +91,7 @@ fn recover<R: Threads + Wait + Sync>(
 }
 
 // Whether the reader finds no fall and the writer is refused nothing, each in a thread of its own.
-fn beside<R: Threads + Wait + Sync>(
+fn run_beside<R: Threads + Wait + Sync>(
     rt: &R,
     live: &mut LiveRegion,
     reader: &mut LiveReader,
@@ -107,7 +107,7 @@ fn beside<R: Threads + Wait + Sync>(
 }
 
 // A race without a loss. Whether it went well.
-fn stays<R: Threads + Wait + Sync>(
+fn race_rounds<R: Threads + Wait + Sync>(
     rt: &R,
     alloc: Global,
     live: &mut LiveRegion,
@@ -119,11 +119,11 @@ fn stays<R: Threads + Wait + Sync>(
         first: 1,
         copy: None,
     };
-    beside(rt, live, reader, &mut rounds, key)
+    run_beside(rt, live, reader, &mut rounds, key)
 }
 
 // A race with a loss, and an adoption of a copy from before. Whether it went well.
-fn recovers<R: Threads + Wait + Sync>(
+fn race_recovery<R: Threads + Wait + Sync>(
     rt: &R,
     alloc: Global,
     live: &mut LiveRegion,
@@ -135,12 +135,12 @@ fn recovers<R: Threads + Wait + Sync>(
         first: 201,
         copy: reader.copy(0, &Marks::new(alloc)).ok(),
     };
-    recovery.copy.is_some() && beside(rt, live, reader, &mut recovery, key)
+    recovery.copy.is_some() && run_beside(rt, live, reader, &mut recovery, key)
 }
 
 // The number that the reader finds, where it finds one.
 fn number(reader: &mut LiveReader, key: &Key) -> Option<u64> {
-    let (version, _) = found(reader, key).ok()??;
+    let (version, _) = find(reader, key).ok()??;
     Some(version.number)
 }
 
@@ -152,8 +152,8 @@ fn race<R: Threads + Wait + Sync>(
     reader: &mut LiveReader,
 ) -> Option<u64> {
     let key = Key::of(alloc, "k").ok()?;
-    let went_well = stays(rt, alloc, live, reader, &key)
-        && recovers(rt, alloc, live, reader, &key)
+    let went_well = race_rounds(rt, alloc, live, reader, &key)
+        && race_recovery(rt, alloc, live, reader, &key)
         && take_round(rt, alloc, live, 401).is_some();
     if went_well {
         number(reader, &key)
@@ -162,7 +162,7 @@ fn race<R: Threads + Wait + Sync>(
     }
 }
 
-fn raced<R: Threads + Wait + Sync>(rt: &R, alloc: Global) -> Option<u64> {
+fn run_race<R: Threads + Wait + Sync>(rt: &R, alloc: Global) -> Option<u64> {
     let (mut live, mut reader) = open_one(rt, alloc, layout(alloc, "")?)?;
     let last = race(rt, alloc, &mut live, &mut reader);
     end(rt, alloc, live);
@@ -171,5 +171,5 @@ fn raced<R: Threads + Wait + Sync>(rt: &R, alloc: Global) -> Option<u64> {
 
 #[test]
 fn no_version_falls_and_no_round_is_missed(rt: HostRuntime) {
-    assert_eq!(rt; raced(&rt, rt.alloc()), Some(401));
+    assert_eq!(rt; run_race(&rt, rt.alloc()), Some(401));
 }

@@ -195,7 +195,7 @@ fn first_wrong<R: Threads + Wait + Sync>(
     Some(String::new(alloc))
 }
 
-fn recovered<R: Threads + Wait + Sync>(rt: &R, alloc: Global) -> Option<String> {
+fn run_recovery<R: Threads + Wait + Sync>(rt: &R, alloc: Global) -> Option<String> {
     let (mut live, mut reader) = open_one(rt, alloc, layout(alloc, "")?)?;
     let wrong = first_wrong(rt, alloc, &mut live, &mut reader);
     end(rt, alloc, live);
@@ -204,6 +204,6 @@ fn recovered<R: Threads + Wait + Sync>(rt: &R, alloc: Global) -> Option<String> 
 
 #[test]
 fn a_recovery_keeps_what_arrived_meanwhile(rt: HostRuntime) {
-    let wrong = recovered(&rt, rt.alloc());
+    let wrong = run_recovery(&rt, rt.alloc());
     assert_eq!(rt; wrong.as_ref().map(|text| text.as_str()), Some(""));
 }

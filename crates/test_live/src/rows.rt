@@ -14,7 +14,7 @@ use std::alloc::Global;
 use std::sync::Wait;
 use std::thread::{Threads, join_mut};
 use test_kit::{deliveries, layout};
-use test_kit_live::{closed, found, hand_back, opened, take_out};
+use test_kit_live::{close, find, hand_back, open, take_out};
 
 /// The number of the last round, and the most readers that there may be.
 const LAST: u64 = 50;
@@ -37,7 +37,7 @@ impl Learner {
         if let Some(front) = self.front.take() {
             self.reader.learn(front);
         }
-        match found(&mut self.reader, key) {
+        match find(&mut self.reader, key) {
             Ok(Some((version, 1))) => Some(version.number),
             Ok(None) => Some(0),
             _ => None,
@@ -117,7 +117,7 @@ fn rounds_beside<R: Threads + Wait + Sync>(
 }
 
 // Takes one of these readers for it.
-fn learns<R: Threads + Wait + Sync>(
+fn take_learner<R: Threads + Wait + Sync>(
     rt: &R,
     alloc: Global,
     live: &mut LiveRegion,
@@ -143,17 +143,17 @@ fn number_in(alloc: Global, region: &Region) -> Option<u64> {
     Some(cell.version().number)
 }
 
-fn open_all<R: Wait>(rt: &R, alloc: Global) -> Option<(LiveRegion, Vec<LiveReader>)>
+fn open_region<R: Wait>(rt: &R, alloc: Global) -> Option<(LiveRegion, Vec<LiveReader>)>
     ensures { IfSome result (λ opened. All (IsReaderIn opened.0) opened.1.items) }
 {
-    opened(rt, alloc, layout(alloc, "")?, READERS).ok()
+    open(rt, alloc, layout(alloc, "")?, READERS).ok()
 }
 
 // The number of the key's version in the region that is closed at the end, with all its readers, and laid out anew.
-fn learnt<R: Threads + Wait + Sync>(rt: &R, alloc: Global) -> Option<u64> {
-    let (mut live, mut readers) = open_all(rt, alloc)?;
-    let went_well = learns(rt, alloc, &mut live, &mut readers);
-    let mut region = closed(rt, live, readers).ok()?;
+fn run_learner<R: Threads + Wait + Sync>(rt: &R, alloc: Global) -> Option<u64> {
+    let (mut live, mut readers) = open_region(rt, alloc)?;
+    let went_well = take_learner(rt, alloc, &mut live, &mut readers);
+    let mut region = close(rt, live, readers).ok()?;
     region.relayout(layout(alloc, "m")?).ok()?;
     if went_well {
         number_in(alloc, &region)
@@ -164,5 +164,5 @@ fn learnt<R: Threads + Wait + Sync>(rt: &R, alloc: Global) -> Option<u64> {
 
 #[test]
 fn a_front_is_found_while_the_next_round_is_published(rt: HostRuntime) {
-    assert_eq!(rt; learnt(&rt, rt.alloc()), Some(LAST));
+    assert_eq!(rt; run_learner(&rt, rt.alloc()), Some(LAST));
 }

@@ -8,7 +8,11 @@ use std::thread::Threads;
 use test_kit::{deliveries, layout};
 
 /// The keys of each tablet of these bounds, and why they are not changed back where one was lost.
-pub(crate) fn relaid<R: Threads + Sync>(rt: &R, alloc: Global, bounds: &str) -> Option<String> {
+pub(crate) fn keys_after_relayout<R: Threads + Sync>(
+    rt: &R,
+    alloc: Global,
+    bounds: &str,
+) -> Option<String> {
     let mut region = Region::new(alloc, layout(alloc, BOUNDS)?).ok()?;
     let given = deliveries(alloc, 1, KEYS, 0)?;
     region.round(rt, given, 1, &Open).ok()?;

@@ -8,14 +8,14 @@ mod counting;
 mod layouts;
 mod work;
 
-use layouts::relaid;
+use layouts::keys_after_relayout;
 use pn_join::{Name, NoMemory};
 use pn_region::{AdoptFault, RelayoutFault, RoundFault};
 use std::alloc::Global;
 use std::test::Fail;
 use std::thread::Threads;
 use test_kit::answer_lines;
-use work::{reduced, round};
+use work::{reduce_keys, round};
 
 fn main(rt: HostRuntime) -> Result<(), Fail> {
     answer_lines(&rt, |line| answer(&rt, rt.alloc(), line))
@@ -23,8 +23,8 @@ fn main(rt: HostRuntime) -> Result<(), Fail> {
 
 fn answer<R: Threads + Sync>(rt: &R, alloc: Global, line: &str) -> Result<String, Fail> {
     match line.split_once(' ') {
-        Some(("reduce", workers)) => Ok(reduced(rt, alloc, workers).ok_or(NoMemory)?),
-        Some(("relayout", bounds)) => Ok(relaid(rt, alloc, bounds).ok_or(NoMemory)?),
+        Some(("reduce", workers)) => Ok(reduce_keys(rt, alloc, workers).ok_or(NoMemory)?),
+        Some(("relayout", bounds)) => Ok(keys_after_relayout(rt, alloc, bounds).ok_or(NoMemory)?),
         Some((_, workers)) => Ok(round(rt, alloc, workers).ok_or(NoMemory)?),
         None => faults(alloc),
     }

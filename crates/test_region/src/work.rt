@@ -1,10 +1,10 @@
 //! Eight tablets, worked by some workers.
 
 ghost use Rattle.std.specs.Prelude.{◌≤◌, IfSome};
-ghost use Rattle.pn_apply.specs.Limits.{max_workers};
+ghost use Rattle.pn_apply.specs.Prelude.{MAX_WORKERS};
 
 use crate::counting::Counting;
-use pn_apply::reduce;
+use pn_apply::{MAX_WORKERS, reduce};
 use pn_join::Marks;
 use pn_region::Region;
 use pn_tablet::TabletOp;
@@ -17,19 +17,19 @@ pub(crate) const KEYS: &str = "a b c d e f g h";
 
 pub(crate) const BOUNDS: &str = "b c d e f g h";
 
-// A number from 1 to 16.
+// A number of workers that a call takes.
 fn workers_of(word: &str) -> Option<usize>
-    ensures { IfSome result (λ workers. (1 ≤ workers) × (workers ≤ max_workers)) }
+    ensures { IfSome result (λ workers. (1 ≤ workers) × (workers ≤ MAX_WORKERS)) }
 {
     let workers = word.parse::<usize>().ok()?;
-    if workers < 1 || workers > 16 {
+    if workers < 1 || workers > MAX_WORKERS {
         return None;
     }
     Some(workers)
 }
 
 /// The keys that are brought to each tablet, and the gate's counts.
-pub(crate) fn reduced<R: Threads + Sync>(rt: &R, alloc: Global, word: &str) -> Option<String> {
+pub(crate) fn reduce_keys<R: Threads + Sync>(rt: &R, alloc: Global, word: &str) -> Option<String> {
     let workers = workers_of(word)?;
     let layout = layout(alloc, BOUNDS)?;
     let given = deliveries(alloc, 1, KEYS, 0)?;

@@ -14,7 +14,7 @@ use serde_json::Value;
 use std::alloc::Global;
 use std::test::Fail;
 use tablets::view_of;
-use test_kit::{answer_lines, spelled};
+use test_kit::{answer_lines, spell_out};
 
 fn main(rt: HostRuntime) -> Result<(), Fail> {
     answer_lines(&rt, |line| answer(rt.alloc(), line))
@@ -30,7 +30,7 @@ fn answer(alloc: Global, line: &str) -> Result<String, Fail> {
 
 // The query that is read from a text, as it is written again, or why it is none.
 fn query_reply(alloc: Global, text: &str) -> Result<String, Fail> {
-    let text = spelled(alloc, text)?;
+    let text = spell_out(alloc, text)?;
     match read_query(alloc, &Value::from_str(alloc, text.as_str())?) {
         Ok(query) => query_text(alloc, &query),
         Err(fault) => Ok(format!(in alloc; "{fault}")?),

@@ -2,7 +2,7 @@
 
 use crate::view::TakesTurns;
 use pn_join::{Marks, NoMemory};
-use pn_record::{Records, take_image};
+use pn_record::{Records, add_image};
 use pn_tablet::{Layout, Range, TabletOp, TabletState};
 use std::alloc::Global;
 use std::test::Fail;
@@ -50,7 +50,7 @@ fn tablet(alloc: Global, range: Range, words: &str) -> Result<TabletState, Fail>
     for word in words.split_whitespace() {
         let image = image(alloc, word, 0).ok_or(NoMemory)?;
         if range.contains(&image.key) {
-            take_image(alloc, &mut cells, image)?;
+            add_image(alloc, &mut cells, image)?;
         }
     }
     let marks = Marks::new(alloc);

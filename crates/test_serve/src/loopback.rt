@@ -72,7 +72,7 @@ fn stays(
 
 /// Serves one session over a stream whose first message is at this position: how serving ended, what was written, and what the client
 /// was told.
-pub(crate) fn served<R>(rt: &R, alloc: Global, position: &str) -> Result<String, Fail>
+pub(crate) fn serve_stream<R>(rt: &R, alloc: Global, position: &str) -> Result<String, Fail>
 where
     R: Net<Listener = TcpListener, Stream = TcpStream>
         + Threads

@@ -1,19 +1,21 @@
 //! Cases of `pn_serve`, a line each, of what the stored scripts of `test_rows` cannot say; `stdout` has what must be answered.
 //!
 //! `plan` and `says` read words; `run`, `blocks`, `writes` and `sessions` meet slow and failing readers and writers; `session` and
-//! `serve` answer sessions. A bar is a newline.
+//! `serve` answer sessions; `read` reads streams. A bar is a newline.
 #![tactic(auto)]
 
 mod loopback;
 mod plans;
+mod rounds;
 mod scripts;
 mod sessions;
 mod talk;
 
-use loopback::served;
+use loopback::serve_stream;
 use plans::{plan_reply, says};
-use scripts::{blocks, ran, writes};
-use sessions::{answered, failing};
+use rounds::few_rounds;
+use scripts::{blocks, run_over, write_three_bytes};
+use sessions::{answer_session, fail_sessions};
 use std::test::Fail;
 use test_kit::answer_lines;
 
@@ -22,11 +24,12 @@ fn main(rt: HostRuntime) -> Result<(), Fail> {
     answer_lines(&rt, |line| match line.split_once(' ') {
         Some(("plan", words)) => plan_reply(alloc, words),
         Some(("says", text)) => says(alloc, text),
-        Some(("run", how)) => ran(&rt, alloc, how),
+        Some(("run", how)) => run_over(&rt, alloc, how),
         Some(("blocks", lines)) => blocks(&rt, alloc, lines),
-        Some(("session", lines)) => answered(&rt, alloc, lines),
-        Some(("sessions", how)) => failing(&rt, alloc, how),
-        Some(("serve", position)) => served(&rt, alloc, position),
-        _ => writes(alloc),
+        Some(("session", lines)) => answer_session(&rt, alloc, lines),
+        Some(("sessions", how)) => fail_sessions(&rt, alloc, how),
+        Some(("serve", position)) => serve_stream(&rt, alloc, position),
+        Some(("read", _)) => few_rounds(&rt, alloc),
+        _ => write_three_bytes(alloc),
     })
 }

@@ -1,6 +1,6 @@
 //! Words, and what they plan.
 
-use pn_serve::{Place, Plan, PlanFault, Service, Settings, plan};
+use pn_serve::{Address, Plan, PlanFault, Service, Settings, plan};
 use std::alloc::{AllocError, Global};
 use std::test::Fail;
 use test_kit::spelled;
@@ -43,9 +43,9 @@ fn plan_text(alloc: Global, planned: &Plan) -> Result<String, Fail> {
 
 fn write_service(text: &mut String, service: &Service) -> Result<(), AllocError> {
     let sessions = service.sessions;
-    match &service.place {
-        Place::Port(address, port) => write!(text, ", {sessions} sessions at {address} {port}")?,
-        Place::Path(path) => write!(text, ", {sessions} sessions at {path}")?,
+    match &service.address {
+        Address::Port(host, port) => write!(text, ", {sessions} sessions at {host} {port}")?,
+        Address::Path(path) => write!(text, ", {sessions} sessions at {path}")?,
     }
     if let Some(connections) = service.stay {
         write!(text, " for {connections} connections")?;

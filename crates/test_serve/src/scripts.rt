@@ -31,7 +31,11 @@ pub(crate) fn settings(alloc: Global) -> Result<Settings, NoMemory> {
 }
 
 /// How runs of the script end.
-pub(crate) fn ran<R: Threads + Sync>(rt: &R, alloc: Global, how: &str) -> Result<String, Fail> {
+pub(crate) fn run_over<R: Threads + Sync>(
+    rt: &R,
+    alloc: Global,
+    how: &str,
+) -> Result<String, Fail> {
     match how {
         "in pieces" => in_pieces(rt, alloc),
         "over readers that fail" => failing_readers(rt, alloc),
@@ -39,10 +43,10 @@ pub(crate) fn ran<R: Threads + Sync>(rt: &R, alloc: Global, how: &str) -> Result
         "into writers that fail" => stopping_writers(rt, alloc, Stop::Fails),
         "into writers that take nothing" => stopping_writers(rt, alloc, Stop::TakesNothing),
         "into a writer that fails in flush" => {
-            written(rt, alloc, Stopping::new(alloc, 1, 1, Stop::FailsInFlush))
+            write_into(rt, alloc, Stopping::new(alloc, 1, 1, Stop::FailsInFlush))
         }
         "as a talk" => talk(rt, alloc),
-        _ => written(rt, alloc, Stopping::never(alloc, 1)),
+        _ => write_into(rt, alloc, Stopping::never(alloc, 1)),
     }
 }
 
@@ -98,7 +102,11 @@ fn failing_sources<R: Threads + Sync>(rt: &R, alloc: Global) -> Result<String, F
     runs.text()
 }
 
-fn written<R: Threads + Sync>(rt: &R, alloc: Global, mut output: Stopping) -> Result<String, Fail> {
+fn write_into<R: Threads + Sync>(
+    rt: &R,
+    alloc: Global,
+    mut output: Stopping,
+) -> Result<String, Fail> {
     let mut input = InMemory::new(SCRIPT.as_bytes());
     let ended = run(rt, alloc, &mut input, &mut output, settings(alloc)?);
     outcome(alloc, ended, &output.taken)
@@ -109,7 +117,7 @@ fn stopping_writers<R: Threads + Sync>(rt: &R, alloc: Global, stop: Stop) -> Res
     let mut stopped = 0u64;
     for count in 0..REPLIES.len() {
         let output = Stopping::new(alloc, 1, count.saturating_add(1), stop);
-        let text = written(rt, alloc, output)?;
+        let text = write_into(rt, alloc, output)?;
         let due = format!(in alloc; "{}, {count} bytes: true", RunFault::Write)?;
         if text.as_str() == due.as_str() {
             stopped = stopped.saturating_add(1);
@@ -119,7 +127,7 @@ fn stopping_writers<R: Threads + Sync>(rt: &R, alloc: Global, stop: Stop) -> Res
 }
 
 /// How a write of three bytes ends, by a writer that fails at the third byte, and by one that takes none.
-pub(crate) fn writes(alloc: Global) -> Result<String, Fail> {
+pub(crate) fn write_three_bytes(alloc: Global) -> Result<String, Fail> {
     let fails = write_text(alloc, Stopping::new(alloc, 1, 3, Stop::Fails))?;
     let stops = write_text(alloc, Stopping::never(alloc, 0))?;
     Ok(format!(in alloc; "{fails}; {stops}")?)

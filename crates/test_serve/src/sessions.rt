@@ -1,11 +1,11 @@
 //! Lines that a session answers by a reader of a live region.
 
-ghost use Rattle.std.specs.Prelude.{◌≡◌, All};
+ghost use Rattle.std.specs.Prelude.{◌≡◌, ◌⊎◌, All};
 ghost use Rattle.pn_live.specs.LiveRegions.{IsReaderIn, tablets_in};
 
 use pn_apply::Open;
 use pn_join::{Name, NoMemory};
-use pn_line::InMemory;
+use pn_line::{Discard, EndlessSource, InMemory};
 use pn_live::{LiveReader, LiveRegion};
 use pn_record::read_image;
 use pn_serve::{Counts, RunFault, session};
@@ -33,7 +33,7 @@ const REPLIES: &str =
 "#;
 
 // One delivery of the image that the first line is.
-fn given(alloc: Global, lines: &str) -> Option<Vec<Delivery>> {
+fn delivery_of(alloc: Global, lines: &str) -> Option<Vec<Delivery>> {
     let mut images = Vec::with_capacity(alloc, 1).ok()?;
     images
         .push(read_image(alloc, lines.lines().next()?.as_bytes()).ok()?)
@@ -46,7 +46,7 @@ fn given(alloc: Global, lines: &str) -> Option<Vec<Delivery>> {
 }
 
 // How many records the round of the first line changes.
-fn changed<R: Threads + Wait + Sync>(
+fn count_changed<R: Threads + Wait + Sync>(
     rt: &R,
     alloc: Global,
     live: &mut LiveRegion,
@@ -54,7 +54,7 @@ fn changed<R: Threads + Wait + Sync>(
 ) -> Option<u64>
     ensures { tablets_in live.new ≡ tablets_in live.old }
 {
-    let (round, _front) = live.round(rt, given(alloc, lines)?, 1, &Open).ok()?;
+    let (round, _front) = live.round(rt, delivery_of(alloc, lines)?, 1, &Open).ok()?;
     Some(round.changed)
 }
 
@@ -77,7 +77,7 @@ fn replies(
 }
 
 /// The replies of a session, and how many lines it refused. The first line is an image, which was taken before, and no line to the session.
-pub(crate) fn answered<R: Threads + Wait + Sync>(
+pub(crate) fn answer_session<R: Threads + Wait + Sync>(
     rt: &R,
     alloc: Global,
     bars: &str,
@@ -86,7 +86,7 @@ pub(crate) fn answered<R: Threads + Wait + Sync>(
     let mut written = Vec::new(alloc);
     let layout = layout(alloc, "").ok_or(NoMemory)?;
     let (mut live, mut readers) = opened(rt, alloc, layout, 1)?;
-    let changed = changed(rt, alloc, &mut live, lines.as_str());
+    let changed = count_changed(rt, alloc, &mut live, lines.as_str());
     let counts = replies(alloc, &live, &mut readers, lines.as_str(), &mut written);
     closed(rt, live, readers)?;
     let (changed, counts) = (changed.ok_or(NoMemory)?, counts.ok_or(NoMemory)?);
@@ -97,17 +97,18 @@ pub(crate) fn answered<R: Threads + Wait + Sync>(
     )?)
 }
 
-/// How sessions end whose readers or writers fail, at each call in turn.
-pub(crate) fn failing<R: Threads + Wait + Sync>(
+/// How sessions end whose readers or writers fail, at each call in turn, and one whose input has no end.
+pub(crate) fn fail_sessions<R: Threads + Wait + Sync>(
     rt: &R,
     alloc: Global,
     how: &str,
 ) -> Result<String, Fail> {
     let layout = layout(alloc, "").ok_or(NoMemory)?;
     let (mut live, mut reader) = open_one(rt, alloc, layout).ok_or(NoMemory)?;
-    let changed = changed(rt, alloc, &mut live, IMAGE);
+    let changed = count_changed(rt, alloc, &mut live, IMAGE);
     let ends = match how {
         "over readers that fail" => over_failing_readers(alloc, &mut reader),
+        "over a source without end" => over_endless_source(alloc, &mut reader),
         _ => into_failing_writers(alloc, &mut reader),
     };
     end(rt, alloc, live);
@@ -128,6 +129,22 @@ fn over_failing_readers(alloc: Global, reader: &mut LiveReader) -> Result<String
         ends.push(format!(in alloc; "{is_due}, {} bytes", written.len())?)?;
     }
     ends.text()
+}
+
+fn over_endless_source(alloc: Global, reader: &mut LiveReader) -> Result<String, Fail> {
+    let fault = endless_session(alloc, reader);
+    Ok(format!(in alloc; "{fault}")?)
+}
+
+// A session over empty lines without end: there are too many, or memory ran out before it looked at one.
+fn endless_session(alloc: Global, reader: &mut LiveReader) -> RunFault
+    ensures { (result ≡ RunFault.TooManyTurns) ⊎ (result ≡ RunFault.Memory) }
+{
+    let mut input = EndlessSource::new(b"\n");
+    match session(alloc, reader, &mut input, &mut Discard) {
+        Ok(_) => unreachable!(),
+        Err(fault) => fault,
+    }
 }
 
 // Writers that take a byte at a time. Counts those that had just the bytes before the call that failed.

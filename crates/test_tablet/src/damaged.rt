@@ -34,18 +34,18 @@ fn mark(fault: Option<CopyTextFault>, line: u64) -> char {
     }
 }
 
-/// A mark for each byte: what an `x` in its place makes of the text.
+/// A mark for each byte: what an `x` for it makes of the text.
 pub(crate) fn crossed(alloc: Global, bars: &str) -> Result<String, Fail> {
     let mut text = lines(alloc, bars)?.into_bytes();
     let mut marks = String::new(alloc);
     let mut line = 1u64;
-    for place in 0..text.len() {
-        let Some(was) = text.get(place).copied() else {
+    for index in 0..text.len() {
+        let Some(was) = text.get(index).copied() else {
             break;
         };
-        replace(&mut text, place, b'x');
+        replace(&mut text, index, b'x');
         marks.push(mark(fault_of(alloc, &text), line))?;
-        replace(&mut text, place, was);
+        replace(&mut text, index, was);
         if was == b'\n' {
             line = line.saturating_add(1);
         }
@@ -53,8 +53,8 @@ pub(crate) fn crossed(alloc: Global, bars: &str) -> Result<String, Fail> {
     Ok(marks)
 }
 
-fn replace(text: &mut [u8], place: usize, by: u8) {
-    if let Some(byte) = text.get_mut(place) {
+fn replace(text: &mut [u8], index: usize, by: u8) {
+    if let Some(byte) = text.get_mut(index) {
         *byte = by;
     }
 }

@@ -6,9 +6,9 @@ use Rattle.pn_join.specs.Marks.{Positions}
 use Rattle.pn_tablet.specs.Layouts.{Bounds}
 use Rattle.pn_tablet.specs.Proofs.Coding.{ends_code, positions_code}
 use Rattle.pn_tablet.specs.Ranges.{Ends}
-use Rattle.pn_tablet.specs.declared.op.TabletOp.{TabletOp}
+use Rattle.pn_tablet.specs.declared.state.TabletOp.{TabletOp}
 use Rattle.pn_region.specs.Proofs.Coding.{entry_code}
-use Rattle.pn_region.specs.declared.entry.Entry.{Entry}
+use Rattle.pn_region.specs.declared.notices.Entry.{Entry}
 use Rattle.pn_live.specs.LiveRegions.{LiveRegionValue}
 use Rattle.pn_live.specs.PublishedTablets.{PublishedTabletValue, TabletNoteValue}
 use Rattle.pn_live.specs.Proofs.OpCoding.{list_code}
@@ -46,7 +46,7 @@ reader_code =
 -- live regions as pairs
 abbrev pub live_code : Coded LiveRegionValue
 live_code =
-    code_by ((Bounds × List PublishedTabletValue) × (Positions × List Entry)) (coded× (coded× (coded_list (coded_list coded_ℕ)) (coded_list published_tablet_code)) (coded× positions_code (coded_list entry_code)))
-    (λ l. ((l.layout, l.tablets), (l.marks, l.log)))
-    (λ t. record { layout = t.0.0; tablets = t.0.1; marks = t.1.0; log = t.1.1 })
+    code_by ((Bounds × List PublishedTabletValue) × (Positions × (List Entry × List Book))) (coded× (coded× (coded_list (coded_list coded_ℕ)) (coded_list published_tablet_code)) (coded× positions_code (coded× (coded_list entry_code) (coded_list book_coded))))
+    (λ l. ((l.layout, l.tablets), (l.marks, (l.log, l.order))))
+    (λ t. record { layout = t.0.0; tablets = t.0.1; marks = t.1.0; log = t.1.1.0; order = t.1.1.1 })
     (λ _. refl)

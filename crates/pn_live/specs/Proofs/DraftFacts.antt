@@ -5,10 +5,10 @@ use base.Stored.{Coded-set}
 use mathlib.Core.HLevel.{⊥_prop}
 use Rattle.pn_tablet.specs.Operations.{HasPositions}
 use Rattle.pn_tablet.specs.Proofs.Coding.{tablet_code}
-use Rattle.pn_tablet.specs.Steps.{stepped}
+use Rattle.pn_tablet.specs.Steps.{tablet_after}
 use Rattle.pn_tablet.specs.Tablets.{TabletStateValue}
-use Rattle.pn_tablet.specs.declared.op.TabletOp.{TabletOp}
-use Rattle.pn_tablet.specs.declared.op.TabletOp.TheVariants.{Join, Lose, Adopt}
+use Rattle.pn_tablet.specs.declared.state.TabletOp.{TabletOp}
+use Rattle.pn_tablet.specs.declared.state.TabletOp.TheVariants.{Join, Lose, Adopt}
 use Rattle.pn_apply.specs.Applying.{IsJoinIn}
 use Rattle.pn_live.specs.Drafts.{Lacks}
 
@@ -29,7 +29,7 @@ pub lacks-prop : (draft : TabletStateValue) (op : TabletOp) (shown : TabletState
 lacks-prop draft op shown a b i = record {
   join = join-prop draft op a.join b.join i;
   positions = positions-prop op a.positions b.positions i;
-  makes = state-set (stepped draft op) shown a.makes b.makes i;
+  makes = state-set (tablet_after draft op) shown a.makes b.makes i;
 }
 
 pub ruleset draft_props = (props, lacks-prop)

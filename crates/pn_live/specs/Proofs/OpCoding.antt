@@ -7,8 +7,8 @@ use Rattle.pn_join.specs.Marks.{Positions}
 use Rattle.pn_record.specs.CellMap.{Entries}
 use Rattle.pn_tablet.specs.Copies.{TabletCopyValue}
 use Rattle.pn_tablet.specs.Proofs.Coding.{entries_code, positions_code, copy_code}
-use Rattle.pn_tablet.specs.declared.op.TabletOp.{TabletOp}
-use Rattle.pn_tablet.specs.declared.op.TabletOp.TheVariants.{Join, Lose, Adopt}
+use Rattle.pn_tablet.specs.declared.state.TabletOp.{TabletOp}
+use Rattle.pn_tablet.specs.declared.state.TabletOp.TheVariants.{Join, Lose, Adopt}
 
 -- what an operation is stored as
 abbrev pub Three : Type 0

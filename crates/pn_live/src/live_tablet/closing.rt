@@ -3,7 +3,7 @@
 ghost use Rattle.std.specs.Prelude.{◌≡◌, IsTrue};
 ghost use mathlib.Core.List.{IsPrefix};
 ghost use Rattle.pn_tablet.specs.Prelude.{state_of};
-ghost use Rattle.pn_live.specs.Published.{published, state_in, seen_by, told_to, IsReaderOf};
+ghost use Rattle.pn_live.specs.Published.{published_ops, state_in, seen_by, told_to, IsReaderOf};
 
 use super::LiveTablet;
 use crate::published_state::PublishedState;
@@ -14,7 +14,7 @@ use std::sync::Wait;
 impl LiveTablet {
     /// Takes the state out. It waits for readers that are reading.
     pub fn close<R: Wait>(self, rt: &R) -> TabletState
-        ensures { result ≡ state_of (state_in self).range (published self) }
+        ensures { result ≡ state_of (state_in self).range (published_ops self) }
     {
         let LiveTablet {
             writer,
@@ -37,7 +37,7 @@ impl LiveTablet {
         ensures reader { IsReaderOf self.now result.0 }
         ensures seen { IsPrefix (seen_by handle) (seen_by result.0) }
         ensures told { result.0.told ≡ handle.told }
-        ensures last { IsTrue result.1 → IsPrefix (seen_by handle) (published self.now) × IsPrefix (told_to handle) (published self.now) }
+        ensures last { IsTrue result.1 → IsPrefix (seen_by handle) (published_ops self.now) × IsPrefix (told_to handle) (published_ops self.now) }
     {
         let shown = self.writer.published();
         match handle.enter() {

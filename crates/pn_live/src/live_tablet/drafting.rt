@@ -35,7 +35,7 @@ impl LiveTablet {
                 let PublishedState {
                     state,
                     position: _position,
-                } = take_spare(rt, &mut self.writer, blank(alloc, range));
+                } = take_spare(rt, &mut self.writer, blank_state(alloc, range));
                 Ok(StateDraft { state, lacks })
             }
             None => {
@@ -51,20 +51,20 @@ impl LiveTablet {
 }
 
 // An empty state with a book of its own, to stand in for a spare state that was taken.
-fn blank(alloc: Global, range: Range) -> PublishedState {
+fn blank_state(alloc: Global, range: Range) -> PublishedState {
     let (_counter, position): (AttemptCounter<TabletOp>, PublishPosition<TabletOp>) = open_book();
     let state = TabletState::new(alloc, range);
     PublishedState { state, position }
 }
 
-// Takes the spare state out, and puts another one in its place.
+// Takes the spare state out, and puts another one there.
 fn take_spare<R: Wait>(rt: &R, writer: &mut PairWriter, other: PublishedState) -> PublishedState
     ensures spare { result ≡ writer.old.desk.spare.value }
     ensures shown { (writer.new.desk.shown.value ≡ writer.old.desk.shown.value) × (view writer.new.desk.place ≡ view writer.old.desk.place) }
 {
     replace_with(&mut writer.desk, rt, |desk, rt| {
-        let (open, mut place) = desk.open(rt);
-        let spare = replace(&mut *place, other);
-        (open.shelve(place), spare)
+        let (open, mut spare) = desk.open(rt);
+        let state = replace(&mut *spare, other);
+        (open.shelve(spare), state)
     })
 }

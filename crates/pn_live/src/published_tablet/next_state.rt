@@ -1,14 +1,14 @@
 //! The next state of a live tablet, before it is published.
 
 ghost use Rattle.std.specs.Prelude.{◌≡◌, Ok, IsOk, IfOk, option_map};
-ghost use Rattle.pn_tablet.specs.Prelude.{lacking, HasPositions, step};
+ghost use Rattle.pn_tablet.specs.Prelude.{need_shortfall, HasPositions, step};
 ghost use Rattle.pn_live.specs.PublishedTablets.{state_at};
 ghost use Rattle.pn_live.specs.Recovery.{too_old};
 
 use super::PublishedTablet;
 use pn_join::{Dup, Marks, NoMemory};
 use pn_region::AdoptFault;
-use pn_tablet::{Range, Status, TabletOp, TabletState};
+use pn_tablet::{Range, TabletOp, TabletState};
 
 impl PublishedTablet {
     /// The range of its keys.
@@ -34,20 +34,13 @@ impl PublishedTablet {
     /// Why a copy with these marks is too old: the first stream at which they fall short of what the tablet
     /// needs.
     pub fn refusal(&self, marks: &Marks) -> Option<AdoptFault>
-        ensures { result ≡ option_map too_old (lacking (state_at self.now).status marks.now) }
+        ensures { result ≡ option_map too_old (need_shortfall (state_at self.now).status marks.now) }
     {
-        let Status::Recovering { need } = self.live.state().status() else {
-            return None;
-        };
-        let place = marks.shortfall(need)?;
-        let (name, needs) = need.entry_at(place)?;
-        let Ok(stream) = name.dup() else {
-            unreachable!()
-        };
+        let short = self.live.state().need_shortfall(marks)?;
         Some(AdoptFault::TooOld {
-            stream,
-            has: marks.position(name),
-            needs: needs.0,
+            stream: short.stream,
+            has: short.has,
+            needs: short.wanted,
         })
     }
 }

@@ -36,7 +36,7 @@ impl LiveRegion {
             alloc,
         } = self;
         let all_seen = was_all_seen(&tablets, readers);
-        let states = states_of(rt, alloc, tablets)?;
+        let states = take_states(rt, alloc, tablets)?;
         if !all_seen {
             return Err(NoMemory);
         }
@@ -73,7 +73,7 @@ fn was_seen(tablets: &[PublishedTablet], tablet_readers: Vec<TabletReader>) -> b
 }
 
 // Ends the tablets, and answers their states. They all end, also when memory runs out.
-fn states_of<R: Wait>(
+fn take_states<R: Wait>(
     rt: &R,
     alloc: Global,
     tablets: Vec<PublishedTablet>,
@@ -81,7 +81,7 @@ fn states_of<R: Wait>(
     ensures { IfOk result (λ states. states.items ≡ map state_at tablets.items) }
 {
     let Ok(mut states) = Vec::with_capacity(alloc, tablets.len()) else {
-        end_all(rt, tablets);
+        close_tablets(rt, tablets);
         return Err(NoMemory);
     };
     let mut rest = tablets.into_iter();
@@ -93,7 +93,7 @@ fn states_of<R: Wait>(
 }
 
 /// Ends live tablets whose states are not needed.
-pub(super) fn end_all<R: Wait>(rt: &R, tablets: Vec<PublishedTablet>) {
+pub(super) fn close_tablets<R: Wait>(rt: &R, tablets: Vec<PublishedTablet>) {
     let mut rest = tablets.into_iter();
     while let Some(tablet) = rest.next() {
         tablet.close(rt);

@@ -2,7 +2,7 @@
 
 ghost use Rattle.std.specs.Prelude.{◌≡◌, ◌≤◌, [], length, map, vec_capacity, IfOk, IfSome};
 ghost use Rattle.std.specs.List.{flat_map};
-ghost use Rattle.pn_apply.specs.Prelude.{AreJoinsIn, HavePositions, all_stepped, all_changes, max_workers};
+ghost use Rattle.pn_apply.specs.Prelude.{AreJoinsIn, HavePositions, all_stepped, all_changes, MAX_WORKERS};
 ghost use Rattle.pn_live.specs.PublishedTablets.{state_at};
 
 use crate::front::TabletNote;
@@ -15,7 +15,7 @@ use std::alloc::Global;
 use std::sync::Wait;
 use std::thread::Threads;
 
-/// The next states with what changed in each, how many records changed, and room for the notes of a front.
+/// The next states with what changed in each, how many records changed, and a list with capacity for the notes of a front.
 #[derive(Drop)]
 pub(super) struct RoundPlan {
     pub(super) nexts: Vec<TabletState>,
@@ -24,8 +24,8 @@ pub(super) struct RoundPlan {
     pub(super) notes: Vec<TabletNote>,
 }
 
-/// What the operations make of the tablets. Publishing it takes no memory.
-pub(super) fn planned<R: Threads + Wait + Sync, G: Gate + Sync>(
+/// Makes what the operations make of the tablets. Publishing it takes no memory.
+pub(super) fn plan_round<R: Threads + Wait + Sync, G: Gate + Sync>(
     rt: &R,
     alloc: Global,
     tablets: &mut [PublishedTablet],
@@ -35,17 +35,17 @@ pub(super) fn planned<R: Threads + Wait + Sync, G: Gate + Sync>(
 ) -> Result<RoundPlan, NoMemory>
     requires joins { AreJoinsIn (map state_at tablets.old) operations.now }
     requires positions { HavePositions operations.now }
-    requires workers { (1 ≤ workers) × (workers ≤ max_workers) }
+    requires workers { (1 ≤ workers) × (workers ≤ MAX_WORKERS) }
     ensures nexts { IfOk result (λ plan. plan.nexts.items ≡ all_stepped (map state_at tablets.old) operations.now) }
     ensures changes { IfOk result (λ plan. flat_map (λ list. list.items) plan.lists.items ≡ flat_map (λ list. list) (all_changes (map state_at tablets.old) operations.now)) }
     ensures changed { IfOk result (λ plan. plan.changed ≡ length (flat_map (λ list. list.items) plan.lists.items)) }
     ensures same { tablets.new ≡ tablets.old }
     ensures notes { IfOk result (λ plan. (plan.notes.items ≡ []) × (vec_capacity plan.notes ≡ length tablets.old)) }
 {
-    let mut nexts = caught_up(rt, alloc, tablets, workers)?;
+    let mut nexts = catch_up(rt, alloc, tablets, workers)?;
     let slots = nexts.as_mut_slice();
     let lists = apply_all(rt, alloc, slots, operations, workers, gate)?;
-    let Some(changed) = count_of(&lists) else {
+    let Some(changed) = count_changes(&lists) else {
         return Err(NoMemory);
     };
     let notes = Vec::with_capacity(alloc, tablets.len())?;
@@ -57,25 +57,25 @@ pub(super) fn planned<R: Threads + Wait + Sync, G: Gate + Sync>(
     })
 }
 
-// A state to change for each tablet: its draft, which the workers bring up to the published state.
-fn caught_up<R: Threads + Wait + Sync>(
+// Makes a state to change for each tablet: its draft, which the workers bring up to the published state.
+fn catch_up<R: Threads + Wait + Sync>(
     rt: &R,
     alloc: Global,
     tablets: &mut [PublishedTablet],
     workers: usize,
 ) -> Result<Vec<TabletState>, NoMemory>
-    requires { (1 ≤ workers) × (workers ≤ max_workers) }
+    requires { (1 ≤ workers) × (workers ≤ MAX_WORKERS) }
     ensures states { IfOk result (λ states. states.items ≡ map state_at tablets.old) }
     ensures same { tablets.new ≡ tablets.old }
 {
-    let (mut states, joins) = drafts(rt, alloc, tablets)?;
+    let (mut states, joins) = take_drafts(rt, alloc, tablets)?;
     let slots = states.as_mut_slice();
     apply_all(rt, alloc, slots, &joins, workers, &Open)?;
     Ok(states)
 }
 
-// A draft of each tablet: its state, and the join that it lacks.
-fn drafts<R: Wait>(
+// Takes a draft of each tablet: its state, and the join that it lacks.
+fn take_drafts<R: Wait>(
     rt: &R,
     alloc: Global,
     tablets: &mut [PublishedTablet],
@@ -95,7 +95,7 @@ fn drafts<R: Wait>(
 }
 
 // How many changes the lists have together. `None` past 64 bits, where memory would not hold them.
-fn count_of(lists: &[Vec<Change>]) -> Option<u64>
+fn count_changes(lists: &[Vec<Change>]) -> Option<u64>
     ensures { IfSome result (λ count. count ≡ length (flat_map (λ list. list.items) lists.now)) }
 {
     let mut count = 0u64;

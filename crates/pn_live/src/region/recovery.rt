@@ -4,16 +4,17 @@ ghost use Rattle.std.specs.Prelude.{◌≡◌, ◌≤◌, length, slice_get, Ok,
 ghost use Rattle.std.specs.List.{position};
 ghost use Rattle.pn_tablet.specs.Prelude.{HasPositions, Refuses, step, same_range};
 ghost use Rattle.pn_tablet.specs.Steps.{is_memory};
-ghost use Rattle.pn_tablet.specs.declared.op.TabletOp.TheVariants.{Lose};
-ghost use Rattle.pn_region.specs.Prelude.{losing, stepping, adopting, IsRegion, IsSince};
+ghost use Rattle.pn_tablet.specs.declared.state.TabletOp.TheVariants.{Lose};
+ghost use Rattle.pn_region.specs.Prelude.{after_loss, after_op, after_adoption, IsRegion, IsSince};
 ghost use Rattle.pn_live.specs.LiveRegions.{core, tablets_in};
 ghost use Rattle.pn_live.specs.PublishedTablets.{state_at, notes_of};
 ghost use Rattle.pn_live.specs.Readers.{AreNotesOf};
-ghost use Rattle.pn_live.specs.Recovery.{publishing_at, Adopts};
+ghost use Rattle.pn_live.specs.Recovery.{after_op_at, Adopts};
 
 use super::LiveRegion;
-use super::publishing::front_of;
+use super::rounds::front_of;
 use crate::front::Front;
+use crate::publication_order::PublicationOrder;
 use pn_join::NoMemory;
 use pn_region::{AdoptFault, Since};
 use pn_tablet::{Range, TabletCopy, TabletOp, TabletState};
@@ -26,8 +27,8 @@ impl LiveRegion {
     /// An error changes nothing: nothing is published, and the log has no break.
     pub fn lose<R: Wait>(&mut self, rt: &R, tablet: usize) -> Result<Front, NoMemory>
         requires { tablet ≤ length self.old.layout }
-        ensures ok { OnOk result (self.new ≡ publishing_at self.old tablet Lose) }
-        ensures state { OnOk result (core self.new ≡ losing (core self.old) tablet) }
+        ensures ok { OnOk result (self.new ≡ after_op_at self.old tablet Lose) }
+        ensures state { OnOk result (core self.new ≡ after_loss (core self.old) tablet) }
         ensures front { IfOk result (λ front. front ≡ notes_of self.new.tablets) }
         ensures err { OnErr result (self.new ≡ self.old) }
         ensures fits { IfOk result (λ front. AreNotesOf (tablets_in self.old) front) }
@@ -45,7 +46,7 @@ impl LiveRegion {
     pub fn adopt<R: Wait>(&mut self, rt: &R, copy: TabletCopy) -> Result<Front, AdoptFault>
         ensures ok { OnOk result (Adopts copy self.old self.new) }
         ensures front { IfOk result (λ front. front ≡ notes_of self.new.tablets) }
-        ensures refused { IfErr result (λ fault. Refuses is_memory fault (adopting (core self.old) copy)) }
+        ensures refused { IfErr result (λ fault. Refuses is_memory fault (after_adoption (core self.old) copy)) }
         ensures err { OnErr result (self.new ≡ self.old) }
         ensures fits { IfOk result (λ front. AreNotesOf (tablets_in self.old) front) }
         ensures same { tablets_in self.new ≡ tablets_in self.old }
@@ -93,16 +94,17 @@ impl LiveRegion {
     ) -> Result<Front, NoMemory>
         requires positions { HasPositions operation }
         requires next { IsSomeAnd (slice_get self.old.tablets number) (λ tablet. step (state_at tablet) operation ≡ Ok next) }
-        requires region { IsRegion (stepping (core self.old) number operation) }
-        ensures ok { OnOk result (self.new ≡ publishing_at self.old number operation) }
-        ensures state { OnOk result (core self.new ≡ stepping (core self.old) number operation) }
+        requires region { IsRegion (after_op (core self.old) number operation) }
+        ensures ok { OnOk result (self.new ≡ after_op_at self.old number operation) }
+        ensures state { OnOk result (core self.new ≡ after_op (core self.old) number operation) }
         ensures front { IfOk result (λ front. front ≡ notes_of self.new.tablets) }
         ensures err { OnErr result (self.new ≡ self.old) }
         ensures fits { IfOk result (λ front. AreNotesOf (tablets_in self.old) front) }
         ensures same { tablets_in self.new ≡ tablets_in self.old }
     {
         let notes = Vec::with_capacity(self.alloc, self.tablets.len())?;
-        self.tablets[number].publish(rt, next, operation);
+        let mut order = PublicationOrder::new();
+        self.tablets[number].publish(rt, next, operation, &mut order);
         self.log.cut();
         Ok(front_of(notes, &self.tablets))
     }

@@ -1,29 +1,30 @@
 //! Rounds of a live region.
 
-ghost use Rattle.std.specs.Prelude.{◌≡◌, ◌≤◌, [], length, map, vec_capacity, Ok, IfOk, IfErr, OnOk};
+ghost use Rattle.std.specs.Prelude.{◌≡◌, ◌≤◌, ◌++◌, [], length, map, vec_capacity, Ok, IfOk, IfErr, OnOk};
 ghost use Rattle.std.specs.List.{flat_map};
 ghost use Rattle.pn_tablet.specs.Prelude.{changes, Refuses};
-ghost use Rattle.pn_apply.specs.Prelude.{AreJoinsIn, HavePositions, all_stepped, all_changes, max_workers};
-ghost use Rattle.pn_region.specs.Prelude.{noting, refused_log, is_memory, new_marks, AreRegionMarks, IsRegion, all_cells, joins, round, changed, Leaves};
-ghost use Rattle.pn_live.specs.LiveRegions.{core, publishing, LeavesLive, tablets_in};
-ghost use Rattle.pn_live.specs.PublishedTablets.{notes_of, state_at};
+ghost use Rattle.pn_apply.specs.Prelude.{AreJoinsIn, HavePositions, all_stepped, all_changes, MAX_WORKERS};
+ghost use Rattle.pn_region.specs.Prelude.{with_notices, refused_log, is_memory, new_marks, AreRegionMarks, IsRegion, all_cells, joins, round, changed_count, Leaves};
+ghost use Rattle.pn_live.specs.LiveRegions.{core, tablets_after_round, LeavesLive, tablets_in};
+ghost use Rattle.pn_live.specs.PublishedTablets.{books_of, notes_of, state_at, with_ops};
 ghost use Rattle.pn_live.specs.Readers.{AreNotesOf};
 
 use super::LiveRegion;
-use super::planning::{RoundPlan, planned};
-use super::publishing::{front_of, publish_all};
-use crate::front::Front;
+use super::planning::{RoundPlan, plan_round};
+use crate::front::{Front, TabletNote};
+use crate::publication_order::PublicationOrder;
+use crate::published_tablet::PublishedTablet;
 use pn_apply::{Gate, reduce_owned};
 use pn_join::Marks;
 use pn_region::{Round, RoundFault, next_marks};
 use pn_stream::Delivery;
-use pn_tablet::{Change, TabletOp};
+use pn_tablet::{Change, TabletOp, TabletState};
 use std::sync::Wait;
 use std::thread::Threads;
 
 impl LiveRegion {
-    /// Takes deliveries as a region's round does: workers make the next states, this thread publishes them, tablet
-    /// by tablet. Answers the front. It waits for readers of states before last.
+    /// Takes deliveries as a region's round does: workers make the next states, this thread publishes them, each tablet
+    /// once, in the order of the tablets. Answers the front. It waits for readers of states before last.
     ///
     /// Faults, marks and log are those of a region's round. `Gap` and `TooManyStreams` change nothing. After
     /// `Memory` each tablet's join is published or not.
@@ -34,12 +35,13 @@ impl LiveRegion {
         workers: usize,
         gate: &G,
     ) -> Result<(Round, Front), RoundFault>
-        requires workers { (1 ≤ workers) × (workers ≤ max_workers) }
+        requires workers { (1 ≤ workers) × (workers ≤ MAX_WORKERS) }
         ensures ok { OnOk result (round (core self.old) deliveries.items ≡ Ok (core self.new)) }
-        ensures published { OnOk result (self.new.tablets ≡ publishing self.old deliveries.items self.new.marks) }
+        ensures published { OnOk result (self.new.tablets ≡ tablets_after_round self.old deliveries.items self.new.marks) }
+        ensures order { OnOk result (self.new.order ≡ self.old.order ++ books_of self.old.tablets) }
         ensures front { IfOk result (λ done. done.1 ≡ notes_of self.new.tablets) }
-        ensures changed { IfOk result (λ done. done.0.changed ≡ changed (core self.old) (core self.new)) }
-        ensures noted { OnOk result (self.new.log ≡ noting self.old.log (core self.old) (core self.new)) }
+        ensures changed { IfOk result (λ done. done.0.changed ≡ changed_count (core self.old) (core self.new)) }
+        ensures noted { OnOk result (self.new.log ≡ with_notices self.old.log (core self.old) (core self.new)) }
         ensures refused { IfErr result (λ fault. Refuses is_memory fault (round (core self.old) deliveries.items)) }
         ensures err { IfErr result (λ fault. LeavesLive fault self.old deliveries.items self.new) }
         ensures left { IfErr result (λ fault. Leaves fault (core self.old) deliveries.items (core self.new)) }
@@ -69,9 +71,10 @@ impl LiveRegion {
         workers: usize,
         gate: &G,
     ) -> Result<(Vec<Vec<Change>>, Round, Front), RoundFault>
-        requires workers { (1 ≤ workers) × (workers ≤ max_workers) }
+        requires workers { (1 ≤ workers) × (workers ≤ MAX_WORKERS) }
         ensures ok { OnOk result (round (core self.old) deliveries.items ≡ Ok (core self.new)) }
-        ensures published { OnOk result (self.new.tablets ≡ publishing self.old deliveries.items self.new.marks) }
+        ensures published { OnOk result (self.new.tablets ≡ tablets_after_round self.old deliveries.items self.new.marks) }
+        ensures order { OnOk result (self.new.order ≡ self.old.order ++ books_of self.old.tablets) }
         ensures front { IfOk result (λ taken. taken.2 ≡ notes_of self.new.tablets) }
         ensures changed { IfOk result (λ taken. taken.1.changed ≡ length (flat_map (λ list. list.items) taken.0.items)) }
         ensures changes { IfOk result (λ taken. flat_map (λ list. list.items) taken.0.items ≡ changes (all_cells (core self.old)) (all_cells (core self.new))) }
@@ -82,7 +85,7 @@ impl LiveRegion {
         ensures log { self.new.log ≡ self.old.log }
         ensures same { tablets_in self.new ≡ tablets_in self.old }
     {
-        let ready = self.prepared(rt, deliveries, workers, gate)?;
+        let ready = self.prepare(rt, deliveries, workers, gate)?;
         let (marks, operations, plan) = ready;
         let RoundPlan {
             nexts,
@@ -91,22 +94,22 @@ impl LiveRegion {
             notes,
         } = plan;
         let tablets = self.tablets.as_mut_slice();
-        publish_all(rt, tablets, nexts, operations);
+        publish_tablets(rt, tablets, nexts, operations, &mut self.order);
         self.marks = marks;
         let front = front_of(notes, &self.tablets);
         Ok((lists, Round { changed }, front))
     }
 
-    // The new marks, what the deliveries bring to each tablet, and what that makes of the tablets. Nothing is
+    // Makes the new marks, what the deliveries bring to each tablet, and what that makes of the tablets. Nothing is
     // published yet.
-    fn prepared<R: Threads + Wait + Sync, G: Gate + Sync>(
+    fn prepare<R: Threads + Wait + Sync, G: Gate + Sync>(
         &mut self,
         rt: &R,
         deliveries: Vec<Delivery>,
         workers: usize,
         gate: &G,
     ) -> Result<(Marks, Vec<TabletOp>, RoundPlan), RoundFault>
-        requires workers { (1 ≤ workers) × (workers ≤ max_workers) }
+        requires workers { (1 ≤ workers) × (workers ≤ MAX_WORKERS) }
         ensures marks { IfOk result (λ ready. new_marks self.old.marks deliveries.items ≡ Ok ready.0) }
         ensures are_marks { IfOk result (λ ready. AreRegionMarks ready.0) }
         ensures joins { IfOk result (λ ready. AreJoinsIn (map state_at self.old.tablets) ready.1.items × HavePositions ready.1.items) }
@@ -129,7 +132,7 @@ impl LiveRegion {
             workers,
             gate,
         )?;
-        let plan = planned(
+        let plan = plan_round(
             rt,
             self.alloc,
             self.tablets.as_mut_slice(),
@@ -139,4 +142,37 @@ impl LiveRegion {
         )?;
         Ok((marks, operations, plan))
     }
+}
+
+// Publishes the next state of each tablet, in the order of the tablets.
+fn publish_tablets<R: Wait>(
+    rt: &R,
+    tablets: &mut [PublishedTablet],
+    nexts: Vec<TabletState>,
+    operations: Vec<TabletOp>,
+    order: &mut PublicationOrder,
+)
+    requires joins { AreJoinsIn (map state_at tablets.old) operations.items }
+    requires positions { HavePositions operations.items }
+    requires nexts { nexts.items ≡ all_stepped (map state_at tablets.old) operations.items }
+    ensures tablets { tablets.new ≡ with_ops tablets.old operations.items }
+    ensures order { order.new ≡ order.old ++ books_of tablets.old }
+{
+    let mut number = 0;
+    for (next, operation) in nexts.into_iter().zip(operations) {
+        tablets[number].publish(rt, next, operation, order);
+        number += 1;
+    }
+}
+
+/// The front of the tablets. `notes` is empty, and has capacity for all.
+pub(super) fn front_of(mut notes: Vec<TabletNote>, tablets: &[PublishedTablet]) -> Front
+    requires none { notes.items ≡ [] }
+    requires capacity { vec_capacity notes ≡ length tablets.now }
+    ensures { result ≡ notes_of tablets.now }
+{
+    for tablet in tablets {
+        notes.push_reserved(tablet.note());
+    }
+    Front::of(notes)
 }

@@ -13,7 +13,7 @@ use Rattle.pn_protocol.specs.declared.refusal.Refusal.{Refusal}
 use Rattle.pn_protocol.specs.declared.refusal.Refusal.TheVariants.{TooLong, NotJson, BadShape, OutOfRange, Memory}
 use Rattle.pn_protocol.specs.Command.Objects.{allowed_in}
 
--- the line has more than 65,536 bytes
+-- the line has too many bytes
 abbrev pub is_too_long : List ℕ → Bool
 is_too_long line = nat_lt max_line_bytes (length line)
 

@@ -1,16 +1,17 @@
--- The commands that look records up: a key, several keys, and a query.
+-- The commands that ask for records, and for what changed.
 use Rattle.std.specs.Prelude.{[], ◌∷◌, codes, Result, Ok}
-use Rattle.serde_json.specs.Data.{Data, Members}
-use Rattle.serde_json.specs.Find.{get, as_str, as_array}
+use Rattle.serde_json.specs.Data.{Members}
+use Rattle.serde_json.specs.Find.{get_member, as_str}
 use Rattle.pn_json.specs.Answers.{◌>>=◌}
-use Rattle.pn_json.specs.Members.{member_as, each_in}
+use Rattle.pn_json.specs.Members.{member_as}
 use Rattle.pn_record.specs.Limits.{is_key}
-use Rattle.pn_protocol.specs.Command.Meaning.{CommandValue, read, scan}
+use Rattle.pn_protocol.specs.Command.Limits.{may_be_asked}
+use Rattle.pn_protocol.specs.Command.Meaning.{CommandValue, notices, read, scan}
 use Rattle.pn_protocol.specs.Command.Meaning as command
 use Rattle.pn_protocol.specs.Command.Queries.{query_at, query_shape, fitting_query}
 use Rattle.pn_protocol.specs.Command.RangeChecks.{fits, keys_fit, fitting_version}
-use Rattle.pn_protocol.specs.Command.ShapeChecks.{named_alone, key_shape, version_shape}
-use Rattle.pn_protocol.specs.declared.refusal.Part.TheVariants.{Key, Keys}
+use Rattle.pn_protocol.specs.Command.ShapeChecks.{keys_alone, named_alone, number_alone, version_shape}
+use Rattle.pn_protocol.specs.declared.refusal.Part.TheVariants.{Key, Keys, Since}
 use Rattle.pn_protocol.specs.declared.refusal.Refusal.{Refusal}
 use Rattle.pn_protocol.specs.declared.refusal.Refusal.TheVariants.{BadShape}
 
@@ -22,28 +23,33 @@ AsksForRecords (Ok (scan query)) = Unit {0}
 AsksForRecords said = ⊥
 
 -- the keys of a `get` command
-unfoldable pub get_in : Members → Data → Result CommandValue Refusal
-get_in members d = do
-  items ← member_as as_array (BadShape Keys) (get (codes "keys") d)
-  keys ← each_in (key_shape Keys) items
-  named ← named_alone (codes "do" ∷ codes "keys" ∷ []) members
+unfoldable pub get_in : Members → Result CommandValue Refusal
+get_in members = do
+  keys ← keys_alone (codes "keys") (codes "do" ∷ codes "keys" ∷ []) Keys members
   fit ← keys_fit keys
   Ok (command.get keys)
 
+-- the number after which a `notices` command asks
+unfoldable pub notices_in : Members → Result CommandValue Refusal
+notices_in members = do
+  since ← number_alone (codes "since") Since members
+  fit ← fits Since (may_be_asked since)
+  Ok (notices since)
+
 -- the key of a `read` command, and the version that is required, if one is
-unfoldable pub read_in : Members → Data → Result CommandValue Refusal
-read_in members d = do
-  text ← member_as as_str (BadShape Key) (get (codes "key") d)
-  numbers ← version_shape (get (codes "version") d)
+unfoldable pub read_in : Members → Result CommandValue Refusal
+read_in members = do
+  text ← member_as as_str (BadShape Key) (get_member (codes "key") members)
+  numbers ← version_shape (get_member (codes "version") members)
   named ← named_alone (codes "do" ∷ codes "key" ∷ codes "version" ∷ []) members
   fit ← fits Key (is_key text)
   version ← fitting_version numbers
   Ok (read text version)
 
 -- the query of a `scan` command
-unfoldable pub scan_in : Members → Data → Result CommandValue Refusal
-scan_in members d = do
-  shape ← query_shape (query_at (get (codes "query") d))
+unfoldable pub scan_in : Members → Result CommandValue Refusal
+scan_in members = do
+  shape ← query_shape (query_at (get_member (codes "query") members))
   named ← named_alone (codes "do" ∷ codes "query" ∷ []) members
-  query ← fitting_query (query_at (get (codes "query") d))
+  query ← fitting_query (query_at (get_member (codes "query") members))
   Ok (scan query)

@@ -1,15 +1,14 @@
 -- The command that a JSON object is, by its word.
-use Rattle.std.specs.Prelude.{◌≡◌, ◌⊎◌, codes, Some, Result, Ok, Err, IsOk}
+use Rattle.std.specs.Prelude.{◌≡◌, ◌⊎◌, [], ◌∷◌, codes, Some, Result, Ok, Err, IsOk}
 use Rattle.std.specs.Option.{ok_or}
 use Rattle.serde_json.specs.Data.{Data, string, Members}
-use Rattle.serde_json.specs.Find.{get, as_object}
+use Rattle.serde_json.specs.Find.{get, get_member, as_object}
 use Rattle.pn_json.specs.Answers.{◌>>=◌}
 use Rattle.pn_json.specs.Members.{member_as}
 use Rattle.pn_protocol.specs.Command.Meaning.{CommandValue, marks, tablets}
 use Rattle.pn_protocol.specs.Command.Words.{word_in}
-use Rattle.pn_protocol.specs.Command.Notices.{notices_in}
-use Rattle.pn_protocol.specs.Command.Recovery.{adopt_in, copy_in, lose_in}
-use Rattle.pn_protocol.specs.Command.Relayouts.{relayout_in}
+use Rattle.pn_protocol.specs.Command.ShapeChecks.{named_alone}
+use Rattle.pn_protocol.specs.Command.Tablets.{adopt_in, copy_in, lose_in, relayout_in}
 use Rattle.pn_protocol.specs.declared.command.parse.Allowed.{Allowed}
 use Rattle.pn_protocol.specs.declared.command.parse.Allowed.TheVariants.{All, Lookups}
 use Rattle.pn_protocol.specs.declared.command.word.CommandWord.{CommandWord}
@@ -18,22 +17,27 @@ use Rattle.pn_protocol.specs.declared.refusal.Part.TheVariants.{Whole, Do}
 use Rattle.pn_protocol.specs.declared.refusal.Refusal.{Refusal}
 use Rattle.pn_protocol.specs.declared.refusal.Refusal.TheVariants.{BadShape, ReadOnly}
 use Rattle.pn_protocol.specs.Command.Deliveries.{deliver_in}
-use Rattle.pn_protocol.specs.Command.Lookups.{get_in, read_in, scan_in}
-use Rattle.pn_protocol.specs.Command.Overview.{alone_in}
+use Rattle.pn_protocol.specs.Command.Lookups.{get_in, notices_in, read_in, scan_in}
+
+-- a command whose one member is its word
+unfoldable pub alone_in : CommandValue → Members → Result CommandValue Refusal
+alone_in command members = do
+  named ← named_alone (codes "do" ∷ []) members
+  Ok command
 
 -- the command of a word
-abbrev pub command_as : CommandWord → Members → Data → Result CommandValue Refusal
-command_as Adopt members d = adopt_in members d
-command_as Copy members d = copy_in members d
-command_as Deliver members d = deliver_in members d
-command_as Get members d = get_in members d
-command_as Lose members d = lose_in members d
-command_as Marks members d = alone_in marks members
-command_as Notices members d = notices_in members d
-command_as Read members d = read_in members d
-command_as Relayout members d = relayout_in members d
-command_as Scan members d = scan_in members d
-command_as Tablets members d = alone_in tablets members
+abbrev pub command_as : CommandWord → Members → Result CommandValue Refusal
+command_as Adopt members = adopt_in members
+command_as Copy members = copy_in members
+command_as Deliver members = deliver_in members
+command_as Get members = get_in members
+command_as Lose members = lose_in members
+command_as Marks members = alone_in marks members
+command_as Notices members = notices_in members
+command_as Read members = read_in members
+command_as Relayout members = relayout_in members
+command_as Scan members = scan_in members
+command_as Tablets members = alone_in tablets members
 
 -- the word of a lookup
 abbrev pub lookup_word : CommandWord → Result (Unit {0}) Refusal
@@ -52,16 +56,16 @@ allowed_word Lookups word = lookup_word word
 unfoldable pub allowed_in : Allowed → Data → Result CommandValue Refusal
 allowed_in allowed d = do
   members ← ok_or (as_object d) (BadShape Whole)
-  word ← member_as word_in (BadShape Do) (get (codes "do") d)
+  word ← member_as word_in (BadShape Do) (get_member (codes "do") members)
   may ← allowed_word allowed word
-  command_as word members d
+  command_as word members
 
 -- the command that a value says
 abbrev pub command_in : Data → Result CommandValue Refusal
 command_in d = allowed_in All d
 
 -- memory may run out: the value is a command, or says `deliver`, `get` or `relayout`, whose batches, keys or bounds are
--- gathered before their ranges are checked
+-- collected before their ranges are checked
 abbrev pub TakesMemory : Allowed → Data → Type 0
 TakesMemory allowed d =
     IsOk (allowed_in allowed d) ⊎ (get (codes "do") d ≡ Some (string (codes "deliver"))) ⊎ (get (codes "do") d ≡ Some (string (codes "get"))) ⊎ (get (codes "do") d ≡ Some (string (codes "relayout")))

@@ -7,8 +7,9 @@ use Rattle.pn_record.specs.declared.image.Image.{Image}
 use Rattle.pn_record.specs.Limits.{is_key, is_version}
 use Rattle.pn_record.specs.Sets.{Stamp}
 use Rattle.pn_stream.specs.Positions.{DeliveryValue, are_positions}
-use Rattle.pn_tablet.specs.Limits.{max_bounds}
-use Rattle.pn_protocol.specs.Command.Limits.{max_batches, max_keys, are_few}
+use Rattle.pn_tablet.specs.declared.layout.TheConstants.{MAX_BOUNDS}
+use Rattle.pn_protocol.specs.Command.Limits.{are_few}
+use Rattle.pn_protocol.specs.declared.command.ranges.TheConstants.{MAX_BATCHES, MAX_KEYS}
 use Rattle.pn_protocol.specs.declared.refusal.Part.{Part}
 use Rattle.pn_protocol.specs.declared.refusal.Part.TheVariants.{Batches, Bounds, First, Keys, Stream, Version}
 use Rattle.pn_protocol.specs.declared.refusal.Part.TheVariants as part
@@ -37,26 +38,26 @@ batch_fits batch = do
   images ← each_fits image_fits batch.images
   fits Stream (is_name batch.stream)
 
--- 1 to 64 batches in their ranges
+-- at least one batch and not too many, in their ranges
 unfoldable pub batches_fit : List DeliveryValue → Result (Unit {0}) Refusal
 batches_fit batches = do
-  count ← fits Batches (are_few max_batches batches)
+  count ← fits Batches (are_few MAX_BATCHES batches)
   each_fits batch_fits batches
 
--- one of several keys, of 1 to 256 bytes
+-- one of several keys
 abbrev pub key_fits : Part → List ℕ → Result (Unit {0}) Refusal
 key_fits part key = fits part (is_key key)
 
--- 1 to 100 keys in their ranges
+-- at least one key and not too many, in their ranges
 unfoldable pub keys_fit : List (List ℕ) → Result (Unit {0}) Refusal
 keys_fit keys = do
-  count ← fits Keys (are_few max_keys keys)
+  count ← fits Keys (are_few MAX_KEYS keys)
   each_fits (key_fits Keys) keys
 
--- at most 63 bounds in their ranges
+-- not too many bounds, in their ranges
 unfoldable pub bounds_fit : List (List ℕ) → Result (Unit {0}) Refusal
 bounds_fit bounds = do
-  count ← fits Bounds (nat_le (length bounds) max_bounds)
+  count ← fits Bounds (nat_le (length bounds) MAX_BOUNDS)
   each_fits (key_fits Bounds) bounds
 
 -- the version that is required, if one is, in its ranges

@@ -2,7 +2,7 @@
 use Rattle.std.specs.Prelude.{ℕ, List, [], ◌∷◌, codes, Option, Some, None, option_map, Result, Ok}
 use Rattle.std.specs.Option.{ok_or}
 use Rattle.serde_json.specs.Data.{Data, null, Members}
-use Rattle.serde_json.specs.Find.{get, as_str, as_array, as_object}
+use Rattle.serde_json.specs.Find.{get, get_member, as_str, as_array, as_object}
 use Rattle.pn_json.specs.Answers.{◌>>=◌, fault_as}
 use Rattle.pn_json.specs.Members.{whole_number, member_as, each_in, no_others}
 use Rattle.pn_record.specs.Grammar.{numbers_in, shape_in}
@@ -37,6 +37,21 @@ batch_shape d = do
 -- a text among keys of this part
 abbrev pub key_shape : Part → Data → Result (List ℕ) Refusal
 key_shape part d = ok_or (as_str d) (BadShape part)
+
+-- the number of a command that has no other member than its word
+abbrev pub number_alone : List ℕ → Part → Members → Result ℕ Refusal
+number_alone name part members = do
+  value ← member_as whole_number (BadShape part) (get_member name members)
+  named ← named_alone (codes "do" ∷ name ∷ []) members
+  Ok value
+
+-- the keys of a command whose members have these names
+abbrev pub keys_alone : List ℕ → List (List ℕ) → Part → Members → Result (List (List ℕ)) Refusal
+keys_alone name names part members = do
+  items ← member_as as_array (BadShape part) (get_member name members)
+  keys ← each_in (key_shape part) items
+  named ← named_alone names members
+  Ok keys
 
 -- the version that a value requires, or none where it is null
 abbrev pub required_in : Data → Option (Option Stamp)

@@ -3,12 +3,12 @@ use Rattle.std.specs.Prelude.{ℕ, true, List, map, codes, Option, Some, None, o
 use Rattle.serde_json.specs.Data.{Data, boolean, number, string, array, object, unsigned, no_members, member}
 use Rattle.serde_json.specs.View.{items_of}
 use Rattle.pn_record.specs.Writing.{version_data}
-use Rattle.pn_region.specs.Log.{numbered, changes_after, last_of}
+use Rattle.pn_region.specs.Log.{notices_from, changes_after, last_of}
 use Rattle.pn_region.specs.declared.entry.Entry.{Entry}
 use Rattle.pn_region.specs.declared.since.Notice.{Notice}
 use Rattle.pn_region.specs.declared.since.Since.{Since}
 use Rattle.pn_region.specs.declared.since.Since.TheVariants.{Notices, Missed}
-use Rattle.pn_protocol.specs.Reply.Versions.{version_or_null}
+use Rattle.pn_protocol.specs.Reply.Rows.{version_or_null}
 
 -- a notice: the version after the change, the one before it or null, the key, and the number
 unfoldable pub notice_data : Notice → Data
@@ -33,10 +33,11 @@ abbrev pub found_since : Since → Data
 found_since (Notices next list) = notices_data next list.items
 found_since (Missed next) = missed_data next
 
+-- the reply with these notices, or that they were missed
 abbrev pub since_as : ℕ → Option (List Notice) → Data
 since_as next (Some list) = notices_data next list
 since_as next None = missed_data next
 
 -- the reply that a log of these entries gives after a number
 abbrev pub since_data : List Entry → ℕ → Data
-since_data entries n = since_as (last_of entries) (option_map (numbered n) (changes_after entries n))
+since_data entries n = since_as (last_of entries) (option_map (notices_from n) (changes_after entries n))

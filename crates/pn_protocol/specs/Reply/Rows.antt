@@ -1,11 +1,11 @@
--- Records as rows.
-use Rattle.std.specs.Prelude.{ℕ, List, map, codes}
+-- Records as rows, and versions that may be missing.
+use Rattle.std.specs.Prelude.{ℕ, List, map, codes, Option, Some, None}
 use Rattle.std.specs.FinMap.{keys}
-use Rattle.serde_json.specs.Data.{Data, string, array, object, no_members, member}
+use Rattle.serde_json.specs.Data.{Data, null, string, array, object, no_members, member}
 use Rattle.serde_json.specs.View.{items_of}
 use Rattle.pn_record.specs.declared.cell.CellState.{CellState}
 use Rattle.pn_record.specs.declared.cell.CellState.TheVariants.{One, Deleted, Conflict}
-use Rattle.pn_record.specs.Sets.{CellValue}
+use Rattle.pn_record.specs.Sets.{CellValue, Stamp}
 use Rattle.pn_record.specs.States.{state_of}
 use Rattle.pn_record.specs.Writing.{version_data, content_data}
 
@@ -22,3 +22,8 @@ row_data entry =
     (member (codes "key") (string entry.0)
     (member (codes "state") (string (state_word (state_of entry.1)))
     (member (codes "version") (version_data entry.1.0) no_members))))
+
+-- the version of a record, or null
+abbrev pub version_or_null : Option Stamp → Data
+version_or_null None = null
+version_or_null (Some version) = version_data version

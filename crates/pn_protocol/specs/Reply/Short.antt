@@ -5,8 +5,10 @@ use Rattle.pn_record.specs.Words.{word_of}
 use Rattle.pn_protocol.specs.declared.refusal.Part.{Part}
 use Rattle.pn_protocol.specs.declared.refusal.Part.TheVariants.{Whole, Do, Batches, Bounds, First, Images, Key, Keys, Lines, Need, Stream, Query, Since, Tablet, Version, Other, Image}
 use Rattle.pn_protocol.specs.declared.refusal.Refusal.{Refusal}
-use Rattle.pn_protocol.specs.Reply.Errors.{error_data}
 use Rattle.pn_protocol.specs.declared.refusal.Refusal.TheVariants.{TooLong, NotJson, BadShape, ReadOnly, OutOfRange, Memory}
+use Rattle.pn_protocol.specs.declared.reply.short.NumberName.{NumberName}
+use Rattle.pn_protocol.specs.declared.reply.short.NumberName.TheVariants as name
+use Rattle.pn_protocol.specs.Reply.Errors.{error_data}
 
 -- the part's name in lower case, or the name of the image's member
 abbrev pub part_word : Part → List ℕ
@@ -45,22 +47,33 @@ refusal_data Memory = error_data (codes "memory") no_members
 abbrev pub number_data : List ℕ → ℕ → Data
 number_data name count = object (member name (number (unsigned count)) no_members)
 
--- the replies to a delivery (changed records), an adoption and a loss (the tablet), a copy (the lines that follow),
--- and a change of layout (how many tablets there are)
+-- the reply to a delivery: how many records it changed
 unfoldable pub changed_data : ℕ → Data
 changed_data count = number_data (codes "changed") count
 
+-- the reply to an adoption: the tablet that took the copy
 unfoldable pub adopted_data : ℕ → Data
 adopted_data tablet = number_data (codes "adopted") tablet
 
+-- the reply to a loss: the tablet
 unfoldable pub lost_data : ℕ → Data
 lost_data tablet = number_data (codes "lost") tablet
 
+-- the line before a copy: how many lines follow
 unfoldable pub lines_data : ℕ → Data
 lines_data count = number_data (codes "lines") count
 
+-- the reply to a change of layout: how many tablets there are
 unfoldable pub relaid_data : ℕ → Data
 relaid_data count = number_data (codes "tablets") count
+
+-- the reply of one number
+abbrev pub number_reply_data : NumberName → ℕ → Data
+number_reply_data name.Adopted tablet = adopted_data tablet
+number_reply_data name.Changed count = changed_data count
+number_reply_data name.Lines count = lines_data count
+number_reply_data name.Lost tablet = lost_data tablet
+number_reply_data name.Tablets count = relaid_data count
 
 -- the last line of a server: `served` and the number of sessions
 abbrev pub served_line : ℕ → List ℕ

@@ -1,7 +1,8 @@
--- The reply that shows the tablets.
+-- The replies that show the tablets, and how far streams were taken.
 use Rattle.std.specs.Prelude.{ℕ, List, map, codes, Option, Some, None}
 use Rattle.serde_json.specs.Data.{Data, null, string, array, object, no_members, member}
 use Rattle.serde_json.specs.View.{items_of}
+use Rattle.pn_join.specs.Marks.{Positions}
 use Rattle.pn_record.specs.Marks.{marks_data}
 use Rattle.pn_tablet.specs.Tablets.{TabletStateValue}
 use Rattle.pn_tablet.specs.declared.state.Status.{Status}
@@ -28,3 +29,7 @@ tablet_data tablet =
 -- all tablets, in their order
 unfoldable pub tablets_data : List TabletStateValue → Data
 tablets_data tablets = object (member (codes "tablets") (array (items_of (map tablet_data tablets))) no_members)
+
+-- how far streams were taken
+unfoldable pub marks_reply_data : Positions → Data
+marks_reply_data marks = object (member (codes "marks") (marks_data marks) no_members)

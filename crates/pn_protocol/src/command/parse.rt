@@ -1,24 +1,21 @@
 //! Reads a line as a command.
 
-ghost use Rattle.std.specs.Prelude.{◌≡◌, ◌<◌, false, Ok, length, IfOk, IsOk, IsErrOf, IsTrue};
+ghost use Rattle.std.specs.Prelude.{◌≡◌, ◌<◌, ℕ, List, false, Ok, length, IfOk, IsOk, IsErrOf, IsTrue};
 ghost use Rattle.serde_json.specs.View.{view, members_view};
 ghost use Rattle.pn_json.specs.Prelude.{Shows, ShowsUnless};
 ghost use Rattle.pn_record.specs.Prelude.{max_line_bytes};
-ghost use Rattle.pn_protocol.specs.Command.BatchParts.{deliver_at};
+ghost use Rattle.pn_protocol.specs.Command.Deliveries.{deliver_at, deliver_in};
 ghost use Rattle.pn_protocol.specs.Command.Grammar.{IsCommandLine};
 ghost use Rattle.pn_protocol.specs.Command.Meaning.{CommandValue, deliver, command_value};
 ghost use Rattle.pn_protocol.specs.Command.Lines.{refusal_of, allowed_at, command_at, lookup_at, is_too_long};
-ghost use Rattle.pn_protocol.specs.Command.Overview.{alone_in};
-ghost use Rattle.pn_protocol.specs.Command.Objects.{allowed_in, allowed_word, lookup_word, TakesMemory};
+ghost use Rattle.pn_protocol.specs.Command.Objects.{alone_in, allowed_in, allowed_word, lookup_word, TakesMemory};
 
-use crate::command::batch::BatchShape;
-use crate::command::build::{built_deliveries, items_at};
-use crate::command::notices::notices_of;
+use crate::command::build::{build_deliveries, items_at};
+use crate::command::lookups::{parse_get, parse_notices, parse_read, parse_scan};
+use crate::command::members::{check_members, find_member};
 use crate::command::ranges::check_batches;
-use crate::command::records::{get_of, read_of, scan_of};
-use crate::command::recovery::{adopt_of, copy_of, lose_of};
-use crate::command::relayout::relayout_of;
-use crate::command::shapes::{batches_of, check_members};
+use crate::command::shapes::{BatchShape, batches_of};
+use crate::command::tablets::{parse_adopt, parse_copy, parse_lose, parse_relayout};
 use crate::command::word::{CommandWord, word_of};
 use crate::{Command, Part, Refusal};
 use pn_json::{items_of, member_from};
@@ -40,6 +37,11 @@ impl From<ImageFault> for Refusal {
     }
 }
 
+/// No line says two commands. A call does nothing.
+pub fn a_line_is_one_command()
+    ensures { (line : List ℕ) (one other : CommandValue) → IsCommandLine line one → IsCommandLine line other → one ≡ other }
+{}
+
 /// Reads a line as a command, or answers its first fault in the order of [`Refusal`]. `Memory` may replace any fault
 /// but `TooLong`.
 pub fn command_of(alloc: Global, line: &[u8]) -> Result<Command, Refusal>
@@ -51,7 +53,7 @@ pub fn command_of(alloc: Global, line: &[u8]) -> Result<Command, Refusal>
     ensures too_long { IsTrue (is_too_long line.now) → IsErrOf result Refusal.TooLong }
     ensures memory { IsErrOf result Refusal.Memory → is_too_long line.now ≡ false }
 {
-    allowed_command(alloc, line, Allowed::All)
+    parse_allowed(alloc, line, Allowed::All)
 }
 
 /// Reads a line of a session as a lookup, or answers its first fault. `ReadOnly` names another command, whatever its
@@ -60,7 +62,7 @@ pub fn lookup_of(alloc: Global, line: &[u8]) -> Result<Command, Refusal>
     ensures exact { ShowsUnless Refusal.Memory command_value result (lookup_at line.now) }
     ensures memory { IsErrOf result Refusal.Memory → is_too_long line.now ≡ false }
 {
-    allowed_command(alloc, line, Allowed::Lookups)
+    parse_allowed(alloc, line, Allowed::Lookups)
 }
 
 /// The commands that a line may say.
@@ -72,35 +74,35 @@ pub(crate) enum Allowed {
 }
 
 #[tactic(auto, unfolding(crate::specs::Command::Lines::allowed_at))]
-fn allowed_command(alloc: Global, line: &[u8], allowed: Allowed) -> Result<Command, Refusal>
+fn parse_allowed(alloc: Global, line: &[u8], allowed: Allowed) -> Result<Command, Refusal>
     ensures exact { ShowsUnless Refusal.Memory command_value result (allowed_at allowed line.now) }
     ensures too_long { max_line_bytes < length line.now → IsErrOf result Refusal.TooLong }
 {
     let value = read_value(alloc, line)?;
-    command_in(alloc, value, allowed)
+    parse_value(alloc, value, allowed)
 }
 
-// Reads a value as a command. Memory runs out only for a command, or while batches, keys or bounds are gathered.
-#[tactic(auto, unfolding(crate::specs::Command::Objects::allowed_in, crate::specs::Command::BatchParts::deliver_at))]
-fn command_in(alloc: Global, value: Value, allowed: Allowed) -> Result<Command, Refusal>
+// Reads a value as a command. Memory runs out only for a command, or while batches, keys or bounds are collected.
+#[tactic(auto, unfolding(crate::specs::Command::Objects::allowed_in, crate::specs::Command::Deliveries::deliver_at))]
+fn parse_value(alloc: Global, value: Value, allowed: Allowed) -> Result<Command, Refusal>
     ensures exact { ShowsUnless Refusal.Memory command_value result (allowed_in allowed (view value)) }
     ensures memory { IsErrOf result Refusal.Memory → TakesMemory allowed (view value) }
 {
     let members = value.as_object().ok_or(Refusal::BadShape(Part::Whole))?;
-    let word = word_of(value.get("do"))?;
+    let word = word_of(find_member(members, "do"))?;
     check_allowed(allowed, word)?;
     match word {
-        CommandWord::Adopt => adopt_of(members, &value),
-        CommandWord::Copy => copy_of(alloc, members, &value),
-        CommandWord::Deliver => deliver_of(alloc, value),
-        CommandWord::Get => get_of(alloc, members, &value),
-        CommandWord::Lose => lose_of(members, &value),
-        CommandWord::Marks => alone(members, Command::Marks),
-        CommandWord::Notices => notices_of(members, &value),
-        CommandWord::Read => read_of(alloc, members, &value),
-        CommandWord::Relayout => relayout_of(alloc, members, &value),
-        CommandWord::Scan => scan_of(alloc, members, &value),
-        CommandWord::Tablets => alone(members, Command::Tablets),
+        CommandWord::Adopt => parse_adopt(members),
+        CommandWord::Copy => parse_copy(alloc, members),
+        CommandWord::Deliver => parse_deliver(alloc, value),
+        CommandWord::Get => parse_get(alloc, members),
+        CommandWord::Lose => parse_lose(members),
+        CommandWord::Marks => parse_alone(members, Command::Marks),
+        CommandWord::Notices => parse_notices(members),
+        CommandWord::Read => parse_read(alloc, members),
+        CommandWord::Relayout => parse_relayout(alloc, members),
+        CommandWord::Scan => parse_scan(alloc, members),
+        CommandWord::Tablets => parse_alone(members, Command::Tablets),
     }
 }
 
@@ -125,22 +127,25 @@ fn check_lookup(word: CommandWord) -> Result<(), Refusal>
 }
 
 // Checks all before it moves anything out of the value.
-#[tactic(auto, unfolding(crate::specs::Command::BatchParts::deliver_at))]
-fn deliver_of(alloc: Global, value: Value) -> Result<Command, Refusal>
+#[tactic(auto, unfolding(crate::specs::Command::Deliveries::deliver_at))]
+fn parse_deliver(alloc: Global, value: Value) -> Result<Command, Refusal>
     ensures { ShowsUnless Refusal.Memory command_value result (deliver_at (view value)) }
 {
-    drop(checked_batches(alloc, &value)?);
+    drop(check_deliver(alloc, &value)?);
     let batches = items_at(alloc, member_from(value, "batches"));
-    Ok(Command::Deliver(built_deliveries(alloc, batches)?))
+    Ok(Command::Deliver(build_deliveries(alloc, batches)?))
 }
 
 // The batches of a `deliver` command, borrowed from its value.
-#[tactic(auto, unfolding(crate::specs::Command::Deliveries::deliver_in, crate::specs::Command::BatchParts::deliver_at))]
-fn checked_batches(alloc: Global, value: &Value) -> Result<Vec<BatchShape<'_>>, Refusal>
+#[tactic(auto, unfolding(crate::specs::Command::Deliveries::deliver_in, crate::specs::Command::Deliveries::deliver_at))]
+fn check_deliver(alloc: Global, value: &Value) -> Result<Vec<BatchShape<'_>>, Refusal>
     ensures { ShowsUnless Refusal.Memory (λ batches. deliver batches.items) result (deliver_at (view value.now)) }
 {
     let members = value.as_object().ok_or(Refusal::BadShape(Part::Whole))?;
-    let items = items_of(value.get("batches"), Refusal::BadShape(Part::Batches))?;
+    let items = items_of(
+        find_member(members, "batches"),
+        Refusal::BadShape(Part::Batches),
+    )?;
     let shapes = batches_of(alloc, items)?;
     check_members(members, &["batches", "do"])?;
     check_batches(&shapes)?;
@@ -148,8 +153,8 @@ fn checked_batches(alloc: Global, value: &Value) -> Result<Vec<BatchShape<'_>>, 
 }
 
 // A command whose one member is its word.
-#[tactic(auto, unfolding(crate::specs::Command::Overview::alone_in))]
-fn alone(members: &Map<String, Value>, command: Command) -> Result<Command, Refusal>
+#[tactic(auto, unfolding(crate::specs::Command::Objects::alone_in))]
+fn parse_alone(members: &Map<String, Value>, command: Command) -> Result<Command, Refusal>
     ensures exact { Shows command_value result (alone_in (command_value command) (members_view members.now.entries)) }
     ensures memory { IsErrOf result Refusal.Memory → ⊥ }
 {

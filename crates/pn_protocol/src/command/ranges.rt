@@ -3,20 +3,23 @@
 ghost use Rattle.std.specs.Prelude.{◌≡◌, IsErrOf};
 ghost use Rattle.pn_json.specs.Prelude.{texts};
 ghost use Rattle.pn_record.specs.Prelude.{is_key};
-ghost use Rattle.pn_protocol.specs.Command.RangeChecks.{fits, each_fits, image_fits, batch_fits, batches_fit, bounds_fit, key_fits, keys_fit};
+ghost use Rattle.pn_protocol.specs.Command.Limits.{may_announce, may_be_asked};
+ghost use Rattle.pn_protocol.specs.Command.RangeChecks.{fits, each_fits, image_fits, batch_fits, batches_fit, bounds_fit, fitting_version, key_fits, keys_fit};
+ghost use Rattle.pn_protocol.specs.declared.refusal.Part.TheVariants as part;
 
-use crate::command::batch::BatchShape;
+use crate::command::shapes::BatchShape;
 use crate::{Part, Refusal};
 use pn_join::Name;
-use pn_record::UncheckedImage;
-use pn_record::limits::MAX_KEY_BYTES;
+use pn_record::{Key, UncheckedImage, Version};
+use pn_region::LAST_NUMBER;
 use pn_stream::positions_fit;
+use pn_tablet::MAX_BOUNDS;
+
+/// The most lines that a command announces.
+const MAX_ANNOUNCED: u64 = 1_000_000;
 
 /// The most batches of a command.
 const MAX_BATCHES: usize = 64;
-
-/// The most bounds of a layout.
-const MAX_BOUNDS: usize = 63;
 
 /// The most keys of a command.
 const MAX_KEYS: usize = 100;
@@ -103,8 +106,44 @@ pub(crate) fn check_key(text: &str, part: Part) -> Result<(), Refusal>
     ensures exact { result ≡ fits part (is_key text.now) }
     ensures memory { IsErrOf result Refusal.Memory → ⊥ }
 {
-    if text.is_empty() || text.len() > MAX_KEY_BYTES {
+    if !Key::fits(text) {
         return Err(Refusal::OutOfRange(part));
     }
     Ok(())
+}
+
+/// Checks a number of lines that a command announces.
+pub(crate) fn check_lines(lines: u64) -> Result<(), Refusal>
+    ensures exact { result ≡ fits part.Lines (may_announce lines) }
+    ensures memory { IsErrOf result Refusal.Memory → ⊥ }
+{
+    if lines < 1 || lines > MAX_ANNOUNCED {
+        return Err(Refusal::OutOfRange(Part::Lines));
+    }
+    Ok(())
+}
+
+/// Checks a number after which notices are asked for.
+pub(crate) fn check_since(since: u64) -> Result<(), Refusal>
+    ensures exact { result ≡ fits part.Since (may_be_asked since) }
+    ensures memory { IsErrOf result Refusal.Memory → ⊥ }
+{
+    if since > LAST_NUMBER {
+        return Err(Refusal::OutOfRange(Part::Since));
+    }
+    Ok(())
+}
+
+/// The version of these numbers, if there are some.
+pub(crate) fn check_version(numbers: Option<(u64, u64)>) -> Result<Option<Version>, Refusal>
+    ensures exact { result ≡ fitting_version numbers }
+    ensures memory { IsErrOf result Refusal.Memory → ⊥ }
+{
+    let Some((generation, number)) = numbers else {
+        return Ok(None);
+    };
+    match Version::new(generation, number) {
+        Some(version) => Ok(Some(version)),
+        None => Err(Refusal::OutOfRange(Part::Version)),
+    }
 }

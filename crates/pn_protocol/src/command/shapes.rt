@@ -1,24 +1,33 @@
 //! Checks the shapes of a line's parts, and borrows them from the parsed value.
 
 ghost use Rattle.std.specs.Prelude.{◌≡◌, [], vec_capacity, IfOk, IsErrOf};
-ghost use Rattle.serde_json.specs.View.{view, items_view, members_view};
+ghost use Rattle.serde_json.specs.View.{view, items_view};
 ghost use Rattle.pn_json.specs.Prelude.{IsUnless, Shows, ShowsUnless, seen, texts, each_in};
-ghost use Rattle.pn_protocol.specs.Command.ShapeChecks.{named_alone, image_shape, batch_shape, key_shape, required_in, version_shape};
+ghost use Rattle.pn_protocol.specs.Command.ShapeChecks.{image_shape, batch_shape, key_shape, required_in, version_shape};
 
-use crate::command::batch::BatchShape;
+use crate::command::members::{check_members, find_member};
 use crate::{Part, Refusal};
 use pn_join::NoMemory;
-use pn_json::{check_names, items_of, text_of, whole_number_of};
+use pn_json::{items_of, text_of, whole_number_of};
 use pn_record::{UncheckedImage, numbers_of, unchecked_image};
-use serde_json::{Map, Value};
+use serde_json::Value;
 use std::alloc::Global;
+use std::marker::Model;
 
-/// Checks that each member has one of these names.
-pub(crate) fn check_members(members: &Map<String, Value>, names: &[&str]) -> Result<(), Refusal>
-    ensures exact { result ≡ named_alone (texts names.now) (members_view members.now.entries) }
-    ensures memory { IsErrOf result Refusal.Memory → ⊥ }
-{
-    check_names(members, names, Refusal::BadShape(Part::Other))
+/// The parts of a batch of the right shape. Their ranges are not checked yet.
+#[derive(Drop)]
+pub(crate) struct BatchShape<'v> {
+    pub(crate) first: u64,
+    pub(crate) images: Vec<UncheckedImage<'v>>,
+    pub(crate) stream: &'v str,
+}
+
+impl<'v> Model for BatchShape<'v> {
+    ghost use Rattle.pn_stream.specs.Prelude.{DeliveryValue};
+
+    ghost Value = { DeliveryValue };
+
+    ghost view = { λ b. record { stream = b.stream.now; first = b.first; images = b.images.items } };
 }
 
 fn image_of(value: &Value) -> Result<UncheckedImage<'_>, Refusal>
@@ -33,7 +42,7 @@ fn image_of(value: &Value) -> Result<UncheckedImage<'_>, Refusal>
 fn images_of(alloc: Global, items: &[Value]) -> Result<Vec<UncheckedImage<'_>>, Refusal>
     ensures { ShowsUnless Refusal.Memory (λ images. images.items) result (each_in image_shape (items_view items.now)) }
 {
-    let mut images = room(alloc, items.len())?;
+    let mut images = with_capacity(alloc, items.len())?;
     for item in items {
         images.push_reserved(image_of(item)?);
     }
@@ -45,10 +54,19 @@ fn batch_of(alloc: Global, value: &Value) -> Result<BatchShape<'_>, Refusal>
     ensures { IsUnless Refusal.Memory result (batch_shape (view value.now)) }
 {
     let members = value.as_object().ok_or(Refusal::BadShape(Part::Batches))?;
-    let first = whole_number_of(value.get("first"), Refusal::BadShape(Part::First))?;
-    let items = items_of(value.get("images"), Refusal::BadShape(Part::Images))?;
+    let first = whole_number_of(
+        find_member(members, "first"),
+        Refusal::BadShape(Part::First),
+    )?;
+    let items = items_of(
+        find_member(members, "images"),
+        Refusal::BadShape(Part::Images),
+    )?;
     let images = images_of(alloc, items)?;
-    let stream = text_of(value.get("stream"), Refusal::BadShape(Part::Stream))?;
+    let stream = text_of(
+        find_member(members, "stream"),
+        Refusal::BadShape(Part::Stream),
+    )?;
     check_members(members, &["first", "images", "stream"])?;
     Ok(BatchShape {
         first,
@@ -61,7 +79,7 @@ fn batch_of(alloc: Global, value: &Value) -> Result<BatchShape<'_>, Refusal>
 pub(crate) fn batches_of(alloc: Global, items: &[Value]) -> Result<Vec<BatchShape<'_>>, Refusal>
     ensures { ShowsUnless Refusal.Memory (λ batches. batches.items) result (each_in batch_shape (items_view items.now)) }
 {
-    let mut batches = room(alloc, items.len())?;
+    let mut batches = with_capacity(alloc, items.len())?;
     for item in items {
         batches.push_reserved(batch_of(alloc, item)?);
     }
@@ -82,7 +100,7 @@ pub(crate) fn key_texts<'v>(
 ) -> Result<Vec<&'v str>, Refusal>
     ensures { ShowsUnless Refusal.Memory (λ keys. texts keys.items) result (each_in (key_shape part) (items_view items.now)) }
 {
-    let mut keys = room(alloc, items.len())?;
+    let mut keys = with_capacity(alloc, items.len())?;
     for item in items {
         keys.push_reserved(key_text(item, part)?);
     }
@@ -109,9 +127,9 @@ fn numbers_required(value: &Value) -> Option<Option<(u64, u64)>>
     }
 }
 
-fn room<T: Drop>(alloc: Global, count: usize) -> Result<Vec<T>, NoMemory>
+fn with_capacity<T: Drop>(alloc: Global, count: usize) -> Result<Vec<T>, NoMemory>
     ensures none { IfOk result (λ items. items.items ≡ []) }
-    ensures room { IfOk result (λ items. vec_capacity items ≡ count) }
+    ensures capacity { IfOk result (λ items. vec_capacity items ≡ count) }
 {
     Ok(Vec::with_capacity(alloc, count)?)
 }

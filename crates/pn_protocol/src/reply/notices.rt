@@ -15,7 +15,7 @@ use pn_region::{Notice, Since};
 use std::alloc::Global;
 
 /// The changes after a number: `{"next":N,"notices":[..]}`, or `{"missed":true,"next":N}`.
-pub fn since_reply(alloc: Global, since: &Since) -> Result<Vec<u8>, NoMemory>
+pub fn notices_reply(alloc: Global, since: &Since) -> Result<Vec<u8>, NoMemory>
     ensures { IfOk result (λ text. text.items ≡ line_of (found_since since.now)) }
 {
     let mut writer = begin_line(alloc)?;
@@ -27,13 +27,13 @@ fn write_since(writer: &mut Writer, since: &Since) -> Result<(), NoMemory>
     ensures { OnOk result (Appends writer.old writer.new (value_tokens (found_since since.now))) }
 {
     match since {
-        Since::Notices { next, list } => write_told(writer, *next, list),
+        Since::Notices { next, list } => write_list(writer, *next, list),
         Since::Missed { next } => write_missed(writer, *next),
     }
 }
 
 #[tactic(auto, unfolding(crate::specs::Reply::Notices::notices_data))]
-fn write_told(writer: &mut Writer, next: u64, list: &[Notice]) -> Result<(), NoMemory>
+fn write_list(writer: &mut Writer, next: u64, list: &[Notice]) -> Result<(), NoMemory>
     ensures { OnOk result (Appends writer.old writer.new (value_tokens (notices_data next list.now))) }
 {
     writer.begin_object()?;

@@ -7,7 +7,7 @@ ghost use Rattle.serde_json.specs.View.{items_of};
 ghost use Rattle.pn_json.specs.Prelude.{line_of, Appends, value_tokens, values_tokens};
 ghost use Rattle.pn_protocol.specs.Reply.Record.{row_or_null, read_data, rows_or_nulls, get_data};
 
-use crate::reply::room::{room_of_found, room_of_row_or_null};
+use crate::reply::capacity::{capacity_of_found, capacity_of_row_or_null};
 use crate::reply::rows::{begin_rows, write_row};
 use json::Writer;
 use pn_join::NoMemory;
@@ -19,7 +19,7 @@ use std::alloc::Global;
 pub(crate) fn read_reply(alloc: Global, key: &Key, cell: Option<&Cell>) -> Result<Vec<u8>, NoMemory>
     ensures { IfOk result (λ text. text.items ≡ line_of (read_data key.now (option_copied cell.entry))) }
 {
-    let mut writer = begin_rows(alloc, room_of_row_or_null(key, cell))?;
+    let mut writer = begin_rows(alloc, capacity_of_row_or_null(key, cell))?;
     write_read(&mut writer, key, cell)?;
     finish_line(writer)
 }
@@ -52,7 +52,7 @@ pub(crate) fn get_reply(
 ) -> Result<Vec<u8>, NoMemory>
     ensures { IfOk result (λ text. text.items ≡ line_of (get_data keys.now cells.now)) }
 {
-    let mut writer = begin_rows(alloc, room_of_found(keys, cells))?;
+    let mut writer = begin_rows(alloc, capacity_of_found(keys, cells))?;
     write_get(&mut writer, keys, cells)?;
     finish_line(writer)
 }

@@ -2,8 +2,7 @@
 
 ghost use Rattle.std.specs.Prelude.{◌≡◌, IfOk, OnOk};
 ghost use Rattle.pn_json.specs.Prelude.{Appends, IsBegun, value_tokens};
-ghost use Rattle.pn_protocol.specs.Reply.Versions.{version_or_null};
-ghost use Rattle.pn_protocol.specs.Reply.Rows.{row_data, state_word as word_of_state};
+ghost use Rattle.pn_protocol.specs.Reply.Rows.{row_data, state_word as word_of_state, version_or_null};
 
 use json::Writer;
 use pn_join::NoMemory;
@@ -11,14 +10,14 @@ use pn_json::write_text_member;
 use pn_record::{Cell, CellState, Key, Version, write_contents, write_version};
 use std::alloc::Global;
 
-/// An empty line with room for this many bytes.
-pub(crate) fn begin_rows(alloc: Global, room: usize) -> Result<Writer, NoMemory>
+/// An empty line of this capacity, in bytes.
+pub(crate) fn begin_rows(alloc: Global, capacity: usize) -> Result<Writer, NoMemory>
     ensures { IfOk result IsBegun }
 {
-    Ok(Writer::new(Vec::with_capacity(alloc, room)?))
+    Ok(Writer::new(Vec::with_capacity(alloc, capacity)?))
 }
 
-// The row of a record: `{"contents":[..],"key":K,"state":S,"version":V}`.
+/// The row of a record: `{"contents":[..],"key":K,"state":S,"version":V}`.
 pub(crate) fn write_row(writer: &mut Writer, key: &Key, cell: &Cell) -> Result<(), NoMemory>
     ensures { OnOk result (Appends writer.old writer.new (value_tokens (row_data (key.now, cell.now)))) }
 {

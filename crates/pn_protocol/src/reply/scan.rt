@@ -8,7 +8,7 @@ ghost use Rattle.pn_json.specs.Prelude.{line_of, Appends, value_tokens, values_t
 ghost use Rattle.pn_protocol.specs.Reply.Rows.{row_data};
 ghost use Rattle.pn_protocol.specs.Reply.Scan.{next_data, scan_data};
 
-use crate::reply::room::{prefetch_rows, room_of_rows};
+use crate::reply::capacity::{capacity_of_rows, prefetch_rows};
 use crate::reply::rows::{begin_rows, write_row};
 use json::Writer;
 use pn_join::NoMemory;
@@ -23,7 +23,7 @@ const ROWS_AT_HAND: usize = 12;
 pub fn scan_reply(alloc: Global, page: &Page) -> Result<Vec<u8>, NoMemory>
     ensures { IfOk result (λ text. text.items ≡ line_of (scan_data (page.now.rows.items, page.now.next))) }
 {
-    let mut writer = begin_rows(alloc, room_of_rows(&page.rows))?;
+    let mut writer = begin_rows(alloc, capacity_of_rows(&page.rows))?;
     write_scan(&mut writer, page)?;
     finish_line(writer)
 }
@@ -73,12 +73,12 @@ fn write_chunk(writer: &mut Writer, rows: &[Row]) -> Result<(), NoMemory>
     ensures { OnOk result (Appends writer.old writer.new (values_tokens (map row_data rows.now))) }
 {
     for row in rows {
-        write_shown(writer, row)?;
+        write_scan_row(writer, row)?;
     }
     Ok(())
 }
 
-fn write_shown(writer: &mut Writer, row: &Row) -> Result<(), NoMemory>
+fn write_scan_row(writer: &mut Writer, row: &Row) -> Result<(), NoMemory>
     ensures { OnOk result (Appends writer.old writer.new (value_tokens (row_data row.now))) }
 {
     write_row(writer, &row.key, &row.cell)

@@ -1,30 +1,31 @@
-//! Replies of fixed texts, names and numbers, held in place.
+//! Replies of fixed texts, names and numbers, held in one array.
 
 ghost use Rattle.std.specs.Prelude.{◌≡◌, ◌+◌, ◌≤◌, [], ◌++◌, codes, decimal, length};
 ghost use Rattle.pn_json.specs.Prelude.{line_of};
-ghost use Rattle.pn_protocol.specs.Reply.Short.{refusal_data, adopted_data, changed_data, lines_data, lost_data, relaid_data, served_line};
+ghost use Rattle.pn_protocol.specs.Reply.Short.{refusal_data, number_reply_data, served_line};
 
 use crate::Refusal;
 use std::marker::Model;
 
 /// The most bytes of a short reply.
-const ROOM: usize = 128;
+const CAPACITY: usize = 128;
 
 /// A reply of one line.
 #[derive(Debug, Drop)]
 pub struct ShortReply {
-    bytes: [u8; ROOM],
+    bytes: [u8; CAPACITY],
     len: usize,
 }
 
 impl Model for ShortReply {
     ghost use Rattle.std.specs.Prelude.{ℕ, List, take, ◌≤◌};
+    ghost use Rattle.pn_protocol.specs.declared.reply.short.TheConstants.{CAPACITY};
 
     ghost Value = { List ℕ };
 
     ghost view = { λ reply. take reply.len reply.bytes };
 
-    ghost invariant = { λ reply. reply.len ≤ 128 };
+    ghost invariant = { λ reply. reply.len ≤ CAPACITY };
 }
 
 impl ShortReply {
@@ -39,13 +40,13 @@ impl ShortReply {
         ensures { result ≡ [] }
     {
         ShortReply {
-            bytes: [0; ROOM],
+            bytes: [0; CAPACITY],
             len: 0,
         }
     }
 
     fn push(&mut self, text: &str)
-        requires { length self.old + length text.now ≤ ROOM }
+        requires { length self.old + length text.now ≤ CAPACITY }
         ensures { self.new ≡ self.old ++ text.now }
     {
         let end = self.len + text.len();
@@ -79,7 +80,36 @@ pub fn refusal_reply(refusal: &Refusal) -> ShortReply
     reply
 }
 
-fn number_reply(before: &str, number: u64) -> ShortReply
+/// What the number of a reply says.
+#[derive(Clone, Copy, Debug, PartialEq, Eq)]
+pub enum NumberName {
+    /// The tablet that took a copy.
+    Adopted,
+    /// How many records a delivery changed.
+    Changed,
+    /// How many lines of a copy follow.
+    Lines,
+    /// The tablet that was lost.
+    Lost,
+    /// How many tablets a new layout has.
+    Tablets,
+}
+
+/// The reply of one number, as `{"changed":3}`.
+#[tactic(auto, unfolding(pn_json::specs::Lines::line_of, crate::specs::Reply::Short::adopted_data, crate::specs::Reply::Short::changed_data, crate::specs::Reply::Short::lines_data, crate::specs::Reply::Short::lost_data, crate::specs::Reply::Short::relaid_data, serde_json::proofs::OnLiterals::serde_json_on_literals))]
+pub fn number_reply(name: NumberName, number: u64) -> ShortReply
+    ensures { result ≡ line_of (number_reply_data name number) }
+{
+    match name {
+        NumberName::Adopted => number_line("{\"adopted\":", number),
+        NumberName::Changed => number_line("{\"changed\":", number),
+        NumberName::Lines => number_line("{\"lines\":", number),
+        NumberName::Lost => number_line("{\"lost\":", number),
+        NumberName::Tablets => number_line("{\"tablets\":", number),
+    }
+}
+
+fn number_line(before: &str, number: u64) -> ShortReply
     requires { length before.now ≤ 32 }
     ensures { result ≡ before.now ++ (decimal number ++ codes "}\n") }
 {
@@ -88,46 +118,6 @@ fn number_reply(before: &str, number: u64) -> ShortReply
     reply.push(itoa::Buffer::new().format(number));
     reply.push("}\n");
     reply
-}
-
-/// The reply to a delivery, `{"changed":N}`: the number of records that it changed.
-#[tactic(auto, unfolding(pn_json::specs::Lines::line_of, crate::specs::Reply::Short::changed_data, serde_json::proofs::OnLiterals::serde_json_on_literals))]
-pub fn changed_reply(count: u64) -> ShortReply
-    ensures { result ≡ line_of (changed_data count) }
-{
-    number_reply("{\"changed\":", count)
-}
-
-/// The reply to an adoption, `{"adopted":T}`: the number of the tablet that took the copy.
-#[tactic(auto, unfolding(pn_json::specs::Lines::line_of, crate::specs::Reply::Short::adopted_data, serde_json::proofs::OnLiterals::serde_json_on_literals))]
-pub fn adopted_reply(tablet: u64) -> ShortReply
-    ensures { result ≡ line_of (adopted_data tablet) }
-{
-    number_reply("{\"adopted\":", tablet)
-}
-
-/// The reply to a loss, `{"lost":T}`: the number of the tablet.
-#[tactic(auto, unfolding(pn_json::specs::Lines::line_of, crate::specs::Reply::Short::lost_data, serde_json::proofs::OnLiterals::serde_json_on_literals))]
-pub fn lost_reply(tablet: u64) -> ShortReply
-    ensures { result ≡ line_of (lost_data tablet) }
-{
-    number_reply("{\"lost\":", tablet)
-}
-
-/// The line before a copy, `{"lines":L}`: the number of the copy's lines.
-#[tactic(auto, unfolding(pn_json::specs::Lines::line_of, crate::specs::Reply::Short::lines_data, serde_json::proofs::OnLiterals::serde_json_on_literals))]
-pub fn lines_reply(count: u64) -> ShortReply
-    ensures { result ≡ line_of (lines_data count) }
-{
-    number_reply("{\"lines\":", count)
-}
-
-/// The reply to a change of layout, `{"tablets":N}`: the number of tablets.
-#[tactic(auto, unfolding(pn_json::specs::Lines::line_of, crate::specs::Reply::Short::relaid_data, serde_json::proofs::OnLiterals::serde_json_on_literals))]
-pub fn relaid_reply(count: u64) -> ShortReply
-    ensures { result ≡ line_of (relaid_data count) }
-{
-    number_reply("{\"tablets\":", count)
 }
 
 /// The last line of a server, `served N`: the number of sessions.

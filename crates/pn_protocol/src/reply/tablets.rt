@@ -1,4 +1,4 @@
-//! The reply that shows the tablets.
+//! The replies that show the tablets, and how far streams were taken.
 
 ghost use Rattle.std.specs.Prelude.{◌≡◌, ◌≤◌, length, map, Some, IfOk, OnOk, slice_get};
 ghost use Rattle.std.specs.Option.{option_copied};
@@ -6,10 +6,10 @@ ghost use Rattle.serde_json.specs.Data.{array};
 ghost use Rattle.serde_json.specs.View.{items_of};
 ghost use Rattle.pn_json.specs.Prelude.{line_of, Appends, value_tokens};
 ghost use Rattle.pn_tablet.specs.Prelude.{TabletStateValue};
-ghost use Rattle.pn_protocol.specs.Reply.Tablets.{end_data, need_data, tablet_data, tablets_data};
+ghost use Rattle.pn_protocol.specs.Reply.Tablets.{end_data, marks_reply_data, need_data, tablet_data, tablets_data};
 
 use json::Writer;
-use pn_join::NoMemory;
+use pn_join::{Marks, NoMemory};
 use pn_json::{begin_line, finish_line};
 use pn_record::{Key, write_marks};
 use pn_region::Region;
@@ -21,12 +21,12 @@ pub fn tablets_reply(alloc: Global, region: &Region) -> Result<Vec<u8>, NoMemory
     ensures { IfOk result (λ text. text.items ≡ line_of (tablets_data region.now.state.tablets)) }
 {
     let mut writer = begin_line(alloc)?;
-    write_tablets_shown(&mut writer, region)?;
+    write_tablets_object(&mut writer, region)?;
     finish_line(writer)
 }
 
 #[tactic(auto, unfolding(crate::specs::Reply::Tablets::tablets_data))]
-fn write_tablets_shown(writer: &mut Writer, region: &Region) -> Result<(), NoMemory>
+fn write_tablets_object(writer: &mut Writer, region: &Region) -> Result<(), NoMemory>
     ensures { OnOk result (Appends writer.old writer.new (value_tokens (tablets_data region.now.state.tablets))) }
 {
     writer.begin_object()?;
@@ -83,4 +83,24 @@ fn write_need(writer: &mut Writer, status: &Status) -> Result<(), NoMemory>
         Status::Serving => Ok(writer.null()?),
         Status::Recovering { need } => write_marks(writer, need),
     }
+}
+
+/// The reply to `marks`, `{"marks":{..}}`: how far streams were taken.
+pub fn marks_reply(alloc: Global, marks: &Marks) -> Result<Vec<u8>, NoMemory>
+    ensures { IfOk result (λ text. text.items ≡ line_of (marks_reply_data marks.now)) }
+{
+    let mut writer = begin_line(alloc)?;
+    write_marks_object(&mut writer, marks)?;
+    finish_line(writer)
+}
+
+#[tactic(auto, unfolding(crate::specs::Reply::Tablets::marks_reply_data))]
+fn write_marks_object(writer: &mut Writer, marks: &Marks) -> Result<(), NoMemory>
+    ensures { OnOk result (Appends writer.old writer.new (value_tokens (marks_reply_data marks.now))) }
+{
+    writer.begin_object()?;
+    writer.key("marks")?;
+    write_marks(writer, marks)?;
+    writer.end_object()?;
+    Ok(())
 }

@@ -8,8 +8,8 @@ use Rattle.pn_tablet.specs.Tablets.{TabletStateValue}
 use Rattle.pn_tablet.specs.declared.change.Change.{Change}
 use Rattle.pn_region.specs.Logged.{LoggedRegion}
 use Rattle.pn_region.specs.Regions.{RegionValue}
-use Rattle.pn_region.specs.declared.entry.Entry.{Entry}
-use Rattle.pn_region.specs.declared.entry.Entry.TheVariants.{Changed, Break}
+use Rattle.pn_region.specs.declared.notices.Entry.{Entry}
+use Rattle.pn_region.specs.declared.notices.Entry.TheVariants.{Changed, Break}
 
 -- a region as pairs
 abbrev pub region_code : Coded RegionValue

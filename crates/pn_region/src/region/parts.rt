@@ -5,7 +5,7 @@ ghost use Rattle.std.specs.List.{AllByRecursion};
 ghost use Rattle.pn_join.specs.Prelude.{are_positions};
 ghost use Rattle.pn_tablet.specs.Prelude.{IsLayout};
 ghost use Rattle.pn_apply.specs.Prelude.{ranges};
-ghost use Rattle.pn_region.specs.Limits.{max_streams};
+ghost use Rattle.pn_region.specs.declared.marking.TheConstants.{MAX_STREAMS};
 ghost use Rattle.pn_region.specs.Regions.{ArePartsOf, IsSound};
 
 use super::Region;
@@ -27,14 +27,14 @@ impl Region {
         log: Log,
     ) -> Region
         requires tablets { ArePartsOf marks (ranges layout) tablets.items }
-        requires few { length marks ≤ max_streams }
+        requires few { length marks ≤ MAX_STREAMS }
         requires positions { IsTrue (are_positions marks) }
         ensures layout { result.state.layout ≡ layout }
         ensures tablets { result.state.tablets ≡ tablets.items }
         ensures marks { result.state.marks ≡ marks }
         ensures log { result.log ≡ log }
     {
-        are_sound(&layout, &tablets);
+        recall_all(&layout, &tablets);
         Region {
             layout,
             tablets,
@@ -45,18 +45,20 @@ impl Region {
     }
 }
 
-// Does nothing: its clauses are what every layout and every tablet keeps.
-fn are_sound(layout: &Layout, tablets: &[TabletState])
+// Recalls for the prover that a layout is lawful and tablets are sound.
+fn recall_all(layout: &Layout, tablets: &[TabletState])
     ensures lawful { IsLayout layout.now }
     ensures sound { AllByRecursion IsSound tablets.now }
 {
-    let _ = layout.count();
+    layout.recall_order();
     for tablet in tablets {
-        is_sound(tablet);
+        recall_soundness(tablet);
     }
 }
 
-fn is_sound(tablet: &TabletState)
+/// Recalls for the prover that a tablet is sound: its keys lie in its range, its cells are those of images, and its
+/// reach reaches its cover.
+pub fn recall_soundness(tablet: &TabletState)
     ensures { IsSound tablet.now }
 {
     let _ = tablet.range();

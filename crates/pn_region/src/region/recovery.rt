@@ -6,8 +6,8 @@ ghost use Rattle.pn_tablet.specs.Copying.{is_memory as is_no_copy_memory};
 ghost use Rattle.pn_tablet.specs.Prelude.{copy_of, Answers, Refuses, same_range};
 ghost use Rattle.pn_tablet.specs.Steps.{is_memory};
 ghost use Rattle.pn_tablet.specs.declared.fault.CopyFault.TheVariants.{NoEntry};
-ghost use Rattle.pn_region.specs.Logged.{breaking};
-ghost use Rattle.pn_region.specs.Recovery.{losing, adopting};
+ghost use Rattle.pn_region.specs.Logged.{with_break};
+ghost use Rattle.pn_region.specs.Recovery.{after_loss, after_adoption};
 
 use super::Region;
 use crate::AdoptFault;
@@ -21,8 +21,8 @@ impl Region {
     /// Cover, reach and marks stay, and the log has a break.
     pub fn lose(&mut self, tablet: usize)
         requires { tablet ≤ length self.old.state.layout }
-        ensures state { self.new.state ≡ losing self.old.state tablet }
-        ensures log { self.new.log ≡ breaking self.old.log }
+        ensures state { self.new.state ≡ after_loss self.old.state tablet }
+        ensures log { self.new.log ≡ with_break self.old.log }
     {
         let _ = self.tablets[tablet].apply(&TabletOp::Lose);
         self.log.cut();
@@ -36,9 +36,9 @@ impl Region {
     ///
     /// An error leaves the region as it was.
     pub fn adopt(&mut self, copy: TabletCopy) -> Result<usize, AdoptFault>
-        ensures ok { IfOk result (λ tablet. adopting self.old.state copy ≡ Ok (tablet, self.new.state)) }
-        ensures log { OnOk result (self.new.log ≡ breaking self.old.log) }
-        ensures refused { IfErr result (λ fault. Refuses is_memory fault (adopting self.old.state copy)) }
+        ensures ok { IfOk result (λ tablet. after_adoption self.old.state copy ≡ Ok (tablet, self.new.state)) }
+        ensures log { OnOk result (self.new.log ≡ with_break self.old.log) }
+        ensures refused { IfErr result (λ fault. Refuses is_memory fault (after_adoption self.old.state copy)) }
         ensures err { OnErr result (self.new ≡ self.old) }
     {
         let Some(tablet) = self.tablet_for(&copy.range) else {

@@ -3,12 +3,12 @@
 ghost use Rattle.std.specs.Prelude.{◌≡◌, ◌++◌, map, filter, Ok, IsTrue, IfOk, IfErr, OnOk, OnErr, option_map, unwrap_or};
 ghost use Rattle.std.specs.FinMap.{is_sorted};
 ghost use Rattle.std.specs.List.{flat_map};
-ghost use Rattle.pn_join.specs.Marks.{least as least_of};
-ghost use Rattle.pn_join.specs.Prelude.{Reaches, are_positions, raised};
+ghost use Rattle.pn_join.specs.Marks.{least_marks};
+ghost use Rattle.pn_join.specs.Prelude.{Reaches, are_positions, raised_marks};
 ghost use Rattle.pn_record.specs.Prelude.{bytes_cmp};
 ghost use Rattle.pn_tablet.specs.Prelude.{in_range, lie_in, meet, Refuses};
 ghost use Rattle.pn_apply.specs.Prelude.{ranges};
-ghost use Rattle.pn_region.specs.Relayouts.{relaying, made_of, parts_of, least_cover, greatest_reach, first_recovering as first_that_recovers, is_recovering, is_memory};
+ghost use Rattle.pn_region.specs.Relayouts.{after_relayout, made_of, parts_of, least_cover, greatest_reach, first_recovering as first_that_recovers, is_recovering, is_memory};
 
 use super::{Region, range_of};
 use crate::RelayoutFault;
@@ -26,15 +26,15 @@ impl Region {
     /// `StillRecovering` comes exactly where a tablet is recovering, and names the first. An error leaves the region
     /// as it was.
     pub fn relayout(&mut self, layout: Layout) -> Result<(), RelayoutFault>
-        ensures ok { OnOk result (relaying self.old.state layout ≡ Ok self.new.state) }
+        ensures ok { OnOk result (after_relayout self.old.state layout ≡ Ok self.new.state) }
         ensures log { self.new.log ≡ self.old.log }
-        ensures refused { IfErr result (λ fault. Refuses is_memory fault (relaying self.old.state layout)) }
+        ensures refused { IfErr result (λ fault. Refuses is_memory fault (after_relayout self.old.state layout)) }
         ensures err { OnErr result (self.new ≡ self.old) }
     {
         if let Some(tablet) = first_recovering(&self.tablets) {
             return Err(RelayoutFault::StillRecovering(tablet));
         }
-        let tablets = made_tablets(self.alloc, &self.tablets, &layout)?;
+        let tablets = build_tablets(self.alloc, &self.tablets, &layout)?;
         self.layout = layout;
         self.tablets = tablets;
         Ok(())
@@ -57,8 +57,8 @@ fn recovers(tablet: &TabletState) -> bool
     }
 }
 
-// A tablet for each range of the layout, made of the old ones.
-fn made_tablets(
+// Builds a tablet for each range of the layout of the old ones.
+fn build_tablets(
     alloc: Global,
     tablets: &[TabletState],
     layout: &Layout,
@@ -68,13 +68,13 @@ fn made_tablets(
 {
     let mut made = Vec::with_capacity(alloc, layout.count())?;
     for tablet in 0..layout.count() {
-        made.push_reserved(made_tablet(alloc, tablets, range_of(layout, tablet)?)?);
+        made.push_reserved(build_tablet(alloc, tablets, range_of(layout, tablet)?)?);
     }
     Ok(made)
 }
 
-// The tablet that serves the range with the records of the old ones.
-fn made_tablet(
+// Builds the tablet that serves the range with the records of the old ones.
+fn build_tablet(
     alloc: Global,
     tablets: &[TabletState],
     range: Range,
@@ -139,7 +139,7 @@ fn cover_of(alloc: Global, tablets: &[TabletState], range: &Range) -> Result<Mar
 
 // The lesser of both positions at each name, or the marks where there are no others.
 fn with_cover(least: Option<Marks>, marks: &Marks) -> Result<Marks, NoMemory>
-    ensures { IfOk result (λ both. both ≡ unwrap_or (option_map (λ own. least_of own marks.now) least) marks.now) }
+    ensures { IfOk result (λ both. both ≡ unwrap_or (option_map (λ own. least_marks own marks.now) least) marks.now) }
 {
     match least {
         Some(least) => least.least(marks),
@@ -164,7 +164,7 @@ fn reach_of(alloc: Global, tablets: &[TabletState], range: &Range) -> Result<Mar
 
 // Raises the reach to the tablet's, where it is less.
 fn raise_to(reach: &mut Marks, tablet: &TabletState) -> Result<(), NoMemory>
-    ensures ok { OnOk result (reach.new ≡ raised reach.old tablet.now.reach) }
+    ensures ok { OnOk result (reach.new ≡ raised_marks reach.old tablet.now.reach) }
     ensures positions { IsTrue (are_positions tablet.now.reach) }
     ensures reached { Reaches tablet.now.reach tablet.now.cover }
 {

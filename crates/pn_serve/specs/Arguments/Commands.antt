@@ -8,30 +8,24 @@ use Rattle.std.specs.declared.net.ip_addr.IpAddr.{IpAddr}
 use Rattle.clap.specs.ValueTests.{is_unsigned_in}
 use Rattle.clap.specs.Words.{Row, Text, all_of, first_of, one_of}
 use Rattle.pn_json.specs.Answers.{◌>>=◌}
+use Rattle.pn_apply.specs.Prelude.{MAX_WORKERS}
+use Rattle.pn_live.specs.Prelude.{MAX_READERS}
+use Rattle.pn_serve.specs.declared.arguments.options.TheConstants.{MAX_CONNECTIONS, MAX_IDLE, MAX_PORT}
 use Rattle.pn_serve.specs.Settings.{SettingsValue}
 use Rattle.pn_serve.specs.Arguments.Bounds.{bounds_in}
 use Rattle.pn_serve.specs.Arguments.Streams.{streams_in}
 use Rattle.pn_serve.specs.declared.arguments.plans.PlanFault.{PlanFault}
 use Rattle.pn_serve.specs.declared.arguments.plans.PlanFault.TheVariants as fault
-use Rattle.pn_serve.specs.Arguments.PlanValues.{PlaceValue, PlanValue, ServiceValue, path, port, replay, serve}
+use Rattle.pn_serve.specs.Arguments.PlanValues.{AddressValue, PlanValue, ServiceValue, path, port, replay, serve}
 
--- the number that decimal digits write, in 16 bits
+-- the number that decimal digits write, in 32 bits
 abbrev pub number_in : Text → Option ℕ
 number_in text =
-    if is_unsigned_in 0 65535 text then Some (digits_value 10 (without_leading_plus text)) else None
+    if is_unsigned_in 0 4294967295 text then Some (digits_value 10 (without_leading_plus text)) else None
 
 -- the number of an option, from 1 to `most`, as `clap` ensures
 abbrev pub number_at : Text → ℕ → List Row → ℕ
 number_at name most options = max 1 (min (unwrap_or (option_and_then number_in (one_of name options)) 1) most)
-
--- the count that decimal digits write, in 32 bits
-abbrev pub count_in : Text → Option ℕ
-count_in text =
-    if is_unsigned_in 0 4294967295 text then Some (digits_value 10 (without_leading_plus text)) else None
-
--- the count of an option, from 1 to `most`, as `clap` ensures
-abbrev pub count_at : Text → ℕ → List Row → ℕ
-count_at name most options = max 1 (min (unwrap_or (option_and_then count_in (one_of name options)) 1) most)
 
 -- the text of an option, which is empty where there is none
 abbrev pub text_at : Text → List Row → Text
@@ -47,50 +41,50 @@ is_set name options = bytes_eq (text_at name options) (codes "true")
 
 -- the connections of a server that stays
 abbrev pub stay_in : List Row → Option ℕ
-stay_in options = if is_set (codes "stay") options then Some (count_at (codes "connections") 65536 options) else None
+stay_in options = if is_set (codes "stay") options then Some (number_at (codes "connections") MAX_CONNECTIONS options) else None
 
 -- the seconds after which an idle client is ended
 abbrev pub idle_in : List Row → Option ℕ
-idle_in options = if is_absent (codes "idle") options then None else Some (count_at (codes "idle") 86400 options)
+idle_in options = if is_absent (codes "idle") options then None else Some (number_at (codes "idle") MAX_IDLE options)
 
--- a Unix socket, or else the port at this address
-abbrev pub place_in : IpAddr → List Row → PlaceValue
-place_in address options =
-    if is_absent (codes "socket") options then port address (number_at (codes "port") 65535 options)
+-- a Unix socket, or else the port of this host
+abbrev pub address_in : IpAddr → List Row → AddressValue
+address_in host options =
+    if is_absent (codes "socket") options then port host (number_at (codes "port") MAX_PORT options)
     else path (text_at (codes "socket") options)
 
 -- how sessions are served
 abbrev pub service_in : IpAddr → List Row → ServiceValue
-service_in address options = record {
-  sessions = number_at (codes "sessions") 16 options;
-  place = place_in address options;
+service_in host options = record {
+  sessions = number_at (codes "sessions") MAX_READERS options;
+  address = address_in host options;
   stay = stay_in options;
   idle = idle_in options;
   is_progress_told = is_set (codes "progress") options;
 }
 
--- the text of the address that is listened at
+-- the text of the host that is listened at
 abbrev pub listens_at : List Row → Text
 listens_at options = text_at (codes "listen") options
 
--- the address that a text writes, or none where it writes none
+-- the host that a text writes, or none where it writes none
 abbrev pub Spells : Text → Option IpAddr → Type 0
-Spells text None = (address : IpAddr) → ¬ (IsIpText text address)
-Spells text (Some address) = IsIpText text address
+Spells text None = (host : IpAddr) → ¬ (IsIpText text host)
+Spells text (Some host) = IsIpText text host
 
 -- the layout and the workers that options say
 abbrev pub settings_in : List Row → Result SettingsValue PlanFault
 settings_in options = do
   layout ← bounds_in (text_at (codes "bounds") options)
-  Ok (record { layout = layout; workers = number_at (codes "workers") 16 options })
+  Ok (record { layout = layout; workers = number_at (codes "workers") MAX_WORKERS options })
 
--- what the options of `serve` say, where the text of the address writes this
+-- what the options of `serve` say, where the text of the host writes this
 abbrev pub serve_in : Option IpAddr → List Row → Result PlanValue PlanFault
 serve_in written options = do
   settings ← settings_in options
-  address ← ok_or written fault.Address
+  host ← ok_or written fault.Address
   streams ← streams_in (unwrap_or (all_of (codes "streams") options) [])
-  Ok (serve settings (service_in address options) streams)
+  Ok (serve settings (service_in host options) streams)
 
 -- what the options of `replay` say
 abbrev pub replay_in : List Row → Result PlanValue PlanFault
@@ -102,6 +96,6 @@ replay_in options = do
 abbrev pub is_serve : Text × List Row → Bool
 is_serve command = bytes_eq command.0 (codes "serve")
 
--- what a command says with its options, where the text of the address writes this
+-- what a command says with its options, where the text of the host writes this
 abbrev pub plan_in : Option IpAddr → Text × List Row → Result PlanValue PlanFault
 plan_in written command = if is_serve command then serve_in written command.1 else replay_in command.1

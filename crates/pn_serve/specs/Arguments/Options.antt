@@ -4,6 +4,9 @@ use Rattle.clap.specs.Words.{App, Rule, Text, new_app, new_rule, with_rule, with
 use Rattle.clap.specs.declared.builder.action.ArgAction.TheVariants.{Append, SetTrue}
 use Rattle.clap.specs.declared.builder.value_parser.ValueParser.{ValueParser}
 use Rattle.clap.specs.declared.builder.value_parser.ValueParser.TheVariants as values
+use Rattle.pn_apply.specs.Prelude.{MAX_WORKERS}
+use Rattle.pn_live.specs.Prelude.{MAX_READERS}
+use Rattle.pn_serve.specs.declared.arguments.options.TheConstants.{MAX_CONNECTIONS, MAX_IDLE, MAX_PORT}
 
 -- an option with one value, and its default
 abbrev pub option_of : Text → Text → Rule
@@ -19,19 +22,23 @@ bounds_option = option_of (codes "bounds") (codes "[]")
 
 -- how many workers a round has
 abbrev pub workers_option : Rule
-workers_option = number_option (codes "workers") (codes "1") 16
+workers_option = number_option (codes "workers") (codes "1") MAX_WORKERS
 
 -- how many sessions are served
 abbrev pub sessions_option : Rule
-sessions_option = number_option (codes "sessions") (codes "4") 16
+sessions_option = number_option (codes "sessions") (codes "4") MAX_READERS
 
 -- the port that is listened on
 abbrev pub port_option : Rule
-port_option = number_option (codes "port") (codes "7070") 65535
+port_option = number_option (codes "port") (codes "7070") MAX_PORT
+
+-- an option without value
+abbrev pub flag_option : Text → Rule
+flag_option name = record (new_rule name) { long = Some name; action = Some SetTrue }
 
 -- whether the program goes on until a signal ends it
 abbrev pub stay_flag : Rule
-stay_flag = record (new_rule (codes "stay")) { long = Some (codes "stay"); action = Some SetTrue }
+stay_flag = flag_option (codes "stay")
 
 -- the address that is listened at
 abbrev pub listen_option : Rule
@@ -47,15 +54,15 @@ socket_option = plain_option (codes "socket") values.NonEmptyString
 
 -- after how many seconds an idle client is ended
 abbrev pub idle_option : Rule
-idle_option = plain_option (codes "idle") (values.Signed (pos 1) (pos 86400))
+idle_option = plain_option (codes "idle") (values.Signed (pos 1) (pos MAX_IDLE))
 
 -- whether progress is written to standard error
 abbrev pub progress_flag : Rule
-progress_flag = record (new_rule (codes "progress")) { long = Some (codes "progress"); action = Some SetTrue }
+progress_flag = flag_option (codes "progress")
 
 -- how many connections are served at once
 abbrev pub connections_option : Rule
-connections_option = number_option (codes "connections") (codes "1024") 65536
+connections_option = number_option (codes "connections") (codes "1024") MAX_CONNECTIONS
 
 -- at least one stream, one argument each
 abbrev pub streams_words : Rule
@@ -75,11 +82,11 @@ abbrev pub serve : App
 serve = with_rule (with_service (with_rule (with_rule (new_app (codes "serve")) bounds_option) workers_option)) streams_words
 
 -- the program, which needs a command, and has a version
-abbrev pub named : App
-named = record (new_app (codes "pnuts")) {
+abbrev pub named_program : App
+named_program = record (new_app (codes "pnuts")) {
   top = record (new_app (codes "pnuts")).top { has_version = true; subcommand_required = true; disable_help_subcommand = true };
 }
 
 -- the program with its commands
 abbrev pub program : App
-program = with_subcommand (with_subcommand named replay.top) serve.top
+program = with_subcommand (with_subcommand named_program replay.top) serve.top

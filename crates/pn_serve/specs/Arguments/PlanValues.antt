@@ -3,22 +3,22 @@ use Rattle.std.specs.Prelude.{ℕ, Bool, List, map, string_bytes, Option}
 use Rattle.std.specs.declared.net.ip_addr.IpAddr.{IpAddr}
 use Rattle.pn_serve.specs.Settings.{SettingsValue}
 use Rattle.pn_serve.specs.Arguments.Streams.{StreamValue, stream_value}
-use Rattle.pn_serve.specs.declared.arguments.plans.Place.{Place}
-use Rattle.pn_serve.specs.declared.arguments.plans.Place.TheVariants as place
+use Rattle.pn_serve.specs.declared.arguments.plans.Address.{Address}
+use Rattle.pn_serve.specs.declared.arguments.plans.Address.TheVariants as address
 use Rattle.pn_serve.specs.declared.arguments.plans.Plan.{Plan}
 use Rattle.pn_serve.specs.declared.arguments.plans.Plan.TheVariants as plan
 use Rattle.pn_serve.specs.declared.arguments.plans.Service.{Service}
 
--- an address and a port, or the path of a Unix socket
-pub data PlaceValue : Type 0 where
-  port : IpAddr → ℕ → PlaceValue
-  path : List ℕ → PlaceValue
+-- a host and a port, or the path of a Unix socket
+pub data AddressValue : Type 0 where
+  port : IpAddr → ℕ → AddressValue
+  path : List ℕ → AddressValue
 
--- the sessions, where it is listened, the connections of a server that stays, the seconds of a client that is idle, and
+-- the sessions, where the server listens, the connections of a server that stays, the seconds of a client that is idle, and
 -- whether progress is told
 pub record ServiceValue : Type 0 where
   pub sessions : ℕ
-  pub place : PlaceValue
+  pub address : AddressValue
   pub stay : Option ℕ
   pub idle : Option ℕ
   pub is_progress_told : Bool
@@ -30,16 +30,16 @@ pub data PlanValue : Type 0 where
   help : PlanValue
   version : PlanValue
 
--- where a plan listens
-abbrev pub place_value : Place → PlaceValue
-place_value (place.Port address number) = port address number
-place_value (place.Path text) = path (string_bytes text)
+-- where the server of a plan listens
+abbrev pub address_value : Address → AddressValue
+address_value (address.Port host number) = port host number
+address_value (address.Path text) = path (string_bytes text)
 
 -- how a plan serves
 abbrev pub service_value : Service → ServiceValue
 service_value service = record {
   sessions = service.sessions;
-  place = place_value service.place;
+  address = address_value service.address;
   stay = service.stay;
   idle = service.idle;
   is_progress_told = service.is_progress_told;

@@ -5,6 +5,7 @@ use Rattle.std.specs.Str.{bytes_eq}
 use Rattle.std.specs.declared.alloc.Global.{Global}
 use Rattle.pn_json.specs.Answers.{◌>>=◌}
 use Rattle.pn_join.specs.Naming.{is_name}
+use Rattle.pn_serve.specs.declared.arguments.streams.TheConstants.{MAX_STREAMS}
 use Rattle.pn_serve.specs.declared.arguments.plans.PlanFault.{PlanFault}
 use Rattle.pn_serve.specs.declared.arguments.plans.PlanFault.TheVariants as fault
 
@@ -44,14 +45,10 @@ abbrev pub names_differ : List StreamValue → Bool
 names_differ [] = true
 names_differ (stream ∷ streams) = not (has_name streams stream.0) && names_differ streams
 
--- the most streams that are read
-abbrev pub max_streams : ℕ
-max_streams = 16
-
 -- at most 16 streams, whose names differ
 unfoldable pub streams_in : List (List ℕ) → Result (List StreamValue) PlanFault
 streams_in words =
-    if nat_lt max_streams (length words) then Err fault.Stream
+    if nat_lt MAX_STREAMS (length words) then Err fault.Stream
     else do
       streams ← each_stream words
       if names_differ streams then Ok streams else Err fault.Stream

@@ -5,19 +5,19 @@ use Rattle.pn_region.specs.Proofs.Coding.{region_code, entry_code}
 use Rattle.pn_region.specs.Regions.{RegionValue}
 use Rattle.pn_region.specs.declared.entry.Entry.{Entry}
 use Rattle.pn_serve.specs.Lines.States.{LineLoopValue}
-use Rattle.pn_serve.specs.Machine.Outcomes.{Mode, idle, announced, Machine}
+use Rattle.pn_serve.specs.Machine.Outcomes.{Mode, awaits_command, announced, Machine}
 
 -- a mode as what was announced
 abbrev pub mode_in : Mode → Option (ℕ × Option (List ℕ))
-mode_in idle = None
+mode_in awaits_command = None
 mode_in (announced left text) = Some (left, text)
 
 abbrev pub mode_from : Option (ℕ × Option (List ℕ)) → Mode
-mode_from None = idle
+mode_from None = awaits_command
 mode_from (Some (left, text)) = announced left text
 
 abbrev pub same_mode : (mode : Mode) → mode_from (mode_in mode) ≡ mode
-same_mode idle = refl
+same_mode awaits_command = refl
 same_mode (announced left text) = refl
 
 abbrev pub mode_code : Coded Mode

@@ -2,13 +2,14 @@
 use Rattle.std.specs.Prelude.{◌≡◌, ◌<◌, ℕ, List, [], ◌∷◌, length, All, Option, IfSome}
 use Rattle.pn_line.specs.LinesRead.{LinesRead}
 use Rattle.pn_line.specs.Sent.{Sends}
+use Rattle.pn_line.specs.declared.line_buffer.TheConstants.{ENDLESS}
 use Rattle.pn_protocol.specs.declared.reply.Reply.{Reply}
 use Rattle.pn_serve.specs.Lines.States.{LineLoopValue, Start}
 use Rattle.pn_serve.specs.Lines.Replies.{texts_of, refusals_of}
 
 -- a line with fewer than a billion bytes
 abbrev pub IsShort : List ℕ → Type 0
-IsShort line = length line < 1000000000
+IsShort line = length line < ENDLESS
 
 -- by the relation of a handler to lines, or to the end of the input
 module _ {V : Type 0} (makes : V → List ℕ → V → Reply → Type 0) where

@@ -4,7 +4,7 @@ use Rattle.pn_protocol.specs.declared.reply.Reply.{Reply}
 use Rattle.pn_protocol.specs.Command.Meaning.{CommandValue}
 use Rattle.pn_serve.specs.Machine.Outcomes.{Outcome, line, Machine, Turn}
 use Rattle.pn_protocol.specs.Reply.Texts.{reply_text, is_refusal}
-use Rattle.pn_serve.specs.Machine.Turns.{obeying, turn}
+use Rattle.pn_serve.specs.Machine.Turns.{command_turn, turn}
 use Rattle.pn_serve.specs.Machine.LastTurns.{end_turn}
 
 -- by one outcome, the turn comes to this machine and this reply
@@ -44,4 +44,4 @@ Concludes old part new reply = ConcludesBy (Unit {0}) old part new reply
 
 -- what the program did with a command
 abbrev pub Obeys : Machine → CommandValue → Machine → Reply → Type 0
-Obeys old command new reply = Turned (λ outcome. obeying old outcome command) new reply
+Obeys old command new reply = Turned (λ outcome. command_turn old outcome command) new reply

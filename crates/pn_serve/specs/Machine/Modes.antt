@@ -7,7 +7,7 @@ use Rattle.pn_serve.specs.declared.machine.Handled.{Handled}
 use Rattle.pn_serve.specs.declared.machine.Handled.TheVariants.{Obeyed, Announces}
 use Rattle.pn_protocol.specs.declared.reply.Reply.{Reply}
 use Rattle.pn_protocol.specs.declared.reply.Reply.TheVariants.{Silent}
-use Rattle.pn_serve.specs.Machine.Outcomes.{Mode, idle, announced, Machine}
+use Rattle.pn_serve.specs.Machine.Outcomes.{Mode, awaits_command, announced, Machine}
 
 -- the bytes of a text, if there is one
 abbrev pub bytes_of : Option (Vec ℕ Global) → Option (List ℕ)
@@ -15,7 +15,7 @@ bytes_of text = option_map (λ bytes. bytes.items) text
 
 -- the mode: a command is next, or announced lines
 abbrev pub mode_of : Option Announced → Mode
-mode_of None = idle
+mode_of None = awaits_command
 mode_of (Some lines) = announced lines.left (bytes_of lines.text)
 
 -- a machine that waits for these lines
@@ -23,6 +23,6 @@ abbrev pub with_mode : Option Announced → LoggedRegion → Machine
 with_mode lines logged = record { mode = mode_of lines; region = logged.state; log = logged.log }
 
 -- the reply of a first step, or the lines that it announces
-abbrev pub IsDone : Handled → Reply → Option Announced → Type 0
-IsDone (Obeyed said) reply lines = (reply ≡ said) × (lines ≡ None)
-IsDone (Announces count) reply lines = (reply ≡ Silent) × (mode_of lines ≡ announced count (Some []))
+abbrev pub IsAnswer : Handled → Reply → Option Announced → Type 0
+IsAnswer (Obeyed said) reply lines = (reply ≡ said) × (lines ≡ None)
+IsAnswer (Announces count) reply lines = (reply ≡ Silent) × (mode_of lines ≡ announced count (Some []))

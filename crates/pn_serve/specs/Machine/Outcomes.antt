@@ -18,7 +18,7 @@ pub data Outcome : Type 0 where
 -- what the next line is: a command, or announced text of a copy, with the lines still to come and the text so far
 -- (none once memory ran out)
 pub data Mode : Type 0 where
-  idle : Mode
+  awaits_command : Mode
   announced : ℕ → Option (List ℕ) → Mode
 
 -- what the next line is, the region, and the log of its changes
@@ -34,25 +34,25 @@ pub record Turn : Type 0 where
   pub refused : Bool
 
 -- a machine over a region with its log, which waits for a command
-abbrev pub waiting : LoggedRegion → Machine
-waiting logged = record { mode = idle; region = logged.state; log = logged.log }
+abbrev pub machine_over : LoggedRegion → Machine
+machine_over logged_region = record { mode = awaits_command; region = logged_region.state; log = logged_region.log }
 
 -- a machine over a region with an empty log, which waits for a command
-abbrev pub serving : RegionValue → Machine
-serving region = record { mode = idle; region = region; log = [] }
+abbrev pub new_machine : RegionValue → Machine
+new_machine region = record { mode = awaits_command; region = region; log = [] }
 
 -- the region with its log
-abbrev pub logged : Machine → LoggedRegion
-logged machine = record { state = machine.region; log = machine.log }
+abbrev pub logged_region : Machine → LoggedRegion
+logged_region machine = record { state = machine.region; log = machine.log }
 
 -- the line was refused, and nothing changed
-abbrev pub refusing : Machine → Refusal → Turn
-refusing machine refusal = record { machine = machine; reply = line_of (refusal_data refusal); refused = true }
+abbrev pub refusal_turn : Machine → Refusal → Turn
+refusal_turn machine refusal = record { machine = machine; reply = line_of (refusal_data refusal); refused = true }
 
 -- there is no reply
-abbrev pub silent : Machine → Turn
-silent machine = record { machine = machine; reply = []; refused = false }
+abbrev pub silent_turn : Machine → Turn
+silent_turn machine = record { machine = machine; reply = []; refused = false }
 
 -- the line was answered, and nothing changed
-abbrev pub showing : Machine → List ℕ → Turn
-showing machine reply = record { machine = machine; reply = reply; refused = false }
+abbrev pub reply_turn : Machine → List ℕ → Turn
+reply_turn machine reply = record { machine = machine; reply = reply; refused = false }

@@ -1,4 +1,4 @@
--- Where a run ends: what it read and wrote, and what is left of its script.
+-- What a run begins with, and where it ends: what it read and wrote, and what is left of its script.
 use Rattle.std.specs.Prelude.{◌≡◌, ◌≢◌, ℕ, List, [], length, Option, Some, IfSome, Result, Ok, Err}
 use Rattle.std.specs.Io.KnownBytes.{Appends, Keeps}
 use Rattle.pn_line.specs.LinesRead.{PartRead}
@@ -7,10 +7,21 @@ use Rattle.pn_line.specs.Text.{lines_of}
 use Rattle.pn_serve.specs.declared.script.Counts.{Counts}
 use Rattle.pn_serve.specs.declared.script.RunFault.{RunFault}
 use Rattle.pn_serve.specs.declared.script.RunFault.TheVariants.{Read, Write, TooManyTurns, Memory}
-use Rattle.pn_serve.specs.Machine.Outcomes.{Outcome, serving}
+use Rattle.pn_serve.specs.Machine.Outcomes.{Outcome, new_machine}
 use Rattle.pn_serve.specs.Script.Written.{replies, replies_from, refusals}
-use Rattle.pn_serve.specs.Runs.Starts.{RunStart}
 use Rattle.pn_serve.specs.Runs.Bounds.{lines_within, IsAtBound}
+use Rattle.pn_region.specs.Regions.{RegionValue, new_region}
+use Rattle.pn_serve.specs.Settings.{SettingsValue}
+
+-- the start of a run: its region, the bytes left in its source, and those in its writer
+pub record RunStart : Type 0 where
+  pub region : RegionValue
+  pub left : Option (List ℕ)
+  pub written : Option (List ℕ)
+
+-- what a run with these settings begins with
+abbrev pub run_start : SettingsValue → Option (List ℕ) → Option (List ℕ) → RunStart
+run_start settings left written = record { region = new_region settings.layout; left = left; written = written }
 
 -- the whole script was read; by one list of outcomes and one for the end, its replies were written, and its lines and
 -- refusals were counted
@@ -29,7 +40,7 @@ pub record Broken (begun : RunStart) (script : List ℕ) (left written : Option 
   pub part : List ℕ
   pub read : PartRead script left lines part
   pub outcomes : List Outcome
-  pub wrote : Appends begun.written written (replies_from (serving begun.region) lines outcomes)
+  pub wrote : Appends begun.written written (replies_from (new_machine begun.region) lines outcomes)
 
 -- some lines and a part of the next were read; a prefix of the script's replies was written
 pub record Cut (begun : RunStart) (script : List ℕ) (left written : Option (List ℕ)) : Type 0 where
@@ -47,7 +58,7 @@ pub record Exceeded (begun : RunStart) (script : List ℕ) (left written : Optio
   pub read : PartRead script left (lines_within script) part
   pub stopped : IsAtBound (lines_within script) part
   pub outcomes : List Outcome
-  pub wrote : Appends begun.written written (replies_from (serving begun.region) (lines_within script) outcomes)
+  pub wrote : Appends begun.written written (replies_from (new_machine begun.region) (lines_within script) outcomes)
   pub more : lines_within script ≢ lines_of script
 
 -- where a run ends, by what it answered; out of memory, nothing was read or written

@@ -11,14 +11,14 @@ use Rattle.pn_protocol.specs.Command.Lines.{command_at}
 use Rattle.pn_protocol.specs.Command.Meaning.{scan}
 use Rattle.pn_protocol.specs.Reply.Scan.{scan_data}
 use Rattle.pn_serve.specs.Machine.LastTurns.{end_turn}
-use Rattle.pn_serve.specs.Machine.Outcomes.{idle, Machine, Turn}
+use Rattle.pn_serve.specs.Machine.Outcomes.{awaits_command, Machine, Turn}
 use Rattle.pn_serve.specs.Machine.Turns.{turn}
 use Rattle.pn_serve.specs.Script.Inputs.{InputEnd}
 use Rattle.pn_serve.specs.Script.Lines.{ToldLine, after_line}
 
 -- the line asks for a query's page, and its reply is the JSON of this page, which the region has
 pub record ShowsPage (machine : Machine) (text : List ℕ) (turned : Turn) (query : QueryValue) (page : PageValue) : Type 0 where
-  pub waits : machine.mode ≡ idle
+  pub waits : machine.mode ≡ awaits_command
   pub says : command_at text ≡ Ok (scan query)
   pub found : page_in machine.region query ≡ Ok page
   pub replied : turned.reply ≡ line_of (scan_data page)

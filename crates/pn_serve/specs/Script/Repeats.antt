@@ -6,16 +6,16 @@ use Rattle.pn_region.specs.Taken.{AreRounds}
 use Rattle.pn_protocol.specs.Command.Lines.{command_at}
 use Rattle.pn_protocol.specs.Command.Meaning.{deliver}
 use Rattle.pn_serve.specs.Machine.LastTurns.{end_turn}
-use Rattle.pn_serve.specs.Machine.Outcomes.{idle, Machine, serving}
+use Rattle.pn_serve.specs.Machine.Outcomes.{awaits_command, Machine, new_machine}
 use Rattle.pn_serve.specs.Machine.Turns.{turn}
-use Rattle.pn_serve.specs.Script.Events.{happened_in}
+use Rattle.pn_serve.specs.Script.Events.{events_in}
 use Rattle.pn_serve.specs.Script.Inputs.{InputEnd}
 use Rattle.pn_serve.specs.Script.Lines.{ToldLine, told_lines, after_line}
 use Rattle.pn_serve.specs.Script.Told.{Told}
 
 -- a command is awaited, and the line delivers this
 pub record Delivers (machine : Machine) (text : List ℕ) (deliveries : List DeliveryValue) : Type 0 where
-  pub waits : machine.mode ≡ idle
+  pub waits : machine.mode ≡ awaits_command
   pub says : command_at text ≡ Ok (deliver deliveries)
 
 -- the line delivers this, and is refused: memory runs out, or the round leaves a gap or has too many streams
@@ -43,7 +43,7 @@ abbrev pub IsRepeated : Machine → List ToldLine → Option InputEnd → List D
 IsRepeated machine [] end deliveries = IsAcceptedAtEnd machine end deliveries
 IsRepeated machine (line ∷ lines) end deliveries =
     IsAccepted machine line deliveries
-    ⊎ (AreRounds (happened_in machine.mode machine line.outcome line.text) × IsRepeated (after_line machine line) lines end deliveries)
+    ⊎ (AreRounds (events_in machine.mode machine line.outcome line.text) × IsRepeated (after_line machine line) lines end deliveries)
 
 -- the line is a round that is refused, and later repeated
 pub record IsMadeUp (machine : Machine) (line : ToldLine) (later : List ToldLine) (end : Option InputEnd) : Type 0 where
@@ -61,5 +61,5 @@ AreWithout machine (line ∷ lines) end others =
 -- both have one layout; the other was told the same, without some refused rounds that are later repeated
 pub record IsToldWithout (one other : Told) : Type 0 where
   pub layout : one.layout ≡ other.layout
-  pub lines : AreWithout (serving (new_region one.layout)) (told_lines one.input.lines one.input.outcomes) one.input.end (told_lines other.input.lines other.input.outcomes)
+  pub lines : AreWithout (new_machine (new_region one.layout)) (told_lines one.input.lines one.input.outcomes) one.input.end (told_lines other.input.lines other.input.outcomes)
   pub end : other.input.end ≡ one.input.end

@@ -12,11 +12,11 @@ use Rattle.pn_region.specs.Held.{HoldsStill}
 use Rattle.pn_region.specs.Regions.{RegionValue, new_region, all_cells}
 use Rattle.pn_region.specs.Serving.{ServesAt}
 use Rattle.pn_protocol.specs.declared.refusal.Refusal.TheVariants.{Memory}
-use Rattle.pn_serve.specs.Machine.Outcomes.{Outcome, Machine, serving}
+use Rattle.pn_serve.specs.Machine.Outcomes.{Outcome, Machine, new_machine}
 use Rattle.pn_serve.specs.Machine.Turns.{turn}
 use Rattle.pn_serve.specs.Machine.LastTurns.{end_turn}
 use Rattle.pn_protocol.specs.Reply.Short.{refusal_data}
-use Rattle.pn_serve.specs.Script.Taken.{taken, Settled, Waits}
+use Rattle.pn_serve.specs.Script.Taken.{images_taken, Settled, Waits}
 use Rattle.pn_serve.specs.Script.Inputs.{Input, after_input}
 
 -- a new region of a layout that took an input
@@ -27,7 +27,7 @@ pub record Told : Type 0 where
 
 -- its machine after the input
 abbrev pub machine_of : Told → Machine
-machine_of told = after_input (serving (new_region told.layout)) told.input
+machine_of told = after_input (new_machine (new_region told.layout)) told.input
 
 -- the records of all its tablets together
 abbrev pub records_of : Told → Entries
@@ -35,7 +35,7 @@ records_of told = all_cells (machine_of told).region
 
 -- the images that it took, in rounds and by copies
 abbrev pub images_of : BrokerRecord → Told → List Image
-images_of broker told = taken broker (new_region told.layout) told.input
+images_of broker told = images_taken broker (new_region told.layout) told.input
 
 -- both are settled, and they took the same images
 pub record TookTheSame (broker : BrokerRecord) (one other : Told) : Type 0 where

@@ -1,7 +1,7 @@
 -- The replies to lines, one after another, and the machine after them.
 use Rattle.std.specs.Prelude.{ℕ, ◌+◌, Bool, true, false, List, [], ◌∷◌, ◌++◌}
 use Rattle.pn_region.specs.Regions.{RegionValue}
-use Rattle.pn_serve.specs.Machine.Outcomes.{Outcome, done, Machine, Turn, serving}
+use Rattle.pn_serve.specs.Machine.Outcomes.{Outcome, done, Machine, Turn, new_machine}
 use Rattle.pn_serve.specs.Machine.Turns.{turn}
 use Rattle.pn_serve.specs.Machine.LastTurns.{end_turn}
 use Rattle.pn_serve.specs.Script.Parts.{parts_of}
@@ -39,12 +39,12 @@ refusals_from machine (text ∷ lines) outcomes =
 
 -- what the end of a script does, by an outcome of its own, after the part of a line that follows its last newline
 abbrev pub end_of : RegionValue → List ℕ → List Outcome → Outcome → Turn
-end_of region script outcomes last = end_turn (machine_after (serving region) (parts_of script).0 outcomes) last (parts_of script).1
+end_of region script outcomes last = end_turn (machine_after (new_machine region) (parts_of script).0 outcomes) last (parts_of script).1
 
 -- the replies to a script
 abbrev pub replies : RegionValue → List ℕ → List Outcome → Outcome → List ℕ
-replies region script outcomes last = replies_from (serving region) (parts_of script).0 outcomes ++ (end_of region script outcomes last).reply
+replies region script outcomes last = replies_from (new_machine region) (parts_of script).0 outcomes ++ (end_of region script outcomes last).reply
 
 -- how many replies to a script are refusals
 abbrev pub refusals : RegionValue → List ℕ → List Outcome → Outcome → ℕ
-refusals region script outcomes last = refusals_from (serving region) (parts_of script).0 outcomes + one_if (end_of region script outcomes last).refused
+refusals region script outcomes last = refusals_from (new_machine region) (parts_of script).0 outcomes + one_if (end_of region script outcomes last).refused

@@ -1,11 +1,8 @@
 -- Messages for a round.
-use Rattle.std.specs.Prelude.{ℕ, ◌≤◌, length}
+use Rattle.std.specs.Prelude.{◌≤◌, length}
 use Rattle.pn_stream.specs.Positions.{DeliveryValue}
-
--- the most messages of a stream in one round
-abbrev pub max_messages : ℕ
-max_messages = 1000
+use Rattle.pn_serve.specs.declared.server.messages.TheConstants.{MAX_MESSAGES}
 
 -- 1 to 1,000 messages of a stream
 abbrev pub FitRound : DeliveryValue → Type 0
-FitRound delivery = (1 ≤ length delivery.images) × (length delivery.images ≤ max_messages)
+FitRound delivery = (1 ≤ length delivery.images) × (length delivery.images ≤ MAX_MESSAGES)

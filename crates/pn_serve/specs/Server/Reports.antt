@@ -6,46 +6,46 @@ use Rattle.pn_stream.specs.Faults.{Stands}
 use Rattle.pn_stream.specs.Positions.{DeliveryValue}
 use Rattle.pn_stream.specs.declared.fault.StreamFault.{StreamFault}
 use Rattle.pn_stream.specs.declared.fault.StreamFault.TheVariants.{Failed}
-use Rattle.pn_serve.specs.Server.Messages.{max_messages}
+use Rattle.pn_serve.specs.declared.server.messages.TheConstants.{MAX_MESSAGES}
 use Rattle.pn_serve.specs.declared.server.reports.Report.{Report}
-use Rattle.pn_serve.specs.declared.server.reports.Report.TheVariants.{Taken, End, Fault}
+use Rattle.pn_serve.specs.declared.server.reports.Report.TheVariants.{Messages, End, Fault}
 
 -- the delivery of these images at the next positions of the stream
-abbrev pub following : {S : Type 0} → Stream S → DeliveryValue → DeliveryValue
-following stream delivery = record { stream = stream.name; first = min (stream.position + 1) greatest; images = delivery.images }
+abbrev pub next_delivery : {S : Type 0} → Stream S → DeliveryValue → DeliveryValue
+next_delivery stream delivery = record { stream = stream.name; first = min (stream.position + 1) greatest; images = delivery.images }
 
 -- the report is right for what the source has left: the next messages; no whole line; or a fault that comes next
 abbrev pub Leaves : {S : Type 0} → (S → Option (List ℕ)) → Stream S → Report → Stream S → Type 0
-Leaves left old (Taken messages) new = (old.fault ≡ None) × (messages.delivery ≡ following old messages.delivery)
+Leaves left old (Messages messages) new = (old.fault ≡ None) × (messages.delivery ≡ next_delivery old messages.delivery)
     × (new.position ≡ old.position + length messages.delivery.images)
-    × IfSome (left old.source) (λ text. Batch 1 max_messages old.position (old.part ++ text) messages.delivery.images new.fault new.part (left new.source))
+    × IfSome (left old.source) (λ text. Batch 1 MAX_MESSAGES old.position (old.part ++ text) messages.delivery.images new.fault new.part (left new.source))
 Leaves left old End new = (old.fault ≡ None) × (new.fault ≡ None) × (new.position ≡ old.position)
-    × IfSome (left old.source) (λ text. Batch 1 max_messages old.position (old.part ++ text) [] None new.part (left new.source))
+    × IfSome (left old.source) (λ text. Batch 1 MAX_MESSAGES old.position (old.part ++ text) [] None new.part (left new.source))
 Leaves left old Fault new = (new.fault ≡ Some Failed)
     × ((fault : StreamFault) × (old.fault ≡ None → IfSome (left old.source) (λ text. Stands (old.position + 1) (old.part ++ text) fault)))
 
 -- the report has messages
-abbrev pub IsTaken : Report → Type 0
-IsTaken (Taken messages) = Unit {0}
-IsTaken End = ⊥
-IsTaken Fault = ⊥
+abbrev pub HasMessages : Report → Type 0
+HasMessages (Messages messages) = Unit {0}
+HasMessages End = ⊥
+HasMessages Fault = ⊥
 
 -- the messages of a report
 abbrev pub messages_of : Report → List DeliveryValue
-messages_of (Taken messages) = messages.delivery ∷ []
+messages_of (Messages messages) = messages.delivery ∷ []
 messages_of End = []
 messages_of Fault = []
 
 -- how many streams the report ends
 abbrev pub ends_in : Report → ℕ
-ends_in (Taken messages) = 0
+ends_in (Messages messages) = 0
 ends_in End = 1
 ends_in Fault = 0
 
 -- whether the report is a fault
 abbrev pub is_fault : Report → Bool
 is_fault Fault = true
-is_fault (Taken messages) = false
+is_fault (Messages messages) = false
 is_fault End = false
 
 -- the name of the first stream with a fault: that of before, or of the stream of this name if its report is one

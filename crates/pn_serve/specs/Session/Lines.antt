@@ -37,5 +37,5 @@ EndsLines old [] new reply = (new ≡ old) × (reply ≡ Silent)
 EndsLines old (b ∷ part) new reply = AnswersLine old (b ∷ part) new reply
 
 -- what a session begins with
-abbrev pub starts : LiveReaderValue → Option (List ℕ) → Option (List ℕ) → Start LiveReaderValue
-starts reader left written = record { machine = reader; left = left; written = written }
+abbrev pub session_start : LiveReaderValue → Option (List ℕ) → Option (List ℕ) → Start LiveReaderValue
+session_start reader left written = record { machine = reader; left = left; written = written }

@@ -1,15 +1,26 @@
 //! The commands of the program and their options, for `clap`.
 
-ghost use Rattle.std.specs.Prelude.{◌≡◌, ◌≤◌, [], false, unwrap_or, IfOk, pos};
-ghost use Rattle.clap.specs.Words.{app_of, first_of, found_of, rows_of, rule_of};
+ghost use Rattle.std.specs.Prelude.{◌≡◌, ◌≤◌, ℕ, List, [], None, Some, false, unwrap_or, IfOk, pos};
+ghost use Rattle.clap.specs.Words.{Row, Text, app_of, first_of, found_of, new_app, one_of, rows_of, rule_of, with_rule};
 ghost use Rattle.clap.specs.declared.builder.command.Command.TheViews.{out-Command};
 ghost use Rattle.clap.specs.declared.builder.value_parser.ValueParser.TheVariants as values;
-ghost use Rattle.pn_serve.specs.Arguments.Options.{bounds_option, connections_option, idle_option, listen_option, port_option, program, progress_flag, replay as replay_app, serve as serve_app, sessions_option, socket_option, stay_flag, streams_words, workers_option};
-ghost use Rattle.pn_serve.specs.Arguments.Commands.{count_at, number_at};
+ghost use Rattle.pn_serve.specs.Arguments.Options.{bounds_option, flag_option, number_option, option_of, plain_option, program, serve as serve_app, streams_words, workers_option};
+ghost use Rattle.pn_serve.specs.Arguments.Commands.{number_at, number_in};
 
 use clap::builder::ValueParser;
-use clap::{Arg, ArgAction, ArgMatches, Command, value_parser};
+use clap::{Arg, ArgAction, ArgMatches, Command};
+use pn_apply::MAX_WORKERS;
+use pn_live::MAX_READERS;
 use std::alloc::{AllocError, Global};
+
+/// The greatest port that can be listened on.
+pub(crate) const MAX_PORT: u32 = 65_535;
+
+/// The most connections of a server that stays.
+pub(crate) const MAX_CONNECTIONS: u32 = 65_536;
+
+/// The most seconds after which an idle client is ended: a day.
+pub(crate) const MAX_IDLE: u32 = 86_400;
 
 /// The version that `--version` says.
 const VERSION: &str = "0.1.0";
@@ -19,6 +30,12 @@ const EXAMPLES: &str = "\
 Examples:
   pnuts replay < script
   pnuts serve --stay --socket /run/pnuts/socket east=/run/pnuts/east";
+
+const REPLAY_ABOUT: &str =
+    "Answers the script on standard input, a reply a line, on standard output";
+
+const SERVE_ABOUT: &str =
+    "Reads streams from files while it serves sessions over TCP or a Unix socket";
 
 /// The examples of `pnuts replay --help`.
 const REPLAY_EXAMPLES: &str = "\
@@ -33,6 +50,31 @@ Examples:
   pnuts serve --stay --connections 64 --listen ::1 --port 7071 east=/run/pnuts/east
   pnuts serve --stay --socket /run/pnuts/socket --idle 60 --progress east=/run/pnuts/east";
 
+const BOUNDS_HELP: &str =
+    "The keys that divide all keys into tablets: a JSON array of up to 63, each less than the next";
+
+const WORKERS_HELP: &str = "How many threads work a round: 1 to 16";
+
+const SESSIONS_HELP: &str = "How many sessions are served: 1 to 16";
+
+const LISTEN_HELP: &str = "The address that is listened at, of IPv4 or IPv6";
+
+const PORT_HELP: &str = "The port that is listened on";
+
+const SOCKET_HELP: &str =
+    "A Unix socket that is listened on in place of a port; only its owner may connect";
+
+const STAY_HELP: &str =
+    "Goes on until a signal ends it, and opens a FIFO again once its writer is gone";
+
+const CONNECTIONS_HELP: &str = "With --stay: how many connections are served at once: 1 to 65536";
+
+const IDLE_HELP: &str =
+    "Ends a client that sends nothing and takes nothing for so long: 1 to 86400";
+
+const PROGRESS_HELP: &str =
+    "Says on standard error how far it is, once a second while something changes";
+
 /// The program's commands and options.
 pub(crate) fn command<'w>(alloc: Global) -> Result<Command<'w>, AllocError>
     ensures { IfOk result (λ command. app_of command ≡ program) }
@@ -43,156 +85,64 @@ pub(crate) fn command<'w>(alloc: Global) -> Result<Command<'w>, AllocError>
         .after_help(EXAMPLES)
         .subcommand_required(true)
         .disable_help_subcommand(true);
-    command
-        .subcommand(replay(alloc)?)?
-        .subcommand(serve(alloc)?)
-}
-
-fn replay<'w>(alloc: Global) -> Result<Command<'w>, AllocError>
-    ensures app { IfOk result (λ command. app_of command ≡ replay_app) }
-    ensures local { IfOk result (λ command. (out-Command command).has_globals ≡ false) }
-{
-    Command::new(alloc, "replay")
-        .about("Answers the script on standard input, a reply a line, on standard output")
-        .after_help(REPLAY_EXAMPLES)
-        .arg(bounds(alloc))?
-        .arg(workers(alloc))
+    let replay = over_region(alloc, "replay", REPLAY_ABOUT, REPLAY_EXAMPLES)?;
+    command.subcommand(replay)?.subcommand(serve(alloc)?)
 }
 
 fn serve<'w>(alloc: Global) -> Result<Command<'w>, AllocError>
     ensures app { IfOk result (λ command. app_of command ≡ serve_app) }
     ensures local { IfOk result (λ command. (out-Command command).has_globals ≡ false) }
 {
-    Command::new(alloc, "serve")
-        .about("Reads streams from files while it serves sessions over TCP or a Unix socket")
-        .after_help(SERVE_EXAMPLES)
-        .arg(bounds(alloc))?
-        .arg(workers(alloc))?
-        .arg(sessions(alloc))?
-        .arg(listen(alloc))?
-        .arg(port(alloc))?
-        .arg(socket(alloc))?
-        .arg(stay(alloc))?
-        .arg(connections(alloc))?
-        .arg(idle(alloc))?
-        .arg(progress(alloc))?
+    over_region(alloc, "serve", SERVE_ABOUT, SERVE_EXAMPLES)?
+        .arg(number(
+            alloc,
+            "sessions",
+            "N",
+            "4",
+            MAX_READERS as u32,
+            SESSIONS_HELP,
+        ))?
+        .arg(option(alloc, "listen", "ADDRESS", "127.0.0.1", LISTEN_HELP))?
+        .arg(number(alloc, "port", "P", "7070", MAX_PORT, PORT_HELP))?
+        .arg(plain(
+            alloc,
+            "socket",
+            ValueParser::NonEmptyString,
+            "PATH",
+            SOCKET_HELP,
+        ))?
+        .arg(flag(alloc, "stay", STAY_HELP))?
+        .arg(number(
+            alloc,
+            "connections",
+            "N",
+            "1024",
+            MAX_CONNECTIONS,
+            CONNECTIONS_HELP,
+        ))?
+        .arg(plain(alloc, "idle", up_to(MAX_IDLE), "SECONDS", IDLE_HELP))?
+        .arg(flag(alloc, "progress", PROGRESS_HELP))?
         .arg(streams(alloc))
 }
 
-fn bounds<'w>(alloc: Global) -> Arg<'w>
-    ensures rule { rule_of result ≡ bounds_option }
-    ensures local { result.global ≡ false }
+// A command over a region, with its bounds and workers.
+fn over_region<'w>(
+    alloc: Global,
+    name: &'w str,
+    about: &'w str,
+    examples: &'w str,
+) -> Result<Command<'w>, AllocError>
+    ensures app { IfOk result (λ command. app_of command ≡ with_rule (with_rule (new_app name.now) bounds_option) workers_option) }
+    ensures local { IfOk result (λ command. (out-Command command).has_globals ≡ false) }
 {
-    Arg::new(alloc, "bounds")
-        .long("bounds")
-        .value_name("JSON")
-        .default_value("[]")
-        .help(
-            "The keys that divide all keys into tablets: a JSON array of up to 63, each less than the next",
-        )
+    Command::new(alloc, name)
+        .about(about)
+        .after_help(examples)
+        .arg(option(alloc, "bounds", "JSON", "[]", BOUNDS_HELP))?
+        .arg(number(alloc, "workers", "N", "1", MAX_WORKERS as u32, WORKERS_HELP))
 }
 
-fn workers<'w>(alloc: Global) -> Arg<'w>
-    ensures rule { rule_of result ≡ workers_option }
-    ensures local { result.global ≡ false }
-{
-    Arg::new(alloc, "workers")
-        .long("workers")
-        .value_name("N")
-        .default_value("1")
-        .value_parser(one_to_16())
-        .help("How many threads work a round: 1 to 16")
-}
-
-fn sessions<'w>(alloc: Global) -> Arg<'w>
-    ensures rule { rule_of result ≡ sessions_option }
-    ensures local { result.global ≡ false }
-{
-    Arg::new(alloc, "sessions")
-        .long("sessions")
-        .value_name("N")
-        .default_value("4")
-        .value_parser(one_to_16())
-        .help("How many sessions are served: 1 to 16")
-}
-
-fn listen<'w>(alloc: Global) -> Arg<'w>
-    ensures rule { rule_of result ≡ listen_option }
-    ensures local { result.global ≡ false }
-{
-    Arg::new(alloc, "listen")
-        .long("listen")
-        .value_name("ADDRESS")
-        .default_value("127.0.0.1")
-        .help("The address that is listened at, of IPv4 or IPv6")
-}
-
-fn port<'w>(alloc: Global) -> Arg<'w>
-    ensures rule { rule_of result ≡ port_option }
-    ensures local { result.global ≡ false }
-{
-    Arg::new(alloc, "port")
-        .long("port")
-        .value_name("P")
-        .default_value("7070")
-        .value_parser(one_to_65_535())
-        .help("The port that is listened on")
-}
-
-fn socket<'w>(alloc: Global) -> Arg<'w>
-    ensures rule { rule_of result ≡ socket_option }
-    ensures local { result.global ≡ false }
-{
-    Arg::new(alloc, "socket")
-        .long("socket")
-        .value_name("PATH")
-        .value_parser(ValueParser::NonEmptyString)
-        .help("A Unix socket that is listened on in place of a port; only its owner may connect")
-}
-
-fn stay<'w>(alloc: Global) -> Arg<'w>
-    ensures rule { rule_of result ≡ stay_flag }
-    ensures local { result.global ≡ false }
-{
-    Arg::new(alloc, "stay")
-        .long("stay")
-        .action(ArgAction::SetTrue)
-        .help("Goes on until a signal ends it, and opens a FIFO again once its writer is gone")
-}
-
-fn connections<'w>(alloc: Global) -> Arg<'w>
-    ensures rule { rule_of result ≡ connections_option }
-    ensures local { result.global ≡ false }
-{
-    Arg::new(alloc, "connections")
-        .long("connections")
-        .value_name("N")
-        .default_value("1024")
-        .value_parser(one_to_65_536())
-        .help("With --stay: how many connections are served at once: 1 to 65536")
-}
-
-fn idle<'w>(alloc: Global) -> Arg<'w>
-    ensures rule { rule_of result ≡ idle_option }
-    ensures local { result.global ≡ false }
-{
-    Arg::new(alloc, "idle")
-        .long("idle")
-        .value_name("SECONDS")
-        .value_parser(one_to_86_400())
-        .help("Ends a client that sends nothing and takes nothing for so long: 1 to 86400")
-}
-
-fn progress<'w>(alloc: Global) -> Arg<'w>
-    ensures rule { rule_of result ≡ progress_flag }
-    ensures local { result.global ≡ false }
-{
-    Arg::new(alloc, "progress")
-        .long("progress")
-        .action(ArgAction::SetTrue)
-        .help("Says on standard error how far it is, once a second while something changes")
-}
-
+// The streams, each an argument of its own, of which there is at least one.
 fn streams<'w>(alloc: Global) -> Arg<'w>
     ensures rule { rule_of result ≡ streams_words }
     ensures local { result.global ≡ false }
@@ -204,42 +154,80 @@ fn streams<'w>(alloc: Global) -> Arg<'w>
         .help("A stream's name and the file of its messages, for 1 to 16 streams")
 }
 
-fn one_to_16<'w>() -> ValueParser<'w>
-    ensures { result ≡ values.Signed (pos 1) (pos 16) }
+// An option with one value, and its default.
+fn option<'w>(
+    alloc: Global,
+    name: &'w str,
+    value: &'w str,
+    default: &'w str,
+    help: &'w str,
+) -> Arg<'w>
+    ensures rule { rule_of result ≡ option_of name.now default.now }
+    ensures local { result.global ≡ false }
 {
-    value_parser!(u16).range(1..=16)
+    Arg::new(alloc, name)
+        .long(name)
+        .value_name(value)
+        .default_value(default)
+        .help(help)
 }
 
-fn one_to_65_535<'w>() -> ValueParser<'w>
-    ensures { result ≡ values.Signed (pos 1) (pos 65535) }
+// An option whose value is a number from 1 to `most`.
+fn number<'w>(
+    alloc: Global,
+    name: &'w str,
+    value: &'w str,
+    default: &'w str,
+    most: u32,
+    help: &'w str,
+) -> Arg<'w>
+    ensures rule { rule_of result ≡ number_option name.now default.now most }
+    ensures local { result.global ≡ false }
 {
-    value_parser!(u16).range(1..=65_535)
+    option(alloc, name, value, default, help).value_parser(up_to(most))
 }
 
-fn one_to_65_536<'w>() -> ValueParser<'w>
-    ensures { result ≡ values.Signed (pos 1) (pos 65536) }
+// An option with one value, and no default.
+fn plain<'w>(
+    alloc: Global,
+    name: &'w str,
+    parser: ValueParser<'w>,
+    value: &'w str,
+    help: &'w str,
+) -> Arg<'w>
+    ensures rule { rule_of result ≡ plain_option name.now parser }
+    ensures local { result.global ≡ false }
 {
-    value_parser!(u32).range(1..=65_536)
+    Arg::new(alloc, name)
+        .long(name)
+        .value_name(value)
+        .value_parser(parser)
+        .help(help)
 }
 
-fn one_to_86_400<'w>() -> ValueParser<'w>
-    ensures { result ≡ values.Signed (pos 1) (pos 86400) }
+// An option that is given or not, without a value.
+fn flag<'w>(alloc: Global, name: &'w str, help: &'w str) -> Arg<'w>
+    ensures rule { rule_of result ≡ flag_option name.now }
+    ensures local { result.global ≡ false }
 {
-    value_parser!(u32).range(1..=86_400)
+    Arg::new(alloc, name)
+        .long(name)
+        .action(ArgAction::SetTrue)
+        .help(help)
+}
+
+// A number from 1 to this.
+fn up_to<'w>(most: u32) -> ValueParser<'w>
+    ensures { result ≡ values.Signed (pos 1) (pos most) }
+{
+    ValueParser::signed(1, i64::from(most))
 }
 
 /// The number of an option, from 1 to the most that `clap` lets through.
-pub(crate) fn option_number(options: &ArgMatches<'_>, name: &str, most: u16) -> u16
+pub(crate) fn option_number(options: &ArgMatches<'_>, name: &str, most: u32) -> u32
     requires { 1 ≤ most }
-    ensures { result ≡ number_at name.now most (rows_of (found_of options.now)) }
-{
-    options.get_one::<u16>(name).unwrap_or(1).clamp(1, most)
-}
-
-/// The count of an option, from 1 to the most that `clap` lets through.
-pub(crate) fn option_count(options: &ArgMatches<'_>, name: &str, most: u32) -> u32
-    requires { 1 ≤ most }
-    ensures { result ≡ count_at name.now most (rows_of (found_of options.now)) }
+    ensures number { result ≡ number_at name.now most (rows_of (found_of options.now)) }
+    ensures within { (1 ≤ result) × (result ≤ most) }
 {
     options.get_one::<u32>(name).unwrap_or(1).clamp(1, most)
 }
@@ -253,3 +241,13 @@ pub(crate) fn option_text<'w>(options: &ArgMatches<'w>, name: &str) -> &'w str
         None => "",
     }
 }
+
+/// A number among the arguments is as written where it is from 1 to the option's most, 1 where none is written, and in
+/// this range in any case.
+pub fn numbers_are_as_written()
+    ensures written { (name text : Text) (number most : ℕ) (options : List Row) → one_of name options ≡ Some text → number_in text ≡ Some number
+        → 1 ≤ number → number ≤ most → number_at name most options ≡ number }
+    ensures absent { (name : Text) (most : ℕ) (options : List Row) → one_of name options ≡ None → 1 ≤ most → number_at name most options ≡ 1 }
+    ensures in_range { (name : Text) (most : ℕ) (options : List Row) → 1 ≤ most
+        → (1 ≤ number_at name most options) × (number_at name most options ≤ most) }
+{}

@@ -30,9 +30,9 @@ pub enum Plan {
 /// How sessions are served.
 #[derive(Debug, Drop)]
 pub struct Service {
-    /// 1 to 16.
+    /// How many sessions are served: 1 to 16.
     pub sessions: usize,
-    pub place: Place,
+    pub address: Address,
     /// With `--stay`, how many connections are served at once: 1 to 65,536.
     pub stay: Option<u32>,
     /// After how many seconds a client that sends nothing and takes nothing is ended: 1 to 86,400.
@@ -41,12 +41,12 @@ pub struct Service {
     pub is_progress_told: bool,
 }
 
-/// Where it is listened.
+/// Where a server listens.
 #[derive(Debug, Drop)]
-pub enum Place {
-    /// At an address, and a port from 1 to 65,535.
+pub enum Address {
+    /// On a port, from 1 to 65,535, of a host.
     Port(IpAddr, u16),
-    /// At a Unix socket with this path.
+    /// On the Unix socket of a path.
     Path(String),
 }
 

@@ -1,20 +1,20 @@
 //! Adoption: the lines that `adopt` announces are gathered, and their copy is adopted.
 
 ghost use Rattle.std.specs.Prelude.{◌≡◌, ◌++◌, [], Some, IfOk};
-ghost use Rattle.pn_line.specs.Prelude.{kept};
+ghost use Rattle.pn_line.specs.Prelude.{kept_bytes};
 ghost use Rattle.pn_json.specs.Prelude.{IsUnless};
-ghost use Rattle.pn_region.specs.Prelude.{adopting};
+ghost use Rattle.pn_region.specs.Prelude.{after_adoption};
 ghost use Rattle.pn_tablet.specs.Prelude.{copy_at};
 ghost use Rattle.pn_serve.specs.Machine.Modes.{bytes_of, mode_of, with_mode};
-ghost use Rattle.pn_serve.specs.Machine.Outcomes.{announced as announced_mode, waiting};
-ghost use Rattle.pn_serve.specs.Machine.Recovering.{adopted, adopting_text};
+ghost use Rattle.pn_serve.specs.Machine.Outcomes.{announced as announced_mode, machine_over};
+ghost use Rattle.pn_serve.specs.Machine.Recovering.{adoption_turn, text_adoption_turn};
 ghost use Rattle.pn_serve.specs.Machine.Answers.{AnswersBy, ConcludesBy};
 ghost use Rattle.pn_serve.specs.Machine.Ways.{ComesTo, IsJoined};
 
-use crate::machine::Done;
+use crate::machine::Answer;
 use pn_join::NoMemory;
 use pn_line::MAX_KEPT_BYTES;
-use pn_protocol::{Refusal, Reply, bad_text, not_adopted};
+use pn_protocol::{CommandFault, Refusal, Reply, refuse};
 use pn_region::Region;
 use pn_tablet::{CopyTextFault, TabletCopy, read_copy};
 use std::alloc::Global;
@@ -41,11 +41,16 @@ impl Announced {
 }
 
 /// Takes an announced line. The last one adopts the copy.
-pub(crate) fn go_on(alloc: Global, region: &mut Region, announced: Announced, line: &[u8]) -> Done
+pub(crate) fn take_line(
+    alloc: Global,
+    region: &mut Region,
+    announced: Announced,
+    line: &[u8],
+) -> Answer
     ensures { AnswersBy ⊥ (with_mode (Some announced) region.old) line.now (with_mode result.1 region.new) result.0 }
 {
     let Announced { left, text } = announced;
-    let text = joined(text, line, b"\n");
+    let text = append_line(text, line, b"\n");
     if left > 1 {
         let left = left - 1;
         return (Reply::Silent, Some(Announced { left, text }));
@@ -54,22 +59,27 @@ pub(crate) fn go_on(alloc: Global, region: &mut Region, announced: Announced, li
 }
 
 /// Adopts the text so far, after a last part of a line.
-pub(crate) fn finish(alloc: Global, region: &mut Region, announced: Announced, part: &[u8]) -> Reply
-    ensures { ConcludesBy ⊥ (with_mode (Some announced) region.old) part.now (waiting region.new) result }
+pub(crate) fn take_last_part(
+    alloc: Global,
+    region: &mut Region,
+    announced: Announced,
+    part: &[u8],
+) -> Reply
+    ensures { ConcludesBy ⊥ (with_mode (Some announced) region.old) part.now (machine_over region.new) result }
 {
-    adopt(alloc, region, joined(announced.text, part, b""))
+    adopt(alloc, region, append_line(announced.text, part, b""))
 }
 
 // Adds a line to the text. None once memory ran out.
-fn joined(text: Option<Vec<u8>>, line: &[u8], newline: &[u8]) -> Option<Vec<u8>>
+fn append_line(text: Option<Vec<u8>>, line: &[u8], newline: &[u8]) -> Option<Vec<u8>>
     ensures { IsJoined (bytes_of text) line.now newline.now (bytes_of result) }
 {
-    extended(text?, line, newline).ok()
+    extend_text(text?, line, newline).ok()
 }
 
 // Adds the line's first 65,537 bytes and its newline, if any.
-fn extended(text: Vec<u8>, line: &[u8], newline: &[u8]) -> Result<Vec<u8>, NoMemory>
-    ensures { IfOk result (λ whole. whole.items ≡ text.items ++ (kept line.now ++ newline.now)) }
+fn extend_text(text: Vec<u8>, line: &[u8], newline: &[u8]) -> Result<Vec<u8>, NoMemory>
+    ensures { IfOk result (λ whole. whole.items ≡ text.items ++ (kept_bytes line.now ++ newline.now)) }
 {
     let mut text = text;
     let kept = line.len().min(MAX_KEPT_BYTES);
@@ -80,14 +90,14 @@ fn extended(text: Vec<u8>, line: &[u8], newline: &[u8]) -> Result<Vec<u8>, NoMem
 
 /// Adopts the copy of the text. None: memory ran out before.
 pub(crate) fn adopt(alloc: Global, region: &mut Region, text: Option<Vec<u8>>) -> Reply
-    ensures { ComesTo (adopting_text region.old (bytes_of text)) region.old region.new result }
+    ensures { ComesTo (text_adoption_turn region.old (bytes_of text)) region.old region.new result }
 {
     let Some(text) = text else {
         return Reply::Refused(Refusal::Memory);
     };
     match read_text(alloc, text) {
         Ok(copy) => adopt_copy(alloc, region, copy),
-        Err(fault) => bad_text(alloc, &fault),
+        Err(fault) => refuse(alloc, CommandFault::CopyText(fault)),
     }
 }
 
@@ -99,10 +109,10 @@ fn read_text(alloc: Global, text: Vec<u8>) -> Result<TabletCopy, CopyTextFault>
 }
 
 fn adopt_copy(alloc: Global, region: &mut Region, copy: TabletCopy) -> Reply
-    ensures { ComesTo (adopted region.old (adopting region.old.state copy)) region.old region.new result }
+    ensures { ComesTo (adoption_turn region.old (after_adoption region.old.state copy)) region.old region.new result }
 {
     match region.adopt(copy) {
         Ok(tablet) => Reply::Adopted(tablet as u64),
-        Err(fault) => not_adopted(alloc, &fault),
+        Err(fault) => refuse(alloc, CommandFault::Adoption(fault)),
     }
 }

@@ -1,4 +1,4 @@
-//! Readers of commands.
+//! How lines are read as commands.
 
 ghost use Rattle.std.specs.Prelude.{◌≡◌, false, IsErrOf};
 ghost use Rattle.pn_json.specs.Prelude.{ShowsUnless};

@@ -13,7 +13,7 @@ use std::alloc::Global;
 pub trait LineHandler {
     ghost use Rattle.pn_protocol.specs.declared.reply.Reply.{Reply};
 
-    // What its types need.
+    // What must hold of its type parameters.
     ghost ready: { Type 0 };
 
     // Relates the state before, the line, the state after and the reply.
@@ -25,14 +25,14 @@ pub trait LineHandler {
     // The reader that it answers from, if any.
     ghost reader: { Self → LiveReaderValue };
 
-    /// Answers a line.
+    /// Answers a whole line with one reply.
     fn answer(&mut self, alloc: Global, line: &LineBuffer) -> Reply
         requires { ready }
         ensures makes { (text : List ℕ) → line.now ≡ so_far text → makes self.old text self.new result }
         ensures knows { KnowsNoLess (reader self.old) (reader self.new) };
 
     /// Answers the end of the input, after a part of a line.
-    fn end(&mut self, alloc: Global, part: &LineBuffer) -> Reply
+    fn answer_end(&mut self, alloc: Global, part: &LineBuffer) -> Reply
         requires { ready }
         ensures ends { (text : List ℕ) → part.now ≡ so_far text → ends self.old text self.new result }
         ensures knows { KnowsNoLess (reader self.old) (reader self.new) };

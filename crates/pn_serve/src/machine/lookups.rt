@@ -3,46 +3,48 @@
 ghost use Rattle.std.specs.Prelude.{◌≡◌, IfOk};
 ghost use Rattle.pn_json.specs.Prelude.{line_of};
 ghost use Rattle.pn_protocol.specs.Prelude.{get as get_asked, notices as notices_asked, read as read_asked, scan as scan_asked, found_since};
-ghost use Rattle.pn_serve.specs.Machine.Outcomes.{waiting};
+ghost use Rattle.pn_serve.specs.Machine.Outcomes.{machine_over};
 ghost use Rattle.pn_serve.specs.Machine.Answers.{Obeys};
 
 use pn_join::NoMemory;
-use pn_protocol::{Refusal, Reply, answer_get, answer_read, answer_scan, shown, since_reply};
+use pn_protocol::{
+    Refusal, Reply, answer_get, answer_read, answer_scan, answer_text, notices_reply,
+};
 use pn_record::{Key, Version};
 use pn_region::{Region, Since};
 use pn_scan::Query;
 use std::alloc::Global;
 
 pub(crate) fn get(alloc: Global, region: &Region, keys: &[Key]) -> Reply
-    ensures { Obeys (waiting region.now) (get_asked keys.now) (waiting region.now) result }
+    ensures { Obeys (machine_over region.now) (get_asked keys.now) (machine_over region.now) result }
 {
     answer_get(alloc, keys, region.get(keys))
 }
 
 pub(crate) fn read(alloc: Global, region: &Region, key: &Key, version: Option<Version>) -> Reply
-    ensures { Obeys (waiting region.now) (read_asked key.now version) (waiting region.now) result }
+    ensures { Obeys (machine_over region.now) (read_asked key.now version) (machine_over region.now) result }
 {
     answer_read(alloc, key, region.read(key, version))
 }
 
 pub(crate) fn scan(alloc: Global, region: &Region, query: &Query) -> Reply
-    ensures { Obeys (waiting region.now) (scan_asked query.now) (waiting region.now) result }
+    ensures { Obeys (machine_over region.now) (scan_asked query.now) (machine_over region.now) result }
 {
     answer_scan(alloc, region.scan(query))
 }
 
-pub(crate) fn notices(alloc: Global, region: &Region, since: u64) -> Reply
-    ensures { Obeys (waiting region.now) (notices_asked since) (waiting region.now) result }
+pub(crate) fn look_up_notices(alloc: Global, region: &Region, since: u64) -> Reply
+    ensures { Obeys (machine_over region.now) (notices_asked since) (machine_over region.now) result }
 {
     match region.notices_since(since) {
-        Ok(found) => shown(told_reply(alloc, found)),
+        Ok(found) => answer_text(write_notices(alloc, found)),
         Err(_) => Reply::Refused(Refusal::Memory),
     }
 }
 
 // Writes notices, and frees them.
-fn told_reply(alloc: Global, found: Since) -> Result<Vec<u8>, NoMemory>
+fn write_notices(alloc: Global, found: Since) -> Result<Vec<u8>, NoMemory>
     ensures { IfOk result (λ text. text.items ≡ line_of (found_since found)) }
 {
-    since_reply(alloc, &found)
+    notices_reply(alloc, &found)
 }

@@ -2,13 +2,13 @@
 
 ghost use Rattle.std.specs.Prelude.{◌≡◌, IfOk};
 ghost use Rattle.pn_region.specs.Prelude.{new_region};
-ghost use Rattle.pn_serve.specs.Machine.Outcomes.{serving};
+ghost use Rattle.pn_serve.specs.Machine.Outcomes.{new_machine};
 
 use crate::Settings;
 use crate::machine::adoption::Announced;
 use crate::machine::command_reader::Json;
 use crate::machine::line_handler::LineHandler;
-use crate::machine::{answer, end};
+use crate::machine::{answer_end, answer_line};
 use pn_join::NoMemory;
 use pn_line::LineBuffer;
 use pn_protocol::Reply;
@@ -29,7 +29,7 @@ pub(crate) struct ScriptHandler<'a, R> {
 
 impl<'a, R> Model for ScriptHandler<'a, R> {
     ghost use Rattle.std.specs.Prelude.{◌≤◌};
-    ghost use Rattle.pn_apply.specs.Prelude.{max_workers};
+    ghost use Rattle.pn_apply.specs.Prelude.{MAX_WORKERS};
     ghost use Rattle.pn_serve.specs.Machine.Modes.{with_mode};
     ghost use Rattle.pn_serve.specs.Machine.Outcomes.{Machine};
 
@@ -41,7 +41,7 @@ impl<'a, R> Model for ScriptHandler<'a, R> {
 
     ghost view = { λ scripted. with_mode scripted.announced scripted.region };
 
-    ghost invariant = { λ scripted. (1 ≤ scripted.workers) × (scripted.workers ≤ max_workers) };
+    ghost invariant = { λ scripted. (1 ≤ scripted.workers) × (scripted.workers ≤ MAX_WORKERS) };
 }
 
 impl<'a, R: Threads + Sync> ScriptHandler<'a, R> {
@@ -51,7 +51,7 @@ impl<'a, R: Threads + Sync> ScriptHandler<'a, R> {
         alloc: Global,
         settings: Settings,
     ) -> Result<ScriptHandler<'a, R>, NoMemory>
-        ensures { IfOk result (λ scripted. scripted ≡ serving (new_region settings.layout)) }
+        ensures { IfOk result (λ scripted. scripted ≡ new_machine (new_region settings.layout)) }
     {
         let Settings { layout, workers } = settings;
         Ok(ScriptHandler {
@@ -81,7 +81,7 @@ impl<'a, R: Threads + Sync> LineHandler for ScriptHandler<'a, R> {
         let waiting = self.announced.take();
         let bytes = line.bytes();
         let region = &mut self.region;
-        let (reply, announced) = answer::<R, Json>(
+        let (reply, announced) = answer_line::<R, Json>(
             self.rt,
             alloc,
             region,
@@ -93,10 +93,10 @@ impl<'a, R: Threads + Sync> LineHandler for ScriptHandler<'a, R> {
         reply
     }
 
-    fn end(&mut self, alloc: Global, part: &LineBuffer) -> Reply {
+    fn answer_end(&mut self, alloc: Global, part: &LineBuffer) -> Reply {
         let announced = self.announced.take();
         let bytes = part.bytes();
         let region = &mut self.region;
-        end::<R, Json>(self.rt, alloc, region, self.workers, announced, bytes)
+        answer_end::<R, Json>(self.rt, alloc, region, self.workers, announced, bytes)
     }
 }

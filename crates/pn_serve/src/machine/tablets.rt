@@ -1,17 +1,22 @@
-//! Answers to losses and copies of tablets.
+//! Answers to losses and copies of tablets, and to changes of the layout.
 
-ghost use Rattle.std.specs.Prelude.{◌≡◌};
-ghost use Rattle.pn_protocol.specs.Prelude.{copy as copy_asked, lose as lose_asked};
-ghost use Rattle.pn_serve.specs.Machine.Outcomes.{waiting};
+ghost use Rattle.std.specs.Prelude.{◌≡◌, length, ◌+◌};
+ghost use Rattle.pn_protocol.specs.Prelude.{copy as copy_asked, lose as lose_asked, relayout as relayout_asked};
+ghost use Rattle.pn_serve.specs.Machine.Outcomes.{machine_over};
+ghost use Rattle.pn_region.specs.Relayouts.{after_relayout};
 ghost use Rattle.pn_serve.specs.Machine.Answers.{Obeys};
+ghost use Rattle.pn_serve.specs.Machine.Relaying.{relaid_turn};
+ghost use Rattle.pn_serve.specs.Machine.Ways.{ComesTo};
 
 use pn_join::Marks;
-use pn_protocol::{Part, Refusal, Reply, answer_copy};
+use pn_protocol::{CommandFault, Part, Refusal, Reply, answer_copy, refuse};
+use pn_record::Key;
 use pn_region::Region;
+use pn_tablet::Layout;
 use std::alloc::Global;
 
-pub(crate) fn lose(region: &mut Region, tablet: u64) -> Reply
-    ensures { Obeys (waiting region.old) (lose_asked tablet) (waiting region.new) result }
+pub(crate) fn lose_tablet(region: &mut Region, tablet: u64) -> Reply
+    ensures { Obeys (machine_over region.old) (lose_asked tablet) (machine_over region.new) result }
 {
     if tablet >= region.layout().count() as u64 {
         return Reply::Refused(Refusal::OutOfRange(Part::Tablet));
@@ -20,11 +25,30 @@ pub(crate) fn lose(region: &mut Region, tablet: u64) -> Reply
     Reply::Lost(tablet)
 }
 
-pub(crate) fn copy(alloc: Global, region: &Region, need: &Marks, tablet: u64) -> Reply
-    ensures { Obeys (waiting region.now) (copy_asked need.now tablet) (waiting region.now) result }
+pub(crate) fn copy_tablet(alloc: Global, region: &Region, need: &Marks, tablet: u64) -> Reply
+    ensures { Obeys (machine_over region.now) (copy_asked need.now tablet) (machine_over region.now) result }
 {
     if tablet >= region.layout().count() as u64 {
         return Reply::Refused(Refusal::OutOfRange(Part::Tablet));
     }
     answer_copy(alloc, tablet as usize, region.copy(tablet as usize, need))
+}
+
+pub(crate) fn relayout(alloc: Global, region: &mut Region, bounds: Vec<Key>) -> Reply
+    ensures { Obeys (machine_over region.old) (relayout_asked bounds.items) (machine_over region.new) result }
+{
+    match Layout::new(bounds) {
+        Ok(layout) => relayout_to(alloc, region, layout),
+        Err(_) => Reply::Refused(Refusal::OutOfRange(Part::Bounds)),
+    }
+}
+
+fn relayout_to(alloc: Global, region: &mut Region, layout: Layout) -> Reply
+    ensures { ComesTo (relaid_turn (machine_over region.old) (length layout + 1) (after_relayout region.old.state layout)) region.old region.new result }
+{
+    let count = layout.count() as u64;
+    match region.relayout(layout) {
+        Ok(()) => Reply::Relaid(count),
+        Err(fault) => refuse(alloc, CommandFault::Relayout(fault)),
+    }
 }

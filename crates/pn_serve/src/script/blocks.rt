@@ -4,21 +4,21 @@ ghost use Rattle.std.specs.Prelude.{◌≡◌, ◌++◌, [], IfOk, OnOk, OnErr};
 ghost use Rattle.std.specs.Io.KnownBytes.{Appends};
 ghost use Rattle.pn_line.specs.Prelude.{Sends, AppendsPrefix};
 
-use pn_line::{OUTBOX_ROOM, Outbox, Sink, WriteFault};
+use pn_line::{OUTBOX_CAPACITY, Outbox, Sink, WriteFault};
 use std::alloc::{AllocError, Global};
 use std::marker::Model;
 
 /// The bytes of a block: as many as may wait.
-const BLOCK: usize = OUTBOX_ROOM;
+const BLOCK: usize = OUTBOX_CAPACITY;
 
 /// Bytes that wait for a writer. Too many are written up to the end of a block of the output: a file takes whole
 /// blocks faster.
 #[derive(Drop)]
 pub(crate) struct Blocks {
     outbox: Outbox,
-    // The number of waiting bytes, and the place of the next byte in its block. Nothing rests on them.
+    // The number of waiting bytes, and how far the next byte is into its block. Nothing rests on them.
     waiting: usize,
-    place: usize,
+    offset: usize,
 }
 
 impl Model for Blocks {
@@ -29,18 +29,18 @@ impl Model for Blocks {
 
     ghost view = { λ blocks. blocks.outbox };
 
-    ghost invariant = { λ blocks. (blocks.waiting ≤ BLOCK) × (blocks.place < BLOCK) };
+    ghost invariant = { λ blocks. (blocks.waiting ≤ BLOCK) × (blocks.offset < BLOCK) };
 }
 
 impl Blocks {
-    /// One in which nothing waits.
+    /// A buffer in which nothing waits.
     pub(crate) fn new(alloc: Global) -> Result<Blocks, AllocError>
         ensures { IfOk result (λ blocks. blocks ≡ []) }
     {
         Ok(Blocks {
             outbox: Outbox::new(alloc)?,
             waiting: 0,
-            place: 0,
+            offset: 0,
         })
     }
 
@@ -51,8 +51,8 @@ impl Blocks {
         ensures err { OnErr result (AppendsPrefix (W.contents writer.old) (W.contents writer.new) (self.old ++ bytes.now)) }
         ensures fault { OnErr result W.may_fail }
     {
-        let missing = (BLOCK - self.place) % BLOCK;
-        self.place = (self.place + bytes.len() % BLOCK) % BLOCK;
+        let missing = (BLOCK - self.offset) % BLOCK;
+        self.offset = (self.offset + bytes.len() % BLOCK) % BLOCK;
         if bytes.len() <= BLOCK - self.waiting {
             self.waiting += bytes.len();
             return self.outbox.push(writer, bytes);

@@ -1,6 +1,6 @@
 //! The line loop: each line is read and answered, and its reply waits or is written.
 
-ghost use Rattle.std.specs.Prelude.{◌≡◌, ◌≢◌, ◌+◌, ◌<◌, ◌≤◌, [], ◌++◌, Ok, IfOk, OnOk, OnErr, IsErrOf};
+ghost use Rattle.std.specs.Prelude.{◌≡◌, ◌≢◌, ◌+◌, ◌<◌, ◌≤◌, [], ◌++◌, Ok, IfOk, IfErr, OnOk, OnErr, IsErrOf};
 ghost use Rattle.pn_line.specs.Prelude.{Sends, AppendsPrefix};
 ghost use Rattle.pn_json.specs.Prelude.{line_of};
 ghost use Rattle.pn_serve.specs.Lines.Ends.{EndsBy};
@@ -10,6 +10,7 @@ ghost use Rattle.pn_serve.specs.Lines.Answered.{Answered, AnsweredInPart, Closed
 ghost use Rattle.pn_serve.specs.Lines.Turning.{TurnsTo, EndsWithin};
 ghost use Rattle.pn_serve.specs.Lines.Waiting.{HandsOn, IsAllOut, looks_of_line};
 ghost use Rattle.pn_protocol.specs.Prelude.{lines_data, reply_text, is_refusal};
+ghost use Rattle.pn_protocol.specs.Reply.Short.{number_reply_data};
 ghost use Rattle.pn_serve.specs.Script.Written.{one_if};
 ghost use Rattle.pn_serve.specs.Session.Knowing.{KnowsNoLess};
 
@@ -21,9 +22,7 @@ use crate::script::blocks::Blocks;
 use crate::{Counts, RunFault};
 use pn_join::NoMemory;
 use pn_line::{ENDLESS, LineBuffer, LineEnd, Sink, Source, WriteFault, read_line};
-use pn_protocol::{
-    Reply, adopted_reply, changed_reply, lines_reply, lost_reply, refusal_reply, relaid_reply,
-};
+use pn_protocol::{NumberName, Reply, number_reply, refusal_reply};
 use std::alloc::Global;
 use std::marker::Model;
 
@@ -99,6 +98,7 @@ impl LineLoop {
         ensures few { IfOk result (EndsWithin MAX_LINES) }
         ensures read { IsErrOf result RunFault.Read → S.may_fail }
         ensures write { IsErrOf result RunFault.Write → W.may_fail }
+        ensures begun { IfErr result (λ fault. fault ≢ RunFault.Memory) }
         ensures knows { KnowsNoLess (M.reader machine.old) (M.reader machine.new) }
     {
         self.line.start();
@@ -117,7 +117,7 @@ impl LineLoop {
                 Ok(Next::Line)
             }
             LineEnd::EndOfInput => {
-                let counts = self.close(machine, output)?;
+                let counts = self.answer_end(machine, output)?;
                 self.blocks.flush(output)?;
                 Ok(Next::End(counts))
             }
@@ -148,7 +148,7 @@ impl LineLoop {
     }
 
     /// Answers the end of the input after the part of a line that was read. All lines and refusals are counted.
-    pub fn close<M: LineHandler, W: Sink>(
+    pub fn answer_end<M: LineHandler, W: Sink>(
         &mut self,
         machine: &mut M,
         output: &mut W,
@@ -162,7 +162,7 @@ impl LineLoop {
         ensures fault { OnErr result W.may_fail }
         ensures knows { KnowsNoLess (M.reader machine.old) (M.reader machine.new) }
     {
-        let reply = machine.end(self.alloc, &self.line);
+        let reply = machine.answer_end(self.alloc, &self.line);
         let mut counts = self.counts;
         if !self.line.is_empty() {
             counts.lines += 1;
@@ -190,6 +190,7 @@ impl LineLoop {
         ensures out { HandsOn result (W.is_handed_on output.new) }
         ensures looks { S.looks input.new ≤ S.looks input.old + 1 }
         ensures end { OnOk result S.may_end }
+        ensures begun { IfErr result (λ fault. fault ≢ RunFault.Memory) }
     {
         self.blocks.flush(output)?;
         self.end_here(machine, input, output)
@@ -215,6 +216,7 @@ impl LineLoop {
         ensures out { HandsOn result (W.is_handed_on output.new) }
         ensures looks { S.looks input.new ≤ S.looks input.old + 1 }
         ensures end { OnOk result S.may_end }
+        ensures begun { IfErr result (λ fault. fault ≢ RunFault.Memory) }
     {
         let Ok(more) = input.has_more() else {
             return Err(RunFault::Read);
@@ -223,7 +225,7 @@ impl LineLoop {
             return Err(RunFault::TooManyTurns);
         }
         self.line.start();
-        let counts = self.close(machine, output)?;
+        let counts = self.answer_end(machine, output)?;
         self.blocks.flush(output)?;
         Ok(counts)
     }
@@ -247,15 +249,29 @@ fn push_reply<W: Sink>(reply: &Reply, blocks: &mut Blocks, output: &mut W) -> Re
     ensures fault { OnErr result W.may_fail }
 {
     match reply {
-        Reply::Adopted(tablet) => blocks.push(output, adopted_reply(*tablet).as_bytes()),
-        Reply::Changed(count) => blocks.push(output, changed_reply(*count).as_bytes()),
+        Reply::Adopted(tablet) => push_number(NumberName::Adopted, *tablet, blocks, output),
+        Reply::Changed(count) => push_number(NumberName::Changed, *count, blocks, output),
         Reply::Copied { lines, text } => push_copy(*lines, text, blocks, output),
-        Reply::Lost(tablet) => blocks.push(output, lost_reply(*tablet).as_bytes()),
-        Reply::Relaid(count) => blocks.push(output, relaid_reply(*count).as_bytes()),
+        Reply::Lost(tablet) => push_number(NumberName::Lost, *tablet, blocks, output),
+        Reply::Relaid(count) => push_number(NumberName::Tablets, *count, blocks, output),
         Reply::Silent => Ok(()),
         Reply::Text(text) | Reply::NotTaken(text) => blocks.push(output, text),
         Reply::Refused(refusal) => blocks.push(output, refusal_reply(refusal).as_bytes()),
     }
+}
+
+// Adds a reply of one number to the waiting bytes.
+fn push_number<W: Sink>(
+    name: NumberName,
+    number: u64,
+    blocks: &mut Blocks,
+    output: &mut W,
+) -> Result<(), WriteFault>
+    ensures ok { OnOk result (Sends (W.contents output.old) (W.contents output.new) blocks.old blocks.new (line_of (number_reply_data name number))) }
+    ensures err { OnErr result (AppendsPrefix (W.contents output.old) (W.contents output.new) (blocks.old ++ line_of (number_reply_data name number))) }
+    ensures fault { OnErr result W.may_fail }
+{
+    blocks.push(output, number_reply(name, number).as_bytes())
 }
 
 // Adds a copy's first line and its text to the waiting bytes.
@@ -269,7 +285,7 @@ fn push_copy<W: Sink>(
     ensures err { OnErr result (AppendsPrefix (W.contents output.old) (W.contents output.new) (blocks.old ++ (line_of (lines_data lines) ++ text.now))) }
     ensures fault { OnErr result W.may_fail }
 {
-    blocks.push(output, lines_reply(lines).as_bytes())?;
+    push_number(NumberName::Lines, lines, blocks, output)?;
     blocks.push(output, text.as_bytes())?;
     Ok(())
 }

@@ -1,11 +1,11 @@
 //! Reports from the threads of streams: messages, the end, or a fault.
 
 ghost use Rattle.std.specs.Prelude.{◌≡◌, IsTrue};
-ghost use Rattle.pn_serve.specs.Server.Reports.{Leaves, IsTaken};
+ghost use Rattle.pn_serve.specs.Server.Reports.{Leaves, HasMessages};
 ghost use Rattle.pn_serve.specs.declared.server.reports.Report.TheVariants.{End};
 
 use crate::server::messages::{MAX_MESSAGES, Messages};
-use pn_join::{Dup, StreamName};
+use pn_join::StreamName;
 use pn_line::Source;
 use pn_stream::StreamReader;
 
@@ -13,7 +13,7 @@ use pn_stream::StreamReader;
 #[derive(Drop)]
 pub(crate) enum Report {
     /// The next messages.
-    Taken(Messages),
+    Messages(Messages),
     /// The stream is at its end.
     End,
     /// The stream has a fault.
@@ -29,10 +29,10 @@ impl Report {
     }
 
     /// Whether it has messages. Another report follows then.
-    pub(crate) fn is_taken(&self) -> bool
-        ensures { IsTrue result → IsTaken self.now }
+    pub(crate) fn has_messages(&self) -> bool
+        ensures { IsTrue result → HasMessages self.now }
     {
-        matches!(self, Report::Taken(_))
+        matches!(self, Report::Messages(_))
     }
 }
 
@@ -43,7 +43,7 @@ pub(crate) fn next_report<S: Source + Drop>(stream: &mut StreamReader<S>) -> Rep
 {
     match stream.next_ready(MAX_MESSAGES) {
         Ok(delivery) if delivery.images().is_empty() => Report::End,
-        Ok(delivery) => Report::Taken(Messages { delivery }),
+        Ok(delivery) => Report::Messages(Messages { delivery }),
         Err(_) => Report::Fault,
     }
 }
@@ -52,8 +52,5 @@ pub(crate) fn next_report<S: Source + Drop>(stream: &mut StreamReader<S>) -> Rep
 pub(crate) fn name_of<S: Source + Drop>(stream: &StreamReader<S>) -> StreamName
     ensures { result ≡ stream.now.name }
 {
-    let Ok(name) = stream.name().dup() else {
-        unreachable!()
-    };
-    name
+    *stream.name()
 }

@@ -1,20 +1,20 @@
 //! Rounds of the messages that streams report.
 
 ghost use Rattle.std.specs.Prelude.{◌≡◌, ◌+◌, ◌<◌, ◌≤◌, [], map, vec_len, vec_capacity, All, Contains, None, Some, Ok, Err, IfOk, IfErr, IfSome, OnOk, OnErr, MatchResult};
-ghost use Rattle.pn_apply.specs.Prelude.{max_workers};
+ghost use Rattle.pn_apply.specs.Prelude.{MAX_WORKERS};
 ghost use Rattle.pn_live.specs.Prelude.{tablets_in};
 ghost use Rattle.pn_serve.specs.Server.Faults.{IsOfRounds};
-ghost use Rattle.pn_serve.specs.Server.Gathering.{IsGathered, nothing_gathered, value_of, with_report};
+ghost use Rattle.pn_serve.specs.Server.Gathering.{IsInputOf, no_input, value_of, with_report};
 ghost use Rattle.pn_serve.specs.Server.Messages.{FitRound};
-ghost use Rattle.pn_serve.specs.Server.Reading.{ReadsStreams};
-ghost use Rattle.pn_serve.specs.Server.Rounds.{IsRoundRefused, IsRoundTaken, IsSmall, TakesGathered};
+ghost use Rattle.pn_serve.specs.Server.Reading.{RunsRounds};
+ghost use Rattle.pn_serve.specs.Server.Rounds.{IsRoundRefused, IsRoundTaken, IsSmall, TakesInput};
 
 use crate::ServeFault;
+use crate::server::mailboxes::StreamMailboxes;
 use crate::server::messages::Messages;
 use crate::server::reports::Report;
-use crate::server::streams::Feeds;
 use pn_apply::Open;
-use pn_join::{Dup, StreamName};
+use pn_join::StreamName;
 use pn_live::{Front, LiveRegion};
 use pn_region::{Round, RoundFault};
 use pn_stream::Delivery;
@@ -22,67 +22,71 @@ use std::alloc::{AllocError, Global};
 use std::sync::Wait;
 use std::thread::Threads;
 
-// The reports for one round.
+// What the mailboxes gave for one round.
 #[derive(Drop)]
-struct Gathered {
-    /// Their messages.
+struct RoundInput {
+    /// The messages of the streams that have some.
     deliveries: Vec<Delivery>,
-    /// How many streams ended.
+    /// How many streams are at their end.
     ended: usize,
     /// The first stream with a fault.
     fault: Option<StreamName>,
 }
 
 /// Runs rounds until all streams end, or to the first fault.
-pub(crate) fn take_rounds<R: Threads + Wait + Sync>(
+pub(crate) fn run_rounds<R: Threads + Wait + Sync>(
     rt: &R,
     alloc: Global,
     live: &mut LiveRegion,
     workers: usize,
-    feeds: &Feeds,
+    mailboxes: &StreamMailboxes,
 ) -> Result<(), ServeFault>
-    requires workers { (1 ≤ workers) × (workers ≤ max_workers) }
-    ensures reads { ReadsStreams (vec_len feeds.now.places) live.old live.new result }
-    ensures named { IfErr result (IsOfRounds (map (λ place. place.name) feeds.now.places.items)) }
+    requires workers { (1 ≤ workers) × (workers ≤ MAX_WORKERS) }
+    ensures reads { RunsRounds (vec_len mailboxes.now.streams) live.old live.new result }
+    ensures named { IfErr result (IsOfRounds (map (λ stream. stream.name) mailboxes.now.streams.items)) }
     ensures same { tablets_in live.new ≡ tablets_in live.old }
 {
-    let mut reading = feeds.count();
+    let mut reading = mailboxes.len();
     for _ in rt.forever() {
         if reading == 0 {
             return Ok(());
         }
-        feeds.wait(rt);
-        let gathered = gather(rt, alloc, feeds)?;
-        let ended = take_gathered(rt, live, workers, gathered)?;
-        feeds.count_round();
+        mailboxes.wait(rt);
+        let input = gather(rt, alloc, mailboxes)?;
+        let ended = run_round(rt, live, workers, input)?;
+        mailboxes.count_round();
         reading = reading.saturating_sub(ended);
     }
     unreachable!()
 }
 
 // Takes one report of each stream that has one. The fault is out of memory, before a report is taken.
-fn gather<R: Wait>(rt: &R, alloc: Global, feeds: &Feeds) -> Result<Gathered, ServeFault>
-    ensures gathered { IfOk result (λ gathered. IsGathered (map (λ place. place.name) feeds.now.places.items) (value_of gathered)) }
-    ensures small { IfOk result (λ gathered. IsSmall (vec_len feeds.now.places) (value_of gathered)) }
-    ensures named { IfOk result (λ gathered. IfSome gathered.fault (Contains (map (λ place. place.name) feeds.now.places.items))) }
+fn gather<R: Wait>(
+    rt: &R,
+    alloc: Global,
+    mailboxes: &StreamMailboxes,
+) -> Result<RoundInput, ServeFault>
+    ensures gathered { IfOk result (λ input. IsInputOf (map (λ stream. stream.name) mailboxes.now.streams.items) (value_of input)) }
+    ensures small { IfOk result (λ input. IsSmall (vec_len mailboxes.now.streams) (value_of input)) }
+    ensures named { IfOk result (λ input. IfSome input.fault (Contains (map (λ stream. stream.name) mailboxes.now.streams.items))) }
     ensures fault { IfErr result (λ fault. fault ≡ ServeFault.Round) }
 {
-    let Ok(mut gathered) = nothing(alloc, feeds.count()) else {
+    let Ok(mut input) = new_input(alloc, mailboxes.len()) else {
         return Err(ServeFault::Round);
     };
-    for place in feeds.places.iter() {
-        let report = place.mailbox.take(rt);
-        add_note(&mut gathered, &place.name, report);
+    for stream in mailboxes.streams.iter() {
+        let report = stream.mailbox.take(rt);
+        add_note(&mut input, &stream.name, report);
     }
-    Ok(gathered)
+    Ok(input)
 }
 
-// No reports, with room for those of this many streams.
-fn nothing(alloc: Global, streams: usize) -> Result<Gathered, AllocError>
-    ensures none { IfOk result (λ gathered. value_of gathered ≡ nothing_gathered) }
-    ensures room { IfOk result (λ gathered. vec_capacity gathered.deliveries ≡ streams) }
+// No reports, with capacity for those of this many streams.
+fn new_input(alloc: Global, streams: usize) -> Result<RoundInput, AllocError>
+    ensures none { IfOk result (λ input. value_of input ≡ no_input) }
+    ensures capacity { IfOk result (λ input. vec_capacity input.deliveries ≡ streams) }
 {
-    Ok(Gathered {
+    Ok(RoundInput {
         deliveries: Vec::with_capacity(alloc, streams)?,
         ended: 0,
         fault: None,
@@ -90,77 +94,56 @@ fn nothing(alloc: Global, streams: usize) -> Result<Gathered, AllocError>
 }
 
 // Adds what the mailbox of the stream of a name gave.
-fn add_note(gathered: &mut Gathered, name: &StreamName, report: Option<Report>)
-    requires room { vec_len gathered.old.deliveries < vec_capacity gathered.old.deliveries }
-    requires few { gathered.old.ended < vec_capacity gathered.old.deliveries }
-    ensures added { value_of gathered.new ≡ with_report (value_of gathered.old) name.now report }
-    ensures fit { All FitRound gathered.old.deliveries.items → All FitRound gathered.new.deliveries.items }
-    ensures one { vec_len gathered.new.deliveries ≤ vec_len gathered.old.deliveries + 1 }
-    ensures end { gathered.new.ended ≤ gathered.old.ended + 1 }
-    ensures capacity { vec_capacity gathered.new.deliveries ≡ vec_capacity gathered.old.deliveries }
-{
-    if let Some(report) = report {
-        add_report(gathered, name, report);
-    }
-}
-
-// Adds the report of the stream of a name.
-fn add_report(gathered: &mut Gathered, name: &StreamName, report: Report)
-    requires room { vec_len gathered.old.deliveries < vec_capacity gathered.old.deliveries }
-    requires few { gathered.old.ended < vec_capacity gathered.old.deliveries }
-    ensures added { value_of gathered.new ≡ with_report (value_of gathered.old) name.now (Some report) }
-    ensures fit { All FitRound gathered.old.deliveries.items → All FitRound gathered.new.deliveries.items }
-    ensures one { vec_len gathered.new.deliveries ≤ vec_len gathered.old.deliveries + 1 }
-    ensures end { gathered.new.ended ≤ gathered.old.ended + 1 }
-    ensures capacity { vec_capacity gathered.new.deliveries ≡ vec_capacity gathered.old.deliveries }
+fn add_note(input: &mut RoundInput, name: &StreamName, report: Option<Report>)
+    requires fits { vec_len input.old.deliveries < vec_capacity input.old.deliveries }
+    requires few { input.old.ended < vec_capacity input.old.deliveries }
+    ensures added { value_of input.new ≡ with_report (value_of input.old) name.now report }
+    ensures fit { All FitRound input.old.deliveries.items → All FitRound input.new.deliveries.items }
+    ensures one { vec_len input.new.deliveries ≤ vec_len input.old.deliveries + 1 }
+    ensures end { input.new.ended ≤ input.old.ended + 1 }
+    ensures capacity { vec_capacity input.new.deliveries ≡ vec_capacity input.old.deliveries }
 {
     match report {
-        Report::Taken(Messages { delivery }) => gathered.deliveries.push_reserved(delivery),
-        Report::End => gathered.ended += 1,
-        Report::Fault => {
-            if gathered.fault.is_none() {
-                gathered.fault = Some(same_name(name));
+        Some(Report::Messages(Messages { delivery })) => input.deliveries.push_reserved(delivery),
+        Some(Report::End) => input.ended += 1,
+        Some(Report::Fault) => {
+            if input.fault.is_none() {
+                input.fault = Some(*name);
             }
         }
+        None => {}
     }
 }
 
-fn same_name(name: &StreamName) -> StreamName
-    ensures { result ≡ name.now }
-{
-    let Ok(name) = name.dup() else { unreachable!() };
-    name
-}
-
-// Runs one round of what was gathered, also if a stream has a fault. Answers how many streams ended.
-fn take_gathered<R: Threads + Wait + Sync>(
+// Runs one round of what the mailboxes gave, also if a stream has a fault. Answers how many streams ended.
+fn run_round<R: Threads + Wait + Sync>(
     rt: &R,
     live: &mut LiveRegion,
     workers: usize,
-    gathered: Gathered,
+    input: RoundInput,
 ) -> Result<usize, ServeFault>
-    requires workers { (1 ≤ workers) × (workers ≤ max_workers) }
-    requires fit { All FitRound gathered.deliveries.items }
-    ensures takes { TakesGathered (value_of gathered) live.old live.new result }
+    requires workers { (1 ≤ workers) × (workers ≤ MAX_WORKERS) }
+    requires fit { All FitRound input.deliveries.items }
+    ensures takes { TakesInput (value_of input) live.old live.new result }
     ensures same { tablets_in live.new ≡ tablets_in live.old }
 {
-    let Gathered {
+    let RoundInput {
         deliveries,
         ended,
         fault,
-    } = gathered;
-    let round = take(rt, live, workers, deliveries);
-    outcome(fault, ended, round)
+    } = input;
+    let round = apply_deliveries(rt, live, workers, deliveries);
+    conclude_round(fault, ended, round)
 }
 
 // Runs one round of messages, at most 1,000 of each stream.
-fn take<R: Threads + Wait + Sync>(
+fn apply_deliveries<R: Threads + Wait + Sync>(
     rt: &R,
     live: &mut LiveRegion,
     workers: usize,
     deliveries: Vec<Delivery>,
 ) -> Result<(Round, Front), RoundFault>
-    requires workers { (1 ≤ workers) × (workers ≤ max_workers) }
+    requires workers { (1 ≤ workers) × (workers ≤ MAX_WORKERS) }
     requires fit { All FitRound deliveries.items }
     ensures taken { OnOk result (IsRoundTaken live.old deliveries.items live.new) }
     ensures refused { OnErr result (IsRoundRefused live.old deliveries.items live.new) }
@@ -170,7 +153,7 @@ fn take<R: Threads + Wait + Sync>(
 }
 
 // How many streams ended, unless a stream has a fault, which outranks the round's.
-fn outcome(
+fn conclude_round(
     fault: Option<StreamName>,
     ended: usize,
     round: Result<(Round, Front), RoundFault>,

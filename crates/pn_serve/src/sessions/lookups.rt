@@ -15,8 +15,8 @@ use pn_record::{Key, Version};
 use pn_scan::{Query, View};
 use std::alloc::Global;
 
-/// Answers a line.
-pub(super) fn answer(alloc: Global, reader: &mut LiveReader, line: &[u8]) -> Reply
+/// Answers a line by what the reader finds.
+pub(super) fn answer_line(alloc: Global, reader: &mut LiveReader, line: &[u8]) -> Reply
     ensures answers { AnswersLine reader.old line.now reader.new result }
     ensures same { tablets_of reader.new ≡ tablets_of reader.old }
 {
@@ -31,7 +31,7 @@ fn look_up(alloc: Global, reader: &mut LiveReader, command: Command) -> Reply
     ensures same { tablets_of reader.new ≡ tablets_of reader.old }
 {
     match command {
-        Command::Copy { need, tablet } => copy(alloc, reader, &need, tablet),
+        Command::Copy { need, tablet } => copy_tablet(alloc, reader, &need, tablet),
         Command::Get(keys) => get(alloc, reader, &keys),
         Command::Read { key, version } => read(alloc, reader, &key, version),
         Command::Scan(query) => scan(alloc, reader, &query),
@@ -60,7 +60,7 @@ fn scan(alloc: Global, reader: &mut LiveReader, query: &Query) -> Reply
     answer_scan(alloc, reader.scan(query))
 }
 
-fn copy(alloc: Global, reader: &mut LiveReader, need: &Marks, tablet: u64) -> Reply
+fn copy_tablet(alloc: Global, reader: &mut LiveReader, need: &Marks, tablet: u64) -> Reply
     ensures looks_up { LooksUpCopy reader.old need.now tablet reader.new result }
     ensures same { tablets_of reader.new ≡ tablets_of reader.old }
 {

@@ -9,7 +9,7 @@ ghost use Rattle.pn_tablet.specs.declared.state.Status.TheVariants.{Serving};
 
 use super::{Status, TabletState};
 use crate::Range;
-use crate::progress::Progress;
+use crate::coverage::Coverage;
 use pn_join::{Dup, Marks, NoMemory};
 use pn_record::Records;
 use std::alloc::Global;
@@ -30,13 +30,12 @@ impl TabletState {
         requires reach_positions { IsTrue (are_positions reach) }
         ensures { IfOk result (λ tablet. tablet ≡ record { range = range; cells = cells; cover = cover; reach = reach; status = Serving }) }
     {
-        // A call on the cells tells the checker that the contents of each rise.
-        let _ = cells.iter();
+        cells.recall_table();
         let spare = reach.dup()?;
         Ok(TabletState {
             range,
             cells,
-            progress: Progress::of_parts(cover, reach),
+            coverage: Coverage::of_parts(cover, reach),
             status: Status::Serving,
             spare: Some(spare),
             alloc,
@@ -64,7 +63,7 @@ impl TabletState {
         ensures cover { result.now ≡ self.now.cover }
         ensures positions { IsTrue (are_positions self.now.cover) }
     {
-        self.progress.cover()
+        self.coverage.cover()
     }
 
     /// The positions up to which any cells took streams, nowhere less than the cover.
@@ -73,10 +72,10 @@ impl TabletState {
         ensures positions { IsTrue (are_positions self.now.reach) }
         ensures reached { Reaches self.now.reach self.now.cover }
     {
-        self.progress.reach()
+        self.coverage.reach()
     }
 
-    /// Whether it serves.
+    /// Whether the tablet serves, or what it needs in order to.
     pub fn status(&self) -> &Status
         ensures status { result.now ≡ self.now.status }
         ensures positions { IsTrue (are_positions (needed self.now.status)) }

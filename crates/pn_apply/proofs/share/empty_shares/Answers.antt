@@ -11,5 +11,5 @@ loop-tablet-preserved c =
     record {
       empty = empty_more c.args.layout.now was._tablet was.shares.items c.push_reserved.new.self.items c.in_ok-with_capacity.field-0 was.invariant.empty c.in_ok-with_capacity.ensures.items grown;
       count = ap length grown ∙ length_push was.shares.items c.in_ok-with_capacity.field-0 ∙ ap (λ n. n + 1) was.invariant.count;
-      room = c.push_reserved.ensures.capacity ∙ was.invariant.room;
+      capacity = c.push_reserved.ensures.capacity ∙ was.invariant.capacity;
     }

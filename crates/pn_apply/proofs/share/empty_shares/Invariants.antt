@@ -8,5 +8,5 @@ abbrev pub invariant-loop-tablet : goal.invariant-loop-tablet
 invariant-loop-tablet l = record {
   empty : lists l.shares.items ≡ map (images_at l.layout []) (range_with_len 0 l._tablet);
   count : length l.shares.items ≡ l._tablet;
-  room : vec_capacity l.shares ≡ length l.layout + 1;
+  capacity : vec_capacity l.shares ≡ length l.layout + 1;
 }

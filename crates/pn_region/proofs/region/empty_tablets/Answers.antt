@@ -11,5 +11,5 @@ loop-tablet-preserved c =
     record {
       empty = grown ∙ empty_more c.args.layout.now was.tablet was.tablets.items c.new.result c.in_ok-range_of.field-0 was.invariant.empty c.new.ensures c.in_ok-range_of.ensures;
       count = ap length grown ∙ length_push was.tablets.items c.new.result ∙ ap (λ n. n + 1) was.invariant.count;
-      room = c.push_reserved.ensures.capacity ∙ was.invariant.room;
+      capacity = c.push_reserved.ensures.capacity ∙ was.invariant.capacity;
     }

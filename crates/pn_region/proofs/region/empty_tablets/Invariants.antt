@@ -7,5 +7,5 @@ abbrev pub invariant-loop-tablet : goal.invariant-loop-tablet
 invariant-loop-tablet l = record {
   empty : l.tablets.items ≡ map empty_tablet (map (tablet_ends l.layout) (range_with_len 0 l.tablet));
   count : length l.tablets.items ≡ l.tablet;
-  room : vec_capacity l.tablets ≡ length l.layout + 1;
+  capacity : vec_capacity l.tablets ≡ length l.layout + 1;
 }

@@ -1,12 +1,12 @@
--- The last row is that at the last place.
+-- The last row is that at the last index.
 use Rattle.std.proofs.Common.{ℕ, List, Some, option_map, sym, ap, ◌∙◌}
 use Rattle.pn_record.specs.Sets.{CellValue}
-use Rattle.pn_scan.specs.Queries.{continued}
-use Rattle.pn_scan.proofs.PageEnds.{last_place}
+use Rattle.pn_scan.specs.Queries.{query_after}
+use Rattle.pn_scan.proofs.PageEnds.{last_index}
 use Rattle.pn_scan.proofs.pages.next_query.Goals as goal
 
-pub returns-in_ok-continued-in-Some : goal.returns-in_ok-continued-in-Some
-returns-in_ok-continued-in-Some c =
+pub returns-in_ok-continue_after-in-Some : goal.returns-in_ok-continue_after-in-Some
+returns-in_ok-continue_after-in-Some c =
     let query = c.args.query.now in
-    ap Some (c.in_ok-continued-in-Some.ensures ∙ ap (λ (row : List ℕ × CellValue). continued query row.0) c.row.view_is)
-    ∙ ap (option_map (λ (row : List ℕ × CellValue). continued query row.0)) (c.in-Some.ensures.value ∙ sym (last_place c.args.rows.now))
+    ap Some (c.in_ok-continue_after-in-Some.ensures ∙ ap (λ (row : List ℕ × CellValue). query_after query row.0) c.row.view_is)
+    ∙ ap (option_map (λ (row : List ℕ × CellValue). query_after query row.0)) (c.in-Some.ensures.value ∙ sym (last_index c.args.rows.now))

@@ -13,17 +13,17 @@ pub loop-key-init : goal.loop-key-init
 loop-key-init c =
     let query = c.args.query.now in
     let cells : Entries = c.args.cells.now in
-    let left : c.into_iter-key-iterator.result ≡ drop c.first_place-place.result cells = c.into_iter-key-iterator.ensures.into_iter_gives ∙ c.iter_from-key-items.ensures.rest in
+    let left : c.into_iter-key-iterator.result ≡ drop c.first_index-index.result cells = c.into_iter-key-iterator.ensures.into_iter_gives ∙ c.iter_from-key-items.ensures.rest in
     let none = c.in_ok-rows.ensures.items in
     let size = ap (λ (rows : Entries). length rows) none in
     record {
       rows =
           ap (λ (es : Entries). c.in_ok-rows.rows.items ++ shown_rows query es) left
-          ∙ ap (λ (rows : Entries). rows ++ shown_rows query (drop c.first_place-place.result cells)) none
-          ∙ c.first_place-place.ensures.shown;
+          ∙ ap (λ (rows : Entries). rows ++ shown_rows query (drop c.first_index-index.result cells)) none
+          ∙ c.first_index-index.ensures.shown;
       few = omega (arith, size);
-      rising = subst (λ (es : Entries). Rising bytes_cmp es) (sym left) (rising_drop c.first_place-place.result cells (Rising-from_sorted bytes_cmp cells c.len.ensures.rising));
-      from = subst (λ (es : Entries). NoneBelow query.from es) (sym left) c.first_place-place.ensures.from;
+      rising = subst (λ (es : Entries). Rising bytes_cmp es) (sym left) (rising_drop c.first_index-index.result cells (Rising-from_sorted bytes_cmp cells c.len.ensures.rising));
+      from = subst (λ (es : Entries). NoneBelow query.from es) (sym left) c.first_index-index.ensures.from;
     }
 
 pub is_shown-requires-clause-from : goal.is_shown-requires-clause-from

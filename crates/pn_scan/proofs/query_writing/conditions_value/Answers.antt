@@ -6,8 +6,7 @@ use Rattle.serde_json.proofs.Views.{view-Array}
 use Rattle.serde_json.specs.Data.{Data, array}
 use Rattle.serde_json.specs.View.{view, items_of}
 use Rattle.pn_scan.proofs.Copied.{shown_more}
-use Rattle.pn_scan.specs.Queries.{shown_condition}
-use Rattle.pn_scan.specs.declared.condition.Condition.{Condition}
+use Rattle.pn_scan.specs.Queries.{OwnCondition, shown_condition}
 use Rattle.pn_scan.specs.QueryJson.{condition_data}
 use Rattle.pn_scan.proofs.query_writing.conditions_value.Goals as goal
 
@@ -20,6 +19,6 @@ pub returns : goal.returns
 returns c =
     let conditions = c.args.conditions.now in
     let i = c.loop-condition.condition-index in
-    let json_of : Condition → Data = λ condition. condition_data (shown_condition condition) in
+    let json_of : OwnCondition → Data = λ condition. condition_data (shown_condition condition) in
     let whole : take i (map json_of conditions) ≡ map json_of conditions = take_all i (map json_of conditions) (omega (arith, length-map conditions json_of, c.loop-condition-test.false)) in
     view-Array c.loop-condition.values ∙ ap (λ ds. array (items_of ds)) (c.loop-condition.invariant ∙ whole ∙ sym (map-map condition_data shown_condition conditions))

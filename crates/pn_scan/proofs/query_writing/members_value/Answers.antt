@@ -1,7 +1,8 @@
 -- The keys, the conditions and the limit of a query keep the limits.
 use Rattle.std.proofs.Common.{◌≡◌, true, ◌&&◌, sym, ap, ◌∙◌}
 use Rattle.std.proofs.lemmas.Bool.{and_from}
-use Rattle.pn_scan.specs.Queries.{QueryValue, is_end, query_fits}
+use Rattle.pn_scan.specs.Queries.{QueryValue, query_fits}
+use Rattle.pn_tablet.specs.Ranges.{is_end}
 use Rattle.pn_scan.proofs.query_writing.members_value.Goals as goal
 
 pub returns-clause-limits : goal.returns-clause-limits

@@ -16,7 +16,7 @@ loop-key-init g c =
     let bounds = g.V.View.bounds now in
     record {
       getting = ([], subst (λ (cells : List (Option CellValue)). IsGetting looks bounds c.args.keys.now 0 now now cells []) (sym c.in_ok-cells.ensures.items) (getting_none looks bounds c.args.keys.now now));
-      room = c.in_ok-cells.ensures.capacity;
+      capacity = c.in_ok-cells.ensures.capacity;
       count = c.in_ok-cells.ensures.len;
       bounds = refl;
     }
@@ -34,7 +34,7 @@ loop-key-preserved g c =
     let once = c.in_ok-cell.ensures.look.1 in
     record {
       getting = (_, getting_more was.getting.1 c.loop-key-test.true c.key-item.is was.bounds refl once.looked once.found c.in_ok-cell.field-0 c.push_reserved.ensures.items once.answers);
-      room = omega (arith, c.push_reserved.ensures.capacity, was.room);
+      capacity = omega (arith, c.push_reserved.ensures.capacity, was.capacity);
       count = omega (arith, c.push_reserved.ensures.len, was.count);
       bounds = c.in_ok-cell.ensures.layout ∙ was.bounds;
     }

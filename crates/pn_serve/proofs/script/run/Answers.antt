@@ -6,4 +6,4 @@ use Rattle.pn_serve.proofs.script.run.Goals as goal
 
 pub returns-clause-ends : goal.returns-clause-ends
 returns-clause-ends g c =
-    as_script _ _ _ _ _ _ _ _ c.in_ok-machine.ensures (c.answer_all.ensures.ends _ (Begins_new Answers Concludes _ _ _ _ c.in_ok-lines.ensures))
+    as_script _ _ _ _ _ _ _ _ c.in_ok-lines.ensures.machine (c.answer_lines.ensures.ends _ (Begins_new Answers Concludes _ _ _ _ c.in_ok-lines.ensures.lines))

@@ -6,4 +6,4 @@ use Rattle.pn_serve.proofs.script.run_to_exit.Goals as goal
 
 pub returns-clause-ends : goal.returns-clause-ends
 returns-clause-ends g c =
-    as_script _ _ _ _ _ _ _ _ c.in_ok-kept.ensures (c.answer_all-ended.ensures.ends _ (Begins_new Answers Concludes _ _ _ _ c.in_ok-lines.ensures))
+    as_script _ _ _ _ _ _ _ _ c.in_ok-lines.ensures.machine (c.answer_lines-ended.ensures.ends _ (Begins_new Answers Concludes _ _ _ _ c.in_ok-lines.ensures.lines))

@@ -9,17 +9,17 @@ use Rattle.pn_serve.proofs.server.serve.Goals as goal
 
 pub returns-clause-ends : goal.returns-clause-ends
 returns-clause-ends g c =
-    serving_ends g.S.Source.left c.args.streams.items c.args.settings.layout c.serve_region-served.result c.conclude.result c.serve_region-served.ensures.ends
-    (err_first c.serve_region-served.result (λ fault. c.conclude.result ≡ Err fault) (c.conclude.new.out ≡ c.args.out.now) c.conclude.ensures.fault)
-    (ok_err_first c.serve_region-served.result c.conclude.result (λ fault. fault ≡ Write) g.W.Sink.may_fail c.conclude.ensures.write)
+    serving_ends g.S.Source.left c.args.streams.items c.args.settings.layout c.serve_region-served.result c.tell_served.result c.serve_region-served.ensures.ends
+    (err_first c.serve_region-served.result (λ fault. c.tell_served.result ≡ Err fault) (c.tell_served.new.out ≡ c.args.out.now) c.tell_served.ensures.fault)
+    (ok_err_first c.serve_region-served.result c.tell_served.result (λ fault. fault ≡ Write) g.W.Sink.may_fail c.tell_served.ensures.write)
 
 pub returns-clause-served : goal.returns-clause-served
 returns-clause-served g c =
-    of_sessions c.args.sessions (λ n. Appends (g.W.Sink.contents c.args.out.now) (g.W.Sink.contents c.conclude.new.out) (served_line n))
-    c.serve_region-served.result c.conclude.result c.serve_region-served.ensures.count c.conclude.ensures.all c.conclude.ensures.ok
+    of_sessions c.args.sessions (λ n. Appends (g.W.Sink.contents c.args.out.now) (g.W.Sink.contents c.tell_served.new.out) (served_line n))
+    c.serve_region-served.result c.tell_served.result c.serve_region-served.ensures.count c.tell_served.ensures.all c.tell_served.ensures.ok
 
 pub returns-clause-part : goal.returns-clause-part
 returns-clause-part g c =
-    of_sessions_in_part c.args.sessions (λ n. AppendsPrefix (g.W.Sink.contents c.args.out.now) (g.W.Sink.contents c.conclude.new.out) (served_line n))
-    c.serve_region-served.result c.conclude.result c.serve_region-served.ensures.count c.serve_region-served.ensures.fault
-    (err_first c.serve_region-served.result (λ fault. c.conclude.result ≡ Err fault) (c.conclude.new.out ≡ c.args.out.now) c.conclude.ensures.fault) c.conclude.ensures.err
+    of_sessions_in_part c.args.sessions (λ n. AppendsPrefix (g.W.Sink.contents c.args.out.now) (g.W.Sink.contents c.tell_served.new.out) (served_line n))
+    c.serve_region-served.result c.tell_served.result c.serve_region-served.ensures.count c.serve_region-served.ensures.fault
+    (err_first c.serve_region-served.result (λ fault. c.tell_served.result ≡ Err fault) (c.tell_served.new.out ≡ c.args.out.now) c.tell_served.ensures.fault) c.tell_served.ensures.err

@@ -7,5 +7,5 @@ use Rattle.pn_tablet.proofs.copy_draft.settle.Goals as goal
 
 pub returns-in-Some : goal.returns-in-Some
 returns-in-Some c =
-    subst (λ (last : Option Image). OnOk c.take_image.result (c.take_image.new.records ≡ with_last c.args.cells.now last)) (sym c.in-Some.is)
-    (taken c.take_image.result c.args.cells.now c.take_image.new.records c.in-Some.image c.requires c.take_image.ensures.ok c.take_image.ensures.rising)
+    subst (λ (last : Option Image). OnOk c.add_image.result (c.add_image.new.records ≡ with_last c.args.cells.now last)) (sym c.in-Some.is)
+    (taken c.add_image.result c.args.cells.now c.add_image.new.records c.in-Some.image c.requires c.add_image.ensures.ok c.add_image.ensures.rising)

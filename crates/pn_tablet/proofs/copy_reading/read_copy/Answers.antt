@@ -5,10 +5,10 @@ use Rattle.pn_tablet.proofs.CopyPieces.{pieces_of-last}
 use Rattle.pn_tablet.proofs.copy_reading.read_copy.Goals as goal
 
 pub returns-clause-found : goal.returns-clause-found
-returns-clause-found c = answer_found c.args.text.now c.checked_copy.result c.checked_copy.ensures.exact
+returns-clause-found c = answer_found c.args.text.now c.read_text.result c.read_text.ensures.exact
 
 pub returns-clause-only : goal.returns-clause-only
-returns-clause-only c = λ copy is. right_same _ _ _ _ _ c.checked_copy.ensures.exact (text_again c.args.text.now copy is)
+returns-clause-only c = λ copy is. right_same _ _ _ _ _ c.read_text.ensures.exact (text_again c.args.text.now copy is)
 
 pub returns-clause-no_line : goal.returns-clause-no_line
-returns-clause-no_line c = λ unbroken. c.checked_copy.ensures.no_line (pieces_of-last c.args.text.now unbroken)
+returns-clause-no_line c = λ unbroken. c.read_text.ensures.no_line (pieces_of-last c.args.text.now unbroken)

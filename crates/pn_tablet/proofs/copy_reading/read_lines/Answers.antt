@@ -1,9 +1,9 @@
 -- A line that is refused ends the reading, and one that is taken makes the draft longer.
 use Rattle.std.proofs.Common.{rules, ◌≡◌, ◌+◌, ◌==◌, Ok, length, sym, ap, ◌∙◌, arith}
-use Rattle.pn_tablet.specs.CopyReading.{pieces_of, is_over, with_mark, with_image, ended, read_on}
+use Rattle.pn_tablet.specs.CopyReading.{pieces_of, is_over, with_mark, with_image, finish, read_on}
 use Rattle.pn_tablet.specs.Drafts.{DraftValue}
 use Rattle.pn_tablet.specs.declared.copy_line.CopyLine.TheVariants.{Mark, Record, End}
-use Rattle.pn_tablet.specs.declared.copy_fault.CopyTextFault.TheVariants.{BadLine}
+use Rattle.pn_tablet.specs.declared.fault.CopyTextFault.TheVariants.{BadLine}
 use Rattle.pn_tablet.proofs.CopyPieces.{is_over-pieces_of}
 use Rattle.pn_tablet.proofs.CopySteps.{read_on-bad, read_on-said, read_on-last, then_ok, then_err, handed_on, same_right, refused_right, unless_memory, mark_position}
 use Rattle.pn_tablet.proofs.copy_reading.read_lines.Goals as goal
@@ -36,11 +36,11 @@ pub returns-in-End : goal.returns-in-End
 returns-in-End c =
     let empty : c.is_empty.result ≡ (length c.in-Some.after.now == 0) = search rules in
     let over : is_over (pieces_of c.in-Some.after.now) ≡ c.is_empty.result = is_over-pieces_of c.in-Some.after.now ∙ sym empty in
-    same_right c.ended.result (ended c.lines.number c.lines.draft c.in-End.count c.is_empty.result) _
+    same_right c.finish.result (finish c.lines.number c.lines.draft c.in-End.count c.is_empty.result) _
     (sym (c.lines.invariant.reads
     ∙ read_on-said c.args.form c.lines.number c.lines.draft (pieces_of c.lines.rest.now) c.in-Some.line.now c.in-Some.after.now c.in-Some.ensures.0 (End c.in-End.count) (c.in_ok-name.ensures ∙ ap Ok c.in-End.is)
-    ∙ ap (ended c.lines.number c.lines.draft c.in-End.count) over))
-    (unless_memory _ _ c.ended.ensures)
+    ∙ ap (finish c.lines.number c.lines.draft c.in-End.count) over))
+    (unless_memory _ _ c.finish.ensures)
 
 pub lines-preserved : goal.lines-preserved
 lines-preserved c = record {

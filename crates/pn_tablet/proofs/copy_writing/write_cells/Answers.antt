@@ -25,5 +25,5 @@ loop-key-preserved c =
       text = cell_then now c.in_ok-text.text.items all e es was c.in_ok-text.ensures;
       lines = λ rest. old.lines (subst (λ (l : Entries). AllByRecursion IsWrittenLine (map Record (spell l))) (sym left) (cell_all e es c.in_ok-text.ensures.1 rest));
       count = omega (arith, counted, cell_count e es, contents);
-      room = omega (arith, old.room, cell_room now c.in_ok-text.text.items e c.in_ok-text.ensures, contents);
+      longer = omega (arith, old.longer, cell_room now c.in_ok-text.text.items e c.in_ok-text.ensures, contents);
     }

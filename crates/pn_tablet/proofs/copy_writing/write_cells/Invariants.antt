@@ -11,5 +11,5 @@ invariant-loop-key l = record {
   text : l.text.items ++ lines_text (map Record (spell l.key-iterator)) ≡ l.initial.text.items ++ lines_text (map Record (spell l.cells));
   lines : AllByRecursion IsWrittenLine (map Record (spell l.key-iterator)) → AllByRecursion IsWrittenLine (map Record (spell l.cells));
   count : l.count + length (spell l.key-iterator) ≡ length (spell l.cells);
-  room : length l.initial.text.items + l.count ≤ length l.text.items;
+  longer : length l.initial.text.items + l.count ≤ length l.text.items;
 }

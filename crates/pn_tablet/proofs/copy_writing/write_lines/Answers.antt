@@ -19,7 +19,7 @@ pub overflow_add-len : goal.overflow_add-len
 overflow_add-len c =
     let short : length c.in_ok-cells.cells.items < 2 ^ 64 = search (rules, arith) in
     let marks : length c.copy.inside.marks ≤ length c.in_ok-marks.marks.items = marks_room _ _ _ c.in_ok-marks.ensures in
-    omega (arith, short, marks, c.len.ensures.count, c.in_ok-cells.ensures.room)
+    omega (arith, short, marks, c.len.ensures.count, c.in_ok-cells.ensures.longer)
 
 pub returns-clause-exact : goal.returns-clause-exact
 returns-clause-exact c =

@@ -27,4 +27,4 @@ returns c =
     let to : c.count_before-to.result ≡ count_by (λ entry. is_before c.args.range.now.1 entry.0) c.args.cells.now =
     c.count_before-to.ensures ∙ ap (λ end. count_by (λ entry. is_before end entry.0) c.args.cells.now) c.to.ensures.to in
     IfOk-weaker c.slice.result _ _ (λ part is.
-    is ∙ (λ i. slice_range c.args.cells.now (from i) (to i)) ∙ within_slice c.args.range.now c.args.cells.now c.to.ensures.order c.len.ensures.rising) c.slice.ensures
+    is ∙ (λ i. slice_range c.args.cells.now (from i) (to i)) ∙ within_slice c.args.range.now c.args.cells.now c.to.ensures.order c.recall_order.ensures) c.slice.ensures

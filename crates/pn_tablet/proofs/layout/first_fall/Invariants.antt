@@ -4,5 +4,5 @@ use Rattle.pn_tablet.specs.Layouts.{first_fall}
 use Rattle.pn_tablet.proofs.BoundSteps.{fall_from}
 use Rattle.pn_tablet.proofs.layout.first_fall.Given as goal
 
-abbrev pub invariant-loop-place : goal.invariant-loop-place
-invariant-loop-place l = first_fall l.bounds ≡ fall_from (l.place - 1) l.bounds
+abbrev pub invariant-loop-index : goal.invariant-loop-index
+invariant-loop-index l = first_fall l.bounds ≡ fall_from (l.index - 1) l.bounds

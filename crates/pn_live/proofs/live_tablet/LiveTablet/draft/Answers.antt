@@ -2,7 +2,7 @@
 use Rattle.std.proofs.Common.{rules, ◌≡◌, [], sym, subst}
 use Rattle.pn_join.specs.Marks.{Positions}
 use Rattle.pn_record.specs.CellMap.{Entries}
-use Rattle.pn_tablet.specs.declared.op.TabletOp.TheVariants.{Join}
+use Rattle.pn_tablet.specs.declared.state.TabletOp.TheVariants.{Join}
 use Rattle.pn_tablet.specs.Tablets.{TabletStateValue}
 use Rattle.pn_live.specs.Drafts.{Lacks}
 use Rattle.pn_live.proofs.Drafting.{lacks_nothing}

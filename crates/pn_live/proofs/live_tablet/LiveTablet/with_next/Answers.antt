@@ -1,7 +1,7 @@
 -- The next state extends the published one, which lacks the operation.
 use Rattle.std.proofs.Common.{rules, ◌≡◌, ◌++◌, ◌∷◌, [], sym, ap, subst, ◌∙◌, Some, IfSome, List, length, take}
 use Rattle.pn_tablet.specs.Steps.{after_step}
-use Rattle.pn_tablet.specs.declared.op.TabletOp.{TabletOp}
+use Rattle.pn_tablet.specs.declared.state.TabletOp.{TabletOp}
 use Rattle.pn_live.specs.declared.published_state.PublishedState.{PublishedState}
 use Rattle.pn_live.specs.Attempts.{tried_of}
 use Rattle.pn_live.specs.Drafts.{Lacks}

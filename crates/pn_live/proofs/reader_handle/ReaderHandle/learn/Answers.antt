@@ -3,7 +3,7 @@ use Rattle.std.proofs.Common.{◌≡◌, ◌⊎◌, ◌<◌, ◌≤◌, nat_lt, 
 use Rattle.std.proofs.lemmas.Bool.Decides.{nat_tests}
 use mathlib.Core.List.{IsPrefix}
 use Rattle.pn_live.specs.Attempts.{settled_of}
-use Rattle.pn_live.specs.TabletReaders.{longer}
+use Rattle.pn_live.specs.TabletReaders.{longer_of}
 use Rattle.pn_live.proofs.Prefixes.{begins_no_more}
 use Rattle.pn_live.proofs.reader_handle.ReaderHandle.learn.Goals as goal
 
@@ -11,7 +11,7 @@ no_longer : {A : Type 0} (xs ys : List A) → IsPrefix xs ys → length xs ≤ l
 no_longer xs ys p = omega (arith, ap length p.1, length-append xs p.0)
 
 -- of two lists that both begin one of them, that one is the longer
-longer_is : {A : Type 0} (xs ys zs : List A) → (zs ≡ xs) ⊎ (zs ≡ ys) → IsPrefix xs zs → IsPrefix ys zs → zs ≡ longer xs ys
+longer_is : {A : Type 0} (xs ys zs : List A) → (zs ≡ xs) ⊎ (zs ≡ ys) → IsPrefix xs zs → IsPrefix ys zs → zs ≡ longer_of xs ys
 longer_is xs ys zs one p q = by_test (nat_lt (length xs) (length ys)) refl
   where
     by_test : (b : Bool) → nat_lt (length xs) (length ys) ≡ b → zs ≡ (if b then ys else xs)

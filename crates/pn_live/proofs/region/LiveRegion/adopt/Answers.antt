@@ -3,7 +3,7 @@ use Rattle.std.proofs.Common.{◌≡◌, true, Ok, sym, ap, ◌∙◌, subst}
 use Rattle.pn_tablet.specs.Copies.{TabletCopyValue}
 use Rattle.pn_tablet.specs.Steps.{step}
 use Rattle.pn_tablet.specs.Tablets.{lie_in}
-use Rattle.pn_tablet.specs.declared.op.TabletOp.TheVariants.{Adopt}
+use Rattle.pn_tablet.specs.declared.state.TabletOp.TheVariants.{Adopt}
 use Rattle.pn_region.specs.Regions.{RegionValue, IsRegion}
 use Rattle.pn_region.proofs.OneTablet.{stepping_is}
 use Rattle.pn_live.specs.LiveRegions.{LiveRegionValue, core}

@@ -13,7 +13,7 @@ use Rattle.pn_live.proofs.region.LiveRegion.close.Goals as goal
 pub was_all_seen-all_seen-requires : goal.was_all_seen-all_seen-requires
 was_all_seen-all_seen-requires g c =
     let inside = c.self.inside in
-    let live : LiveRegionValue = record { layout = inside.layout; tablets = inside.tablets.items; marks = inside.marks; log = inside.log } in
+    let live : LiveRegionValue = record { layout = inside.layout; tablets = inside.tablets.items; marks = inside.marks; log = inside.log; order = inside.order } in
     let own : map (λ (p : PublishedTabletValue). p.range) live.tablets ≡ ranges live.layout =
     sym (ranges_of_tablets live.tablets) ∙ own_ranges live.marks (ranges live.layout) (map state_at live.tablets) c.self.invariant.is_region.tablets in
     subst (λ (ps : List PublishedTabletValue). AllByRecursion (ReadsFrom ps) c.args.readers.items) (sym c.deref.ensures.value)

@@ -2,7 +2,7 @@
 use Rattle.std.proofs.Common.{◌≡◌, length, get_or, Ok, ap, ◌∙◌, subst, arith}
 use Rattle.std.proofs.lemmas.List.{length-map}
 use Rattle.pn_tablet.specs.Steps.{step}
-use Rattle.pn_tablet.specs.declared.op.TabletOp.TheVariants.{Lose}
+use Rattle.pn_tablet.specs.declared.state.TabletOp.TheVariants.{Lose}
 use Rattle.pn_region.specs.Regions.{IsRegion}
 use Rattle.pn_region.proofs.NewRegion.{tablet_count}
 use Rattle.pn_region.proofs.OneTablet.{stepping_is}
@@ -14,7 +14,7 @@ use Rattle.pn_live.proofs.region.LiveRegion.lose.Goals as goal
 pub index-requires : goal.index-requires
 index-requires g c =
     let inside = c.self.inside in
-    let old : LiveRegionValue = record { layout = inside.layout; tablets = inside.tablets.items; marks = inside.marks; log = inside.log } in
+    let old : LiveRegionValue = record { layout = inside.layout; tablets = inside.tablets.items; marks = inside.marks; log = inside.log; order = inside.order } in
     let count = tablet_count old.marks old.layout (core old).tablets c.self.invariant.is_region.tablets in
     let layout = ap (λ (l : LiveRegionValue). length l.layout) c.self.view_is in
     omega (arith, count, length-map old.tablets state_at, layout, c.requires, inside.tablets.ok.0)

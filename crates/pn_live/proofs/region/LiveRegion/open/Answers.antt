@@ -18,7 +18,7 @@ invariant_of-live g c =
     let us = c.readers_of.new.tablets in
     let tablets = c.in_ok-tablets.tablets in
     let same = with_items_is tablets us (omega (arith, c.readers_of.auto.tablets, c.as_mut_slice.ensures.len)) in
-    let live : LiveRegionValue = record { layout = c.args.layout; tablets = (with_items tablets us).items; marks = c.new-in-Ok.result; log = c.in_ok-log.log } in
+    let live : LiveRegionValue = record { layout = c.args.layout; tablets = (with_items tablets us).items; marks = c.new-in-Ok.result; log = c.in_ok-log.log; order = [] } in
     let placed : live.tablets ≡ tablets.items = same ∙ (c.in-Ok.ensures.same ∙ c.as_mut_slice.ensures.value) in
     new_lawful live (subst IsLayout c.layout.view_is c.layout.invariant) (subst (AreNewTablets (ranges c.args.layout)) (sym placed) c.in_ok-tablets.ensures) c.new-in-Ok.ensures
 
@@ -27,7 +27,7 @@ returns-in-Ok-clause-readers g c =
     let us = c.readers_of.new.tablets in
     let tablets = c.in_ok-tablets.tablets in
     let same = with_items_is tablets us (omega (arith, c.readers_of.auto.tablets, c.as_mut_slice.ensures.len)) in
-    let live : LiveRegionValue = record { layout = c.args.layout; tablets = (with_items tablets us).items; marks = c.new-in-Ok.result; log = c.in_ok-log.log } in
+    let live : LiveRegionValue = record { layout = c.args.layout; tablets = (with_items tablets us).items; marks = c.new-in-Ok.result; log = c.in_ok-log.log; order = [] } in
     let kept = same ∙ c.in-Ok.ensures.same in
     let placed : live.tablets ≡ tablets.items = kept ∙ c.as_mut_slice.ensures.value in
     new_readers live c.args.layout c.as_mut_slice.result.now c.in-Ok.readers.items (subst (AreNewTablets (ranges c.args.layout)) (sym placed) c.in_ok-tablets.ensures) refl kept c.in-Ok.ensures.readers

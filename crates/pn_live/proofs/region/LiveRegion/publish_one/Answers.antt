@@ -2,12 +2,12 @@
 use Rattle.std.proofs.Common.{◌≡◌, List, slice_get, sym, ap, ◌∙◌, subst, Ok, arith}
 use Rattle.std.specs.Prelude.{IsSomeAnd}
 use Rattle.pn_tablet.specs.Steps.{step}
-use Rattle.pn_region.specs.Recovery.{stepping}
+use Rattle.pn_region.specs.Recovery.{after_op}
 use Rattle.pn_region.specs.Regions.{IsRegion}
 use Rattle.pn_live.specs.LiveRegions.{LiveRegionValue, core, tablets_in}
 use Rattle.pn_live.specs.PublishedTablets.{PublishedTabletValue, TabletNoteValue, state_at, notes_of}
 use Rattle.pn_live.specs.Readers.{AreNotesOf}
-use Rattle.pn_live.specs.Recovery.{publishing_at}
+use Rattle.pn_live.specs.Recovery.{after_op_at}
 use Rattle.pn_live.proofs.OneTablet.{there_within, known_there, set_appended, core_after, lawful_after, live_after, same_after, fits_after}
 use Rattle.pn_live.proofs.region.LiveRegion.publish_one.Goals as goal
 
@@ -27,22 +27,22 @@ publish-requires-clause-next g c =
 pub invariant_of-self : goal.invariant_of-self
 invariant_of-self g c =
     let inside = c.self.inside in
-    let old : LiveRegionValue = record { layout = inside.layout; tablets = inside.tablets.items; marks = inside.marks; log = inside.log } in
-    let is = set_appended inside.tablets.items c.args.number c.index_mut.result.now c.publish.new.self c.args.operation c.index_mut.ensures.value c.publish.ensures in
+    let old : LiveRegionValue = record { layout = inside.layout; tablets = inside.tablets.items; marks = inside.marks; log = inside.log; order = inside.order } in
+    let is = set_appended inside.tablets.items c.args.number c.index_mut.result.now c.publish.new.self c.args.operation c.index_mut.ensures.value c.publish.ensures.list in
     lawful_after old c.args.number c.args.operation _ is inside.log c.self.invariant
-    (subst (λ (l : LiveRegionValue). IsRegion (stepping (core l) c.args.number c.args.operation)) (sym c.self.view_is) c.requires.region)
+    (subst (λ (l : LiveRegionValue). IsRegion (after_op (core l) c.args.number c.args.operation)) (sym c.self.view_is) c.requires.region)
 
 pub returns : goal.returns
 returns g c =
     let n = c.args.number in
     let op = c.args.operation in
     let inside = c.self.inside in
-    let old : LiveRegionValue = record { layout = inside.layout; tablets = inside.tablets.items; marks = inside.marks; log = inside.log } in
-    let is = set_appended inside.tablets.items n c.index_mut.result.now c.publish.new.self op c.index_mut.ensures.value c.publish.ensures in
+    let old : LiveRegionValue = record { layout = inside.layout; tablets = inside.tablets.items; marks = inside.marks; log = inside.log; order = inside.order } in
+    let is = set_appended inside.tablets.items n c.index_mut.result.now c.publish.new.self op c.index_mut.ensures.value c.publish.ensures.list in
     let front = c.front_of.ensures ∙ ap notes_of c.deref.ensures.value in
     record {
-      ok = live_after old n op _ is _ c.cut.ensures ∙ ap (λ (l : LiveRegionValue). publishing_at l n op) c.self.view_is;
-      state = core_after old n op _ is inside.log ∙ ap (λ (l : LiveRegionValue). stepping (core l) n op) c.self.view_is;
+      ok = live_after old n op _ is _ c.cut.ensures ∙ ap (λ (l : LiveRegionValue). after_op_at l n op) c.self.view_is;
+      state = core_after old n op _ is inside.log ∙ ap (λ (l : LiveRegionValue). after_op (core l) n op) c.self.view_is;
       front = front;
       err = tt;
       fits =

@@ -1,7 +1,7 @@
 -- What the entry found extends what the reader knew.
 use Rattle.std.proofs.Common.{List, refl, ap, ◌∙◌, subst}
 use mathlib.Core.List.{IsPrefix}
-use Rattle.pn_tablet.specs.declared.op.TabletOp.{TabletOp}
+use Rattle.pn_tablet.specs.declared.state.TabletOp.{TabletOp}
 use Rattle.pn_live.specs.Attempts.{settled_of}
 use Rattle.pn_live.specs.Orders.{list_of}
 use Rattle.pn_live.proofs.tablet_reader.TabletReader.enter.Goals as goal

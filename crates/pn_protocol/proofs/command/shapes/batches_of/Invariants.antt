@@ -11,5 +11,5 @@ abbrev pub invariant-loop-item : goal.invariant-loop-item
 invariant-loop-item l = record {
   so_far : each_in batch_shape (items_view l.items) ≡ onto l.batches.items (each_in batch_shape (items_view (drop l.item-index l.items)));
   count : vec_len l.batches ≡ l.item-index;
-  room : vec_capacity l.batches ≡ length l.items;
+  capacity : vec_capacity l.batches ≡ length l.items;
 }

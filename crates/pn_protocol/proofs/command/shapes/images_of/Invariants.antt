@@ -11,5 +11,5 @@ abbrev pub invariant-loop-item : goal.invariant-loop-item
 invariant-loop-item l = record {
   so_far : each_in image_shape (items_view l.items) ≡ onto l.images.items (each_in image_shape (items_view (drop l.item-index l.items)));
   count : vec_len l.images ≡ l.item-index;
-  room : vec_capacity l.images ≡ length l.items;
+  capacity : vec_capacity l.images ≡ length l.items;
 }

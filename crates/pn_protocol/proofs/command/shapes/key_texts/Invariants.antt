@@ -11,5 +11,5 @@ abbrev pub invariant-loop-item : goal.invariant-loop-item
 invariant-loop-item l = record {
   so_far : each_in (key_shape l.part) (items_view l.items) ≡ onto (texts l.keys.items) (each_in (key_shape l.part) (items_view (drop l.item-index l.items)));
   count : vec_len l.keys ≡ l.item-index;
-  room : vec_capacity l.keys ≡ length l.items;
+  capacity : vec_capacity l.keys ≡ length l.items;
 }

@@ -1,7 +1,7 @@
 -- The newlines so far and those of the rest are all newlines.
 use Rattle.std.proofs.Common.{◌≡◌, ◌+◌, ◌≤◌, drop}
 use Rattle.std.specs.List.{count_by}
-use Rattle.pn_protocol.specs.Reply.Recovery.{is_newline}
+use Rattle.pn_protocol.specs.Reply.Answers.{is_newline}
 use Rattle.pn_protocol.proofs.reply.answers.line_count.Given as goal
 
 abbrev pub invariant-loop-byte : goal.invariant-loop-byte

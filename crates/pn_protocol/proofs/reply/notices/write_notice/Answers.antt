@@ -2,7 +2,7 @@
 use Rattle.std.proofs.Common.{ℕ, List, Option, codes}
 use Rattle.serde_json.specs.Data.{Data, number, object, string, unsigned, member, no_members}
 use Rattle.pn_record.specs.Writing.{version_data}
-use Rattle.pn_protocol.specs.Reply.Versions.{version_or_null}
+use Rattle.pn_protocol.specs.Reply.Rows.{version_or_null}
 use Rattle.pn_protocol.specs.Reply.Notices.{notice_data}
 use Rattle.pn_json.specs.Tokens.{value_tokens}
 use Rattle.pn_json.proofs.TokenLists.{appends_token, appends_both, appends_as}
@@ -10,11 +10,11 @@ use Rattle.pn_protocol.proofs.reply.notices.write_notice.Goals as goal
 
 -- a notice of these parts
 abbrev notice_of : ℕ × ℕ → Option (ℕ × ℕ) → List ℕ → ℕ → Data
-notice_of after before key place =
+notice_of after before key n =
     object (member (codes "after") (version_data after)
     (member (codes "before") (version_or_null before)
     (member (codes "key") (string key)
-    (member (codes "number") (number (unsigned place)) no_members))))
+    (member (codes "number") (number (unsigned n)) no_members))))
 
 pub returns : goal.returns
 unfolding notice_data

@@ -12,7 +12,7 @@ loop-row-init c = appends_none _
 pub loop-row-preserved : goal.loop-row-preserved
 loop-row-preserved c =
     appends_as (one_more row_data value_tokens c.args.rows.now c.loop-row.row-index c.row-item.result c.row-item.is c.loop-row-test.true)
-    (appends_both c.loop-row.invariant c.in_ok-write_shown.ensures)
+    (appends_both c.loop-row.invariant c.in_ok-write_scan_row.ensures)
 
 pub returns : goal.returns
 returns c = appends_as (ap (λ rs. values_tokens (map row_data rs)) (take_all c.loop-row.row-index c.args.rows.now c.loop-row-test.false)) c.loop-row.invariant

@@ -6,4 +6,4 @@ use Rattle.pn_protocol.proofs.reply.tablets.tablets_reply.Goals as goal
 
 pub returns : goal.returns
 returns c =
-    IfOk-weaker c.finish_line.result _ _ (λ text is. is (tablets_data c.args.region.now.state.tablets) (has_value (tablets_data c.args.region.now.state.tablets) _ _ c.in_ok-writer.ensures c.in_ok-write_tablets_shown.ensures)) c.finish_line.ensures
+    IfOk-weaker c.finish_line.result _ _ (λ text is. is (tablets_data c.args.region.now.state.tablets) (has_value (tablets_data c.args.region.now.state.tablets) _ _ c.in_ok-writer.ensures c.in_ok-write_tablets_object.ensures)) c.finish_line.ensures

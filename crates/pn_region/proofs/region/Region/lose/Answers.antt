@@ -1,6 +1,6 @@
 -- The tablet loses its records, and is never refused.
 use Rattle.std.proofs.Common.{◌≡◌, length, refl, ap, ◌∙◌, arith}
-use Rattle.pn_region.specs.Recovery.{losing}
+use Rattle.pn_region.specs.Recovery.{after_loss}
 use Rattle.pn_region.proofs.Common.{step, Lose, Ok, LoggedRegion, RegionValue}
 use Rattle.pn_region.proofs.NewRegion.{tablet_count, tablet_at}
 use Rattle.pn_region.proofs.OneTablet.{now_is, now_lawful, where_ok}
@@ -32,4 +32,4 @@ returns-clause-state c =
     let t = c.index_mut.result.now in
     now_is old c.args.tablet Lose t c.apply.new.self (tablet_at inside.tablets.items c.args.tablet t (omega (arith, count, layout, c.requires)) c.index_mut.ensures.value)
     (where_ok c.apply.result (step t Lose ≡ Ok c.apply.new.self) (c.apply.ensures.lose refl) c.apply.ensures.ok)
-    ∙ ap (λ (r : RegionValue). losing r c.args.tablet) (ap (λ (r : LoggedRegion). r.state) c.self.view_is)
+    ∙ ap (λ (r : RegionValue). after_loss r c.args.tablet) (ap (λ (r : LoggedRegion). r.state) c.self.view_is)

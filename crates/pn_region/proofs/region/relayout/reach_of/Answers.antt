@@ -1,6 +1,6 @@
 -- The greatest with the reach of one more part.
 use Rattle.std.proofs.Common.{◌+◌, List, take, IsTrue, sym, ap, ◌∙◌, subst}
-use Rattle.pn_join.proofs.MarksFacts.{are_positions-raised}
+use Rattle.pn_join.proofs.MarksFacts.{are_positions-raised_marks}
 use Rattle.pn_tablet.specs.Tablets.{TabletStateValue}
 use Rattle.pn_region.specs.Relayouts.{parts_of, least_cover, greatest_reach}
 use Rattle.pn_region.proofs.Common.{Positions, Reaches, are_positions}
@@ -20,7 +20,7 @@ loop-tablet-preserved c =
           let one = w.reach-is ∙ w.in_ok-raise_to.ensures.ok in
           record {
             reach = reach_step range c.args.tablets.now was.tablet-index t c.loop-tablet-test.true c.tablet-item.is was.reach c.if-is_part.reach meets was.invariant.reach one;
-            positions = subst (λ (marks : Positions). IsTrue (are_positions marks)) (sym one) (are_positions-raised was.reach t.reach was.invariant.positions w.in_ok-raise_to.ensures.positions);
+            positions = subst (λ (marks : Positions). IsTrue (are_positions marks)) (sym one) (are_positions-raised_marks was.reach t.reach was.invariant.positions w.in_ok-raise_to.ensures.positions);
             reached = reached_step range c.args.tablets.now was.tablet-index t c.loop-tablet-test.true c.tablet-item.is was.reach c.if-is_part.reach meets was.invariant.reach one w.in_ok-raise_to.ensures.reached;
           }
       | else-is_part w ↦

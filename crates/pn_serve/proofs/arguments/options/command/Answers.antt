@@ -4,7 +4,7 @@ use Rattle.std.proofs.lemmas.Result.{IfOk-weaker}
 use Rattle.clap.specs.Simple.{App, app_of, app_of_fields, with_subcommand}
 use Rattle.clap.specs.declared.builder.command.Command.{Command}
 use Rattle.clap.specs.declared.builder.command.Command.TheOpen.{Command-F}
-use Rattle.pn_serve.specs.Arguments.Options.{named}
+use Rattle.pn_serve.specs.Arguments.Options.{named_program}
 use Rattle.pn_serve.proofs.arguments.options.command.Goals as goal
 
 -- a program that needs a command
@@ -17,7 +17,7 @@ versioned app = wanted (record app { top = record app.top { has_version = true }
 
 pub returns : goal.returns
 returns c =
-    let own : app_of c.disable_help_subcommand-command.result ≡ named =
+    let own : app_of c.disable_help_subcommand-command.result ≡ named_program =
     ap app_of_fields c.disable_help_subcommand-command.ensures
     ∙ (ap (λ (f : Command-F Command). app_of_fields (record f { disable_help_subcommand = true })) c.subcommand_required.ensures
     ∙ (ap (λ (f : Command-F Command). app_of_fields (record f { disable_help_subcommand = true; subcommand_required = true })) c.after_help.ensures

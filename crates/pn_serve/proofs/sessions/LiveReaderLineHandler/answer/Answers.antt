@@ -7,7 +7,7 @@ use Rattle.pn_serve.proofs.sessions.LiveReaderLineHandler.answer.Goals as goal
 
 pub returns-clause-makes : goal.returns-clause-makes
 returns-clause-makes c text is =
-    answers_so_far _ _ c.args.line.now text _ is (subst (λ (bytes : List ℕ). AnswersLine c.args.self.now bytes c.answer.new.reader c.answer.result) c.bytes.ensures c.answer.ensures.answers)
+    answers_so_far _ _ c.args.line.now text _ is (subst (λ (bytes : List ℕ). AnswersLine c.args.self.now bytes c.answer_line.new.reader c.answer_line.result) c.bytes.ensures c.answer_line.ensures.answers)
 
 pub returns-clause-knows : goal.returns-clause-knows
-returns-clause-knows c = line_knows _ _ _ _ c.answer.ensures.answers
+returns-clause-knows c = line_knows _ _ _ _ c.answer_line.ensures.answers

@@ -11,7 +11,7 @@ pub returns-clause-tablet : goal.returns-clause-tablet
 returns-clause-tablet c =
     let bounds : Bounds = c.deref.result.now in
     let key = c.args.key.now in
-    let place = c.partition_point.result in
+    let index = c.partition_point.result in
     let rising : IsStrictlySortedBy bytes_cmp bounds = subst (λ (b : Bounds). IsStrictlySortedBy bytes_cmp b) (sym c.deref.ensures.value) c.self.invariant.rising in
-    let point = IsPartitionPoint-from_clause (λ bound. is_le (bytes_cmp bound key)) bounds place c.partition_point.ensures.partitioned (partitioned_by_test bounds key rising) (λ a r f called. search rules) in
-    count_by_test bounds key place rising c.partition_point.ensures.bound point ∙ ap (λ (b : Bounds). tablet_of b key) (c.deref.ensures.value ∙ c.self.view_is)
+    let point = IsPartitionPoint-from_clause (λ bound. is_le (bytes_cmp bound key)) bounds index c.partition_point.ensures.partitioned (partitioned_by_test bounds key rising) (λ a r f called. search rules) in
+    count_by_test bounds key index rising c.partition_point.ensures.bound point ∙ ap (λ (b : Bounds). tablet_of b key) (c.deref.ensures.value ∙ c.self.view_is)

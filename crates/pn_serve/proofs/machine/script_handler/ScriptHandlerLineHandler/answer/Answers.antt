@@ -11,9 +11,9 @@ pub returns-clause-makes : goal.returns-clause-makes
 returns-clause-makes g c text is =
     let inside = c.self.inside in
     let was = ap (λ waits. with_mode waits inside.region) c.take-waiting.ensures.value ∙ c.self.view_is in
-    answers_kept c.args.self.now _ c.args.line.now text c.answer-reply.result.0 is
-    (subst (λ (m : Machine). Answers m c.args.line.now.bytes (with_mode c.answer-reply.result.1 c.answer-reply.new.region) c.answer-reply.result.0) was
-    (subst (λ (bytes : List ℕ). Answers (with_mode c.take-waiting.result inside.region) bytes (with_mode c.answer-reply.result.1 c.answer-reply.new.region) c.answer-reply.result.0) c.bytes-bytes.ensures c.answer-reply.ensures))
+    answers_kept c.args.self.now _ c.args.line.now text c.answer_line-reply.result.0 is
+    (subst (λ (m : Machine). Answers m c.args.line.now.bytes (with_mode c.answer_line-reply.result.1 c.answer_line-reply.new.region) c.answer_line-reply.result.0) was
+    (subst (λ (bytes : List ℕ). Answers (with_mode c.take-waiting.result inside.region) bytes (with_mode c.answer_line-reply.result.1 c.answer_line-reply.new.region) c.answer_line-reply.result.0) c.bytes-bytes.ensures c.answer_line-reply.ensures))
 
 pub returns-clause-knows : goal.returns-clause-knows
 returns-clause-knows g c = knows_itself _

@@ -1,5 +1,0 @@
-use Rattle.pn_protocol.proofs.CommandLines.{one_command}
-use Rattle.pn_protocol.proofs.command.laws.a_line_is_one_command.Goals as goal
-
-pub returns : goal.returns
-returns c = one_command

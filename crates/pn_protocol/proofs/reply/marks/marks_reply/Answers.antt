@@ -1,9 +1,0 @@
--- The text is the line of the value that was written.
-use Rattle.std.proofs.lemmas.Result.{IfOk-weaker}
-use Rattle.pn_protocol.specs.Reply.Marks.{shown_marks}
-use Rattle.pn_json.proofs.TokenLists.{has_value}
-use Rattle.pn_protocol.proofs.reply.marks.marks_reply.Goals as goal
-
-pub returns : goal.returns
-returns c =
-    IfOk-weaker c.finish_line.result _ _ (λ text is. is (shown_marks c.args.marks.now) (has_value (shown_marks c.args.marks.now) _ _ c.in_ok-writer.ensures c.in_ok-write_marks_shown.ensures)) c.finish_line.ensures

@@ -1,0 +1,97 @@
+//! The commands that ask for records, and for what changed.
+
+ghost use Rattle.std.specs.Prelude.{◌≡◌, IsOk, IsErrOf};
+ghost use Rattle.serde_json.specs.View.{members_view};
+ghost use Rattle.pn_json.specs.Prelude.{IsUnless, Shows, ShowsUnless, seen};
+ghost use Rattle.pn_protocol.specs.Command.Lookups.{get_in, notices_in, read_in, scan_in};
+ghost use Rattle.pn_protocol.specs.Command.Meaning.{command_value};
+ghost use Rattle.pn_protocol.specs.Command.Queries.{query_at, query_refusal, query_shape};
+
+use crate::command::build::build_keys;
+use crate::command::members::{check_members, find_member, parse_keys, parse_number};
+use crate::command::ranges::{check_key, check_keys, check_since, check_version};
+use crate::command::shapes::version_numbers;
+use crate::{Command, Part, Refusal};
+use pn_json::text_of;
+use pn_record::Key;
+use pn_scan::{Query, QueryFault, read_query};
+use serde_json::{Map, Value};
+use std::alloc::Global;
+
+impl From<QueryFault> for Refusal {
+    ghost from_gives = { λ fault refusal. refusal ≡ query_refusal fault };
+
+    fn from(fault: QueryFault) -> Refusal {
+        match fault {
+            QueryFault::BadShape => Refusal::BadShape(Part::Query),
+            QueryFault::OutOfRange => Refusal::OutOfRange(Part::Query),
+            QueryFault::Memory => Refusal::Memory,
+        }
+    }
+}
+
+#[tactic(auto, using(crate::proofs::CommandLimits::are_keys), unfolding(crate::specs::Command::Lookups::get_in))]
+pub(crate) fn parse_get(alloc: Global, members: &Map<String, Value>) -> Result<Command, Refusal>
+    ensures { ShowsUnless Refusal.Memory command_value result (get_in (members_view members.now.entries)) }
+{
+    let keys = parse_keys(alloc, members, "keys", &["do", "keys"], Part::Keys)?;
+    check_keys(&keys)?;
+    Ok(Command::Get(build_keys(alloc, &keys)?))
+}
+
+#[tactic(auto, unfolding(crate::specs::Command::Lookups::notices_in))]
+pub(crate) fn parse_notices(members: &Map<String, Value>) -> Result<Command, Refusal>
+    ensures exact { Shows command_value result (notices_in (members_view members.now.entries)) }
+    ensures memory { IsErrOf result Refusal.Memory → ⊥ }
+{
+    let since = parse_number(members, "since", Part::Since)?;
+    check_since(since)?;
+    Ok(Command::Notices { since })
+}
+
+#[tactic(auto, unfolding(crate::specs::Command::Lookups::read_in))]
+pub(crate) fn parse_read(alloc: Global, members: &Map<String, Value>) -> Result<Command, Refusal>
+    ensures exact { ShowsUnless Refusal.Memory command_value result (read_in (members_view members.now.entries)) }
+    ensures memory { IsErrOf result Refusal.Memory → IsOk (read_in (members_view members.now.entries)) }
+{
+    let text = text_of(find_member(members, "key"), Refusal::BadShape(Part::Key))?;
+    let numbers = version_numbers(find_member(members, "version"))?;
+    check_members(members, &["do", "key", "version"])?;
+    check_key(text, Part::Key)?;
+    let version = check_version(numbers)?;
+    let key = Key::of_fitting(alloc, text)?;
+    Ok(Command::Read { key, version })
+}
+
+#[tactic(auto, unfolding(crate::specs::Command::Lookups::scan_in))]
+pub(crate) fn parse_scan(alloc: Global, members: &Map<String, Value>) -> Result<Command, Refusal>
+    ensures exact { ShowsUnless Refusal.Memory command_value result (scan_in (members_view members.now.entries)) }
+    ensures memory { IsErrOf result Refusal.Memory → IsOk (scan_in (members_view members.now.entries)) }
+{
+    let query = query_of(alloc, find_member(members, "query"));
+    check_shape(&query)?;
+    check_members(members, &["do", "query"])?;
+    Ok(Command::Scan(query?))
+}
+
+// Reads a query. A missing one has the wrong shape.
+fn query_of(alloc: Global, value: Option<&Value>) -> Result<Query, QueryFault>
+    ensures exact { IsUnless QueryFault.Memory result (query_at (seen value.entry)) }
+    ensures memory { IsErrOf result QueryFault.Memory → IsOk (query_at (seen value.entry)) }
+{
+    match value {
+        Some(value) => read_query(alloc, value),
+        None => Err(QueryFault::BadShape),
+    }
+}
+
+// Checks the shape of the query alone.
+fn check_shape(query: &Result<Query, QueryFault>) -> Result<(), Refusal>
+    ensures exact { result ≡ query_shape query.now }
+    ensures memory { IsErrOf result Refusal.Memory → ⊥ }
+{
+    match query {
+        Err(QueryFault::BadShape) => Err(Refusal::BadShape(Part::Query)),
+        _ => Ok(()),
+    }
+}

@@ -1,6 +1,0 @@
--- A line that was announced is never read as a command.
-use Rattle.pn_serve.proofs.Announcing.{answered_on}
-use Rattle.pn_serve.proofs.machine.answer.Goals as goal
-
-pub returns-in-Some : goal.returns-in-Some
-returns-in-Some g c = answered_on _ _ _ _ c.args.line.now _ _ c.in-Some.is c.go_on.ensures

@@ -1,6 +1,0 @@
--- A refused round.
-use Rattle.pn_serve.proofs.RoundsRead.{refused_by}
-use Rattle.pn_serve.proofs.server.rounds.take.Goals as goal
-
-pub returns-clause-refused : goal.returns-clause-refused
-returns-clause-refused g c = refused_by c.round.result _ _ _ c.round.ensures.refused c.round.ensures.err

@@ -1,0 +1,11 @@
+-- A session's listener and reader go to its thread, and the reader comes back.
+use denote.Param.Send.{sendable}
+use Rattle.std.proofs.Crossing.{crosses}
+use Rattle.pn_live.proofs.Crossing.Readers.{reader_send}
+use Rattle.pn_serve.proofs.server.session_threads.start_session.Goals as goal
+
+pub spawn_with-requires-send-F : goal.spawn_with-requires-send-F
+spawn_with-requires-send-F g c κs within = search (sendable, crosses, reader_send) depth 40 fits 20000
+
+pub spawn_with-requires-send-T : goal.spawn_with-requires-send-T
+spawn_with-requires-send-T g c κs within = search (sendable, crosses, reader_send) depth 40 fits 20000

@@ -1,0 +1,221 @@
+//! The mailboxes in which the threads of streams leave reports, and the wakeup of the thread that takes them.
+
+ghost use Rattle.std.specs.Prelude.{◌≡◌, ◌≢◌, ◌+◌, [], ◌∷◌, ◌++◌, map, vec_len, None, IfOk, OnOk, MatchBool, MatchOption};
+ghost use Rattle.pn_serve.specs.declared.server.mailboxes.Held.TheVariants.{Nothing, Left, Closed};
+
+use crate::server::counter::Counter;
+use crate::server::reports::Report;
+use pn_join::StreamName;
+use std::alloc::{AllocError, Global};
+use std::mem;
+use std::sync::{Arc, Condvar, Mutex, Wait};
+
+/// The mailboxes of all streams, what wakes the thread that takes their reports, and the count of its rounds where
+/// somebody looks at it.
+#[derive(Drop)]
+pub(crate) struct StreamMailboxes {
+    pub(crate) streams: Vec<StreamMailbox>,
+    pub(crate) wakeup: Arc<Wakeup>,
+    pub(crate) rounds: Option<Arc<Counter>>,
+}
+
+/// The mailbox of the stream of a name.
+#[derive(Drop)]
+pub(crate) struct StreamMailbox {
+    pub(crate) name: StreamName,
+    pub(crate) mailbox: Arc<Mailbox>,
+}
+
+/// Where the thread of a stream leaves its reports.
+#[derive(Drop)]
+pub(crate) struct Reporter {
+    mailbox: Arc<Mailbox>,
+    wakeup: Arc<Wakeup>,
+}
+
+impl StreamMailboxes {
+    /// No mailbox, with capacity for those of this many streams.
+    pub(crate) fn new(
+        alloc: Global,
+        streams: usize,
+        rounds: Option<Arc<Counter>>,
+    ) -> Result<StreamMailboxes, AllocError>
+        ensures none { IfOk result (λ mailboxes. mailboxes.streams.items ≡ []) }
+        ensures count { IfOk result (λ mailboxes. vec_len mailboxes.streams ≡ 0) }
+    {
+        Ok(StreamMailboxes {
+            streams: Vec::with_capacity(alloc, streams)?,
+            wakeup: Arc::new(alloc, Wakeup::new())?,
+            rounds,
+        })
+    }
+
+    /// Adds the mailbox of a stream. Answers where its thread leaves reports.
+    pub(crate) fn add(&mut self, alloc: Global, name: StreamName) -> Result<Reporter, AllocError>
+        ensures names { OnOk result (map (λ stream. stream.name) self.new.streams.items
+            ≡ map (λ stream. stream.name) self.old.streams.items ++ name ∷ []) }
+        ensures one { OnOk result (vec_len self.new.streams ≡ vec_len self.old.streams + 1) }
+    {
+        let mailbox = Arc::new(alloc, Mailbox::new())?;
+        let reporter = Reporter {
+            mailbox: Arc::try_clone(&mailbox)?,
+            wakeup: Arc::try_clone(&self.wakeup)?,
+        };
+        self.streams.push(StreamMailbox { name, mailbox })?;
+        Ok(reporter)
+    }
+
+    /// How many streams leave reports.
+    pub(crate) fn len(&self) -> usize
+        ensures { result ≡ vec_len self.now.streams }
+    {
+        self.streams.len()
+    }
+
+    /// Waits until a report is left, or was left since the last call.
+    pub(crate) fn wait<R: Wait>(&self, rt: &R) {
+        self.wakeup.wait(rt);
+    }
+
+    /// Counts a round that was run.
+    pub(crate) fn count_round(&self) {
+        if let Some(rounds) = &self.rounds {
+            rounds.add(1);
+        }
+    }
+
+    /// Closes the mailboxes. Each thread ends after its current wait for messages.
+    pub(crate) fn close<R: Wait>(&self, rt: &R) {
+        for stream in self.streams.iter() {
+            stream.mailbox.close(rt);
+        }
+    }
+}
+
+impl Reporter {
+    /// Leaves a report once the last one is taken, and wakes the thread that takes it. False if no more are taken.
+    pub(crate) fn leave<R: Wait>(&self, rt: &R, report: Report) -> bool {
+        let is_wanted = self.mailbox.put(rt, report);
+        self.wakeup.notify(rt);
+        is_wanted
+    }
+}
+
+/// Holds at most one report. A thread that puts another waits until it is taken.
+#[derive(Drop)]
+pub(crate) struct Mailbox {
+    held: Mutex<Held>,
+    emptied: Condvar,
+}
+
+// What a mailbox holds.
+#[derive(Drop)]
+enum Held {
+    Nothing,
+    /// A report, until it is taken.
+    Left(Report),
+    /// Nothing, and no further report is taken.
+    Closed,
+}
+
+impl Mailbox {
+    /// A mailbox that holds nothing.
+    pub(crate) fn new() -> Mailbox {
+        Mailbox {
+            held: Mutex::new(Held::Nothing),
+            emptied: Condvar::new(),
+        }
+    }
+
+    /// Puts a report into the mailbox once it is empty. False if it is closed.
+    pub(crate) fn put<R: Wait>(&self, rt: &R, report: Report) -> bool {
+        let guard = self.held.lock(rt);
+        let mut held = self.emptied.wait_while(rt, guard, |held| held.is_left());
+        held.put(report)
+    }
+
+    /// Takes the report, if there is one.
+    pub(crate) fn take<R: Wait>(&self, rt: &R) -> Option<Report> {
+        let report = self.held.lock(rt).take();
+        if report.is_some() {
+            self.emptied.notify_one();
+        }
+        report
+    }
+
+    /// Closes the mailbox, and wakes the thread that waits there.
+    pub(crate) fn close<R: Wait>(&self, rt: &R) {
+        self.held.lock(rt).close();
+        self.emptied.notify_one();
+    }
+}
+
+impl Held {
+    fn is_left(&self) -> bool {
+        matches!(self, Held::Left(_))
+    }
+
+    // Puts a report into an empty mailbox. False if it is not empty.
+    fn put(&mut self, report: Report) -> bool
+        ensures { MatchBool result ((self.old ≡ Nothing) × (self.new ≡ Left report)) ((self.old ≢ Nothing) × (self.new ≡ self.old)) }
+    {
+        if !matches!(self, Held::Nothing) {
+            return false;
+        }
+        *self = Held::Left(report);
+        true
+    }
+
+    // Takes the report, if there is one. A closed mailbox stays closed.
+    fn take(&mut self) -> Option<Report>
+        ensures taken { MatchOption result (self.new ≡ self.old) (λ report. (self.old ≡ Left report) × (self.new ≡ Nothing)) }
+        ensures none { result ≡ None → self.old ≢ Nothing → self.old ≡ Closed }
+    {
+        match mem::replace(self, Held::Nothing) {
+            Held::Left(report) => Some(report),
+            Held::Nothing => None,
+            Held::Closed => {
+                *self = Held::Closed;
+                None
+            }
+        }
+    }
+
+    fn close(&mut self)
+        ensures { self.new ≡ Closed }
+    {
+        *self = Held::Closed;
+    }
+}
+
+/// Many threads notify it; one thread waits until it is notified.
+#[derive(Drop)]
+pub(crate) struct Wakeup {
+    is_notified: Mutex<bool>,
+    notified: Condvar,
+}
+
+impl Wakeup {
+    /// A wakeup that was not notified.
+    pub(crate) fn new() -> Wakeup {
+        Wakeup {
+            is_notified: Mutex::new(false),
+            notified: Condvar::new(),
+        }
+    }
+
+    /// Ends the wait of the thread that waits, or its next one.
+    pub(crate) fn notify<R: Wait>(&self, rt: &R) {
+        *self.is_notified.lock(rt) = true;
+        self.notified.notify_one();
+    }
+
+    /// Waits until it is notified, or was notified since the last call.
+    pub(crate) fn wait<R: Wait>(&self, rt: &R) {
+        let guard = self.is_notified.lock(rt);
+        let mut is_notified = self
+            .notified
+            .wait_while(rt, guard, |is_notified| !*is_notified);
+        *is_notified = false;
+    }
+}

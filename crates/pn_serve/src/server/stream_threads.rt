@@ -1,0 +1,182 @@
+//! Reads streams, each in its own thread, which leaves reports in its mailbox.
+
+ghost use Rattle.std.specs.Prelude.{◌≡◌, ◌≤◌, ◌∷◌, [], ◌++◌, map, vec_len, All, IfOk, IfErr, IsErr, OnOk, OnErr, MatchResult};
+ghost use Rattle.pn_join.specs.Prelude.{position_of};
+ghost use Rattle.pn_serve.specs.Server.Faults.{NamesOne, names_of};
+ghost use Rattle.pn_serve.specs.Server.Whole.{EndsStream, IsTakenWhole};
+
+use crate::ServeFault;
+use crate::server::counter::Counter;
+use crate::server::mailboxes::{Reporter, StreamMailboxes};
+use crate::server::reports::{name_of, next_report};
+use pn_join::{Marks, StreamName};
+use pn_line::Source;
+use pn_stream::StreamReader;
+use std::alloc::{AllocError, Global};
+use std::snapshot::Snapshot;
+use std::sync::{Arc, Wait};
+use std::thread;
+use std::thread::{Promise, PromisedHandle, Threads};
+
+/// The end of a stream: its name, and the position of its last message.
+#[derive(Drop)]
+pub(crate) struct StreamEnd {
+    pub(crate) name: StreamName,
+    pub(crate) last: u64,
+}
+
+/// Promises that `Ok` means the whole stream was read. An error is the stream's name.
+#[derive(Drop)]
+pub(crate) struct SaysWhetherWhole<S: Source + Drop>(Snapshot<StreamReader<S>>);
+
+impl<S: Source + Drop> Promise<Result<StreamEnd, StreamName>> for SaysWhetherWhole<S> {
+    ghost use Rattle.pn_serve.specs.Server.Whole.{EndsStream};
+
+    ghost kept_by = { λ promise ended. EndsStream S.left promise.0.value ended };
+}
+
+/// The thread of a stream, which says in the end whether all of it was read.
+pub(crate) type StreamThread<S> = PromisedHandle<
+    Result<StreamEnd, StreamName>,
+    SaysWhetherWhole<S>,
+>;
+
+/// Streams that are being read: their mailboxes and threads.
+#[derive(Drop)]
+pub(crate) struct StartedStreams<S: Source + Drop> {
+    pub(crate) mailboxes: StreamMailboxes,
+    pub(crate) threads: Vec<StreamThread<S>>,
+}
+
+impl<S: Source + Drop> StartedStreams<S> {
+    // No streams, with capacity for this many.
+    fn new(
+        alloc: Global,
+        streams: usize,
+        rounds: Option<Arc<Counter>>,
+    ) -> Result<StartedStreams<S>, AllocError>
+        ensures threads { IfOk result (λ started. started.threads.items ≡ []) }
+        ensures mailboxes { IfOk result (λ started. started.mailboxes.streams.items ≡ []) }
+    {
+        Ok(StartedStreams {
+            mailboxes: StreamMailboxes::new(alloc, streams, rounds)?,
+            threads: Vec::with_capacity(alloc, streams)?,
+        })
+    }
+}
+
+/// Starts to read streams, each in its own thread. A refused thread, or out of memory, ends the reading.
+pub(crate) fn start_streams<R, S>(
+    rt: &R,
+    alloc: Global,
+    streams: Vec<StreamReader<S>>,
+    rounds: Option<Arc<Counter>>,
+) -> Result<StartedStreams<S>, ServeFault>
+where
+    R: Threads + Wait + Copy + Send + 'static,
+    S: Source + Drop + Send + 'static,
+    ensures fault { IfErr result (λ fault. fault ≡ ServeFault.Start) }
+    ensures threads { IfOk result (λ started. map (λ thread. thread.promise.0.value) started.threads.items ≡ streams.items) }
+    ensures names { IfOk result (λ started. map (λ stream. stream.name) started.mailboxes.streams.items ≡ names_of streams.items) }
+{
+    let Ok(mut started) = StartedStreams::new(alloc, streams.len(), rounds) else {
+        return Err(ServeFault::Start);
+    };
+    for stream in streams {
+        if start_stream(rt, alloc, &mut started, stream).is_err() {
+            started.mailboxes.close(rt);
+            return Err(ServeFault::Start);
+        }
+    }
+    Ok(started)
+}
+
+fn start_stream<R, S>(
+    rt: &R,
+    alloc: Global,
+    started: &mut StartedStreams<S>,
+    stream: StreamReader<S>,
+) -> Result<(), AllocError>
+where
+    R: Threads + Wait + Copy + Send + 'static,
+    S: Source + Drop + Send + 'static,
+    ensures threads { OnOk result (map (λ thread. thread.promise.0.value) started.new.threads.items
+        ≡ map (λ thread. thread.promise.0.value) started.old.threads.items ++ stream ∷ []) }
+    ensures names { OnOk result (map (λ stream. stream.name) started.new.mailboxes.streams.items
+        ≡ map (λ stream. stream.name) started.old.mailboxes.streams.items ++ stream.name ∷ []) }
+{
+    let reporter = started.mailboxes.add(alloc, name_of(&stream))?;
+    let host = *rt;
+    let promise = SaysWhetherWhole(Snapshot::of(&stream));
+    let thread = thread::spawn_with(rt, promise, move || {
+        report_to_end(&host, stream, &reporter)
+    })?;
+    started.threads.push(thread)?;
+    Ok(())
+}
+
+// Reports a stream to its end, or until the mailbox is closed. The error is the stream's name.
+fn report_to_end<R: Wait, S: Source + Drop>(
+    rt: &R,
+    stream: StreamReader<S>,
+    reporter: &Reporter,
+) -> Result<StreamEnd, StreamName>
+    ensures { EndsStream S.left stream result }
+{
+    let mut stream = stream;
+    for _ in rt.forever() {
+        let report = next_report(&mut stream);
+        let is_end = report.is_end();
+        let has_messages = report.has_messages();
+        let is_wanted = reporter.leave(rt, report);
+        if is_end {
+            return Ok(StreamEnd {
+                name: name_of(&stream),
+                last: stream.position(),
+            });
+        }
+        if !has_messages || !is_wanted {
+            break;
+        }
+    }
+    Err(name_of(&stream))
+}
+
+/// Waits for the threads of streams. The error is the first stream that was not read to its end, or that the marks fall
+/// short of.
+pub(crate) fn join_streams<R: Threads, S: Source + Drop>(
+    rt: &R,
+    threads: Vec<StreamThread<S>>,
+    marks: &Marks,
+) -> Result<(), ServeFault>
+    ensures taken { OnOk result (All (IsTakenWhole S.left marks.now) (map (λ thread. thread.promise.0.value) threads.items)) }
+    ensures named { IfErr result (NamesOne (names_of (map (λ thread. thread.promise.0.value) threads.items))) }
+{
+    for thread in threads {
+        check_whole(thread.join(rt), marks)?;
+    }
+    Ok(())
+}
+
+// Checks that a stream was read to its end, and that the marks reach its last message.
+fn check_whole(ended: Result<StreamEnd, StreamName>, marks: &Marks) -> Result<(), ServeFault>
+    ensures taken { OnOk result (IfOk ended (λ end. end.last ≤ position_of marks.now end.name)) }
+    ensures whole { OnErr ended (IsErr result) }
+    ensures named { IfErr result (λ fault. MatchResult ended (λ end. fault ≡ ServeFault.Stream end.name) (λ name. fault ≡ ServeFault.Stream name)) }
+{
+    match ended {
+        Ok(end) => check_reached(end, marks),
+        Err(name) => Err(ServeFault::Stream(name)),
+    }
+}
+
+// Checks that the marks reach the last message of a stream.
+fn check_reached(end: StreamEnd, marks: &Marks) -> Result<(), ServeFault>
+    ensures taken { OnOk result (end.last ≤ position_of marks.now end.name) }
+    ensures named { IfErr result (λ fault. fault ≡ ServeFault.Stream end.name) }
+{
+    if marks.position(&end.name) < end.last {
+        return Err(ServeFault::Stream(end.name));
+    }
+    Ok(())
+}
