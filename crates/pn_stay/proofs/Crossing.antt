@@ -3,7 +3,7 @@ use denote.Param.Send.{IsSend, IsSync, sendable}
 use Rattle.std.proofs.Crossing.{crosses}
 use Rattle.pn_join.specs.contracts.marks.name.Name as name
 use Rattle.pn_live.proofs.Crossing.Readers.{reader_send}
-use Rattle.pn_serve.specs.contracts.server.tally.Tally as tally
+use Rattle.pn_serve.specs.contracts.server.counter.Counter as counter
 use Rattle.pn_stay.specs.contracts.acceptor.SocketAcceptor as acceptor
 use Rattle.pn_stay.specs.contracts.socket_mailbox.SocketMailbox as mailbox
 use Rattle.pn_stay.specs.contracts.server.threads.LoopThread as loop
@@ -17,11 +17,11 @@ name_send = search (sendable, crosses) depth 40
 name_sync : IsSync name.the_row
 name_sync = search (sendable, crosses) depth 40
 
-tally_send : IsSend tally.the_row
-tally_send = search (sendable, crosses) depth 40
+counter_send : IsSend counter.the_row
+counter_send = search (sendable, crosses) depth 40
 
-tally_sync : IsSync tally.the_row
-tally_sync = search (sendable, crosses) depth 40
+counter_sync : IsSync counter.the_row
+counter_sync = search (sendable, crosses) depth 40
 
 pub input_send : IsSend input.the_row
 input_send = search (sendable, crosses) depth 40 fits 20000
@@ -36,10 +36,10 @@ stream_sync : IsSync stream.the_row
 stream_sync = search (sendable, crosses, name_sync, input_send, input_sync) depth 40 fits 20000
 
 pub counters_send : IsSend counters.the_row
-counters_send = search (sendable, crosses, tally_send, tally_sync, input_send, input_sync, stream_send) depth 40 fits 20000
+counters_send = search (sendable, crosses, counter_send, counter_sync, input_send, input_sync, stream_send) depth 40 fits 20000
 
 pub counters_sync : IsSync counters.the_row
-counters_sync = search (sendable, crosses, tally_send, tally_sync, input_send, input_sync, stream_sync) depth 40 fits 20000
+counters_sync = search (sendable, crosses, counter_send, counter_sync, input_send, input_sync, stream_sync) depth 40 fits 20000
 
 pub acceptor_send : IsSend acceptor.the_row
 acceptor_send = search (sendable, crosses, counters_send, counters_sync) depth 40 fits 20000

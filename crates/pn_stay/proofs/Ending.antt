@@ -3,12 +3,14 @@ use Rattle.std.proofs.Common.{◌≡◌, ◌≢◌, ◌<◌, ℕ, Bool, false, O
 use Rattle.std.specs.Prelude.{Result, Ok, Err}
 use Rattle.std.specs.Io.KnownBytes.{Appends, Consumes, Keeps, IsAtEnd, prepend_known}
 use Rattle.std.proofs.KnownBytes.{Keeps-refl, Appends-trans}
+use Rattle.pn_line.specs.declared.line_buffer.TheConstants.{ENDLESS}
 use Rattle.pn_line.specs.Line.{LineBufferValue, so_far}
 use Rattle.pn_line.specs.Reads.{Takes}
 use Rattle.pn_line.specs.Sent.{Sends, AppendsPrefix}
 use Rattle.pn_line.proofs.SentLaws.{AppendsPrefix-after}
 use Rattle.pn_protocol.specs.declared.reply.Reply.{Reply}
 use Rattle.pn_serve.specs.declared.script.Counts.{Counts}
+use Rattle.pn_serve.specs.declared.script.TheConstants.{MAX_LINES}
 use Rattle.pn_serve.specs.declared.script.RunFault.{RunFault}
 use Rattle.pn_serve.specs.declared.script.RunFault.TheVariants.{Read, Write, TooManyTurns, Memory}
 use Rattle.pn_serve.specs.Lines.Answered.{AnsweredInPart, Closed}
@@ -109,7 +111,7 @@ module _ {V : Type 0} (makes ends : V → List ℕ → V → Reply → Type 0) (
 
       -- a line has no end
       pub EndsOnceSent-endless : (left written : Option (List ℕ)) (machine : V) (old : ConnectionValue) (line : LineBufferValue) (held : List ℕ) → FollowsScript makes ends shared start script left written machine old
-          → Takes old.line line (Some old.held) (Some held) [] → line.count ≡ 1000000000 → old.counts.lines < 1000000
+          → Takes old.line line (Some old.held) (Some held) [] → line.count ≡ ENDLESS → old.counts.lines < MAX_LINES
           → EndsOnceSent makes ends shared start (prepend_known held left) written old.waits machine (Err TooManyTurns)
       EndsOnceSent-endless left written machine old line held stands taken endless few =
           let takes = Takes-ahead stands.part old.held left line held [] stands.unbroken (rw stands.line_is at taken) in record {
@@ -126,7 +128,7 @@ module _ {V : Type 0} (makes ends : V → List ℕ → V → Reply → Type 0) (
           }
 
       -- input is held after the last line that may be answered
-      pub EndsOnceSent-many : (left written : Option (List ℕ)) (machine : V) (old : ConnectionValue) → FollowsScript makes ends shared start script left written machine old → old.counts.lines ≡ 1000000 → old.held ≢ []
+      pub EndsOnceSent-many : (left written : Option (List ℕ)) (machine : V) (old : ConnectionValue) → FollowsScript makes ends shared start script left written machine old → old.counts.lines ≡ MAX_LINES → old.held ≢ []
           → EndsOnceSent makes ends shared start (prepend_known old.held left) written old.waits machine (Err TooManyTurns)
       EndsOnceSent-many left written machine old stands many some =
           let none : stands.part ≡ [] = ⊎_elim (λ few. absurd (omega (arith, few, many))) (λ none. none) stands.bound in
@@ -179,7 +181,7 @@ module _ {V : Type 0} (makes ends : V → List ℕ → V → Reply → Type 0) (
         }
 
         -- and there may be more lines
-        module _ (below : old.line.count < 1000000000) (few : old.counts.lines < 1000000) where
+        module _ (below : old.line.count < ENDLESS) (few : old.counts.lines < MAX_LINES) where
           pub EndsOnceSent-closed : (new : LineLoopValue) (counts : Counts) → Closed ends was now (record { line = old.line; waits = old.waits; more = false; counts = old.counts }) new written written counts
               → EndsOnceSent makes ends shared start (prepend_known old.held leaves) written new.waits now (Ok counts)
           EndsOnceSent-closed new counts closed = record {
@@ -207,7 +209,7 @@ module _ {V : Type 0} (makes ends : V → List ℕ → V → Reply → Type 0) (
           }
 
         -- and no more may be answered
-        module _ (many : old.counts.lines ≡ 1000000) where
+        module _ (many : old.counts.lines ≡ MAX_LINES) where
           none : stands.part ≡ []
           none = ⊎_elim (λ few. absurd (omega (arith, few, many))) (λ none. none) stands.bound
 

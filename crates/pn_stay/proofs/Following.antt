@@ -3,14 +3,16 @@ use Rattle.std.proofs.Common.{◌≡◌, ◌≢◌, ◌⊎◌, ◌<◌, ◌≤�
 use Rattle.std.proofs.lemmas.List.Elements.{All-nil, All-append}
 use Rattle.std.specs.Io.KnownBytes.{Consumes, Keeps, prepend_known}
 use Rattle.std.proofs.KnownBytes.{Appends-nil, Keeps-refl}
+use Rattle.pn_line.specs.declared.line_buffer.TheConstants.{ENDLESS}
 use Rattle.pn_line.specs.Line.{LineBufferValue, so_far}
 use Rattle.pn_line.specs.LinesRead.{LinesRead}
 use Rattle.pn_line.specs.Reads.{Takes, IsUnbroken}
 use Rattle.pn_line.specs.Sent.{Sends, AppendsPrefix}
-use Rattle.pn_line.proofs.LineLaws.{so_far-append, kept-short}
+use Rattle.pn_line.proofs.LineLaws.{so_far-append, kept_bytes-short}
 use Rattle.pn_line.proofs.SentLaws.{Sends-trans}
 use Rattle.pn_protocol.specs.declared.reply.Reply.{Reply}
 use Rattle.pn_serve.specs.declared.script.Counts.{Counts}
+use Rattle.pn_serve.specs.declared.script.TheConstants.{MAX_LINES}
 use Rattle.pn_serve.specs.Lines.Answered.{Answered}
 use Rattle.pn_serve.specs.Lines.Replies.{texts_of}
 use Rattle.pn_serve.specs.Lines.Served.{Between}
@@ -102,7 +104,7 @@ module _ {V : Type 0} (makes ends : V → List ℕ → V → Reply → Type 0) (
     module _ (script : List ℕ) where
       -- the line and the input that is held change, and what is before the source's end does not
       pub FollowsScript-moved : (left leaves written : Option (List ℕ)) (machine : V) (old new : ConnectionValue) (part : List ℕ) (stands : FollowsScript makes ends shared start script left written machine old)
-          → IsUnbroken part → new.line ≡ so_far part → (new.counts.lines < 1000000) ⊎ (part ≡ []) → new.waits ≡ old.waits → new.counts ≡ old.counts
+          → IsUnbroken part → new.line ≡ so_far part → (new.counts.lines < MAX_LINES) ⊎ (part ≡ []) → new.waits ≡ old.waits → new.counts ≡ old.counts
           → Keeps (prepend_known (stands.part ++ old.held) left) (prepend_known (part ++ new.held) leaves) → FollowsScript makes ends shared start script leaves written machine new
       FollowsScript-moved left leaves written machine old new part stands unbroken line bound waits counts kept =
           let loops : loop_of old ≡ loop_of new = cc in record {
@@ -118,7 +120,7 @@ module _ {V : Type 0} (makes ends : V → List ℕ → V → Reply → Type 0) (
 
       -- a line was answered
       pub FollowsScript-line : (left written : Option (List ℕ)) (was now : V) (old new : ConnectionValue) (line : LineBufferValue) → FollowsScript makes ends shared start script left written was old
-          → Takes old.line line (Some old.held) (Some new.held) (10 ∷ []) → line.count < 1000000000 → new.line ≡ so_far []
+          → Takes old.line line (Some old.held) (Some new.held) (10 ∷ []) → line.count < ENDLESS → new.line ≡ so_far []
           → Answered makes was now (record { line = line; waits = old.waits; more = false; counts = old.counts }) (record { line = new.line; waits = new.waits; more = false; counts = new.counts }) written written
           → FollowsScript makes ends shared start script left written now new
       FollowsScript-line left written was now old new line stands takes below begun answered =
@@ -136,7 +138,7 @@ module _ {V : Type 0} (makes ends : V → List ℕ → V → Reply → Type 0) (
 
       -- a part of a line was read, and nothing after it
       pub FollowsScript-part : (left written : Option (List ℕ)) (machine : V) (old new : ConnectionValue) → FollowsScript makes ends shared start script left written machine old
-          → Takes old.line new.line (Some old.held) (Some new.held) [] → new.counts.lines < 1000000 → new.waits ≡ old.waits → new.counts ≡ old.counts
+          → Takes old.line new.line (Some old.held) (Some new.held) [] → new.counts.lines < MAX_LINES → new.waits ≡ old.waits → new.counts ≡ old.counts
           → FollowsScript makes ends shared start script left written machine new
       FollowsScript-part left written machine old new stands takes few waits counts =
           let from = rw stands.line_is at takes in
@@ -149,7 +151,7 @@ module _ {V : Type 0} (makes ends : V → List ℕ → V → Reply → Type 0) (
       pub FollowsScript-came : (left leaves written : Option (List ℕ)) (machine : V) (old new : ConnectionValue) → FollowsScript makes ends shared start script left written machine old → old.held ≡ []
           → Consumes left leaves new.held → new.line ≡ old.line → new.waits ≡ old.waits → new.counts ≡ old.counts → FollowsScript makes ends shared start script leaves written machine new
       FollowsScript-came left leaves written machine old new stands empty came line waits counts =
-          let bound : (new.counts.lines < 1000000) ⊎ (stands.part ≡ []) = subst (λ (c : Counts). (c.lines < 1000000) ⊎ (stands.part ≡ [])) (sym counts) stands.bound in
+          let bound : (new.counts.lines < MAX_LINES) ⊎ (stands.part ≡ []) = subst (λ (c : Counts). (c.lines < MAX_LINES) ⊎ (stands.part ≡ [])) (sym counts) stands.bound in
           FollowsScript-moved left leaves written machine old new stands.part stands stands.unbroken (line ∙ stands.line_is) bound waits counts
           (subst (λ (h : List ℕ). Keeps (prepend_known (stands.part ++ h) left) (prepend_known (stands.part ++ new.held) leaves)) (sym empty) (Keeps-came stands.part left leaves new.held came))
 
@@ -159,7 +161,7 @@ module _ {V : Type 0} (makes ends : V → List ℕ → V → Reply → Type 0) (
       FollowsScript-sent left before after machine old new stands sends line held counts =
           let is = stands.between.answered in
           let texts = texts_of is.replies in
-          let bound : (new.counts.lines < 1000000) ⊎ (stands.part ≡ []) = subst (λ (c : Counts). (c.lines < 1000000) ⊎ (stands.part ≡ [])) (sym counts) stands.bound in
+          let bound : (new.counts.lines < MAX_LINES) ⊎ (stands.part ≡ []) = subst (λ (c : Counts). (c.lines < MAX_LINES) ⊎ (stands.part ≡ [])) (sym counts) stands.bound in
           let all : Sends start.written after [] new.waits texts = subst (λ (r : List ℕ). Sends start.written after [] new.waits r) (append-nil texts) (Sends-trans is.sends sends) in record {
             part = stands.part;
             unbroken = stands.unbroken;
@@ -198,12 +200,12 @@ module _ {V : Type 0} (makes ends : V → List ℕ → V → Reply → Type 0) (
       pub FollowsScript-same : (left written : Option (List ℕ)) (machine : V) (old new : ConnectionValue) → FollowsScript makes ends shared start script left written machine old
           → SameInput old.line old.held new.line new.held → new.waits ≡ old.waits → new.counts ≡ old.counts → FollowsScript makes ends shared start script left written machine new
       FollowsScript-same left written machine old new stands (inl same) waits counts =
-          let bound : (new.counts.lines < 1000000) ⊎ (stands.part ≡ []) = subst (λ (c : Counts). (c.lines < 1000000) ⊎ (stands.part ≡ [])) (sym counts) stands.bound in
+          let bound : (new.counts.lines < MAX_LINES) ⊎ (stands.part ≡ []) = subst (λ (c : Counts). (c.lines < MAX_LINES) ⊎ (stands.part ≡ [])) (sym counts) stands.bound in
           FollowsScript-moved left left written machine old new stands.part stands stands.unbroken (same.0 ∙ stands.line_is) bound waits counts
           (subst (λ (h : List ℕ). Keeps (prepend_known (stands.part ++ old.held) left) (prepend_known (stands.part ++ h) left)) (sym same.1) (Keeps-refl (prepend_known (stands.part ++ old.held) left)))
       FollowsScript-same left written machine old new stands (inr put) waits counts =
           let short = subst (λ (l : LineBufferValue). l.count ≤ 65536) stands.line_is put.0 in
-          let bytes : old.line.bytes ≡ stands.part = ap (λ (l : LineBufferValue). l.bytes) stands.line_is ∙ kept-short stands.part short in
+          let bytes : old.line.bytes ≡ stands.part = ap (λ (l : LineBufferValue). l.bytes) stands.line_is ∙ kept_bytes-short stands.part short in
           let back : new.held ≡ stands.part ++ old.held = put.2 ∙ ap (λ (b : List ℕ). b ++ old.held) bytes in
           FollowsScript-moved left left written machine old new [] stands (All-nil (λ (b : ℕ). b ≢ 10)) put.1 (inr refl) waits counts
           (subst (λ (h : List ℕ). Keeps (prepend_known (stands.part ++ old.held) left) (prepend_known h left)) (sym back) (Keeps-refl (prepend_known (stands.part ++ old.held) left)))

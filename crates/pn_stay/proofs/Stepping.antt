@@ -3,6 +3,7 @@ use Rattle.std.proofs.Common.{◌≡◌, ◌≢◌, ◌⊎◌, ◌+◌, ◌<◌,
 use Rattle.std.specs.Prelude.{Result, Ok, Err, IfOk, OnErr, MatchResult}
 use Rattle.std.specs.Io.KnownBytes.{Appends, Consumes, Keeps, IsAtEnd, prepend_known}
 use Rattle.std.proofs.KnownBytes.{Keeps-refl}
+use Rattle.pn_line.specs.declared.line_buffer.TheConstants.{ENDLESS}
 use Rattle.pn_line.specs.Line.{LineBufferValue, so_far}
 use Rattle.pn_line.specs.Reads.{Takes}
 use Rattle.pn_line.specs.Sent.{Sends, AppendsPrefix}
@@ -11,6 +12,7 @@ use Rattle.pn_protocol.specs.Reply.Texts.{reply_text, is_refusal}
 use Rattle.pn_serve.specs.Script.Written.{one_if}
 use Rattle.pn_serve.specs.declared.script.RunFault.{RunFault}
 use Rattle.pn_serve.specs.declared.script.Counts.{Counts}
+use Rattle.pn_serve.specs.declared.script.TheConstants.{MAX_LINES}
 use Rattle.pn_serve.specs.declared.script.RunFault.TheVariants.{Read, Write, TooManyTurns}
 use Rattle.pn_serve.specs.Lines.Answered.{Answered, AnsweredInPart, Closed}
 use Rattle.pn_serve.specs.Lines.States.{LineLoopValue, Start}
@@ -105,7 +107,7 @@ module _ {V : Type 0} (makes ends : V → List ℕ → V → Reply → Type 0) (
   module _ (left written : Option (List ℕ)) (was now : V) (old : ConnectionValue) (run : LineLoopValue) (held : List ℕ) (stands : FollowsSession makes ends shared start left written was old)
       (takes : Takes old.line run.line (Some old.held) (Some held) (10 ∷ [])) (same : run.waits ≡ old.waits) (as_many : run.counts ≡ old.counts) where
     -- and answered
-    pub Steps-line : (new : ConnectionValue) → new.held ≡ held → run.line.count < 1000000000 → new.line ≡ so_far []
+    pub Steps-line : (new : ConnectionValue) → new.held ≡ held → run.line.count < ENDLESS → new.line ≡ so_far []
         → Answered makes was now run (record { line = new.line; waits = new.waits; more = false; counts = new.counts }) written written
         → FollowsSession makes ends shared start left written now new
     Steps-line new is below begun answered =
@@ -123,7 +125,7 @@ module _ {V : Type 0} (makes ends : V → List ℕ → V → Reply → Type 0) (
 
   -- a line has no end
   pub Steps-endless : (left written : Option (List ℕ)) (machine : V) (old new : ConnectionValue) → FollowsSession makes ends shared start left written machine old
-      → Takes old.line new.line (Some old.held) (Some new.held) [] → new.line.count ≡ 1000000000 → old.counts.lines < 1000000 → new.waits ≡ old.waits
+      → Takes old.line new.line (Some old.held) (Some new.held) [] → new.line.count ≡ ENDLESS → old.counts.lines < MAX_LINES → new.waits ≡ old.waits
       → EndsOnceSent makes ends shared start (prepend_known new.held left) written new.waits machine (Err TooManyTurns)
   Steps-endless left written machine old new stands takes endless few waits =
       subst (λ (w : List ℕ). EndsOnceSent makes ends shared start (prepend_known new.held left) written w machine (Err TooManyTurns)) (sym waits)
@@ -132,7 +134,7 @@ module _ {V : Type 0} (makes ends : V → List ℕ → V → Reply → Type 0) (
 
   -- a part of a line was read
   pub Steps-part : (left written : Option (List ℕ)) (machine : V) (old new : ConnectionValue) → FollowsSession makes ends shared start left written machine old
-      → Takes old.line new.line (Some old.held) (Some new.held) [] → new.counts.lines < 1000000 → new.waits ≡ old.waits → new.counts ≡ old.counts
+      → Takes old.line new.line (Some old.held) (Some new.held) [] → new.counts.lines < MAX_LINES → new.waits ≡ old.waits → new.counts ≡ old.counts
       → FollowsSession makes ends shared start left written machine new
   Steps-part left written machine old new stands takes few waits counts =
       OnTold start.left _ _ (λ script known. FollowsScript-part makes ends shared start script left written machine old new known takes few waits counts) stands
@@ -167,7 +169,7 @@ module _ {V : Type 0} (makes ends : V → List ℕ → V → Reply → Type 0) (
       by (inr is) = subst (λ (s : Step). StepsTo makes ends shared start leaves written machine new s) (sym is) (Steps-read leaves leaves written machine new here (Keeps-refl leaves))
 
   -- there is more after the last line that may be answered
-  pub Steps-many : (left written : Option (List ℕ)) (machine : V) (old : ConnectionValue) → FollowsSession makes ends shared start left written machine old → old.counts.lines ≡ 1000000 → old.held ≢ []
+  pub Steps-many : (left written : Option (List ℕ)) (machine : V) (old : ConnectionValue) → FollowsSession makes ends shared start left written machine old → old.counts.lines ≡ MAX_LINES → old.held ≢ []
       → EndsOnceSent makes ends shared start (prepend_known old.held left) written old.waits machine (Err TooManyTurns)
   Steps-many left written machine old stands many some =
       told_or start.left _ _ stands (λ none. EndsOnceSent-untold makes ends shared start _ written old.waits machine (Err TooManyTurns) none (λ same. cc))
@@ -182,7 +184,7 @@ module _ {V : Type 0} (makes ends : V → List ℕ → V → Reply → Type 0) (
     held_is : old.held ≡ new_held
     held_is = empty ∙ sym (held ∙ end.0)
 
-    pub Steps-closed : (new : LineLoopValue) (counts : Counts) → old.line.count < 1000000000 → old.counts.lines < 1000000
+    pub Steps-closed : (new : LineLoopValue) (counts : Counts) → old.line.count < ENDLESS → old.counts.lines < MAX_LINES
         → Closed ends was now (record { line = old.line; waits = old.waits; more = false; counts = old.counts }) new written written counts
         → EndsOnceSent makes ends shared start (prepend_known new_held leaves) written new.waits now (Ok counts)
     Steps-closed new counts below few closed =
@@ -190,7 +192,7 @@ module _ {V : Type 0} (makes ends : V → List ℕ → V → Reply → Type 0) (
         (told_or start.left _ _ stands (λ none. EndsOnceSent-untold makes ends shared start _ written new.waits now (Ok counts) none (λ same. cc))
         (λ script is. λ known. EndsOnceSent-closed makes ends shared start script is left leaves written was now old known empty nothing end.1 below few new counts closed))
 
-    pub Steps-last_cut : old.line.count < 1000000000 → old.counts.lines < 1000000
+    pub Steps-last_cut : old.line.count < ENDLESS → old.counts.lines < MAX_LINES
         → AnsweredInPart ends was now (record { line = old.line; waits = old.waits; more = false; counts = old.counts }) written written
         → HasEnded makes ends shared start (prepend_known new_held leaves) written now (Err Write)
     Steps-last_cut below few answered =
@@ -198,7 +200,7 @@ module _ {V : Type 0} (makes ends : V → List ℕ → V → Reply → Type 0) (
         (told_or start.left _ _ stands (λ none. HasEnded-untold makes ends shared start _ written now (Err Write) none (λ same. cc))
         (λ script is. λ known. HasEnded-last makes ends shared start script is left leaves written was now old known empty nothing end.1 below few answered))
 
-    pub Steps-finished : (new : LineLoopValue) (counts : Counts) → old.counts.lines ≡ 1000000
+    pub Steps-finished : (new : LineLoopValue) (counts : Counts) → old.counts.lines ≡ MAX_LINES
         → Closed ends was now (record { line = old.line; waits = old.waits; more = false; counts = old.counts }) new written written counts
         → EndsOnceSent makes ends shared start (prepend_known new_held leaves) written new.waits now (Ok counts)
     Steps-finished new counts many closed =
@@ -206,7 +208,7 @@ module _ {V : Type 0} (makes ends : V → List ℕ → V → Reply → Type 0) (
         (told_or start.left _ _ stands (λ none. EndsOnceSent-untold makes ends shared start _ written new.waits now (Ok counts) none (λ same. cc))
         (λ script is. λ known. EndsOnceSent-finished makes ends shared start script is left leaves written was now old known empty nothing end.1 many new counts closed))
 
-    pub Steps-finish_cut : old.counts.lines ≡ 1000000
+    pub Steps-finish_cut : old.counts.lines ≡ MAX_LINES
         → AnsweredInPart ends was now (record { line = old.line; waits = old.waits; more = false; counts = old.counts }) written written
         → HasEnded makes ends shared start (prepend_known new_held leaves) written now (Err Write)
     Steps-finish_cut many answered =
@@ -262,7 +264,7 @@ module _ {V : Type 0} (makes ends : V → List ℕ → V → Reply → Type 0) (
   -- the input is at its end: its last reply waits, or found no memory
   module _ (left leaves written : Option (List ℕ)) (was now : V) (old new : ConnectionValue) (stands : FollowsSession makes ends shared start left written was old) (empty : old.held ≡ []) (came : List ℕ)
       (consumed : Consumes left leaves came) (end : (came ≡ []) × IsAtEnd leaves) (held : new.held ≡ came) (step : Step) {E : Type 0} where
-    pub Steps-ended : (closed : Result Counts E) → MatchResult closed (λ counts. step ≡ Ends (Ok counts)) (λ _. step ≡ OutOfMemory) → old.line.count < 1000000000 → old.counts.lines < 1000000
+    pub Steps-ended : (closed : Result Counts E) → MatchResult closed (λ counts. step ≡ Ends (Ok counts)) (λ _. step ≡ OutOfMemory) → old.line.count < ENDLESS → old.counts.lines < MAX_LINES
         → IfOk closed (λ counts. Closed ends was now (record { line = old.line; waits = old.waits; more = false; counts = old.counts }) (record { line = new.line; waits = new.waits; more = false; counts = new.counts }) written written counts)
         → OnErr closed (AnsweredInPart ends was now (record { line = old.line; waits = old.waits; more = false; counts = old.counts }) written written)
         → StepsTo makes ends shared start leaves written now new step
@@ -273,7 +275,7 @@ module _ {V : Type 0} (makes ends : V → List ℕ → V → Reply → Type 0) (
         subst (λ (s : Step). StepsTo makes ends shared start leaves written now new s) (sym is)
         (Steps-last_cut left leaves written was now old stands empty came new.held consumed end held below few err)
 
-    pub Steps-ended_last : (closed : Result Counts E) → MatchResult closed (λ counts. step ≡ Ends (Ok counts)) (λ _. step ≡ OutOfMemory) → old.counts.lines ≡ 1000000
+    pub Steps-ended_last : (closed : Result Counts E) → MatchResult closed (λ counts. step ≡ Ends (Ok counts)) (λ _. step ≡ OutOfMemory) → old.counts.lines ≡ MAX_LINES
         → IfOk closed (λ counts. Closed ends was now (record { line = old.line; waits = old.waits; more = false; counts = old.counts }) (record { line = new.line; waits = new.waits; more = false; counts = new.counts }) written written counts)
         → OnErr closed (AnsweredInPart ends was now (record { line = old.line; waits = old.waits; more = false; counts = old.counts }) written written)
         → StepsTo makes ends shared start leaves written now new step

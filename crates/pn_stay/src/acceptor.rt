@@ -9,7 +9,7 @@ use crate::listener::Listener;
 use crate::socket::{Socket, TrackedSocket};
 use crate::socket_mailbox::SocketMailbox;
 use pn_live::LiveReader;
-use pn_serve::{Door, Tally, session};
+use pn_serve::{Acceptor, Counter, session};
 use std::alloc::Global;
 use std::io::BufReader;
 use std::sync::{Arc, Wait};
@@ -54,8 +54,8 @@ impl SocketAcceptor {
     }
 }
 
-impl Door for SocketAcceptor {
-    fn again(&self) -> io::Result<SocketAcceptor> {
+impl Acceptor for SocketAcceptor {
+    fn try_clone(&self) -> io::Result<SocketAcceptor> {
         Ok(SocketAcceptor {
             listener: self.listener.try_clone()?,
             idle: self.idle,
@@ -67,11 +67,11 @@ impl Door for SocketAcceptor {
         let socket = self.accept()?;
         self.counters.connections.add(1);
         let answered = self.answer(alloc, reader, &socket);
-        self.counters.connections.take_away(1);
+        self.counters.connections.subtract(1);
         answered
     }
 
-    fn rounds(&self) -> Option<Arc<Tally>> {
+    fn round_counter(&self) -> Option<Arc<Counter>> {
         match Arc::try_clone(&self.counters.rounds) {
             Ok(rounds) => Some(rounds),
             Err(_) => None,

@@ -4,7 +4,7 @@ ghost use Rattle.std.specs.Prelude.{◌≡◌};
 
 use pn_join::Name;
 use pn_line::{LineBuffer, Piece, Source};
-use pn_serve::Tally;
+use pn_serve::Counter;
 use std::alloc::{AllocError, Global};
 use std::io;
 use std::sync::Arc;
@@ -12,16 +12,16 @@ use std::sync::Arc;
 /// How many lines were read, and how many bytes.
 #[derive(Drop)]
 pub struct InputCounters {
-    pub lines: Tally,
-    pub bytes: Tally,
+    pub lines: Counter,
+    pub bytes: Counter,
 }
 
 impl InputCounters {
     /// Both are zero.
     pub fn new() -> InputCounters {
         InputCounters {
-            lines: Tally::new(),
-            bytes: Tally::new(),
+            lines: Counter::new(),
+            bytes: Counter::new(),
         }
     }
 
@@ -53,11 +53,11 @@ pub struct StreamCounters {
 /// What a server counts.
 #[derive(Drop)]
 pub struct Counters {
-    pub rounds: Arc<Tally>,
+    pub rounds: Arc<Counter>,
     /// What was read from all clients.
     pub clients: Arc<InputCounters>,
     /// How many connections are open.
-    pub connections: Tally,
+    pub connections: Counter,
     pub streams: Vec<StreamCounters>,
 }
 
@@ -65,9 +65,9 @@ impl Counters {
     /// Those of a server that has done nothing so far.
     pub fn new(alloc: Global, streams: Vec<StreamCounters>) -> Result<Counters, AllocError> {
         Ok(Counters {
-            rounds: Arc::new(alloc, Tally::new())?,
+            rounds: Arc::new(alloc, Counter::new())?,
             clients: Arc::new(alloc, InputCounters::new())?,
-            connections: Tally::new(),
+            connections: Counter::new(),
             streams,
         })
     }

@@ -165,7 +165,7 @@ impl EventLoop {
         ensures { Updates self.old.connections self.new.connections key None }
     {
         if self.connections.try_remove(key).is_some() {
-            self.counters.connections.take_away(1);
+            self.counters.connections.subtract(1);
             mailbox.release(rt);
         }
     }

@@ -49,13 +49,13 @@ impl Totals {
     fn read(alloc: Global, counters: &Counters) -> Result<Totals, AllocError> {
         let mut positions = Vec::with_capacity(alloc, counters.streams.len())?;
         for stream in counters.streams.iter() {
-            positions.push(stream.input.lines.number())?;
+            positions.push(stream.input.lines.get())?;
         }
         Ok(Totals {
             positions,
-            rounds: counters.rounds.number(),
-            connections: counters.connections.number(),
-            lines: counters.clients.lines.number(),
+            rounds: counters.rounds.get(),
+            connections: counters.connections.get(),
+            lines: counters.clients.lines.get(),
         })
     }
 
@@ -159,7 +159,7 @@ fn push_bar(text: &mut String, alloc: Global, stream: &StreamCounters) -> Result
     let Some(size) = stream.size else {
         return Ok(());
     };
-    let taken = stream.input.bytes.number().min(size);
+    let taken = stream.input.bytes.get().min(size);
     let full = scale(BAR, taken, size);
     text.push_str(" [")?;
     for at in 0..BAR {

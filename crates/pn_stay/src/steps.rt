@@ -245,5 +245,5 @@ fn answer_end<M: LineHandler>(
     ensures passes { Passes M.makes M.ends machine.old machine.new }
     ensures knows { KnowsNoLess (M.reader machine.old) (M.reader machine.new) }
 {
-    buffers.lines.close(machine, replies)
+    buffers.lines.answer_end(machine, replies)
 }

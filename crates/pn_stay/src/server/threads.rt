@@ -13,7 +13,7 @@ use crate::listener::Listener;
 use crate::socket_mailbox::{Closed, SocketMailbox};
 use mio::{Poll, Waker};
 use pn_live::{LiveReader, LiveRegion};
-use pn_serve::{ComesBack, Running};
+use pn_serve::{ComesBack, SessionThread};
 use std::alloc::Global;
 use std::net::Net;
 use std::snapshot::Snapshot;
@@ -30,7 +30,7 @@ pub(super) fn start_answering<R>(
     connections: usize,
     live: &LiveRegion,
     readers: &mut Vec<LiveReader>,
-) -> io::Result<Vec<Running>>
+) -> io::Result<Vec<SessionThread>>
 where
     R: Threads + Wait + Net + Clock + Copy + Send + 'static,
     requires { AllRead (tablets_in live.now) readers.old.items }
@@ -96,7 +96,7 @@ fn start_threads<R>(
     mailboxes: &mut Vec<Arc<SocketMailbox>>,
     live: &LiveRegion,
     readers: &mut Vec<LiveReader>,
-) -> io::Result<Vec<Running>>
+) -> io::Result<Vec<SessionThread>>
 where
     R: Threads + Wait + Net + Copy + Send + 'static,
     requires { AllRead (tablets_in live.now) readers.old.items }
@@ -119,7 +119,7 @@ fn start_thread<R>(
     shared: &Shared,
     mailboxes: &mut Vec<Arc<SocketMailbox>>,
     reader: LiveReader,
-) -> io::Result<Running>
+) -> io::Result<SessionThread>
 where
     R: Threads + Wait + Net + Copy + Send + 'static,
     ensures { IfOk result (λ session. tablets_of session.promise.0.value ≡ tablets_of reader) }
@@ -185,7 +185,7 @@ impl ThreadBody for LoopThread {
     }
 }
 
-fn spawn_thread<R, B>(rt: &R, promise: ComesBack, body: B) -> io::Result<Running>
+fn spawn_thread<R, B>(rt: &R, promise: ComesBack, body: B) -> io::Result<SessionThread>
 where
     R: Threads + Wait + Copy + Send + 'static,
     B: ThreadBody + Drop + Send + 'static,

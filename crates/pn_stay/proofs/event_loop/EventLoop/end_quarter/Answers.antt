@@ -23,5 +23,5 @@ returns g c key =
     ⊎_elim
     (λ below. at.invariant.done key below)
     (λ past.
-        ends_none c.args.idle (idle_at first key) (idle_at at.self.connections key) (idle_past first key (omega (arith, past, c.capacity.ensures.slots, c.capacity.ensures.value, c.quarters-test.false))) (at.invariant.rest key past))
+    ends_none c.args.idle (idle_at first key) (idle_at at.self.connections key) (idle_past first key (omega (arith, past, c.capacity.ensures.slots, c.capacity.ensures.value, c.quarters-test.false))) (at.invariant.rest key past))
     (cases_lt key at.key)
