@@ -15,7 +15,7 @@ use crate::cut::{Span, call_both, is_worth_a_thread, join_results};
 use crate::gate::{Entered, enter};
 use crate::share::{copy_deliveries, images_by_tablet};
 use pn_join::{Dup, Marks, NoMemory};
-use pn_record::{Image, Records, take_image};
+use pn_record::{Image, Records, add_image};
 use pn_stream::Delivery;
 use pn_tablet::{Layout, TabletOp};
 use std::alloc::Global;
@@ -200,7 +200,7 @@ fn cells_of(_entered: Entered, alloc: Global, images: Vec<Image>) -> Result<Reco
 {
     let mut cells = Records::new(alloc);
     for image in images {
-        take_image(alloc, &mut cells, image)?;
+        add_image(alloc, &mut cells, image)?;
     }
     Ok(cells)
 }

@@ -126,7 +126,7 @@ pub fn new_marks_name_at_most_16_streams()
         → (length next ≡ stream_count marks deliveries) × (stream_count marks deliveries ≤ MAX_STREAMS) }
     ensures too_many { (marks : Positions) (deliveries : List DeliveryValue)
         → IsTrue (is_sorted name_cmp marks) → new_marks marks deliveries ≡ Err TooManyStreams
-        → 16 < stream_count marks deliveries }
+        → MAX_STREAMS < stream_count marks deliveries }
     ensures nothing_else { (marks : Positions) (deliveries : List DeliveryValue)
         → new_marks marks deliveries ≡ Err Memory → ⊥ }
 {}

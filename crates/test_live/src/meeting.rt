@@ -23,7 +23,6 @@ struct Tablets {
     count: usize,
     bounds: &'static str,
     keys: &'static str,
-    ghost few: { (1 ≤ count) × (count ≤ MAX_WORKERS) },
 }
 
 const TWO: Tablets = Tablets {
@@ -94,7 +93,9 @@ impl Meeting {
 }
 
 // How many records a round changes where each tablet has a worker, and whether they met.
-fn meet<R: Threads + Sync>(rt: &R, alloc: Global, tablets: Tablets) -> Option<(u64, bool)> {
+fn meet<R: Threads + Sync>(rt: &R, alloc: Global, tablets: Tablets) -> Option<(u64, bool)>
+    requires { (1 ≤ tablets.count) × (tablets.count ≤ MAX_WORKERS) }
+{
     let gate = Meeting::new(alloc, tablets.count)?;
     let mut region = Region::new(alloc, layout(alloc, tablets.bounds)?).ok()?;
     let given = deliveries(alloc, 1, tablets.keys, 0)?;
@@ -108,7 +109,9 @@ fn take<R: Threads + Wait + Sync>(
     live: &mut LiveRegion,
     tablets: Tablets,
     gate: &Meeting,
-) -> Option<u64> {
+) -> Option<u64>
+    requires { (1 ≤ tablets.count) × (tablets.count ≤ MAX_WORKERS) }
+{
     let given = deliveries(alloc, 1, tablets.keys, 0)?;
     let (round, _front) = live.round(rt, given, tablets.count, gate).ok()?;
     Some(round.changed)
@@ -119,7 +122,9 @@ fn meet_live<R: Threads + Wait + Sync>(
     rt: &R,
     alloc: Global,
     tablets: Tablets,
-) -> Option<(u64, bool)> {
+) -> Option<(u64, bool)>
+    requires { (1 ≤ tablets.count) × (tablets.count ≤ MAX_WORKERS) }
+{
     let gate = Meeting::new(alloc, tablets.count)?;
     let (mut live, _reader) = open_one(rt, alloc, layout(alloc, tablets.bounds)?)?;
     let changed = take(rt, alloc, &mut live, tablets, &gate);

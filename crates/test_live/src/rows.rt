@@ -6,7 +6,7 @@ ghost use Rattle.pn_live.specs.LiveRegions.{IsReaderIn, tablets_in};
 ghost use Rattle.pn_live.specs.Readers.{AreNotesOf, IsFrontFor, tablets_of};
 
 use pn_apply::Open;
-use pn_live::{Front, LiveReader, LiveRegion};
+use pn_live::{Front, LiveReader, LiveRegion, MAX_READERS};
 use pn_record::{Key, Version};
 use pn_region::Region;
 use pn_scan::ScanFault;
@@ -16,10 +16,8 @@ use std::thread::{Threads, join_mut};
 use test_kit::{deliveries, layout};
 use test_kit_live::{close, find, hand_back, open, take_out};
 
-/// The number of the last round, and the most readers that there may be.
+/// The number of the last round.
 const LAST: u64 = 50;
-
-const READERS: usize = 16;
 
 // A reader, and a front that it is to learn, where there is one.
 #[derive(Drop)]
@@ -146,7 +144,7 @@ fn number_in(alloc: Global, region: &Region) -> Option<u64> {
 fn open_region<R: Wait>(rt: &R, alloc: Global) -> Option<(LiveRegion, Vec<LiveReader>)>
     ensures { IfSome result (λ opened. All (IsReaderIn opened.0) opened.1.items) }
 {
-    open(rt, alloc, layout(alloc, "")?, READERS).ok()
+    open(rt, alloc, layout(alloc, "")?, MAX_READERS).ok()
 }
 
 // The number of the key's version in the region that is closed at the end, with all its readers, and laid out anew.

@@ -33,6 +33,7 @@ impl LiveRegion {
             tablets,
             marks,
             log,
+            order: _order,
             alloc,
         } = self;
         let all_seen = was_all_seen(&tablets, readers);

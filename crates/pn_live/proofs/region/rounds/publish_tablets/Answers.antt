@@ -1,5 +1,5 @@
 -- One more tablet is published.
-use Rattle.std.proofs.Common.{◌≡◌, ◌++◌, List, length, map, inl, inr, Ok, sym, ap, subst, ◌∙◌, ◌≤◌, arith}
+use Rattle.std.proofs.Common.{◌≡◌, ◌++◌, ◌∷◌, [], List, length, map, inl, inr, Ok, sym, ap, subst, ◌∙◌, ◌≤◌, arith}
 use Rattle.std.proofs.lemmas.List.{take_all}
 use Rattle.std.specs.Vec.Iter.{into_iter_items}
 use Rattle.pn_tablet.specs.Steps.{step}
@@ -39,6 +39,7 @@ loop-next-preserved g c =
       done = one_appended olds ops c.requires.joins at.number at.tablets at.invariant.done left ops_left c.index-tablets-number.result c.publish.new.self c.index-tablets-number.is
           (c.publish.ensures.list ∙ ap (λ (p : PublishedTabletValue). with_op p c.in-Some.operation) (sym c.index-tablets-number.is));
       order = c.publish.ensures.order
+          ∙ ap (λ (p : PublishedTabletValue). at.order ++ p.book ∷ []) (sym c.index-tablets-number.is)
           ∙ next_book olds ops c.requires.joins at.number at.tablets at.invariant.done left ops_left c.index-tablets-number.result c.index-tablets-number.is c.args.order.now at.order at.invariant.order;
       rest = rest_of (all_stepped (map state_at olds) ops) at.number c.in-Some.next (into_iter_items c.next.new.self.a) left;
       left = omega (arith, at.invariant.left, c.in-Some.ensures.steps.0.1, ap length c.in-Some.ensures.steps.0.0);
