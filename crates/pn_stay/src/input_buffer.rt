@@ -4,14 +4,14 @@ ghost use Rattle.std.specs.Prelude.{◌≡◌, ◌≢◌, ◌≤◌, ◌<◌, �
 ghost use Rattle.std.specs.Io.KnownBytes.{Consumes, IsAtEnd, Keeps};
 ghost use Rattle.pn_line.specs.Reads.{newline_after};
 
-use pn_line::{InMemory, LineBuffer, Piece, Source};
+use pn_line::{InMemory, LineBuffer, MAX_LINE_BYTES, Piece, Source};
 use std::alloc::{AllocError, Global};
 use std::io;
 use std::io::Read;
 use std::marker::Model;
 
 /// How many bytes fit into it: a line that is not too long.
-pub const INPUT_CAPACITY: usize = 65_536;
+pub const INPUT_CAPACITY: usize = MAX_LINE_BYTES;
 
 /// How many bytes one read brings at most.
 pub const READ_SIZE: usize = 16_384;

@@ -75,7 +75,7 @@ impl OutputBuffer {
     {
         'writes: while !self.is_empty() {
             if let Err(fault) = self.send_once(writer) {
-                return blocked(fault);
+                return wait_or_fail(fault);
             }
         }
         self.clear();
@@ -107,7 +107,7 @@ impl OutputBuffer {
 }
 
 // A writer that would block takes no more for now. Another fault stays.
-fn blocked(fault: WriteFault) -> Result<SendOutcome, WriteFault>
+fn wait_or_fail(fault: WriteFault) -> Result<SendOutcome, WriteFault>
     ensures waits { IfOk result (λ sent. (sent ≡ SendOutcome.Waits) × WouldBlock fault) }
     ensures stays { IfErr result (λ found. (found ≡ fault) × (¬ (WouldBlock fault))) }
 {

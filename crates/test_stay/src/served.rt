@@ -139,7 +139,7 @@ where
     thread::spawn(rt, move || stay(&host, alloc, listener, &theirs))?;
     let told = talk(rt, alloc, to, true);
     remove_socket(rt, at)?;
-    let read = if waits_for(rt, &ended) {
+    let read = if wait_for(rt, &ended) {
         "all read"
     } else {
         "still reading"
@@ -164,11 +164,10 @@ where
     let ended = Arc::new(alloc, Counter::new())?;
     let host = *rt;
     thread::spawn(rt, move || stay(&host, alloc, listener, &ended))?;
-    let told = talk(rt, alloc, to, false);
-    let flooded = flood(rt, alloc, PATH);
+    talk(rt, alloc, to, false)?;
+    let flooded = flood(rt, alloc, PATH)?;
     remove_socket(rt, "path")?;
-    told?;
-    flooded
+    Ok(flooded)
 }
 
 // Whether a number is greater than zero, now or within ten seconds.

@@ -70,7 +70,7 @@ fn ask_all<O: Write, I: BufRead>(
 ) -> io::Result<Told> {
     for _ in 0..MAX_TURNS {
         match ask(alloc, sender, replies)? {
-            Answer::Row if stays => return end(alloc, replies),
+            Answer::Row if stays => return wait_for_end(alloc, replies),
             Answer::Row => return Ok(Told::Row),
             Answer::NoRow => {}
             Answer::Other => return Ok(Told::Other),
@@ -80,7 +80,7 @@ fn ask_all<O: Write, I: BufRead>(
 }
 
 // Waits for what comes unasked, which is to be the end.
-fn end<I: BufRead>(alloc: Global, replies: &mut I) -> io::Result<Told> {
+fn wait_for_end<I: BufRead>(alloc: Global, replies: &mut I) -> io::Result<Told> {
     let mut rest = String::new(alloc);
     if replies.read_line(&mut rest)? == 0 {
         Ok(Told::RowAndEnd)
