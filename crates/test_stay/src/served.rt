@@ -171,7 +171,7 @@ where
 }
 
 // Whether a number is greater than zero, now or within ten seconds.
-fn waits_for<R: Clock>(rt: &R, number: &Counter) -> bool {
+fn wait_for<R: Clock>(rt: &R, number: &Counter) -> bool {
     for _ in 0..PATIENCE {
         if number.get() > 0 {
             return true;
