@@ -1,5 +1,5 @@
 -- One key after another.
-use Rattle.std.proofs.Common.{◌<◌, ◌≤◌, ℕ, ⊎_elim, ◌∙◌, sym, arith}
+use Rattle.std.proofs.Common.{◌≤◌, length, ⊎_elim, arith}
 use Rattle.std.proofs.lemmas.Bool.{cases_lt}
 use Rattle.pn_stay.specs.Loops.{idle_at}
 use Rattle.pn_stay.proofs.Quarters.{idle_past, ends_none, ended_more, rest_less}
@@ -23,5 +23,6 @@ returns g c key =
     ⊎_elim
     (λ below. at.invariant.done key below)
     (λ past.
-    ends_none c.args.idle (idle_at first key) (idle_at at.self.connections key) (idle_past first key (omega (arith, past, c.capacity.ensures.slots, c.capacity.ensures.value, c.quarters-test.false))) (at.invariant.rest key past))
+    let none : length first.slots ≤ key = omega (arith, past, c.capacity.ensures.slots, c.capacity.ensures.value, c.quarters-test.false) in
+    ends_none c.args.idle (idle_at first key) (idle_at at.self.connections key) (idle_past first key none) (at.invariant.rest key past))
     (cases_lt key at.key)
