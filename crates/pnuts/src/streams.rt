@@ -67,7 +67,10 @@ pub(crate) fn open_streams<R: Files<File = File>>(
 {
     let mut opened = Vec::with_capacity(alloc, streams.len())?;
     for (name, path) in streams {
-        opened.push(open_stream(rt, alloc, name, path, is_counted)?)?;
+        let stream = open_stream(rt, alloc, name, path, is_counted)?;
+        if opened.push(stream).is_err() {
+            return Err(OpenFault::Memory);
+        }
     }
     Ok(opened)
 }
@@ -79,11 +82,7 @@ fn open_stream<R: Files<File = File>>(
     path: String,
     is_counted: bool,
 ) -> Result<StreamFile, OpenFault> {
-    let counters = if is_counted {
-        Some(Arc::new(alloc, InputCounters::new())?)
-    } else {
-        None
-    };
+    let counters = new_counters(alloc, is_counted)?;
     let (reader, kind) = open_file(rt, alloc, &name, path.as_str(), &counters)?;
     Ok(StreamFile {
         name,
@@ -93,6 +92,14 @@ fn open_stream<R: Files<File = File>>(
         is_fifo: kind.is_fifo,
         size: kind.size,
     })
+}
+
+fn new_counters(alloc: Global, is_counted: bool) -> Result<Option<Arc<InputCounters>>, AllocError> {
+    if is_counted {
+        Ok(Some(Arc::new(alloc, InputCounters::new())?))
+    } else {
+        Ok(None)
+    }
 }
 
 /// What a file is.
