@@ -1,6 +1,7 @@
 //! A source that never ends, and whose looks are counted.
-ghost use Rattle.std.specs.Prelude.{◌≡◌, ◌≢◌, ◌+◌, ◌-◌, ◌<◌, ◌^◌, true, Ok, None, IfOk, IsOk, length, min};
-ghost use Rattle.pn_line.specs.Reads.{Takes, newline_after};
+ghost use Rattle.std.specs.Prelude.{◌≡◌, ◌≢◌, ◌+◌, ◌-◌, ◌<◌, ◌≤◌, ◌^◌, true, false, List, ℕ, [], Ok, None, IfOk, IfSome, OnErr, OnSome, length, min};
+ghost use Rattle.std.specs.Io.KnownBytes.{IsAtEnd, Keeps};
+ghost use Rattle.pn_line.specs.Reads.{Takes, newline_after, HasMore};
 
 use crate::line_buffer::{ENDLESS, LineBuffer};
 use crate::piece::{Piece, take_piece};
@@ -61,8 +62,13 @@ impl Source for EndlessSource<'_> {
         ensures takes { IfOk result (λ piece. Takes line.old line.new None None (newline_after piece)) }
         ensures part { result ≡ Ok Piece.Part → line.old.count < line.new.count }
         ensures below { result ≢ Ok Piece.Part → line.new.count < ENDLESS }
-        ensures always { IsOk result }
-        ensures endless { result ≢ Ok Piece.NoMore }
+        ensures end { result ≡ Ok Piece.NoMore → OnSome {T = List ℕ} None (IsAtEnd None) }
+        ensures end_comes { result ≡ Ok Piece.NoMore → ⊥ }
+        ensures more { IfOk result (λ piece. OnSome {T = List ℕ} None (HasMore piece None)) }
+        ensures looks { self.new ≤ self.old + 1 }
+        ensures fault { OnErr result ⊥ }
+        ensures kept { OnErr result (Keeps None None) }
+        ensures line_kept { OnErr result (line.new ≡ line.old) }
         ensures counted { self.new ≡ min (self.old + 1) (2 ^ 128 - 1) }
     {
         self.count_look();
@@ -76,7 +82,12 @@ impl Source for EndlessSource<'_> {
 
     /// Counts as a look, and always shows more.
     fn has_more(&mut self) -> io::Result<bool>
-        ensures endless { result ≡ Ok true }
+        ensures more { result ≡ Ok true → IfSome {T = List ℕ} None (λ rest. rest ≢ []) }
+        ensures end { result ≡ Ok false → IfSome {T = List ℕ} None (λ rest. rest ≡ []) }
+        ensures end_comes { result ≡ Ok false → ⊥ }
+        ensures looks { self.new ≤ self.old + 1 }
+        ensures fault { OnErr result ⊥ }
+        ensures kept { Keeps None None }
         ensures counted { self.new ≡ min (self.old + 1) (2 ^ 128 - 1) }
     {
         self.count_look();
