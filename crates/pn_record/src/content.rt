@@ -3,6 +3,7 @@
 ghost use Rattle.std.specs.Prelude.{◌≡◌, IsTrue, ◌↔◌, IfSome, IsSome, IfOk, string_bytes, Option, Some, None, length, map};
 ghost use Rattle.std.specs.Ordering.{is_lt, nat_cmp};
 ghost use Rattle.std.specs.Cmp.Lexicographic.{slice_cmp};
+ghost use Rattle.pn_join.specs.Prelude.{is_name};
 ghost use Rattle.pn_record.specs.Bodies.{is_body, is_body as body_fits, fields_fit as all_fit, names_rise as all_rise};
 ghost use Rattle.pn_record.specs.Limits.{is_field as one_fits};
 ghost use Rattle.pn_record.specs.Numbers.{is_numeric, have_number as any_number, holds_number};
@@ -60,7 +61,7 @@ impl Content {
         ensures made { IfSome result (λ content. content ≡ (shown_body body, master)) }
         ensures exactly { IsSome result ↔ IsTrue (is_body (shown_body body)) }
     {
-        let _named = master.as_str();
+        recall_name(&master);
         if !is_body(&body) {
             return None;
         }
@@ -76,6 +77,13 @@ impl Content {
             Body::Deleted => false,
         }
     }
+}
+
+// Recalls for the prover that a master is a name.
+fn recall_name(master: &Name)
+    ensures { IsTrue (is_name master.now) }
+{
+    let _ = master.as_str();
 }
 
 fn is_body(body: &Body) -> bool

@@ -4,7 +4,7 @@ use crate::case::Case;
 use crate::pipe::{Pipe, PipeBuffer};
 use pn_join::{LAST_POSITION, Name};
 use pn_line::{InMemory, Source};
-use pn_stream::{Delivery, StreamReader};
+use pn_stream::{Delivery, MAX_MESSAGES, StreamReader};
 use std::alloc::Global;
 use std::test::Fail;
 use test_kit::{PiecewiseReader, ReplyRuns};
@@ -35,7 +35,7 @@ fn push_answer<S: Source + Drop>(
     reader: &mut StreamReader<S>,
 ) -> Result<(), Fail> {
     let most = usize::try_from(case.most)?;
-    if most < 1 || most > 1_000 {
+    if most < 1 || most > MAX_MESSAGES {
         return Err(Fail::new("no number of messages"));
     }
     let given = if case.is_ready {

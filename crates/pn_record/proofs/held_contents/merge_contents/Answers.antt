@@ -2,12 +2,12 @@
 use Rattle.std.proofs.Common.{List, ◌++◌, sym, ap, ◌∙◌, subst}
 use Rattle.pn_record.specs.Limits.{ContentValue}
 use Rattle.pn_record.specs.Sets.{set_of}
-use Rattle.pn_record.proofs.Gathering.{Progress, begun, loop_less, loop_equal, loop_greater, ended}
+use Rattle.pn_record.proofs.Gathering.{MergedSoFar, begun, loop_less, loop_equal, loop_greater, ended}
 use Rattle.pn_record.proofs.held_contents.merge_contents.Goals as goal
 
 pub loop-x-init : goal.loop-x-init
 loop-x-init c =
-    subst (λ (all : List ContentValue). Progress all c.args.ours.now c.args.theirs.now c.args.ours.now c.args.theirs.now) (sym c.new-all.ensures.items)
+    subst (λ (all : List ContentValue). MergedSoFar all c.args.ours.now c.args.theirs.now c.args.ours.now c.args.theirs.now) (sym c.new-all.ensures.items)
     (begun c.args.ours.now c.args.theirs.now c.requires.our_contents c.requires.their_contents)
 
 pub loop-x-preserved-in_ok-push-in-Less : goal.loop-x-preserved-in_ok-push-in-Less

@@ -1,5 +1,5 @@
 -- Each message that is read makes the run longer; what ends it ends the batch.
-use Rattle.std.proofs.Common.{◌≡◌, ◌+◌, ◌<◌, ◌≤◌, ◌^◌, false, [], ◌∷◌, ◌++◌, length, refl, ap, ◌∙◌, rules, arith}
+use Rattle.std.proofs.Common.{◌≡◌, ◌+◌, ◌<◌, ◌≤◌, ◌^◌, false, [], ◌∷◌, ◌++◌, length, refl, sym, ap, ◌∙◌, rules, arith}
 use Rattle.std.proofs.lemmas.List.{length_push}
 use Rattle.pn_stream.specs.declared.fault.StreamFault.TheVariants.{Memory}
 use Rattle.pn_stream.proofs.Runs.{SoFar-none, SoFar-push, Batch-end, Batch-enough, Batch-fault, Batch-memory, handed_on, shown_on, shown_none}
@@ -22,14 +22,14 @@ images-init g c =
       taken = λ some. absurd (omega (arith, none, some));
       none_held = c.take_line.ensures.taken;
       shown = shown_none _;
-      so_far = rw c.in_ok-line.ensures.front (SoFar-none _ _ _ _ c.requires.none);
+      so_far = SoFar-none _ _ _ _ c.requires.none;
     }
 
 pub returns-in_err-next-clause-err : goal.returns-in_err-next-clause-err
 returns-in_err-next-clause-err g c =
     let few : length c.images.images.items < c.args.size.most = search (rules, arith) in
     let is : c.args.position + c.len-in-images.result + 1 ≡ c.args.position + length c.images.images.items + 1 = search (rules, arith) in
-    handed_on c.from_residual.result c.in_err-next.field-0.0 _ c.from_residual.ensures.1 (Batch-fault _ _ _ _ _ _ _ _ _ _ _ _ is few c.images.invariant.so_far c.in_err-next.ensures.stands)
+    rw (sym c.in_ok-line.ensures.front) (handed_on c.from_residual-in_err-next.result c.in_err-next.field-0.0 _ c.from_residual-in_err-next.ensures.1 (Batch-fault _ _ _ _ _ _ _ _ _ _ _ _ is few c.images.invariant.so_far c.in_err-next.ensures.stands))
 
 pub images-preserved : goal.images-preserved
 images-preserved g c =
@@ -52,15 +52,15 @@ pub returns-in_err-push_image-in-Some-clause-err : goal.returns-in_err-push_imag
 returns-in_err-push_image-in-Some-clause-err g c =
     let few : length c.images.images.items < c.args.size.most = search (rules, arith) in
     let same : c.push_image.new.images.items ≡ c.images.images.items = search rules in
-    handed_on c.from_residual-in_err-push_image-in-Some.result Memory _ c.from_residual-in_err-push_image-in-Some.ensures.1 (rw same (Batch-memory _ _ _ _ _ _ _ _ _ _ few c.images.invariant.so_far))
+    rw (sym c.in_ok-line.ensures.front) (handed_on c.from_residual-in_err-push_image-in-Some.result Memory _ c.from_residual-in_err-push_image-in-Some.ensures.1 (rw same (Batch-memory _ _ _ _ _ _ _ _ _ _ few c.images.invariant.so_far)))
 
 pub returns-in-None-clause-ok : goal.returns-in-None-clause-ok
 returns-in-None-clause-ok g c =
     let few : c.images.more ≡ false → length c.images.images.items < c.args.size.least = search (rules, arith) in
-    Batch-end _ _ c.args.position (c.args.position + c.len-in-images.result + 1) _ _ _ _ c.images.more _ _ _ c.images.invariant.within few c.images.invariant.shown c.images.invariant.so_far (rw c.in-None.is at c.in_ok-next.ensures.next)
+    rw (sym c.in_ok-line.ensures.front) (Batch-end _ _ c.args.position (c.args.position + c.len-in-images.result + 1) _ _ _ _ c.images.more _ _ _ c.images.invariant.within few c.images.invariant.shown c.images.invariant.so_far (rw c.in-None.is at c.in_ok-next.ensures.next))
 
 pub returns-clause-ok : goal.returns-clause-ok
 returns-clause-ok g c =
     let enough : c.args.size.least ≤ length c.images.images.items = search (rules, arith) in
     let taken = c.images.invariant.taken (omega (arith, enough, c.requires.some)) in
-    Batch-enough _ _ _ _ _ _ _ _ enough c.images.invariant.within taken c.images.invariant.so_far
+    rw (sym c.in_ok-line.ensures.front) (Batch-enough _ _ _ _ _ _ _ _ enough c.images.invariant.within taken c.images.invariant.so_far)
