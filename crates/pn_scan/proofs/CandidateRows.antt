@@ -11,7 +11,7 @@ use Rattle.pn_tablet.specs.Tablets.{lie_in}
 use Rattle.pn_tablet.proofs.LayoutFacts.{is_not, tablet_of_key}
 use Rattle.pn_scan.specs.Queries.{QueryValue}
 use Rattle.pn_scan.specs.Shown.{is_after, is_asked, is_shown, shown_rows}
-use Rattle.pn_scan.specs.Candidates.{Look, cells_in, first_tablet, begins_before, is_candidate, rows_in, looks_below, candidates_of}
+use Rattle.pn_scan.specs.Candidates.{Look, cells_in, first_tablet, begins_before, is_candidate, rows_in, candidates_of}
 use Rattle.pn_scan.specs.Views.{IsFoundIn}
 use Rattle.pn_scan.proofs.InOrder.{AreThere, named_rises, not_below_either, found_inside}
 use Rattle.pn_scan.proofs.Walking.{below_not, not_asked, hidden_first}

@@ -1,5 +1,5 @@
 -- Parts of queries that are borrowed from a value.
-use Rattle.std.specs.Prelude.{◌≡◌, ℕ, Bool, true, ◌&&◌, nat_le, List, map, length, Option, Some, None, is_some, IsTrue, IfSome}
+use Rattle.std.specs.Prelude.{◌≡◌, Bool, true, ◌&&◌, nat_le, List, map, length, Option, Some, None, is_some, IsTrue, IfSome}
 use Rattle.std.specs.List.{flat_map, list_all}
 use Rattle.std.specs.Option.{option_to_list}
 use Rattle.json.specs.Token.{Token}

@@ -18,10 +18,10 @@ mod view;
 
 pub use condition::Condition;
 pub use fault::ScanFault;
-pub use pages::{Page, page};
-pub use part::{PartResult, Row, cell_of, part_of};
+pub use pages::page;
+pub use part::{cell_of, part_of};
 pub use query::{MAX_CONDITIONS, MAX_PAGE_ROWS, Query};
 pub use query_reading::{QueryFault, read_query};
 pub use query_writing::{query_value, write_query};
 pub use reads::{get, read_at_least};
-pub use view::View;
+pub use view::{Page, PartResult, Row, View};

@@ -11,18 +11,11 @@ ghost use Rattle.pn_scan.specs.Pages.{first_page};
 ghost use Rattle.pn_scan.specs.Views.{LooksOnce};
 ghost use Rattle.pn_scan.specs.Visits.{IsScan, rows_after};
 
-use crate::{Query, Row, ScanFault, View};
+use crate::{Page, Query, Row, ScanFault, View};
 use pn_join::NoMemory;
 use pn_record::Key;
 use pn_tablet::Layout;
 use std::alloc::Global;
-
-/// A page of rows in key order, and the query for the next page, if there is more.
-#[derive(Debug, Drop)]
-pub struct Page {
-    pub rows: Vec<Row>,
-    pub next: Option<Query>,
-}
 
 /// The first rows of a query, at most its limit, and the query for the next page exactly where there is more.
 ///

@@ -12,36 +12,11 @@ ghost use Rattle.pn_scan.specs.Shown.{shown_rows};
 ghost use Rattle.pn_scan.specs.Views.{Answers, rows_at, cell_at};
 
 use crate::filter::is_shown;
-use crate::{Query, ScanFault};
+use crate::{PartResult, Query, Row, ScanFault};
 use pn_join::{Dup, NoMemory};
 use pn_record::{Cell, Key, Records};
 use pn_tablet::{Status, TabletState, is_before};
 use std::alloc::Global;
-use std::marker::Model;
-
-/// A record of a page: its key and its whole cell.
-#[derive(Debug, Drop)]
-pub struct Row {
-    pub key: Key,
-    pub cell: Cell,
-}
-
-impl Model for Row {
-    ghost use Rattle.std.specs.Prelude.{ℕ, List};
-    ghost use Rattle.std.specs.Coded.{coded_ℕ, coded_list, coded×};
-    ghost use Rattle.std.specs.FinMap as map;
-    ghost use base.Stored.{coded_unit};
-    ghost use Rattle.pn_record.specs.Prelude.{shown_code, CellValue};
-
-    ghost Value = { List ℕ × CellValue };
-
-    ghost coded = { coded× (coded_list coded_ℕ) (coded× (coded× coded_ℕ coded_ℕ) (map.code shown_code coded_unit)) };
-
-    ghost view = { λ row. (row.key, row.cell) };
-}
-
-/// The first rows that a query shows of a tablet, and whether it shows more; or why none were read.
-pub type PartResult = Result<(Vec<Row>, bool), ScanFault>;
 
 /// The first `room` rows that a query shows of a tablet, and whether it shows more. It copies keys and shares contents.
 ///

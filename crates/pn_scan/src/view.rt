@@ -1,14 +1,46 @@
-//! Views, through which tablets are read.
+//! Views, through which tablets are read, and the rows and pages that they give.
 
 ghost use Rattle.std.specs.Prelude.{◌≡◌, ◌≤◌, Option, length};
 ghost use Rattle.pn_tablet.specs.Prelude.{Bounds, tablet_of, TabletStateValue};
 ghost use Rattle.pn_scan.specs.Candidates.{Look};
 ghost use Rattle.pn_scan.specs.Views.{LooksOnce, rows_at, cell_at};
 
-use crate::{PartResult, Query, ScanFault};
+use crate::{Query, ScanFault};
 use pn_record::{Cell, Key};
 use pn_tablet::Layout;
 use std::alloc::Global;
+use std::marker::Model;
+
+/// A record of a page: its key and its whole cell.
+#[derive(Debug, Drop)]
+pub struct Row {
+    pub key: Key,
+    pub cell: Cell,
+}
+
+impl Model for Row {
+    ghost use Rattle.std.specs.Prelude.{ℕ, List};
+    ghost use Rattle.std.specs.Coded.{coded_ℕ, coded_list, coded×};
+    ghost use Rattle.std.specs.FinMap as map;
+    ghost use base.Stored.{coded_unit};
+    ghost use Rattle.pn_record.specs.Prelude.{shown_code, CellValue};
+
+    ghost Value = { List ℕ × CellValue };
+
+    ghost coded = { coded× (coded_list coded_ℕ) (coded× (coded× coded_ℕ coded_ℕ) (map.code shown_code coded_unit)) };
+
+    ghost view = { λ row. (row.key, row.cell) };
+}
+
+/// A page of rows in key order, and the query for the next page, if there is more.
+#[derive(Debug, Drop)]
+pub struct Page {
+    pub rows: Vec<Row>,
+    pub next: Option<Query>,
+}
+
+/// The first rows that a query shows of a tablet, and whether it shows more; or why none were read.
+pub type PartResult = Result<(Vec<Row>, bool), ScanFault>;
 
 /// A view of the tablets of a layout, each read at one moment of its own. Between two reads tablets and view may
 /// change; the layout stays.

@@ -2,7 +2,7 @@
 use Rattle.std.proofs.Common.{◌+◌, [], take, Err, Vec, Global, refl, sym, ap, ◌∙◌, subst, arith}
 use Rattle.std.proofs.lemmas.Result.{err_from_is_err_and}
 use Rattle.pn_record.specs.CellMap.{Entries}
-use Rattle.pn_scan.specs.declared.part.Row.{Row}
+use Rattle.pn_scan.specs.declared.view.Row.{Row}
 use Rattle.pn_scan.specs.Candidates.{candidates}
 use Rattle.pn_scan.proofs.Scans.{IsWalked, walked_none, scan_fails, scan_full, walked_more, scan_ends}
 use Rattle.pn_scan.proofs.pages.gather_rows.Goals as goal
