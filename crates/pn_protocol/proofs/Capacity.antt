@@ -1,5 +1,5 @@
 -- Lengths of fields, and their bytes.
-use Rattle.std.proofs.Common.{◌≡◌, ◌+◌, ◌≤◌, ℕ, List, [], ◌∷◌, length, sum_by, arith}
+use Rattle.std.proofs.Common.{◌+◌, ◌≤◌, List, [], ◌∷◌, length, sum_by, arith}
 use Rattle.std.proofs.lemmas.List.Sums.{sum_by-cons}
 use Rattle.pn_record.specs.Bodies.{field_size}
 use Rattle.pn_record.specs.Limits.{Field}

@@ -14,7 +14,7 @@ use Rattle.pn_scan.specs.Queries.{QueryValue}
 use Rattle.pn_record.specs.Sets.{Stamp}
 use Rattle.pn_json.proofs.LookUps.{Rise}
 use Rattle.pn_join.specs.Marks.{Positions}
-use Rattle.pn_protocol.specs.Command.Json.{delivery_data, tablet_member, adopt_command, copy_command, deliver_command, get_command, notices_command, read_command, relayout_command, scan_command}
+use Rattle.pn_protocol.specs.Command.Json.{delivery_data, tablet_member, adopt_command, copy_command, deliver_command, notices_command, read_command, scan_command}
 use Rattle.pn_protocol.specs.Command.Grammar.{IsRequired, Says, IsCommand}
 use Rattle.pn_protocol.specs.Command.Deliveries.{deliver_in}
 use Rattle.pn_protocol.specs.Command.Lookups.{get_in, notices_in, read_in, scan_in}

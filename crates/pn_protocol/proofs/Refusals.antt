@@ -1,5 +1,5 @@
 -- A refusal that says why, and where the fault is that memory ran out, that.
-use Rattle.std.proofs.Common.{◌≡◌, ◌≢◌, ℕ}
+use Rattle.std.proofs.Common.{◌≡◌, ◌≢◌}
 use Rattle.serde_json.specs.Data.{Data}
 use Rattle.pn_protocol.specs.declared.refusal.Refusal.TheVariants.{Memory}
 use Rattle.pn_protocol.specs.declared.reply.Reply.{Reply}

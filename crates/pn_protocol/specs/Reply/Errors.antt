@@ -32,11 +32,19 @@ detail_data (Number value) = number (unsigned value)
 detail_data (Stream stream) = string stream
 detail_data (Version version) = version_or_null version
 
+-- the name and the value of a detail
+abbrev pub detail_member : Bor (List ℕ) × Detail → List ℕ × Data
+detail_member detail = (detail.0.now, detail_data detail.1)
+
+-- named values, as members
+abbrev pub members_of : List (List ℕ × Data) → Members
+members_of [] = no_members
+members_of (part ∷ parts) = member part.0 part.1 (members_of parts)
+
 -- named details, as members of the error's object
 abbrev pub details_members : List (Bor (List ℕ) × Detail) → Members
-details_members [] = no_members
-details_members (detail ∷ details) = member detail.0.now (detail_data detail.1) (details_members details)
+details_members details = members_of (map detail_member details)
 
 -- the tokens of such members
 abbrev pub details_tokens : List (Bor (List ℕ) × Detail) → List Token
-details_tokens details = flat_map (λ detail. member_tokens detail.0.now (detail_data detail.1)) details
+details_tokens details = flat_map (λ part. member_tokens part.0 part.1) (map detail_member details)

@@ -1,6 +1,6 @@
 //! Reads a line as a command.
 
-ghost use Rattle.std.specs.Prelude.{◌≡◌, ◌<◌, ℕ, List, false, Ok, length, IfOk, IsOk, IsErrOf, IsTrue};
+ghost use Rattle.std.specs.Prelude.{◌≡◌, ◌<◌, ℕ, List, false, Ok, length, IfOk, IsErrOf, IsTrue};
 ghost use Rattle.serde_json.specs.View.{view, members_view};
 ghost use Rattle.pn_json.specs.Prelude.{Shows, ShowsUnless};
 ghost use Rattle.pn_record.specs.Prelude.{max_line_bytes};

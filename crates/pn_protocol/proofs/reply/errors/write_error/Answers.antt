@@ -1,25 +1,26 @@
 -- The members are between braces.
-use Rattle.std.proofs.Common.{◌≡◌, ℕ, List, [], ◌∷◌, ◌++◌, codes, refl, sym, ap, ◌∙◌, append_assoc}
+use Rattle.std.proofs.Common.{◌≡◌, ℕ, List, [], ◌∷◌, ◌++◌, codes, map, refl, sym, ap, ◌∙◌, append_assoc}
 use Rattle.std.specs.Borrow.{Bor}
+use Rattle.std.specs.List.{flat_map}
 use Rattle.json.specs.Token.{Token, begin_object, end_object}
 use Rattle.json.specs.Tree.{members_tokens}
-use Rattle.serde_json.specs.Data.{string}
+use Rattle.serde_json.specs.Data.{Data, string}
 use Rattle.serde_json.specs.Written.{members_outline}
 use Rattle.pn_json.specs.Tokens.{member_tokens, value_tokens}
 use Rattle.pn_json.proofs.TokenLists.{appends_token, appends_both, appends_as}
 use Rattle.pn_protocol.specs.declared.reply.errors.Detail.{Detail}
-use Rattle.pn_protocol.specs.Reply.Errors.{detail_data, details_members, details_tokens, error_data}
+use Rattle.pn_protocol.specs.Reply.Errors.{detail_member, members_of, details_members, details_tokens, error_data}
 use Rattle.pn_protocol.proofs.reply.errors.write_error.Goals as goal
 
-members_by_members : (details : List (Bor (List ℕ) × Detail)) → members_tokens (members_outline (details_members details)) ≡ details_tokens details ++ end_object ∷ []
+members_by_members : (parts : List (List ℕ × Data)) → members_tokens (members_outline (members_of parts)) ≡ flat_map (λ part. member_tokens part.0 part.1) parts ++ end_object ∷ []
 members_by_members [] = refl
-members_by_members (detail ∷ details) =
-    ap (λ l. member_tokens detail.0.now (detail_data detail.1) ++ l) (members_by_members details)
-    ∙ sym (append_assoc (member_tokens detail.0.now (detail_data detail.1)) (details_tokens details) (end_object ∷ []))
+members_by_members (part ∷ parts) =
+    ap (λ l. member_tokens part.0 part.1 ++ l) (members_by_members parts)
+    ∙ sym (append_assoc (member_tokens part.0 part.1) (flat_map (λ (part : List ℕ × Data). member_tokens part.0 part.1) parts) (end_object ∷ []))
 
 whole : (name : List ℕ) (details : List (Bor (List ℕ) × Detail))
     → begin_object ∷ (member_tokens (codes "error") (string name) ++ (details_tokens details ++ end_object ∷ [])) ≡ value_tokens (error_data name (details_members details))
-whole name details = ap (λ (l : List Token). begin_object ∷ (member_tokens (codes "error") (string name) ++ l)) (sym (members_by_members details))
+whole name details = ap (λ (l : List Token). begin_object ∷ (member_tokens (codes "error") (string name) ++ l)) (sym (members_by_members (map detail_member details)))
 
 pub returns : goal.returns
 returns c =
