@@ -33,7 +33,7 @@ use Rattle.pn_serve.proofs.Turns.{turned_call}
 
 rising_is : (fall : Option ℕ) (bounds layout : Bounds) → rising_layout fall bounds ≡ Ok layout → (layout ≡ bounds) × (fall ≡ None)
 rising_is None bounds layout is = (cc, refl)
-rising_is (Some place) bounds layout is = absurd (cc)
+rising_is (Some index) bounds layout is = absurd (cc)
 
 pub lawful_bounds : (bounds layout : Bounds) → layout_of bounds ≡ Ok layout → (layout ≡ bounds) × IsLayout bounds
 lawful_bounds bounds layout is =

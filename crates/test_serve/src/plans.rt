@@ -3,11 +3,11 @@
 use pn_serve::{Address, Plan, PlanFault, Service, Settings, plan};
 use std::alloc::{AllocError, Global};
 use std::test::Fail;
-use test_kit::spelled;
+use test_kit::spell_out;
 
 // The program's name and the words of a line.
 fn words(alloc: Global, line: &str) -> Result<Vec<String>, Fail> {
-    let line = spelled(alloc, line)?;
+    let line = spell_out(alloc, line)?;
     let mut words = Vec::new(alloc);
     for word in line.as_str().split_whitespace() {
         words.push(String::from_str(alloc, word)?)?;

@@ -8,7 +8,7 @@ use pn_serve::{Counts, RunFault, Settings, run};
 use std::alloc::Global;
 use std::test::Fail;
 use std::thread::Threads;
-use test_kit::{Pieces, Runs, Stop, Stopping, layout};
+use test_kit::{PiecewiseReader, ReplyRuns, Stop, StoppingWriter, layout};
 
 /// The script, and its replies.
 pub(crate) const SCRIPT: &str =
@@ -43,10 +43,14 @@ pub(crate) fn run_over<R: Threads + Sync>(
         "into writers that fail" => stopping_writers(rt, alloc, Stop::Fails),
         "into writers that take nothing" => stopping_writers(rt, alloc, Stop::TakesNothing),
         "into a writer that fails in flush" => {
-            write_into(rt, alloc, Stopping::new(alloc, 1, 1, Stop::FailsInFlush))
+            write_into(
+                rt,
+                alloc,
+                StoppingWriter::new(alloc, 1, 1, Stop::FailsInFlush),
+            )
         }
         "as a talk" => talk(rt, alloc),
-        _ => write_into(rt, alloc, Stopping::never(alloc, 1)),
+        _ => write_into(rt, alloc, StoppingWriter::never(alloc, 1)),
     }
 }
 
@@ -74,9 +78,9 @@ fn read_from<R: Threads + Sync, S: Source + Drop>(
 }
 
 fn in_pieces<R: Threads + Sync>(rt: &R, alloc: Global) -> Result<String, Fail> {
-    let mut runs = Runs::new(alloc);
+    let mut runs = ReplyRuns::new(alloc);
     for size in [1, 2, 7, 1_000] {
-        let pieces = Pieces::new(SCRIPT.as_bytes(), size);
+        let pieces = PiecewiseReader::new(SCRIPT.as_bytes(), size);
         runs.push(read_from(rt, alloc, pieces)?)?;
     }
     runs.text()
@@ -85,9 +89,9 @@ fn in_pieces<R: Threads + Sync>(rt: &R, alloc: Global) -> Result<String, Fail> {
 // Readers that show a byte at a time, of which each fails at another.
 fn failing_readers<R: Threads + Sync>(rt: &R, alloc: Global) -> Result<String, Fail> {
     let script = SCRIPT.as_bytes();
-    let mut runs = Runs::new(alloc);
+    let mut runs = ReplyRuns::new(alloc);
     for look in 1..=script.len() {
-        runs.push(read_from(rt, alloc, Pieces::failing(script, 1, look))?)?;
+        runs.push(read_from(rt, alloc, PiecewiseReader::failing(script, 1, look))?)?;
     }
     runs.text()
 }
@@ -95,7 +99,7 @@ fn failing_readers<R: Threads + Sync>(rt: &R, alloc: Global) -> Result<String, F
 // Sources that show a line at a time, of which each fails at another.
 fn failing_sources<R: Threads + Sync>(rt: &R, alloc: Global) -> Result<String, Fail> {
     let script = SCRIPT.as_bytes();
-    let mut runs = Runs::new(alloc);
+    let mut runs = ReplyRuns::new(alloc);
     for look in 1..6 {
         runs.push(read_from(rt, alloc, FailingSource::new(script, look))?)?;
     }
@@ -105,7 +109,7 @@ fn failing_sources<R: Threads + Sync>(rt: &R, alloc: Global) -> Result<String, F
 fn write_into<R: Threads + Sync>(
     rt: &R,
     alloc: Global,
-    mut output: Stopping,
+    mut output: StoppingWriter,
 ) -> Result<String, Fail> {
     let mut input = InMemory::new(SCRIPT.as_bytes());
     let ended = run(rt, alloc, &mut input, &mut output, settings(alloc)?);
@@ -116,7 +120,7 @@ fn write_into<R: Threads + Sync>(
 fn stopping_writers<R: Threads + Sync>(rt: &R, alloc: Global, stop: Stop) -> Result<String, Fail> {
     let mut stopped = 0u64;
     for count in 0..REPLIES.len() {
-        let output = Stopping::new(alloc, 1, count.saturating_add(1), stop);
+        let output = StoppingWriter::new(alloc, 1, count.saturating_add(1), stop);
         let text = write_into(rt, alloc, output)?;
         let due = format!(in alloc; "{}, {count} bytes: true", RunFault::Write)?;
         if text.as_str() == due.as_str() {
@@ -128,12 +132,12 @@ fn stopping_writers<R: Threads + Sync>(rt: &R, alloc: Global, stop: Stop) -> Res
 
 /// How a write of three bytes ends, by a writer that fails at the third byte, and by one that takes none.
 pub(crate) fn write_three_bytes(alloc: Global) -> Result<String, Fail> {
-    let fails = write_text(alloc, Stopping::new(alloc, 1, 3, Stop::Fails))?;
-    let stops = write_text(alloc, Stopping::never(alloc, 0))?;
+    let fails = write_text(alloc, StoppingWriter::new(alloc, 1, 3, Stop::Fails))?;
+    let stops = write_text(alloc, StoppingWriter::never(alloc, 0))?;
     Ok(format!(in alloc; "{fails}; {stops}")?)
 }
 
-fn write_text(alloc: Global, mut writer: Stopping) -> Result<String, Fail> {
+fn write_text(alloc: Global, mut writer: StoppingWriter) -> Result<String, Fail> {
     match write_all_of(&mut writer, b"abc") {
         Ok(()) => Ok(String::from_str(alloc, "whole")?),
         Err(fault) => Ok(format!(in alloc; "{fault} after {}", writer.taken.len())?),
@@ -148,7 +152,7 @@ pub(crate) fn blocks<R: Threads + Sync>(
 ) -> Result<String, Fail> {
     let script = vec![in alloc; b'\n'; lines.parse::<usize>()?]?;
     let mut input = InMemory::new(&script);
-    let mut output = Stopping::never(alloc, 1_000_000);
+    let mut output = StoppingWriter::never(alloc, 1_000_000);
     run(rt, alloc, &mut input, &mut output, settings(alloc)?)?;
     Ok(format!(in alloc; "{} bytes in {} writes", output.taken.len(), output.writes)?)
 }

@@ -15,8 +15,8 @@ use std::str;
 use std::sync::Wait;
 use std::test::Fail;
 use std::thread::Threads;
-use test_kit::{Pieces, Runs, Stop, Stopping, layout};
-use test_kit_live::{closed, end, hand_back, open_one, opened, take_out};
+use test_kit::{PiecewiseReader, ReplyRuns, Stop, StoppingWriter, layout};
+use test_kit_live::{close, end, hand_back, open, open_one, take_out};
 
 /// An image, the lines of a session over it, and their replies.
 const IMAGE: &str = r#"{"fields":{"n":-7,"v":"x"},"key":"k","master":"w","version":[1,5]}"#;
@@ -85,10 +85,10 @@ pub(crate) fn answer_session<R: Threads + Wait + Sync>(
     let lines = bars.replace(alloc, '|', "\n")?;
     let mut written = Vec::new(alloc);
     let layout = layout(alloc, "").ok_or(NoMemory)?;
-    let (mut live, mut readers) = opened(rt, alloc, layout, 1)?;
+    let (mut live, mut readers) = open(rt, alloc, layout, 1)?;
     let changed = count_changed(rt, alloc, &mut live, lines.as_str());
     let counts = replies(alloc, &live, &mut readers, lines.as_str(), &mut written);
-    closed(rt, live, readers)?;
+    close(rt, live, readers)?;
     let (changed, counts) = (changed.ok_or(NoMemory)?, counts.ok_or(NoMemory)?);
     let replies = str::from_utf8(&written)?.replace(alloc, '\n', "|")?;
     Ok(format!(in alloc;
@@ -119,9 +119,9 @@ pub(crate) fn fail_sessions<R: Threads + Wait + Sync>(
 
 // Readers that show a byte at a time.
 fn over_failing_readers(alloc: Global, reader: &mut LiveReader) -> Result<String, Fail> {
-    let mut ends = Runs::new(alloc);
+    let mut ends = ReplyRuns::new(alloc);
     for look in 1..=LINES.len() {
-        let mut input = Pieces::failing(LINES.as_bytes(), 1, look);
+        let mut input = PiecewiseReader::failing(LINES.as_bytes(), 1, look);
         let mut written = Vec::new(alloc);
         let ended = session(alloc, reader, &mut input, &mut written);
         let is_due = matches!(ended, Err(RunFault::Read))
@@ -152,7 +152,7 @@ fn into_failing_writers(alloc: Global, reader: &mut LiveReader) -> Result<String
     let mut stopped = 0u64;
     for count in 0..REPLIES.len() {
         let mut input = InMemory::new(LINES.as_bytes());
-        let mut output = Stopping::new(alloc, 1, count.saturating_add(1), Stop::Fails);
+        let mut output = StoppingWriter::new(alloc, 1, count.saturating_add(1), Stop::Fails);
         let ended = session(alloc, reader, &mut input, &mut output);
         if matches!(ended, Err(RunFault::Write))
             && output.taken.as_slice() == &REPLIES.as_bytes()[..count]

@@ -67,7 +67,7 @@ pub(crate) fn start_sessions<R: Threads, L: Acceptor + Drop + Send + 'static>(
     ensures running { All (λ session. tablets_of session.promise.0.value ≡ tablets_in live.now) result.running.items }
     ensures readers { AllRead (tablets_in live.now) readers.new.items }
     ensures all { IsFalse result.is_refused → (vec_len result.running ≡ vec_len readers.old) × (readers.new.items ≡ []) }
-    ensures room { vec_len result.running + vec_len readers.new ≤ vec_capacity readers.new }
+    ensures capacity { vec_len result.running + vec_len readers.new ≤ vec_capacity readers.new }
 {
     let Ok(mut running) = Vec::with_capacity(alloc, readers.len()) else {
         return StartedSessions {
@@ -141,7 +141,7 @@ pub fn join_sessions<R: Threads>(
 )
     requires running { All (λ session. tablets_of session.promise.0.value ≡ tablets_in live.now) running.items }
     requires readers { AllRead (tablets_in live.now) readers.old.items }
-    requires room { vec_len running + vec_len readers.old ≤ vec_capacity readers.old }
+    requires capacity { vec_len running + vec_len readers.old ≤ vec_capacity readers.old }
     ensures readers { AllRead (tablets_in live.now) readers.new.items }
     ensures all { vec_len readers.new ≡ vec_len readers.old + vec_len running }
 {

@@ -83,7 +83,7 @@ where
         return Err(ServeFault::Start);
     };
     for stream in streams {
-        if start_stream(rt, alloc, &mut started, stream).is_err() {
+        if let Err(_) = start_stream(rt, alloc, &mut started, stream) {
             started.mailboxes.close(rt);
             return Err(ServeFault::Start);
         }

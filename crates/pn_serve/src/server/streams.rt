@@ -82,7 +82,7 @@ where
         return Err(ServeFault::Start);
     };
     for stream in streams {
-        if start_thread(rt, alloc, &mut mailboxes, stream).is_err() {
+        if let Err(_) = start_thread(rt, alloc, &mut mailboxes, stream) {
             mailboxes.close(rt);
             return Err(ServeFault::Start);
         }

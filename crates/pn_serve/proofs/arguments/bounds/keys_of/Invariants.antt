@@ -11,5 +11,5 @@ abbrev pub invariant-loop-item : goal.invariant-loop-item
 invariant-loop-item l = record {
   so_far : each_in key_in (items_view l.items) ≡ onto l.keys.items (each_in key_in (items_view (drop l.item-index l.items)));
   count : vec_len l.keys ≡ l.item-index;
-  room : vec_capacity l.keys ≡ length l.items;
+  capacity : vec_capacity l.keys ≡ length l.items;
 }

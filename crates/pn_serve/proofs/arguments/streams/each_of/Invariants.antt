@@ -10,5 +10,5 @@ abbrev pub invariant-loop-word : goal.invariant-loop-word
 invariant-loop-word l = record {
   so_far : each_stream (texts l.words) ≡ onto (map stream_value l.streams.items) (each_stream (texts (drop l.word-index l.words)));
   count : vec_len l.streams ≡ l.word-index;
-  room : vec_capacity l.streams ≡ length l.words;
+  capacity : vec_capacity l.streams ≡ length l.words;
 }

@@ -1,4 +1,4 @@
--- Each reader came back or is still with its session, and there is room for all of them.
+-- Each reader came back or is still with its session, and there is capacity for all of them.
 use Rattle.std.proofs.Common.{◌≡◌, ◌+◌, ◌≤◌, vec_len, vec_capacity, All}
 use Rattle.pn_live.specs.LiveRegions.{tablets_in}
 use Rattle.pn_live.specs.Readers.{tablets_of}
@@ -10,7 +10,7 @@ invariant-loop-session g l = record {
   running : All (λ session. tablets_of session.promise.0.value ≡ tablets_in l.live) l.running.items;
   readers : AllRead (tablets_in l.live) l.readers.items;
   all : vec_len l.running + vec_len l.readers ≡ vec_len l.initial.running + vec_len l.initial.readers;
-  room : vec_len l.running + vec_len l.readers ≤ vec_capacity l.readers;
+  capacity : vec_len l.running + vec_len l.readers ≤ vec_capacity l.readers;
 }
 
 abbrev pub decreases-loop-session : goal.decreases-loop-session

@@ -1,4 +1,4 @@
--- Each reader waits or was given to a session, and there is room for all of them.
+-- Each reader waits or was given to a session, and there is capacity for all of them.
 use Rattle.std.proofs.Common.{◌≡◌, ◌+◌, ◌≤◌, vec_len, vec_capacity, All}
 use Rattle.pn_live.specs.LiveRegions.{tablets_in}
 use Rattle.pn_live.specs.Readers.{tablets_of}
@@ -10,7 +10,7 @@ invariant-loop-reader g l = record {
   running : All (λ session. tablets_of session.promise.0.value ≡ tablets_in l.live) l.running.items;
   readers : AllRead (tablets_in l.live) l.readers.items;
   all : vec_len l.running + vec_len l.readers ≡ vec_len l.initial.readers;
-  room : vec_capacity l.running ≡ vec_len l.initial.readers;
+  capacity : vec_capacity l.running ≡ vec_len l.initial.readers;
   back : vec_len l.initial.readers ≤ vec_capacity l.readers;
 }
 
