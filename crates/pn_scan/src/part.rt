@@ -5,11 +5,11 @@ ghost use Rattle.std.specs.FinMap.{is_sorted};
 ghost use Rattle.std.specs.Option.{option_copied, option_map_or};
 ghost use Rattle.std.specs.List.{AllByRecursion};
 ghost use Rattle.std.specs.Ordering.{is_lt};
+ghost use Rattle.pn_scan.specs.Pages.{refusal, unless};
+ghost use Rattle.pn_scan.specs.Views.{Answers, rows_at, cell_at};
+ghost use Rattle.pn_scan.specs.Shown.{shown_rows};
 ghost use Rattle.pn_record.specs.Prelude.{bytes_cmp};
 ghost use Rattle.pn_tablet.specs.Prelude.{is_from};
-ghost use Rattle.pn_scan.specs.Pages.{refusal, unless};
-ghost use Rattle.pn_scan.specs.Shown.{shown_rows};
-ghost use Rattle.pn_scan.specs.Views.{Answers, rows_at, cell_at};
 
 use crate::filter::is_shown;
 use crate::{PartResult, Query, Row, ScanFault};
