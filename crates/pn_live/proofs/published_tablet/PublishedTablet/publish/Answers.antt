@@ -1,5 +1,5 @@
 -- One operation more is published, and nothing else changes.
-use Rattle.std.proofs.Common.{◌≡◌, ◌++◌, ◌∷◌, [], List, sym, ap, ◌∙◌}
+use Rattle.std.proofs.Common.{◌≡◌, ◌++◌, ◌∷◌, [], sym, ap, ◌∙◌}
 use Rattle.logbook.specs.Pages.{Book}
 use Rattle.pn_tablet.specs.Steps.{after_step}
 use Rattle.pn_tablet.specs.Tablets.{TabletStateValue}

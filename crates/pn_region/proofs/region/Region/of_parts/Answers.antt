@@ -7,8 +7,8 @@ use Rattle.pn_region.proofs.region.Region.of_parts.Goals as goal
 pub invariant_of-result : goal.invariant_of-result
 invariant_of-result c = record {
   is_region = record {
-    lawful = c.are_sound.ensures.lawful;
-    tablets = parts_are_tablets c.args.marks (ranges c.args.layout) c.args.tablets.items c.requires.tablets (subst (λ (ts : List TabletStateValue). AllByRecursion IsSound ts) c.deref.ensures.value c.are_sound.ensures.sound);
+    lawful = c.recall_all.ensures.lawful;
+    tablets = parts_are_tablets c.args.marks (ranges c.args.layout) c.args.tablets.items c.requires.tablets (subst (λ (ts : List TabletStateValue). AllByRecursion IsSound ts) c.deref.ensures.value c.recall_all.ensures.sound);
   };
   are_marks = record { few = c.requires.few; positions = c.requires.positions };
 }

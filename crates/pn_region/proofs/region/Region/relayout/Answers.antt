@@ -9,8 +9,8 @@ use Rattle.pn_region.proofs.Pieces.{cells_of}
 use Rattle.pn_region.proofs.Relaying.{relaid_is}
 use Rattle.pn_region.proofs.region.Region.relayout.Goals as goal
 
-pub made_tablets-requires : goal.made_tablets-requires
-made_tablets-requires c =
+pub build_tablets-requires : goal.build_tablets-requires
+build_tablets-requires c =
     let inside = c.self.inside in
     let old : RegionValue = record { layout = inside.layout; tablets = inside.tablets.items; marks = inside.marks } in
     subst (λ (ts : List TabletStateValue). IsTrue (is_sorted bytes_cmp (cells_of ts))) (sym c.deref-2.ensures.value) (all_rising old c.self.invariant.is_region)
