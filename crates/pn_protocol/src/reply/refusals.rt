@@ -106,6 +106,16 @@ fn refuse_adoption(alloc: Global, fault: AdoptFault) -> Reply
     }
 }
 
+fn refuse_relayout(alloc: Global, fault: RelayoutFault) -> Reply
+    ensures says { Says (relayout_fault_data fault) result }
+    ensures memory { fault ≡ no_memory_to_relay → result ≡ Refused no_memory }
+{
+    match fault {
+        RelayoutFault::StillRecovering(tablet) => refuse_tablet(alloc, "still-recovering", tablet),
+        RelayoutFault::Memory => Reply::Refused(Refusal::Memory),
+    }
+}
+
 fn refuse_round(alloc: Global, fault: RoundFault) -> Reply
     ensures says { Says (round_fault_data fault) result }
     ensures memory { fault ≡ no_memory_for_a_round → result ≡ Refused no_memory }
@@ -118,16 +128,6 @@ fn refuse_round(alloc: Global, fault: RoundFault) -> Reply
         } => refuse_short(alloc, "gap", ("got", got), stream, wanted),
         RoundFault::TooManyStreams => refuse_as(alloc, "too-many-streams", &[]),
         RoundFault::Memory => Reply::Refused(Refusal::Memory),
-    }
-}
-
-fn refuse_relayout(alloc: Global, fault: RelayoutFault) -> Reply
-    ensures says { Says (relayout_fault_data fault) result }
-    ensures memory { fault ≡ no_memory_to_relay → result ≡ Refused no_memory }
-{
-    match fault {
-        RelayoutFault::StillRecovering(tablet) => refuse_tablet(alloc, "still-recovering", tablet),
-        RelayoutFault::Memory => Reply::Refused(Refusal::Memory),
     }
 }
 
