@@ -10,8 +10,8 @@ use Rattle.pn_serve.specs.Lines.Served.{AllAnswer}
 use Rattle.pn_serve.specs.Lines.States.{Start}
 use Rattle.pn_serve.specs.Lines.Stopped.{Broken, Cut, Exceeded}
 use Rattle.pn_serve.proofs.Serving.{OnTold}
-use Rattle.pn_stay.specs.Others.{After, MakesAfter, EndsAfter}
-use Rattle.pn_stay.specs.Standing.{HasEnded}
+use Rattle.pn_stay.specs.Interleaving.{After, MakesAfter, EndsAfter}
+use Rattle.pn_stay.specs.Sessions.{HasEnded}
 
 module _ {V : Type 0} (makes ends : V → List ℕ → V → Reply → Type 0) where
   -- nothing came between

@@ -3,12 +3,14 @@ use Rattle.std.proofs.Common.{◌≡◌, ◌≢◌, ◌<◌, ℕ, Bool, false, O
 use Rattle.std.specs.Prelude.{Result, Ok, Err}
 use Rattle.std.specs.Io.KnownBytes.{Appends, Consumes, Keeps, IsAtEnd, prepend_known}
 use Rattle.std.proofs.KnownBytes.{Keeps-refl, Appends-trans}
+use Rattle.pn_line.specs.declared.line_buffer.TheConstants.{ENDLESS}
 use Rattle.pn_line.specs.Line.{LineBufferValue, so_far}
 use Rattle.pn_line.specs.Reads.{Takes}
 use Rattle.pn_line.specs.Sent.{Sends, AppendsPrefix}
 use Rattle.pn_line.proofs.SentLaws.{AppendsPrefix-after}
 use Rattle.pn_protocol.specs.declared.reply.Reply.{Reply}
 use Rattle.pn_serve.specs.declared.script.Counts.{Counts}
+use Rattle.pn_serve.specs.declared.script.TheConstants.{MAX_LINES}
 use Rattle.pn_serve.specs.declared.script.RunFault.{RunFault}
 use Rattle.pn_serve.specs.declared.script.RunFault.TheVariants.{Read, Write, TooManyTurns, Memory}
 use Rattle.pn_serve.specs.Lines.Answered.{AnsweredInPart, Closed}
@@ -16,11 +18,11 @@ use Rattle.pn_serve.specs.Lines.Served.{Between}
 use Rattle.pn_serve.specs.Lines.States.{LineLoopValue, Start}
 use Rattle.pn_serve.proofs.Serving.{Ends_closed, Ends_within}
 use Rattle.pn_serve.proofs.Stopping.{Cut_between, Cut_part, Cut_line, Cut_last, Cut_after, Cut_finish, Cut_finished, Broken_in, Exceeded_lines, Exceeded_bytes}
-use Rattle.pn_stay.specs.Kept.{KeptValue, loop_of}
-use Rattle.pn_stay.specs.Others.{Moves, MakesAfter, EndsAfter}
-use Rattle.pn_stay.specs.Standing.{Stands, HasEnded, EndsOnceSent}
+use Rattle.pn_stay.specs.Connections.{ConnectionValue, loop_of}
+use Rattle.pn_stay.specs.Interleaving.{Moves, MakesAfter, EndsAfter}
+use Rattle.pn_stay.specs.Sessions.{FollowsScript, HasEnded, EndsOnceSent}
 use Rattle.pn_stay.proofs.Ahead.{Takes-ahead, Takes-part, Keeps-ahead, Keeps-nothing}
-use Rattle.pn_stay.proofs.Stands.{at_told, at_untold, Moves-none, Moves-trans, Between-kept}
+use Rattle.pn_stay.proofs.Following.{at_told, at_untold, Moves-none, Moves-trans, Between-kept}
 
 -- nothing is left where nothing is held and the source is at its end
 end_ahead : (left : Option (List ℕ)) (held : List ℕ) (leaves : Option (List ℕ)) → held ≡ [] → IsAtEnd leaves → OnSome left (IsAtEnd (prepend_known held leaves))
@@ -81,7 +83,7 @@ module _ {V : Type 0} (makes ends : V → List ℕ → V → Reply → Type 0) (
       told P holds = at_told start.left script P is holds
 
       -- the writer failed as what waits was written
-      pub HasEnded-cut : (left before after : Option (List ℕ)) (machine : V) (old : KeptValue) → Stands makes ends shared start script left before machine old → AppendsPrefix before after old.waits
+      pub HasEnded-cut : (left before after : Option (List ℕ)) (machine : V) (old : ConnectionValue) → FollowsScript makes ends shared start script left before machine old → AppendsPrefix before after old.waits
           → HasEnded makes ends shared start (prepend_known old.held left) after machine (Err Write)
       HasEnded-cut left before after machine old stands sent =
           let takes = Takes-part stands.part old.held left left old.line stands.unbroken stands.line_is (Keeps-refl left) in record {
@@ -91,7 +93,7 @@ module _ {V : Type 0} (makes ends : V → List ℕ → V → Reply → Type 0) (
           }
 
       -- the reader failed
-      pub EndsOnceSent-read : (left leaves written : Option (List ℕ)) (machine : V) (old : KeptValue) → Stands makes ends shared start script left written machine old → Keeps left leaves
+      pub EndsOnceSent-read : (left leaves written : Option (List ℕ)) (machine : V) (old : ConnectionValue) → FollowsScript makes ends shared start script left written machine old → Keeps left leaves
           → EndsOnceSent makes ends shared start (prepend_known old.held leaves) written old.waits machine (Err Read)
       EndsOnceSent-read left leaves written machine old stands kept =
           let takes = Takes-part stands.part old.held left leaves old.line stands.unbroken stands.line_is kept in record {
@@ -108,8 +110,8 @@ module _ {V : Type 0} (makes ends : V → List ℕ → V → Reply → Type 0) (
           }
 
       -- a line has no end
-      pub EndsOnceSent-endless : (left written : Option (List ℕ)) (machine : V) (old : KeptValue) (line : LineBufferValue) (held : List ℕ) → Stands makes ends shared start script left written machine old
-          → Takes old.line line (Some old.held) (Some held) [] → line.count ≡ 1000000000 → old.counts.lines < 1000000
+      pub EndsOnceSent-endless : (left written : Option (List ℕ)) (machine : V) (old : ConnectionValue) (line : LineBufferValue) (held : List ℕ) → FollowsScript makes ends shared start script left written machine old
+          → Takes old.line line (Some old.held) (Some held) [] → line.count ≡ ENDLESS → old.counts.lines < MAX_LINES
           → EndsOnceSent makes ends shared start (prepend_known held left) written old.waits machine (Err TooManyTurns)
       EndsOnceSent-endless left written machine old line held stands taken endless few =
           let takes = Takes-ahead stands.part old.held left line held [] stands.unbroken (rw stands.line_is at taken) in record {
@@ -126,7 +128,7 @@ module _ {V : Type 0} (makes ends : V → List ℕ → V → Reply → Type 0) (
           }
 
       -- input is held after the last line that may be answered
-      pub EndsOnceSent-many : (left written : Option (List ℕ)) (machine : V) (old : KeptValue) → Stands makes ends shared start script left written machine old → old.counts.lines ≡ 1000000 → old.held ≢ []
+      pub EndsOnceSent-many : (left written : Option (List ℕ)) (machine : V) (old : ConnectionValue) → FollowsScript makes ends shared start script left written machine old → old.counts.lines ≡ MAX_LINES → old.held ≢ []
           → EndsOnceSent makes ends shared start (prepend_known old.held left) written old.waits machine (Err TooManyTurns)
       EndsOnceSent-many left written machine old stands many some =
           let none : stands.part ≡ [] = ⊎_elim (λ few. absurd (omega (arith, few, many))) (λ none. none) stands.bound in
@@ -146,7 +148,7 @@ module _ {V : Type 0} (makes ends : V → List ℕ → V → Reply → Type 0) (
           }
 
       -- a reply found no memory
-      pub HasEnded-line : (left written : Option (List ℕ)) (was now : V) (old : KeptValue) (line : LineBufferValue) (held : List ℕ) → Stands makes ends shared start script left written was old
+      pub HasEnded-line : (left written : Option (List ℕ)) (was now : V) (old : ConnectionValue) (line : LineBufferValue) (held : List ℕ) → FollowsScript makes ends shared start script left written was old
           → Takes old.line line (Some old.held) (Some held) (10 ∷ []) → AnsweredInPart makes was now (record { line = line; waits = old.waits; more = false; counts = old.counts }) written written
           → HasEnded makes ends shared start (prepend_known held left) written now (Err Write)
       HasEnded-line left written was now old line held stands taken answered =
@@ -158,7 +160,7 @@ module _ {V : Type 0} (makes ends : V → List ℕ → V → Reply → Type 0) (
           }
 
       -- the input is at its end after a part of a line
-      module _ (left leaves written : Option (List ℕ)) (was now : V) (old : KeptValue) (stands : Stands makes ends shared start script left written was old) (empty : old.held ≡ []) (came : Consumes left leaves [])
+      module _ (left leaves written : Option (List ℕ)) (was now : V) (old : ConnectionValue) (stands : FollowsScript makes ends shared start script left written was old) (empty : old.held ≡ []) (came : Consumes left leaves [])
           (end : IsAtEnd leaves) where
         kept : Keeps left leaves
         kept = Keeps-nothing left leaves came
@@ -179,7 +181,7 @@ module _ {V : Type 0} (makes ends : V → List ℕ → V → Reply → Type 0) (
         }
 
         -- and there may be more lines
-        module _ (below : old.line.count < 1000000000) (few : old.counts.lines < 1000000) where
+        module _ (below : old.line.count < ENDLESS) (few : old.counts.lines < MAX_LINES) where
           pub EndsOnceSent-closed : (new : LineLoopValue) (counts : Counts) → Closed ends was now (record { line = old.line; waits = old.waits; more = false; counts = old.counts }) new written written counts
               → EndsOnceSent makes ends shared start (prepend_known old.held leaves) written new.waits now (Ok counts)
           EndsOnceSent-closed new counts closed = record {
@@ -207,7 +209,7 @@ module _ {V : Type 0} (makes ends : V → List ℕ → V → Reply → Type 0) (
           }
 
         -- and no more may be answered
-        module _ (many : old.counts.lines ≡ 1000000) where
+        module _ (many : old.counts.lines ≡ MAX_LINES) where
           none : stands.part ≡ []
           none = ⊎_elim (λ few. absurd (omega (arith, few, many))) (λ none. none) stands.bound
 

@@ -1,8 +1,9 @@
 pub mod Ahead
 pub mod Alone
+pub mod Buffers
 pub mod Crossing
 pub mod Ending
+pub mod Following
 pub mod Passing
-pub mod Rooms
-pub mod Stands
+pub mod Quarters
 pub mod Stepping

@@ -4,18 +4,18 @@ use Rattle.std.proofs.Math.Nat.{eq-or-lt_of_le}
 use Rattle.std.proofs.Math.Seq.{take-append_seam}
 use Rattle.std.proofs.lemmas.List.{length-take, take_all, length-replicate}
 use Rattle.std.specs.Prelude.{Option, Result, Ok, Err, IfOk, OnErr}
-use Rattle.pn_line.specs.Line.{LineBufferValue, so_far, longer, max_kept}
+use Rattle.pn_line.specs.Line.{LineBufferValue, so_far, with_bytes, max_kept}
 use Rattle.pn_line.specs.Reads.{Takes}
 use Rattle.pn_serve.specs.declared.script.Counts.{Counts}
 use Rattle.pn_serve.specs.Lines.Answered.{Answered, AnsweredInPart, Closed}
 use Rattle.pn_serve.specs.Lines.States.{LineLoopValue}
 use Rattle.pn_protocol.specs.declared.reply.Reply.{Reply}
-use Rattle.pn_stay.specs.Kept.{IsLine}
-use Rattle.pn_stay.specs.Others.{Answers, Passes}
+use Rattle.pn_stay.specs.Connections.{IsLine}
+use Rattle.pn_stay.specs.Interleaving.{Answers, Passes}
 
 -- a line that grows is one still
-pub IsLine-longer : (line : LineBufferValue) (bs : List ℕ) → IsLine line → IsLine (longer line bs)
-IsLine-longer line bs is =
+pub IsLine-with_bytes : (line : LineBufferValue) (bs : List ℕ) → IsLine line → IsLine (with_bytes line bs)
+IsLine-with_bytes line bs is =
     let grown = length-append line.bytes (take (max_kept - length line.bytes) bs) in
     let taken = length-take (max_kept - length line.bytes) bs in
     omega (arith, is, grown, taken)
@@ -64,7 +64,7 @@ module _ {V : Type 0} (makes ends : V → List ℕ → V → Reply → Type 0) w
 
 -- a line that was read on
 pub IsLine-taken : (old new : LineBufferValue) (left leaves : Option (List ℕ)) (after : List ℕ) → Takes old new left leaves after → IsLine old → IsLine new
-IsLine-taken old new left leaves after takes is = subst IsLine (sym takes.line) (IsLine-longer old takes.taken is)
+IsLine-taken old new left leaves after takes is = subst IsLine (sym takes.line) (IsLine-with_bytes old takes.taken is)
 
 -- a line with no byte
 pub IsLine-none : IsLine (so_far [])

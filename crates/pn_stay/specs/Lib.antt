@@ -1,10 +1,10 @@
 -- Connections that are answered in turns.
-pub mod Coding
-pub mod Faults
-pub mod Kept
-pub mod Others
-pub mod Quiet
-pub mod Standing
-pub mod Staying
-pub mod Told
+pub mod Connections
+pub mod IdleTimeouts
+pub mod Interleaving
+pub mod Loops
+pub mod Scripted
+pub mod Servers
+pub mod Sessions
+pub mod Sockets
 pub mod Turns

@@ -1,14 +1,15 @@
 //! The event loop of a session thread: its connections have their turns one after another.
 
-ghost use Rattle.std.specs.Prelude.{◌≡◌};
+ghost use Rattle.std.specs.Prelude.{◌≡◌, ◌≢◌, ◌+◌, ◌≤◌, ◌↔◌, ℕ, None, OnErr, OnOk, IsTrue, vec_len};
 ghost use Rattle.pn_serve.specs.Session.Knowing.{KnowsNoLess};
+ghost use Rattle.pn_stay.specs.Loops.{idle_at, quarter_later, EndsQuarter, IsIdleFor};
+ghost use Rattle.slab.specs.Slab.{slab_len, Updates};
 
-use crate::connection::Pause;
-use crate::desk::Desk;
-use crate::guest::Guest;
-use crate::inbox::Inbox;
+use crate::connection::Connection;
+use crate::connection_state::{Pause, ThreadBuffers};
+use crate::counters::Counters;
 use crate::socket::Socket;
-use crate::watch::Watch;
+use crate::socket_mailbox::SocketMailbox;
 use mio::{Events, Poll, Token};
 use pn_serve::LineHandler;
 use slab::Slab;
@@ -23,8 +24,8 @@ const EVENTS: usize = 1_024;
 /// How many quarters a second has.
 const QUARTERS: u32 = 4;
 
-/// The token of the inbox.
-pub(crate) const INBOX: Token = Token(usize::MAX);
+/// The token of the mailbox.
+pub(crate) const MAILBOX: Token = Token(usize::MAX);
 
 /// The connections of a session thread.
 #[derive(Drop)]
@@ -32,14 +33,14 @@ pub(crate) struct EventLoop {
     alloc: Global,
     poll: Poll,
     events: Events,
-    desk: Desk,
-    guests: Slab<Guest>,
-    // How many quarters of a second a client may be idle.
+    buffers: ThreadBuffers,
+    connections: Slab<Connection>,
+    // For how many quarters of a second a client may be idle.
     idle: Option<u32>,
-    watch: Arc<Watch>,
-    // The keys of clients that are to have a turn, each once. A key may have passed to another client since.
+    counters: Arc<Counters>,
+    // The keys of connections that are to have a turn, each once. A key may have passed to another connection since.
     ready: Vec<usize>,
-    // The room for those of the next round.
+    // An empty list, which has the memory for the keys of the next round.
     spare: Vec<usize>,
 }
 
@@ -49,33 +50,33 @@ impl EventLoop {
         alloc: Global,
         poll: Poll,
         idle: Option<u32>,
-        watch: Arc<Watch>,
+        counters: Arc<Counters>,
     ) -> io::Result<EventLoop> {
-        let Ok(desk) = Desk::new(alloc) else {
+        let Ok(buffers) = ThreadBuffers::new(alloc) else {
             return Err(io::Error::from(io::ErrorKind::OutOfMemory));
         };
         Ok(EventLoop {
             alloc,
             poll,
             events: Events::with_capacity(alloc, EVENTS)?,
-            desk,
-            guests: Slab::new(alloc),
+            buffers,
+            connections: Slab::new(alloc),
             idle: match idle {
                 Some(seconds) => Some(seconds.saturating_mul(QUARTERS)),
                 None => None,
             },
-            watch,
+            counters,
             ready: Vec::new(alloc),
             spare: Vec::new(alloc),
         })
     }
 
-    /// Answers connections until the inbox is closed and the last has ended. An error is one of the system's wait.
+    /// Answers connections until the mailbox is closed and the last has ended. An error is one of the system's wait.
     #[tactic(auto, using(pn_serve::proofs::Knowing::knows_on))]
     pub(crate) fn run<R: Wait, M: LineHandler>(
         &mut self,
         rt: &R,
-        inbox: &Inbox,
+        mailbox: &SocketMailbox,
         machine: &mut M,
     ) -> io::Result<()>
         requires ready { M.ready }
@@ -83,22 +84,22 @@ impl EventLoop {
     {
         'rounds: for _ in rt.forever() {
             if self.wait()? {
-                self.take_guests(rt, inbox);
-                self.end_idle(rt, inbox);
+                self.add_accepted(rt, mailbox);
+                self.end_idle(rt, mailbox);
             }
-            self.take_turns(rt, inbox, machine);
-            if self.is_over(rt, inbox) {
+            self.take_turns(rt, mailbox, machine);
+            if self.is_over(rt, mailbox) {
                 return Ok(());
             }
         }
         unreachable!()
     }
 
-    fn is_over<R: Wait>(&self, rt: &R, inbox: &Inbox) -> bool {
-        self.guests.is_empty() && inbox.is_closed(rt)
+    fn is_over<R: Wait>(&self, rt: &R, mailbox: &SocketMailbox) -> bool {
+        self.connections.is_empty() && mailbox.is_over(rt)
     }
 
-    // Waits for events, unless clients are ready. Whether the inbox was filled.
+    // Waits for events, unless connections are ready. Whether the mailbox has something.
     fn wait(&mut self) -> io::Result<bool> {
         let timeout = if self.ready.is_empty() {
             None
@@ -106,114 +107,160 @@ impl EventLoop {
             Some(Duration::ZERO)
         };
         self.poll.poll(&mut self.events, timeout)?;
-        let mut is_filled = false;
+        let mut has_mail = false;
         for event in self.events.iter() {
-            if event.token() == INBOX {
-                is_filled = true;
+            if event.token() == MAILBOX {
+                has_mail = true;
             } else {
                 make_ready(
-                    &mut self.guests,
+                    &mut self.connections,
                     &mut self.ready,
                     usize::from(event.token()),
                 );
             }
         }
-        Ok(is_filled)
+        Ok(has_mail)
     }
 
-    // Takes the sockets that were accepted. One that cannot be registered is dropped.
-    fn take_guests<R: Wait>(&mut self, rt: &R, inbox: &Inbox) {
-        for socket in inbox.take(rt) {
-            if self.add(socket).is_err() {
-                inbox.leave(rt);
-            }
+    // Adds the sockets that were accepted.
+    fn add_accepted<R: Wait>(&mut self, rt: &R, mailbox: &SocketMailbox) {
+        for _ in 0..self.add_all(mailbox.take(rt)) {
+            mailbox.release(rt);
         }
     }
 
-    fn add(&mut self, socket: Socket) -> io::Result<()> {
-        self.guests.reserve(1)?;
-        self.ready.reserve(self.guests.len().saturating_add(1))?;
-        self.spare.reserve(self.guests.len().saturating_add(1))?;
-        let key = self.guests.vacant_key();
+    // Adds sockets. Answers how many could not be registered: they are dropped.
+    fn add_all(&mut self, sockets: Vec<Socket>) -> usize
+        ensures { slab_len self.new.connections + result ≡ slab_len self.old.connections + vec_len sockets }
+    {
+        let mut refused = 0;
+        'sockets: for socket in sockets {
+            if self.add(socket).is_err() {
+                refused += 1;
+            }
+        }
+        refused
+    }
+
+    fn add(&mut self, socket: Socket) -> io::Result<()>
+        ensures added { OnOk result (slab_len self.new.connections ≡ slab_len self.old.connections + 1) }
+        ensures refused { OnErr result (slab_len self.new.connections ≡ slab_len self.old.connections) }
+    {
+        self.connections.reserve(1)?;
+        self.ready
+            .reserve(self.connections.len().saturating_add(1))?;
+        self.spare
+            .reserve(self.connections.len().saturating_add(1))?;
+        let key = self.connections.vacant_key();
         socket.register(self.poll.registry(), Token(key))?;
-        let _ = self.guests.insert_reserved(Guest::new(self.alloc, socket));
-        make_ready(&mut self.guests, &mut self.ready, key);
-        self.watch.open.add(1);
+        let mut connection = Connection::new(self.alloc, socket);
+        connection.is_ready = self.ready.push(key).is_ok();
+        let _ = self.connections.insert_reserved(connection);
+        self.counters.connections.add(1);
         Ok(())
     }
 
-    // Drops the client of a key.
-    fn end<R: Wait>(&mut self, rt: &R, inbox: &Inbox, key: usize) {
-        if self.guests.try_remove(key).is_some() {
-            self.watch.open.take_away(1);
-            inbox.leave(rt);
+    // Drops the connection of a key.
+    fn remove<R: Wait>(&mut self, rt: &R, mailbox: &SocketMailbox, key: usize)
+        ensures { Updates self.old.connections self.new.connections key None }
+    {
+        if self.connections.try_remove(key).is_some() {
+            self.counters.connections.subtract(1);
+            mailbox.release(rt);
         }
     }
 
-    // Four times a second ends the clients that are idle for too long. One that is held up is to try again: it may have
-    // taken too little for the system to tell of it.
-    fn end_idle<R: Wait>(&mut self, rt: &R, inbox: &Inbox) {
+    // Four times a second ends the connections whose clients are idle for too long.
+    fn end_idle<R: Wait>(&mut self, rt: &R, mailbox: &SocketMailbox) {
         let Some(idle) = self.idle else { return };
-        if !inbox.take_quarter(rt) {
-            return;
-        }
-        for key in 0..self.guests.capacity() {
-            if self.is_too_idle(key, idle) {
-                self.end(rt, inbox, key);
-            }
+        if mailbox.take_quarter(rt) {
+            self.end_quarter(rt, mailbox, idle);
         }
     }
 
-    // Whether the client of a key is idle for too long.
-    fn is_too_idle(&mut self, key: usize, idle: u32) -> bool {
-        let Some(guest) = self.guests.get_mut(key) else {
-            return false;
-        };
-        if guest.is_over(idle) {
-            return true;
+    // A quarter of a second is over for each connection.
+    fn end_quarter<R: Wait>(&mut self, rt: &R, mailbox: &SocketMailbox, idle: u32)
+        ensures { (key : ℕ) → EndsQuarter idle (idle_at self.old.connections key) (idle_at self.new.connections key) }
+    {
+        'quarters: for key in 0..self.connections.capacity() {
+            self.end_quarter_at(rt, mailbox, key, idle);
         }
-        if guest.is_held_up {
-            make_ready(&mut self.guests, &mut self.ready, key);
-        }
-        false
     }
 
-    // Gives each client that is ready one turn.
-    fn take_turns<R: Wait, M: LineHandler>(&mut self, rt: &R, inbox: &Inbox, machine: &mut M)
+    // A quarter of a second is over for the connection of a key, which ends where its client is idle for too long.
+    fn end_quarter_at<R: Wait>(&mut self, rt: &R, mailbox: &SocketMailbox, key: usize, idle: u32)
+        ensures here { EndsQuarter idle (idle_at self.old.connections key) (idle_at self.new.connections key) }
+        ensures others { (other : ℕ) → other ≢ key → idle_at self.new.connections other ≡ idle_at self.old.connections other }
+    {
+        if age(&mut self.connections, &mut self.ready, key, idle) {
+            self.remove(rt, mailbox, key);
+        }
+    }
+
+    // Gives each connection that is ready one turn.
+    fn take_turns<R: Wait, M: LineHandler>(
+        &mut self,
+        rt: &R,
+        mailbox: &SocketMailbox,
+        machine: &mut M,
+    )
         requires ready { M.ready }
         ensures knows { KnowsNoLess (M.reader machine.old) (M.reader machine.new) }
     {
         let spare = mem::replace(&mut self.spare, Vec::new(self.alloc));
         let mut ready = mem::replace(&mut self.ready, spare);
         for key in ready.iter() {
-            match self.turn_of(*key, machine) {
-                Some(Pause::Turn) => make_ready(&mut self.guests, &mut self.ready, *key),
+            match self.give_turn(*key, machine) {
+                Some(Pause::Turn) => make_ready(&mut self.connections, &mut self.ready, *key),
                 Some(Pause::Input | Pause::Output) => {}
-                None => self.end(rt, inbox, *key),
+                None => self.remove(rt, mailbox, *key),
             }
         }
         ready.clear();
         self.spare = ready;
-        self.watch.answered.lines.add(self.desk.take_answered());
+        self.counters
+            .clients
+            .lines
+            .add(self.buffers.take_line_count());
     }
 
-    // One turn of the client of a key. Where the client is gone, nothing is at hand.
-    fn turn_of<M: LineHandler>(&mut self, key: usize, machine: &mut M) -> Option<Pause>
+    // One turn of the connection of a key. Where it is gone, nothing is at hand.
+    fn give_turn<M: LineHandler>(&mut self, key: usize, machine: &mut M) -> Option<Pause>
         requires ready { M.ready }
         ensures knows { KnowsNoLess (M.reader machine.old) (M.reader machine.new) }
     {
-        match self.guests.get_mut(key) {
-            Some(guest) => guest.turn(&mut self.desk, machine),
+        match self.connections.get_mut(key) {
+            Some(connection) => connection.turn(&mut self.buffers, machine),
             None => Some(Pause::Input),
         }
     }
 }
 
-// Puts a client among those that are ready, where there is room for all.
-fn make_ready(guests: &mut Slab<Guest>, ready: &mut Vec<usize>, key: usize) {
-    if let Some(guest) = guests.get_mut(key) {
-        if !guest.is_ready {
-            guest.is_ready = ready.push(key).is_ok();
+// Makes the connection of a key a quarter of a second older. Whether its client is idle for too long. Else, where it is held
+// up, it is to try again: the client may have taken too little for the system to report it.
+fn age(connections: &mut Slab<Connection>, ready: &mut Vec<usize>, key: usize, idle: u32) -> bool
+    ensures over { IsTrue result ↔ IsIdleFor idle (idle_at connections.new key) }
+    ensures here { idle_at connections.new key ≡ quarter_later (idle_at connections.old key) }
+    ensures others { (other : ℕ) → other ≢ key → idle_at connections.new other ≡ idle_at connections.old other }
+{
+    let Some(connection) = connections.get_mut(key) else {
+        return false;
+    };
+    connection.idle.end_quarter();
+    let is_over = connection.idle.is_over(idle);
+    if connection.is_held_up && !is_over {
+        make_ready(connections, ready, key);
+    }
+    is_over
+}
+
+// Puts a connection among those that are ready, where there is memory for its key.
+fn make_ready(connections: &mut Slab<Connection>, ready: &mut Vec<usize>, key: usize)
+    ensures { (other : ℕ) → idle_at connections.new other ≡ idle_at connections.old other }
+{
+    if let Some(connection) = connections.get_mut(key) {
+        if !connection.is_ready {
+            connection.is_ready = ready.push(key).is_ok();
         }
     }
 }

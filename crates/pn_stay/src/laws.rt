@@ -3,11 +3,10 @@
 ghost use Rattle.std.specs.Prelude.{◌≡◌, ℕ, List, [], Some, IfOk, IfSome, map};
 ghost use Rattle.std.specs.Io.KnownBytes.{prepend_known};
 ghost use Rattle.pn_serve.specs.Lines.Ends.{EndsBy};
-ghost use Rattle.pn_stay.specs.Told.{bytes_of, begin_with};
+ghost use Rattle.pn_stay.specs.Scripted.{bytes_of, begin_with};
 
-use crate::connection::{Connection, Turned};
-use crate::desk::Desk;
-use crate::pieces::{Pieces, Takes};
+use crate::connection_state::{ConnectionState, ThreadBuffers, TurnOutcome};
+use crate::scripted::{ScriptedSink, ScriptedSource};
 use pn_join::NoMemory;
 use pn_line::Sink;
 use pn_serve::{Counts, LineHandler, RunFault};
@@ -27,12 +26,12 @@ pub fn answer_in_turns<M: LineHandler, R: Read, W: Sink>(
     ensures ends { IfOk result (λ answered. IfSome answered (λ ended. (held : List ℕ) × EndsBy M.makes M.ends
         (begin_with machine.old (R.remaining input.old) (W.contents output.old)) (prepend_known held (R.remaining input.new)) (W.contents output.new) machine.new ended)) }
 {
-    let mut desk = Desk::new(alloc)?;
-    let mut connection = Connection::new(alloc);
+    let mut buffers = ThreadBuffers::new(alloc)?;
+    let mut state = ConnectionState::new(alloc);
     'turns: for _turn in 0..turns {
-        match connection.turn(&mut desk, machine, input, output) {
-            Turned::Goes(next, _) => connection = next,
-            Turned::Ended(ended) => return Ok(Some(ended)),
+        match state.turn(&mut buffers, machine, input, output) {
+            TurnOutcome::Goes(next, _) => state = next,
+            TurnOutcome::Ended(ended) => return Ok(Some(ended)),
         }
     }
     Ok(None)
@@ -51,8 +50,8 @@ pub fn every_way_of_coming_and_going<M: LineHandler>(
     ensures ends { IfOk result (λ answered. IfSome answered.0 (λ ended. (rest : List ℕ) × EndsBy M.makes M.ends
         (begin_with machine.old (Some (bytes_of (map (λ piece. piece.items) pieces.now))) (Some [])) (Some rest) (Some answered.1.items) machine.new ended)) }
 {
-    let mut input = Pieces::new(pieces);
-    let mut output = Takes::new(alloc, takes);
+    let mut input = ScriptedSource::new(pieces);
+    let mut output = ScriptedSink::new(alloc, takes);
     let ended = answer_in_turns(alloc, machine, &mut input, &mut output, turns)?;
-    Ok((ended, output.into_taken()))
+    Ok((ended, output.into_bytes()))
 }

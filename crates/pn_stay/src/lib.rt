@@ -1,40 +1,33 @@
 //! Connections that are answered as sessions are, in turns, while their sockets give and take what they do.
 #![tactic(auto)]
 
-mod accepting;
-mod backlog;
-mod client;
+mod acceptor;
 mod connection;
-mod counted;
-mod desk;
+mod connection_limit;
+mod connection_state;
+mod counters;
 mod event_loop;
-mod gate;
-mod guest;
-mod house;
-mod inbox;
+mod input_buffer;
 mod laws;
 mod listener;
-mod pieces;
+mod output_buffer;
 mod progress;
-mod quiet;
-mod room;
+mod scripted;
 mod server;
 mod socket;
+mod socket_mailbox;
 mod steps;
-mod waiting;
-mod watch;
 
-pub use backlog::{Backlog, Sent};
-pub use client::Client;
-pub use connection::{Answering, Closing, Connection, Pause, Turned};
-pub use counted::Counted;
-pub use desk::Desk;
-pub use house::House;
+pub use acceptor::SocketAcceptor;
+pub use connection::IdleTimeout;
+pub use connection_state::{
+    Answering, Closing, ConnectionState, Pause, ThreadBuffers, TurnOutcome,
+};
+pub use counters::{Counters, CountingSource, InputCounters, StreamCounters};
+pub use input_buffer::{INPUT_CAPACITY, InputBuffer, READ_SIZE};
 pub use laws::{answer_in_turns, every_way_of_coming_and_going};
 pub use listener::Listener;
-pub use pieces::{Pieces, Takes};
-pub use progress::{before_others, tell_progress};
-pub use quiet::Quiet;
-pub use room::{READ_ROOM, ROOM, Room};
+pub use output_buffer::{OutputBuffer, SendOutcome};
+pub use progress::{message_prefix, tell_progress};
+pub use scripted::{ScriptedSink, ScriptedSource};
 pub use server::StayingServer;
-pub use watch::{StreamWatch, Taken, Watch};

@@ -1,9 +1,13 @@
 //! Listening sockets, at a port or at a path.
 
+ghost use Rattle.std.specs.Prelude.{◌≡◌, ◌≢◌, false, IfErr, MatchBool, OnOk};
+ghost use Rattle.std.specs.IoError.{error_kind};
+
 use crate::socket::Socket;
 use libc::net::listen;
 use mio::net::UnixStream as Caller;
 use std::fs::{Files, Permissions};
+use std::io::ErrorKind;
 use std::net::{IpAddr, Net, SocketAddr, TcpListener, TcpStream};
 use std::os::fd::{AsFd, AsRawFd, OwnedFd};
 use std::os::unix::fs::{FileTypeExt, PermissionsExt};
@@ -26,7 +30,7 @@ pub enum Listener {
 
 impl Listener {
     /// Listens at a port of an address.
-    pub fn at_port<R: Net<Listener = TcpListener, Stream = TcpStream>>(
+    pub fn bind_port<R: Net<Listener = TcpListener, Stream = TcpStream>>(
         rt: &R,
         address: IpAddr,
         port: u16,
@@ -35,11 +39,11 @@ impl Listener {
     }
 
     /// Listens at a path. A socket there is replaced where nobody listens on it.
-    pub fn at_path<R: Files + Net>(rt: &R, path: &str) -> io::Result<Listener> {
+    pub fn bind_path<R: Files + Net>(rt: &R, path: &str) -> io::Result<Listener> {
         match bind(rt, path) {
             Ok(listener) => Ok(listener),
             Err(error) => {
-                if error.kind() != io::ErrorKind::AddrInUse || !is_stale(rt, path)? {
+                if error.kind() != ErrorKind::AddrInUse || !is_stale(rt, path)? {
                     return Err(error);
                 }
                 fs::remove_file(rt, path)?;
@@ -49,7 +53,7 @@ impl Listener {
     }
 
     /// Another handle of the same socket.
-    pub(crate) fn again(&self) -> io::Result<Listener> {
+    pub(crate) fn try_clone(&self) -> io::Result<Listener> {
         match self {
             Listener::Tcp(listener) => Ok(Listener::Tcp(listener.try_clone()?)),
             Listener::Unix(listener) => Ok(Listener::Unix(listener.try_clone()?)),
@@ -88,7 +92,7 @@ fn bind<R: Files + Net>(rt: &R, path: &str) -> io::Result<Listener> {
 fn begin_to_listen<R: Files>(rt: &R, path: &str, socket: OwnedFd) -> io::Result<UnixListener> {
     fs::set_permissions(rt, path, Permissions::from_mode(MODE))?;
     if listen(socket.as_raw_fd(), BACKLOG) != 0 {
-        return Err(io::Error::from(io::ErrorKind::AddrInUse));
+        return Err(io::Error::from(ErrorKind::AddrInUse));
     }
     Ok(UnixListener::from(socket))
 }
@@ -98,8 +102,19 @@ fn is_stale<R: Files + Net>(rt: &R, path: &str) -> io::Result<bool> {
     if !rt.symlink_metadata(path)?.file_type().is_socket() {
         return Ok(false);
     }
-    match Caller::connect(rt, path) {
-        Ok(_) => Ok(false),
-        Err(error) => Ok(error.kind() == io::ErrorKind::ConnectionRefused),
+    Ok(is_refused(Caller::connect(rt, path)))
+}
+
+// Whether a connect was refused, as where nobody listens. Another error does not tell whether somebody does.
+fn is_refused(connected: io::Result<Caller>) -> bool
+    ensures open { OnOk connected (result ≡ false) }
+    ensures error { IfErr connected (λ error. MatchBool result (error_kind error ≡ ErrorKind.ConnectionRefused) (error_kind error ≢ ErrorKind.ConnectionRefused)) }
+{
+    match connected {
+        Ok(_) => false,
+        Err(error) => match error.kind() {
+            ErrorKind::ConnectionRefused => true,
+            _ => false,
+        },
     }
 }

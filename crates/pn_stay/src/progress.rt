@@ -1,6 +1,6 @@
 //! Tells how far a server is: a line a second on standard error, while something changes.
 
-use crate::watch::{StreamWatch, Watch};
+use crate::counters::{Counters, StreamCounters};
 use libc::{STDERR_FILENO, isatty};
 use std::alloc::{AllocError, Global};
 use std::fs::{File, Files};
@@ -27,39 +27,39 @@ const PAGES: &str = "/proc/self/statm";
 /// How many bytes a page has.
 const PAGE: u64 = 4_096;
 
-// What is counted, at one moment.
+// What the counters show at one moment.
 #[derive(Drop)]
-struct Counts {
+struct Totals {
     positions: Vec<u64>,
     rounds: u64,
-    open: u64,
+    connections: u64,
     lines: u64,
 }
 
-impl Counts {
-    fn nothing(alloc: Global) -> Counts {
-        Counts {
+impl Totals {
+    fn new(alloc: Global) -> Totals {
+        Totals {
             positions: Vec::new(alloc),
             rounds: 0,
-            open: 0,
+            connections: 0,
             lines: 0,
         }
     }
 
-    fn now(alloc: Global, watch: &Watch) -> Result<Counts, AllocError> {
-        let mut positions = Vec::with_capacity(alloc, watch.streams.len())?;
-        for stream in watch.streams.iter() {
-            positions.push(stream.taken.lines.number())?;
+    fn read(alloc: Global, counters: &Counters) -> Result<Totals, AllocError> {
+        let mut positions = Vec::with_capacity(alloc, counters.streams.len())?;
+        for stream in counters.streams.iter() {
+            positions.push(stream.input.lines.get())?;
         }
-        Ok(Counts {
+        Ok(Totals {
             positions,
-            rounds: watch.rounds.number(),
-            open: watch.open.number(),
-            lines: watch.answered.lines.number(),
+            rounds: counters.rounds.get(),
+            connections: counters.connections.get(),
+            lines: counters.clients.lines.get(),
         })
     }
 
-    // The position of a stream; at first there is none.
+    // The position of a stream, or 0 where none was read so far.
     fn position(&self, at: usize) -> u64 {
         match self.positions.get(at) {
             Some(position) => *position,
@@ -67,13 +67,15 @@ impl Counts {
         }
     }
 
-    fn differ(&self, before: &Counts) -> bool {
+    fn differs_from(&self, before: &Totals) -> bool {
         for at in 0..self.positions.len() {
             if self.position(at) != before.position(at) {
                 return true;
             }
         }
-        self.rounds != before.rounds || self.open != before.open || self.lines != before.lines
+        self.rounds != before.rounds
+            || self.connections != before.connections
+            || self.lines != before.lines
     }
 }
 
@@ -83,7 +85,7 @@ pub fn is_terminal() -> bool {
 }
 
 /// What goes to standard error before another line than one of progress.
-pub fn before_others(is_progress_told: bool) -> &'static str {
+pub fn message_prefix(is_progress_told: bool) -> &'static str {
     if is_progress_told && is_terminal() {
         AWAY
     } else {
@@ -92,37 +94,37 @@ pub fn before_others(is_progress_told: bool) -> &'static str {
 }
 
 /// Tells for as long as the program runs.
-pub fn tell_progress<R>(rt: &R, alloc: Global, watch: &Watch)
+pub fn tell_progress<R>(rt: &R, alloc: Global, counters: &Counters)
 where
     R: Wait + Clock + Files<File = File> + Eprint,
 {
     let is_terminal = is_terminal();
-    let mut told = Counts::nothing(alloc);
+    let mut told = Totals::new(alloc);
     for _ in rt.forever() {
         thread::sleep(rt, Duration::from_secs(1));
-        if let Ok(now) = Counts::now(alloc, watch) {
-            if now.differ(&told) {
-                let _ = tell(rt, alloc, watch, (&told, &now), is_terminal);
+        if let Ok(now) = Totals::read(alloc, counters) {
+            if now.differs_from(&told) {
+                let _ = print_totals(rt, alloc, counters, (&told, &now), is_terminal);
                 told = now;
             }
         }
     }
 }
 
-// Tells of the counts of a second before, and of now.
-fn tell<R: Files<File = File> + Eprint>(
+// Prints the totals, and how many messages of each stream came since those of a second before.
+fn print_totals<R: Files<File = File> + Eprint>(
     rt: &R,
     alloc: Global,
-    watch: &Watch,
-    counts: (&Counts, &Counts),
+    counters: &Counters,
+    totals: (&Totals, &Totals),
     is_terminal: bool,
 ) -> io::Result<()> {
-    let (before, now) = counts;
-    let mut text = streams_text(alloc, watch, before, now, is_terminal)?;
-    let bytes = pages(rt).unwrap_or(0).saturating_mul(PAGE);
+    let (before, now) = totals;
+    let mut text = format_streams(alloc, counters, before, now, is_terminal)?;
+    let bytes = count_pages(rt).unwrap_or(0).saturating_mul(PAGE);
     text.push_str(format!(in alloc;
         "{} rounds, {} connections, {} lines, {bytes} bytes",
-        now.rounds, now.open, now.lines
+        now.rounds, now.connections, now.lines
     )?
     .as_str())?;
     if is_terminal {
@@ -132,15 +134,15 @@ fn tell<R: Files<File = File> + Eprint>(
     }
 }
 
-fn streams_text(
+fn format_streams(
     alloc: Global,
-    watch: &Watch,
-    before: &Counts,
-    now: &Counts,
+    counters: &Counters,
+    before: &Totals,
+    now: &Totals,
     is_terminal: bool,
 ) -> Result<String, AllocError> {
     let mut text = String::new(alloc);
-    for (at, stream) in watch.streams.iter().enumerate() {
+    for (at, stream) in counters.streams.iter().enumerate() {
         let position = now.position(at);
         let more = position.saturating_sub(before.position(at));
         text.push_str(stream.name.as_str())?;
@@ -153,36 +155,36 @@ fn streams_text(
 }
 
 // A bar of a file whose size is known.
-fn push_bar(text: &mut String, alloc: Global, stream: &StreamWatch) -> Result<(), AllocError> {
+fn push_bar(text: &mut String, alloc: Global, stream: &StreamCounters) -> Result<(), AllocError> {
     let Some(size) = stream.size else {
         return Ok(());
     };
-    let taken = stream.taken.bytes.number().min(size);
-    let full = part_of(BAR, taken, size);
+    let taken = stream.input.bytes.get().min(size);
+    let full = scale(BAR, taken, size);
     text.push_str(" [")?;
     for at in 0..BAR {
         text.push(if at < full { '#' } else { '-' })?;
     }
-    text.push_str(format!(in alloc; "] {}%", part_of(100, taken, size))?.as_str())
+    text.push_str(format!(in alloc; "] {}%", scale(100, taken, size))?.as_str())
 }
 
-// How much of the whole this part of all makes.
-fn part_of(whole: u64, done: u64, all: u64) -> u64 {
+// How much of `whole` is in proportion to `done` of `all`.
+fn scale(whole: u64, done: u64, all: u64) -> u64 {
     match whole.saturating_mul(done).checked_div(all) {
         Some(part) => part,
         None => whole,
     }
 }
 
-fn pages<R: Files<File = File>>(rt: &R) -> io::Result<u64> {
+fn count_pages<R: Files<File = File>>(rt: &R) -> io::Result<u64> {
     let mut file = File::open(rt, PAGES)?;
-    let mut room = [0u8; 128];
-    let count = file.read(&mut room)?;
-    Ok(second_number(&room[..count]))
+    let mut text = [0u8; 128];
+    let count = file.read(&mut text)?;
+    Ok(parse_second_number(&text[..count]))
 }
 
 // The second of the numbers that a text has, with spaces between.
-fn second_number(text: &[u8]) -> u64 {
+fn parse_second_number(text: &[u8]) -> u64 {
     let mut spaces = 0u32;
     let mut number = 0u64;
     for byte in text {

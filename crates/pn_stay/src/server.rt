@@ -1,18 +1,19 @@
 //! A server that stays: threads answer its connections while its live region reads streams.
 
 ghost use Rattle.std.specs.Prelude.{◌≡◌, ◌+◌, ◌≤◌, vec_len, vec_capacity, All, IfOk};
-ghost use Rattle.pn_live.specs.Prelude.{max_readers, tablets_in, tablets_of, IsNewLive};
-ghost use Rattle.pn_serve.specs.Server.Reading.{ReadsFeeds};
+ghost use Rattle.pn_live.specs.Prelude.{MAX_READERS, tablets_in, tablets_of, IsNewLive};
+ghost use Rattle.pn_serve.specs.Server.Reading.{ReadsStreams};
 ghost use Rattle.pn_serve.specs.Server.Sessions.{AllRead};
 
-mod sessions;
+mod threads;
 
-use crate::house::House;
-use crate::server::sessions::begin;
+use crate::acceptor::SocketAcceptor;
+use crate::server::threads::start_answering;
 use pn_line::Source;
 use pn_live::{LiveReader, LiveRegion};
 use pn_serve::{
-    Feed, Origin, Running, ServeFault, Settings, Tally, close, end_sessions, open, read_feeds,
+    Acceptor, Counter, Origin, ServeFault, SessionThread, Settings, Stream, close_region,
+    join_sessions, open_region, read_streams,
 };
 use std::alloc::Global;
 use std::marker::Model;
@@ -25,25 +26,26 @@ use std::time::Clock;
 pub struct StayingServer {
     live: LiveRegion,
     workers: usize,
-    running: Vec<Running>,
-    // The room for the readers that come back.
+    running: Vec<SessionThread>,
+    // A list with the memory for the readers that come back.
     readers: Vec<LiveReader>,
+    rounds: Option<Arc<Counter>>,
 }
 
 impl Model for StayingServer {
     ghost use Rattle.std.specs.Prelude.{◌≡◌, ◌+◌, ◌≤◌, vec_len, vec_capacity, All};
-    ghost use Rattle.pn_apply.specs.Prelude.{max_workers};
+    ghost use Rattle.pn_apply.specs.Prelude.{MAX_WORKERS};
     ghost use Rattle.pn_live.specs.Prelude.{tablets_in, tablets_of};
     ghost use Rattle.pn_serve.specs.Server.Sessions.{AllRead};
-    ghost use Rattle.pn_stay.specs.Staying.{StayingValue, staying_code};
+    ghost use Rattle.pn_stay.specs.Servers.{ServerValue, server_code};
 
-    ghost Value = { StayingValue };
+    ghost Value = { ServerValue };
 
-    ghost coded = { staying_code };
+    ghost coded = { server_code };
 
     ghost view = { λ server. record { live = server.live; threads = vec_len server.running } };
 
-    ghost invariant = { λ server. (1 ≤ server.workers) × (server.workers ≤ max_workers)
+    ghost invariant = { λ server. (1 ≤ server.workers) × (server.workers ≤ MAX_WORKERS)
         × All (λ session. tablets_of session.promise.0.value ≡ tablets_in server.live) server.running.items
         × AllRead (tablets_in server.live) server.readers.items
         × (vec_len server.running + vec_len server.readers ≤ vec_capacity server.readers) };
@@ -54,51 +56,55 @@ impl StayingServer {
     pub fn start<R>(
         rt: &R,
         alloc: Global,
-        house: House,
+        acceptor: SocketAcceptor,
         settings: Settings,
-        sessions: usize,
+        threads: usize,
         connections: usize,
     ) -> Result<StayingServer, ServeFault>
     where
         R: Threads + Wait + Net + Clock + Sync + Copy + Send + 'static,
-        requires { (1 ≤ sessions) × (sessions ≤ max_readers) }
+        requires { (1 ≤ threads) × (threads ≤ MAX_READERS) }
         ensures is_new { IfOk result (λ server. IsNewLive settings.layout server.live) }
-        ensures threads { IfOk result (λ server. server.threads ≡ sessions) }
+        ensures threads { IfOk result (λ server. server.threads ≡ threads) }
     {
         let (layout, workers) = settings.into_parts();
-        let (live, readers) = open(rt, alloc, layout, sessions)?;
+        let (live, readers) = open_region(rt, alloc, layout, threads)?;
         let mut readers = readers;
-        match begin(rt, alloc, house, connections, &live, &mut readers) {
+        let rounds = acceptor.round_counter();
+        match start_answering(rt, alloc, acceptor, connections, &live, &mut readers) {
             Ok(running) => Ok(StayingServer {
                 live,
                 workers,
                 running,
                 readers,
+                rounds,
             }),
             Err(_) => {
-                let _ = close(rt, live, readers);
+                let _ = close_region(rt, live, readers);
                 Err(ServeFault::Start)
             }
         }
     }
 
-    /// Reads streams until all have ended. Connections are answered meanwhile, and after a fault too. Rounds are
-    /// counted where somebody looks at it.
-    pub fn read_feeds<R, S, O>(
+    /// Reads streams until all have ended. Connections are answered meanwhile, and after a fault too.
+    pub fn read_streams<R, S, O>(
         &mut self,
         rt: &R,
         alloc: Global,
-        feeds: Vec<Feed<S, O>>,
-        rounds: Option<Arc<Tally>>,
+        streams: Vec<Stream<S, O>>,
     ) -> Result<(), ServeFault>
     where
         R: Threads + Wait + Sync + Copy + Send + 'static,
         S: Source + Drop + Send + 'static,
         O: Origin<S> + Drop + Send + 'static,
-        ensures reads { ReadsFeeds (vec_len feeds) self.old.live self.new.live result }
+        ensures reads { ReadsStreams (vec_len streams) self.old.live self.new.live result }
         ensures threads { self.new.threads ≡ self.old.threads }
     {
-        read_feeds(rt, alloc, &mut self.live, self.workers, feeds, rounds)
+        let rounds = match &self.rounds {
+            Some(rounds) => Arc::try_clone(rounds).ok(),
+            None => None,
+        };
+        read_streams(rt, alloc, &mut self.live, self.workers, streams, rounds)
     }
 
     /// Waits for the threads, which end where the system tells nothing more of sockets, and closes the region.
@@ -108,9 +114,10 @@ impl StayingServer {
             workers: _,
             running,
             readers,
+            rounds: _,
         } = self;
         let mut readers = readers;
-        end_sessions(rt, &live, running, &mut readers);
-        let _ = close(rt, live, readers);
+        join_sessions(rt, &live, running, &mut readers);
+        let _ = close_region(rt, live, readers);
     }
 }

@@ -1,11 +1,13 @@
 //! The sockets of clients, over TCP or at a path.
 
+ghost use Rattle.std.specs.Prelude.{◌≡◌, ◌≢◌, ◌||◌, true, OnOk, MatchBool};
 ghost use Rattle.std.specs.Io.{ReadsAtMost, WritesAtMost};
+ghost use Rattle.std.specs.IoError.{error_kind};
 
 use mio::unix::SourceFd;
 use mio::{Interest, Registry, Token};
 use std::io;
-use std::io::{Read, Write};
+use std::io::{ErrorKind, Read, Write};
 use std::net::TcpStream;
 use std::os::fd::AsRawFd;
 use std::os::unix::net::UnixStream;
@@ -19,16 +21,16 @@ pub(crate) enum Socket {
 }
 
 impl Socket {
-    /// From now on it answers in place of waiting.
-    pub(crate) fn answer_at_once(&self) -> io::Result<()> {
+    /// From now on reads and writes answer in place of waiting.
+    pub(crate) fn set_nonblocking(&self) -> io::Result<()> {
         match self {
             Socket::Tcp(stream) => stream.set_nonblocking(true),
             Socket::Unix(stream) => stream.set_nonblocking(true),
         }
     }
 
-    /// From now on it waits for its client no longer than this.
-    pub(crate) fn wait_at_most(&self, most: Duration) -> io::Result<()> {
+    /// From now on reads and writes wait for the client no longer than this.
+    pub(crate) fn set_timeout(&self, most: Duration) -> io::Result<()> {
         match self {
             Socket::Tcp(stream) => {
                 stream.set_read_timeout(Some(most))?;
@@ -41,7 +43,7 @@ impl Socket {
         }
     }
 
-    /// From now on a poll tells of what it gives and takes.
+    /// From now on a poll reports when it can be read or written.
     pub(crate) fn register(&self, registry: &Registry, token: Token) -> io::Result<()> {
         let number = match self {
             Socket::Tcp(stream) => stream.as_raw_fd(),
@@ -58,14 +60,8 @@ impl Socket {
         ensures { ReadsAtMost result buf.new }
     {
         match self {
-            Socket::Tcp(stream) => {
-                let mut stream = stream;
-                stream.read(buf)
-            }
-            Socket::Unix(stream) => {
-                let mut stream = stream;
-                stream.read(buf)
-            }
+            Socket::Tcp(stream) => (&*stream).read(buf),
+            Socket::Unix(stream) => (&*stream).read(buf),
         }
     }
 
@@ -73,56 +69,71 @@ impl Socket {
         ensures { WritesAtMost result buf.now }
     {
         match self {
-            Socket::Tcp(stream) => {
-                let mut stream = stream;
-                stream.write(buf)
-            }
-            Socket::Unix(stream) => {
-                let mut stream = stream;
-                stream.write(buf)
-            }
+            Socket::Tcp(stream) => (&*stream).write(buf),
+            Socket::Unix(stream) => (&*stream).write(buf),
         }
     }
 }
 
-/// One side of a socket, and whether anything went over it.
+/// A socket that is read or written, and whether anything went over it.
 #[derive(Drop)]
-pub(crate) struct Side<'a> {
+pub(crate) struct TrackedSocket<'a> {
     socket: &'a Socket,
     has_moved: bool,
 }
 
-impl<'a> Side<'a> {
-    /// A side over which nothing went.
-    pub(crate) fn of(socket: &'a Socket) -> Side<'a> {
-        Side {
+impl<'a> TrackedSocket<'a> {
+    /// A socket over which nothing went so far.
+    pub(crate) fn new(socket: &'a Socket) -> TrackedSocket<'a> {
+        TrackedSocket {
             socket,
             has_moved: false,
         }
     }
 
-    /// Whether bytes went over it, or its end.
-    pub(crate) fn has_moved(&self) -> bool {
-        self.has_moved
+    // Answers what a read or a write answered. Where it succeeded, bytes went over the socket, or its end.
+    fn note(&mut self, moved: io::Result<usize>) -> io::Result<usize>
+        ensures same { result ≡ moved }
+        ensures noted { OnOk moved (self.new.has_moved ≡ true) }
+    {
+        if moved.is_ok() {
+            self.has_moved = true;
+        }
+        moved
     }
 }
 
-impl Read for Side<'_> {
+/// Whether anything went over a socket that was read by one and written by the other.
+pub(crate) fn has_moved(input: &TrackedSocket<'_>, output: &TrackedSocket<'_>) -> bool
+    ensures { result ≡ (input.now.has_moved || output.now.has_moved) }
+{
+    input.has_moved || output.has_moved
+}
+
+impl Read for TrackedSocket<'_> {
     fn read(&mut self, buf: &mut [u8]) -> io::Result<usize> {
-        let count = self.socket.read_some(buf)?;
-        self.has_moved = true;
-        Ok(count)
+        let count = self.socket.read_some(buf);
+        self.note(count)
     }
 }
 
-impl Write for Side<'_> {
+impl Write for TrackedSocket<'_> {
     fn write(&mut self, buf: &[u8]) -> io::Result<usize> {
-        let count = self.socket.write_some(buf)?;
-        self.has_moved = true;
-        Ok(count)
+        let count = self.socket.write_some(buf);
+        self.note(count)
     }
 
     fn flush(&mut self) -> io::Result<()> {
         Ok(())
+    }
+}
+
+/// Whether an error says that the call would have waited.
+pub(crate) fn is_wait(error: &io::Error) -> bool
+    ensures { MatchBool result (error_kind error.now ≡ ErrorKind.WouldBlock) (error_kind error.now ≢ ErrorKind.WouldBlock) }
+{
+    match error.kind() {
+        ErrorKind::WouldBlock => true,
+        _ => false,
     }
 }

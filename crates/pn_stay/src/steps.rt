@@ -5,15 +5,15 @@ ghost use Rattle.std.specs.IoError.{error_kind};
 ghost use Rattle.pn_line.specs.Line.{so_far};
 ghost use Rattle.pn_serve.specs.Lines.Answered.{Answered, AnsweredInPart, Closed};
 ghost use Rattle.pn_serve.specs.Lines.States.{Start};
-ghost use Rattle.pn_stay.specs.Kept.{IsLine};
-ghost use Rattle.pn_stay.specs.Others.{Passes};
-ghost use Rattle.pn_stay.specs.Standing.{StandsIn};
-ghost use Rattle.pn_stay.specs.Turns.{at_desk, loop_at, GoesOn, StepsTo};
+ghost use Rattle.pn_stay.specs.Connections.{IsLine};
+ghost use Rattle.pn_stay.specs.Interleaving.{Passes};
+ghost use Rattle.pn_stay.specs.Sessions.{FollowsSession};
+ghost use Rattle.pn_stay.specs.Turns.{in_buffers, loop_in, GoesOn, StepsTo};
 ghost use Rattle.pn_serve.specs.Session.Knowing.{KnowsNoLess};
 
-use crate::backlog::Backlog;
-use crate::desk::Desk;
-use crate::waiting::is_wait;
+use crate::connection_state::ThreadBuffers;
+use crate::output_buffer::OutputBuffer;
+use crate::socket::is_wait;
 use pn_line::{ENDLESS, LineEnd, WriteFault};
 use pn_serve::{Counts, LineHandler, MAX_LINES, RunFault};
 use std::io;
@@ -31,33 +31,33 @@ pub(crate) enum Step {
     Waits,
     /// The connection ends so, once its replies are sent.
     Ends(Result<Counts, RunFault>),
-    /// A reply found no memory in the backlog.
+    /// A reply found no memory in the output buffer.
     OutOfMemory,
 }
 
 /// Steps until no input is at hand, replies wait for the socket, the connection ends, or a turn's steps are done.
 pub(crate) fn take_steps<M: LineHandler, R: Read>(
-    desk: &mut Desk,
+    buffers: &mut ThreadBuffers,
     machine: &mut M,
-    backlog: &mut Backlog,
+    replies: &mut OutputBuffer,
     input: &mut R,
 ) -> Step
     requires ready { M.ready }
-    requires line { IsLine desk.old.lines.line }
-    requires few { desk.old.lines.counts.lines ≤ MAX_LINES }
-    ensures steps { (shared : Bool) (start : Start M) (written : Option (List ℕ)) → StandsIn M.makes M.ends shared start (R.remaining input.old) written machine.old (at_desk desk.old backlog.old)
-        → StepsTo M.makes M.ends shared start (R.remaining input.new) written machine.new (at_desk desk.new backlog.new) result }
-    ensures empty { result ≡ Step.Waits → desk.new.room ≡ [] }
-    ensures few { GoesOn result → desk.new.lines.counts.lines ≤ MAX_LINES }
-    ensures line { GoesOn result → IsLine desk.new.lines.line }
+    requires line { IsLine buffers.old.lines.line }
+    requires few { buffers.old.lines.counts.lines ≤ MAX_LINES }
+    ensures steps { (shared : Bool) (start : Start M) (written : Option (List ℕ)) → FollowsSession M.makes M.ends shared start (R.remaining input.old) written machine.old (in_buffers buffers.old replies.old)
+        → StepsTo M.makes M.ends shared start (R.remaining input.new) written machine.new (in_buffers buffers.new replies.new) result }
+    ensures empty { result ≡ Step.Waits → buffers.new.input ≡ [] }
+    ensures few { GoesOn result → buffers.new.lines.counts.lines ≤ MAX_LINES }
+    ensures line { GoesOn result → IsLine buffers.new.lines.line }
     ensures passes { Passes M.makes M.ends machine.old machine.new }
     ensures knows { KnowsNoLess (M.reader machine.old) (M.reader machine.new) }
 {
     'steps: for _step in 0..TURN_STEPS {
-        if !backlog.is_empty() {
+        if !replies.is_empty() {
             break;
         }
-        match take_step(desk, machine, backlog, input) {
+        match take_step(buffers, machine, replies, input) {
             Step::Next => {}
             other => return other,
         }
@@ -67,127 +67,127 @@ pub(crate) fn take_steps<M: LineHandler, R: Read>(
 
 // Answers the next line at hand, or reads once.
 fn take_step<M: LineHandler, R: Read>(
-    desk: &mut Desk,
+    buffers: &mut ThreadBuffers,
     machine: &mut M,
-    backlog: &mut Backlog,
+    replies: &mut OutputBuffer,
     input: &mut R,
 ) -> Step
     requires ready { M.ready }
-    requires line { IsLine desk.old.lines.line }
-    requires few { desk.old.lines.counts.lines ≤ MAX_LINES }
-    ensures steps { (shared : Bool) (start : Start M) (written : Option (List ℕ)) → StandsIn M.makes M.ends shared start (R.remaining input.old) written machine.old (at_desk desk.old backlog.old)
-        → StepsTo M.makes M.ends shared start (R.remaining input.new) written machine.new (at_desk desk.new backlog.new) result }
-    ensures empty { result ≡ Step.Waits → desk.new.room ≡ [] }
-    ensures few { GoesOn result → desk.new.lines.counts.lines ≤ MAX_LINES }
-    ensures line { GoesOn result → IsLine desk.new.lines.line }
+    requires line { IsLine buffers.old.lines.line }
+    requires few { buffers.old.lines.counts.lines ≤ MAX_LINES }
+    ensures steps { (shared : Bool) (start : Start M) (written : Option (List ℕ)) → FollowsSession M.makes M.ends shared start (R.remaining input.old) written machine.old (in_buffers buffers.old replies.old)
+        → StepsTo M.makes M.ends shared start (R.remaining input.new) written machine.new (in_buffers buffers.new replies.new) result }
+    ensures empty { result ≡ Step.Waits → buffers.new.input ≡ [] }
+    ensures few { GoesOn result → buffers.new.lines.counts.lines ≤ MAX_LINES }
+    ensures line { GoesOn result → IsLine buffers.new.lines.line }
     ensures passes { Passes M.makes M.ends machine.old machine.new }
     ensures knows { KnowsNoLess (M.reader machine.old) (M.reader machine.new) }
 {
-    if desk.lines.counts().lines >= MAX_LINES {
-        return look_further(desk, machine, backlog, input);
+    if buffers.lines.counts().lines >= MAX_LINES {
+        return look_further(buffers, machine, replies, input);
     }
-    let Ok(end) = desk.lines.read_on(&mut desk.room) else {
+    let Ok(end) = buffers.lines.read_on(&mut buffers.input) else {
         unreachable!()
     };
     match end {
-        LineEnd::Newline { .. } => match answer(desk, machine, backlog) {
+        LineEnd::Newline { .. } => match answer(buffers, machine, replies) {
             Ok(()) => Step::Next,
             Err(_) => Step::OutOfMemory,
         },
-        LineEnd::EndOfInput => read_more(desk, machine, backlog, input),
+        LineEnd::EndOfInput => read_more(buffers, machine, replies, input),
         LineEnd::Endless => Step::Ends(Err(RunFault::TooManyTurns)),
     }
 }
 
 // Reads once where no line is at hand.
 fn read_more<M: LineHandler, R: Read>(
-    desk: &mut Desk,
+    buffers: &mut ThreadBuffers,
     machine: &mut M,
-    backlog: &mut Backlog,
+    replies: &mut OutputBuffer,
     input: &mut R,
 ) -> Step
     requires ready { M.ready }
-    requires line { IsLine desk.old.lines.line }
-    requires few { desk.old.lines.counts.lines < MAX_LINES }
-    requires below { desk.old.lines.line.count < ENDLESS }
-    requires empty { desk.old.room ≡ [] }
-    ensures steps { (shared : Bool) (start : Start M) (written : Option (List ℕ)) → StandsIn M.makes M.ends shared start (R.remaining input.old) written machine.old (at_desk desk.old backlog.old)
-        → StepsTo M.makes M.ends shared start (R.remaining input.new) written machine.new (at_desk desk.new backlog.new) result }
-    ensures empty { result ≡ Step.Waits → desk.new.room ≡ [] }
-    ensures few { GoesOn result → desk.new.lines.counts.lines ≤ MAX_LINES }
-    ensures line { GoesOn result → desk.new.lines.line ≡ desk.old.lines.line }
+    requires line { IsLine buffers.old.lines.line }
+    requires few { buffers.old.lines.counts.lines < MAX_LINES }
+    requires below { buffers.old.lines.line.count < ENDLESS }
+    requires empty { buffers.old.input ≡ [] }
+    ensures steps { (shared : Bool) (start : Start M) (written : Option (List ℕ)) → FollowsSession M.makes M.ends shared start (R.remaining input.old) written machine.old (in_buffers buffers.old replies.old)
+        → StepsTo M.makes M.ends shared start (R.remaining input.new) written machine.new (in_buffers buffers.new replies.new) result }
+    ensures empty { result ≡ Step.Waits → buffers.new.input ≡ [] }
+    ensures few { GoesOn result → buffers.new.lines.counts.lines ≤ MAX_LINES }
+    ensures line { GoesOn result → buffers.new.lines.line ≡ buffers.old.lines.line }
     ensures passes { Passes M.makes M.ends machine.old machine.new }
     ensures knows { KnowsNoLess (M.reader machine.old) (M.reader machine.new) }
 {
-    match desk.room.read_from(input) {
+    match buffers.input.read_from(input) {
         Ok(more) => {
             if more {
                 return Step::Next;
             }
-            let closed = close(desk, machine, backlog);
-            end(closed)
+            let closed = answer_end(buffers, machine, replies);
+            end_step(closed)
         }
-        Err(error) => not_read(&error),
+        Err(error) => fault_step(&error),
     }
 }
 
 // Looks for input after the last line that may be answered. More input is a fault.
 fn look_further<M: LineHandler, R: Read>(
-    desk: &mut Desk,
+    buffers: &mut ThreadBuffers,
     machine: &mut M,
-    backlog: &mut Backlog,
+    replies: &mut OutputBuffer,
     input: &mut R,
 ) -> Step
     requires ready { M.ready }
-    requires line { IsLine desk.old.lines.line }
-    requires all { desk.old.lines.counts.lines ≡ MAX_LINES }
-    ensures steps { (shared : Bool) (start : Start M) (written : Option (List ℕ)) → StandsIn M.makes M.ends shared start (R.remaining input.old) written machine.old (at_desk desk.old backlog.old)
-        → StepsTo M.makes M.ends shared start (R.remaining input.new) written machine.new (at_desk desk.new backlog.new) result }
-    ensures empty { result ≡ Step.Waits → desk.new.room ≡ [] }
-    ensures few { GoesOn result → desk.new.lines.counts.lines ≤ MAX_LINES }
-    ensures line { GoesOn result → desk.new.lines.line ≡ desk.old.lines.line }
+    requires line { IsLine buffers.old.lines.line }
+    requires all { buffers.old.lines.counts.lines ≡ MAX_LINES }
+    ensures steps { (shared : Bool) (start : Start M) (written : Option (List ℕ)) → FollowsSession M.makes M.ends shared start (R.remaining input.old) written machine.old (in_buffers buffers.old replies.old)
+        → StepsTo M.makes M.ends shared start (R.remaining input.new) written machine.new (in_buffers buffers.new replies.new) result }
+    ensures empty { result ≡ Step.Waits → buffers.new.input ≡ [] }
+    ensures few { GoesOn result → buffers.new.lines.counts.lines ≤ MAX_LINES }
+    ensures line { GoesOn result → buffers.new.lines.line ≡ buffers.old.lines.line }
     ensures passes { Passes M.makes M.ends machine.old machine.new }
     ensures knows { KnowsNoLess (M.reader machine.old) (M.reader machine.new) }
 {
-    if desk.room.is_empty() {
-        return look_for_more(desk, machine, backlog, input);
+    if buffers.input.is_empty() {
+        return look_for_more(buffers, machine, replies, input);
     }
     Step::Ends(Err(RunFault::TooManyTurns))
 }
 
 // Reads once after the last line that may be answered, where no input is held.
 fn look_for_more<M: LineHandler, R: Read>(
-    desk: &mut Desk,
+    buffers: &mut ThreadBuffers,
     machine: &mut M,
-    backlog: &mut Backlog,
+    replies: &mut OutputBuffer,
     input: &mut R,
 ) -> Step
     requires ready { M.ready }
-    requires line { IsLine desk.old.lines.line }
-    requires all { desk.old.lines.counts.lines ≡ MAX_LINES }
-    requires empty { desk.old.room ≡ [] }
-    ensures steps { (shared : Bool) (start : Start M) (written : Option (List ℕ)) → StandsIn M.makes M.ends shared start (R.remaining input.old) written machine.old (at_desk desk.old backlog.old)
-        → StepsTo M.makes M.ends shared start (R.remaining input.new) written machine.new (at_desk desk.new backlog.new) result }
-    ensures empty { result ≡ Step.Waits → desk.new.room ≡ [] }
-    ensures few { GoesOn result → desk.new.lines.counts.lines ≤ MAX_LINES }
-    ensures line { GoesOn result → desk.new.lines.line ≡ desk.old.lines.line }
+    requires line { IsLine buffers.old.lines.line }
+    requires all { buffers.old.lines.counts.lines ≡ MAX_LINES }
+    requires empty { buffers.old.input ≡ [] }
+    ensures steps { (shared : Bool) (start : Start M) (written : Option (List ℕ)) → FollowsSession M.makes M.ends shared start (R.remaining input.old) written machine.old (in_buffers buffers.old replies.old)
+        → StepsTo M.makes M.ends shared start (R.remaining input.new) written machine.new (in_buffers buffers.new replies.new) result }
+    ensures empty { result ≡ Step.Waits → buffers.new.input ≡ [] }
+    ensures few { GoesOn result → buffers.new.lines.counts.lines ≤ MAX_LINES }
+    ensures line { GoesOn result → buffers.new.lines.line ≡ buffers.old.lines.line }
     ensures passes { Passes M.makes M.ends machine.old machine.new }
     ensures knows { KnowsNoLess (M.reader machine.old) (M.reader machine.new) }
 {
-    match desk.room.read_from(input) {
+    match buffers.input.read_from(input) {
         Ok(more) => {
             if more {
                 return Step::Ends(Err(RunFault::TooManyTurns));
             }
-            let closed = close(desk, machine, backlog);
-            end(closed)
+            let closed = answer_end(buffers, machine, replies);
+            end_step(closed)
         }
-        Err(error) => not_read(&error),
+        Err(error) => fault_step(&error),
     }
 }
 
 // The step of an input that is at its end.
-fn end(closed: Result<Counts, WriteFault>) -> Step
+fn end_step(closed: Result<Counts, WriteFault>) -> Step
     ensures { MatchResult closed (λ counts. result ≡ Step.Ends (Ok counts)) (λ _. result ≡ Step.OutOfMemory) }
 {
     match closed {
@@ -197,7 +197,7 @@ fn end(closed: Result<Counts, WriteFault>) -> Step
 }
 
 // A source that would block has no input at hand. Another error of it ends the connection.
-fn not_read(error: &io::Error) -> Step
+fn fault_step(error: &io::Error) -> Step
     ensures waits { error_kind error.now ≡ ErrorKind.WouldBlock → result ≡ Step.Waits }
     ensures ends { error_kind error.now ≢ ErrorKind.WouldBlock → result ≡ Step.Ends (Err RunFault.Read) }
     ensures either { (result ≡ Step.Waits) ⊎ (result ≡ Step.Ends (Err RunFault.Read)) }
@@ -210,40 +210,40 @@ fn not_read(error: &io::Error) -> Step
 
 // Answers the line that was read, and begins another.
 fn answer<M: LineHandler>(
-    desk: &mut Desk,
+    buffers: &mut ThreadBuffers,
     machine: &mut M,
-    backlog: &mut Backlog,
+    replies: &mut OutputBuffer,
 ) -> Result<(), WriteFault>
     requires ready { M.ready }
-    requires line { IsLine desk.old.lines.line }
-    requires few { desk.old.lines.counts.lines < MAX_LINES }
-    ensures ok { (written : Option (List ℕ)) → OnOk result (Answered M.makes machine.old machine.new (loop_at desk.old backlog.old) (loop_at desk.new backlog.new) written written) }
-    ensures err { (written : Option (List ℕ)) → OnErr result (AnsweredInPart M.makes machine.old machine.new (loop_at desk.old backlog.old) written written) }
-    ensures begun { OnOk result (desk.new.lines.line ≡ so_far []) }
-    ensures few { OnOk result (desk.new.lines.counts.lines ≤ MAX_LINES) }
-    ensures room { desk.new.room ≡ desk.old.room }
+    requires line { IsLine buffers.old.lines.line }
+    requires few { buffers.old.lines.counts.lines < MAX_LINES }
+    ensures ok { (written : Option (List ℕ)) → OnOk result (Answered M.makes machine.old machine.new (loop_in buffers.old replies.old) (loop_in buffers.new replies.new) written written) }
+    ensures err { (written : Option (List ℕ)) → OnErr result (AnsweredInPart M.makes machine.old machine.new (loop_in buffers.old replies.old) written written) }
+    ensures begun { OnOk result (buffers.new.lines.line ≡ so_far []) }
+    ensures few { OnOk result (buffers.new.lines.counts.lines ≤ MAX_LINES) }
+    ensures input { buffers.new.input ≡ buffers.old.input }
     ensures passes { Passes M.makes M.ends machine.old machine.new }
     ensures knows { KnowsNoLess (M.reader machine.old) (M.reader machine.new) }
 {
-    desk.lines.answer_line(machine, backlog)?;
-    desk.lines.begin_line();
+    buffers.lines.answer_line(machine, replies)?;
+    buffers.lines.begin_line();
     Ok(())
 }
 
 // Answers the end of the input.
-fn close<M: LineHandler>(
-    desk: &mut Desk,
+fn answer_end<M: LineHandler>(
+    buffers: &mut ThreadBuffers,
     machine: &mut M,
-    backlog: &mut Backlog,
+    replies: &mut OutputBuffer,
 ) -> Result<Counts, WriteFault>
     requires ready { M.ready }
-    requires line { IsLine desk.old.lines.line }
-    requires few { desk.old.lines.counts.lines ≤ MAX_LINES }
-    ensures ok { (written : Option (List ℕ)) → IfOk result (λ counts. Closed M.ends machine.old machine.new (loop_at desk.old backlog.old) (loop_at desk.new backlog.new) written written counts) }
-    ensures err { (written : Option (List ℕ)) → OnErr result (AnsweredInPart M.ends machine.old machine.new (loop_at desk.old backlog.old) written written) }
-    ensures room { desk.new.room ≡ desk.old.room }
+    requires line { IsLine buffers.old.lines.line }
+    requires few { buffers.old.lines.counts.lines ≤ MAX_LINES }
+    ensures ok { (written : Option (List ℕ)) → IfOk result (λ counts. Closed M.ends machine.old machine.new (loop_in buffers.old replies.old) (loop_in buffers.new replies.new) written written counts) }
+    ensures err { (written : Option (List ℕ)) → OnErr result (AnsweredInPart M.ends machine.old machine.new (loop_in buffers.old replies.old) written written) }
+    ensures input { buffers.new.input ≡ buffers.old.input }
     ensures passes { Passes M.makes M.ends machine.old machine.new }
     ensures knows { KnowsNoLess (M.reader machine.old) (M.reader machine.new) }
 {
-    desk.lines.close(machine, backlog)
+    buffers.lines.answer_end(machine, replies)
 }

@@ -2,16 +2,16 @@
 #![tactic(auto)]
 
 ghost use Rattle.std.specs.Prelude.{◌≤◌, IfOk};
-ghost use Rattle.pn_live.specs.Prelude.{max_readers};
+ghost use Rattle.pn_live.specs.Prelude.{MAX_READERS};
 
-mod places;
-mod served;
+mod addresses;
+mod sessions;
 mod staying;
 mod streams;
 
-use crate::places::{Listening, begin_to_listen, cannot_start};
-use crate::served::serve_streams;
-use crate::staying::{Begun, begin_to_stay, cannot_stay, go_on};
+use crate::addresses::{Inputs, open_inputs, refuse_start};
+use crate::sessions::serve_streams;
+use crate::staying::{answer_on, fail_to_stay, start_staying};
 use pn_serve::{Plan, PlanFault, RunFault, Service, Settings, plan, run_to_exit};
 use pn_stay::tell_progress;
 use std::alloc::Global;
@@ -25,7 +25,7 @@ use std::thread::Threads;
 use std::{env, io, thread};
 
 /// How many bytes of the script are read at a time.
-const INPUT_ROOM: usize = 65_536;
+const SCRIPT_READ_SIZE: usize = 65_536;
 
 /// The exit status of refused arguments.
 const REFUSED: u8 = 2;
@@ -34,37 +34,32 @@ fn main(rt: HostRuntime) -> ExitCode {
     let Prepared {
         settings,
         service,
-        listening,
+        inputs,
     } = match prepare(&rt) {
         Ok(prepared) => prepared,
         Err(status) => return status,
     };
-    let Listening {
-        house,
-        opened,
-        told,
-    } = listening;
-    if let Some(watch) = told {
-        let telling = thread::spawn(&rt, move || tell_progress(&rt, rt.alloc(), &watch));
+    let Inputs {
+        acceptor,
+        streams,
+        shown,
+    } = inputs;
+    if let Some(counters) = shown {
+        let telling = thread::spawn(&rt, move || tell_progress(&rt, rt.alloc(), &counters));
         if telling.is_err() {
-            return cannot_start(&rt, &service.place);
+            return refuse_start(&rt, &service.address);
         }
     }
     let Some(connections) = service.stay else {
-        return serve_streams(&rt, settings, &service, &house, opened);
+        return serve_streams(&rt, settings, &service, &acceptor, streams);
     };
-    match begin_to_stay(&rt, settings, &service, connections, house, opened) {
-        Ok(begun) => {
-            let Begun {
-                server,
-                feeds,
-                rounds,
-            } = begun;
+    match start_staying(&rt, settings, &service, connections, acceptor, streams) {
+        Ok((server, streams)) => {
             let mut server = server;
-            let read = server.read_feeds(&rt, rt.alloc(), feeds, rounds);
-            go_on(&rt, &service.place, server, read)
+            let read = server.read_streams(&rt, rt.alloc(), streams);
+            answer_on(&rt, &service.address, server, read)
         }
-        Err(fault) => cannot_stay(&rt, &service.place, fault),
+        Err(fault) => fail_to_stay(&rt, &service.address, fault),
     }
 }
 
@@ -73,10 +68,10 @@ fn main(rt: HostRuntime) -> ExitCode {
 struct Prepared {
     settings: Settings,
     service: Service,
-    listening: Listening,
+    inputs: Inputs,
 }
 
-// Listens where the words ask for it. Else all is done, or it has told why not, and the program ends so.
+// Opens what the words ask to be served. Else all is done, or refused, and the program ends with this status.
 fn prepare<R>(rt: &R) -> Result<Prepared, ExitCode>
 where
     R: AllocGlobal
@@ -88,9 +83,9 @@ where
         + Eprint
         + Threads
         + Sync,
-    ensures { IfOk result (λ prepared. (1 ≤ prepared.service.sessions) × (prepared.service.sessions ≤ max_readers)) }
+    ensures { IfOk result (λ prepared. (1 ≤ prepared.service.sessions) × (prepared.service.sessions ≤ MAX_READERS)) }
 {
-    let Ok(words) = words_of(rt) else {
+    let Ok(words) = collect_words(rt) else {
         return Err(fail(rt, "memory"));
     };
     match plan(rt.alloc(), &words) {
@@ -101,20 +96,20 @@ where
                 streams,
             },
         ) => {
-            let listening = begin_to_listen(rt, &service, streams)?;
+            let inputs = open_inputs(rt, &service, streams)?;
             Ok(Prepared {
                 settings,
                 service,
-                listening,
+                inputs,
             })
         }
         Ok(Plan::Replay(settings)) => Err(replay(rt, settings)),
         Ok(Plan::Help(text) | Plan::Version(text)) => Err(show(rt, text.as_str())),
-        Err(fault) => Err(refused(rt, fault)),
+        Err(fault) => Err(refuse_plan(rt, fault)),
     }
 }
 
-fn words_of(rt: &(impl AllocGlobal + Env)) -> io::Result<Vec<String>> {
+fn collect_words(rt: &(impl AllocGlobal + Env)) -> io::Result<Vec<String>> {
     Ok(env::args(rt)?.collect(rt.alloc())?)
 }
 
@@ -125,7 +120,7 @@ fn show(rt: &impl Print, text: &str) -> ExitCode {
     }
 }
 
-fn refused(rt: &impl Eprint, fault: PlanFault) -> ExitCode {
+fn refuse_plan(rt: &impl Eprint, fault: PlanFault) -> ExitCode {
     match fault {
         PlanFault::Words(text) => refuse(rt, text.as_str()),
         PlanFault::Bounds => refuse(rt, "pnuts: bounds\n"),
@@ -157,7 +152,7 @@ fn replay(
 ) -> ExitCode {
     match answer_input(rt, settings) {
         Ok(()) => ExitCode::SUCCESS,
-        Err(fault) => fail(rt, word_of(fault)),
+        Err(fault) => fail(rt, fault_word(fault)),
     }
 }
 
@@ -165,14 +160,14 @@ fn answer_input(
     rt: &(impl AllocGlobal + Input + Print + Threads + Sync),
     settings: Settings,
 ) -> Result<(), RunFault> {
-    let Ok(mut input) = BufReader::with_capacity(rt.alloc(), INPUT_ROOM, rt.reader()) else {
+    let Ok(mut input) = BufReader::with_capacity(rt.alloc(), SCRIPT_READ_SIZE, rt.reader()) else {
         return Err(RunFault::Memory);
     };
     run_to_exit(rt, rt.alloc(), &mut input, &mut io::writer(rt), settings)?;
     Ok(())
 }
 
-fn word_of(fault: RunFault) -> &'static str {
+fn fault_word(fault: RunFault) -> &'static str {
     match fault {
         RunFault::Read => "read",
         RunFault::Write => "write",

@@ -1,16 +1,16 @@
 //! A server that stays: its streams are opened again, and it ends only by a signal.
 
 ghost use Rattle.std.specs.Prelude.{◌≡◌, ◌≤◌, vec_len, IfOk, IfSome};
-ghost use Rattle.pn_live.specs.Prelude.{max_readers};
+ghost use Rattle.pn_live.specs.Prelude.{MAX_READERS};
 ghost use Rattle.pn_serve.specs.Server.Reading.{IsAnew};
 
+use crate::addresses::remove_socket;
 use crate::fail;
-use crate::places::leave;
-use crate::served::tell;
-use crate::streams::{FileSource, Opened, open_file};
+use crate::sessions::fail_serving;
+use crate::streams::{FileSource, StreamFile, open_file};
 use pn_join::Name;
-use pn_serve::{Feed, Origin, Place, ServeFault, Service, Settings, Tally};
-use pn_stay::{House, StayingServer, Taken, before_others};
+use pn_serve::{Address, Origin, ServeFault, Service, Settings, Stream};
+use pn_stay::{InputCounters, SocketAcceptor, StayingServer, message_prefix};
 use pn_stream::StreamReader;
 use std::alloc::{AllocError, Global};
 use std::fs::File;
@@ -21,22 +21,15 @@ use std::sync::{Arc, Wait};
 use std::thread::Threads;
 use std::time::Clock;
 
-/// A server that listens, the streams that it is to read, and where its rounds are counted.
-pub(crate) struct Begun<R: Files<File = File> + Eprint + Drop> {
-    pub(crate) server: StayingServer,
-    pub(crate) feeds: Vec<FileFeed<R>>,
-    pub(crate) rounds: Option<Arc<Tally>>,
-}
-
-/// Begins to answer connections.
-pub(crate) fn begin_to_stay<R>(
+/// Starts to answer connections. The server is still to read the streams.
+pub(crate) fn start_staying<R>(
     rt: &R,
     settings: Settings,
     service: &Service,
     connections: u32,
-    house: House,
-    opened: Vec<Opened>,
-) -> Result<Begun<R>, ServeFault>
+    acceptor: SocketAcceptor,
+    streams: Vec<StreamFile>,
+) -> Result<(StayingServer, Vec<FileStream<R>>), ServeFault>
 where
     R: AllocGlobal
         + Files<File = File>
@@ -49,60 +42,48 @@ where
         + Copy
         + Send
         + 'static,
-    requires { (1 ≤ service.now.sessions) × (service.now.sessions ≤ max_readers) }
+    requires { (1 ≤ service.now.sessions) × (service.now.sessions ≤ MAX_READERS) }
 {
-    let Ok(feeds) = feeds_of(rt, rt.alloc(), opened, service.is_progress_told) else {
+    let Ok(streams) = add_origins(rt, rt.alloc(), streams, service.is_progress_told) else {
         return Err(ServeFault::Start);
     };
-    let rounds = rounds_of(&house);
     let server = StayingServer::start(
         rt,
         rt.alloc(),
-        house,
+        acceptor,
         settings,
         service.sessions,
         connections as usize,
     )?;
-    Ok(Begun {
-        server,
-        feeds,
-        rounds,
-    })
+    Ok((server, streams))
 }
 
-fn rounds_of(house: &House) -> Option<Arc<Tally>> {
-    match Arc::try_clone(&house.watch.rounds) {
-        Ok(rounds) => Some(rounds),
-        Err(_) => None,
-    }
-}
-
-/// Ends what it listened on, and says why it does not stay.
-pub(crate) fn cannot_stay(
+/// Prints why it does not stay, and ends what it listened on.
+pub(crate) fn fail_to_stay(
     rt: &(impl Files + Eprint),
-    place: &Place,
+    address: &Address,
     fault: ServeFault,
 ) -> ExitCode {
-    leave(rt, place);
-    tell(rt, fault)
+    remove_socket(rt, address);
+    fail_serving(rt, fault)
 }
 
-/// Tells of a fault of the reading, and answers until a signal ends the program.
-pub(crate) fn go_on<R: Threads + Wait + Eprint + Files>(
+/// Prints a fault of the reading, and answers until a signal ends the program.
+pub(crate) fn answer_on<R: Threads + Wait + Eprint + Files>(
     rt: &R,
-    place: &Place,
+    address: &Address,
     server: StayingServer,
     read: Result<(), ServeFault>,
 ) -> ExitCode {
     if let Err(fault) = read {
-        let _ = tell(rt, fault);
+        let _ = fail_serving(rt, fault);
     }
     server.wait(rt);
-    leave(rt, place);
+    remove_socket(rt, address);
     fail(rt, "cannot serve")
 }
 
-// The path of a stream's file, whether it is a FIFO, and where what is taken from it is counted.
+/// The file from which a stream is opened again, if it is a FIFO.
 #[derive(Drop)]
 pub(crate) struct FileOrigin<R> {
     rt: R,
@@ -110,23 +91,23 @@ pub(crate) struct FileOrigin<R> {
     name: Name,
     path: String,
     is_fifo: bool,
-    taken: Option<Arc<Taken>>,
+    counters: Option<Arc<InputCounters>>,
     // What goes before each of its lines on standard error.
-    before: &'static str,
+    prefix: &'static str,
 }
 
 impl<R> FileOrigin<R>
 where
     R: Files<File = File> + Eprint + Drop,
 {
-    fn say(&self, how: &str) {
-        let _ = eprintln!(self.rt; "{}pnuts: stream {}{how}", self.before, self.name.as_str());
+    fn print(&self, how: &str) {
+        let _ = eprintln!(self.rt; "{}pnuts: stream {}{how}", self.prefix, self.name.as_str());
     }
 
     // Its next messages are the first ones.
     fn count_anew(&self) {
-        if let Some(taken) = &self.taken {
-            taken.clear();
+        if let Some(counters) = &self.counters {
+            counters.clear();
         }
     }
 }
@@ -136,7 +117,7 @@ where
     R: Files<File = File> + Eprint + Drop,
 {
     fn open_again(&mut self) -> Option<StreamReader<FileSource>> {
-        self.say(" ended");
+        self.print(" ended");
         if !self.is_fifo {
             return None;
         }
@@ -145,68 +126,67 @@ where
             self.alloc,
             &self.name,
             self.path.as_str(),
-            &self.taken,
+            &self.counters,
         ) {
-            Ok((stream, _)) => {
+            Ok((reader, _)) => {
                 self.count_anew();
-                self.say(" begins again");
-                Some(stream)
+                self.print(" begins again");
+                Some(reader)
             }
             Err(_) => {
-                self.say(" failed");
+                self.print(" failed");
                 None
             }
         }
     }
 
-    fn fail(&mut self) {
-        self.say(" failed");
+    fn note_fault(&mut self) {
+        self.print(" failed");
     }
 }
 
-pub(crate) type FileFeed<R> = Feed<FileSource, FileOrigin<R>>;
+pub(crate) type FileStream<R> = Stream<FileSource, FileOrigin<R>>;
 
-// The streams, with where they come from.
-fn feeds_of<R: Files<File = File> + Eprint + Copy + Drop>(
+fn add_origins<R: Files<File = File> + Eprint + Copy + Drop>(
     rt: &R,
     alloc: Global,
-    opened: Vec<Opened>,
+    streams: Vec<StreamFile>,
     is_progress_told: bool,
-) -> Result<Vec<FileFeed<R>>, AllocError>
-    ensures { IfOk result (λ feeds. vec_len feeds ≡ vec_len opened) }
+) -> Result<Vec<FileStream<R>>, AllocError>
+    ensures { IfOk result (λ with_origins. vec_len with_origins ≡ vec_len streams) }
 {
-    let before = before_others(is_progress_told);
-    let mut feeds = Vec::with_capacity(alloc, opened.len())?;
-    for one in opened {
-        feeds.push(feed_of(rt, alloc, one, before))?;
+    let prefix = message_prefix(is_progress_told);
+    let mut with_origins = Vec::with_capacity(alloc, streams.len())?;
+    for stream in streams {
+        with_origins.push(add_origin(rt, alloc, stream, prefix))?;
     }
-    Ok(feeds)
+    Ok(with_origins)
 }
 
-fn feed_of<R: Files<File = File> + Eprint + Copy + Drop>(
+fn add_origin<R: Files<File = File> + Eprint + Copy + Drop>(
     rt: &R,
     alloc: Global,
-    opened: Opened,
-    before: &'static str,
-) -> FileFeed<R> {
-    let Opened {
+    stream: StreamFile,
+    prefix: &'static str,
+) -> FileStream<R> {
+    let StreamFile {
         name,
         path,
-        stream,
-        taken,
+        reader,
+        counters,
         is_fifo,
         ..
-    } = opened;
-    Feed {
-        stream,
+    } = stream;
+    Stream {
+        reader,
         origin: FileOrigin {
             rt: *rt,
             alloc,
             name,
             path,
             is_fifo,
-            taken,
-            before,
+            counters,
+            prefix,
         },
     }
 }

@@ -4,8 +4,8 @@ ghost use Rattle.std.specs.Prelude.{◌≡◌, vec_len, IfOk};
 ghost use Rattle.pn_serve.specs.Server.Reading.{IsAnew};
 
 use crate::{fail, fail_about};
-use pn_join::{Dup, Name};
-use pn_stay::{Counted, StreamWatch, Taken};
+use pn_join::Name;
+use pn_stay::{CountingSource, InputCounters, StreamCounters};
 use pn_stream::StreamReader;
 use std::alloc::{AllocError, Global};
 use std::fs::File;
@@ -17,82 +17,86 @@ use std::rt::Files;
 use std::sync::Arc;
 
 /// How many bytes of a stream are read at a time.
-const STREAM_ROOM: usize = 1_048_576;
+const STREAM_READ_SIZE: usize = 1_048_576;
 
 /// What a stream is read from.
-pub(crate) type FileSource = Counted<BufReader<File>>;
+pub(crate) type FileSource = CountingSource<BufReader<File>>;
 
-/// A file of a stream, and its messages.
+/// A stream that is read from a file.
 #[derive(Drop)]
-pub(crate) struct Opened {
+pub(crate) struct StreamFile {
     pub(crate) name: Name,
     pub(crate) path: String,
-    pub(crate) stream: StreamReader<FileSource>,
-    pub(crate) taken: Option<Arc<Taken>>,
+    pub(crate) reader: StreamReader<FileSource>,
+    /// The counters of what is read, where somebody looks at them.
+    pub(crate) counters: Option<Arc<InputCounters>>,
     pub(crate) is_fifo: bool,
     size: Option<u64>,
 }
 
 /// Why the streams were not opened.
 #[derive(Drop)]
-pub(crate) enum Unopened {
+pub(crate) enum OpenFault {
     /// The file of the stream of this name does not open.
     File(Name),
     Memory,
 }
 
-pub(crate) fn tell_unopened(rt: &impl Eprint, unopened: Unopened) -> ExitCode {
-    match unopened {
-        Unopened::File(name) => fail_about(rt, "cannot open ", name.as_str(), ""),
-        Unopened::Memory => fail(rt, "memory"),
+impl From<AllocError> for OpenFault {
+    fn from(_fault: AllocError) -> OpenFault {
+        OpenFault::Memory
     }
 }
 
-/// Opens the files of the streams in their order. What is taken from them is counted where somebody looks at it.
-pub(crate) fn open_all<R: Files<File = File>>(
+/// Prints why the streams were not opened.
+pub(crate) fn refuse_streams(rt: &impl Eprint, fault: OpenFault) -> ExitCode {
+    match fault {
+        OpenFault::File(name) => fail_about(rt, "cannot open ", name.as_str(), ""),
+        OpenFault::Memory => fail(rt, "memory"),
+    }
+}
+
+/// Opens the files of the streams in their order.
+pub(crate) fn open_streams<R: Files<File = File>>(
     rt: &R,
     alloc: Global,
     streams: Vec<(Name, String)>,
     is_counted: bool,
-) -> Result<Vec<Opened>, Unopened>
+) -> Result<Vec<StreamFile>, OpenFault>
     ensures { IfOk result (λ opened. vec_len opened ≡ vec_len streams) }
 {
-    let Ok(mut opened) = Vec::with_capacity(alloc, streams.len()) else {
-        return Err(Unopened::Memory);
-    };
+    let mut opened = Vec::with_capacity(alloc, streams.len())?;
     for (name, path) in streams {
-        let one = open_one(rt, alloc, name, path, is_counted)?;
-        if opened.push(one).is_err() {
-            return Err(Unopened::Memory);
+        let stream = open_stream(rt, alloc, name, path, is_counted)?;
+        if opened.push(stream).is_err() {
+            return Err(OpenFault::Memory);
         }
     }
     Ok(opened)
 }
 
-fn open_one<R: Files<File = File>>(
+fn open_stream<R: Files<File = File>>(
     rt: &R,
     alloc: Global,
     name: Name,
     path: String,
     is_counted: bool,
-) -> Result<Opened, Unopened> {
-    let Ok(taken) = new_count(alloc, is_counted) else {
-        return Err(Unopened::Memory);
-    };
-    let (stream, kind) = open_file(rt, alloc, &name, path.as_str(), &taken)?;
-    Ok(Opened {
+) -> Result<StreamFile, OpenFault> {
+    let counters = new_counters(alloc, is_counted)?;
+    let (reader, kind) = open_file(rt, alloc, &name, path.as_str(), &counters)?;
+    Ok(StreamFile {
         name,
         path,
-        stream,
-        taken,
+        reader,
+        counters,
         is_fifo: kind.is_fifo,
         size: kind.size,
     })
 }
 
-fn new_count(alloc: Global, is_counted: bool) -> Result<Option<Arc<Taken>>, AllocError> {
+fn new_counters(alloc: Global, is_counted: bool) -> Result<Option<Arc<InputCounters>>, AllocError> {
     if is_counted {
-        Ok(Some(Arc::new(alloc, Taken::new())?))
+        Ok(Some(Arc::new(alloc, InputCounters::new())?))
     } else {
         Ok(None)
     }
@@ -100,7 +104,7 @@ fn new_count(alloc: Global, is_counted: bool) -> Result<Option<Arc<Taken>>, Allo
 
 /// What a file is.
 #[derive(Drop)]
-pub(crate) struct Kind {
+pub(crate) struct FileKind {
     is_fifo: bool,
     // How many bytes it has, where it ends.
     size: Option<u64>,
@@ -112,32 +116,27 @@ pub(crate) fn open_file<R: Files<File = File>>(
     alloc: Global,
     name: &Name,
     path: &str,
-    taken: &Option<Arc<Taken>>,
-) -> Result<(StreamReader<FileSource>, Kind), Unopened>
+    counters: &Option<Arc<InputCounters>>,
+) -> Result<(StreamReader<FileSource>, FileKind), OpenFault>
     ensures { IfOk result (λ opened. IsAnew opened.0) }
 {
     let Ok(file) = File::open(rt, path) else {
-        return Err(Unopened::File(same_name(name)));
+        return Err(OpenFault::File(*name));
     };
-    let kind = kind_of(&file).unwrap_or(Kind {
+    let kind = read_kind(&file).unwrap_or(FileKind {
         is_fifo: false,
         size: None,
     });
-    let (Ok(source), Ok(taken)) = (
-        BufReader::with_capacity(alloc, STREAM_ROOM, file),
-        same_count(taken),
-    ) else {
-        return Err(Unopened::Memory);
+    let Ok(source) = BufReader::with_capacity(alloc, STREAM_READ_SIZE, file) else {
+        return Err(OpenFault::Memory);
     };
-    Ok((
-        StreamReader::new(alloc, same_name(name), 0, Counted::new(source, taken)),
-        kind,
-    ))
+    let source = CountingSource::new(source, share_counters(counters)?);
+    Ok((StreamReader::new(alloc, *name, 0, source), kind))
 }
 
-fn kind_of(file: &File) -> io::Result<Kind> {
+fn read_kind(file: &File) -> io::Result<FileKind> {
     let metadata = file.metadata()?;
-    Ok(Kind {
+    Ok(FileKind {
         is_fifo: metadata.file_type().is_fifo(),
         size: if metadata.is_file() {
             Some(metadata.len())
@@ -147,29 +146,29 @@ fn kind_of(file: &File) -> io::Result<Kind> {
     })
 }
 
-fn same_count(taken: &Option<Arc<Taken>>) -> Result<Option<Arc<Taken>>, AllocError> {
-    match taken {
-        Some(taken) => Ok(Some(Arc::try_clone(taken)?)),
+fn share_counters(
+    counters: &Option<Arc<InputCounters>>,
+) -> Result<Option<Arc<InputCounters>>, AllocError> {
+    match counters {
+        Some(counters) => Ok(Some(Arc::try_clone(counters)?)),
         None => Ok(None),
     }
 }
 
-fn same_name(name: &Name) -> Name {
-    let Ok(name) = name.dup() else { unreachable!() };
-    name
-}
-
-/// How far the streams are, of those that are counted.
-pub(crate) fn watches_of(alloc: Global, opened: &[Opened]) -> Result<Vec<StreamWatch>, AllocError> {
-    let mut watches = Vec::with_capacity(alloc, opened.len())?;
-    for one in opened {
-        if let Some(taken) = &one.taken {
-            watches.push(StreamWatch {
-                name: same_name(&one.name),
-                taken: Arc::try_clone(taken)?,
-                size: one.size,
+/// The counters of the streams that are counted.
+pub(crate) fn stream_counters(
+    alloc: Global,
+    streams: &[StreamFile],
+) -> Result<Vec<StreamCounters>, AllocError> {
+    let mut counted = Vec::with_capacity(alloc, streams.len())?;
+    for stream in streams {
+        if let Some(counters) = &stream.counters {
+            counted.push(StreamCounters {
+                name: stream.name,
+                input: Arc::try_clone(counters)?,
+                size: stream.size,
             })?;
         }
     }
-    Ok(watches)
+    Ok(counted)
 }

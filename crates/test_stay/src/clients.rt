@@ -1,34 +1,35 @@
-//! A client in its place, and the rooms that its turns use: each call where it succeeds.
+//! A connection's turns, and the buffers that they use: each call where it succeeds.
 
 use crate::echo::Echo;
-use crate::{TURNS, pieces_of, shown, takes_of};
+use crate::{TURNS, read_pieces, read_takes, show};
 use pn_join::Name;
 use pn_line::{InMemory, LineBuffer, LineEnd, Sink, Source, read_line};
 use pn_stay::{
-    Backlog, Client, Counted, Desk, Pause, Pieces, Room, Sent, StreamWatch, Taken, Takes, Watch,
+    ConnectionState, Counters, CountingSource, InputBuffer, InputCounters, OutputBuffer, Pause,
+    ScriptedSink, ScriptedSource, SendOutcome, StreamCounters, ThreadBuffers,
 };
 use std::alloc::Global;
 use std::sync::Arc;
 use std::test::Fail;
 
-/// How each turn of a client paused, what its socket took, and how many lines were answered.
-pub(crate) fn turns(alloc: Global, line: &str) -> Result<String, Fail> {
+/// How each turn of a connection paused, what its socket took, and how many lines were answered.
+pub(crate) fn take_turns(alloc: Global, line: &str) -> Result<String, Fail> {
     let (takes, text) = line.split_once(' ').unwrap_or(("", ""));
-    let pieces = pieces_of(alloc, text)?;
-    let takes = takes_of(alloc, takes)?;
-    let mut input = Pieces::new(&pieces);
-    let mut output = Takes::new(alloc, &takes);
-    let mut desk = Desk::new(alloc)?;
-    let mut client = Client::new(alloc);
+    let pieces = read_pieces(alloc, text)?;
+    let takes = read_takes(alloc, takes)?;
+    let mut input = ScriptedSource::new(&pieces);
+    let mut output = ScriptedSink::new(alloc, &takes);
+    let mut buffers = ThreadBuffers::new(alloc)?;
+    let mut state = ConnectionState::new(alloc);
     let mut pauses = String::new(alloc);
     for _ in 0..TURNS {
-        match client.turn(&mut desk, &mut Echo, &mut input, &mut output) {
+        match state.turn_in_place(alloc, &mut buffers, &mut Echo, &mut input, &mut output) {
             Some(pause) => pauses.push(sign(pause))?,
             None => break,
         }
     }
-    let taken = shown(alloc, output.taken())?;
-    Ok(format!(in alloc; "{pauses} {taken} of {} lines", desk.take_answered())?)
+    let taken = show(alloc, output.bytes())?;
+    Ok(format!(in alloc; "{pauses} {taken} of {} lines", buffers.take_line_count())?)
 }
 
 fn sign(pause: Pause) -> char {
@@ -39,40 +40,40 @@ fn sign(pause: Pause) -> char {
     }
 }
 
-/// What a sink took of a backlog, and what waits on.
-pub(crate) fn backlog(alloc: Global, line: &str) -> Result<String, Fail> {
+/// What a sink took of an output buffer, and what waits on.
+pub(crate) fn send_output(alloc: Global, line: &str) -> Result<String, Fail> {
     let (takes, text) = line.split_once(' ').unwrap_or(("", ""));
-    let takes = takes_of(alloc, takes)?;
-    let mut output = Takes::new(alloc, &takes);
-    let mut backlog = Backlog::new(alloc);
-    let kept = backlog.write_some(text.as_bytes()).ok().unwrap_or(0);
-    let sent = match backlog.send(&mut output) {
-        Ok(Sent::All) => "all",
-        Ok(Sent::Waits) => "waits",
+    let takes = read_takes(alloc, takes)?;
+    let mut output = ScriptedSink::new(alloc, &takes);
+    let mut replies = OutputBuffer::new(alloc);
+    let kept = replies.write_some(text.as_bytes()).ok().unwrap_or(0);
+    let sent = match replies.send(&mut output) {
+        Ok(SendOutcome::All) => "all",
+        Ok(SendOutcome::Waits) => "waits",
         Err(_) => "a fault",
     };
-    let taken = shown(alloc, output.taken())?;
-    Ok(format!(in alloc; "{taken} of {kept}, {sent}, {}", backlog.is_empty())?)
+    let taken = show(alloc, output.bytes())?;
+    Ok(format!(in alloc; "{taken} of {kept}, {sent}, {}", replies.is_empty())?)
 }
 
-/// What a room holds after each of two reads.
-pub(crate) fn room(alloc: Global, text: &str) -> Result<String, Fail> {
-    let pieces = pieces_of(alloc, text)?;
-    let mut input = Pieces::new(&pieces);
-    let mut room = Room::new(alloc)?;
-    let first = room.read_from(&mut input)?;
-    let held = shown(alloc, room.held())?;
-    let second = room.read_from(&mut input)?;
-    let then = shown(alloc, room.held())?;
+/// What an input buffer holds after each of two reads.
+pub(crate) fn read_input(alloc: Global, text: &str) -> Result<String, Fail> {
+    let pieces = read_pieces(alloc, text)?;
+    let mut input = ScriptedSource::new(&pieces);
+    let mut buffer = InputBuffer::new(alloc)?;
+    let first = buffer.read_from(&mut input)?;
+    let held = show(alloc, buffer.bytes())?;
+    let second = buffer.read_from(&mut input)?;
+    let then = show(alloc, buffer.bytes())?;
     Ok(format!(in alloc; "{held} {first}, {then} {second}")?)
 }
 
 /// The lines and bytes that were counted of a source, under the name of a stream.
-pub(crate) fn counted(alloc: Global, text: &str) -> Result<String, Fail> {
+pub(crate) fn count_input(alloc: Global, text: &str) -> Result<String, Fail> {
     let text = text.replace(alloc, '|', "\n")?;
-    let taken = Arc::new(alloc, Taken::new())?;
-    let watch = watch_of(alloc, Arc::try_clone(&taken)?)?;
-    let mut source = Counted::new(InMemory::new(text.as_str().as_bytes()), Some(taken));
+    let input = Arc::new(alloc, InputCounters::new())?;
+    let counters = new_counters(alloc, Arc::try_clone(&input)?)?;
+    let mut source = CountingSource::new(InMemory::new(text.as_str().as_bytes()), Some(input));
     let mut line = LineBuffer::new(alloc)?;
     for _ in 0..TURNS {
         if read_line(&mut line, &mut source)? == LineEnd::EndOfInput {
@@ -80,23 +81,23 @@ pub(crate) fn counted(alloc: Global, text: &str) -> Result<String, Fail> {
         }
     }
     let more = source.has_more()?;
-    match watch.streams.first() {
+    match counters.streams.first() {
         Some(stream) => Ok(format!(in alloc;
             "{} {} {} {more}",
             stream.name.as_str(),
-            stream.taken.lines.number(),
-            stream.taken.bytes.number()
+            stream.input.lines.get(),
+            stream.input.bytes.get()
         )?),
         None => Ok(String::new(alloc)),
     }
 }
 
-fn watch_of(alloc: Global, taken: Arc<Taken>) -> Result<Watch, Fail> {
+fn new_counters(alloc: Global, input: Arc<InputCounters>) -> Result<Counters, Fail> {
     let mut streams = Vec::with_capacity(alloc, 1)?;
-    streams.push(StreamWatch {
+    streams.push(StreamCounters {
         name: Name::read(b"east")?,
-        taken,
+        input,
         size: None,
     })?;
-    Ok(Watch::new(alloc, streams)?)
+    Ok(Counters::new(alloc, streams)?)
 }

@@ -29,7 +29,7 @@ impl LineHandler for Echo {
         Reply::Text(text)
     }
 
-    fn end(&mut self, alloc: Global, part: &LineBuffer) -> Reply {
+    fn answer_end(&mut self, alloc: Global, part: &LineBuffer) -> Reply {
         if part.is_empty() {
             return Reply::Silent;
         }

@@ -9,13 +9,13 @@ mod echo;
 mod served;
 mod talks;
 
-use clients::{backlog, counted, room, turns};
+use clients::{count_input, read_input, send_output, take_turns};
 use echo::Echo;
 use pn_stay::every_way_of_coming_and_going;
-use served::{listens, serves, stays};
+use served::{answer_flood, listen_twice, serve_session, stay_until_idle};
 use std::alloc::Global;
 use std::test::Fail;
-use test_kit::{answer_lines, spelled};
+use test_kit::{answer_lines, spell_out};
 
 /// How many turns a connection has at most.
 pub(crate) const TURNS: u32 = 100_000;
@@ -26,15 +26,16 @@ const SHOWN: usize = 80;
 fn main(rt: HostRuntime) -> Result<(), Fail> {
     let alloc = rt.alloc();
     answer_lines(&rt, |line| {
-        let line = spelled(alloc, line)?;
+        let line = spell_out(alloc, line)?;
         match line.as_str().split_once(' ') {
-            Some(("turns", text)) => turns(alloc, text),
-            Some(("backlog", text)) => backlog(alloc, text),
-            Some(("room", text)) => room(alloc, text),
-            Some(("counted", text)) => counted(alloc, text),
-            Some(("listens", _)) => listens(&rt, alloc),
-            Some(("serves", place)) => serves(&rt, alloc, place),
-            Some(("stays", place)) => stays(&rt, alloc, place),
+            Some(("turns", text)) => take_turns(alloc, text),
+            Some(("output", text)) => send_output(alloc, text),
+            Some(("input", text)) => read_input(alloc, text),
+            Some(("counted", text)) => count_input(alloc, text),
+            Some(("listens", _)) => listen_twice(&rt, alloc),
+            Some(("serves", at)) => serve_session(&rt, alloc, at),
+            Some(("stays", at)) => stay_until_idle(&rt, alloc, at),
+            Some(("flood", _)) => answer_flood(&rt, alloc),
             _ => answer(alloc, line.as_str()),
         }
     })
@@ -42,10 +43,10 @@ fn main(rt: HostRuntime) -> Result<(), Fail> {
 
 fn answer(alloc: Global, line: &str) -> Result<String, Fail> {
     let (takes, text) = line.split_once(' ').unwrap_or(("", ""));
-    let pieces = pieces_of(alloc, text)?;
-    let takes = takes_of(alloc, takes)?;
+    let pieces = read_pieces(alloc, text)?;
+    let takes = read_takes(alloc, takes)?;
     let (ended, taken) = every_way_of_coming_and_going(alloc, &mut Echo, &pieces, &takes, TURNS)?;
-    let taken = shown(alloc, &taken)?;
+    let taken = show(alloc, &taken)?;
     match ended {
         Some(Ok(counts)) => Ok(format!(in alloc; "{taken} of {} lines", counts.lines)?),
         Some(Err(_)) => Ok(format!(in alloc; "{taken} and a fault")?),
@@ -53,7 +54,7 @@ fn answer(alloc: Global, line: &str) -> Result<String, Fail> {
     }
 }
 
-pub(crate) fn pieces_of(alloc: Global, text: &str) -> Result<Vec<Vec<u8>>, Fail> {
+pub(crate) fn read_pieces(alloc: Global, text: &str) -> Result<Vec<Vec<u8>>, Fail> {
     let mut pieces = Vec::new(alloc);
     for part in text.split('+') {
         let mut piece = Vec::new(alloc);
@@ -65,7 +66,7 @@ pub(crate) fn pieces_of(alloc: Global, text: &str) -> Result<Vec<Vec<u8>>, Fail>
     Ok(pieces)
 }
 
-pub(crate) fn takes_of(alloc: Global, text: &str) -> Result<Vec<usize>, Fail> {
+pub(crate) fn read_takes(alloc: Global, text: &str) -> Result<Vec<usize>, Fail> {
     let mut takes = Vec::new(alloc);
     for part in text.split(',') {
         takes.push(part.parse::<usize>()?)?;
@@ -74,7 +75,7 @@ pub(crate) fn takes_of(alloc: Global, text: &str) -> Result<Vec<usize>, Fail> {
 }
 
 // Replies, with bars for their newlines, or their length.
-pub(crate) fn shown(alloc: Global, taken: &[u8]) -> Result<String, Fail> {
+pub(crate) fn show(alloc: Global, taken: &[u8]) -> Result<String, Fail> {
     if taken.len() > SHOWN {
         return Ok(format!(in alloc; "{} bytes", taken.len())?);
     }

@@ -1,11 +1,11 @@
 //! A stream in memory, served at a port and at a path: by sessions that end, and by a server that stays.
 
-use crate::shown;
-use crate::talks::{At, talk};
+use crate::show;
+use crate::talks::{At, flood, talk};
 use pn_join::{BadName, Name, NoMemory};
 use pn_line::InMemory;
-use pn_serve::{Feed, Origin, Settings, serve};
-use pn_stay::{House, Listener, StayingServer, Watch};
+use pn_serve::{Counter, Origin, Settings, Stream, serve};
+use pn_stay::{Counters, Listener, SocketAcceptor, StayingServer};
 use pn_stream::StreamReader;
 use std::alloc::{AllocError, Global};
 use std::fs::Files;
@@ -13,7 +13,7 @@ use std::net::{IpAddr, Ipv4Addr, Net, TcpListener, TcpStream};
 use std::sync::{Arc, Wait};
 use std::test::Fail;
 use std::thread::Threads;
-use std::time::Clock;
+use std::time::{Clock, Duration};
 use std::{fs, io, thread};
 use test_kit::layout;
 
@@ -24,6 +24,9 @@ const FIRST: &str =
 /// The name of a socket's file.
 const PATH: &str = "socket-of-test";
 
+/// For how many milliseconds at most it waits for a server to have read its stream.
+const PATIENCE: u32 = 10_000;
+
 /// A stream that has no next writer.
 #[derive(Drop)]
 struct Once;
@@ -33,28 +36,28 @@ impl Origin<InMemory<'static>> for Once {
         None
     }
 
-    fn fail(&mut self) {}
+    fn note_fault(&mut self) {}
 }
 
-fn settings(alloc: Global) -> Result<Settings, NoMemory> {
+fn new_settings(alloc: Global) -> Result<Settings, NoMemory> {
     let layout = layout(alloc, "").ok_or(NoMemory)?;
     Settings::new(layout, 1).ok_or(NoMemory)
 }
 
-fn stream(alloc: Global) -> Result<StreamReader<InMemory<'static>>, BadName> {
+fn new_reader(alloc: Global) -> Result<StreamReader<InMemory<'static>>, BadName> {
     let source = InMemory::new(FIRST.as_bytes());
     Ok(StreamReader::new(alloc, Name::read(b"east")?, 0, source))
 }
 
-// Listens, and says where.
-fn listen<R>(rt: &R, place: &str) -> io::Result<(Listener, At)>
+// Listens at a port, or at the path, and says where.
+fn listen<R>(rt: &R, at: &str) -> io::Result<(Listener, At)>
 where
     R: Files + Net<Listener = TcpListener, Stream = TcpStream>,
 {
-    if place == "path" {
-        return Ok((Listener::at_path(rt, PATH)?, At::Path(PATH)));
+    if at == "path" {
+        return Ok((Listener::bind_path(rt, PATH)?, At::Path(PATH)));
     }
-    let listener = Listener::at_port(rt, IpAddr::V4(Ipv4Addr::LOCALHOST), 0)?;
+    let listener = Listener::bind_port(rt, IpAddr::V4(Ipv4Addr::LOCALHOST), 0)?;
     let at = match &listener {
         Listener::Tcp(listener) => At::Port(listener.local_addr()?),
         Listener::Unix(_) => At::Path(PATH),
@@ -62,25 +65,28 @@ where
     Ok((listener, at))
 }
 
-// Removes the file of a socket.
-fn leave<R: Files>(rt: &R, place: &str) -> io::Result<()> {
-    if place == "path" {
+fn remove_socket<R: Files>(rt: &R, at: &str) -> io::Result<()> {
+    if at == "path" {
         fs::remove_file(rt, PATH)?;
     }
     Ok(())
 }
 
-fn house_of(alloc: Global, listener: Listener, idle: u32) -> Result<House, AllocError> {
-    Ok(House {
+fn new_acceptor(
+    alloc: Global,
+    listener: Listener,
+    idle: u32,
+) -> Result<SocketAcceptor, AllocError> {
+    Ok(SocketAcceptor {
         listener,
         idle: Some(idle),
-        watch: Arc::new(alloc, Watch::new(alloc, Vec::new(alloc))?)?,
+        counters: Arc::new(alloc, Counters::new(alloc, Vec::new(alloc))?)?,
     })
 }
 
 /// Serves one session: what its client was told, what was written, whether rounds and lines were counted, and how many
 /// clients are left.
-pub(crate) fn serves<R>(rt: &R, alloc: Global, place: &str) -> Result<String, Fail>
+pub(crate) fn serve_session<R>(rt: &R, alloc: Global, at: &str) -> Result<String, Fail>
 where
     R: Files
         + Net<Listener = TcpListener, Stream = TcpStream>
@@ -91,28 +97,30 @@ where
         + Send
         + 'static,
 {
-    let (listener, at) = listen(rt, place)?;
-    let house = house_of(alloc, listener, 60)?;
-    let settings = settings(alloc)?;
-    let mut streams = Vec::with_capacity(alloc, 1)?;
-    streams.push(stream(alloc)?)?;
+    let (listener, to) = listen(rt, at)?;
+    let acceptor = new_acceptor(alloc, listener, 60)?;
+    let settings = new_settings(alloc)?;
+    let mut readers = Vec::with_capacity(alloc, 1)?;
+    readers.push(new_reader(alloc)?)?;
     let theirs = *rt;
-    let client = thread::spawn(rt, move || talk(&theirs, alloc, at, false))?;
+    let client = thread::spawn(rt, move || talk(&theirs, alloc, to, false))?;
     let mut written = Vec::new(alloc);
-    let ended = serve(rt, alloc, &house, settings, 1, streams, &mut written);
+    let ended = serve(rt, alloc, &acceptor, settings, 1, readers, &mut written);
     let told = client.join(rt)?;
-    leave(rt, place)?;
-    let written = shown(alloc, &written)?;
-    let counted = house.watch.rounds.number() > 0 && house.watch.answered.lines.number() > 0;
-    let open = house.watch.open.number();
+    remove_socket(rt, at)?;
+    let written = show(alloc, &written)?;
+    let counters = acceptor.counters;
+    let is_counted = counters.rounds.get() > 0 && counters.clients.lines.get() > 0;
+    let open = counters.connections.get();
     match ended {
-        Ok(()) => Ok(format!(in alloc; "{told:?}, {written}, {counted}, {open}")?),
+        Ok(()) => Ok(format!(in alloc; "{told:?}, {written}, {is_counted}, {open}")?),
         Err(fault) => Ok(format!(in alloc; "{told:?}, {written}{fault}")?),
     }
 }
 
-/// Answers a client of a server that stays, until it is idle for too long: what it was told.
-pub(crate) fn stays<R>(rt: &R, alloc: Global, place: &str) -> Result<String, Fail>
+/// Answers a client of a server that stays, until it is idle for too long: what it was told, and whether the server has read
+/// all streams to their ends.
+pub(crate) fn stay_until_idle<R>(rt: &R, alloc: Global, at: &str) -> Result<String, Fail>
 where
     R: Files
         + Net<Listener = TcpListener, Stream = TcpStream>
@@ -124,42 +132,83 @@ where
         + Send
         + 'static,
 {
-    let (listener, at) = listen(rt, place)?;
-    let theirs = *rt;
-    thread::spawn(rt, move || stay(&theirs, alloc, listener))?;
-    let told = talk(rt, alloc, at, true);
-    leave(rt, place)?;
-    Ok(format!(in alloc; "{:?}", told?)?)
+    let (listener, to) = listen(rt, at)?;
+    let ended = Arc::new(alloc, Counter::new())?;
+    let theirs = Arc::try_clone(&ended)?;
+    let host = *rt;
+    thread::spawn(rt, move || stay(&host, alloc, listener, &theirs))?;
+    let told = talk(rt, alloc, to, true);
+    remove_socket(rt, at)?;
+    let read = if wait_for(rt, &ended) {
+        "all read"
+    } else {
+        "still reading"
+    };
+    Ok(format!(in alloc; "{:?}, {read}", told?)?)
 }
 
-// A server that stays. None where it does not begin; else it ends only with the program.
-fn stay<R>(rt: &R, alloc: Global, listener: Listener) -> Option<()>
+/// How many replies are whole that a server sends to a client which asks very often, and reads late.
+pub(crate) fn answer_flood<R>(rt: &R, alloc: Global) -> Result<String, Fail>
+where
+    R: Files
+        + Net<Listener = TcpListener, Stream = TcpStream>
+        + Threads
+        + Wait
+        + Clock
+        + Sync
+        + Copy
+        + Send
+        + 'static,
+{
+    let (listener, to) = listen(rt, "path")?;
+    let ended = Arc::new(alloc, Counter::new())?;
+    let host = *rt;
+    thread::spawn(rt, move || stay(&host, alloc, listener, &ended))?;
+    talk(rt, alloc, to, false)?;
+    let flooded = flood(rt, alloc, PATH)?;
+    remove_socket(rt, "path")?;
+    Ok(flooded)
+}
+
+// Whether a number is greater than zero, now or within ten seconds.
+fn wait_for<R: Clock>(rt: &R, number: &Counter) -> bool {
+    for _ in 0..PATIENCE {
+        if number.get() > 0 {
+            return true;
+        }
+        thread::sleep(rt, Duration::from_millis(1));
+    }
+    false
+}
+
+// A server that stays. None where it does not begin; else it ends only with the program. It counts its end of reading.
+fn stay<R>(rt: &R, alloc: Global, listener: Listener, ended: &Counter) -> Option<()>
 where
     R: Threads + Wait + Net + Clock + Sync + Copy + Send + 'static,
 {
-    let house = house_of(alloc, listener, 2).ok()?;
-    let mut feeds = Vec::with_capacity(alloc, 1).ok()?;
-    let stream = stream(alloc).ok()?;
-    feeds
-        .push(Feed {
-            stream,
+    let acceptor = new_acceptor(alloc, listener, 2).ok()?;
+    let mut streams = Vec::with_capacity(alloc, 1).ok()?;
+    let reader = new_reader(alloc).ok()?;
+    streams
+        .push(Stream {
+            reader,
             origin: Once,
         })
         .ok()?;
-    let rounds = Arc::try_clone(&house.watch.rounds).ok()?;
-    let settings = settings(alloc).ok()?;
-    let mut server = StayingServer::start(rt, alloc, house, settings, 2, 16).ok()?;
-    let read = server.read_feeds(rt, alloc, feeds, Some(rounds)).ok();
+    let settings = new_settings(alloc).ok()?;
+    let mut server = StayingServer::start(rt, alloc, acceptor, settings, 2, 16).ok()?;
+    let read = server.read_streams(rt, alloc, streams).ok();
+    ended.add(1);
     server.wait(rt);
     read
 }
 
 /// Listens at a path where nobody listens any more, and not where somebody does.
-pub(crate) fn listens<R: Files + Net>(rt: &R, alloc: Global) -> Result<String, Fail> {
-    let first = Listener::at_path(rt, PATH)?;
-    let beside = Listener::at_path(rt, PATH).is_ok();
+pub(crate) fn listen_twice<R: Files + Net>(rt: &R, alloc: Global) -> Result<String, Fail> {
+    let first = Listener::bind_path(rt, PATH)?;
+    let beside = Listener::bind_path(rt, PATH).is_ok();
     drop(first);
-    let later = Listener::at_path(rt, PATH).is_ok();
+    let later = Listener::bind_path(rt, PATH).is_ok();
     fs::remove_file(rt, PATH)?;
     Ok(format!(in alloc; "{beside} {later}")?)
 }

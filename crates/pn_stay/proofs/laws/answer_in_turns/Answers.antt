@@ -1,16 +1,16 @@
 -- One turn after another.
 use Rattle.std.proofs.Common.{false, sym, subst}
-use Rattle.pn_stay.specs.Told.{begin_with}
+use Rattle.pn_stay.specs.Scripted.{begin_with}
 use Rattle.pn_stay.specs.Turns.{Continues}
-use Rattle.pn_stay.specs.declared.connection.Connection.{Connection}
+use Rattle.pn_stay.specs.declared.connection_state.ConnectionState.{ConnectionState}
 use Rattle.pn_stay.proofs.Alone.{HasEnded-alone}
-use Rattle.pn_stay.proofs.Stands.{Stands-new}
+use Rattle.pn_stay.proofs.Following.{FollowsScript-new}
 use Rattle.pn_stay.proofs.laws.answer_in_turns.Goals as goal
 
 pub turns-init : goal.turns-init
 turns-init g c =
-    subst (λ (k : Connection). Continues g.M.LineHandler.makes g.M.LineHandler.ends false (begin_with c.args.machine.now (g.R.Read.remaining c.args.input.now) (g.W.Sink.contents c.args.output.now)) (g.R.Read.remaining c.args.input.now) (g.W.Sink.contents c.args.output.now) c.args.machine.now k) (sym c.new-connection.ensures)
-    (Stands-new g.M.LineHandler.makes g.M.LineHandler.ends false c.args.machine.now (g.R.Read.remaining c.args.input.now) (g.W.Sink.contents c.args.output.now))
+    subst (λ (k : ConnectionState). Continues g.M.LineHandler.makes g.M.LineHandler.ends false (begin_with c.args.machine.now (g.R.Read.remaining c.args.input.now) (g.W.Sink.contents c.args.output.now)) (g.R.Read.remaining c.args.input.now) (g.W.Sink.contents c.args.output.now) c.args.machine.now k) (sym c.new-state.ensures)
+    (FollowsScript-new g.M.LineHandler.makes g.M.LineHandler.ends false c.args.machine.now (g.R.Read.remaining c.args.input.now) (g.W.Sink.contents c.args.output.now))
 
 pub returns-in-Ended : goal.returns-in-Ended
 returns-in-Ended g c = record {

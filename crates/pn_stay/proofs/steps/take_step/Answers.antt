@@ -1,11 +1,11 @@
 -- A line is answered, a part is read, or a line has no end.
 use Rattle.std.proofs.Common.{ℕ, false, List, ◌++◌, sym, ap, subst, arith}
 use Rattle.pn_serve.specs.declared.script.Counts.{Counts}
-use Rattle.pn_stay.specs.Turns.{at_desk, loop_at}
+use Rattle.pn_stay.specs.Turns.{in_buffers, loop_in}
 use Rattle.pn_stay.proofs.Stepping.{Steps-line, Steps-line_cut, Steps-part, Steps-endless}
-use Rattle.pn_stay.specs.Kept.{IsLine}
+use Rattle.pn_stay.specs.Connections.{IsLine}
 use Rattle.pn_stay.proofs.Passing.{IsLine-taken, IsLine-none}
-use Rattle.pn_stay.proofs.Stands.{Passes-none}
+use Rattle.pn_stay.proofs.Following.{Passes-none}
 use Rattle.pn_serve.proofs.Knowing.{knows_itself}
 use Rattle.pn_stay.proofs.steps.take_step.Goals as goal
 
@@ -13,35 +13,35 @@ pub returns-in-Ok-answer-clause-steps : goal.returns-in-Ok-answer-clause-steps
 returns-in-Ok-answer-clause-steps g c shared start written stands =
     let takes = rw c.in-Newline.is at c.in-Ok.ensures.takes in
     let below = c.in-Ok.ensures.below (λ endless. let newline = c.in-Newline.is in cc) in
-    Steps-line g.M.LineHandler.makes g.M.LineHandler.ends shared start _ written _ _ (at_desk c.args.desk.now c.args.backlog.now)
-    (record { line = c.read_on.new.self.line; waits = c.args.backlog.now ++ c.read_on.new.self.waits; more = false; counts = c.read_on.new.self.counts }) c.read_on.new.input
-    stands takes (ap (λ (w : List ℕ). c.args.backlog.now ++ w) c.read_on.ensures.waits) c.read_on.ensures.counts
-    (at_desk c.answer.new.desk c.answer.new.backlog) c.answer.ensures.room below c.in-Ok-answer.ensures.begun (c.in-Ok-answer.ensures.ok written)
+    Steps-line g.M.LineHandler.makes g.M.LineHandler.ends shared start _ written _ _ (in_buffers c.args.buffers.now c.args.replies.now)
+    (record { line = c.read_on.new.self.line; waits = c.args.replies.now ++ c.read_on.new.self.waits; more = false; counts = c.read_on.new.self.counts }) c.read_on.new.input
+    stands takes (ap (λ (w : List ℕ). c.args.replies.now ++ w) c.read_on.ensures.waits) c.read_on.ensures.counts
+    (in_buffers c.answer.new.buffers c.answer.new.replies) c.answer.ensures.input below c.in-Ok-answer.ensures.begun (c.in-Ok-answer.ensures.ok written)
 
 pub returns-in-Err-clause-steps : goal.returns-in-Err-clause-steps
 returns-in-Err-clause-steps g c shared start written stands =
     let takes = rw c.in-Newline.is at c.in-Ok.ensures.takes in
-    Steps-line_cut g.M.LineHandler.makes g.M.LineHandler.ends shared start _ written _ _ (at_desk c.args.desk.now c.args.backlog.now)
-    (record { line = c.read_on.new.self.line; waits = c.args.backlog.now ++ c.read_on.new.self.waits; more = false; counts = c.read_on.new.self.counts }) c.read_on.new.input
-    stands takes (ap (λ (w : List ℕ). c.args.backlog.now ++ w) c.read_on.ensures.waits) c.read_on.ensures.counts
-    c.answer.new.desk.room c.answer.ensures.room (c.in-Err.ensures.err written)
+    Steps-line_cut g.M.LineHandler.makes g.M.LineHandler.ends shared start _ written _ _ (in_buffers c.args.buffers.now c.args.replies.now)
+    (record { line = c.read_on.new.self.line; waits = c.args.replies.now ++ c.read_on.new.self.waits; more = false; counts = c.read_on.new.self.counts }) c.read_on.new.input
+    stands takes (ap (λ (w : List ℕ). c.args.replies.now ++ w) c.read_on.ensures.waits) c.read_on.ensures.counts
+    c.answer.new.buffers.input c.answer.ensures.input (c.in-Err.ensures.err written)
 
 pub returns-in-EndOfInput-clause-steps : goal.returns-in-EndOfInput-clause-steps
 returns-in-EndOfInput-clause-steps g c shared start written stands =
     let takes = rw c.in-EndOfInput.is at c.in-Ok.ensures.takes in
     c.read_more.ensures.steps shared start written
-    (Steps-part g.M.LineHandler.makes g.M.LineHandler.ends shared start _ written _ (at_desk c.args.desk.now c.args.backlog.now)
-    (record { line = c.read_on.new.self.line; held = c.read_on.new.input; waits = c.args.backlog.now ++ c.read_on.new.self.waits; counts = c.read_on.new.self.counts })
+    (Steps-part g.M.LineHandler.makes g.M.LineHandler.ends shared start _ written _ (in_buffers c.args.buffers.now c.args.replies.now)
+    (record { line = c.read_on.new.self.line; held = c.read_on.new.input; waits = c.args.replies.now ++ c.read_on.new.self.waits; counts = c.read_on.new.self.counts })
     stands takes (omega (arith, ap (λ (n : Counts). n.lines) c.counts.ensures.counts, ap (λ (n : Counts). n.lines) c.read_on.ensures.counts))
-    (ap (λ (w : List ℕ). c.args.backlog.now ++ w) c.read_on.ensures.waits) c.read_on.ensures.counts)
+    (ap (λ (w : List ℕ). c.args.replies.now ++ w) c.read_on.ensures.waits) c.read_on.ensures.counts)
 
 pub returns-in-Endless-clause-steps : goal.returns-in-Endless-clause-steps
 returns-in-Endless-clause-steps g c shared start written stands =
     let takes = rw c.in-Endless.is at c.in-Ok.ensures.takes in
-    Steps-endless g.M.LineHandler.makes g.M.LineHandler.ends shared start _ written _ (at_desk c.args.desk.now c.args.backlog.now)
-    (record { line = c.read_on.new.self.line; held = c.read_on.new.input; waits = c.args.backlog.now ++ c.read_on.new.self.waits; counts = c.read_on.new.self.counts })
+    Steps-endless g.M.LineHandler.makes g.M.LineHandler.ends shared start _ written _ (in_buffers c.args.buffers.now c.args.replies.now)
+    (record { line = c.read_on.new.self.line; held = c.read_on.new.input; waits = c.args.replies.now ++ c.read_on.new.self.waits; counts = c.read_on.new.self.counts })
     stands takes (c.in-Ok.ensures.endless.0 c.in-Endless.is) (omega (arith, ap (λ (n : Counts). n.lines) c.counts.ensures.counts))
-    (ap (λ (w : List ℕ). c.args.backlog.now ++ w) c.read_on.ensures.waits)
+    (ap (λ (w : List ℕ). c.args.replies.now ++ w) c.read_on.ensures.waits)
 
 pub answer-requires-clause-line : goal.answer-requires-clause-line
 answer-requires-clause-line g c = IsLine-taken _ _ _ _ _ c.in-Ok.ensures.takes c.requires.line

@@ -1,7 +1,7 @@
 -- One step after another.
 use Rattle.std.proofs.Common.{sym, subst}
 use Rattle.pn_stay.specs.Turns.{GoesOn}
-use Rattle.pn_stay.proofs.Stands.{Passes-none, Passes-trans}
+use Rattle.pn_stay.proofs.Following.{Passes-none, Passes-trans}
 use Rattle.pn_serve.proofs.Knowing.{knows_itself, knows_on}
 use Rattle.pn_stay.proofs.steps.take_steps.Goals as goal
 

@@ -6,4 +6,4 @@ pub loop-key-init : goal.loop-key-init
 loop-key-init g c = knows_itself _
 
 pub loop-key-preserved : goal.loop-key-preserved
-loop-key-preserved g c = knows_on _ _ _ c.loop-key.invariant c.turn_of.ensures.knows
+loop-key-preserved g c = knows_on _ _ _ c.loop-key.invariant c.give_turn.ensures.knows

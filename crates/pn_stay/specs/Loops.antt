@@ -1,0 +1,24 @@
+-- Connections of an event loop.
+use Rattle.std.specs.Prelude.{◌≡◌, ◌≤◌, ℕ, Option, None, Some}
+use Rattle.std.specs.Option.{option_map}
+use Rattle.slab.specs.Slab.{Slab, get}
+use Rattle.pn_stay.specs.IdleTimeouts.{IdleTimeoutValue, after_quarter}
+use Rattle.pn_stay.specs.declared.connection.Connection.{Connection}
+
+-- for how long the client of a key is idle, if it has one
+abbrev pub idle_at : Slab Connection → ℕ → Option IdleTimeoutValue
+idle_at connections key = option_map (λ connection. connection.idle) (get connections key)
+
+-- the same once a quarter of a second is over
+abbrev pub quarter_later : Option IdleTimeoutValue → Option IdleTimeoutValue
+quarter_later = option_map after_quarter
+
+-- there is a client, which is idle for so many quarters
+abbrev pub IsIdleFor : ℕ → Option IdleTimeoutValue → Type 0
+IsIdleFor most None = ⊥
+IsIdleFor most (Some timeout) = most ≤ timeout.quarters
+
+-- as a quarter ends, the client is dropped if it is idle for so many, and else is a quarter older
+pub record EndsQuarter (most : ℕ) (before after : Option IdleTimeoutValue) : Type 0 where
+  pub dropped : IsIdleFor most (quarter_later before) → after ≡ None
+  pub older : ¬ (IsIdleFor most (quarter_later before)) → after ≡ quarter_later before

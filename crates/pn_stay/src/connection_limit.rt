@@ -1,0 +1,48 @@
+//! The limit of connections that are open at once.
+
+ghost use Rattle.std.specs.Prelude.{◌≡◌, ◌+◌, ◌-◌, ◌^◌, min};
+
+use std::sync::{Condvar, Mutex, Wait};
+
+/// How many connections may still be opened. Who asks for one where none may waits for it.
+#[derive(Drop)]
+pub(crate) struct ConnectionLimit {
+    free: Mutex<usize>,
+    released: Condvar,
+}
+
+impl ConnectionLimit {
+    /// At most this many connections.
+    pub(crate) fn new(most: usize) -> ConnectionLimit {
+        ConnectionLimit {
+            free: Mutex::new(most),
+            released: Condvar::new(),
+        }
+    }
+
+    /// Counts a connection, once one more may be opened.
+    pub(crate) fn acquire<R: Wait>(&self, rt: &R) {
+        let guard = self.free.lock(rt);
+        let mut free = self.released.wait_while(rt, guard, |free| *free == 0);
+        take_one(&mut *free);
+    }
+
+    /// A connection that was counted has ended.
+    pub(crate) fn release<R: Wait>(&self, rt: &R) {
+        let mut free = self.free.lock(rt);
+        give_back(&mut *free);
+        self.released.notify_one();
+    }
+}
+
+fn take_one(free: &mut usize)
+    ensures { free.new ≡ free.old - 1 }
+{
+    *free = free.saturating_sub(1);
+}
+
+fn give_back(free: &mut usize)
+    ensures { free.new ≡ min (free.old + 1) (2 ^ 64 - 1) }
+{
+    *free = free.saturating_add(1);
+}

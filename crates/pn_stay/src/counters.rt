@@ -1,0 +1,113 @@
+//! What a server has done so far, counted for whoever looks at it meanwhile.
+
+ghost use Rattle.std.specs.Prelude.{◌≡◌};
+
+use pn_join::Name;
+use pn_line::{LineBuffer, Piece, Source};
+use pn_serve::Counter;
+use std::alloc::{AllocError, Global};
+use std::io;
+use std::sync::Arc;
+
+/// How many lines were read, and how many bytes.
+#[derive(Drop)]
+pub struct InputCounters {
+    pub lines: Counter,
+    pub bytes: Counter,
+}
+
+impl InputCounters {
+    /// Both are zero.
+    pub fn new() -> InputCounters {
+        InputCounters {
+            lines: Counter::new(),
+            bytes: Counter::new(),
+        }
+    }
+
+    /// Begins to count from zero again.
+    pub fn clear(&self) {
+        self.lines.set(0);
+        self.bytes.set(0);
+    }
+
+    // Counts a piece, which made a line longer from `before` to `after` bytes.
+    fn add(&self, before: usize, after: usize, piece: Piece) {
+        self.bytes.add(after.saturating_sub(before) as u64);
+        if let Piece::Ended { .. } = piece {
+            self.bytes.add(1);
+            self.lines.add(1);
+        }
+    }
+}
+
+/// How much of a stream was read.
+#[derive(Drop)]
+pub struct StreamCounters {
+    pub name: Name,
+    pub input: Arc<InputCounters>,
+    /// How many bytes its file has, where it is one that ends.
+    pub size: Option<u64>,
+}
+
+/// What a server counts.
+#[derive(Drop)]
+pub struct Counters {
+    pub rounds: Arc<Counter>,
+    /// What was read from all clients.
+    pub clients: Arc<InputCounters>,
+    /// How many connections are open.
+    pub connections: Counter,
+    pub streams: Vec<StreamCounters>,
+}
+
+impl Counters {
+    /// Those of a server that has done nothing so far.
+    pub fn new(alloc: Global, streams: Vec<StreamCounters>) -> Result<Counters, AllocError> {
+        Ok(Counters {
+            rounds: Arc::new(alloc, Counter::new())?,
+            clients: Arc::new(alloc, InputCounters::new())?,
+            connections: Counter::new(),
+            streams,
+        })
+    }
+}
+
+/// A source, and the counters of what is read from it, where somebody looks at them.
+#[derive(Drop)]
+pub struct CountingSource<S: Drop> {
+    source: S,
+    counters: Option<Arc<InputCounters>>,
+}
+
+impl<S: Source + Drop> CountingSource<S> {
+    /// Counts what is read from a source from now on.
+    pub fn new(source: S, counters: Option<Arc<InputCounters>>) -> CountingSource<S>
+        ensures { S.left result.source ≡ S.left source }
+    {
+        CountingSource { source, counters }
+    }
+}
+
+impl<S: Source + Drop> Source for CountingSource<S> {
+    ghost left = { λ counting. S.left counting.source };
+
+    ghost may_fail = { S.may_fail };
+
+    ghost may_end = { S.may_end };
+
+    ghost looks = { λ counting. S.looks counting.source };
+
+    fn take_some(&mut self, line: &mut LineBuffer) -> io::Result<Piece> {
+        let before = line.len();
+        let piece = self.source.take_some(line)?;
+        if let Some(counters) = &self.counters {
+            counters.add(before, line.len(), piece);
+        }
+        Ok(piece)
+    }
+
+    fn has_more(&mut self) -> io::Result<bool> {
+        self.source.has_more()
+    }
+}

@@ -1,0 +1,234 @@
+//! The threads of a server that stays: those that answer connections, one that accepts them, and one that tells the time.
+
+ghost use Rattle.std.specs.Prelude.{◌≡◌, ◌+◌, ◌≤◌, vec_len, vec_capacity, All, IfOk};
+ghost use Rattle.pn_live.specs.Prelude.{tablets_in, tablets_of};
+ghost use Rattle.pn_serve.specs.Server.Sessions.{AllRead};
+ghost use Rattle.pn_serve.specs.Session.Knowing.{KnowsNoLess};
+
+use crate::acceptor::{SocketAcceptor, accept_all, tell_quarters};
+use crate::connection_limit::ConnectionLimit;
+use crate::counters::Counters;
+use crate::event_loop::{EventLoop, MAILBOX};
+use crate::listener::Listener;
+use crate::socket_mailbox::{Closed, SocketMailbox};
+use mio::{Poll, Waker};
+use pn_live::{LiveReader, LiveRegion};
+use pn_serve::{ComesBack, SessionThread};
+use std::alloc::Global;
+use std::net::Net;
+use std::snapshot::Snapshot;
+use std::sync::{Arc, Wait};
+use std::thread::Threads;
+use std::time::Clock;
+use std::{io, thread};
+
+/// Starts a thread for each reader, and one that accepts connections, at most this many at once.
+pub(super) fn start_answering<R>(
+    rt: &R,
+    alloc: Global,
+    acceptor: SocketAcceptor,
+    connections: usize,
+    live: &LiveRegion,
+    readers: &mut Vec<LiveReader>,
+) -> io::Result<Vec<SessionThread>>
+where
+    R: Threads + Wait + Net + Clock + Copy + Send + 'static,
+    requires { AllRead (tablets_in live.now) readers.old.items }
+    ensures running { IfOk result (λ running. All (λ session. tablets_of session.promise.0.value ≡ tablets_in live.now) running.items) }
+    ensures readers { AllRead (tablets_in live.now) readers.new.items }
+    ensures capacity { IfOk result (λ running. vec_len running + vec_len readers.new ≤ vec_capacity readers.new) }
+    ensures all { IfOk result (λ running. vec_len running ≡ vec_len readers.old) }
+{
+    let SocketAcceptor {
+        listener,
+        idle,
+        counters,
+    } = acceptor;
+    let shared = Shared {
+        alloc,
+        limit: Arc::new(alloc, ConnectionLimit::new(connections))?,
+        idle,
+        counters,
+    };
+    let mut mailboxes = Vec::new(alloc);
+    let running = start_threads(rt, &shared, &mut mailboxes, live, readers)?;
+    start_accepting(rt, shared, listener, mailboxes)?;
+    Ok(running)
+}
+
+// What the threads share.
+#[derive(Drop)]
+struct Shared {
+    alloc: Global,
+    limit: Arc<ConnectionLimit>,
+    idle: Option<u32>,
+    counters: Arc<Counters>,
+}
+
+// Starts the thread that accepts connections, and where clients may not be idle the one that tells the time.
+fn start_accepting<R>(
+    rt: &R,
+    shared: Shared,
+    listener: Listener,
+    mailboxes: Vec<Arc<SocketMailbox>>,
+) -> io::Result<()>
+where
+    R: Threads + Wait + Clock + Copy + Send + 'static,
+{
+    let mailboxes = Arc::new(shared.alloc, mailboxes)?;
+    if shared.idle.is_some() {
+        let told = Arc::try_clone(&mailboxes)?;
+        let host = *rt;
+        thread::spawn(rt, move || tell_quarters(&host, &told))?;
+    }
+    let limit = shared.limit;
+    let host = *rt;
+    thread::spawn(rt, move || {
+        accept_all(&host, &listener, &limit, &mailboxes)
+    })?;
+    Ok(())
+}
+
+// Starts a thread for each reader, until one is refused. Its reader is dropped.
+fn start_threads<R>(
+    rt: &R,
+    shared: &Shared,
+    mailboxes: &mut Vec<Arc<SocketMailbox>>,
+    live: &LiveRegion,
+    readers: &mut Vec<LiveReader>,
+) -> io::Result<Vec<SessionThread>>
+where
+    R: Threads + Wait + Net + Copy + Send + 'static,
+    requires { AllRead (tablets_in live.now) readers.old.items }
+    ensures running { IfOk result (λ running. All (λ session. tablets_of session.promise.0.value ≡ tablets_in live.now) running.items) }
+    ensures readers { AllRead (tablets_in live.now) readers.new.items }
+    ensures capacity { IfOk result (λ running. vec_len running + vec_len readers.new ≤ vec_capacity readers.new) }
+    ensures all { IfOk result (λ running. vec_len running ≡ vec_len readers.old) }
+{
+    let mut running = Vec::with_capacity(shared.alloc, readers.len())?;
+    while let Some(reader) = readers.pop() {
+        let session = start_thread(rt, shared, mailboxes, reader)?;
+        running.push_reserved(session);
+    }
+    Ok(running)
+}
+
+// Starts the thread of a reader, and adds its mailbox.
+fn start_thread<R>(
+    rt: &R,
+    shared: &Shared,
+    mailboxes: &mut Vec<Arc<SocketMailbox>>,
+    reader: LiveReader,
+) -> io::Result<SessionThread>
+where
+    R: Threads + Wait + Net + Copy + Send + 'static,
+    ensures { IfOk result (λ session. tablets_of session.promise.0.value ≡ tablets_of reader) }
+{
+    let poll = Poll::new(rt)?;
+    let mailbox = new_mailbox(shared, &poll)?;
+    mailboxes.push(Arc::try_clone(&mailbox)?)?;
+    let promise = ComesBack(Snapshot::of(&reader));
+    let body = LoopThread {
+        alloc: shared.alloc,
+        poll,
+        idle: shared.idle,
+        counters: Arc::try_clone(&shared.counters)?,
+        mailbox,
+        reader,
+    };
+    spawn_thread(rt, promise, body)
+}
+
+// A mailbox that wakes who waits at the poll.
+fn new_mailbox(shared: &Shared, poll: &Poll) -> io::Result<Arc<SocketMailbox>> {
+    let waker = Waker::new(poll.registry(), MAILBOX)?;
+    let limit = Arc::try_clone(&shared.limit)?;
+    Ok(Arc::new(shared.alloc, SocketMailbox::new(shared.alloc, waker, limit))?)
+}
+
+// What the thread of an event loop begins with.
+#[derive(Drop)]
+struct LoopThread {
+    alloc: Global,
+    poll: Poll,
+    idle: Option<u32>,
+    counters: Arc<Counters>,
+    mailbox: Arc<SocketMailbox>,
+    reader: LiveReader,
+}
+
+// What it ends with: its reader, once its mailbox takes no sockets any more.
+#[derive(Drop)]
+struct EndedThread {
+    reader: LiveReader,
+    _mailbox: Closed,
+}
+
+/// What goes to a thread. Its type is a parameter where the thread starts, so that its bound says that it may.
+trait ThreadBody {
+    ghost use Rattle.std.specs.Prelude.{◌≡◌};
+    ghost use Rattle.pn_live.specs.Prelude.{LiveReaderValue, tablets_of};
+
+    // The reader that it begins with.
+    ghost reader: { Self → LiveReaderValue };
+
+    // Answers connections, and gives the reader back.
+    fn answer_all<R: Wait>(self, rt: &R) -> EndedThread
+        ensures { tablets_of result.reader ≡ tablets_of (reader self) };
+}
+
+impl ThreadBody for LoopThread {
+    ghost reader = { λ body. body.reader };
+
+    fn answer_all<R: Wait>(self, rt: &R) -> EndedThread {
+        answer_all(rt, self)
+    }
+}
+
+fn spawn_thread<R, B>(rt: &R, promise: ComesBack, body: B) -> io::Result<SessionThread>
+where
+    R: Threads + Wait + Copy + Send + 'static,
+    B: ThreadBody + Drop + Send + 'static,
+    requires { tablets_of (B.reader body) ≡ tablets_of promise.0.value }
+    ensures { IfOk result (λ running. running.promise ≡ promise) }
+{
+    let host = *rt;
+    Ok(thread::spawn_with(rt, promise, move || { body.answer_all(&host).reader })?)
+}
+
+// Answers connections until the system's wait fails, and closes the mailbox.
+fn answer_all<R: Wait>(rt: &R, body: LoopThread) -> EndedThread
+    ensures tablets { tablets_of result.reader ≡ tablets_of body.reader }
+    ensures knows { KnowsNoLess body.reader result.reader }
+{
+    let LoopThread {
+        alloc,
+        poll,
+        idle,
+        counters,
+        mailbox,
+        reader,
+    } = body;
+    let mut reader = reader;
+    let _ = run(
+        rt,
+        EventLoop::new(alloc, poll, idle, counters),
+        &mailbox,
+        &mut reader,
+    );
+    EndedThread {
+        reader,
+        _mailbox: mailbox.close(rt),
+    }
+}
+
+fn run<R: Wait>(
+    rt: &R,
+    begun: io::Result<EventLoop>,
+    mailbox: &SocketMailbox,
+    reader: &mut LiveReader,
+) -> io::Result<()>
+    ensures { KnowsNoLess reader.old reader.new }
+{
+    begun?.run(rt, mailbox, reader)
+}

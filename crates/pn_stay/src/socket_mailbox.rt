@@ -1,0 +1,101 @@
+//! The mailbox of a session thread: sockets that were accepted for it.
+
+ghost use Rattle.std.specs.Prelude.{◌≡◌, true};
+
+use crate::connection_limit::ConnectionLimit;
+use crate::socket::Socket;
+use mio::Waker;
+use std::alloc::Global;
+use std::sync::{Arc, Mutex, Wait};
+use std::{io, mem};
+
+/// Sockets that wait for a session thread, and its waker.
+#[derive(Drop)]
+pub(crate) struct SocketMailbox {
+    alloc: Global,
+    state: Mutex<MailboxState>,
+    waker: Waker,
+    limit: Arc<ConnectionLimit>,
+}
+
+#[derive(Drop)]
+struct MailboxState {
+    sockets: Vec<Socket>,
+    is_quarter_over: bool,
+    is_closed: bool,
+}
+
+/// Shows that a mailbox was closed.
+#[derive(Drop)]
+pub(crate) struct Closed(());
+
+impl MailboxState {
+    fn put(&mut self, socket: Socket) -> io::Result<()> {
+        if self.is_closed {
+            return Err(io::Error::from(io::ErrorKind::NotConnected));
+        }
+        self.sockets.push(socket)?;
+        Ok(())
+    }
+
+    fn close(&mut self) -> Closed
+        ensures { self.new.is_closed ≡ true }
+    {
+        self.is_closed = true;
+        Closed(())
+    }
+}
+
+impl SocketMailbox {
+    /// An empty mailbox.
+    pub(crate) fn new(alloc: Global, waker: Waker, limit: Arc<ConnectionLimit>) -> SocketMailbox {
+        SocketMailbox {
+            alloc,
+            state: Mutex::new(MailboxState {
+                sockets: Vec::new(alloc),
+                is_quarter_over: false,
+                is_closed: false,
+            }),
+            waker,
+            limit,
+        }
+    }
+
+    /// Puts a socket in, and wakes the thread. An error drops the socket.
+    pub(crate) fn put<R: Wait>(&self, rt: &R, socket: Socket) -> io::Result<()> {
+        self.state.lock(rt).put(socket)?;
+        self.waker.wake()
+    }
+
+    /// Takes all sockets.
+    pub(crate) fn take<R: Wait>(&self, rt: &R) -> Vec<Socket> {
+        mem::replace(&mut self.state.lock(rt).sockets, Vec::new(self.alloc))
+    }
+
+    /// Says that a quarter of a second is over, and wakes the thread.
+    pub(crate) fn tell_quarter<R: Wait>(&self, rt: &R) -> io::Result<()> {
+        self.state.lock(rt).is_quarter_over = true;
+        self.waker.wake()
+    }
+
+    /// Whether a quarter of a second is over since this was asked last.
+    pub(crate) fn take_quarter<R: Wait>(&self, rt: &R) -> bool {
+        mem::replace(&mut self.state.lock(rt).is_quarter_over, false)
+    }
+
+    /// From now on it takes no socket.
+    pub(crate) fn close<R: Wait>(&self, rt: &R) -> Closed {
+        self.state.lock(rt).close()
+    }
+
+    /// Whether it takes no socket any more, and all were taken from it.
+    pub(crate) fn is_over<R: Wait>(&self, rt: &R) -> bool {
+        let state = self.state.lock(rt);
+        state.is_closed && state.sockets.is_empty()
+    }
+
+    /// A connection has ended.
+    pub(crate) fn release<R: Wait>(&self, rt: &R) {
+        self.limit.release(rt);
+    }
+}
