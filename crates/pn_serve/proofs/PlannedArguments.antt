@@ -18,7 +18,7 @@ use Rattle.pn_json.specs.Members.{each_in}
 use Rattle.pn_json.proofs.Inverses.{bind_ok}
 use Rattle.pn_record.specs.Limits.{is_key}
 use Rattle.pn_record.specs.Reading.{reading}
-use Rattle.pn_live.specs.Prelude.{MAX_READERS}
+use Rattle.pn_live.specs.declared.region.opening.TheConstants.{MAX_READERS}
 use Rattle.pn_tablet.specs.Layouts.{Bounds, layout_of}
 use Rattle.pn_tablet.specs.declared.layout.LayoutFault.{LayoutFault}
 use Rattle.pn_serve.specs.Arguments.Bounds.{bounds_in, key_in, or_bounds}

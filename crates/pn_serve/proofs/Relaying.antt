@@ -3,7 +3,7 @@ use Rattle.std.proofs.Common.{◌≡◌, ◌≢◌, ℕ, ◌+◌, nat_lt, true, 
 use Rattle.std.proofs.lemmas.Bool.Decides.{nat_tests}
 use Rattle.std.specs.Prelude.{Result, Ok, Err, Option, Some, None}
 use Rattle.pn_tablet.specs.Layouts.{Bounds, IsLayout, first_fall, rising_layout, layout_of}
-use Rattle.pn_tablet.specs.Prelude.{MAX_BOUNDS}
+use Rattle.pn_tablet.specs.declared.layout.TheConstants.{MAX_BOUNDS}
 use Rattle.pn_tablet.specs.Refusals.{Refuses}
 use Rattle.pn_tablet.specs.declared.layout.LayoutFault.{LayoutFault}
 use Rattle.pn_tablet.specs.declared.layout.LayoutFault.TheVariants.{TooMany}

@@ -1,7 +1,7 @@
 //! Runs the commands of lines over a region.
 
 ghost use Rattle.std.specs.Prelude.{◌≡◌, ◌≤◌};
-ghost use Rattle.pn_apply.specs.Prelude.{MAX_WORKERS};
+ghost use Rattle.pn_apply.specs.declared.reducing.TheConstants.{MAX_WORKERS};
 ghost use Rattle.pn_protocol.specs.Prelude.{command_value, deliver as asking};
 ghost use Rattle.pn_serve.specs.Machine.Modes.{IsDone, with_mode};
 ghost use Rattle.pn_serve.specs.Machine.Outcomes.{machine_over};

@@ -2,9 +2,10 @@
 
 ghost use Rattle.std.specs.Prelude.{◌≡◌, ◌≢◌, ◌≤◌, map, vec_len, vec_capacity, All, Ok, Err, IfOk, IfErr, IsOk, OnOk, OnErr, IsErrOf, IsTrue, IsFalse, MatchResult};
 ghost use Rattle.std.specs.Io.KnownBytes.{Appends, Keeps};
-ghost use Rattle.pn_apply.specs.Prelude.{MAX_WORKERS};
+ghost use Rattle.pn_apply.specs.declared.reducing.TheConstants.{MAX_WORKERS};
 ghost use Rattle.pn_line.specs.Prelude.{AppendsPrefix};
-ghost use Rattle.pn_live.specs.Prelude.{MAX_READERS, IsNewLive, tablets_in};
+ghost use Rattle.pn_live.specs.Prelude.{IsNewLive, tablets_in};
+ghost use Rattle.pn_live.specs.declared.region.opening.TheConstants.{MAX_READERS};
 ghost use Rattle.pn_serve.specs.Server.Faults.{IsOfRounds, NamesOne, names_of};
 ghost use Rattle.pn_serve.specs.Server.Reading.{RunsRounds};
 ghost use Rattle.pn_serve.specs.Server.Served.{EndsReading, EndsRegion, EndsServing};

@@ -2,7 +2,7 @@
 
 ghost use Rattle.std.specs.Prelude.{◌≡◌, ◌≤◌, ◌↔◌, IfSome, IsSome};
 ghost use Rattle.pn_tablet.specs.Prelude.{IsLayout};
-ghost use Rattle.pn_apply.specs.Prelude.{MAX_WORKERS};
+ghost use Rattle.pn_apply.specs.declared.reducing.TheConstants.{MAX_WORKERS};
 
 use pn_apply::MAX_WORKERS;
 use pn_tablet::Layout;
@@ -18,7 +18,7 @@ pub struct Settings {
 impl Model for Settings {
     ghost use Rattle.std.specs.Prelude.{◌≤◌};
     ghost use Rattle.pn_tablet.specs.Prelude.{IsLayout};
-    ghost use Rattle.pn_apply.specs.Prelude.{MAX_WORKERS};
+    ghost use Rattle.pn_apply.specs.declared.reducing.TheConstants.{MAX_WORKERS};
     ghost use Rattle.pn_serve.specs.Settings.{SettingsValue};
 
     ghost Value = { SettingsValue };

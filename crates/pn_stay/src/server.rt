@@ -1,7 +1,8 @@
 //! A server that stays: threads answer its connections while its live region reads streams.
 
 ghost use Rattle.std.specs.Prelude.{◌≡◌, ◌+◌, ◌≤◌, vec_len, vec_capacity, All, IfOk};
-ghost use Rattle.pn_live.specs.Prelude.{MAX_READERS, tablets_in, tablets_of, IsNewLive};
+ghost use Rattle.pn_live.specs.Prelude.{tablets_in, tablets_of, IsNewLive};
+ghost use Rattle.pn_live.specs.declared.region.opening.TheConstants.{MAX_READERS};
 ghost use Rattle.pn_serve.specs.Server.Reading.{ReadsStreams};
 ghost use Rattle.pn_serve.specs.Server.Sessions.{AllRead};
 
@@ -34,7 +35,7 @@ pub struct StayingServer {
 
 impl Model for StayingServer {
     ghost use Rattle.std.specs.Prelude.{◌≡◌, ◌+◌, ◌≤◌, vec_len, vec_capacity, All};
-    ghost use Rattle.pn_apply.specs.Prelude.{MAX_WORKERS};
+    ghost use Rattle.pn_apply.specs.declared.reducing.TheConstants.{MAX_WORKERS};
     ghost use Rattle.pn_live.specs.Prelude.{tablets_in, tablets_of};
     ghost use Rattle.pn_serve.specs.Server.Sessions.{AllRead};
     ghost use Rattle.pn_stay.specs.Servers.{ServerValue, server_code};

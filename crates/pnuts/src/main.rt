@@ -2,7 +2,7 @@
 #![tactic(auto)]
 
 ghost use Rattle.std.specs.Prelude.{◌≤◌, IfOk};
-ghost use Rattle.pn_live.specs.Prelude.{MAX_READERS};
+ghost use Rattle.pn_live.specs.declared.region.opening.TheConstants.{MAX_READERS};
 
 mod addresses;
 mod sessions;

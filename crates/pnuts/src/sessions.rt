@@ -1,7 +1,7 @@
 //! A server that ends with its sessions.
 
 ghost use Rattle.std.specs.Prelude.{◌≡◌, ◌≤◌, vec_len, IfOk};
-ghost use Rattle.pn_live.specs.Prelude.{MAX_READERS};
+ghost use Rattle.pn_live.specs.declared.region.opening.TheConstants.{MAX_READERS};
 
 use crate::addresses::remove_socket;
 use crate::streams::{FileSource, StreamFile};

@@ -1,7 +1,7 @@
 //! A server that stays: its streams are opened again, and it ends only by a signal.
 
 ghost use Rattle.std.specs.Prelude.{◌≡◌, ◌≤◌, vec_len, IfOk, IfSome};
-ghost use Rattle.pn_live.specs.Prelude.{MAX_READERS};
+ghost use Rattle.pn_live.specs.declared.region.opening.TheConstants.{MAX_READERS};
 ghost use Rattle.pn_serve.specs.Server.Reading.{IsAnew};
 
 use crate::addresses::remove_socket;

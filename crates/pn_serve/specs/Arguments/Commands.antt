@@ -8,8 +8,8 @@ use Rattle.std.specs.declared.net.ip_addr.IpAddr.{IpAddr}
 use Rattle.clap.specs.ValueTests.{is_unsigned_in}
 use Rattle.clap.specs.Words.{Row, Text, all_of, first_of, one_of}
 use Rattle.pn_json.specs.Answers.{◌>>=◌}
-use Rattle.pn_apply.specs.Prelude.{MAX_WORKERS}
-use Rattle.pn_live.specs.Prelude.{MAX_READERS}
+use Rattle.pn_apply.specs.declared.reducing.TheConstants.{MAX_WORKERS}
+use Rattle.pn_live.specs.declared.region.opening.TheConstants.{MAX_READERS}
 use Rattle.pn_serve.specs.declared.arguments.options.TheConstants.{MAX_CONNECTIONS, MAX_IDLE, MAX_PORT}
 use Rattle.pn_serve.specs.Settings.{SettingsValue}
 use Rattle.pn_serve.specs.Arguments.Bounds.{bounds_in}

@@ -4,8 +4,8 @@ use Rattle.clap.specs.Words.{App, Rule, Text, new_app, new_rule, with_rule, with
 use Rattle.clap.specs.declared.builder.action.ArgAction.TheVariants.{Append, SetTrue}
 use Rattle.clap.specs.declared.builder.value_parser.ValueParser.{ValueParser}
 use Rattle.clap.specs.declared.builder.value_parser.ValueParser.TheVariants as values
-use Rattle.pn_apply.specs.Prelude.{MAX_WORKERS}
-use Rattle.pn_live.specs.Prelude.{MAX_READERS}
+use Rattle.pn_apply.specs.declared.reducing.TheConstants.{MAX_WORKERS}
+use Rattle.pn_live.specs.declared.region.opening.TheConstants.{MAX_READERS}
 use Rattle.pn_serve.specs.declared.arguments.options.TheConstants.{MAX_CONNECTIONS, MAX_IDLE, MAX_PORT}
 
 -- an option with one value, and its default

@@ -4,7 +4,7 @@ use Rattle.std.specs.declared.net.ip_addr.IpAddr.{IpAddr}
 use Rattle.clap.specs.Words.{IsAmong, Row, Text, fault_of, subcommand_of}
 use Rattle.clap.specs.declared.error.kind.ErrorKind.{ErrorKind}
 use Rattle.clap.specs.declared.error.kind.ErrorKind.TheVariants.{DisplayHelp, DisplayVersion, OutOfMemory}
-use Rattle.pn_live.specs.Prelude.{MAX_READERS}
+use Rattle.pn_live.specs.declared.region.opening.TheConstants.{MAX_READERS}
 use Rattle.pn_serve.specs.Arguments.Options.{program}
 use Rattle.pn_serve.specs.declared.arguments.plans.Plan.{Plan}
 use Rattle.pn_serve.specs.declared.arguments.plans.Plan.TheVariants as plan

@@ -29,7 +29,7 @@ pub(crate) struct ScriptHandler<'a, R> {
 
 impl<'a, R> Model for ScriptHandler<'a, R> {
     ghost use Rattle.std.specs.Prelude.{◌≤◌};
-    ghost use Rattle.pn_apply.specs.Prelude.{MAX_WORKERS};
+    ghost use Rattle.pn_apply.specs.declared.reducing.TheConstants.{MAX_WORKERS};
     ghost use Rattle.pn_serve.specs.Machine.Modes.{with_mode};
     ghost use Rattle.pn_serve.specs.Machine.Outcomes.{Machine};
 

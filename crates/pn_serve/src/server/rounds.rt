@@ -1,7 +1,7 @@
 //! Rounds of the messages that streams report.
 
 ghost use Rattle.std.specs.Prelude.{◌≡◌, ◌+◌, ◌<◌, ◌≤◌, [], map, vec_len, vec_capacity, All, Contains, None, Some, Ok, Err, IfOk, IfErr, IfSome, OnOk, OnErr, MatchResult};
-ghost use Rattle.pn_apply.specs.Prelude.{MAX_WORKERS};
+ghost use Rattle.pn_apply.specs.declared.reducing.TheConstants.{MAX_WORKERS};
 ghost use Rattle.pn_live.specs.Prelude.{tablets_in};
 ghost use Rattle.pn_serve.specs.Server.Faults.{IsOfRounds};
 ghost use Rattle.pn_serve.specs.Server.Gathering.{IsInputOf, no_input, value_of, with_report};

@@ -1,7 +1,7 @@
 //! Streams that may be opened again, read into a live region, each in its own thread.
 
 ghost use Rattle.std.specs.Prelude.{◌≡◌, ◌+◌, ◌≤◌, vec_len, IfErr, IfOk, IfSome, OnOk};
-ghost use Rattle.pn_apply.specs.Prelude.{MAX_WORKERS};
+ghost use Rattle.pn_apply.specs.declared.reducing.TheConstants.{MAX_WORKERS};
 ghost use Rattle.pn_live.specs.Prelude.{tablets_in};
 ghost use Rattle.pn_serve.specs.Server.Reading.{IsAnew, ReadsStreams};
 
