@@ -75,7 +75,7 @@ fn refuse_copy(alloc: Global, tablet: usize, fault: CopyFault) -> Reply
             stream,
             has,
             wanted,
-        } => refuse_short(alloc, "behind", ("has", has), stream, wanted),
+        } => refuse_short(alloc, "behind", "has", has, stream, wanted),
         CopyFault::Memory => Reply::Refused(Refusal::Memory),
         CopyFault::NoEntry => refuse_as(alloc, "no-entry", &[]),
     }
@@ -125,7 +125,7 @@ fn refuse_round(alloc: Global, fault: RoundFault) -> Reply
             stream,
             wanted,
             got,
-        } => refuse_short(alloc, "gap", ("got", got), stream, wanted),
+        } => refuse_short(alloc, "gap", "got", got, stream, wanted),
         RoundFault::TooManyStreams => refuse_as(alloc, "too-many-streams", &[]),
         RoundFault::Memory => Reply::Refused(Refusal::Memory),
     }
@@ -149,14 +149,15 @@ fn refuse_line(alloc: Global, error: &str, line: u64) -> Reply
 fn refuse_short(
     alloc: Global,
     error: &str,
-    there: (&str, u64),
+    name: &str,
+    there: u64,
     stream: StreamName,
     wanted: u64,
 ) -> Reply
-    ensures { Says (short_data error.now there.0.now there.1 stream wanted) result }
+    ensures { Says (short_data error.now name.now there stream wanted) result }
 {
     let details = [
-        (there.0, Detail::Number(there.1)),
+        (name, Detail::Number(there)),
         ("stream", Detail::Stream(stream)),
         ("wanted", Detail::Number(wanted)),
     ];
