@@ -78,7 +78,7 @@ round_tells broker marks next deliveries honest accepted taken left more maybe r
     (λ image there lies.
     beyond broker t.cover next (more ++ maybe)
     (λ one stream at past below within given.
-    to one (was_brought broker marks next deliveries honest accepted stream one at (omega (arith, past, is.covered stream)) (omega (arith, below)) within place))
+    to one (was_brought broker marks next deliveries honest accepted stream one at (omega (arith, past, is.covered stream)) (omega (arith, below)) within given))
     image there)
 
 -- those of one that adopts a copy of its range

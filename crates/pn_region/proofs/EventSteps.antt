@@ -46,12 +46,12 @@ adopts region copy n new is = adopts_by region copy n new (tablet_for region cop
 pub record Takes (region : RegionValue) (deliveries : List DeliveryValue) (new : RegionValue) : Type 0 where
   pub marks : Positions
   pub accepted : new_marks region.marks deliveries ≡ Ok marks
-  pub is : new ≡ rounds.taking region deliveries marks
+  pub is : new ≡ rounds.after_joins region deliveries marks
 
 takes_by : (region : RegionValue) (deliveries : List DeliveryValue) (new : RegionValue) (right : Result Positions RoundFault) → new_marks region.marks deliveries ≡ right
-    → result_map_both (rounds.taking region deliveries) (λ fault. fault) right ≡ Ok new → Takes region deliveries new
+    → result_map_both (rounds.after_joins region deliveries) (λ fault. fault) right ≡ Ok new → Takes region deliveries new
 takes_by region deliveries new (Ok marks) accepted is =
-    let same : rounds.taking region deliveries marks ≡ new = cc in
+    let same : rounds.after_joins region deliveries marks ≡ new = cc in
     record { marks = marks; accepted = accepted; is = sym same }
 takes_by region deliveries new (Err fault) refused is = cc
 
@@ -133,7 +133,7 @@ one_moves (suc n) op (t ∷ ts) = (inl refl, one_moves n op ts)
 pub each_moves : (event : RegionEvent) (old new : RegionValue) → IsRegion old → KeepsLayout event → LeadsTo event old new → Each Moves old.tablets new.tablets
 each_moves (round deliveries) old new is keeps leads =
     let took = takes old deliveries new leads in
-    subst (λ (r : RegionValue). Each Moves old.tablets r.tablets) (sym took.is) (halves_move old.tablets (rounds.joins old deliveries took.marks) (rounds.taking old deliveries took.marks).tablets (taken_half old deliveries is took.marks))
+    subst (λ (r : RegionValue). Each Moves old.tablets r.tablets) (sym took.is) (halves_move old.tablets (rounds.joins old deliveries took.marks) (rounds.after_joins old deliveries took.marks).tablets (taken_half old deliveries is took.marks))
 each_moves (half_round deliveries) old new is keeps leads =
     half_so old new deliveries (Each Moves old.tablets) (each_itself Moves (λ t. inl refl) old.tablets) (λ marks half. halves_move old.tablets _ new.tablets half) leads
 each_moves (loss n) old new is keeps leads = subst (λ (r : RegionValue). Each Moves old.tablets r.tablets) (sym leads) (one_moves n Lose old.tablets)

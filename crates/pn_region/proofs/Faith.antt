@@ -133,9 +133,9 @@ module _ (broker : BrokerRecord) (marks next : Positions) (deliveries : List Del
 
 -- a round of honest deliveries keeps tablets faithful
 pub round_keeps : (broker : BrokerRecord) (region : RegionValue) (deliveries : List DeliveryValue) (marks : Positions) → IsRegion region → AreFaithful broker region.tablets → AreHonest broker deliveries
-    → new_marks region.marks deliveries ≡ Ok marks → AreFaithful broker (rounds.taking region deliveries marks).tablets
+    → new_marks region.marks deliveries ≡ Ok marks → AreFaithful broker (rounds.after_joins region deliveries marks).tablets
 round_keeps broker region deliveries marks is faithful honest accepted =
-    all_half broker region.marks marks deliveries honest accepted (ranges region.layout) region.tablets (rounds.taking region deliveries marks).tablets is.tablets faithful (taken_half region deliveries is marks)
+    all_half broker region.marks marks deliveries honest accepted (ranges region.layout) region.tablets (rounds.after_joins region deliveries marks).tablets is.tablets faithful (taken_half region deliveries is marks)
 
 -- and so does one that ran out of memory
 pub half_keeps : (broker : BrokerRecord) (old new : RegionValue) (deliveries : List DeliveryValue) → IsRegion old → AreFaithful broker old.tablets → AreHonest broker deliveries
@@ -152,7 +152,7 @@ same_pieces some others (r ∷ rs) same = λ i. same_in r some others same i ∷
 
 -- where a region has just the images up to its marks, it has just those up to its new ones
 pub round_up_to : (broker : BrokerRecord) (region : RegionValue) (deliveries : List DeliveryValue) (marks : Positions) → IsRegion region → HasImages region (up_to broker region.marks) → AreHonest broker deliveries
-    → new_marks region.marks deliveries ≡ Ok marks → HasImages (rounds.taking region deliveries marks) (up_to broker marks)
+    → new_marks region.marks deliveries ≡ Ok marks → HasImages (rounds.after_joins region deliveries marks) (up_to broker marks)
 round_up_to broker region deliveries marks is has honest accepted =
     round_takes region deliveries marks (up_to broker region.marks) is has
     ∙ same_pieces (up_to broker region.marks ++ all_images deliveries) (up_to broker marks) (ranges region.layout) (same_to_next broker region.marks marks deliveries honest accepted)

@@ -54,7 +54,7 @@ module _ (broker : BrokerRecord) where
   each_bears (round deliveries) old new is keeps honest leads =
       let took = takes old deliveries new leads in
       subst (λ (r : RegionValue). Each Bears old.tablets r.tablets) (sym took.is)
-      (halves_bear took.marks (all_images deliveries) (ranges old.layout) old.tablets (rounds.taking old deliveries took.marks).tablets (taken_half old deliveries is took.marks))
+      (halves_bear took.marks (all_images deliveries) (ranges old.layout) old.tablets (rounds.after_joins old deliveries took.marks).tablets (taken_half old deliveries is took.marks))
   each_bears (half_round deliveries) old new is keeps honest leads =
       half_so old new deliveries (Each Bears old.tablets) (bear_itself old.tablets) (λ marks half. halves_bear marks (all_images deliveries) (ranges old.layout) old.tablets new.tablets half) leads
   each_bears (loss n) old new is keeps honest leads = subst (λ (r : RegionValue). Each Bears old.tablets r.tablets) (sym leads) (one_bears n Lose old.tablets tt)

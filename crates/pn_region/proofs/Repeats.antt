@@ -37,16 +37,16 @@ module _ (first : Positions) (images : List Image) (rise_first : Rise first) (la
   round_catches deliveries new leads =
       let took = takes ahead deliveries new leads in
       let rise_next = new_rise marks took.marks deliveries took.accepted rise.marks in
-      let runs : RunsAhead first images (rounds.taking old deliveries took.marks) (rounds.taking ahead deliveries took.marks) =
+      let runs : RunsAhead first images (rounds.after_joins old deliveries took.marks) (rounds.after_joins ahead deliveries took.marks) =
       record {
         same = refl;
         tablets = all_on first images rise_first took.marks (all_images deliveries) rise_next (ranges layout) ts us (tablets_rise old rise) half;
-        rise = all_rise (rounds.taking old deliveries took.marks) rise_next (all_joins_rise took.marks (all_images deliveries) (ranges layout) ts (tablets_rise old rise));
+        rise = all_rise (rounds.after_joins old deliveries took.marks) rise_next (all_joins_rise took.marks (all_images deliveries) (ranges layout) ts (tablets_rise old rise));
       } in
       record {
-        new = rounds.taking old deliveries took.marks;
-        leads = ap (result_map_both (rounds.taking old deliveries) (λ fault. fault)) took.accepted;
-        runs = subst (RunsAhead first images (rounds.taking old deliveries took.marks)) (sym took.is) runs;
+        new = rounds.after_joins old deliveries took.marks;
+        leads = ap (result_map_both (rounds.after_joins old deliveries) (λ fault. fault)) took.accepted;
+        runs = subst (RunsAhead first images (rounds.after_joins old deliveries took.marks)) (sym took.is) runs;
         below = new_above marks took.marks deliveries took.accepted rise.marks;
       }
 
@@ -107,10 +107,10 @@ module _ (start failed later end : RegionValue) (deliveries : List DeliveryValue
       let again : new_marks other.marks deliveries ≡ Ok took.marks = ap (λ (r : RegionValue). new_marks r.marks deliveries) (sym both.same) ∙ took.accepted in
       let rise_last = new_rise other.marks took.marks deliveries again both.rise.marks in
       let above = new_both start.marks other.marks first took.marks deliveries accepted again rise.marks both.rise.marks below in
-      let made : rounds.taking later deliveries took.marks ≡ rounds.taking other deliveries took.marks =
-      ap (λ (r : RegionValue). rounds.taking r deliveries took.marks) both.same
+      let made : rounds.after_joins later deliveries took.marks ≡ rounds.after_joins other deliveries took.marks =
+      ap (λ (r : RegionValue). rounds.after_joins r deliveries took.marks) both.same
       ∙ (λ i. record { layout = other.layout; tablets = made_up first (all_images deliveries) rise_first took.marks rise_last above (ranges other.layout) other.tablets later.tablets (tablets_rise other both.rise) both.tablets i; marks = took.marks }) in
-      (other, leads, ap (result_map_both (rounds.taking other deliveries) (λ fault. fault)) again ∙ ap Ok (sym made ∙ sym took.is))
+      (other, leads, ap (result_map_both (rounds.after_joins other deliveries) (λ fault. fault)) again ∙ ap Ok (sym made ∙ sym took.is))
 
   by_marks : (right : Result Positions RoundFault) → new_marks start.marks deliveries ≡ right → failed ≡ record { layout = start.layout; tablets = failed.tablets; marks = start.marks }
       → MatchResult right (λ marks. AreOldOrStepped start.tablets (rounds.joins start deliveries marks) failed.tablets) (λ fault. failed.tablets ≡ start.tablets) → MakesUp

@@ -71,7 +71,7 @@ pub event_rises : (event : RegionEvent) (old new : RegionValue) → AllRise old 
 event_rises (round deliveries) old new rise leads =
     let took = takes old deliveries new leads in
     subst AllRise (sym took.is)
-    (all_rise (rounds.taking old deliveries took.marks) (new_rise old.marks took.marks deliveries took.accepted rise.marks)
+    (all_rise (rounds.after_joins old deliveries took.marks) (new_rise old.marks took.marks deliveries took.accepted rise.marks)
     (all_joins_rise took.marks (all_images deliveries) (ranges old.layout) old.tablets (tablets_rise old rise)))
 event_rises (half_round deliveries) old new rise leads =
     all_rise new (subst Rise (sym leads.1) rise.marks) (half_rises old deliveries new.tablets (new_marks old.marks deliveries) (tablets_rise old rise) leads.2)

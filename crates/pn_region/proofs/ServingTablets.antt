@@ -40,7 +40,7 @@ module _ (marks : Positions) (images : List Image) where
   half_taken (r ∷ rs) (t ∷ ts) [] half serve = absurd half
   half_taken (r ∷ rs) (t ∷ ts) (now ∷ nows) half serve = (now_serves t now r serve.0 half.0, half_taken rs ts nows half.1 serve.1)
 
-pub taken_serves : (region : RegionValue) (deliveries : List DeliveryValue) (marks : Positions) → AllServe region → AllServe (rounds.taking region deliveries marks)
+pub taken_serves : (region : RegionValue) (deliveries : List DeliveryValue) (marks : Positions) → AllServe region → AllServe (rounds.after_joins region deliveries marks)
 taken_serves region deliveries marks serve = all_taken marks (all_images deliveries) (ranges region.layout) region.tablets serve
 
 pub half_serves : (old new : RegionValue) (deliveries : List DeliveryValue) → AllServe old → IsHalfTaken old deliveries new → AllServe new

@@ -71,7 +71,7 @@ unless true value none = none refl
 unless false value none = refl
 
 module _ (entries : List Entry) (last n : ℕ) (kept : Buffer Change) (is : IsLog entries last kept) where
-  pub known : (index : ℕ) → last ≤ LAST_NUMBER → index ≤ length kept.items → n + length kept.items ≡ last + place
+  pub known : (index : ℕ) → last ≤ LAST_NUMBER → index ≤ length kept.items → n + length kept.items ≡ last + index
       → changes_after entries n ≡ Some (drop index kept.items)
   known index given within at =
       let are = is.are_kept (omega (arith, is.number)) in

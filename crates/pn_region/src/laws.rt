@@ -159,7 +159,7 @@ pub fn marks_tell_what_was_taken()
 /// A faithful tablet that serves, and whose cover is its reach, has the cells of all images in its range up to there.
 /// The copies that a faithful tablet gives are honest.
 pub fn honest_copies_keep_tablets_faithful()
-    ensures recovering_tablet { (broker : BrokerRecord) (tablet : TabletStateValue) → Reaches tablet.reach tablet.cover → IsFaithful broker (recovering_tablet tablet) }
+    ensures lost { (broker : BrokerRecord) (tablet : TabletStateValue) → Reaches tablet.reach tablet.cover → IsFaithful broker (recovering_tablet tablet) }
     ensures adopted { (broker : BrokerRecord) (tablet after : TabletStateValue) (copy : TabletCopyValue)
         → IsFaithful broker tablet → IsHonestCopy broker copy → step tablet (Adopt copy) ≡ Ok after
         → IsFaithful broker after }
