@@ -4,8 +4,8 @@ use Rattle.serde_json.specs.Data.{Data}
 use Rattle.pn_json.specs.Answers.{fault_as}
 use Rattle.pn_scan.specs.Queries.{QueryValue}
 use Rattle.pn_scan.specs.QueryReading.{query_in}
-use Rattle.pn_scan.specs.declared.query_fault.QueryFault.{QueryFault}
-use Rattle.pn_scan.specs.declared.query_fault.QueryFault.TheVariants as query
+use Rattle.pn_scan.specs.declared.query_reading.QueryFault.{QueryFault}
+use Rattle.pn_scan.specs.declared.query_reading.QueryFault.TheVariants as query
 use Rattle.pn_protocol.specs.declared.refusal.Part.TheVariants.{Query}
 use Rattle.pn_protocol.specs.declared.refusal.Refusal.{Refusal}
 use Rattle.pn_protocol.specs.declared.refusal.Refusal.TheVariants.{BadShape, OutOfRange, Memory}

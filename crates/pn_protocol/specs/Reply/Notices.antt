@@ -4,10 +4,10 @@ use Rattle.serde_json.specs.Data.{Data, boolean, number, string, array, object, 
 use Rattle.serde_json.specs.View.{items_of}
 use Rattle.pn_record.specs.Writing.{version_data}
 use Rattle.pn_region.specs.Log.{notices_from, changes_after, last_of}
-use Rattle.pn_region.specs.declared.entry.Entry.{Entry}
-use Rattle.pn_region.specs.declared.since.Notice.{Notice}
-use Rattle.pn_region.specs.declared.since.Since.{Since}
-use Rattle.pn_region.specs.declared.since.Since.TheVariants.{Notices, Missed}
+use Rattle.pn_region.specs.declared.notices.Entry.{Entry}
+use Rattle.pn_region.specs.declared.notices.Notice.{Notice}
+use Rattle.pn_region.specs.declared.notices.Since.{Since}
+use Rattle.pn_region.specs.declared.notices.Since.TheVariants.{Notices, Missed}
 use Rattle.pn_protocol.specs.Reply.Rows.{version_or_null}
 
 -- a notice: the version after the change, the one before it or null, the key, and the number
