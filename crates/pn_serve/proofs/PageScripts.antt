@@ -15,7 +15,9 @@ use Rattle.pn_record.specs.Order.{bytes_cmp}
 use Rattle.pn_record.specs.Sets.{CellValue}
 use Rattle.pn_record.proofs.HeldRecords.{tied_keys}
 use Rattle.pn_scan.specs.Pages.{PageValue}
-use Rattle.pn_scan.specs.Queries.{QueryValue, query_after, MAX_CONDITIONS, is_condition, is_end, is_limit, query_fits, is_query}
+use Rattle.pn_tablet.specs.Ranges.{is_end}
+use Rattle.pn_scan.specs.Queries.{QueryValue, query_after, is_condition, is_limit, query_fits, is_query}
+use Rattle.pn_scan.specs.declared.query.TheConstants.{MAX_CONDITIONS}
 use Rattle.pn_scan.specs.Shown.{is_shown, shown_rows}
 use Rattle.pn_scan.specs.Walks.{ArePages, left_by, rows_of}
 use Rattle.pn_scan.specs.declared.fault.ScanFault.{ScanFault}

@@ -2,7 +2,7 @@
 use Rattle.std.proofs.Common.{◌≡◌, ◌⊎◌, inl, inr, Bool, true, false, List, [], ◌∷◌, refl, sym, ap, ◌∙◌, subst}
 use Rattle.std.specs.Prelude.{ℕ, Result, Ok, Err, Option}
 use Rattle.pn_join.specs.Marks.{Positions}
-use Rattle.pn_join.proofs.MarksFacts.{raised-repeats}
+use Rattle.pn_join.proofs.MarksFacts.{raised_marks-repeats}
 use Rattle.pn_stream.specs.Positions.{DeliveryValue}
 use Rattle.pn_tablet.specs.Layouts.{Bounds}
 use Rattle.pn_region.specs.Events.{RegionEvent, AllLeadTo}
@@ -50,7 +50,7 @@ module _ (m : Machine) (deliveries : List DeliveryValue) where
     first = first;
     accepted = is;
     rise_base = rise.marks;
-    below = raised-repeats m.region.marks rise.marks;
+    below = raised_marks-repeats m.region.marks rise.marks;
     layout = refl;
     marks = refl;
     tablets = some_or_none flags m.region.tablets (joins m.region deliveries first) (fit m.region deliveries stands first);

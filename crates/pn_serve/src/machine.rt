@@ -3,7 +3,7 @@
 ghost use Rattle.std.specs.Prelude.{◌≡◌, ◌≤◌};
 ghost use Rattle.pn_apply.specs.declared.reducing.TheConstants.{MAX_WORKERS};
 ghost use Rattle.pn_protocol.specs.Prelude.{command_value, deliver as asking};
-ghost use Rattle.pn_serve.specs.Machine.Modes.{IsDone, with_mode};
+ghost use Rattle.pn_serve.specs.Machine.Modes.{IsAnswer, with_mode};
 ghost use Rattle.pn_serve.specs.Machine.Outcomes.{machine_over};
 ghost use Rattle.pn_serve.specs.Machine.Answers.{AnswersBy, ConcludesBy, Obeys};
 ghost use Rattle.pn_serve.specs.Machine.Ways.{HandlesTo, LastsBy};
@@ -68,7 +68,7 @@ fn run_command<R: Threads + Sync, C: CommandReader>(
 
 // Waits for the lines that a command announces.
 fn announce(alloc: Global, handled: Handled) -> Answer
-    ensures { IsDone handled result.0 result.1 }
+    ensures { IsAnswer handled result.0 result.1 }
 {
     match handled {
         Handled::Obeyed(reply) => (reply, None),

@@ -1,6 +1,6 @@
 -- Reports of the threads of streams.
 use Rattle.std.specs.Prelude.{◌≡◌, ℕ, ◌+◌, Bool, true, false, if◌then◌else◌, List, [], ◌∷◌, ◌++◌, length, min, Option, Some, None, IfSome}
-use Rattle.pn_record.specs.Limits.{greatest}
+use Rattle.pn_join.specs.declared.marks.TheConstants.{LAST_POSITION}
 use Rattle.pn_stream.specs.Batches.{Stream, Batch}
 use Rattle.pn_stream.specs.Faults.{Stands}
 use Rattle.pn_stream.specs.Positions.{DeliveryValue}
@@ -12,7 +12,7 @@ use Rattle.pn_serve.specs.declared.server.reports.Report.TheVariants.{Messages, 
 
 -- the delivery of these images at the next positions of the stream
 abbrev pub next_delivery : {S : Type 0} → Stream S → DeliveryValue → DeliveryValue
-next_delivery stream delivery = record { stream = stream.name; first = min (stream.position + 1) greatest; images = delivery.images }
+next_delivery stream delivery = record { stream = stream.name; first = min (stream.position + 1) LAST_POSITION; images = delivery.images }
 
 -- the report is right for what the source has left: the next messages; no whole line; or a fault that comes next
 abbrev pub Leaves : {S : Type 0} → (S → Option (List ℕ)) → Stream S → Report → Stream S → Type 0
