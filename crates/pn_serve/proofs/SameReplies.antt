@@ -16,7 +16,7 @@ use Rattle.pn_region.specs.Recovery.{losing, adopting}
 use Rattle.pn_region.specs.Regions.{RegionValue}
 use Rattle.pn_region.specs.Relayouts.{relaying}
 use Rattle.pn_region.specs.Rounds.{round as taken_round}
-use Rattle.pn_region.specs.declared.entry.Entry.{Entry}
+use Rattle.pn_region.specs.declared.notices.Entry.{Entry}
 use Rattle.pn_region.specs.declared.fault.RelayoutFault.{RelayoutFault}
 use Rattle.pn_region.specs.declared.fault.RoundFault.{RoundFault}
 use Rattle.pn_json.specs.Lines.{line_of}

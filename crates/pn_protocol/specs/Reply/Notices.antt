@@ -4,7 +4,7 @@ use Rattle.serde_json.specs.Data.{Data, boolean, number, string, array, object, 
 use Rattle.serde_json.specs.View.{items_of}
 use Rattle.pn_record.specs.Writing.{version_data}
 use Rattle.pn_region.specs.Log.{numbered, changes_after, last_of}
-use Rattle.pn_region.specs.declared.entry.Entry.{Entry}
+use Rattle.pn_region.specs.declared.notices.Entry.{Entry}
 use Rattle.pn_region.specs.declared.since.Notice.{Notice}
 use Rattle.pn_region.specs.declared.since.Since.{Since}
 use Rattle.pn_region.specs.declared.since.Since.TheVariants.{Notices, Missed}

@@ -3,7 +3,7 @@ use Rattle.std.specs.Prelude.{◌≡◌, ℕ, Bool, List, Option, None, Some, re
 use Rattle.std.specs.Coded.{Coded, code_by, coded×, coded_ℕ, coded_bool, coded_list, coded_option}
 use Rattle.pn_region.specs.Proofs.Coding.{region_code, entry_code}
 use Rattle.pn_region.specs.Regions.{RegionValue}
-use Rattle.pn_region.specs.declared.entry.Entry.{Entry}
+use Rattle.pn_region.specs.declared.notices.Entry.{Entry}
 use Rattle.pn_serve.specs.Lines.States.{LineLoopValue}
 use Rattle.pn_serve.specs.Machine.Outcomes.{Mode, idle, announced, Machine}
 

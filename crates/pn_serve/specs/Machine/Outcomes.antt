@@ -2,7 +2,7 @@
 use Rattle.std.specs.Prelude.{ℕ, Bool, true, false, List, [], Option}
 use Rattle.pn_region.specs.Logged.{LoggedRegion}
 use Rattle.pn_region.specs.Regions.{RegionValue}
-use Rattle.pn_region.specs.declared.entry.Entry.{Entry}
+use Rattle.pn_region.specs.declared.notices.Entry.{Entry}
 use Rattle.pn_protocol.specs.declared.refusal.Refusal.{Refusal}
 use Rattle.pn_json.specs.Lines.{line_of}
 use Rattle.pn_protocol.specs.Reply.Short.{refusal_data}
