@@ -100,10 +100,15 @@ def check_completions(installed: Path, folder: Path) -> None:
         same(f"completions of {shell}", completions_of(shell, installed / path, folder), COMPLETIONS)
 
 
-def check_licences(text: str) -> int:
-    """The libraries that crates.txt names and those that they stand on are listed, and no others, each with all its texts. How many."""
+def check_licences(text: str, program: Path) -> int:
+    """The libraries that crates.txt leads to are listed, and no others, each with all its texts. How many.
+
+    Those that the names of the program's functions begin with are among them.
+    """
+    crates = crates_below("pnuts")
     lines = dict(re.findall(r"^(\w+): (.*)$", text.partition("----")[0], re.MULTILINE))
-    same("libraries that are linked", sorted(lines), of_kit(crates_below("pnuts")))
+    same("libraries that are linked", sorted(lines), of_kit(crates))
+    same("others in the program", set(re.findall(r" (\w+)::", run(["nm", program]))) - crates.keys() - lines.keys(), set())
     for library, names in lines.items():
         found = sorted(it for it in (kit() / "rattle" / library).iterdir() if re.match("licen|copy|notice", it.name, re.IGNORECASE))
         same(f"licences of {library}", names.split() if found else [], [it.name for it in found])
@@ -143,7 +148,7 @@ def check_make_install(program: Path, folder: Path) -> Iterator[str]:
     yield "man reads all pages without a warning"
     check_completions(installed, folder / "typing")
     yield f"{', '.join(SHELLS)} complete {len(COMPLETIONS)} lines alike"
-    count = check_licences((installed / "share/doc/pnuts/third-party").read_text(encoding="utf-8"))
+    count = check_licences((installed / "share/doc/pnuts/third-party").read_text(encoding="utf-8"), program)
     yield f"the licences of {count} libraries are those that crates.txt leads to"
     environment = installed / ENVIRONMENT
     as_it_was = environment.read_bytes()
@@ -154,6 +159,7 @@ def check_make_install(program: Path, folder: Path) -> Iterator[str]:
     environment.write_bytes(as_it_was)
     make("uninstall", root, program)
     same("files left", files_in(root), {})
+    same("whether its folder of documents is left", (installed / "share/doc/pnuts").exists(), False)
     yield "make uninstall: a changed environment file is kept, and all else removed"
 
 
