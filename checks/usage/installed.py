@@ -70,10 +70,12 @@ def make(target: str, folder: Path, program: Path) -> str:
 
 
 def check_unit(installed: Path) -> None:
-    """The unit names the paths that the program and its environment file have once they are installed."""
-    lines = (installed / "lib/systemd/system/pnuts.service").read_text(encoding="utf-8").splitlines()
-    found = [it.split(" ")[0] for it in lines if it.startswith(("ExecStart=", "EnvironmentFile="))]
+    """The unit names the paths that the program and its environment file have once they are installed, and so does its page."""
+    unit, page = ((installed / it).read_text(encoding="utf-8") for it in ("lib/systemd/system/pnuts.service", "share/man/man8/pnuts.8"))
+    found = [it.split(" ")[0] for it in unit.splitlines() if it.startswith(("ExecStart=", "EnvironmentFile="))]
     same("the unit", found, [f"EnvironmentFile={PREFIX}/{ENVIRONMENT}", f"ExecStart={PREFIX}/bin/pnuts"])
+    same("paths that are not filled in", re.findall("@[A-Z]+@", unit + page), [])
+    same("whether its page names the environment file", f"{PREFIX}/{ENVIRONMENT}" in page, True)
 
 
 def check_pages(share: Path) -> None:
