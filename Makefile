@@ -54,7 +54,7 @@ test: toolchain
 
 # Tries all wrong bodies, and not only those that the gate tries: the prover must refuse each.
 edits: build
-	@checks/edits $(CRATE)
+	@checks/run edits $(CRATE)
 
 # Proves the program, and leaves it built with optimisation.
 build: toolchain
@@ -101,11 +101,11 @@ bench-beside: build
 # of its allocations in turn, and all memory; lets each of its reads and writes fail; cuts and damages what it is given; and compares
 # its replies to random scripts with those of a plain, slow program, and what it reads with what serde_json reads.
 checks: $(PROGRAM) $(SCRIPTS) $(LIVE)
-	@checks/all "$(PROGRAM)" "$(SCRIPTS)" "$(LIVE)" --soak $(SOAK)
+	@checks/run all "$(PROGRAM)" "$(SCRIPTS)" "$(LIVE)" --soak $(SOAK)
 
 # Looks for data races by ThreadSanitizer, in builds without proofs.
 races: toolchain
-	@checks/races
+	@checks/run races
 
 # Fuzzes the built program by AFL++, and prints a table. What it finds is kept in fuzz/cases.
 fuzz: build
@@ -123,7 +123,7 @@ checks-feeds:
 # packages: redis-server python3-redis python3-hiredis rabbitmq-server python3-pika postgresql python3-psycopg2 haproxy openssl
 # iproute2 util-linux. What misses one of them says so, and is skipped.
 checks-brokers: build
-	@checks/brokers "$(PROGRAM)"
+	@checks/run brokers "$(PROGRAM)"
 
 # Draws the pictures of docs/pictures. It needs Debian's graphviz and gnuplot-nox.
 pictures:
@@ -132,11 +132,11 @@ pictures:
 
 # Installs and removes the program, and its Debian package in a system that is made for it. It needs root and the network.
 checks-install: $(PROVED)
-	@checks/install "$(PNUTS)"
+	@checks/run install "$(PNUTS)"
 
 # Prints the definitions that contracts cite, each with its comment: of all crates, or of one.
 definitions:
-	@checks/definitions $(CRATE)
+	@checks/run definitions $(CRATE)
 
 # Runs the worked rows through the built program, where they are at hand.
 rows:

@@ -87,7 +87,7 @@ def new_deliveries(count: int, in_line: int = IMAGES_IN_LINE, image: Callable[[s
     """A script that delivers images of new keys."""
     keys, lines = new_keys(count), []
     for at in range(0, count, in_line):
-        images = [Image("east", at + 1 + place, image(key)) for place, key in enumerate(keys[at : at + in_line])]
+        images = [Image("east", at + 1 + index, image(key)) for index, key in enumerate(keys[at : at + in_line])]
         lines.append(delivery(images))
     return b"".join(lines)
 

@@ -19,14 +19,14 @@ FEEDS = TOP / "feeds"
 CLIENT = TOP / "clients/python/src"
 WITHIN = "PNUTS_EXAMPLE_IS_WITHIN"
 # Files of an example, of which none is left.
-ROOM = Path("/run")
+RUN = Path("/run")
 SECONDS = 60.0
 
 
 def enter() -> None:
     """Starts this program again in namespaces of its own, where it is not yet: all within ends with it, however it ends."""
     if os.environ.get(WITHIN):
-        for folder in (str(ROOM), "/dev/shm"):
+        for folder in (str(RUN), "/dev/shm"):
             subprocess.run(["mount", "-t", "tmpfs", "-o", "mode=1777", "none", folder], check=True)
         subprocess.run(["ip", "link", "set", "lo", "up"], check=True)
         return
@@ -84,7 +84,7 @@ class Processes:
 
 def said_by(name: str) -> Path:
     """The file of what a program says."""
-    return ROOM / f"{name}.said"
+    return RUN / f"{name}.said"
 
 
 def end(program: subprocess.Popen[bytes]) -> None:

@@ -4,36 +4,36 @@
 
 static const char LINE[] = "{\"do\":\"adopt\",\"lines\":1000000}\n";
 
-struct room {
+struct buffer {
     unsigned char *bytes;
     size_t size;
 };
 
 void *afl_custom_init(void *fuzzer, unsigned int seed) {
     (void)fuzzer, (void)seed;
-    return calloc(1, sizeof(struct room));
+    return calloc(1, sizeof(struct buffer));
 }
 
 // An input that is tried several times is what was put out for it the first time, with its first size.
 size_t afl_custom_post_process(void *data, unsigned char *input, size_t size, unsigned char **output) {
-    struct room *room = data;
+    struct buffer *buffer = data;
     size_t whole = sizeof LINE - 1 + size;
-    if (input == room->bytes) {
-        *output = room->bytes;
-        return whole <= room->size ? whole : room->size;
+    if (input == buffer->bytes) {
+        *output = buffer->bytes;
+        return whole <= buffer->size ? whole : buffer->size;
     }
-    if (room->size < whole) {
-        unsigned char *bytes = realloc(room->bytes, whole);
+    if (buffer->size < whole) {
+        unsigned char *bytes = realloc(buffer->bytes, whole);
         if (!bytes) return 0;
-        *room = (struct room){bytes, whole};
+        *buffer = (struct buffer){bytes, whole};
     }
-    memcpy(room->bytes, LINE, sizeof LINE - 1);
-    memcpy(room->bytes + sizeof LINE - 1, input, size);
-    *output = room->bytes;
+    memcpy(buffer->bytes, LINE, sizeof LINE - 1);
+    memcpy(buffer->bytes + sizeof LINE - 1, input, size);
+    *output = buffer->bytes;
     return whole;
 }
 
 void afl_custom_deinit(void *data) {
-    free(((struct room *)data)->bytes);
+    free(((struct buffer *)data)->bytes);
     free(data);
 }

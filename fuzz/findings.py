@@ -6,7 +6,8 @@ import re
 import resource
 import subprocess
 
-from damage import first_fault, slow_replies
+from common.tried import first_fault
+from faults.damage import slow_replies
 from harnesses import CASES, Harness
 
 # How much processor time an input may take, and how long is waited for an end.

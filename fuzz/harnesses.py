@@ -4,8 +4,8 @@ import pathlib
 from collections.abc import Iterator
 from typing import NamedTuple
 
-from slow_lines import Json
-from stored import Stored, stored, stored_scripts
+from replies.slow_lines import Json
+from replies.stored import Stored, stored, stored_scripts
 
 TOP = pathlib.Path(__file__).resolve().parent.parent
 CASES = TOP / "fuzz" / "cases"

@@ -54,7 +54,7 @@ static int is_sent(int socket, const char *bytes, size_t left) {
     return 1;
 }
 
-// Answers the lines that end in these bytes, in as few writes as there is room for.
+// Answers the lines that end in these bytes, in as few writes as fit.
 static int is_answered(struct session *session, const char *bytes, size_t count) {
     size_t size = 0;
     for (size_t at = 0; at < count; at++) {

@@ -78,9 +78,9 @@ static struct request request_of(const char *line, size_t size) {
 static void read_requests(const char *path) {
     FILE *file = fopen(path, "r");
     char *line = NULL;
-    size_t room = 0, most = 0;
+    size_t capacity = 0, most = 0;
     if (!file) fail(path);
-    for (ssize_t size; (size = getline(&line, &room, file)) > 0;) {
+    for (ssize_t size; (size = getline(&line, &capacity, file)) > 0;) {
         if (line[size - 1] == '\n') size--;
         if (request_count == most) requests = realloc(requests, (most = most * 2 + 1024) * sizeof *requests);
         if (!requests) fail("realloc");
@@ -112,7 +112,7 @@ static void send_all(int socket, const char *bytes, size_t left) {
     }
 }
 
-// Sends the next requests of a connection, in one write if there is room.
+// Sends the next requests of a connection, in one write if they fit.
 static void ask(struct connection *it, size_t count) {
     size_t size = 0;
     for (; count > 0; count--) {

@@ -11,7 +11,7 @@ from pathlib import Path
 
 import pika
 
-from running import FEEDS, ROOM, Processes, Word, kill, said_by, until
+from running import FEEDS, RUN, Processes, Word, kill, said_by, until
 
 COUNT = 3
 FRONT = "10.77.0.254"
@@ -22,7 +22,7 @@ CONNECTIONS = 64
 # A record that each stream has once the first images are there: a region that lacks it is not ready.
 LOADED = {"low": "a-loaded", "high": "z-loaded"}
 RABBIT = Path("/usr/lib/rabbitmq/bin")
-CERTIFICATES = ROOM / "certificates"
+CERTIFICATES = RUN / "certificates"
 
 
 def run(*command: Word, environment: dict[str, str] | None = None) -> None:
@@ -32,7 +32,7 @@ def run(*command: Word, environment: dict[str, str] | None = None) -> None:
 
 def make_network(machines: Sequence[Machine]) -> None:
     """A switch, with a cable to each machine and to the front."""
-    (ROOM / "netns").mkdir()
+    (RUN / "netns").mkdir()
     run("ip", "link", "add", "switch", "type", "bridge")
     run("ip", "address", "add", f"{FRONT}/24", "dev", "switch")
     run("ip", "link", "set", "switch", "up")
@@ -105,7 +105,7 @@ listen {name}
 
 
 def start_proxy(processes: Processes, name: str, within: Sequence[str], text: str) -> None:
-    path = ROOM / f"{name}.cfg"
+    path = RUN / f"{name}.cfg"
     path.write_text(text, encoding="utf-8")
     run("haproxy", "-c", "-f", path)
     processes.start(f"{name}-proxy", [*within, "haproxy", "-db", "-f", path])
@@ -144,9 +144,9 @@ class Machine:
 
     def environment(self) -> dict[str, str]:
         """What the broker's programs read."""
-        folder = ROOM / f"{self.name}-broker"
+        folder = RUN / f"{self.name}-broker"
         return {
-            "HOME": str(ROOM / "cookie"),
+            "HOME": str(RUN / "cookie"),
             "RABBITMQ_USE_LONGNAME": "true",
             "RABBITMQ_NODENAME": f"pn@{self.address}",
             "RABBITMQ_MNESIA_BASE": f"{folder}/m",
@@ -159,7 +159,7 @@ class Machine:
 
     def make_broker(self) -> None:
         """The files of its node."""
-        folder = ROOM / f"{self.name}-broker"
+        folder = RUN / f"{self.name}-broker"
         folder.mkdir()
         (folder / "plugins").write_text("[].\n", encoding="utf-8")
         nodes = "".join(f"cluster_formation.classic_config.nodes.{at} = pn@10.77.0.{at}\n" for at in range(1, COUNT + 1))
@@ -203,7 +203,7 @@ class Machine:
         self.start(f"{name}-region", [self.program, "serve", *words])
 
     def fifo(self, name: str) -> Path:
-        path = ROOM / f"{self.name}-{name}"
+        path = RUN / f"{self.name}-{name}"
         if not path.exists():
             os.mkfifo(path)
         return path

@@ -17,7 +17,7 @@ from pnuts_client.addresses import Tcp
 
 KEYS = 500
 # How often a reader asks other regions for what one does not have yet, before it waits.
-PLACES = 3
+ATTEMPTS = 3
 STREAM = {"x-queue-type": "stream", "x-initial-cluster-size": 3}
 
 
@@ -115,7 +115,7 @@ class Reader:
             except RecordBehind:
                 self.behind += 1
                 regions.append(regions.pop(0))
-                time.sleep(0.002 if at % PLACES else 0.02)
+                time.sleep(0.002 if at % ATTEMPTS else 0.02)
             except PnutsError:
                 self.failed += 1
                 regions.append(regions.pop(0))
@@ -136,5 +136,5 @@ class Reader:
 
 def regions_of_all() -> Regions:
     """The regions of both ranges, through the front."""
-    places = [Tcp(FRONT, PROXY_PORT + at, tls=context()) for at in range(len(RANGES))]
-    return Regions([BOUND], [Client(place, timeout=3.0) for place in places])
+    fronts = [Tcp(FRONT, PROXY_PORT + at, tls=context()) for at in range(len(RANGES))]
+    return Regions([BOUND], [Client(front, timeout=3.0) for front in fronts])

@@ -3,7 +3,7 @@
 use serde_json::Value;
 use std::io::{self, BufRead, BufReader, BufWriter, Read, Write};
 
-const ROOM: usize = 65_536;
+const CAPACITY: usize = 65_536;
 
 /// The next line without its newline, or None at the end.
 pub fn next_line<'a>(
@@ -22,8 +22,8 @@ pub fn answer_lines(
     output: impl Write,
     mut answer: impl FnMut(&[u8]) -> Value,
 ) -> io::Result<()> {
-    let mut input = BufReader::with_capacity(ROOM, input);
-    let mut output = BufWriter::with_capacity(ROOM, output);
+    let mut input = BufReader::with_capacity(CAPACITY, input);
+    let mut output = BufWriter::with_capacity(CAPACITY, output);
     let mut line = Vec::new();
     while let Some(text) = next_line(&mut input, &mut line)? {
         serde_json::to_writer(&mut output, &answer(text))?;

@@ -47,7 +47,7 @@ impl Condition {
     }
 
     fn is_met(&self, fields: &[(String, String)]) -> bool {
-        let place = fields.binary_search_by(|(name, _)| name.cmp(&self.field));
+        let index = fields.binary_search_by(|(name, _)| name.cmp(&self.field));
         let is_right = |text: &String| match &self.test {
             Test::Has => true,
             Test::Equal(other) => text == other,
@@ -55,7 +55,7 @@ impl Condition {
             Test::Greater(other) => text > other,
             Test::Prefix(other) => text.starts_with(other),
         };
-        place.map_or(false, |place| is_right(&fields[place].1))
+        index.map_or(false, |index| is_right(&fields[index].1))
     }
 
     fn shown(&self) -> Value {

@@ -42,8 +42,8 @@ impl Cell {
         }
         let before = self.contents.len();
         for content in other.contents {
-            if let Err(place) = self.contents.binary_search(&content) {
-                self.contents.insert(place, content);
+            if let Err(index) = self.contents.binary_search(&content) {
+                self.contents.insert(index, content);
             }
         }
         self.contents.len() > before
@@ -67,8 +67,8 @@ pub type Records = BTreeMap<String, Cell>;
 pub fn join_cell(records: &mut Records, key: String, cell: Cell) -> bool {
     match records.entry(key) {
         Entry::Occupied(mut there) => there.get_mut().join(cell),
-        Entry::Vacant(place) => {
-            place.insert(cell);
+        Entry::Vacant(entry) => {
+            entry.insert(cell);
             true
         }
     }

@@ -16,7 +16,7 @@ usage: load PORT SESSIONS IN_FLIGHT MILLISECONDS FILE
 
 Sends the lines of FILE in so many sessions to 127.0.0.1, and prints how many were answered and in how many seconds.";
 
-const ROOM: usize = 65_536;
+const CAPACITY: usize = 65_536;
 
 struct Plan {
     port: u16,
@@ -56,7 +56,7 @@ fn talk<'a>(
     is_over: &AtomicBool,
 ) -> io::Result<u64> {
     let start = Instant::now();
-    let mut replies = BufReader::with_capacity(ROOM, socket.try_clone()?);
+    let mut replies = BufReader::with_capacity(CAPACITY, socket.try_clone()?);
     let (mut output, mut reply, mut count) = (socket, Vec::new(), 0);
     for block in blocks {
         if is_over.load(Ordering::Relaxed) || start.elapsed() >= plan.time {
@@ -88,15 +88,15 @@ fn load(plan: &Plan) -> io::Result<(u64, Duration)> {
         return Err(io::ErrorKind::InvalidData.into());
     }
     let sockets: io::Result<Vec<_>> = (0..plan.sessions).map(|_| connect(plan.port)).collect();
-    let (gate, is_over) = (Barrier::new(plan.sessions), AtomicBool::new(false));
+    let (barrier, is_over) = (Barrier::new(plan.sessions), AtomicBool::new(false));
     let start = Instant::now();
     let counts: io::Result<Vec<u64>> = thread::scope(|scope| {
         let begin = |(number, socket)| {
-            let (gate, is_over, blocks) = (&gate, &is_over, &blocks);
-            let place = number * blocks.len() / plan.sessions;
+            let (barrier, is_over, blocks) = (&barrier, &is_over, &blocks);
+            let index = number * blocks.len() / plan.sessions;
             scope.spawn(move || {
-                gate.wait();
-                talk(socket, blocks.iter().cycle().skip(place), plan, is_over)
+                barrier.wait();
+                talk(socket, blocks.iter().cycle().skip(index), plan, is_over)
             })
         };
         let talks: Vec<_> = sockets?.into_iter().enumerate().map(begin).collect();

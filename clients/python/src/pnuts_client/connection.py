@@ -70,7 +70,7 @@ class Connection:
 
 
 def _lines(pipeline: Pipeline[None], waiting: Iterator[Request[Any]], window: int) -> memoryview:
-    """The next lines, while there is room in the window for a fair part of it."""
+    """The next lines, while the window still takes a fair part of it."""
     if len(pipeline) > window // 2:
         return memoryview(b"")
     lines = []

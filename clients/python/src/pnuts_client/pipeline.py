@@ -71,12 +71,12 @@ class Pipeline(Generic[Ticket]):
         replies: list[Replied[Ticket]] = []
         try:
             characters = text.decode()
-            place, end = 0, len(characters)
-            while place < end:
-                reply, place = _read(characters, place)
-                if characters[place] != "\n":
+            index, end = 0, len(characters)
+            while index < end:
+                reply, index = _read(characters, index)
+                if characters[index] != "\n":
                     raise ProtocolError("a reply is followed by something else")
-                place += 1
+                index += 1
                 replies.append((*self._next(), reply))
         except (JSONDecodeError, UnicodeDecodeError) as fault:
             raise ProtocolError("a reply is no JSON") from fault

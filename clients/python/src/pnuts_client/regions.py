@@ -29,17 +29,17 @@ class Bounds(Generic[Region]):
 
     def region_of(self, key: str) -> Region:
         """The region that has the key."""
-        return self.regions[self.place_of(key)]
+        return self.regions[self.index_of(key)]
 
-    def place_of(self, key: str) -> int:
+    def index_of(self, key: str) -> int:
         """The number of the region that has the key. Texts are ordered as their bytes are."""
         return bisect_right(self.bounds, key)
 
     def shares(self, keys: Iterable[str]) -> dict[int, list[int]]:
-        """The places of the keys that each region has, by the region's number."""
+        """The indices of the keys that each region has, by the region's number."""
         shares: dict[int, list[int]] = {}
-        for place, key in enumerate(keys):
-            shares.setdefault(self.place_of(key), []).append(place)
+        for index, key in enumerate(keys):
+            shares.setdefault(self.index_of(key), []).append(index)
         return shares
 
     def parts(self, query: Query) -> Iterator[tuple[Region, Query]]:
@@ -65,9 +65,9 @@ class Regions:
     def get(self, keys: Sequence[str]) -> list[Record | None]:
         """As `Client.get`, over all regions that have some of the keys."""
         found: list[Record | None] = [None] * len(keys)
-        for number, places in self._table.shares(keys).items():
-            records = self._table.regions[number].get([keys[place] for place in places])
-            _put(found, places, records)
+        for number, indices in self._table.shares(keys).items():
+            records = self._table.regions[number].get([keys[index] for index in indices])
+            _put(found, indices, records)
         return found
 
     def scan(
@@ -93,9 +93,9 @@ class AsyncRegions:
         """As `Client.get`, over all regions that have some of the keys, all at once."""
         found: list[Record | None] = [None] * len(keys)
         shares = self._table.shares(keys)
-        asked = [self._table.regions[number].get([keys[place] for place in places]) for number, places in shares.items()]
-        for places, records in zip(shares.values(), await asyncio.gather(*asked)):
-            _put(found, places, records)
+        asked = [self._table.regions[number].get([keys[index] for index in indices]) for number, indices in shares.items()]
+        for indices, records in zip(shares.values(), await asyncio.gather(*asked)):
+            _put(found, indices, records)
         return found
 
     async def scan(
@@ -108,6 +108,6 @@ class AsyncRegions:
                     yield record
 
 
-def _put(found: list[Item | None], places: Sequence[int], items: Sequence[Item | None]) -> None:
-    for place, item in zip(places, items):
-        found[place] = item
+def _put(found: list[Item | None], indices: Sequence[int], items: Sequence[Item | None]) -> None:
+    for index, item in zip(indices, items):
+        found[index] = item

@@ -1,0 +1,239 @@
+"""The wrong bodies that checks/run edits tries: what they change, which of them go together, and what a check says of them."""
+import os
+import re
+from typing import NamedTuple
+
+from common.crates import TOP
+from contracts.edit_files import Told, told_of
+from contracts.existential import existential_clauses
+
+FUNCTION = re.compile(r"^\s*(?:pub(?:\(\w+\))? )?(?:const )?fn (\w+)", re.M)
+SIGNATURE_END = re.compile(r"^\s*(?:\{|.*\{)$", re.M)
+BEGINS_ITEM = re.compile(r"^(?:pub(?:\(\w+\))? )?(?:const|static|struct|enum|impl|trait|mod|use|type|macro_rules!)\b", re.M)
+IMPL = re.compile(r"^impl\b(?:<.*?>)? (?:.* for )?&?(?:'\w+ )?(\w+)", re.M)
+CONSTANT = re.compile(r"\bconst (\w+)")
+DECLARED = re.compile(r"(?m)^(?=(?: {2})?(?:pub )?[^\s:(-][^\s:]* : )")
+EMPTY_MODULE = re.compile(r"(?m)^module _ .* where\n(?=\s*(?:^\S|\Z))")
+VERDICT = re.compile(r"^(?:note: (src/\S+): it is not proved .*|fn (\S+): (.*))$", re.M)
+NO_PART = "the borrow checker's part in its proof is not made yet"
+WAITS = re.compile(rf"no proof: (?:in `[^`]*`, of this cycle of calls: )?(it calls .*|it waits .*|{NO_PART}.*)$")
+ERROR = re.compile(r"^(?:\./)?((?:src|specs|proofs)/\S+?):(\d+):\d+: error(?:\[\w+\])?: (.*)$", re.M)
+MOST_OF_REASON = 160
+
+
+class Location(NamedTuple):
+    """A function: its module, its name, and the type of its impl, or nothing."""
+
+    module: str
+    name: str
+    owner: str
+
+
+class Change(NamedTuple):
+    """What replaces a part of a file."""
+
+    path: str
+    begins: int
+    ends: int
+    text: str
+
+
+class Edit:
+    """A wrong body: what it changes, and the functions that this is in. A location of None is in no function's body."""
+
+    def __init__(self, crate: str, told: Told, is_control: bool = False) -> None:
+        self.crate, self.told = crate, told
+        self.name = told.name + (".control" if is_control else ".edit")
+        self.changes: list[Change] = []
+        self.locations: set[Location | None] = set()
+        self.existential: set[str] = set()
+        self.is_refused_otherwise = False
+        self.why_not = told.fault
+        pairs = told.control if is_control else told.pairs
+        try:
+            for pair in pairs:
+                self.put(*pair)
+        except OSError as error:
+            self.why_not = str(error)
+        if not pairs:
+            self.why_not = self.why_not or "it names no file"
+
+    def put(self, path: str, old: str, new: str) -> None:
+        """Takes a change in, whose old text is there once in what the changes before it made."""
+        text = texts_of([self]).get(path) or source(self.crate, path)
+        if text.count(old) != 1:
+            self.why_not = f"{path} has its old text {text.count(old)} times"
+            return
+        at = text.index(old)
+        for change in sorted(it for it in self.changes if it.path == path):
+            if change.begins < at + len(old) and at < change.begins + len(change.text):
+                self.why_not = f"{path} is changed twice in one place"
+            if change.begins < at:
+                at -= len(change.text) - (change.ends - change.begins)
+        self.locations |= locations_at(self.crate, path, at)
+        self.existential |= clauses_without_witness(self.crate, path, at)
+        self.changes.append(Change(path, at, at + len(old), new))
+
+    def files(self) -> set[str]:
+        return {it.path for it in self.changes}
+
+    def shows_nothing(self) -> bool:
+        """Whether a clause of its functions says of some value only that there is one, no other clause was seen to refuse it, and
+        no wrong witness was tried."""
+        return bool(self.existential) and not self.is_refused_otherwise and not self.told.witness
+
+    def doubt(self) -> str:
+        return f"shows nothing by itself: its contract asks only that there is some value ({', '.join(sorted(self.existential))})"
+
+    def note(self, refused: str) -> None:
+        """Notes the goals by which it was refused: a clause of another kind among them is enough."""
+        clauses = {goal.rpartition("clause-")[2] for goal in refused.split(", ") if "clause-" in goal}
+        self.is_refused_otherwise = self.is_refused_otherwise or not clauses <= self.existential
+
+    def is_alone(self) -> bool:
+        """Whether it changes more than bodies of functions."""
+        return None in self.locations
+
+
+def source(crate: str, path: str) -> str:
+    with open(f"{TOP}/crates/{crate}/{path}", encoding="utf-8") as file:
+        return file.read()
+
+
+def location_at(path: str, text: str, at: int) -> Location | None:
+    """The function whose body has this part of a text, or None where it is in no body."""
+    functions = [it for it in FUNCTION.finditer(text) if it.start() <= at]
+    if not path.startswith("src/") or not functions:
+        return None
+    last = functions[-1]
+    body = text.find("{\n", text.find("\n", last.start()) - 2)
+    signature = SIGNATURE_END.search(text, last.start())
+    if body < 0 or not signature or at < signature.start() or BEGINS_ITEM.search(text, last.end(), at + 1):
+        return None
+    owners = [it for it in IMPL.finditer(text, 0, last.start()) if text.find("\n}\n", it.end(), last.start()) < 0]
+    module = path[len("src/") : -len(".rt")].replace("/", "::")
+    return Location(module, last[1], owners[-1][1] if owners else "")
+
+
+def clauses_without_witness(crate: str, path: str, at: int) -> set[str]:
+    """The clauses that say of some value only that there is one, of the function whose body has this part of a file."""
+    text = source(crate, path)
+    if location_at(path, text, at) is None:
+        return set()
+    last = [it for it in FUNCTION.finditer(text) if it.start() <= at][-1]
+    return set(existential_clauses(text, last.start(), last[1]))
+
+
+def locations_at(crate: str, path: str, at: int) -> set[Location | None]:
+    """The functions that a change is for: the one whose body has it, or those that use the constant that is changed."""
+    text = source(crate, path)
+    constant = CONSTANT.search(text[text.rfind("\n", 0, at) + 1 : text.find("\n", at)])
+    if not constant:
+        return {location_at(path, text, at)}
+    use = re.compile(rf"\b{constant[1]}\b")
+    texts = {it: source(crate, it) for it in sources_of(crate)}
+    used = {location_at(it, text, found.start()) for it, text in texts.items() for found in use.finditer(text)}
+    return used - {None} or {None}
+
+
+def sources_of(crate: str) -> list[str]:
+    at = f"{TOP}/crates/{crate}"
+    return [os.path.relpath(f"{folder}/{it}", at) for folder, _, files in os.walk(f"{at}/src") for it in files if it.endswith(".rt")]
+
+
+def is_at(function: str, location: Location) -> bool:
+    """Whether a function that a check names is the one of this location, or a closure in it. A method is named by its type's module."""
+    inner = function.partition("::")[2]
+    parts = inner.split("::")
+    if location.owner:
+        return location.name in parts and any(location.owner in it for it in parts[:-1])
+    below = inner if location.module == "lib" else inner.removeprefix(location.module + "::")
+    return (location.module == "lib" or below != inner) and location.name in below.split("::")
+
+
+def edits_of(crate: str) -> list[Edit]:
+    """The crate's edits that the prover has to refuse, those of the gate first."""
+    return [Edit(crate, told) for told in told_of(crate) if not told.tests]
+
+
+def of_tests(crate: str) -> list[Edit]:
+    """The crate's wrong bodies that meet every contract, and that tests alone refuse."""
+    return [Edit(crate, told) for told in told_of(crate) if told.tests]
+
+
+def control_of(edit: Edit) -> Edit | None:
+    """The right body in the shape of an edit, if one is kept."""
+    return Edit(edit.crate, edit.told, is_control=True) if edit.told.control else None
+
+
+def in_bundles(edits: list[Edit], most: int) -> list[list[Edit]]:
+    """Puts edits together that change bodies of different functions, each into the first bundle that it fits."""
+    alone = [[it] for it in edits if it.is_alone()]
+    shared: list[list[Edit]] = []
+    for edit in (it for it in edits if not it.is_alone()):
+        fits = lambda bundle: len(bundle) < most and not any(edit.locations & other.locations for other in bundle)
+        bundle = next(filter(fits, shared), None)
+        if bundle is None:
+            bundle = []
+            shared.append(bundle)
+        bundle.append(edit)
+    return shared + alone
+
+
+def texts_of(edits: list[Edit]) -> dict[str, str]:
+    """The files that edits change, each with all of the changes."""
+    texts = {}
+    for path in sorted({path for edit in edits for path in edit.files()}):
+        text = source(edits[0].crate, path)
+        changes = sorted((it for edit in edits for it in edit.changes if it.path == path), key=lambda it: -it.begins)
+        for change in changes:
+            text = text[: change.begins] + change.text + text[change.ends :]
+        texts[path] = text
+    return texts
+
+
+def without_answers(text: str, lines: set[int]) -> str:
+    """A proof file without the declarations that have one of these lines, and without those that use them."""
+    named: list[tuple[str | None, str]] = []
+    gone: set[str] = set()
+    first = 1
+    for block in DECLARED.split(text):
+        name = re.match(r"\s*(?:pub )?(\S+) :", block)
+        last = first + block.count("\n")
+        named.append((name[1] if name else None, block))
+        if name and any(first <= line < last for line in lines):
+            gone.add(name[1])
+        first = last
+    while more := users_of(gone, named):
+        gone |= more
+    return EMPTY_MODULE.sub("", "".join(block for name, block in named if name not in gone))
+
+
+def users_of(gone: set[str], named: list[tuple[str | None, str]]) -> set[str]:
+    """The names of declarations that use one that is gone, and are not gone themselves."""
+    if not gone:
+        return set()
+    uses = re.compile(rf"(?<![\w.-])(?:{'|'.join(map(re.escape, gone))})(?![\w-])")
+    return {name for name, block in named if name and name not in gone and uses.search(block)}
+
+
+def unproved_in(said: str) -> list[tuple[str, str]]:
+    """The functions that have no proof of their own, each with the goals that no proof file answers."""
+    found, notes = [], []
+    for it in VERDICT.finditer(said):
+        if it[1]:
+            notes += re.findall(r"\(`([^`]*)`\)", it[0])[:1]
+        elif it[3].startswith(("not proved", "no proof")):
+            if not WAITS.match(it[3]):
+                found.append((it[2], goals(it[3], notes)))
+            notes = []
+    return found
+
+
+def goals(text: str, notes: list[str]) -> str:
+    """The goals that a line of an unproved function and the notes above it name, or none where only answers and measures are refused."""
+    named = re.findall(r"`([^`]*)`", text.partition("did not prove ")[2].partition(";")[0]) + notes
+    clauses = ", ".join(it for it in dict.fromkeys(named) if not it.endswith("-smaller"))
+    if clauses or named or not text.startswith("no proof"):
+        return clauses
+    return text[len("no proof: ") :][:MOST_OF_REASON]

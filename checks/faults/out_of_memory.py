@@ -1,0 +1,97 @@
+"""Refuses each allocation of a built program in turn, and looks at the replies.
+
+  checks/run out-of-memory PROGRAM LIVE [--only TEXT]
+
+LIVE is the program of the tests of live regions. With --only, nothing is tried whose name does not have the text.
+
+The scripts of crates/test_rows are talked through, those with tablets by 1, 2 and 16 workers: a command is sent once the one
+before it is answered, and again where its answer was `memory`, with the lines that it announces. Each reply is one of a region
+in which each tablet took its part of a refused round or did not, and at the end a scan and the tablets are as without a refusal;
+or there was no memory to begin with, and nothing is written. Where the line of an `adopt` was refused itself, the lines after it
+are commands, each with a refusal.
+
+Some scripts are also sent in one input, each command twice; in one a refused round comes again only after the layout was
+changed; and in others all allocations are refused from one on, so that commands do not come again. Rounds as wide as a line
+allows, where threads are started, have each allocation refused from the start of a thread on. A test of live regions holds
+whichever allocation is refused.
+
+Exit status 0 where that holds for each allocation.
+"""
+import os
+import subprocess
+import tempfile
+import time
+from collections.abc import Iterator
+
+from common.tried import program_parser
+from faults.refused_talks import SECONDS, Script
+from faults.refusing import FOR_GOOD, IN_THREADS, ONE, FindFault, Refusals
+from replies.stored import Stored, stored, stored_scripts
+from replies.wide_rounds import wide_rounds
+
+RETRIED = "memory::a_refused_call_goes_well_when_it_comes_again"
+WORKERS = [1, 2, 16]
+SENT_TWICE = ["first-run", "equal-versions-conflict", "overlap-taken", "get-and-behind", "pages-of-one-tablet",
+              "two-tablets-with-2-workers", "four-tablets-with-4-workers"]
+SENT_FOR_GOOD = ["first-run", "recovery-keeps-arrivals", "copy-for-a-recovery", "get-and-behind", "pages-and-continuations",
+                 "two-are-lost-and-recovered", "four-tablets-with-4-workers", "relayout-merges-and-splits"]
+# A script in which a round that was refused comes again only after the layout was changed.
+SENT_ONCE = ["relayout-between-rounds"]
+# Scripts that are no talks: their last command is cut off, or their lines are not told one by one. A refused round over 64
+# tablets leaves more regions than can be gone through.
+NO_TALKS = ["fewer-lines-than-announced", "no-lines-behind-an-adoption", "no-newline-behind-the-last-line",
+            "lines-of-an-adoption-are-its-own", "one-to-64-tablets-and-back"]
+
+
+def test_fault(command: list[str], given: dict[str, str]) -> str | None:
+    """What is wrong with a test that is to pass, whichever allocation is refused."""
+    ended = subprocess.run(command, capture_output=True, env=given, timeout=SECONDS)
+    is_well = ended.returncode == 0 and b"test result: ok" in ended.stdout
+    return None if is_well else f"status {ended.returncode}, {ended.stderr!r}\n{ended.stdout.decode()}"
+
+
+def talks() -> Iterator[Stored]:
+    """The stored scripts that are talks, each once; those with tablets for each number of workers."""
+    scripts = [script for script in stored_scripts() if not script.name.startswith("random-") and script.name not in NO_TALKS]
+    for script in {(*script.bounds, *script.lines): script for script in scripts}.values():
+        for workers in sorted({*WORKERS, script.workers}) if script.bounds else [1]:
+            yield script._replace(workers=workers)
+
+
+# By name, what is to go well whichever allocation is refused, and which allocations are.
+Case = tuple[str, FindFault, dict[str, str]]
+
+
+def cases(program: str, live: str) -> Iterator[Case]:
+    for stored_script in talks():
+        script = Script(program, stored_script)
+        name = f"{stored_script.name.partition('-with-')[0]} by {stored_script.workers}"
+        yield name, lambda given, it=script: it.fault(given, True), ONE
+    for workers in WORKERS[1:]:
+        script = Script(program, wide_rounds(workers))
+        yield f"wide rounds by {workers}", lambda given, it=script: it.fault(given, True), IN_THREADS
+    for name in SENT_TWICE:
+        yield f"{name}, each command twice", Script(program, stored(name)).fault_of_twice, ONE
+    for name in SENT_ONCE:
+        script = Script(program, stored(name))
+        yield f"{name}, each command once", lambda given, it=script: it.fault(given, False), ONE
+    for name in SENT_FOR_GOOD:
+        script = Script(program, stored(name))
+        yield f"{name}, for good", lambda given, it=script: it.fault(given, False), FOR_GOOD
+    yield "live region", lambda given: test_fault([live, RETRIED], given), ONE
+
+
+def main(words: list[str]) -> int:
+    parser = program_parser(__doc__)
+    parser.add_argument("live")
+    parser.add_argument("--only", default="")
+    told = parser.parse_args(words)
+    total, start = 0, time.monotonic()
+    with tempfile.TemporaryDirectory() as folder:
+        refusals = Refusals(folder)
+        for name, find_fault, which in cases(told.program, os.path.abspath(told.live)):
+            if told.only in name:
+                total += (count := refusals.count(name, find_fault, which))
+                print(f"{name}: {count} allocations refused in turn, and each time the replies were right", flush=True)
+    print(f"out of memory: {total} allocations refused, in {time.monotonic() - start:.0f} seconds")
+    return 0

@@ -1,0 +1,132 @@
+"""Talks with a program that is refused memory: each stored script, and at its end a scan and the tablets."""
+import itertools
+import json
+import subprocess
+import threading
+from collections.abc import Iterator
+
+from faults.refused_states import MEMORY, Command, Judge, States
+from replies.stored import Stored
+
+NO_MEMORY = (1, "pnuts: memory\n")
+CLOSING = [(b'{"do":"scan","query":{}}',), (b'{"do":"tablets"}',)]
+# For how long a talk may go on: beside other programs each reply may take long.
+SECONDS = 600
+# A line that is too long is refused so also where there is no memory.
+FENCE, AT_FENCE = b" " * 65_537, '{"error":"too-long"}'
+
+
+class Talk:
+    """A program that is talked to, command by command."""
+
+    def __init__(self, command: list[str], given: dict[str, str]) -> None:
+        pipes = {"stdin": subprocess.PIPE, "stdout": subprocess.PIPE, "stderr": subprocess.PIPE}
+        self.process = subprocess.Popen(command, env=given, **pipes)
+        self.limit = threading.Timer(SECONDS, self.process.kill)
+        self.limit.start()
+
+    def say(self, *lines: bytes) -> None:
+        self.process.stdin.write(b"".join(line + b"\n" for line in lines))
+        self.process.stdin.flush()
+
+    def hear(self) -> str:
+        line = self.process.stdout.readline()
+        if not line:
+            raise BrokenPipeError
+        return line.decode().rstrip("\n")
+
+    def up_to_fence(self) -> list[str]:
+        """What is still replied to what was said."""
+        self.say(FENCE)
+        return list(iter(self.hear, AT_FENCE))
+
+    def replies(self, command: Command) -> list[str]:
+        """The replies to a command with its lines; after `memory`, those to lines that became commands."""
+        self.say(*command)
+        replies = whole_reply(iter(self.hear, None))
+        return replies + self.up_to_fence() if replies == [MEMORY] and len(command) > 1 else replies
+
+    def end(self) -> tuple[int, str, str]:
+        """The status, and what it still wrote on both outputs."""
+        try:
+            self.process.stdin.close()
+        except BrokenPipeError:
+            pass
+        rest, said = self.process.stdout.read(), self.process.stderr.read()
+        self.limit.cancel()
+        self.process.stdout.close()
+        self.process.stderr.close()
+        return self.process.wait(), rest.decode(), said.decode()
+
+
+def whole_reply(lines: Iterator[str]) -> list[str]:
+    """The next reply, with the lines that it announces."""
+    first = next(lines, "{}")
+    return [first, *itertools.islice(lines, json.loads(first).get("lines", 0))]
+
+
+class Script:
+    """A stored script, and how it goes with one allocation refused, or with all from one on."""
+
+    def __init__(self, program: str, script: Stored) -> None:
+        self.command = [program, "replay", *script.words()]
+        self.steps = [*map(tuple, script.commands()), *CLOSING]
+        self.states = States(script.bounds)
+        self.due: list[list[str]] = []
+        state = self.states.start
+        for step in self.steps:
+            replies, state = self.states.after(state, step)
+            self.due.append(replies)
+        if sum(self.due[: -len(CLOSING)], []) != [reply.decode() for reply in script.replies]:
+            raise SystemExit(f"{script.name}: the slow program answers otherwise")
+
+    def are_refusals(self, lines: Command, replies: list[str]) -> bool:
+        """Whether these are replies to lines that became commands, or none where the lines were passed over."""
+        due = [self.states.after(self.states.start, (line,))[0] for line in lines]
+        return not replies or len(replies) == len(due) and all(got in (*want, MEMORY) for got, want in zip(replies, due))
+
+    def step_fault(self, talk: Talk, judge: Judge, step: Command, is_repeated: bool) -> str | None:
+        """What is wrong with the replies to a command, which comes again where it is refused and repeated."""
+        replies = talk.replies(step)
+        if replies[0] == MEMORY:
+            judge.refuse(step)
+            if not self.are_refusals(step[1:], replies[1:]):
+                return f"the lines of a refused command: {replies}"
+            if not is_repeated:
+                return None
+            replies = talk.replies(step)
+        is_right = judge.is_right(step, replies) and (replies != [MEMORY] or not is_repeated)
+        return None if is_right else f"{step[0][:200]}: {replies}"
+
+    def fault(self, given: dict[str, str], is_repeated: bool) -> str | None:
+        """What is wrong with a talk. Where one allocation is refused, the refused command comes again."""
+        talk, judge, wrong, told = Talk(self.command, given), Judge(self.states), None, 0
+        try:
+            for told, step in enumerate(self.steps):
+                wrong = wrong or self.step_fault(talk, judge, step, is_repeated)
+        except BrokenPipeError:
+            wrong = wrong or f"no reply to command {told + 1}"
+        status, rest, said = talk.end()
+        if (status, said) == NO_MEMORY and not told and not rest:
+            return None
+        if is_repeated and not self.ends_well(judge):
+            wrong = wrong or "at the end the rows or the tablets are others"
+        return f"{status}, {said!r}, {rest!r}, {wrong}" if wrong or (status, rest, said) != (0, "", "") else None
+
+    def ends_well(self, judge: Judge) -> bool:
+        """Whether the scan and the tablets at the end are those without a refusal."""
+        closing = list(zip(CLOSING, self.due[-len(CLOSING):]))
+        return all(self.states.after(state, step)[0] == due for state in judge.possible for step, due in closing)
+
+    def fault_of_twice(self, given: dict[str, str]) -> str | None:
+        """What is wrong with the replies where each command comes twice, all in one input."""
+        twice = [step for step in self.steps for _ in range(2)]
+        script = b"".join(line + b"\n" for step in twice for line in step)
+        ended = subprocess.run(self.command, input=script, capture_output=True, env=given, timeout=SECONDS)
+        status, replies, said = ended.returncode, ended.stdout.decode().splitlines(), ended.stderr.decode()
+        if (status, said) == NO_MEMORY and not replies:
+            return None
+        judge, left = Judge(self.states), iter(replies)
+        wrong = [step[0] for step in twice if not judge.is_right(step, whole_reply(left))]
+        is_well = (status, said) == (0, "") and not wrong and next(left, None) is None and replies.count(MEMORY) <= 1
+        return None if is_well else f"{status}, {said!r}, {wrong}\n{ended.stdout.decode()}"

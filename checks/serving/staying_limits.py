@@ -1,0 +1,88 @@
+"""Connections that are refused, and their count: checks of `checks/run stay`."""
+import contextlib
+import socket
+import struct
+from collections.abc import Iterator
+
+from common.served import SECONDS, Client, same, written
+from faults.failing import environment, failing_library
+from serving.staying import CHUNK, PAGE, Staying
+
+NO_ROW = b'{"row":null}\n'
+READ = b'{"do":"read","key":"z"}\n'
+# How long one that waits for its turn to connect is looked at.
+PATIENCE = 0.5
+RESET = struct.pack("ii", 1, 0)
+# How often clients come and go, each in its way.
+ENDS = 60
+
+
+def none(folder: str) -> list[tuple[str, str]]:
+    """A stream without a message."""
+    return [("east", written(folder, "east", b""))]
+
+
+def is_answered(connection: socket.socket, seconds: float = SECONDS) -> bool:
+    """Whether a client is answered to a read; one that is not is ended, or waits for longer than so many seconds."""
+    connection.settimeout(seconds)
+    with contextlib.suppress(ConnectionError, TimeoutError):
+        connection.sendall(READ)
+        return connection.recv(CHUNK) == NO_ROW
+    return False
+
+
+@contextlib.contextmanager
+def connected(port: int, count: int) -> Iterator[list[socket.socket]]:
+    with contextlib.ExitStack() as stay:
+        yield [stay.enter_context(socket.create_connection(("127.0.0.1", port), timeout=SECONDS)) for _ in range(count)]
+
+
+def same_limit(port: int, most: int, when: str) -> None:
+    """Fails unless just so many of one more are answered."""
+    with connected(port, most + 1) as clients:
+        answers = [is_answered(client, SECONDS if at < most else PATIENCE) for at, client in enumerate(clients)]
+        same(f"who is answered {when}", answers, [True] * most + [False])
+
+
+def come_and_go(port: int, at: int) -> None:
+    """A client that ends its input, goes away in a line, with replies on their way, or by a reset."""
+    with Client(port) as client:
+        client.send([READ, PAGE[:20], READ * 1_000, READ + PAGE[:20]][at % 4])
+        if at % 4 == 0:
+            same("the last reply", client.end(), NO_ROW)
+        elif at % 4 == 3:
+            client.socket.setsockopt(socket.SOL_SOCKET, socket.SO_LINGER, RESET)
+
+
+def check_connection_limit(program: str, folder: str) -> None:
+    """With --connections 3, just three are answered at once, at first and once 60 have come and gone, each in one of four ways."""
+    with Staying(program, folder, none(folder), "--connections", "3") as region:
+        same_limit(region.port, 3, "at first")
+        for at in range(ENDS):
+            come_and_go(region.port, at)
+        same_limit(region.port, 3, f"once {ENDS} have come and gone")
+
+
+def check_unregistered(program: str, folder: str) -> None:
+    """A client whose socket the system does not take into a poll is let go, and counts among --connections no longer."""
+    given = environment(failing_library(folder), "epoll_ctl", 1, 1, once=True)
+    with Staying(program, folder, none(folder), "--connections", "1", environment=given) as region:
+        with connected(region.port, 1) as (first,):
+            same("whether the one that is not registered is answered", is_answered(first), False)
+        with connected(region.port, 1) as (second,):
+            same("whether the next one is answered", is_answered(second), True)
+
+
+def check_ended_thread(program: str, folder: str) -> None:
+    """A session thread ends where its poll fails: no client is given to it any more, and the other thread answers on."""
+    given = environment(failing_library(folder), "epoll_wait", 1, 1, once=True)
+    with Staying(program, folder, none(folder), threads=2, environment=given) as region:
+        answers = []
+        for _ in range(10):
+            with connected(region.port, 1) as (client,):
+                client.settimeout(SECONDS)
+                with contextlib.suppress(ConnectionError):
+                    client.sendall(READ)
+                    answers.append(client.recv(CHUNK))
+        same("whether some are answered", NO_ROW in answers, True)
+        same("what else they are sent", set(answers) - {NO_ROW, b""}, set())

@@ -1,0 +1,89 @@
+"""Feeds of a program that stays, killed and begun anew, and what it says of them: checks of `checks/run stay`."""
+import contextlib
+import os
+import random
+import time
+from collections import Counter
+from collections.abc import Callable
+
+from common.served import Client, fifo, row_of, same, written
+from serving.staying import Beside, Staying, key_of, messages, pages, replayed, until, watch
+
+LIVES, MESSAGES = 20, 20_000
+
+
+def write(is_over: Callable[[], bool], path: str, part: bytes) -> None:
+    """Writes part of a stream, and holds the FIFO open."""
+    with open(path, "wb", buffering=0) as pipe:
+        left = memoryview(part)
+        while left:
+            left = left[pipe.write(left) :]
+        while not is_over():
+            time.sleep(0.1)
+
+
+def cut(stream: bytes) -> bytes:
+    """Part of a stream that ends in the middle of a line."""
+    end = random.randrange(len(stream) // 2, len(stream))
+    return stream[:end] if stream[end - 1] != ord("\n") else stream[: end - 1]
+
+
+def check_killed_writers(program: str, folder: str) -> None:
+    """A FIFO's writer dies in the middle of a line, twenty times under load: nobody is shown less, and in the end all is there."""
+    path, ended, begun = os.path.join(folder, "east"), b"pnuts: stream east ended\n", b"pnuts: stream east begins again\n"
+    os.mkfifo(path)
+    streams = {"east": messages(1, MESSAGES), "west": messages(1, MESSAGES // 2, "y")}
+    west = written(folder, "west", streams["west"])
+    words = ["--bounds", '["k030","k060"]', "--workers", "2"]
+    with contextlib.ExitStack() as stay:
+        writer = stay.enter_context(Beside(write, path, cut(streams["east"])))
+        region = stay.enter_context(Staying(program, folder, [("east", path), ("west", west)], *words))
+        stay.enter_context(Beside(watch, region.port, 32))
+        for life in range(1, LIVES + 1):
+            # Some die while they wait for the region, and some once it has all of theirs.
+            region.wait_for_words(begun, life - 1)
+            time.sleep(random.choice([0.02, 0.3]))
+            writer.kill()
+            region.wait_for_words(ended, life)
+            part = cut(streams["east"]) if life < LIVES else streams["east"]
+            writer = stay.enter_context(Beside(write, path, part))
+        with Client(region.port) as client:
+            wanted = replayed(program, streams, *words)
+            until("the records are those of a replay", lambda: list(pages(client)) == wanted)
+        writer.kill()
+        region.wait_for_words(ended, LIVES + 1)
+        said = Counter(region.said().splitlines(keepends=True))
+        same("what is said", said, {ended: LIVES + 1, begun: LIVES, b"pnuts: stream west ended\n": 1})
+        print(f"  {LIVES} writers died, and {len(wanted)} records of {MESSAGES:,} messages are there")
+
+
+def check_failing_stream(program: str, folder: str) -> None:
+    """A stream that fails has failed for good, in whichever way, and all others go on."""
+    faults = {"gap": messages(2, 1), "shape": b"{}\n", "long": b" " * 70_000 + b"\n", "again": messages(1, 1) * 2}
+    pipes = {name: fifo(folder, name) for name in ["east", *faults]}
+    streams = [(name, path) for name, (path, _) in pipes.items()]
+    with Staying(program, folder, streams) as region, Client(region.port) as client:
+        for at, name in enumerate(faults, 1):
+            path, pipe = pipes[name]
+            pipe.write(faults[name])
+            region.wait_for_words(b"pnuts: stream %b failed\n" % name.encode())
+            pipe.close()
+            pipes["east"][1].write(messages(at, 1))
+            client.wait_for(key_of(at), row_of(key_of(at), 0, "x"))
+        said = sorted(region.said().splitlines())
+        same("what is said", said, sorted(b"pnuts: stream %b failed" % name.encode() for name in faults))
+        same("it is running", region.is_running(), True)
+
+
+def check_ended_file(program: str, folder: str) -> None:
+    """A file's end ends its stream, what no newline ends is no message, and the program serves on."""
+    east = written(folder, "east", messages(1, 3) + messages(4, 1)[:-1])
+    with Staying(program, folder, [("east", east)]) as region, Client(region.port) as client:
+        region.wait_for_words(b"pnuts: stream east ended\n")
+        client.wait_for("k003", row_of("k003", 0, "x"))
+        same("what is there of the last line", client.read("k004"), {"row": None})
+        with open(east, "ab") as file:
+            file.write(b"\n")
+        time.sleep(0.5)
+        same("what is there of a line that came later", client.read("k004"), {"row": None})
+        same("what is said", region.said(), b"pnuts: stream east ended\n")

@@ -1,0 +1,158 @@
+"""Brings a built program to each of its ends but out of memory, and looks at its status and what it says.
+
+  checks/run exit-statuses PROGRAM
+
+Exit status 0 where each end is the one that it should be.
+"""
+import os
+import subprocess
+import tempfile
+import threading
+from collections.abc import Iterator
+from typing import IO
+
+from common.served import Client, Served, message, written
+from common.tried import program_parser
+
+SCAN = b'{"do":"scan","query":{}}\n'
+NO_ROWS = b'{"next":null,"rows":[]}\n'
+NOT_JSON = b'{"error":"not-json"}\n'
+MARKS = b'{"do":"marks"}\n'
+NO_MARKS = b'{"marks":{}}\n'
+LAST_LINE = 1_000_000
+ENDLESS = 1_000_000_000
+SECONDS = 60
+
+# A status, the replies, and what is said on standard error.
+End = tuple[int, bytes | bool | None, bytes]
+
+# By name, words, and the end that they make; of standard error its first line. Of two faults the first by rank is said.
+WORDS: dict[str, tuple[list[str], End]] = {
+    "the version": (["--version"], (0, b"pnuts 0.1.0\n", b"")),
+    "a command's version": (["replay", "--version"], (2, b"", b"error: unexpected argument '--version' found")),
+    "unknown arguments": (["replay", "--fast"], (2, b"", b"error: unexpected argument '--fast' found")),
+    "an address of a script": (["replay", "--listen", "::1"], (2, b"", b"error: unexpected argument '--listen' found")),
+    "a client idle for no time": (
+        ["serve", "--idle", "0", "--listen", "x", "east"],
+        (2, b"", b"error: invalid value '0' for '--idle <SECONDS>': 0 is not in 1..=86400"),
+    ),
+    "a client idle for more than a day": (
+        ["serve", "--idle", "86401", "east"],
+        (2, b"", b"error: invalid value '86401' for '--idle <SECONDS>': 86401 is not in 1..=86400"),
+    ),
+    "a socket without a path": (
+        ["serve", "--socket=", "--listen", "x", "east"],
+        (2, b"", b"error: a value is required for '--socket <PATH>' but none was supplied"),
+    ),
+    "progress with a value": (
+        ["serve", "--progress=yes", "east"],
+        (2, b"", b"error: unexpected value 'yes' for '--progress' found; no more were expected"),
+    ),
+    "bounds that are none": (["replay", "--bounds", "[7]"], (2, b"", b"pnuts: bounds")),
+    "bounds and an address that are none": (["serve", "--listen", "x", "--bounds", "[7]", "east"], (2, b"", b"pnuts: bounds")),
+    "a name for an address": (["serve", "--listen", "localhost", "east"], (2, b"", b"pnuts: address")),
+    "an address with a port": (["serve", "--listen", "127.0.0.1:80", "east=/none"], (2, b"", b"pnuts: address")),
+    "an empty address beside a socket": (["serve", "--listen=", "--socket", "/none/socket", "east=/none"], (2, b"", b"pnuts: address")),
+    "a stream without a path": (["serve", "--socket", "/none/socket", "east"], (2, b"", b"pnuts: stream")),
+    "a stream that does not open": (["serve", "--socket", "/none/socket", "east=/none"], (1, b"", b"pnuts: cannot open east")),
+    "a socket in no folder": (["serve", "--socket", "/none/socket", "east=/dev/null"], (1, b"", b"pnuts: cannot listen")),
+    "an address of no machine": (["serve", "--stay", "--listen", "192.0.2.1", "east=/dev/null"], (1, b"", b"pnuts: cannot listen")),
+}
+
+
+def end_of(program: str, script: bytes, output: int | IO[bytes]) -> End:
+    with tempfile.TemporaryFile() as file:
+        file.write(script)
+        file.seek(0)
+        ended = subprocess.run([program, "replay"], stdin=file, stdout=output, stderr=subprocess.PIPE, timeout=SECONDS)
+    return ended.returncode, ended.stdout, ended.stderr
+
+
+def end_of_words(program: str, *words: str) -> End:
+    """With these arguments and no input: of standard error the first line."""
+    ended = subprocess.run([program, *words], stdin=subprocess.DEVNULL, capture_output=True, timeout=SECONDS)
+    return ended.returncode, ended.stdout, ended.stderr.partition(b"\n")[0]
+
+
+def end_of_help(program: str, *words: str) -> End:
+    """Where help is asked for: whether the usage is shown."""
+    status, shown, said = end_of_words(program, *words)
+    return status, b"\n\nUsage: " in shown, said
+
+
+def end_of_unreadable(program: str) -> End:
+    """Where standard input is a folder, which opens and cannot be read."""
+    folder = os.open("/", os.O_RDONLY)
+    try:
+        ended = subprocess.run([program, "replay"], stdin=folder, capture_output=True, timeout=SECONDS)
+    finally:
+        os.close(folder)
+    return ended.returncode, ended.stdout, ended.stderr
+
+
+def end_of_endless(program: str) -> End:
+    """Where the second line never ends."""
+    pipe = subprocess.PIPE
+    running = subprocess.Popen([program, "replay"], stdin=pipe, stdout=pipe, stderr=pipe)
+    block = b" " * LAST_LINE
+    try:
+        running.stdin.write(SCAN)
+        for _ in range(ENDLESS // len(block)):
+            running.stdin.write(block)
+    except BrokenPipeError:
+        pass
+    replies, said = running.communicate(timeout=SECONDS)
+    return running.returncode, replies, said
+
+
+def end_of_session(program: str, lines: bytes) -> End:
+    """Where a client sends lines, and one more once it has as many replies as are answered."""
+    with tempfile.TemporaryDirectory() as folder:
+        east = written(folder, "east", message(1, "k", 5, "x"))
+        with Served(program, [("east", east)]) as served:
+            with Client(served.port) as client:
+                sender = threading.Thread(target=client.send, args=(lines,))
+                sender.start()
+                replies = client.replies.read(len(NOT_JSON) * LAST_LINE)
+                sender.join()
+                client.send(b"\n")
+                replies += client.replies.read()
+            status, shown, said = served.end()
+    return status, replies + shown, said
+
+
+def end_on_full(program: str) -> End:
+    """Where standard output is full."""
+    with open("/dev/full", "wb") as full:
+        return end_of(program, SCAN, full)
+
+
+def ends(program: str) -> Iterator[tuple[str, End, End]]:
+    """By name, each end as it is and as it should be."""
+    pipe = subprocess.PIPE
+    yield "end of the script", end_of(program, SCAN + b"{", pipe), (0, NO_ROWS + NOT_JSON, b"")
+    yield "no script", end_of(program, b"", pipe), (0, b"", b"")
+    yield "the last line", end_of(program, b"\n" * LAST_LINE, pipe), (0, NOT_JSON * LAST_LINE, b"")
+    turns = (1, NOT_JSON * LAST_LINE, b"pnuts: too-many-turns\n")
+    yield "one line more", end_of(program, b"\n" * (LAST_LINE + 1), pipe), turns
+    turns = (1, NO_MARKS * LAST_LINE, b"pnuts: too-many-turns\n")
+    yield "one line more that asks for marks", end_of(program, MARKS * (LAST_LINE + 1), pipe), turns
+    yield "a line without end", end_of_endless(program), (1, NO_ROWS, b"pnuts: too-many-turns\n")
+    yield "one line more in a session", end_of_session(program, b"\n" * LAST_LINE), (0, NOT_JSON * LAST_LINE + b"served 1\n", b"")
+    yield "input that cannot be read", end_of_unreadable(program), (1, b"", b"pnuts: read\n")
+    yield "output that is full", end_on_full(program), (1, None, b"pnuts: write\n")
+    for name, (words, wanted) in WORDS.items():
+        yield name, end_of_words(program, *words), wanted
+    yield "help", end_of_help(program, "--help"), (0, True, b"")
+    yield "help on a command", end_of_help(program, "serve", "--help"), (0, True, b"")
+
+
+def main(words: list[str]) -> int:
+    given, wrong = program_parser(__doc__).parse_args(words), 0
+    for name, found, wanted in ends(given.program):
+        if found == wanted:
+            print(f"{name}: status {found[0]}, as it should be")
+        else:
+            wrong += 1
+            print(f"{name}: WRONG: status {found[0]} and {found[2]!r}, not {wanted[0]} and {wanted[2]!r}, or other replies")
+    return 1 if wrong else 0

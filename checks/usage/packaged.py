@@ -1,0 +1,155 @@
+"""What is done with the package of Debian in a system: installed, served, upgraded over itself, removed without a trace."""
+
+from __future__ import annotations
+
+import json
+import os
+import shlex
+import shutil
+import sys
+from collections.abc import Iterator
+from pathlib import Path
+
+from common.served import message, row_of, same
+from usage.fresh_system import CLEAN, System, run
+
+# What a session is read by, in another system.
+ONE_SESSION = Path(__file__).resolve().parent / "one_session.py"
+UNIT = "/lib/systemd/system/pnuts.service"
+ENVIRONMENT = "etc/default/pnuts"
+FIFO = "/run/pnuts/east"
+
+# The exposure that systemd may find at most, in tenths, and lines of a unit that it has to refuse.
+EXPOSURE = 15
+UNKNOWN = "[Service]\nExecStart=/bin/true\nProtectEverything=yes\n"
+
+# What a process of the service may do, as /proc says it.
+CAPABILITIES = ("CapInh", "CapPrm", "CapEff", "CapBnd", "CapAmb")
+BOUNDS = {**dict.fromkeys(CAPABILITIES, "0" * 16), "NoNewPrivs": "1", "Seccomp": "2"}
+
+# What is none of the package's: mounts, logs, and what dpkg, man and shadow note for themselves.
+PASSED = ("dev", "proc", "run", "sys", "tmp", "var/cache", "var/lib/dpkg", "var/log", "var/tmp")
+NOTED = ("etc/group-", "etc/gshadow-", "etc/passwd-", "etc/shadow-", "etc/.pwd.lock")
+
+
+def trace(root: Path) -> dict[str, bytes]:
+    """All files of the system, with the contents of those in /etc."""
+    found: dict[str, bytes] = {}
+    for folder, folders, names in os.walk(root):
+        here = Path(folder).relative_to(root)
+        folders[:] = [it for it in folders if str(here / it) not in PASSED]
+        for path in (here / name for name in [*folders, *names]):
+            is_text = path.parts[0] == "etc" and (root / path).is_file() and not (root / path).is_symlink()
+            if str(path) not in NOTED:
+                found[str(path)] = (root / path).read_bytes() if is_text else b""
+    return found
+
+
+def differing(root: Path, before: dict[str, bytes]) -> set[str]:
+    """What is new, gone or changed in the system."""
+    after = trace(root)
+    return {it for it in before.keys() | after.keys() if before.get(it) != after.get(it)}
+
+
+def check_lintian(root: Path, package: Path) -> None:
+    """lintian finds neither an error nor what it warns of."""
+    shutil.copy(package, root)
+    line = ["lintian", "--fail-on", "error,warning", f"/{package.name}"]
+    run(["unshare", "--mount", f"--root={root}", "runuser", "--user=nobody", "--", *line], env={**CLEAN, "HOME": "/tmp"})
+
+
+def shown(system: System, *names: str) -> list[str]:
+    """What systemd says of the service under these names."""
+    return [system.run("systemctl", "show", "pnuts", "--value", f"--property={name}").strip() for name in names]
+
+
+def check_unit(system: System) -> None:
+    """systemd knows each line of the unit, and finds the service little exposed."""
+    verify = ("systemd-analyze", "verify", "--recursive-errors=no")
+    same("what is said against the unit", system.status(*verify, UNIT), (0, ""))
+    (system.root / "etc/unknown.service").write_text(UNKNOWN, encoding="utf-8")
+    same("a unit with an unknown line is refused", system.status(*verify, "/etc/unknown.service")[0], 1)
+    (system.root / "etc/unknown.service").unlink()
+    system.run("systemd-analyze", "security", "--no-pager", f"--threshold={EXPOSURE}", "--offline=yes", UNIT)
+
+
+def check_bounds(system: System, process: str) -> None:
+    """The service is the user pnuts, without any capability."""
+    lines = (it.partition(":\t") for it in system.run("cat", f"/proc/{process}/status").splitlines())
+    status = {name: value for name, _, value in lines}
+    same("what the service may do", {name: status[name] for name in BOUNDS}, BOUNDS)
+    same("the service's user", status["Uid"].split()[0], system.run("id", "--user", "pnuts").strip())
+    same("the service's memory has a limit", shown(system, "MemoryMax") != ["infinity"], True)
+
+
+def check_serving(system: System) -> str:
+    """Writes a message into the FIFO, as a user who is in the group pnuts, and reads it in a session. The process that serves."""
+    system.wait_for("active", "systemctl", "is-active", "pnuts")
+    system.wait_for("fifo pnuts:pnuts 660", "stat", "--format=%F %U:%G %a", FIFO)
+    write = f"echo {shlex.quote(message(1, 'k', 0, 'x').decode().strip())} > {FIFO}"
+    system.run("setpriv", "--reuid=nobody", "--regid=pnuts", "--clear-groups", "bash", "-c", write)
+    process = shown(system, "MainPID")[0]
+    words = system.run("cat", f"/proc/{process}/cmdline").split("\0")
+    address = words[words.index("--port") + 1] if "--port" in words else "7070"
+    if "--socket" in words:
+        address = system.path(words[words.index("--socket") + 1])
+    system.run_beside(sys.executable, str(ONE_SESSION), address, "k", json.dumps(row_of("k", 0, "x")))
+    return process
+
+
+def check_example(system: System) -> None:
+    """Where the example in the environment file is taken, the program gets the bounds that it shows."""
+    environment = system.root / ENVIRONMENT
+    as_it_was = environment.read_text(encoding="utf-8")
+    lines = [it for it in as_it_was.splitlines() if not it.startswith("PNUTS_WORDS=")]
+    environment.write_text("\n".join(it.removeprefix("# ") if "--bounds" in it else it for it in lines) + "\n", encoding="utf-8")
+    system.run("systemctl", "restart", "pnuts")
+    process = check_serving(system)
+    same("the bounds", '["g","p"]' in system.run("cat", f"/proc/{process}/cmdline").split("\0"), True)
+    environment.write_text(as_it_was, encoding="utf-8")
+
+
+def check_refused(system: System) -> None:
+    """With words that the program refuses, the service fails and is not started again and again."""
+    environment = system.root / ENVIRONMENT
+    as_it_was = environment.read_bytes()
+    environment.write_text("PNUTS_WORDS=--fast\n", encoding="utf-8")
+    system.status("systemctl", "restart", "pnuts")
+    system.wait_for("failed", "systemctl", "is-active", "pnuts")
+    same("how it ended, and starts", shown(system, "ExecMainStatus", "NRestarts"), ["2", "0"])
+    environment.write_bytes(as_it_was)
+
+
+def check_package(system: System, package: Path) -> Iterator[str]:
+    """Installs the package, uses it, and removes it. Says what was done."""
+    before = trace(system.root)
+    system.run("dpkg", "--install", f"/{package.name}")
+    same("the service", shown(system, "UnitFileState", "ActiveState"), ["disabled", "inactive"])
+    yield "installed: the service is there, and off"
+    check_unit(system)
+    yield f"systemd knows each line of the unit, and finds an exposure of at most {EXPOSURE / 10}"
+    system.run("systemctl", "enable", "--now", "pnuts")
+    process = check_serving(system)
+    check_bounds(system, process)
+    yield "enabled: it serves what is written into its FIFO, as its own user and without a capability"
+    same("the process that serves another feed and client", check_serving(system), process)
+    yield "its feed and its client ended: it stays for the next ones"
+    system.run("systemctl", "kill", "--signal=KILL", "pnuts")
+    system.wait_for("1", "systemctl", "show", "pnuts", "--value", "--property=NRestarts")
+    process = check_serving(system)
+    yield "killed: it came back, and serves"
+    system.run("dpkg", "--install", f"/{package.name}")
+    same("another process serves", check_serving(system) != process, True)
+    yield "upgraded over itself: it was started anew, and serves"
+    check_example(system)
+    yield "started with the example in the environment file: the program gets its bounds"
+    check_refused(system)
+    yield "started with words that it refuses: it failed, and was left alone"
+    system.run("systemctl", "restart", "pnuts")
+    check_serving(system)
+    system.run("dpkg", "--purge", "pnuts")
+    same("the service", system.status("systemctl", "is-active", "pnuts")[1], "inactive")
+    same("whether its runtime directory is there", system.status("test", "-e", "/run/pnuts")[0], 1)
+    same("whether its user is there", system.status("id", "pnuts")[0], 1)
+    same("what differs", differing(system.root, before), set())
+    yield "purged while it ran: neither a process, a user nor a file is left"
