@@ -1,7 +1,6 @@
-#!/usr/bin/env python3
 """Looks whether the words of the sources are told where somebody looks for them, and whether what is told is there.
 
-  checks/words
+  checks/run words
 
 Commands, members, refusals and options are read off the sources. Each has to stand in docs/formats.md; commands also in
 README.md, the slow program and the fuzzer's words; what sessions have in clients/README.md and the client for Python.
@@ -11,11 +10,10 @@ Exit status: 0 where nothing is missing, 1 where something is, 2 for a wrong arg
 """
 import argparse
 import re
-import sys
 from collections.abc import Iterable, Iterator
 from pathlib import Path
 
-TOP = next(it for it in Path(__file__).resolve().parents if (it / "crates.txt").exists())
+from common.crates import TOP
 
 COMMAND = re.compile(r'"(\w+)" => Some\(CommandWord::')
 MEMBER = re.compile(r'(?:Part|Member)::\w+ => "(\w+)"')
@@ -82,14 +80,10 @@ def all_faults() -> Iterator[str]:
     yield from unknown("option", TOLD_OPTION.findall(told + text_of(below("packaging"))), options | BY_CLAP, "README.md, docs/ or packaging/")
 
 
-def main() -> int:
-    argparse.ArgumentParser(description=__doc__, formatter_class=argparse.RawDescriptionHelpFormatter).parse_args()
+def main(words: list[str]) -> int:
+    argparse.ArgumentParser(description=__doc__, formatter_class=argparse.RawDescriptionHelpFormatter).parse_args(words)
     faults = list(all_faults())
     for fault in faults:
         print(f"words: {fault}")
     print("words: nothing is missing" if not faults else f"words: {len(faults)} are missing")
     return 1 if faults else 0
-
-
-if __name__ == "__main__":
-    sys.exit(main())
