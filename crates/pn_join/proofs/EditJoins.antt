@@ -4,8 +4,9 @@ use Rattle.std.specs.List.{AllByRecursion}
 use Rattle.std.specs.Cmp.{IsTotalOrder}
 use Rattle.std.specs.FinMap.{put, is_sorted}
 use Rattle.std.specs.FinMap.Entries.{by_order}
-use Rattle.pn_join.specs.Edits.{put_at, put_all, changes_in, AreAimed, AreFew, HaveRoom}
-use Rattle.pn_join.specs.Leaves.{all_entries, ends_below, leaf_for, max_leaf_entries, IsLeaf, IsLeafList}
+use Rattle.pn_join.specs.Edits.{put_at, put_all, changes_in, AreAimed, AreFew, FitLeaves}
+use Rattle.pn_join.specs.Leaves.{all_entries, ends_below, leaf_for, IsLeaf, IsLeafList}
+use Rattle.pn_join.specs.declared.table.leaf_join.TheConstants.{MAX_LEAF_ENTRIES}
 use Rattle.pn_join.specs.TableChanges.{AreValid, puts}
 use Rattle.pn_join.specs.Tables.{IsTable}
 use Rattle.pn_join.specs.declared.table.edit.Edit.{Edit}
@@ -37,11 +38,11 @@ module _ {K C : Type 0} (cmp : K → K → Ordering) (o : IsTotalOrder cmp) wher
         | Greater ↦ skip y e (put cmp k v (f ∷ es)) (omega (arith, put_grows cmp k v (f ∷ es))) ∙ same_end k y v (f ∷ es) (omega arith) h
       ]
 
-  abbrev placed : K → C → List (List (K × C)) → List (List (K × C))
-  placed k v list = set list (leaf_for cmp k list) (put cmp k v (get_or list (leaf_for cmp k list) []))
+  abbrev put_in_leaf : K → C → List (List (K × C)) → List (List (K × C))
+  put_in_leaf k v list = set list (leaf_for cmp k list) (put cmp k v (get_or list (leaf_for cmp k list) []))
 
   -- a put leaves every key in the same leaf
-  pub same_leaf : (k y : K) (v : C) (list : List (List (K × C))) → AllByRecursion (λ leaf. 0 < length leaf) list → leaf_for cmp y (placed k v list) ≡ leaf_for cmp y list
+  pub same_leaf : (k y : K) (v : C) (list : List (List (K × C))) → AllByRecursion (λ leaf. 0 < length leaf) list → leaf_for cmp y (put_in_leaf k v list) ≡ leaf_for cmp y list
   same_leaf k y v [] some = refl
   same_leaf k y v (l ∷ []) some = refl
   same_leaf k y v (l ∷ m ∷ ls) some =
@@ -58,8 +59,8 @@ module _ {K C : Type 0} (cmp : K → K → Ordering) (o : IsTotalOrder cmp) wher
   all_set (l ∷ ls) zero x lt = refl
   all_set (l ∷ ls) (suc i) x lt = ap (λ es. l ++ es) (all_set ls i x (omega (arith, lt))) ∙ sym (append_assoc l (all_entries (take i ls)) (x ++ all_entries (drop (suc i) ls)))
 
-  pub all_placed : (k : K) (v : C) (list : List (List (K × C))) → 0 < length list → AllByRecursion (λ leaf. 0 < length leaf) list → Rising cmp (all_entries list) → all_entries (placed k v list) ≡ put cmp k v (all_entries list)
-  all_placed k v list one some h =
+  pub all_put_in_leaf : (k : K) (v : C) (list : List (List (K × C))) → 0 < length list → AllByRecursion (λ leaf. 0 < length leaf) list → Rising cmp (all_entries list) → all_entries (put_in_leaf k v list) ≡ put cmp k v (all_entries list)
+  all_put_in_leaf k v list one some h =
       all_set list (leaf_for cmp k list) (put cmp k v (get_or list (leaf_for cmp k list) [])) (leaf_for-within cmp k o list one)
       ∙ sym (put_in_list cmp k o v list one some h)
 
@@ -68,7 +69,7 @@ module _ {K C : Type 0} (cmp : K → K → Ordering) (o : IsTotalOrder cmp) wher
   some_put k v (e ∷ es) = omega (arith, put_grows cmp k v (e ∷ es))
 
   -- the remaining edits keep the indices of their leaves
-  still_aimed : (k : K) (v : C) (list : List (List (K × C))) → AllByRecursion (λ leaf. 0 < length leaf) list → (edits : List (Edit K C)) → AreAimed cmp list edits → AreAimed cmp (placed k v list) edits
+  still_aimed : (k : K) (v : C) (list : List (List (K × C))) → AllByRecursion (λ leaf. 0 < length leaf) list → (edits : List (Edit K C)) → AreAimed cmp list edits → AreAimed cmp (put_in_leaf k v list) edits
   still_aimed k v list some [] aimed = tt
   still_aimed k v list some (d ∷ ds) aimed = (aimed.0 ∙ sym (same_leaf k d.change.key v list some), still_aimed k v list some ds aimed.1)
 
@@ -89,24 +90,24 @@ module _ {K C : Type 0} (cmp : K → K → Ordering) (o : IsTotalOrder cmp) wher
         let k = d.change.key in
         let v = d.change.after in
         let up = Rising-from_sorted cmp (all_entries list) h.table.rising in
-        let same : put_at cmp list d ≡ placed k v list = ap (λ i. set list i (put cmp k v (get_or list i []))) aimed.0 in
-        let all = all_placed k v list h.one h.some up in
-        let next : Stand (placed k v list) = record {
+        let same : put_at cmp list d ≡ put_in_leaf k v list = ap (λ i. set list i (put cmp k v (get_or list i []))) aimed.0 in
+        let all = all_put_in_leaf k v list h.one h.some up in
+        let next : Stand (put_in_leaf k v list) = record {
           one = omega (arith, h.one, length_set list (leaf_for cmp k list) (put cmp k v (get_or list (leaf_for cmp k list) [])));
           some = each_set (λ leaf. 0 < length leaf) list (leaf_for cmp k list) (put cmp k v (get_or list (leaf_for cmp k list) [])) h.some (some_put k v (get_or list (leaf_for cmp k list) []));
           table = rw all (IsTable-put cmp o valid k v (all_entries list) are.0 h.table);
         } in
-        let rest = put_together ds (placed k v list) next (still_aimed k v list h.some ds aimed.1) are.1 in
+        let rest = put_together ds (put_in_leaf k v list) next (still_aimed k v list h.some ds aimed.1) are.1 in
         rw same (rest.0, rest.1 ∙ ap (λ es. puts cmp es (changes_in ds)) all)
 
     -- a list's leaves after all edits
-    pub list_together : (list : List (List (K × C))) (edits : List (Edit K C)) → IsLeafList cmp valid list → AreAimed cmp list edits → AreValid valid (changes_in edits) → HaveRoom cmp list edits → IsLeafList cmp valid (put_all cmp list edits) × (all_entries (put_all cmp list edits) ≡ puts cmp (all_entries list) (changes_in edits))
-    list_together list [] leaf_list aimed are room = (leaf_list, refl)
-    list_together list (d ∷ ds) leaf_list aimed are room =
-        let one : 0 < length list = omega (arith, room.within.0) in
+    pub list_together : (list : List (List (K × C))) (edits : List (Edit K C)) → IsLeafList cmp valid list → AreAimed cmp list edits → AreValid valid (changes_in edits) → FitLeaves cmp list edits → IsLeafList cmp valid (put_all cmp list edits) × (all_entries (put_all cmp list edits) ≡ puts cmp (all_entries list) (changes_in edits))
+    list_together list [] leaf_list aimed are fit = (leaf_list, refl)
+    list_together list (d ∷ ds) leaf_list aimed are fit =
+        let one : 0 < length list = omega (arith, fit.within.0) in
         let done = put_together (d ∷ ds) list (stand_list list one leaf_list) aimed are in (
           record {
-            sizes = each_by_both (λ leaf. 0 < length leaf) (λ leaf. length leaf ≤ max_leaf_entries) (λ leaf. IsLeaf leaf) (λ leaf some most. (some, most)) (put_all cmp list (d ∷ ds)) done.0.some room.sizes;
+            sizes = each_by_both (λ leaf. 0 < length leaf) (λ leaf. length leaf ≤ MAX_LEAF_ENTRIES) (λ leaf. IsLeaf leaf) (λ leaf some most. (some, most)) (put_all cmp list (d ∷ ds)) done.0.some fit.sizes;
             table = done.0.table;
           },
           done.1,
@@ -114,7 +115,7 @@ module _ {K C : Type 0} (cmp : K → K → Ordering) (o : IsTotalOrder cmp) wher
 
   module _ (valid : C → Type 0) where
     pub list_few : (list : List (List (K × C))) → IsLeafList cmp valid list → AreFew list
-    list_few list leaf_list = each_weaker (λ leaf. IsLeaf leaf) (λ leaf. length leaf ≤ max_leaf_entries) (λ leaf is. is.1) list leaf_list.sizes
+    list_few list leaf_list = each_weaker (λ leaf. IsLeaf leaf) (λ leaf. length leaf ≤ MAX_LEAF_ENTRIES) (λ leaf is. is.1) list leaf_list.sizes
 
     pub list_sorted : (list : List (List (K × C))) → IsLeafList cmp valid list → AllByRecursion (λ leaf. IsTrue (is_sorted cmp leaf)) list
     list_sorted list leaf_list = each_sorted list (Rising-from_sorted cmp (all_entries list) leaf_list.table.rising) where

@@ -3,7 +3,7 @@ use Rattle.std.proofs.Common.{◌≡◌, ℕ, zero, suc, ◌+◌, ◌<◌, List,
 use Rattle.std.specs.List.{AllByRecursion, fold}
 use Rattle.std.specs.FinMap.{put}
 use Rattle.std.proofs.lemmas.List.{take_more}
-use Rattle.pn_join.specs.EditPuts.{put_of, puts_in}
+use Rattle.pn_join.specs.Edits.{put_of, puts_in}
 use Rattle.pn_join.specs.Edits.{changes_in, AreAimed}
 use Rattle.pn_join.specs.Leaves.{leaf_for}
 use Rattle.pn_join.specs.TableChanges.{AreValid, puts}

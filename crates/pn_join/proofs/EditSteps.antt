@@ -3,7 +3,7 @@ use Rattle.std.proofs.Common.{◌≡◌, ℕ, zero, suc, ◌+◌, ◌<◌, ◌�
 use Rattle.std.specs.List.{AllByRecursion}
 use Rattle.std.specs.FinMap.{put}
 use Rattle.pn_join.specs.Edits.{put_at, put_all, AreFew, GoUp, IsReady, IsReadyAt}
-use Rattle.pn_join.specs.Leaves.{max_leaf_entries}
+use Rattle.pn_join.specs.declared.table.leaf_join.TheConstants.{MAX_LEAF_ENTRIES}
 use Rattle.pn_join.specs.declared.table.edit.Edit.{Edit}
 use Rattle.pn_join.specs.declared.table.leaf.Leaf.{Leaf}
 use Rattle.pn_join.specs.LeafEntries.{leaf_entries, leaves_of}
@@ -86,7 +86,7 @@ module _ {K C : Type 0} (cmp : K → K → Ordering) where
   put_all-grows [] list j = omega arith
   put_all-grows (e ∷ es) list j = omega (arith, put_at-grows list e j, put_all-grows es (put_at cmp list e) j)
 
-  few_at : (list : List (List (K × C))) (j : ℕ) → AreFew list → length (get_or list j []) ≤ max_leaf_entries
+  few_at : (list : List (List (K × C))) (j : ℕ) → AreFew list → length (get_or list j []) ≤ MAX_LEAF_ENTRIES
   few_at [] j h = omega arith
   few_at (l ∷ ls) zero h = h.0
   few_at (l ∷ ls) (suc j) h = few_at ls j h.1
@@ -97,7 +97,7 @@ module _ {K C : Type 0} (cmp : K → K → Ordering) where
   put_here (l ∷ ls) (suc i) x lt = put_here ls i x (omega (arith, lt))
 
   -- one value fits if all do
-  pub put_fits : (edit : Edit K C) (edits : List (Edit K C)) (list : List (List (K × C))) → edit.leaf < length list → AreFew (put_all cmp (put_at cmp list edit) edits) → length (put cmp edit.change.key edit.change.after (get_or list edit.leaf [])) ≤ max_leaf_entries
+  pub put_fits : (edit : Edit K C) (edits : List (Edit K C)) (list : List (List (K × C))) → edit.leaf < length list → AreFew (put_all cmp (put_at cmp list edit) edits) → length (put cmp edit.change.key edit.change.after (get_or list edit.leaf [])) ≤ MAX_LEAF_ENTRIES
   put_fits edit edits list lt h =
       let x = put cmp edit.change.key edit.change.after (get_or list edit.leaf []) in
       let here : length (get_or (put_at cmp list edit) edit.leaf []) ≡ length x = ap length (put_here list edit.leaf x lt) in
@@ -112,25 +112,25 @@ module _ {K C : Type 0} (cmp : K → K → Ordering) where
   pub fits_at_first : (list : List (List (K × C))) → AreFew list → FitsSoFar list list 0 0
   fits_at_first list h = record { few = h; here = omega arith; above = λ j lt. refl }
 
-  fits_by : (list now : List (List (K × C))) (last more next : ℕ) (edit : Edit K C) → FitsSoFar list now last more → last ≤ edit.leaf → length (get_or now edit.leaf []) + 1 ≤ length (get_or list edit.leaf []) + next → length (get_or list edit.leaf []) + next ≤ max_leaf_entries → FitsSoFar list (put_at cmp now edit) edit.leaf next
-  fits_by list now last more next edit h le grown room =
+  fits_by : (list now : List (List (K × C))) (last more next : ℕ) (edit : Edit K C) → FitsSoFar list now last more → last ≤ edit.leaf → length (get_or now edit.leaf []) + 1 ≤ length (get_or list edit.leaf []) + next → length (get_or list edit.leaf []) + next ≤ MAX_LEAF_ENTRIES → FitsSoFar list (put_at cmp now edit) edit.leaf next
+  fits_by list now last more next edit h le grown bound =
       let x = put cmp edit.change.key edit.change.after (get_or now edit.leaf []) in
       let one : length x ≤ length (get_or now edit.leaf []) + 1 = put_by_one cmp edit.change.key edit.change.after (get_or now edit.leaf []) in
       record {
-        few = each_set (λ leaf. length leaf ≤ max_leaf_entries) now edit.leaf x h.few (omega (arith, one, grown, room));
+        few = each_set (λ leaf. length leaf ≤ MAX_LEAF_ENTRIES) now edit.leaf x h.few (omega (arith, one, grown, bound));
         here = omega (arith, one, grown, at_set now edit.leaf x);
         above = λ j lt. above_set now edit.leaf j x [] lt ∙ h.above j (omega (arith, le, lt));
       }
 
-  pub fits_same : (list now : List (List (K × C))) (last more : ℕ) (edit : Edit K C) → FitsSoFar list now last more → edit.leaf ≡ last → length (get_or list edit.leaf []) + (more + 1) ≤ max_leaf_entries → FitsSoFar list (put_at cmp now edit) edit.leaf (more + 1)
-  fits_same list now last more edit h same room =
+  pub fits_same : (list now : List (List (K × C))) (last more : ℕ) (edit : Edit K C) → FitsSoFar list now last more → edit.leaf ≡ last → length (get_or list edit.leaf []) + (more + 1) ≤ MAX_LEAF_ENTRIES → FitsSoFar list (put_at cmp now edit) edit.leaf (more + 1)
+  fits_same list now last more edit h same bound =
       let here : length (get_or now edit.leaf []) ≤ length (get_or list edit.leaf []) + more = rw same h.here in
-      fits_by list now last more (more + 1) edit h (omega (arith, same)) (omega (arith, here)) room
+      fits_by list now last more (more + 1) edit h (omega (arith, same)) (omega (arith, here)) bound
 
-  pub fits_next : (list now : List (List (K × C))) (last more : ℕ) (edit : Edit K C) → FitsSoFar list now last more → last < edit.leaf → length (get_or list edit.leaf []) + 1 ≤ max_leaf_entries → FitsSoFar list (put_at cmp now edit) edit.leaf 1
-  fits_next list now last more edit h lt room =
+  pub fits_next : (list now : List (List (K × C))) (last more : ℕ) (edit : Edit K C) → FitsSoFar list now last more → last < edit.leaf → length (get_or list edit.leaf []) + 1 ≤ MAX_LEAF_ENTRIES → FitsSoFar list (put_at cmp now edit) edit.leaf 1
+  fits_next list now last more edit h lt bound =
       let here : length (get_or now edit.leaf []) ≡ length (get_or list edit.leaf []) = ap length (h.above edit.leaf lt) in
-      fits_by list now last more 1 edit h (omega (arith, lt)) (omega (arith, here)) room
+      fits_by list now last more 1 edit h (omega (arith, lt)) (omega (arith, here)) bound
 
   put_all-push : (edits : List (Edit K C)) (list : List (List (K × C))) (edit : Edit K C) → put_all cmp list (edits ++ edit ∷ []) ≡ put_at cmp (put_all cmp list edits) edit
   put_all-push [] list edit = refl
@@ -144,15 +144,15 @@ module _ {K C : Type 0} (cmp : K → K → Ordering) where
     put_taken : put_at cmp (put_all cmp list (take k edits)) edit ≡ put_all cmp list (take (k + 1) edits)
     put_taken = sym (ap (put_all cmp list) taken ∙ put_all-push (take k edits) list edit)
 
-    pub fits_again : edit.leaf ≡ last → next ≡ more + 1 → length (get_or list edit.leaf []) + next ≤ max_leaf_entries → FitsSoFar list (put_all cmp list (take (k + 1) edits)) edit.leaf next
-    fits_again same is room =
+    pub fits_again : edit.leaf ≡ last → next ≡ more + 1 → length (get_or list edit.leaf []) + next ≤ MAX_LEAF_ENTRIES → FitsSoFar list (put_all cmp list (take (k + 1) edits)) edit.leaf next
+    fits_again same is bound =
         subst (λ now. FitsSoFar list now edit.leaf next) put_taken
-        (rw is (fits_same list (put_all cmp list (take k edits)) last more edit h same (rw is at room)))
+        (rw is (fits_same list (put_all cmp list (take k edits)) last more edit h same (rw is at bound)))
 
-    pub fits_anew : last < edit.leaf → next ≡ 1 → length (get_or list edit.leaf []) + next ≤ max_leaf_entries → FitsSoFar list (put_all cmp list (take (k + 1) edits)) edit.leaf next
-    fits_anew above is room =
+    pub fits_anew : last < edit.leaf → next ≡ 1 → length (get_or list edit.leaf []) + next ≤ MAX_LEAF_ENTRIES → FitsSoFar list (put_all cmp list (take (k + 1) edits)) edit.leaf next
+    fits_anew above is bound =
         subst (λ now. FitsSoFar list now edit.leaf next) put_taken
-        (rw is (fits_next list (put_all cmp list (take k edits)) last more edit h above (rw is at room)))
+        (rw is (fits_next list (put_all cmp list (take k edits)) last more edit h above (rw is at bound)))
 
 -- the leaf of the last edit
 abbrev pub last_leaf : {K C : Type 0} → ℕ → List (Edit K C) → ℕ
@@ -193,12 +193,12 @@ module _ {K C : Type 0} (leaves : List (Leaf K C)) (edits : List (Edit K C)) (k 
       (each_ready (take k edits) leaves edit.leaf leaf is h) (ready_here leaves edit.leaf leaf is within)
 
   -- the entries of a leaf that was taken are few
-  pub few_taken : (list : List (List (K × C))) → leaves_of leaves ≡ list → AreFew list → edit.leaf < length leaves → (leaf : Leaf K C) → leaf ≡ get_or leaves edit.leaf leaf → length (leaf_entries leaf) ≤ max_leaf_entries
+  pub few_taken : (list : List (List (K × C))) → leaves_of leaves ≡ list → AreFew list → edit.leaf < length leaves → (leaf : Leaf K C) → leaf ≡ get_or leaves edit.leaf leaf → length (leaf_entries leaf) ≤ MAX_LEAF_ENTRIES
   few_taken list same few within leaf is =
       let long : length (leaves_of leaves) ≡ length leaves = length-leaves leaves in
       let inside : edit.leaf < length (leaves_of leaves) = omega (arith, within, long) in
       let few_leaves : AreFew (leaves_of leaves) = rw same few in
-      let fits : length (get_or (leaves_of leaves) edit.leaf []) ≤ max_leaf_entries = each_at (λ leaf. length leaf ≤ max_leaf_entries) (leaves_of leaves) edit.leaf [] few_leaves inside in
+      let fits : length (get_or (leaves_of leaves) edit.leaf []) ≤ MAX_LEAF_ENTRIES = each_at (λ leaf. length leaf ≤ MAX_LEAF_ENTRIES) (leaves_of leaves) edit.leaf [] few_leaves inside in
       rw (ap leaf_entries is ∙ get_or-leaves leaf_entries leaves edit.leaf leaf [] within) fits
 
   pub same_taken : (leaf next : Leaf K C) → leaf ≡ get_or leaves edit.leaf leaf → edit.leaf < length leaves → leaf_entries next ≡ leaf_entries leaf → leaves_of (set leaves edit.leaf next) ≡ leaves_of leaves

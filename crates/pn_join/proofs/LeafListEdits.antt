@@ -3,7 +3,7 @@ use Rattle.std.proofs.Common.{◌≡◌, ℕ, zero, suc, ◌+◌, ◌^◌, ◌<�
 use Rattle.std.specs.List.{AllByRecursion}
 use Rattle.std.proofs.lemmas.List.{length-append}
 use Rattle.pn_join.specs.Leaves.{all_entries, counts_after}
-use Rattle.pn_join.specs.PutInLeaves.{ReplacesOneLeaf, ChangesOneLeaf}
+use Rattle.pn_join.specs.PutInLeaves.{ReindicesOneLeaf, ChangesOneLeaf}
 use Rattle.pn_join.specs.LeafListChanges.{raised_from, FitFrom, with_back, counts_with}
 
 pub fit_at : (i by : ℕ) (ns : List ℕ) → FitFrom i by ns → (d : ℕ) → i < length ns → get_or ns i d + by < 2 ^ 64
@@ -139,7 +139,7 @@ module _ {A : Type 0} where
   pieces_between (l ∷ ls) (suc i) front [] lt = ap (λ es. l ∷ es) (pieces_between ls i front [] (omega (arith, lt)))
   pieces_between (l ∷ ls) (suc i) front (b ∷ bs) lt = ap (λ es. l ∷ es) (pieces_between ls i front (b ∷ bs) (omega (arith, lt)))
 
-  replaced : (list : List (List A)) (i : ℕ) (front back : List A) → i < length list → ReplacesOneLeaf list (with_back i back (set list i front))
+  replaced : (list : List (List A)) (i : ℕ) (front back : List A) → i < length list → ReindicesOneLeaf list (with_back i back (set list i front))
   replaced list i front back lt = record {
     before = take i list;
     after = drop (suc i) list;

@@ -11,7 +11,7 @@ use Rattle.pn_join.specs.Tables.{IsTable}
 use Rattle.pn_join.proofs.Each.{each_weaker, each_prefix, each_back}
 use Rattle.pn_join.proofs.Partitions.{get_or-leaves, prefix_len-map}
 use Rattle.pn_join.proofs.Rising.{Rising, Rising-from_sorted, sorted_from_Rising}
-use Rattle.pn_join.proofs.LeafListPlaces.{end_at}
+use Rattle.pn_join.proofs.LeafListIndices.{end_at}
 use Rattle.pn_join.proofs.LeafListSearch.{parted, leaf_for-search, leaf_for-within, find_in_list, Rising-leaf}
 
 pub length-leaves : {K X : Type 0} (leaves : List (Leaf K X)) → length (leaves_of leaves) ≡ length leaves
@@ -30,7 +30,7 @@ leaf_ends_below cmp key leaf = ends_below cmp key (leaf_entries leaf)
 
 -- the count is not above the index
 abbrev pub counts_by : ℕ → ℕ → Bool
-counts_by place end = leb end place
+counts_by index end = leb end index
 
 module _ {K X : Type 0} (cmp : K → K → Ordering) (valid : X → Type 0) where
   pub list_some : (list : List (List (K × X))) → IsLeafList cmp valid list → AllByRecursion (λ leaf. 0 < length leaf) list
@@ -52,7 +52,7 @@ module _ {K X : Type 0} (cmp : K → K → Ordering) (valid : X → Type 0) wher
       find_in_list cmp key o list (list_some list leaf_list) (list_rising list leaf_list)
       ∙ ap (λ j. find cmp key (get_or list j [])) (sym at) ∙ ap (find cmp key) (sym is)
 
-  -- the entries of the leaf at a place
+  -- the entries of the leaf at an index
   pub leaf_is : (leaves same : List (Leaf K X)) (i : ℕ) (leaf : Leaf K X) → same ≡ leaves → i < length (leaves_of leaves) → leaf ≡ get_or same i leaf → leaf_entries leaf ≡ get_or (leaves_of leaves) i []
   leaf_is leaves same i leaf is within at =
       let inside : i < length leaves = omega (arith, within, length-leaves leaves) in
@@ -99,7 +99,7 @@ module _ {K X : Type 0} (cmp : K → K → Ordering) (valid : X → Type 0) wher
 
 module _ {A : Type 0} where
   -- the count before a leaf is where it starts
-  pub start_at : (list : List (List A)) (place d : ℕ) → (place ≡ 0 → ⊥) → place ≤ length list → get_or (counts_after 0 list) (place - 1) d ≡ length (all_entries (take place list))
+  pub start_at : (list : List (List A)) (index d : ℕ) → (index ≡ 0 → ⊥) → index ≤ length list → get_or (counts_after 0 list) (index - 1) d ≡ length (all_entries (take index list))
   start_at list zero d some le = absurd (some refl)
   start_at list (suc i) d some le =
       let at : suc i - 1 ≡ i = omega arith in

@@ -2,7 +2,8 @@
 use Rattle.std.proofs.Common.{◌≡◌, ℕ, suc, ◌+◌, ◌^◌, ◌<◌, ◌≤◌, List, [], ◌∷◌, ◌++◌, length, get_or, set, take, drop, Some, option_map, Ordering, refl, sym, ap, ◌∙◌, arith}
 use Rattle.std.specs.Cmp.{IsTotalOrder}
 use Rattle.std.specs.FinMap.{find, put}
-use Rattle.pn_join.specs.Leaves.{all_entries, counts_after, leaf_for, IsLeaf, IsLeafList, AreEntryCounts, max_leaf_entries}
+use Rattle.pn_join.specs.Leaves.{all_entries, counts_after, leaf_for, IsLeaf, IsLeafList, AreEntryCounts}
+use Rattle.pn_join.specs.declared.table.leaf_join.TheConstants.{MAX_LEAF_ENTRIES}
 use Rattle.pn_join.specs.PutInLeaves.{IsPutOf}
 use Rattle.pn_join.specs.LeafListChanges.{with_back, counts_with}
 use Rattle.pn_join.specs.Tables.{optional_joined}
@@ -28,16 +29,16 @@ module _ {K C M : Type 0} (cmp : K → K → Ordering) (o : IsTotalOrder cmp) (m
       is_valid = is.is_valid;
     }
 
-    pub joined_list : IsLeaf front → length back ≤ max_leaf_entries → IsLeafList cmp valid (with_back i back (set list i front))
+    pub joined_list : IsLeaf front → length back ≤ MAX_LEAF_ENTRIES → IsLeafList cmp valid (with_back i back (set list i front))
     joined_list size fits = record {
       sizes = each_with_back (λ leaf. IsLeaf leaf) front size list i back within leaf_list.sizes (λ more. (more, fits));
       table = IsTable-new put_in_all o leaf_list.table;
     }
 
     pub joined_counts : (more end : ℕ) (entry_counts new_counts : List ℕ) → AreEntryCounts list entry_counts → length front + length back ≡ length (get_or list i []) + more → end ≡ length (all_entries (take i list)) + length front → length (all_entries list) + 1 < 2 ^ 64 → new_counts ≡ counts_with i more end back entry_counts → AreEntryCounts (with_back i back (set list i front)) new_counts
-    joined_counts more end entry_counts new_counts are grown count_at room new = record {
+    joined_counts more end entry_counts new_counts are grown count_at bound new = record {
       each = new ∙ ap (counts_with i more end back) are.each ∙ ap (λ n. counts_with i more n back (counts_after 0 list)) count_at ∙ sym (counts_with_back list i front back more within grown);
-      fits = omega (arith, length-by_one put_in_all, room);
+      fits = omega (arith, length-by_one put_in_all, bound);
     }
 
   -- the first entry of all

@@ -6,8 +6,8 @@ use Rattle.std.specs.FinMap.{find, put}
 use Rattle.std.specs.FinMap.Entries.{by_order}
 use Rattle.std.proofs.lemmas.List.{length-append}
 use Rattle.pn_join.specs.Leaves.{all_entries, begins_below, ends_below, leaf_for}
-use Rattle.pn_join.specs.Places.{later, place_of}
-use Rattle.pn_join.proofs.Places.{not_found_below}
+use Rattle.pn_join.specs.Indices.{later, index_of}
+use Rattle.pn_join.proofs.Indices.{not_found_below}
 use Rattle.pn_join.proofs.Rising.{Below, Rising, AllBelow, AllBelow-from_Rising, Below-prefix, Below-back, Rising-prefix, Rising-back, Below-trans, Below-tied, flipped}
 
 -- an index further by n
@@ -37,10 +37,10 @@ module _ {K X : Type 0} (cmp : K → K → Ordering) (key : K) where
   abbrev pub IsAbove : List (K × X) → Type 0
   IsAbove es = AllByRecursion (λ e. cmp key e.0 ≡ Greater) es
 
-  pub place_past : (es fs : List (K × X)) → IsAbove es → place_of cmp key (es ++ fs) ≡ shifted (length es) (place_of cmp key fs)
-  place_past [] fs h = refl
-  place_past (e ∷ es) fs h =
-      ap (λ r. by_order r (Err 0) (Ok 0) (later (place_of cmp key (es ++ fs)))) h.0 ∙ ap later (place_past es fs h.1)
+  pub index_past : (es fs : List (K × X)) → IsAbove es → index_of cmp key (es ++ fs) ≡ shifted (length es) (index_of cmp key fs)
+  index_past [] fs h = refl
+  index_past (e ∷ es) fs h =
+      ap (λ r. by_order r (Err 0) (Ok 0) (later (index_of cmp key (es ++ fs)))) h.0 ∙ ap later (index_past es fs h.1)
 
   pub put_past : (v : X) (es fs : List (K × X)) → IsAbove es → put cmp key v (es ++ fs) ≡ es ++ put cmp key v fs
   put_past v [] fs h = refl
@@ -63,16 +63,16 @@ module _ {K X : Type 0} (cmp : K → K → Ordering) (key : K) where
     not_greater : {P : Type 0} (e : K × X) → is_lt (cmp e.0 key) ≡ false → cmp key e.0 ≡ Greater → P
     not_greater e p q = let r : true ≡ false = ap is_lt (sym (flipped o key e.0 q)) ∙ p in cc
 
-    pub place_here : (es fs : List (K × X)) → 0 < length es → ends_below cmp key es ≡ false → place_of cmp key (es ++ fs) ≡ place_of cmp key es
-    place_here [] fs some p = absurd (omega (arith, some))
-    place_here (e ∷ []) fs some p =
-        elim (cmp key e.0) as (λ r. cmp key e.0 ≡ r → by_order r (Err 0) (Ok 0) (later (place_of cmp key fs)) ≡ by_order r (Err 0) (Ok 0) (later (Err 0))) [
+    pub index_here : (es fs : List (K × X)) → 0 < length es → ends_below cmp key es ≡ false → index_of cmp key (es ++ fs) ≡ index_of cmp key es
+    index_here [] fs some p = absurd (omega (arith, some))
+    index_here (e ∷ []) fs some p =
+        elim (cmp key e.0) as (λ r. cmp key e.0 ≡ r → by_order r (Err 0) (Ok 0) (later (index_of cmp key fs)) ≡ by_order r (Err 0) (Ok 0) (later (Err 0))) [
           | Less ↦ λ q. refl
           | Equal ↦ λ q. refl
           | Greater ↦ λ q. not_greater e p q
         ] refl
-    place_here (e ∷ f ∷ es) fs some p =
-        ap (λ s. by_order (cmp key e.0) (Err 0) (Ok 0) (later s)) (place_here (f ∷ es) fs (omega arith) p)
+    index_here (e ∷ f ∷ es) fs some p =
+        ap (λ s. by_order (cmp key e.0) (Err 0) (Ok 0) (later s)) (index_here (f ∷ es) fs (omega arith) p)
 
     pub put_here : (v : X) (es fs : List (K × X)) → 0 < length es → ends_below cmp key es ≡ false → put cmp key v (es ++ fs) ≡ put cmp key v es ++ fs
     put_here v [] fs some p = absurd (omega (arith, some))
@@ -139,19 +139,19 @@ module _ {K X : Type 0} (cmp : K → K → Ordering) (key : K) where
           | false ↦ λ p. find_here l (all_entries (m ∷ ls)) some.0 h p
         ] refl
 
-    -- the place of a key, by its leaf
-    pub place_in_list : (list : List (List (K × X))) → AllByRecursion (λ leaf. 0 < length leaf) list → Rising cmp (all_entries list) → place_of cmp key (all_entries list) ≡ shifted (length (all_entries (take (leaf_for cmp key list) list))) (place_of cmp key (get_or list (leaf_for cmp key list) []))
-    place_in_list [] some h = refl
-    place_in_list (l ∷ []) some h = ap (place_of cmp key) (append-nil l)
-    place_in_list (l ∷ m ∷ ls) some h =
-        elim (ends_below cmp key l) as (λ b. ends_below cmp key l ≡ b → place_of cmp key (l ++ all_entries (m ∷ ls)) ≡ shifted (length (all_entries (take (cond b (suc (leaf_for cmp key (m ∷ ls))) 0) (l ∷ m ∷ ls)))) (place_of cmp key (get_or (l ∷ m ∷ ls) (cond b (suc (leaf_for cmp key (m ∷ ls))) 0) []))) [
+    -- the index of a key, by its leaf
+    pub index_in_list : (list : List (List (K × X))) → AllByRecursion (λ leaf. 0 < length leaf) list → Rising cmp (all_entries list) → index_of cmp key (all_entries list) ≡ shifted (length (all_entries (take (leaf_for cmp key list) list))) (index_of cmp key (get_or list (leaf_for cmp key list) []))
+    index_in_list [] some h = refl
+    index_in_list (l ∷ []) some h = ap (index_of cmp key) (append-nil l)
+    index_in_list (l ∷ m ∷ ls) some h =
+        elim (ends_below cmp key l) as (λ b. ends_below cmp key l ≡ b → index_of cmp key (l ++ all_entries (m ∷ ls)) ≡ shifted (length (all_entries (take (cond b (suc (leaf_for cmp key (m ∷ ls))) 0) (l ∷ m ∷ ls)))) (index_of cmp key (get_or (l ∷ m ∷ ls) (cond b (suc (leaf_for cmp key (m ∷ ls))) 0) []))) [
           | true ↦ λ p.
               let j = leaf_for cmp key (m ∷ ls) in
-              place_past l (all_entries (m ∷ ls)) (above_all l (Rising-prefix cmp l (all_entries (m ∷ ls)) h) p)
-              ∙ ap (shifted (length l)) (place_in_list (m ∷ ls) some.1 (Rising-back cmp l (all_entries (m ∷ ls)) h))
-              ∙ sym (shifted-add (length l) (length (all_entries (take j (m ∷ ls)))) (place_of cmp key (get_or (m ∷ ls) j [])))
-              ∙ ap (λ n. shifted n (place_of cmp key (get_or (m ∷ ls) j []))) (sym (length-append l (all_entries (take j (m ∷ ls)))))
-          | false ↦ λ p. place_here l (all_entries (m ∷ ls)) some.0 p
+              index_past l (all_entries (m ∷ ls)) (above_all l (Rising-prefix cmp l (all_entries (m ∷ ls)) h) p)
+              ∙ ap (shifted (length l)) (index_in_list (m ∷ ls) some.1 (Rising-back cmp l (all_entries (m ∷ ls)) h))
+              ∙ sym (shifted-add (length l) (length (all_entries (take j (m ∷ ls)))) (index_of cmp key (get_or (m ∷ ls) j [])))
+              ∙ ap (λ n. shifted n (index_of cmp key (get_or (m ∷ ls) j []))) (sym (length-append l (all_entries (take j (m ∷ ls)))))
+          | false ↦ λ p. index_here l (all_entries (m ∷ ls)) some.0 p
         ] refl
 
     -- putting at a key is putting into its leaf

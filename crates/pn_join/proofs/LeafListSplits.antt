@@ -1,7 +1,8 @@
 -- Splitting a leaf changes no entry.
 use Rattle.std.proofs.Common.{◌≡◌, ℕ, zero, suc, ◌+◌, ◌<◌, ◌≤◌, List, [], ◌∷◌, ◌++◌, length, get_or, set, take, drop, Ordering, refl, sym, ap, ◌∙◌, arith, append_assoc}
 use Rattle.std.proofs.lemmas.List.{length-append}
-use Rattle.pn_join.specs.Leaves.{all_entries, counts_after, IsLeaf, IsLeafList, AreEntryCounts, max_leaf_entries}
+use Rattle.pn_join.specs.Leaves.{all_entries, counts_after, IsLeaf, IsLeafList, AreEntryCounts}
+use Rattle.pn_join.specs.declared.table.leaf_join.TheConstants.{MAX_LEAF_ENTRIES}
 use Rattle.pn_join.specs.LeafListChanges.{with_back, counts_with}
 use Rattle.pn_join.proofs.LeafListEdits.{counts_with_back, all_with_back, each_with_back}
 
@@ -27,7 +28,7 @@ module _ {A : Type 0} (list : List (List A)) (i : ℕ) (within : i < length list
         fits = rw all_split are.fits;
       }
 
-pub split_list : {K C : Type 0} (cmp : K → K → Ordering) (valid : C → Type 0) (list : List (List (K × C))) (i : ℕ) (within : i < length list) (front back : List (K × C)) → front ++ back ≡ get_or list i [] → IsLeafList cmp valid list → IsLeaf front → length back ≤ max_leaf_entries → IsLeafList cmp valid (with_back i back (set list i front))
+pub split_list : {K C : Type 0} (cmp : K → K → Ordering) (valid : C → Type 0) (list : List (List (K × C))) (i : ℕ) (within : i < length list) (front back : List (K × C)) → front ++ back ≡ get_or list i [] → IsLeafList cmp valid list → IsLeaf front → length back ≤ MAX_LEAF_ENTRIES → IsLeafList cmp valid (with_back i back (set list i front))
 split_list cmp valid list i within front back is leaf_list size fits = record {
   sizes = each_with_back (λ leaf. IsLeaf leaf) front size list i back within leaf_list.sizes (λ more. (more, fits));
   table = rw (all_split list i within front back is) leaf_list.table;

@@ -9,7 +9,8 @@ use Rattle.std.specs.Option.{option_to_list}
 use Rattle.std.specs.Ordering.{eq_by_cmp}
 use Rattle.std.specs.FinMap.{find, put, is_sorted}
 use Rattle.std.specs.FinMap.Entries.{by_order, find_tied}
-use Rattle.pn_join.specs.Marks.{Positions, last_position, is_position, are_positions, name_cmp, position_of, if_position, least_at, least, raised}
+use Rattle.pn_join.specs.Marks.{Positions, is_position, are_positions, name_cmp, position_of, if_position, least_at, least_marks, raised_marks}
+use Rattle.pn_join.specs.declared.marks.TheConstants.{LAST_POSITION}
 use Rattle.pn_join.proofs.JoinSteps.{not_found_before}
 use Rattle.pn_join.proofs.MarksFacts.{within_most}
 use Rattle.pn_join.proofs.Puts.{tie}
@@ -57,8 +58,8 @@ module _ (a b : Positions) where
   position_in (e ∷ es) name = position_more (lesser a b e.0) e es (filter_map (least_at a b) es) name refl (position_in es name)
 
   -- each position is the lesser of the two
-  pub position_of-least : (name : List ℕ) → position_of (least a b) name ≡ min (position_of a name) (position_of b name)
-  position_of-least name = position_in a name ∙ least_of_own (find name_cmp name a) (position_of b name)
+  pub position_of-least_marks : (name : List ℕ) → position_of (least_marks a b) name ≡ min (position_of a name) (position_of b name)
+  position_of-least_marks name = position_in a name ∙ least_of_own (find name_cmp name a) (position_of b name)
 
   below_more : (n : ℕ) (k name : List ℕ) (es : Positions) → name_cmp k name ≡ Less → Below name_cmp k es → Below name_cmp k (cons_option (if_position name n) es)
   below_more zero k name es less below = below
@@ -77,10 +78,10 @@ module _ (a b : Positions) where
   rising_least (e ∷ es) rising = rising_more (lesser a b e.0) e.0 _ (below_least e.0 es rising.0) (rising_least es rising.1)
 
   -- what rises goes on rising
-  pub is_sorted-least : IsTrue (is_sorted name_cmp a) → IsTrue (is_sorted name_cmp (least a b))
-  is_sorted-least rising = sorted_from_Rising name_cmp _ (rising_least a (Rising-from_sorted name_cmp a rising))
+  pub is_sorted-least_marks : IsTrue (is_sorted name_cmp a) → IsTrue (is_sorted name_cmp (least_marks a b))
+  is_sorted-least_marks rising = sorted_from_Rising name_cmp _ (rising_least a (Rising-from_sorted name_cmp a rising))
 
-  positions_more : (n : ℕ) (name : List ℕ) (es : Positions) → n ≤ last_position → IsTrue (are_positions es) → IsTrue (are_positions (cons_option (if_position name n) es))
+  positions_more : (n : ℕ) (name : List ℕ) (es : Positions) → n ≤ LAST_POSITION → IsTrue (are_positions es) → IsTrue (are_positions (cons_option (if_position name n) es))
   positions_more zero name es most are = are
   positions_more (suc n) name es most are =
       let is : is_position (suc n) ≡ true = grind (arith, nat_tests) in
@@ -91,8 +92,8 @@ module _ (a b : Positions) where
   positions_least (e ∷ es) are = positions_more (lesser a b e.0) e.0 _ (omega (arith, within_most a e.0 are)) (positions_least es are)
 
   -- positions stay those of messages
-  pub are_positions-least : IsTrue (are_positions a) → IsTrue (are_positions (least a b))
-  are_positions-least are = positions_least a are
+  pub are_positions-least_marks : IsTrue (are_positions a) → IsTrue (are_positions (least_marks a b))
+  are_positions-least_marks are = positions_least a are
 
 module _ {K X : Type 0} (cmp : K → K → Ordering) (o : IsTotalOrder cmp) (key : K) (v : X) where
   put_last : (es : List (K × X)) → AllBelow cmp es ((key, v) ∷ []) → put cmp key v es ≡ es ++ (key, v) ∷ []
@@ -102,7 +103,7 @@ module _ {K X : Type 0} (cmp : K → K → Ordering) (o : IsTotalOrder cmp) (key
       ∙ ap (λ rest. e ∷ rest) (put_last es below.1)
 
 -- a name after all others is raised at the end
-pub raised_last : (marks : Positions) (name : List ℕ) (n : ℕ) → IsTrue (is_sorted name_cmp (marks ++ (name, n) ∷ [])) → raised marks ((name, n) ∷ []) ≡ marks ++ (name, n) ∷ []
+pub raised_last : (marks : Positions) (name : List ℕ) (n : ℕ) → IsTrue (is_sorted name_cmp (marks ++ (name, n) ∷ [])) → raised_marks marks ((name, n) ∷ []) ≡ marks ++ (name, n) ∷ []
 raised_last marks name n rising =
     let rise : Rising name_cmp (marks ++ (name, n) ∷ []) = Rising-from_sorted name_cmp _ rising in
     let more : max 0 n ≡ n = omega arith in
@@ -120,13 +121,13 @@ cons_there None xs = refl
 cons_there (Some x) xs = refl
 
 -- what is found so far, and one mark more
-pub least_more : (a b : Positions) (e : List ℕ × ℕ) (es both : Positions) → both ++ filter_map (least_at a b) (e ∷ es) ≡ least a b → (both ++ option_to_list (least_at a b e)) ++ filter_map (least_at a b) es ≡ least a b
+pub least_more : (a b : Positions) (e : List ℕ × ℕ) (es both : Positions) → both ++ filter_map (least_at a b) (e ∷ es) ≡ least_marks a b → (both ++ option_to_list (least_at a b e)) ++ filter_map (least_at a b) es ≡ least_marks a b
 least_more a b e es both is =
     append_assoc both (option_to_list (least_at a b e)) (filter_map (least_at a b) es)
     ∙ ap (λ rest. both ++ rest) (sym (cons_there (least_at a b e) (filter_map (least_at a b) es))) ∙ is
 
 -- the next mark comes after all that are found so far
-pub least_rises : (a b : Positions) (e : List ℕ × ℕ) (es both : Positions) → IsTrue (is_sorted name_cmp a) → both ++ filter_map (least_at a b) (e ∷ es) ≡ least a b → IsTrue (is_sorted name_cmp (both ++ option_to_list (least_at a b e)))
+pub least_rises : (a b : Positions) (e : List ℕ × ℕ) (es both : Positions) → IsTrue (is_sorted name_cmp a) → both ++ filter_map (least_at a b) (e ∷ es) ≡ least_marks a b → IsTrue (is_sorted name_cmp (both ++ option_to_list (least_at a b e)))
 least_rises a b e es both rising is =
-    let whole : Rising name_cmp ((both ++ option_to_list (least_at a b e)) ++ filter_map (least_at a b) es) = rw (least_more a b e es both is) (Rising-from_sorted name_cmp _ (is_sorted-least a b rising)) in
+    let whole : Rising name_cmp ((both ++ option_to_list (least_at a b e)) ++ filter_map (least_at a b) es) = rw (least_more a b e es both is) (Rising-from_sorted name_cmp _ (is_sorted-least_marks a b rising)) in
     sorted_from_Rising name_cmp (both ++ option_to_list (least_at a b e)) (Rising-prefix name_cmp (both ++ option_to_list (least_at a b e)) (filter_map (least_at a b) es) whole)

@@ -9,8 +9,8 @@ pub mod LeastFacts
 pub mod MarksFacts
 pub mod NameText
 pub mod Partitions
-pub mod PlaceSearch
-pub mod Places
+pub mod IndexSearch
+pub mod Indices
 pub mod PutFacts
 pub mod PutTogether
 pub mod Puts
@@ -19,7 +19,7 @@ pub mod LeafListEdits
 pub mod LeafListFacts
 pub mod LeafListGrowth
 pub mod LeafListJoin
-pub mod LeafListPlaces
+pub mod LeafListIndices
 pub mod LeafListSearch
 pub mod LeafListSplits
 pub mod Singles

@@ -7,7 +7,8 @@ use Rattle.std.specs.FinMap.{put, is_sorted}
 use Rattle.std.specs.FinMap.Entries.{is_sorted-put}
 use Rattle.pn_join.specs.Edits.{put_at, put_all, AreFew, GoUp, IsReady, IsReadyAt}
 use Rattle.pn_join.specs.LeafEntries.{leaf_entries, leaves_of}
-use Rattle.pn_join.specs.Leaves.{all_entries, AreEntryCounts, max_leaf_entries}
+use Rattle.pn_join.specs.Leaves.{all_entries, AreEntryCounts}
+use Rattle.pn_join.specs.declared.table.leaf_join.TheConstants.{MAX_LEAF_ENTRIES}
 use Rattle.pn_join.specs.LeafListChanges.{raised_from, FitFrom}
 use Rattle.pn_join.specs.declared.table.edit.Edit.{Edit}
 use Rattle.pn_join.specs.declared.table.leaf.Leaf.{Leaf}
@@ -17,7 +18,7 @@ use Rattle.pn_join.proofs.PutFacts.{put_by_one}
 use Rattle.pn_join.proofs.LeafListEdits.{fit_at, fit_counts, fit_twice, raise_none, raise_twice, length-raised, counts_with_back}
 use Rattle.pn_join.proofs.LeafListFacts.{length-leaves}
 use Rattle.pn_join.proofs.LeafListGrowth.{leaves_of-set}
-use Rattle.pn_join.proofs.LeafListPlaces.{length-counts}
+use Rattle.pn_join.proofs.LeafListIndices.{length-counts}
 
 is_so : (b : Bool) → T b → b ≡ true
 is_so true h = refl
@@ -53,7 +54,7 @@ module _ {K C : Type 0} (cmp : K → K → Ordering) (whole : List (List (K × C
   pub is_ready : IsReady leaf
   is_ready = subst IsReady (sym at) (ready_at leaves edit.leaf leaf h.ready.0)
 
-  pub is_few : length (put cmp edit.change.key edit.change.after (leaf_entries leaf)) ≤ max_leaf_entries
+  pub is_few : length (put cmp edit.change.key edit.change.after (leaf_entries leaf)) ≤ MAX_LEAF_ENTRIES
   is_few = rw was (put_fits cmp edit left list inside h.sizes)
 
   pub is_rising : IsTrue (is_sorted cmp (leaf_entries leaf))
@@ -64,8 +65,8 @@ module _ {K C : Type 0} (cmp : K → K → Ordering) (whole : List (List (K × C
     fit =
         let one : more ≤ 1 = omega (arith, grown, ap length is, put_by_one cmp edit.change.key edit.change.after (leaf_entries leaf)) in
         let counted : length (all_entries list) + suc (length left) < 2 ^ 64 = h.count in
-        let room : (0 + length (all_entries list)) + more < 2 ^ 64 = omega (arith, one, counted) in
-        rw h.counted.each (fit_counts 0 more list room edit.leaf)
+        let bound : (0 + length (all_entries list)) + more < 2 ^ 64 = omega (arith, one, counted) in
+        rw h.counted.each (fit_counts 0 more list bound edit.leaf)
 
     pub put_next : IsTotalOrder cmp → (next_counts : List ℕ) → IsReady next → next_counts ≡ raised_from edit.leaf more entry_counts → Putting cmp whole (set leaves edit.leaf next) next_counts left
     put_next o next_counts ready raised =
@@ -104,10 +105,10 @@ pub record Raising {K C : Type 0} (cmp : K → K → Ordering) (whole : List (Li
 
 pub at_first : {K C : Type 0} (cmp : K → K → Ordering) (whole : List (List (K × C))) (leaves : List (Leaf K C)) (entry_counts : List ℕ) (left : List (Edit K C)) → Putting cmp whole leaves entry_counts left → GoUp 0 left → Raising cmp whole leaves entry_counts 0 0 left
 at_first cmp whole leaves entry_counts left h order =
-    let room : (0 + length (all_entries (leaves_of leaves))) + 0 < 2 ^ 64 = omega (arith, h.counted.fits) in
+    let bound : (0 + length (all_entries (leaves_of leaves))) + 0 < 2 ^ 64 = omega (arith, h.counted.fits) in
     record {
       putting = subst (λ es. Putting cmp whole leaves es left) (sym (raise_none 0 entry_counts)) h;
-      fit = rw h.counted.each (fit_counts 0 0 (leaves_of leaves) room 0);
+      fit = rw h.counted.each (fit_counts 0 0 (leaves_of leaves) bound 0);
       order = order;
     }
 

@@ -5,11 +5,12 @@ use Rattle.std.proofs.lemmas.List.{length-take, length-drop, take-append-le, tak
 use Rattle.std.proofs.lemmas.List.Concat.{flat_map-append}
 use Rattle.std.specs.List.{AllByRecursion}
 use Rattle.std.specs.FinMap.{is_sorted}
-use Rattle.pn_join.specs.Leaves.{all_entries, counts_after, max_leaf_entries, IsLeaf, IsLeafList, AreEntryCounts}
+use Rattle.pn_join.specs.Leaves.{all_entries, counts_after, IsLeaf, IsLeafList, AreEntryCounts}
+use Rattle.pn_join.specs.declared.table.leaf_join.TheConstants.{MAX_LEAF_ENTRIES}
 use Rattle.pn_join.specs.Tables.{IsTable}
 use Rattle.pn_join.proofs.Each.{each_prefix, each_back, each_append}
 use Rattle.pn_join.proofs.LeafListGrowth.{all_push}
-use Rattle.pn_join.proofs.LeafListPlaces.{leaf_at, rest_in_list}
+use Rattle.pn_join.proofs.LeafListIndices.{leaf_at, rest_in_list}
 use Rattle.pn_join.proofs.Rising.{Rising, Rising-from_sorted, sorted_from_Rising, Rising-prefix, Rising-back}
 
 module _ {A : Type 0} where
@@ -42,28 +43,28 @@ module _ {A : Type 0} where
       ∙ ap (λ n. part ++ take n (drop (from + length part) all)) left
 
   -- the entry at an index stands in this leaf
-  pub record StandsIn (list : List (List A)) (leaf place : ℕ) : Type 0 where
+  pub record StandsIn (list : List (List A)) (leaf index : ℕ) : Type 0 where
     pub within : leaf < length list
-    pub starts : length (all_entries (take leaf list)) ≤ place
-    pub ends : place < length (all_entries (take leaf list)) + length (get_or list leaf [])
+    pub starts : length (all_entries (take leaf list)) ≤ index
+    pub ends : index < length (all_entries (take leaf list)) + length (get_or list leaf [])
 
-  leaf_at-stands : (m place : ℕ) (list : List (List A)) → place < length (all_entries list) → StandsIn list (leaf_at m (m + place) list) place
-  leaf_at-stands m place [] lt = absurd (omega (arith, lt))
-  leaf_at-stands m place (l ∷ ls) lt =
-      elim (leb (m + length l) (m + place)) as (λ b. leb (m + length l) (m + place) ≡ b → StandsIn (l ∷ ls) (cond b (suc (leaf_at (m + length l) (m + place) ls)) 0) place) [
+  leaf_at-stands : (m index : ℕ) (list : List (List A)) → index < length (all_entries list) → StandsIn list (leaf_at m (m + index) list) index
+  leaf_at-stands m index [] lt = absurd (omega (arith, lt))
+  leaf_at-stands m index (l ∷ ls) lt =
+      elim (leb (m + length l) (m + index)) as (λ b. leb (m + length l) (m + index) ≡ b → StandsIn (l ∷ ls) (cond b (suc (leaf_at (m + length l) (m + index) ls)) 0) index) [
         | true ↦ λ p.
-            let le : length l ≤ place = grind (arith, nat_tests) in
-            let at : (m + length l) + (place - length l) ≡ m + place = omega (arith, le) in
-            let short : place - length l < length (all_entries ls) = omega (arith, lt, le, length-append l (all_entries ls)) in
-            let j = leaf_at (m + length l) (m + place) ls in
-            let here : StandsIn ls j (place - length l) = rw at at (leaf_at-stands (m + length l) (place - length l) ls short) in
+            let le : length l ≤ index = grind (arith, nat_tests) in
+            let at : (m + length l) + (index - length l) ≡ m + index = omega (arith, le) in
+            let short : index - length l < length (all_entries ls) = omega (arith, lt, le, length-append l (all_entries ls)) in
+            let j = leaf_at (m + length l) (m + index) ls in
+            let here : StandsIn ls j (index - length l) = rw at at (leaf_at-stands (m + length l) (index - length l) ls short) in
             record {
               within = omega (arith, here.within);
               starts = omega (arith, le, here.starts, length-append l (all_entries (take j ls)));
               ends = omega (arith, le, here.ends, length-append l (all_entries (take j ls)));
             }
         | false ↦ λ p.
-            let here : place < length l = grind (arith, nat_tests) in
+            let here : index < length l = grind (arith, nat_tests) in
             record {
               within = omega arith;
               starts = omega arith;
@@ -72,10 +73,10 @@ module _ {A : Type 0} where
       ] refl
 
   -- the leaf that a search by index finds
-  pub stands : (list : List (List A)) (leaf place : ℕ) → leaf ≡ leaf_at 0 place list → place < length (all_entries list) → StandsIn list leaf place
-  stands list leaf place at lt =
-      let same : 0 + place ≡ place = omega arith in
-      rw (same, ← at) at (leaf_at-stands 0 place list lt)
+  pub stands : (list : List (List A)) (leaf index : ℕ) → leaf ≡ leaf_at 0 index list → index < length (all_entries list) → StandsIn list leaf index
+  stands list leaf index at lt =
+      let same : 0 + index ≡ index = omega arith in
+      rw (same, ← at) at (leaf_at-stands 0 index list lt)
 
   module _ (list : List (List A)) (leaf from to : ℕ) (part : List A) (in_leaf : StandsIn list leaf from) (some : from < to) (is : part ≡ slice_range (get_or list leaf []) (from - length (all_entries (take leaf list))) (to - length (all_entries (take leaf list)))) where
     abbrev start : ℕ
@@ -92,7 +93,7 @@ module _ {A : Type 0} where
         ∙ ap (min (to - from)) (length-drop (from - start) (get_or list leaf []))
 
     -- the part has entries, and no more than its leaf
-    pub part_size : length (get_or list leaf []) ≤ max_leaf_entries → IsLeaf part
+    pub part_size : length (get_or list leaf []) ≤ MAX_LEAF_ENTRIES → IsLeaf part
     part_size most = (omega (arith, long, in_leaf.starts, in_leaf.ends, some), omega (arith, long, most))
 
     pub part_within : from + length part ≤ to

@@ -7,7 +7,16 @@ use Rattle.pn_join.specs.declared.table.change.TableChange.{TableChange}
 use Rattle.pn_join.specs.declared.table.edit.Edit.{Edit}
 use Rattle.pn_join.specs.declared.table.leaf.Leaf.{Leaf}
 use Rattle.pn_join.specs.declared.table.leaf.Leaf.TheVariants.{Own, Shared}
-use Rattle.pn_join.specs.Leaves.{leaf_for, max_leaf_entries}
+use Rattle.pn_join.specs.declared.table.leaf_join.TheConstants.{MAX_LEAF_ENTRIES}
+use Rattle.pn_join.specs.Leaves.{leaf_for}
+
+-- the leaf, the key and the new content of an edit
+abbrev pub put_of : {K C : Type 0} → Edit K C → ℕ × (K × C)
+put_of edit = (edit.leaf, (edit.change.key, edit.change.after))
+
+-- what all edits put, apart from the contents before
+abbrev pub puts_in : {K C : Type 0} → List (Edit K C) → List (ℕ × (K × C))
+puts_in edits = map put_of edits
 
 -- the leaves after a value is put at its key in its leaf
 abbrev pub put_at : {K C : Type 0} → (K → K → Ordering) → List (List (K × C)) → Edit K C → List (List (K × C))
@@ -19,11 +28,11 @@ put_all cmp leaves edits = fold (put_at cmp) leaves edits
 
 -- no leaf has too many entries
 abbrev pub AreFew : {A : Type 0} → List (List A) → Type 0
-AreFew leaves = AllByRecursion (λ leaf. length leaf ≤ max_leaf_entries) leaves
+AreFew leaves = AllByRecursion (λ leaf. length leaf ≤ MAX_LEAF_ENTRIES) leaves
 
--- the leaf is not shared, and has room for 64 entries
+-- the leaf is not shared, and has the capacity of a full one
 abbrev pub IsReady : {K C : Type 0} → Leaf K C → Type 0
-IsReady (Own entries) = max_leaf_entries ≤ vec_capacity entries
+IsReady (Own entries) = MAX_LEAF_ENTRIES ≤ vec_capacity entries
 IsReady (Shared entries) = ⊥
 
 -- the leaf at the index is ready
@@ -50,8 +59,8 @@ abbrev pub GoUp : {K C : Type 0} → ℕ → List (Edit K C) → Type 0
 GoUp leaf [] = Unit {0}
 GoUp leaf (edit ∷ edits) = (leaf ≤ edit.leaf) × GoUp edit.leaf edits
 
--- the edits are in leaf order, and each leaf has room for its edits
-pub record HaveRoom {K C : Type 0} (cmp : K → K → Ordering) (leaves : List (List (K × C))) (edits : List (Edit K C)) : Type 0 where
+-- the edits are in leaf order, and no leaf gets too many entries by them
+pub record FitLeaves {K C : Type 0} (cmp : K → K → Ordering) (leaves : List (List (K × C))) (edits : List (Edit K C)) : Type 0 where
   pub within : AllByRecursion (λ edit. edit.leaf < length leaves) edits
   pub sizes : AreFew (put_all cmp leaves edits)
   pub order : GoUp 0 edits

@@ -4,25 +4,22 @@ use Rattle.std.specs.declared.cmp.Ordering.{Ordering}
 use Rattle.std.specs.Ordering.{is_lt}
 use Rattle.std.specs.List.{AllByRecursion, flat_map}
 use Rattle.pn_join.specs.Tables.{IsTable}
+use Rattle.pn_join.specs.declared.table.leaf_join.TheConstants.{MAX_LEAF_ENTRIES}
 
 -- the entries of all leaves, one leaf after another
 abbrev pub all_entries : {A : Type 0} → List (List A) → List A
 all_entries leaves = flat_map (λ leaf. leaf) leaves
 
--- the most entries of a leaf
-abbrev pub max_leaf_entries : ℕ
-max_leaf_entries = 64
-
--- at least one entry and at most 64
+-- at least one entry, and at most as many as a leaf may have
 abbrev pub IsLeaf : {A : Type 0} → List A → Type 0
-IsLeaf leaf = (0 < length leaf) × (length leaf ≤ max_leaf_entries)
+IsLeaf leaf = (0 < length leaf) × (length leaf ≤ MAX_LEAF_ENTRIES)
 
 -- the leaves of a table
 pub record IsLeafList {K C : Type 0} (cmp : K → K → Ordering) (valid : C → Type 0) (leaves : List (List (K × C))) : Type 0 where
   pub sizes : AllByRecursion (λ leaf. IsLeaf leaf) leaves
   pub table : IsTable cmp valid (all_entries leaves)
 
--- the entries in order, divided into leaves of 1 to 64 entries
+-- the entries in order, divided into leaves
 abbrev pub AreLeavesOf : {A : Type 0} → List A → List (List A) → Type 0
 AreLeavesOf entries leaves = (all_entries leaves ≡ entries) × AllByRecursion (λ leaf. IsLeaf leaf) leaves
 

@@ -1,11 +1,10 @@
-pub mod EditPuts
 pub mod Edits
 pub mod Laws
 pub mod LeafEntries
 pub mod Leaves
 pub mod Marks
 pub mod Naming
-pub mod Places
+pub mod Indices
 pub mod Prelude
 pub mod Proofs
 pub mod PutInLeaves

@@ -1,10 +1,11 @@
 -- Marks: positions of streams by name. An absent name counts as 0.
-use Rattle.std.specs.Prelude.{ℕ, zero, suc, ◌≤◌, ◌^◌, max, min, Bool, ◌&&◌, nat_lt, nat_le, List, [], ◌∷◌, Option, None, Some, unwrap_or}
+use Rattle.std.specs.Prelude.{ℕ, zero, suc, ◌≤◌, max, min, Bool, ◌&&◌, nat_lt, nat_le, List, [], ◌∷◌, Option, None, Some, unwrap_or}
 use Rattle.std.specs.declared.cmp.Ordering.{Ordering}
 use Rattle.std.specs.Ordering.{nat_cmp}
 use Rattle.std.specs.Cmp.Lexicographic.{slice_cmp}
 use Rattle.std.specs.List.{filter_map, list_all, position}
 use Rattle.std.specs.FinMap.{find, put}
+use Rattle.pn_join.specs.declared.marks.TheConstants.{LAST_POSITION}
 
 -- names and their positions, in byte order of names
 abbrev pub Positions : Type 0
@@ -31,9 +32,9 @@ abbrev pub shortfall : Positions → Positions → Option ℕ
 shortfall marks need = position (falls_short marks) need
 
 -- at each name of either the greater position
-abbrev pub raised : Positions → Positions → Positions
-raised marks [] = marks
-raised marks (other ∷ others) = put name_cmp other.0 (max (position_of marks other.0) other.1) (raised marks others)
+abbrev pub raised_marks : Positions → Positions → Positions
+raised_marks marks [] = marks
+raised_marks marks (other ∷ others) = put name_cmp other.0 (max (position_of marks other.0) other.1) (raised_marks marks others)
 
 -- the mark of a name at a position, if that is not 0
 abbrev pub if_position : List ℕ → ℕ → Option (List ℕ × ℕ)
@@ -45,16 +46,12 @@ abbrev pub least_at : Positions → Positions → List ℕ × ℕ → Option (Li
 least_at marks others mark = if_position mark.0 (min (position_of marks mark.0) (position_of others mark.0))
 
 -- at each name of both the lesser position
-abbrev pub least : Positions → Positions → Positions
-least marks others = filter_map (least_at marks others) marks
-
--- the last position that a stream can have
-abbrev pub last_position : ℕ
-last_position = 10 ^ 15
+abbrev pub least_marks : Positions → Positions → Positions
+least_marks marks others = filter_map (least_at marks others) marks
 
 -- a position of a message: from 1 to the last position
 abbrev pub is_position : ℕ → Bool
-is_position n = nat_le 1 n && nat_le n last_position
+is_position n = nat_le 1 n && nat_le n LAST_POSITION
 
 -- each position is that of a message
 abbrev pub are_positions : Positions → Bool

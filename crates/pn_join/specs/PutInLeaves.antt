@@ -11,8 +11,8 @@ pub record IsPutOf {K C M : Type 0} (cmp : K → K → Ordering) (meaning : C �
   pub means : Some (meaning value) ≡ optional_joined joined (option_map meaning (find cmp key old)) (Some (meaning content))
   pub is_valid : valid value
 
--- one leaf is changed, or cut in two; all others are the same at their places
-pub record ReplacesOneLeaf {A : Type 0} (old new : List (List A)) : Type 0 where
+-- one leaf is changed, or cut in two; all others stay
+pub record ReindicesOneLeaf {A : Type 0} (old new : List (List A)) : Type 0 where
   pub before : List (List A)
   pub after : List (List A)
   pub was : List A
@@ -21,7 +21,7 @@ pub record ReplacesOneLeaf {A : Type 0} (old new : List (List A)) : Type 0 where
   pub old_leaves : old ≡ before ++ was ∷ after
   pub new_leaves : new ≡ before ++ (is ++ after)
 
--- one leaf is changed or cut in two, or the first is made; all others are the same at their places
+-- one leaf is changed or cut in two, or the first is made; all others stay
 abbrev pub ChangesOneLeaf : {A : Type 0} → List (List A) → List (List A) → Type 0
 ChangesOneLeaf [] new = length new ≡ 1
-ChangesOneLeaf (leaf ∷ leaves) new = ReplacesOneLeaf (leaf ∷ leaves) new
+ChangesOneLeaf (leaf ∷ leaves) new = ReindicesOneLeaf (leaf ∷ leaves) new

@@ -1,12 +1,12 @@
 //! Marks: the last position taken of each stream, by the stream's name.
 
-ghost use Rattle.std.specs.Prelude.{◌≡◌, ℕ, max, ◌∷◌, [], IsTrue, ◌↔◌, IfOk, IsOk, OnOk, OnErr};
+ghost use Rattle.std.specs.Prelude.{◌≡◌, ℕ, max, ◌∷◌, [], ◌++◌, IsTrue, ◌↔◌, IfOk, IsOk, OnOk, OnErr};
 ghost use Rattle.std.specs.List.{list_any};
 ghost use Rattle.std.specs.FinMap.{is_sorted};
+ghost use Rattle.std.specs.Option.{option_to_list};
 ghost use Rattle.std.proofs.Common.{arith};
-ghost use Rattle.pn_join.specs.Marks.{name_cmp, position_of, Reaches, falls_short, shortfall, raised};
+ghost use Rattle.pn_join.specs.Marks.{name_cmp, position_of, Reaches, falls_short, shortfall, raised_marks, least_marks, if_position};
 
-mod least;
 mod name;
 
 use crate::{Dup, Join, NoMemory, Table};
@@ -87,27 +87,18 @@ impl Table<StreamName, Highest> {
     pub fn shortfall(&self, need: &Marks) -> Option<usize>
         ensures { result ≡ shortfall self.now need.now }
     {
-        let count = need.len();
-        let mut left = count;
-        for (name, position) in need.iter() {
-            if self.position(name) < position.0 {
-                return Some(count - left);
-            }
-            left -= 1;
-        }
-        None
+        need.recall_len();
+        need.iter()
+            .position(|(name, position)| self.position(name) < position.0)
     }
 
     fn falls_short_of(&self, need: &Marks) -> bool
         ensures short { result ≡ list_any (falls_short self.now) need.now }
         ensures rising { IsTrue (is_sorted name_cmp need.now) }
     {
-        for (name, position) in need.iter() {
-            if self.position(name) < position.0 {
-                return true;
-            }
-        }
-        false
+        need.recall_order();
+        need.iter()
+            .any(|(name, position)| self.position(name) < position.0)
     }
 
     /// The position at a name, 0 if it is absent.
@@ -119,11 +110,24 @@ impl Table<StreamName, Highest> {
             None => 0,
         }
     }
+
+    /// The lesser of both positions at each name. A name that one of both lacks is left out.
+    pub fn least(&self, others: &Marks) -> Result<Marks, NoMemory>
+        ensures { IfOk result (λ both. both ≡ least_marks self.now others.now) }
+    {
+        self.recall_order();
+        let mut both = Marks::new(self.alloc());
+        for (name, _position) in self.iter() {
+            let position = self.position(name).min(others.position(name));
+            add_last(&mut both, name, position)?;
+        }
+        Ok(both)
+    }
 }
 
 /// Raises the marks to the greater position at each name of either. An error leaves them as they were.
 pub fn raise(marks: &mut Marks, others: &Marks) -> Result<(), NoMemory>
-    ensures ok { OnOk result (marks.new ≡ raised marks.old others.now) }
+    ensures ok { OnOk result (marks.new ≡ raised_marks marks.old others.now) }
     ensures err { OnErr result (marks.new ≡ marks.old) }
     ensures rising { IsTrue (is_sorted name_cmp marks.new) × IsTrue (is_sorted name_cmp others.now) }
 {
@@ -132,10 +136,20 @@ pub fn raise(marks: &mut Marks, others: &Marks) -> Result<(), NoMemory>
 
 /// Raises the position at one name. An error leaves the marks as they were.
 pub fn raise_at(marks: &mut Marks, name: StreamName, position: u64) -> Result<(), NoMemory>
-    ensures ok { OnOk result (marks.new ≡ raised marks.old ((name, position) ∷ [])) }
+    ensures ok { OnOk result (marks.new ≡ raised_marks marks.old ((name, position) ∷ [])) }
     ensures err { OnErr result (marks.new ≡ marks.old) }
 {
-    // A call on the table tells the checker that its keys rise.
-    let _ = marks.len();
+    marks.recall_order();
     marks.join_entry(name, Highest(position))
+}
+
+/// Adds a mark after all others, unless its position is 0.
+fn add_last(marks: &mut Marks, name: &StreamName, position: u64) -> Result<(), NoMemory>
+    requires { IsTrue (is_sorted name_cmp (marks.old ++ option_to_list (if_position name.now position))) }
+    ensures { OnOk result (marks.new ≡ marks.old ++ option_to_list (if_position name.now position)) }
+{
+    if position == 0 {
+        return Ok(());
+    }
+    raise_at(marks, *name, position)
 }

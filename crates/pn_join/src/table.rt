@@ -1,6 +1,6 @@
 //! Tables: finite maps in key order that join key by key.
 
-ghost use Rattle.std.specs.Prelude.{◌≡◌, ℕ, ◌∷◌, [], List, length, map, option_map, slice_get, drop, count_by, IsTrue, IfOk, IfSome, OnOk, OnErr};
+ghost use Rattle.std.specs.Prelude.{◌≡◌, ℕ, ◌^◌, ◌<◌, ◌≤◌, ◌∷◌, [], ◌++◌, List, length, map, option_map, slice_get, slice_range, drop, count_by, IsTrue, IfOk, IfSome, OnOk, OnErr};
 ghost use Rattle.std.specs.Option.{option_copied};
 ghost use Rattle.std.specs.Ordering.{is_lt};
 ghost use Rattle.std.specs.FinMap.{find, put, is_sorted};
@@ -16,10 +16,9 @@ mod entry_counts;
 mod leaf;
 mod leaf_join;
 mod leaf_list;
-mod slices;
 
 use crate::{Dup, Join, NoMemory};
-pub use change::TableChange;
+pub use change::{TableChange, dup_optional};
 use edit::take_changes;
 pub use entries::Entries;
 pub use leaf_list::LeafList;
@@ -70,11 +69,11 @@ impl<K: Ord + Dup, C: Join> Table<K, C> {
     }
 
     /// The entry at an index in key order. `None` past the end.
-    pub fn entry_at(&self, place: usize) -> Option<(&K, &C)>
-        ensures entry { option_map (λ e. (e.0.now, e.1.now)) result ≡ slice_get self.now place }
+    pub fn entry_at(&self, index: usize) -> Option<(&K, &C)>
+        ensures entry { option_map (λ e. (e.0.now, e.1.now)) result ≡ slice_get self.now index }
         ensures is_valid { IfSome result (λ e. C.valid e.1.now) }
     {
-        let (key, content) = self.leaf_list.entry_at(place)?;
+        let (key, content) = self.leaf_list.entry_at(index)?;
         Some((key, content))
     }
 
@@ -82,16 +81,16 @@ impl<K: Ord + Dup, C: Join> Table<K, C> {
     pub fn leaves(&self) -> &LeafList<K, C>
         ensures { AreLeavesOf self.now result.now }
     {
-        self.leaf_list.count();
+        self.leaf_list.recall_leaf_list();
         &self.leaf_list
     }
 
     /// The entries of a leaf. `None` past the last leaf.
-    pub fn leaf(&self, place: usize) -> Option<&[(K, C)]>
+    pub fn leaf(&self, index: usize) -> Option<&[(K, C)]>
         ensures { (leaves : List (List (K × C)))
-            × AreLeavesOf self.now leaves × (option_map (λ leaf. leaf.now) result ≡ slice_get leaves place) }
+            × AreLeavesOf self.now leaves × (option_map (λ leaf. leaf.now) result ≡ slice_get leaves index) }
     {
-        self.leaves().leaf(place)
+        self.leaves().leaf(index)
     }
 
     /// All entries in key order, as keys and contents.
@@ -103,21 +102,71 @@ impl<K: Ord + Dup, C: Join> Table<K, C> {
     }
 
     /// The entries from an index on, in key order.
-    pub fn iter_from(&self, place: usize) -> Entries<'_, K, C>
-        ensures rest { result ≡ drop place self.now }
+    pub fn iter_from(&self, index: usize) -> Entries<'_, K, C>
+        ensures rest { result ≡ drop index self.now }
         ensures table { IsTable K.cmp C.valid self.now }
     {
-        self.leaf_list.iter_from(place)
+        self.leaf_list.iter_from(index)
     }
 
     /// How many keys are less than this one.
     pub fn lower_bound(&self, key: &K) -> usize
         ensures { result ≡ count_by (λ e. is_lt (K.cmp e.0 key.now)) self.now }
     {
-        match self.leaf_list.place_of(key) {
-            Ok(place) => place,
-            Err(place) => place,
+        match self.leaf_list.binary_search(key) {
+            Ok(index) => index,
+            Err(index) => index,
         }
+    }
+
+    /// Recalls for the prover that the entries are a table.
+    pub fn recall_table(&self)
+        ensures { IsTable K.cmp C.valid self.now }
+    {
+        self.leaf_list.recall_leaf_list();
+    }
+
+    /// Recalls for the prover that the keys rise.
+    pub fn recall_order(&self)
+        ensures { IsTrue (is_sorted K.cmp self.now) }
+    {
+        self.recall_table();
+    }
+
+    /// Recalls for the prover that the entries can be counted.
+    pub(crate) fn recall_len(&self)
+        ensures { length self.now < 2 ^ 64 }
+    {
+        let _ = self.len();
+    }
+
+    /// The allocator of the leaves.
+    pub(crate) fn alloc(&self) -> Global {
+        self.leaf_list.alloc()
+    }
+
+    /// The entries from index `from` to before index `to`. Whole leaves are shared.
+    pub fn slice(&self, from: usize, to: usize) -> Result<Self, NoMemory>
+        requires order { from ≤ to }
+        requires within { to ≤ length self.now }
+        ensures { IfOk result (λ part. part ≡ slice_range self.now from to) }
+    {
+        self.recall_table();
+        Table::new(self.alloc()).followed_by(self, from, to)
+    }
+
+    /// This table with the other's entries from index `from` to before index `to` after its own. Whole leaves are
+    /// shared.
+    pub fn followed_by(mut self, other: &Self, from: usize, to: usize) -> Result<Self, NoMemory>
+        requires order { from ≤ to }
+        requires within { to ≤ length other.now }
+        requires rising { IsTrue (is_sorted K.cmp (self ++ slice_range other.now from to)) }
+        ensures { IfOk result (λ both. both ≡ self ++ slice_range other.now from to) }
+    {
+        self.recall_table();
+        other.recall_table();
+        self.leaf_list.push_slice(&other.leaf_list, from, to)?;
+        Ok(self)
     }
 
     /// Joins a content into that at the key. An equal key that is present stays. An error leaves the table
@@ -150,14 +199,14 @@ impl<K: Ord + Dup, C: Join> Table<K, C> {
         ensures err { OnErr result (self.new ≡ self.old) }
         ensures tables { IsTable K.cmp C.valid self.old × IsTable K.cmp C.valid other.now × IsTable K.cmp C.valid self.new }
     {
-        self.is_table();
-        other.is_table();
+        self.recall_table();
+        other.recall_table();
         let mut edits = self.leaf_list.edits_from(&other.leaf_list)?;
         let changes = take_changes(self.leaf_list.alloc(), &mut edits)?;
         if self.leaf_list.put(edits)? {
             return Ok(changes);
         }
-        *self = self.joined_with(other)?;
+        *self = self.join_with(other)?;
         Ok(changes)
     }
 }
@@ -186,11 +235,11 @@ impl<K: Ord + Dup, C: Join> Join for Table<K, C> {
     ghost laws = { key_by_key-laws C.laws };
 
     fn join_from(&mut self, other: &Self) -> Result<(), NoMemory> {
-        self.is_table();
-        other.is_table();
+        self.recall_table();
+        other.recall_table();
         let edits = self.leaf_list.edits_from(&other.leaf_list)?;
         if !self.leaf_list.put(edits)? {
-            *self = self.joined_with(other)?;
+            *self = self.join_with(other)?;
         }
         Ok(())
     }
@@ -206,21 +255,14 @@ impl<K: Ord + Dup, C: Join> Join for Table<K, C> {
 }
 
 impl<K: Ord + Dup, C: Join> Table<K, C> {
-    /// Tells the checker that the entries are a table.
-    fn is_table(&self)
-        ensures { IsTable K.cmp C.valid self.now }
-    {
-        self.leaf_list.count();
-    }
-
     /// The join of both. Leaves that get no key of the other are shared.
-    fn joined_with(&self, other: &Self) -> Result<Self, NoMemory>
+    fn join_with(&self, other: &Self) -> Result<Self, NoMemory>
         ensures { IfOk result (λ joined. (contents_at K.cmp C.meaning joined
             ≡ key_by_key C.joined (contents_at K.cmp C.meaning self.now)
             (contents_at K.cmp C.meaning other.now)) × IsTable K.cmp C.valid joined) }
     {
-        self.is_table();
-        other.is_table();
+        self.recall_table();
+        other.recall_table();
         if self.len() == 0 {
             return other.dup();
         }

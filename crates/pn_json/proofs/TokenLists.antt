@@ -59,7 +59,7 @@ module _ {X : Type 0} (name : X → List ℕ) (value : X → Data) (all : List X
 
 -- ---- one more of a list
 
--- one more element, by its place
+-- one more element, by its index
 pub one_more : {Y X : Type 0} (f : Y → X) (g : X → List Token) (ys : List Y) (i : ℕ) (y : Y) → y ≡ get_or ys i y → i < length ys
     → flat_map g (map f (take i ys)) ++ g (f y) ≡ flat_map g (map f (take (i + 1) ys))
 one_more {Y = Y} {X = X} f g ys i y here inside =
@@ -91,7 +91,7 @@ one_more_item {Y = Y} f ys i y there =
     ∙ ap values_tokens (sym (map-append f (take i ys) (option_to_list (slice_get ys i))))
     ∙ ap (λ (l : List Y). values_tokens (map f l)) (taken_next ys i)
 
--- there is an element at each place
+-- there is an element at each index
 pub there_at : {Y : Type 0} (ys : List Y) (i : ℕ) → i < length ys → (y : Y) × (slice_get ys i ≡ Some y)
 there_at [] i within = absurd (omega (arith, within))
 there_at (y ∷ ys) zero within = (y, refl)

@@ -1,11 +1,11 @@
 -- The members of values, each by its kind.
-use Rattle.std.specs.Prelude.{ℕ, ℤ, pos, negsuc, ◌^◌, nat_lt, Bool, true, ◌&&◌, if◌then◌else◌, List, [], ◌∷◌, map, Option, Some, None, option_map, option_and_then, Result, Ok, Err}
+use Rattle.std.specs.Prelude.{ℕ, ℤ, pos, negsuc, ◌^◌, nat_lt, Bool, true, ◌&&◌, if◌then◌else◌, List, [], ◌∷◌, map, Option, Some, None, option_map, option_and_then, unwrap_or, Result, Ok, Err}
 use Rattle.std.specs.Borrow.{Bor}
 use Rattle.std.specs.List.{list_any}
 use Rattle.std.specs.Option.{ok_or}
 use Rattle.std.specs.Str.{bytes_eq}
 use Rattle.serde_json.specs.Data.{Num, unsigned, negative, float, Data, Items, no_items, item, Members, no_members, member}
-use Rattle.serde_json.specs.Find.{as_number, as_u64}
+use Rattle.serde_json.specs.Find.{as_number, as_str, as_u64}
 use Rattle.serde_json.specs.View.{view}
 use Rattle.serde_json.specs.declared.value.Value.{Value}
 use Rattle.pn_json.specs.Answers.{◌>>=◌}
@@ -33,6 +33,10 @@ signed_number d = option_and_then signed_in (as_number d)
 abbrev pub member_as : {A F : Type 0} → (Data → Option A) → F → Option Data → Result A F
 member_as kind fault d = ok_or (option_and_then kind d) fault
 
+-- the text that the data is, or the empty one
+abbrev pub text_at : Option Data → List ℕ
+text_at d = unwrap_or (option_and_then as_str d) []
+
 -- each item as read, or the fault of the first that has one
 abbrev pub each_in : {A F : Type 0} → (Data → Result A F) → Items → Result (List A) F
 each_in read no_items = Ok []
@@ -49,6 +53,10 @@ only_named names (member name d ms) = list_any (bytes_eq name) names && only_nam
 -- the fault if a member has another name
 abbrev pub no_others : {F : Type 0} → List (List ℕ) → F → Members → Result (Unit {0}) F
 no_others names fault ms = if only_named names ms then Ok tt else Err fault
+
+-- the bytes of an optional borrowed text
+abbrev pub seen_text : Option (Bor (List ℕ)) → Option (List ℕ)
+seen_text text = option_map (λ t. t.now) text
 
 -- borrowed texts
 abbrev pub texts : List (Bor (List ℕ)) → List (List ℕ)

@@ -4,13 +4,12 @@
 #![tactic(auto)]
 
 mod line;
-mod member_kinds;
-mod member_names;
-mod moved;
-mod write_members;
+mod members;
 
-pub use line::{begin_line, finish_line};
-pub use member_kinds::{items_of, object_of, signed_number_of, text_of, whole_number_of};
-pub use member_names::{check_names, is_only_named};
-pub use moved::{items_from, member_from};
-pub use write_members::{write_null_member, write_number_member, write_text_member};
+pub use line::{
+    begin_line, finish_line, write_null_member, write_number_member, write_text_member,
+};
+pub use members::{
+    check_names, items_from, items_of, member_from, object_of, signed_number_of, text_of,
+    text_or_empty, whole_number_of,
+};

@@ -3,7 +3,7 @@ use Rattle.std.proofs.Common.{◌≡◌, ◌≢◌, ℕ, ◌+◌, ◌<◌, ◌�
 use Rattle.std.proofs.lemmas.List.{take-take, take_more, length-take}
 use Rattle.std.proofs.lemmas.List.Elements.{All-from_get_or}
 use Rattle.memchr.specs.Find.{IsFirstByte, is_byte}
-use Rattle.pn_line.specs.Line.{LineBufferValue, longer}
+use Rattle.pn_line.specs.Line.{LineBufferValue, with_bytes}
 use Rattle.pn_line.specs.Reads.{Splits, IsUnbroken}
 
 -- before the first newline there is none
@@ -15,7 +15,7 @@ IsUnbroken-before hay at found =
     found.0.before k (omega arith) before (eq-eqb _ _ (sym (get_or-take at hay k 0 before) ∙ is)))
 
 -- the bytes before the first newline go to the line
-pub Splits-ended : (line new : LineBufferValue) (shown : List ℕ) (m at : ℕ) → IsFirstByte (is_byte 10) (take m shown) (Some at) → new ≡ longer line (take at (take m shown))
+pub Splits-ended : (line new : LineBufferValue) (shown : List ℕ) (m at : ℕ) → IsFirstByte (is_byte 10) (take m shown) (Some at) → new ≡ with_bytes line (take at (take m shown))
     → Splits line new (take (at + 1) shown) (10 ∷ [])
 Splits-ended line new shown m at found grown =
     let window = take m shown in

@@ -3,13 +3,13 @@ use Rattle.std.proofs.Common.{◌≢◌, ℕ, Option, None, Some, OnSome, List, 
 use Rattle.std.proofs.lemmas.List.Elements.{All-nil, All-append}
 use Rattle.std.specs.Io.KnownBytes.{Consumes}
 use Rattle.std.proofs.KnownBytes.{Consumes-nil, Consumes-trans}
-use Rattle.pn_line.specs.Line.{LineBufferValue, longer}
+use Rattle.pn_line.specs.Line.{LineBufferValue, with_bytes}
 use Rattle.pn_line.specs.Reads.{Takes}
-use Rattle.pn_line.proofs.LineLaws.{longer-nil, longer-append}
+use Rattle.pn_line.proofs.LineLaws.{with_bytes-nil, with_bytes-append}
 
 -- before the first piece nothing is taken
 pub Takes-none : (line : LineBufferValue) (a : Option (List ℕ)) → Takes line line a a []
-Takes-none line a = record { taken = []; unbroken = All-nil (λ b. b ≢ 10); line = sym (longer-nil line); source = Consumes-nil a }
+Takes-none line a = record { taken = []; unbroken = All-nil (λ b. b ≢ 10); line = sym (with_bytes-nil line); source = Consumes-nil a }
 
 -- some bytes of the line, and then others with what is after them
 pub Takes-trans : {l m n : LineBufferValue} {a b c : Option (List ℕ)} {after : List ℕ} → Takes l m a b [] → Takes m n b c after → Takes l n a c after
@@ -18,7 +18,7 @@ Takes-trans {l = l} {a = a} {b = b} {c = c} {after = after} first second =
     record {
       taken = first.taken ++ second.taken;
       unbroken = All-append (λ b. b ≢ 10) _ _ first.unbroken second.unbroken;
-      line = second.line ∙ ap (λ line. longer line second.taken) first.line ∙ longer-append l first.taken second.taken;
+      line = second.line ∙ ap (λ line. with_bytes line second.taken) first.line ∙ with_bytes-append l first.taken second.taken;
       source = subst P (ap (λ l. l ++ (second.taken ++ after)) (append-nil first.taken) ∙ sym (append_assoc first.taken second.taken after))
           (Consumes-trans a b c _ _ first.source second.source);
     }

@@ -9,7 +9,7 @@ pub record FailingSourceValue : Type 0 where
 -- the bytes taken, how many of them were handed on, the most bytes of one write, and which call fails, counted from 1
 -- for the next; 0 for none
 pub record FailingSinkValue : Type 0 where
-  pub taken : List ℕ
+  pub contents : List ℕ
   pub handed_on : ℕ
   pub most : ℕ
   pub fails_at : ℕ

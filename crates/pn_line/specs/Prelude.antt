@@ -1,5 +1,5 @@
--- The names that contracts of the crates above cite, passed on from one place. Declares nothing.
-pub use Rattle.pn_line.specs.Line.{kept, so_far}
+-- The names that contracts of the crates above cite, passed on by one module. Declares nothing.
+pub use Rattle.pn_line.specs.Line.{kept_bytes, so_far}
 pub use Rattle.pn_line.specs.Reads.{HasShown, IsUnbroken}
 pub use Rattle.pn_line.specs.Sent.{AppendsPrefix, Sends}
 pub use Rattle.pn_line.specs.Text.{text_of}

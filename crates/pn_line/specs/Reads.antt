@@ -1,7 +1,7 @@
 -- What reading a line takes from its source.
 use Rattle.std.specs.Prelude.{◌≡◌, ◌≢◌, ℕ, Bool, true, false, List, [], ◌∷◌, ◌++◌, Option, IfSome, All, Contains}
 use Rattle.std.specs.Io.KnownBytes.{Consumes}
-use Rattle.pn_line.specs.Line.{LineBufferValue, longer}
+use Rattle.pn_line.specs.Line.{LineBufferValue, with_bytes}
 use Rattle.pn_line.specs.declared.piece.Piece.{Piece}
 use Rattle.pn_line.specs.declared.piece.Piece.TheVariants.{Part, Ended, NoMore}
 
@@ -13,14 +13,14 @@ IsUnbroken bs = All (λ b. b ≢ 10) bs
 pub record Splits (old new : LineBufferValue) (bs after : List ℕ) : Type 0 where
   pub taken : List ℕ
   pub unbroken : IsUnbroken taken
-  pub line : new ≡ longer old taken
+  pub line : new ≡ with_bytes old taken
   pub whole : bs ≡ taken ++ after
 
 -- the source lost the bytes appended to the line, without a newline, and those after them
 pub record Takes (old new : LineBufferValue) (left leaves : Option (List ℕ)) (after : List ℕ) : Type 0 where
   pub taken : List ℕ
   pub unbroken : IsUnbroken taken
-  pub line : new ≡ longer old taken
+  pub line : new ≡ with_bytes old taken
   pub source : Consumes left leaves (taken ++ after)
 
 -- the newline that a piece of a line ends with, if it does

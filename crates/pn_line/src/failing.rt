@@ -111,7 +111,7 @@ impl Source for FailingSource<'_> {
 /// succeed.
 #[derive(Debug, Drop)]
 pub struct FailingSink {
-    taken: Vec<u8>,
+    contents: Vec<u8>,
     handed_on: usize,
     most: usize,
     calls: Countdown,
@@ -122,20 +122,20 @@ impl Model for FailingSink {
 
     ghost Value = { FailingSinkValue };
 
-    ghost view = { λ sink. record { taken = sink.taken.items; handed_on = sink.handed_on; most = sink.most; fails_at = sink.calls.fails_at } };
+    ghost view = { λ sink. record { contents = sink.contents.items; handed_on = sink.handed_on; most = sink.most; fails_at = sink.calls.fails_at } };
 }
 
 impl FailingSink {
     /// An empty sink. A write takes at least one byte and at most `most`. Call number `fails_at` fails, counted
     /// from 1; 0 means none.
     pub fn new(alloc: Global, most: usize, fails_at: usize) -> FailingSink
-        ensures taken { result.taken ≡ [] }
+        ensures contents { result.contents ≡ [] }
         ensures handed_on { result.handed_on ≡ 0 }
         ensures most { result.most ≡ most }
         ensures fails_at { result.fails_at ≡ fails_at }
     {
         FailingSink {
-            taken: Vec::new(alloc),
+            contents: Vec::new(alloc),
             handed_on: 0,
             most,
             calls: Countdown { fails_at },
@@ -143,10 +143,10 @@ impl FailingSink {
     }
 
     /// The bytes that it took.
-    pub fn taken(&self) -> &[u8]
-        ensures { result.now ≡ self.now.taken }
+    pub fn contents(&self) -> &[u8]
+        ensures { result.now ≡ self.now.contents }
     {
-        &self.taken
+        &self.contents
     }
 
     /// How many of these bytes were handed on.
@@ -158,19 +158,19 @@ impl FailingSink {
 }
 
 impl Sink for FailingSink {
-    ghost contents = { λ sink. Some sink.taken };
+    ghost contents = { λ sink. Some sink.contents };
 
     ghost may_fail = { Unit {0} };
 
-    ghost is_handed_on = { λ sink. sink.handed_on ≡ length sink.taken };
+    ghost is_handed_on = { λ sink. sink.handed_on ≡ length sink.contents };
 
     /// Takes up to `most` bytes. Fails if it is the chosen call, or out of memory.
     fn write_some(&mut self, bytes: &[u8]) -> Result<usize, WriteFault>
         ensures within { IfOk result (λ count. count ≤ length bytes.now) }
         ensures some { IfOk result (λ count. 0 < length bytes.now → 0 < count) }
         ensures written { IfOk result
-            (λ count. Appends (Some self.old.taken) (Some self.new.taken) (take count bytes.now)) }
-        ensures kept { OnErr result (Keeps (Some self.old.taken) (Some self.new.taken)) }
+            (λ count. Appends (Some self.old.contents) (Some self.new.contents) (take count bytes.now)) }
+        ensures kept { OnErr result (Keeps (Some self.old.contents) (Some self.new.contents)) }
         ensures takes { IfOk result (λ count. count ≡ min (length bytes.now) (max self.old.most 1)) }
         ensures fails { self.old.fails_at ≡ 1 → IsErr result }
         ensures counted { self.new.fails_at ≡ self.old.fails_at - 1 }
@@ -179,7 +179,7 @@ impl Sink for FailingSink {
     {
         self.calls.call().map_err(WriteFault::Failed)?;
         let count = bytes.len().min(self.most.max(1));
-        match self.taken.extend_from_slice(&bytes[..count]) {
+        match self.contents.extend_from_slice(&bytes[..count]) {
             Ok(()) => Ok(count),
             Err(error) => Err(WriteFault::Failed(io::Error::from(error))),
         }
@@ -187,14 +187,14 @@ impl Sink for FailingSink {
 
     /// Fails if it is the chosen call, and only then.
     fn hand_on(&mut self) -> Result<(), WriteFault>
-        ensures all { OnOk result (self.new.handed_on ≡ length self.new.taken) }
-        ensures kept { Keeps (Some self.old.taken) (Some self.new.taken) }
+        ensures all { OnOk result (self.new.handed_on ≡ length self.new.contents) }
+        ensures kept { Keeps (Some self.old.contents) (Some self.new.contents) }
         ensures fails { IsErr result ↔ (self.old.fails_at ≡ 1) }
         ensures counted { self.new.fails_at ≡ self.old.fails_at - 1 }
         ensures most { self.new.most ≡ self.old.most }
     {
         self.calls.call().map_err(WriteFault::Failed)?;
-        self.handed_on = self.taken.len();
+        self.handed_on = self.contents.len();
         Ok(())
     }
 }

@@ -3,6 +3,7 @@
 //! What returns no `Result` allocates nothing.
 #![tactic(auto)]
 
+mod endless;
 mod failing;
 mod in_memory;
 mod line_buffer;
@@ -13,10 +14,11 @@ mod sink;
 mod source;
 mod writing;
 
+pub use endless::EndlessSource;
 pub use failing::{FailingSink, FailingSource};
 pub use in_memory::InMemory;
 pub use line_buffer::{ENDLESS, LineBuffer, MAX_KEPT_BYTES, MAX_LINE_BYTES};
-pub use outbox::{OUTBOX_ROOM, Outbox};
+pub use outbox::{OUTBOX_CAPACITY, Outbox};
 pub use piece::Piece;
 pub use reading::{BoundedEnd, LineEnd, read_bounded_line, read_line};
 pub use sink::{Discard, Sink};

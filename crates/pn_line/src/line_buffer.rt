@@ -1,6 +1,6 @@
-//! A line while it is read: its first bytes, in room that is allocated once, and its length.
+//! A line while it is read: its first bytes, in a buffer that is allocated once, and its length.
 ghost use Rattle.std.specs.Prelude.{◌≡◌, ◌+◌, ◌<◌, ◌≤◌, ◌↔◌, [], length, IfOk, IsTrue};
-ghost use Rattle.pn_line.specs.Line.{so_far, longer, max_line_bytes};
+ghost use Rattle.pn_line.specs.Line.{so_far, with_bytes};
 
 use std::alloc::{AllocError, Global};
 use std::marker::Model;
@@ -14,8 +14,8 @@ pub const MAX_KEPT_BYTES: usize = MAX_LINE_BYTES + 1;
 /// A line that has not ended after this many bytes has no end.
 pub const ENDLESS: usize = 1_000_000_000;
 
-/// A line so far: its first bytes, at most `MAX_KEPT_BYTES`, and its length. Its room is allocated when it is
-/// made, and never again.
+/// A line so far: its first bytes, at most `MAX_KEPT_BYTES`, and its length. Memory is allocated when it is made,
+/// and never again.
 #[derive(Debug, Drop)]
 pub struct LineBuffer {
     kept: Vec<u8>,
@@ -78,7 +78,7 @@ impl LineBuffer {
 
     /// Whether the line has more bytes than a line may have.
     pub fn is_too_long(&self) -> bool
-        ensures { IsTrue result ↔ (max_line_bytes < self.now.count) }
+        ensures { IsTrue result ↔ (MAX_LINE_BYTES < self.now.count) }
     {
         self.count > MAX_LINE_BYTES
     }
@@ -86,10 +86,10 @@ impl LineBuffer {
     /// Appends bytes to the line. Those that are not kept are counted.
     pub(crate) fn append(&mut self, bytes: &[u8])
         requires { self.old.count + length bytes.now ≤ ENDLESS }
-        ensures { self.new ≡ longer self.old bytes.now }
+        ensures { self.new ≡ with_bytes self.old bytes.now }
     {
-        let room = MAX_KEPT_BYTES - self.kept.len();
-        let more = &bytes[..bytes.len().min(room)];
+        let free = MAX_KEPT_BYTES - self.kept.len();
+        let more = &bytes[..bytes.len().min(free)];
         self.kept.extend_from_slice(more).unwrap();
         self.count += bytes.len();
     }

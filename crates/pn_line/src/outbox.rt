@@ -1,4 +1,4 @@
-//! Bytes that wait to be written together, in room that is allocated once.
+//! Bytes that wait to be written together, in a buffer that is allocated once.
 ghost use Rattle.std.specs.Prelude.{◌≡◌, ◌+◌, ◌<◌, ◌≤◌, ◌++◌, [], length, IfOk, IsOk, OnOk, OnErr};
 ghost use Rattle.std.specs.Io.KnownBytes.{Appends, Keeps};
 ghost use Rattle.pn_line.specs.Sent.{AppendsPrefix, Sends};
@@ -8,10 +8,10 @@ use crate::writing::{WriteFault, write_all_of};
 use std::alloc::{AllocError, Global};
 use std::marker::Model;
 
-/// How many bytes an outbox has room for.
-pub const OUTBOX_ROOM: usize = 65_536;
+/// How many bytes an outbox holds.
+pub const OUTBOX_CAPACITY: usize = 65_536;
 
-/// Bytes that wait for a writer. Its room is allocated when it is made, and never again.
+/// Bytes that wait for a writer. Memory is allocated when it is made, and never again.
 #[derive(Debug, Drop)]
 pub struct Outbox {
     waiting: Vec<u8>,
@@ -19,13 +19,13 @@ pub struct Outbox {
 
 impl Model for Outbox {
     ghost use Rattle.std.specs.Prelude.{ℕ, List, vec_len, vec_capacity, ◌≤◌};
-    ghost use Rattle.pn_line.specs.declared.outbox.TheConstants.{OUTBOX_ROOM};
+    ghost use Rattle.pn_line.specs.declared.outbox.TheConstants.{OUTBOX_CAPACITY};
 
     ghost Value = { List ℕ };
 
     ghost view = { λ outbox. outbox.waiting.items };
 
-    ghost invariant = { λ outbox. (vec_len outbox.waiting ≤ OUTBOX_ROOM) × (OUTBOX_ROOM ≤ vec_capacity outbox.waiting) };
+    ghost invariant = { λ outbox. (vec_len outbox.waiting ≤ OUTBOX_CAPACITY) × (OUTBOX_CAPACITY ≤ vec_capacity outbox.waiting) };
 }
 
 impl Outbox {
@@ -34,12 +34,12 @@ impl Outbox {
         ensures { IfOk result (λ outbox. outbox ≡ []) }
     {
         Ok(Outbox {
-            waiting: Vec::with_capacity(alloc, OUTBOX_ROOM)?,
+            waiting: Vec::with_capacity(alloc, OUTBOX_CAPACITY)?,
         })
     }
 
-    /// Appends bytes to those that wait. Without room for them, those that wait are written first. Bytes
-    /// that fit no outbox are written at once.
+    /// Appends bytes to those that wait. If they don't fit, those that wait are written first. Bytes that fit no
+    /// outbox are written at once.
     ///
     /// After a fault nothing waits: what was not written is dropped.
     pub fn push<W: Sink>(&mut self, writer: &mut W, bytes: &[u8]) -> Result<(), WriteFault>
@@ -51,23 +51,23 @@ impl Outbox {
         ensures given_up { OnErr result (self.new ≡ []) }
 
         // Bytes that fit are kept, and nothing is written.
-        ensures succeeds { length self.old + length bytes.now ≤ OUTBOX_ROOM → IsOk result }
-        ensures waits { length self.old + length bytes.now ≤ OUTBOX_ROOM
+        ensures succeeds { length self.old + length bytes.now ≤ OUTBOX_CAPACITY → IsOk result }
+        ensures waits { length self.old + length bytes.now ≤ OUTBOX_CAPACITY
             → self.new ≡ self.old ++ bytes.now }
-        ensures unsent { length self.old + length bytes.now ≤ OUTBOX_ROOM → writer.new ≡ writer.old }
+        ensures unsent { length self.old + length bytes.now ≤ OUTBOX_CAPACITY → writer.new ≡ writer.old }
 
         // Bytes that fit only an empty outbox wait after what waited was written.
-        ensures alone { OUTBOX_ROOM < length self.old + length bytes.now → length bytes.now ≤ OUTBOX_ROOM
+        ensures alone { OUTBOX_CAPACITY < length self.old + length bytes.now → length bytes.now ≤ OUTBOX_CAPACITY
             → OnOk result (self.new ≡ bytes.now) }
-        ensures sent { OUTBOX_ROOM < length self.old + length bytes.now → length bytes.now ≤ OUTBOX_ROOM
+        ensures sent { OUTBOX_CAPACITY < length self.old + length bytes.now → length bytes.now ≤ OUTBOX_CAPACITY
             → OnOk result (Appends (W.contents writer.old) (W.contents writer.new) self.old) }
 
         // Bytes that fit no outbox are written, and nothing waits.
-        ensures whole { OUTBOX_ROOM < length bytes.now → OnOk result (self.new ≡ []) }
+        ensures whole { OUTBOX_CAPACITY < length bytes.now → OnOk result (self.new ≡ []) }
     {
-        if bytes.len() > OUTBOX_ROOM - self.waiting.len() {
+        if bytes.len() > OUTBOX_CAPACITY - self.waiting.len() {
             self.send(writer)?;
-            if bytes.len() > OUTBOX_ROOM {
+            if bytes.len() > OUTBOX_CAPACITY {
                 return write_all_of(writer, bytes);
             }
         }
@@ -103,7 +103,7 @@ impl Outbox {
 
     // Appends bytes that fit.
     fn keep(&mut self, bytes: &[u8])
-        requires { length self.old + length bytes.now ≤ OUTBOX_ROOM }
+        requires { length self.old + length bytes.now ≤ OUTBOX_CAPACITY }
         ensures { self.new ≡ self.old ++ bytes.now }
     {
         self.waiting.extend_from_slice(bytes).unwrap();

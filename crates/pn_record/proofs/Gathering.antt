@@ -88,14 +88,14 @@ module _ (all : List ContentValue) (x : ContentValue) (xs rest : List ContentVal
       ∙ (λ i. union (set_of all) (union (sym (cons x xs) i) (sym (cons x rest) i)))
 
 -- what is gathered lies before what is left of both lists, and all together are the contents of both
-pub record Progress (all left right ours theirs : List ContentValue) : Type 0 where
+pub record MergedSoFar (all left right ours theirs : List ContentValue) : Type 0 where
   pub left_rises : Rises (all ++ left)
   pub right_rises : Rises (all ++ right)
   pub gathered : union (set_of all) (union (set_of left) (set_of right)) ≡ union (set_of ours) (set_of theirs)
   pub some : 0 < length all + length left
 
-module _ (all ours theirs : List ContentValue) (x y : ContentValue) (xs ys : List ContentValue) (before : Progress all (x ∷ xs) (y ∷ ys) ours theirs) where
-  pub step_less : content_cmp x y ≡ Less → Progress (all ++ x ∷ []) xs (y ∷ ys) ours theirs
+module _ (all ours theirs : List ContentValue) (x y : ContentValue) (xs ys : List ContentValue) (before : MergedSoFar all (x ∷ xs) (y ∷ ys) ours theirs) where
+  pub step_less : content_cmp x y ≡ Less → MergedSoFar (all ++ x ∷ []) xs (y ∷ ys) ours theirs
   step_less less = record {
     left_rises = subst Rises (sym (regrouped all x xs)) before.left_rises;
     right_rises = subst Rises (sym (regrouped all x (y ∷ ys))) (between all x y xs ys before.left_rises before.right_rises less);
@@ -103,7 +103,7 @@ module _ (all ours theirs : List ContentValue) (x y : ContentValue) (xs ys : Lis
     some = omega (arith, length_push all x);
   }
 
-  pub step_greater : content_cmp x y ≡ Greater → Progress (all ++ y ∷ []) (x ∷ xs) ys ours theirs
+  pub step_greater : content_cmp x y ≡ Greater → MergedSoFar (all ++ y ∷ []) (x ∷ xs) ys ours theirs
   step_greater greater = record {
     left_rises = subst Rises (sym (regrouped all y (x ∷ xs))) (between all y x ys xs before.right_rises before.left_rises (content_cmp_total.antisymm y x ∙ ap ordering_reverse greater));
     right_rises = subst Rises (sym (regrouped all y ys)) before.right_rises;
@@ -111,7 +111,7 @@ module _ (all ours theirs : List ContentValue) (x y : ContentValue) (xs ys : Lis
     some = omega (arith, length_push all y);
   }
 
-  pub step_equal : content_cmp x y ≡ Equal → Progress (all ++ x ∷ []) xs ys ours theirs
+  pub step_equal : content_cmp x y ≡ Equal → MergedSoFar (all ++ x ∷ []) xs ys ours theirs
   step_equal equal =
       let is : x ≡ y = content_cmp-exact x y equal in record {
         left_rises = subst Rises (sym (regrouped all x xs)) before.left_rises;
@@ -121,7 +121,7 @@ module _ (all ours theirs : List ContentValue) (x y : ContentValue) (xs ys : Lis
       }
 
 -- what is gathered first
-pub begun : (ours theirs : List ContentValue) → IsContents ours → IsContents theirs → Progress [] ours theirs ours theirs
+pub begun : (ours theirs : List ContentValue) → IsContents ours → IsContents theirs → MergedSoFar [] ours theirs ours theirs
 begun ours theirs our_contents their_contents = record {
   left_rises = our_contents.rising;
   right_rises = their_contents.rising;
@@ -130,33 +130,33 @@ begun ours theirs our_contents their_contents = record {
 }
 
 -- what is left is gathered at the end, where one of the lists is at its end
-pub ended : (all left right ours theirs : List ContentValue) → Progress all left right ours theirs → set_of ((all ++ left) ++ right) ≡ union (set_of ours) (set_of theirs)
+pub ended : (all left right ours theirs : List ContentValue) → MergedSoFar all left right ours theirs → set_of ((all ++ left) ++ right) ≡ union (set_of ours) (set_of theirs)
 ended all left right ours theirs is =
     set_of-append (all ++ left) right ∙ ap (λ s. union s (set_of right)) (set_of-append all left) ∙ union-assoc (set_of all) (set_of left) (set_of right) ∙ is.gathered
 
-pub ended_left : (all right ours theirs : List ContentValue) → Progress all [] right ours theirs → IsContents ((all ++ []) ++ right)
+pub ended_left : (all right ours theirs : List ContentValue) → MergedSoFar all [] right ours theirs → IsContents ((all ++ []) ++ right)
 ended_left all right ours theirs is = record {
   rising = subst (λ (l : List ContentValue). Rises (l ++ right)) (sym (append-nil all)) is.right_rises;
   some = omega (arith, is.some, length-append (all ++ []) right, length-append {A = ContentValue});
 }
 
 -- a step as the loop makes it, with a copy of the first that it takes
-module _ (all left right ours theirs : List ContentValue) (x y : ContentValue) (xs ys : List ContentValue) (lefts : left ≡ x ∷ xs) (rights : right ≡ y ∷ ys) (before : Progress all left right ours theirs) (new : List ContentValue) (copy : ContentValue) (pushed : new ≡ all ++ copy ∷ []) where
-  apart : Progress all (x ∷ xs) (y ∷ ys) ours theirs
-  apart = subst (λ (l : List ContentValue). Progress all l (y ∷ ys) ours theirs) lefts (subst (λ (r : List ContentValue). Progress all left r ours theirs) rights before)
+module _ (all left right ours theirs : List ContentValue) (x y : ContentValue) (xs ys : List ContentValue) (lefts : left ≡ x ∷ xs) (rights : right ≡ y ∷ ys) (before : MergedSoFar all left right ours theirs) (new : List ContentValue) (copy : ContentValue) (pushed : new ≡ all ++ copy ∷ []) where
+  apart : MergedSoFar all (x ∷ xs) (y ∷ ys) ours theirs
+  apart = subst (λ (l : List ContentValue). MergedSoFar all l (y ∷ ys) ours theirs) lefts (subst (λ (r : List ContentValue). MergedSoFar all left r ours theirs) rights before)
 
   grown : (z : ContentValue) → copy ≡ z → all ++ z ∷ [] ≡ new
   grown z same = sym (pushed ∙ ap (λ (z : ContentValue). all ++ z ∷ []) same)
 
-  pub loop_less : copy ≡ x → content_cmp x y ≡ Less → Progress new xs right ours theirs
+  pub loop_less : copy ≡ x → content_cmp x y ≡ Less → MergedSoFar new xs right ours theirs
   loop_less same less =
-      subst (λ (n : List ContentValue). Progress n xs right ours theirs) (grown x same)
-      (subst (λ (r : List ContentValue). Progress (all ++ x ∷ []) xs r ours theirs) (sym rights) (step_less all ours theirs x y xs ys apart less))
+      subst (λ (n : List ContentValue). MergedSoFar n xs right ours theirs) (grown x same)
+      (subst (λ (r : List ContentValue). MergedSoFar (all ++ x ∷ []) xs r ours theirs) (sym rights) (step_less all ours theirs x y xs ys apart less))
 
-  pub loop_greater : copy ≡ y → content_cmp x y ≡ Greater → Progress new left ys ours theirs
+  pub loop_greater : copy ≡ y → content_cmp x y ≡ Greater → MergedSoFar new left ys ours theirs
   loop_greater same greater =
-      subst (λ (n : List ContentValue). Progress n left ys ours theirs) (grown y same)
-      (subst (λ (l : List ContentValue). Progress (all ++ y ∷ []) l ys ours theirs) (sym lefts) (step_greater all ours theirs x y xs ys apart greater))
+      subst (λ (n : List ContentValue). MergedSoFar n left ys ours theirs) (grown y same)
+      (subst (λ (l : List ContentValue). MergedSoFar (all ++ y ∷ []) l ys ours theirs) (sym lefts) (step_greater all ours theirs x y xs ys apart greater))
 
-  pub loop_equal : copy ≡ x → content_cmp x y ≡ Equal → Progress new xs ys ours theirs
-  loop_equal same equal = subst (λ (n : List ContentValue). Progress n xs ys ours theirs) (grown x same) (step_equal all ours theirs x y xs ys apart equal)
+  pub loop_equal : copy ≡ x → content_cmp x y ≡ Equal → MergedSoFar new xs ys ours theirs
+  loop_equal same equal = subst (λ (n : List ContentValue). MergedSoFar n xs ys ours theirs) (grown x same) (step_equal all ours theirs x y xs ys apart equal)

@@ -9,7 +9,8 @@ use Rattle.pn_join.specs.Naming.{is_name}
 use Rattle.pn_record.specs.BodyGrammar.{body_fits}
 use Rattle.pn_record.specs.Limits.{Field, is_key, is_version}
 use Rattle.pn_record.specs.Grammar.{shape_in, ranges_in, image_in}
-use Rattle.pn_record.specs.Parts.{text_at, numbers_at, fields_at}
+use Rattle.pn_json.specs.Members.{text_at}
+use Rattle.pn_record.specs.Parts.{numbers_at, fields_at}
 use Rattle.pn_record.specs.declared.fault.Member.TheVariants as fault
 use Rattle.pn_record.specs.declared.image.Image.{Image}
 use Rattle.pn_record.proofs.ReadImages.{named_ok}

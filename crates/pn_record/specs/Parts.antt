@@ -1,14 +1,10 @@
 -- The parts of an image, as the members of a value.
-use Rattle.std.specs.Prelude.{ℕ, List, [], Option, option_map, option_and_then, unwrap_or}
+use Rattle.std.specs.Prelude.{ℕ, List, Option, option_map, option_and_then, unwrap_or}
 use Rattle.serde_json.specs.Data.{Data}
-use Rattle.serde_json.specs.Find.{as_str, as_object}
+use Rattle.serde_json.specs.Find.{as_object}
 use Rattle.pn_record.specs.BodyGrammar.{fields_of}
 use Rattle.pn_record.specs.Grammar.{numbers_in}
 use Rattle.pn_record.specs.Limits.{Field}
-
--- the text, or the empty one
-abbrev pub text_at : Option Data → List ℕ
-text_at d = unwrap_or (option_and_then as_str d) []
 
 -- the two numbers of a version, or zeros
 abbrev pub numbers_at : Option Data → ℕ × ℕ

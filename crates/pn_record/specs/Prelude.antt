@@ -6,11 +6,10 @@ pub use Rattle.pn_record.specs.Cells.{SameImages, spell, spell_cell}
 pub use Rattle.pn_record.specs.Coding.{shown_code}
 pub use Rattle.pn_record.specs.Faults.{IsOfValue}
 pub use Rattle.pn_record.specs.Grammar.{image_in}
-pub use Rattle.pn_record.specs.Limits.{FieldValue, greatest, is_field, is_key, max_line_bytes, number_value, text_value}
+pub use Rattle.pn_record.specs.Limits.{FieldValue, is_field, is_key, max_line_bytes, number_value, text_value}
 pub use Rattle.pn_record.specs.Numbers.{holds_number}
 pub use Rattle.pn_record.specs.Older.{NotOlder}
 pub use Rattle.pn_record.specs.Order.{bytes_cmp, value_cmp}
-pub use Rattle.pn_record.specs.Parts.{text_at}
 pub use Rattle.pn_record.specs.Reading.{reading, value_at}
 pub use Rattle.pn_record.specs.Seen.{body_rises}
 pub use Rattle.pn_record.specs.Sets.{CellValue, HasContents, Stamp, cell_joined}

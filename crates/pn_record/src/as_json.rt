@@ -2,19 +2,15 @@
 
 mod content_writer;
 mod marks;
-mod marks_writer;
 mod moved;
 mod ranges;
 mod read;
 mod unchecked;
 mod write;
 
-pub use content_writer::{
-    write_body, write_content, write_contents, write_field_value, write_version,
-};
-pub use marks::{marks_of, marks_value};
-pub use marks_writer::write_marks;
+pub use content_writer::{write_body, write_contents, write_field_value, write_version};
+pub use marks::{marks_of, marks_value, write_marks};
 pub use moved::image_from;
-pub use read::{image_of, read_image, read_value, version_of};
+pub use read::{image_of, read_image, read_value, try_image_from, version_of};
 pub use unchecked::{UncheckedImage, numbers_of, unchecked_image};
-pub use write::{content_value, image_value, record_value, version_value, write_image};
+pub use write::{content_value, image_value, version_value, write_image};

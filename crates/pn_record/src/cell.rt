@@ -7,8 +7,7 @@ ghost use Rattle.pn_record.specs.Sets.{CellValue, set_of, union, cell_joined, Ha
 ghost use Rattle.pn_record.specs.Laws.JoinedCells.{cell_joined-laws};
 ghost use Rattle.pn_record.specs.States.{state_of, is_deletion as deletes};
 
-use crate::gather::gathered;
-use crate::held_contents::HeldContents;
+use crate::held_contents::{HeldContents, merge_contents};
 use crate::{Body, Content, Version};
 use pn_join::{Dup, Join, NoMemory};
 use std::alloc::Global;
@@ -25,7 +24,7 @@ pub struct Cell {
     alloc: Global,
 }
 
-/// What a cell's contents say together.
+/// Whether a record is there, deleted, or in conflict, by all contents of its cell.
 #[derive(Clone, Copy, Debug, PartialEq, Eq)]
 pub enum CellState {
     /// One content, which has fields.
@@ -82,7 +81,7 @@ impl Cell {
         self.contents.as_slice()
     }
 
-    /// What its contents say together.
+    /// Whether the record is there, deleted, or in conflict.
     pub fn state(&self) -> CellState
         ensures { result ≡ state_of self.now }
     {
@@ -152,7 +151,7 @@ impl Join for Cell {
     {
         match self.version().cmp(&other.version()) {
             Ordering::Less => *self = other.dup()?,
-            Ordering::Equal => self.gather(other)?,
+            Ordering::Equal => self.add_contents(other)?,
             Ordering::Greater => {}
         }
         Ok(())
@@ -167,7 +166,7 @@ impl Join for Cell {
         let order = self.version().cmp(&other.version());
         match order {
             Ordering::Less => Ok(Some(other.dup()?)),
-            Ordering::Equal => Ok(self.gathered_with(other)?),
+            Ordering::Equal => Ok(self.with_contents_of(other)?),
             Ordering::Greater => Ok(None),
         }
     }
@@ -175,7 +174,7 @@ impl Join for Cell {
 
 impl Cell {
     // This cell with the contents of another of the same version added. `None` if that adds none.
-    fn gathered_with(&self, other: &Cell) -> Result<Option<Cell>, NoMemory>
+    fn with_contents_of(&self, other: &Cell) -> Result<Option<Cell>, NoMemory>
         ensures gathered { IfOk result (λ cell. unwrap_or cell self.now ≡ (self.now.0, union self.now.1 other.now.1)) }
         ensures differs { IfOk result (λ cell. IfSome cell (λ c. c ≢ self.now)) }
         ensures some { IfOk result (λ cell. HasContents self.now × HasContents other.now × HasContents (unwrap_or cell self.now)) }
@@ -184,7 +183,7 @@ impl Cell {
             return Ok(None);
         }
         let mut both = self.dup()?;
-        both.gather(other)?;
+        both.add_contents(other)?;
         Ok(self.unless_same(both))
     }
 
@@ -203,13 +202,13 @@ impl Cell {
     }
 
     // Adds the contents of another cell of the same version.
-    fn gather(&mut self, other: &Cell) -> Result<(), NoMemory>
+    fn add_contents(&mut self, other: &Cell) -> Result<(), NoMemory>
         ensures ok { OnOk result (self.new ≡ (self.old.0, union self.old.1 other.now.1)) }
         ensures err { OnErr result (self.new ≡ self.old) }
         ensures some { HasContents self.old × HasContents other.now × HasContents self.new }
     {
         if !are_same(self.contents(), other.contents()) {
-            let contents = gathered(
+            let contents = merge_contents(
                 self.alloc,
                 self.contents.as_slice(),
                 other.contents.as_slice(),

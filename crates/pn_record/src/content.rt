@@ -3,13 +3,16 @@
 ghost use Rattle.std.specs.Prelude.{◌≡◌, IsTrue, ◌↔◌, IfSome, IsSome, IfOk, string_bytes, Option, Some, None, length, map};
 ghost use Rattle.std.specs.Ordering.{is_lt, nat_cmp};
 ghost use Rattle.std.specs.Cmp.Lexicographic.{slice_cmp};
+ghost use Rattle.pn_join.specs.Prelude.{is_name};
 ghost use Rattle.pn_record.specs.Bodies.{is_body, is_body as body_fits, fields_fit as all_fit, names_rise as all_rise};
 ghost use Rattle.pn_record.specs.Limits.{is_field as one_fits};
+ghost use Rattle.pn_record.specs.Numbers.{is_numeric, have_number as any_number, holds_number};
 ghost use Rattle.pn_record.specs.Showing.{shown_body, shown_field, shown_ref, shown_value};
 
 use crate::ValueRef;
 use crate::limits::{MAX_FIELD_BYTES, MAX_FIELD_NAME_BYTES, MAX_FIELDS};
-use pn_join::{Name, NoMemory};
+use pn_join::{Dup, Name, NoMemory};
+use std::alloc::Global;
 use std::marker::Model;
 
 /// The value of a field.
@@ -17,7 +20,7 @@ use std::marker::Model;
 pub enum Value {
     /// A whole number. It counts 20 bytes.
     Number(i64),
-    /// At most 4,096 bytes.
+    /// A text of at most 4,096 bytes.
     Text(String),
 }
 
@@ -58,12 +61,29 @@ impl Content {
         ensures made { IfSome result (λ content. content ≡ (shown_body body, master)) }
         ensures exactly { IsSome result ↔ IsTrue (is_body (shown_body body)) }
     {
-        let _named = master.as_str();
+        recall_name(&master);
         if !is_body(&body) {
             return None;
         }
         Some(Content { body, master })
     }
+
+    /// Whether the value of one of the fields is a number.
+    pub fn holds_number(&self) -> bool
+        ensures { result ≡ holds_number self.now }
+    {
+        match &self.body {
+            Body::Fields(fields) => have_number(fields),
+            Body::Deleted => false,
+        }
+    }
+}
+
+// Recalls for the prover that a master is a name.
+fn recall_name(master: &Name)
+    ensures { IsTrue (is_name master.now) }
+{
+    let _ = master.as_str();
 }
 
 fn is_body(body: &Body) -> bool
@@ -122,13 +142,69 @@ fn is_below(field: &(String, Value), next: &(String, Value)) -> bool
 }
 
 impl Value {
-    /// An equal value.
-    pub fn copy(&self) -> Result<Value, NoMemory>
+    /// An equal value with a text of its own.
+    pub fn dup(&self) -> Result<Value, NoMemory>
         ensures { IfOk result (λ copy. shown_value copy ≡ shown_value self.now) }
     {
         match self {
             Value::Number(number) => Ok(Value::Number(*number)),
             Value::Text(text) => Ok(Value::Text(text.clone()?)),
         }
+    }
+}
+
+impl Dup for Content {
+    fn dup(&self) -> Result<Content, NoMemory>
+        ensures { IfOk result (λ copy. copy ≡ self.now) }
+    {
+        Ok(Content {
+            body: dup_body(&self.body)?,
+            master: self.master,
+        })
+    }
+}
+
+fn dup_body(body: &Body) -> Result<Body, NoMemory>
+    ensures { IfOk result (λ copy. shown_body copy ≡ shown_body body.now) }
+{
+    match body {
+        Body::Deleted => Ok(Body::Deleted),
+        Body::Fields(fields) => Ok(Body::Fields(dup_fields(*fields.allocator(), fields)?)),
+    }
+}
+
+fn dup_fields(alloc: Global, fields: &[(String, Value)]) -> Result<Vec<(String, Value)>, NoMemory>
+    ensures { IfOk result (λ copy. map shown_field copy.items ≡ map shown_field fields.now) }
+{
+    let mut copy = Vec::with_capacity(alloc, fields.len())?;
+    for field in fields {
+        copy.push(dup_field(field)?)?;
+    }
+    Ok(copy)
+}
+
+fn dup_field(field: &(String, Value)) -> Result<(String, Value), NoMemory>
+    ensures { IfOk result (λ copy. shown_field copy ≡ shown_field field.now) }
+{
+    Ok((field.0.clone()?, field.1.dup()?))
+}
+
+fn have_number(fields: &[(String, Value)]) -> bool
+    ensures { result ≡ any_number (map shown_field fields.now) }
+{
+    for field in fields {
+        if is_number(&field.1) {
+            return true;
+        }
+    }
+    false
+}
+
+fn is_number(value: &Value) -> bool
+    ensures { result ≡ is_numeric (shown_value value.now) }
+{
+    match value {
+        Value::Number(_) => true,
+        Value::Text(_) => false,
     }
 }

@@ -53,10 +53,20 @@ impl Key {
         if !Key::fits(text) {
             return Err(KeyFault::OutOfRange);
         }
-        match KeyText::of(alloc, text) {
-            Ok(text) => Ok(Key { text }),
+        match Key::of_fitting(alloc, text) {
+            Ok(key) => Ok(key),
             Err(_) => Err(KeyFault::Memory),
         }
+    }
+
+    /// Copies a text that has 1 to 256 bytes, as `fits` says.
+    pub fn of_fitting(alloc: Global, text: &str) -> Result<Key, NoMemory>
+        requires { IsTrue (is_key_text text.now) }
+        ensures { IfOk result (λ key. key ≡ text.now) }
+    {
+        Ok(Key {
+            text: KeyText::of(alloc, text)?,
+        })
     }
 
     /// Whether a text is a key.
@@ -80,7 +90,7 @@ impl Dup for Key {
         ensures { IfOk result (λ copy. copy ≡ self.now) }
     {
         Ok(Key {
-            text: self.text.copy_text()?,
+            text: self.text.dup()?,
         })
     }
 }

@@ -1,14 +1,15 @@
-//! The text of a key. A short one is held in place.
+//! The text of a key, which is held in place where it is short, and else in a string.
 
 ghost use Rattle.std.specs.Prelude.{◌≡◌, nat_le, length, IsTrue, IfOk, IsOk};
 ghost use Rattle.pn_record.specs.Held.{held_text, is_in_place};
-ghost use Rattle.pn_record.specs.Limits.{max_short_bytes};
+ghost use Rattle.pn_record.specs.declared.limits.TheConstants.{MAX_SHORT_BYTES};
 
-use crate::short_text::{MAX_SHORT_BYTES, ShortText};
+use crate::limits::MAX_SHORT_BYTES;
+use crate::short_text::ShortText;
 use pn_join::NoMemory;
 use std::alloc::Global;
 
-/// A text, in place where it is short.
+/// The text of a key. Which form it has is decided by its length alone.
 #[derive(Debug, Drop)]
 pub enum KeyText {
     /// At most 31 bytes.
@@ -18,11 +19,11 @@ pub enum KeyText {
 }
 
 impl KeyText {
-    /// Copies a text. A short one always succeeds.
+    /// Copies a text. For a short one no memory is taken, so that it always succeeds.
     pub fn of(alloc: Global, text: &str) -> Result<KeyText, NoMemory>
         ensures copied { IfOk result (λ held. held_text held ≡ text.now) }
-        ensures in_place { IfOk result (λ held. is_in_place held ≡ nat_le (length text.now) max_short_bytes) }
-        ensures always { IsTrue (nat_le (length text.now) max_short_bytes) → IsOk result }
+        ensures in_place { IfOk result (λ held. is_in_place held ≡ nat_le (length text.now) MAX_SHORT_BYTES) }
+        ensures always { IsTrue (nat_le (length text.now) MAX_SHORT_BYTES) → IsOk result }
     {
         if text.len() <= MAX_SHORT_BYTES {
             Ok(KeyText::Short(ShortText::of(text)))
@@ -31,7 +32,7 @@ impl KeyText {
         }
     }
 
-    /// The text.
+    /// The text as a slice, wherever it is held.
     pub fn as_str(&self) -> &str
         ensures { result.now ≡ held_text self.now }
     {
@@ -41,14 +42,14 @@ impl KeyText {
         }
     }
 
-    /// An equal text. A short one always succeeds.
-    pub fn copy_text(&self) -> Result<KeyText, NoMemory>
+    /// An equal text of its own. For a short one no memory is taken, so that it always succeeds.
+    pub fn dup(&self) -> Result<KeyText, NoMemory>
         ensures equal { IfOk result (λ copy. held_text copy ≡ held_text self.now) }
         ensures in_place { IfOk result (λ copy. is_in_place copy ≡ is_in_place self.now) }
         ensures always { IsTrue (is_in_place self.now) → IsOk result }
     {
         match self {
-            KeyText::Short(text) => Ok(KeyText::Short(text.copy_bytes())),
+            KeyText::Short(text) => Ok(KeyText::Short(text.dup())),
             KeyText::Long(text) => Ok(KeyText::Long(text.clone()?)),
         }
     }

@@ -6,17 +6,13 @@
 mod as_json;
 mod cell;
 mod content;
-mod copy;
 mod fault;
-mod gather;
 mod held_contents;
 mod image;
-pub mod image_laws;
 mod key;
 mod key_text;
 pub mod laws;
 pub mod limits;
-mod numbers;
 mod order;
 mod records;
 mod short_text;
@@ -25,15 +21,14 @@ mod version;
 
 pub use as_json::{
     UncheckedImage, content_value, image_from, image_of, image_value, marks_of, marks_value,
-    numbers_of, read_image, read_value, record_value, unchecked_image, version_of, version_value,
-    write_body, write_content, write_contents, write_field_value, write_image, write_marks,
-    write_version,
+    numbers_of, read_image, read_value, try_image_from, unchecked_image, version_of, version_value,
+    write_body, write_contents, write_field_value, write_image, write_marks, write_version,
 };
 pub use cell::{Cell, CellState};
 pub use content::{Body, Content, Value, is_field};
 pub use fault::{ImageFault, Member};
 pub use image::Image;
 pub use key::{Key, KeyFault};
-pub use records::{Records, join_and_tell, join_records, take_image};
+pub use records::{Records, add_image, join_and_tell, join_records};
 pub use value_ref::{ValueRef, value_of};
 pub use version::Version;

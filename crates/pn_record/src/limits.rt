@@ -15,8 +15,11 @@ pub const MAX_FIELD_NAME_BYTES: usize = 64;
 /// The longest text of a field, in bytes.
 pub const MAX_TEXT_BYTES: usize = 4_096;
 
-/// The bytes that a number counts.
+/// What a number counts among the bytes of all fields.
 pub const NUMBER_BYTES: usize = 20;
 
 /// The most bytes that the names and values of all fields count together.
 pub const MAX_FIELD_BYTES: usize = 8_192;
+
+/// The most bytes of a key that is held in place.
+pub const MAX_SHORT_BYTES: usize = 31;

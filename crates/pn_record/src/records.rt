@@ -14,11 +14,11 @@ use crate::{Cell, Image, Key};
 use pn_join::{Join, NoMemory, Table, TableChange};
 use std::alloc::Global;
 
-/// Cells by key.
+/// The cells of records, by their keys.
 pub type Records = Table<Key, Cell>;
 
 /// Adds an image. An error leaves the records as they were.
-pub fn take_image(alloc: Global, records: &mut Records, image: Image) -> Result<(), NoMemory>
+pub fn add_image(alloc: Global, records: &mut Records, image: Image) -> Result<(), NoMemory>
     ensures ok { OnOk result ((taken : List Image) → Holds records.old taken → Holds records.new (taken ++ image ∷ [])) }
     ensures rising { OnOk result (IsTrue (is_sorted bytes_cmp records.new)) }
     ensures err { OnErr result (records.new ≡ records.old) }
@@ -28,7 +28,8 @@ pub fn take_image(alloc: Global, records: &mut Records, image: Image) -> Result<
         version,
         content,
     } = image;
-    records.join_entry(key, Cell::of(alloc, version, content)?)
+    let cell = Cell::of(alloc, version, content)?;
+    records.join_entry(key, cell)
 }
 
 /// Joins other records into these, which then hold the images of both. An error leaves them as they were.

@@ -1,13 +1,11 @@
-//! Short texts, held in place.
+//! Texts that are short enough to be held in place.
 
 ghost use Rattle.std.specs.Prelude.{◌≡◌, ◌≤◌, length, IsUtf8};
-ghost use Rattle.pn_record.specs.Limits.{max_short_bytes as most};
+ghost use Rattle.pn_record.specs.declared.limits.TheConstants.{MAX_SHORT_BYTES};
 
+use crate::limits::MAX_SHORT_BYTES;
 use std::marker::Model;
 use std::str;
-
-/// The most bytes of a short text.
-pub const MAX_SHORT_BYTES: usize = 31;
 
 /// A text of at most 31 bytes, held in place. Its alignment lets it be copied in whole words.
 #[derive(Debug, Drop)]
@@ -19,19 +17,19 @@ pub struct ShortText {
 
 impl Model for ShortText {
     ghost use Rattle.std.specs.Prelude.{ℕ, List, take, ◌≤◌, IsUtf8};
-    ghost use Rattle.pn_record.specs.Limits.{max_short_bytes};
+    ghost use Rattle.pn_record.specs.declared.limits.TheConstants.{MAX_SHORT_BYTES};
 
     ghost Value = { List ℕ };
 
     ghost view = { λ text. take text.length text.bytes };
 
-    ghost invariant = { λ text. (text.length ≤ max_short_bytes) × IsUtf8 (take text.length text.bytes) };
+    ghost invariant = { λ text. (text.length ≤ MAX_SHORT_BYTES) × IsUtf8 (take text.length text.bytes) };
 }
 
 impl ShortText {
-    /// A copy of a short text.
+    /// Copies a text of at most `MAX_SHORT_BYTES` bytes.
     pub fn of(text: &str) -> ShortText
-        requires short { length text.now ≤ most }
+        requires short { length text.now ≤ MAX_SHORT_BYTES }
         ensures copied { result ≡ text.now }
     {
         let mut bytes = [0; MAX_SHORT_BYTES];
@@ -43,7 +41,7 @@ impl ShortText {
         }
     }
 
-    /// The text.
+    /// The bytes in use, as text.
     pub fn as_str(&self) -> &str
         ensures text { result.now ≡ self.now }
     {
@@ -57,8 +55,8 @@ impl ShortText {
         &self.bytes[..self.length as usize]
     }
 
-    /// An equal text.
-    pub fn copy_bytes(&self) -> ShortText
+    /// An equal text of its own.
+    pub fn dup(&self) -> ShortText
         ensures { result ≡ self.now }
     {
         ShortText {

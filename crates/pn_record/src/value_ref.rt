@@ -1,4 +1,4 @@
-//! Values of fields, borrowed.
+//! Values of fields whose texts are borrowed.
 
 ghost use Rattle.std.specs.Prelude.{◌≡◌, option_map, IfOk};
 ghost use Rattle.serde_json.specs.View.{view};
@@ -13,7 +13,7 @@ use pn_join::NoMemory;
 use pn_json::signed_number_of;
 use std::alloc::Global;
 
-/// The value of a field, borrowed.
+/// The value of a field, whose text is borrowed.
 #[derive(Clone, Copy, Debug, Drop)]
 pub enum ValueRef<'v> {
     /// A whole number.
@@ -53,7 +53,7 @@ impl<'v> ValueRef<'v> {
         }
     }
 
-    /// The value, with a text of its own.
+    /// An equal value, with a text of its own.
     pub fn to_value(self, alloc: Global) -> Result<Value, NoMemory>
         ensures { IfOk result (λ value. shown_value value ≡ shown_ref self.entry) }
     {
@@ -65,7 +65,7 @@ impl<'v> ValueRef<'v> {
 }
 
 impl Value {
-    /// The value, borrowed.
+    /// This value with its text borrowed.
     pub fn as_ref(&self) -> ValueRef<'_>
         ensures { shown_ref result ≡ shown_value self.now }
     {

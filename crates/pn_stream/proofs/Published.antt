@@ -12,7 +12,7 @@ use Rattle.pn_record.proofs.HeldRecords.{tied_keys}
 use Rattle.pn_stream.specs.Positions.{DeliveryValue}
 use Rattle.pn_stream.specs.Brokers.{BrokerRecord, up_to, IsHonest}
 
--- the image is in the list before the place n
+-- the image is in the list before the index n
 pub record Stands (images : List Image) (n : ℕ) (image : Image) : Type 0 where
   pub at : ℕ
   pub below : at < n
@@ -131,11 +131,11 @@ module _ (broker : BrokerRecord) (delivery : DeliveryValue) (image : Image) (hon
   pub is_brought : (at : ℕ) → delivery.first ≤ at + 1 → at + 1 < delivery.first + length delivery.images → at < length stream → get_or stream at image ≡ image → Contains delivery.images image
   is_brought at from to within is =
       let first = pred_is delivery.first honest.0 in
-      let place : before + (at - before) ≡ at = omega (arith, first, from) in
+      let index : before + (at - before) ≡ at = omega (arith, first, from) in
       subst (λ images. Contains images image) (sym honest.1)
       (is_taken (length delivery.images) (drop before stream) image (record {
         at = at - before;
         below = omega (arith, first, from, to);
         within = omega (arith, first, from, within, length-drop before stream);
-        is = get_or-drop before stream (at - before) image ∙ ap (λ p. get_or stream p image) place ∙ is;
+        is = get_or-drop before stream (at - before) image ∙ ap (λ p. get_or stream p image) index ∙ is;
       }))

@@ -10,7 +10,7 @@ use Rattle.pn_stream.specs.Streams.{InStep, Run, FirstLine, NoLine, IsLeft}
 use Rattle.pn_stream.specs.Faults.{Stands}
 use Rattle.pn_stream.specs.Batches.{SoFar, Batch, IsNext}
 use Rattle.pn_stream.specs.declared.fault.StreamFault.{StreamFault}
-use Rattle.pn_stream.specs.declared.next.Found.{Found}
+use Rattle.pn_stream.specs.declared.next.NextImage.{NextImage}
 use Rattle.pn_stream.specs.declared.fault.StreamFault.TheVariants.{Memory}
 
 -- one message more at the end
@@ -70,7 +70,7 @@ on_rest rest part left P is told =
     subst P (sym is.2) at
 
 -- one message more
-pub SoFar-push : (position wanted : ℕ) (front part now : List ℕ) (images : List Image) (found : Found) (first left leaves : Option (List ℕ)) → wanted ≡ position + length images + 1
+pub SoFar-push : (position wanted : ℕ) (front part now : List ℕ) (images : List Image) (found : NextImage) (first left leaves : Option (List ℕ)) → wanted ≡ position + length images + 1
     → IfSome first (λ text. SoFar position (front ++ text) images part left) → IfSome left (λ text. IsNext wanted (part ++ text) (Some found) now leaves)
     → IfSome first (λ text. SoFar position (front ++ text) (images ++ found.image ∷ []) now leaves)
 SoFar-push position wanted front part now images found None left leaves is so next = tt

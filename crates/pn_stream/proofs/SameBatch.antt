@@ -51,24 +51,24 @@ not_both line message fault said refused = neither (sym (message_line_again line
 not_another : (line : List ℕ) (wanted got : ℕ) (image other : Image) → IsMessageLine line (wanted, image) → IsMessageLine line (got, other) → got ≢ wanted → ⊥
 not_another line wanted got image other said stray apart = apart (ap (λ (m : Message). m.0) (message_line_unique line (got, other) (wanted, image) stray said))
 
--- no message in step follows a batch that has room for it
+-- no message in step follows a batch that may give one more
 abbrev Stops : ℕ → ℕ → ℕ → List ℕ → Type 0
 Stops max count position text = (wanted : ℕ) (line rest : List ℕ) (image : Image) → wanted ≡ position + count + 1 → FirstLine text line rest → IsMessageLine line (wanted, image) → count < max → ⊥
 
 stops : (max count position : ℕ) (text : List ℕ) (fault : Option StreamFault) (part : List ℕ) (left : Option (List ℕ)) → IsOfText fault → Ends max max count position text fault part left → Stops max count position text
-stops max count position text None part left of_text ends wanted line rest image is first said room = elim ends.0 [
-  | inl full ↦ omega (arith, full.0, room)
+stops max count position text None part left of_text ends wanted line rest image is first said fewer = elim ends.0 [
+  | inl full ↦ omega (arith, full.0, fewer)
   | inr none ↦ broken line rest (subst IsUnbroken first.text_is none.1.unbroken)
 ]
-stops max count position text (Some Read) part left of_text ends wanted line rest image is first said room = absurd of_text
-stops max count position text (Some Memory) part left of_text ends wanted line rest image is first said room = absurd of_text
-stops max count position text (Some Failed) part left of_text ends wanted line rest image is first said room = absurd ends.1
-stops max count position text (Some LineTooLong) part left of_text ends wanted line rest image is first said room =
+stops max count position text (Some Read) part left of_text ends wanted line rest image is first said fewer = absurd of_text
+stops max count position text (Some Memory) part left of_text ends wanted line rest image is first said fewer = absurd of_text
+stops max count position text (Some Failed) part left of_text ends wanted line rest image is first said fewer = absurd ends.1
+stops max count position text (Some LineTooLong) part left of_text ends wanted line rest image is first said fewer =
     longer_than ends.1.front ends.1.rest line rest ends.1.unbroken (omega (arith, ends.1.long, said.short)) (sym ends.1.text_is ∙ first.text_is)
-stops max count position text (Some (BadMessage at fault)) part left of_text ends wanted line rest image is first said room =
+stops max count position text (Some (BadMessage at fault)) part left of_text ends wanted line rest image is first said fewer =
     let (same, _) = first_unique text ends.1.line line ends.1.rest rest ends.1.first first in
     not_both line (wanted, image) fault said (ap message_at (sym same) ∙ ends.1.refused.1)
-stops max count position text (Some (OutOfStep named got)) part left of_text ends wanted line rest image is first said room =
+stops max count position text (Some (OutOfStep named got)) part left of_text ends wanted line rest image is first said fewer =
     let (same, _) = first_unique text ends.1.line line ends.1.rest rest ends.1.first first in
     let (other, stray) = ends.1.refused.2 in
     not_another line wanted got image other said (subst (λ (l : List ℕ). IsMessageLine l (got, other)) same stray) (λ e. ends.1.refused.1 (e ∙ is))
@@ -95,8 +95,8 @@ same_runs max position text (line ∷ lines) (other ∷ others) (image ∷ image
     let seen : image ≡ show = ap (λ (m : Message). m.1) (message_line_unique line (position + 1, image) (position + 1, show) run.1 (subst (λ (l : List ℕ). IsMessageLine l (position + 1, show)) (sym same) again.1)) in
     let (next, left) = same_runs (max - 1) (position + 1) (text_of lines ++ rest) lines others images shown rest more run.2 again.2 refl after
     (omega (arith, within)) (omega (arith, inside))
-    (λ wanted l r i e first said room. stop wanted l r i (omega (arith, e)) first said (omega (arith, room)))
-    (λ wanted l r i e first said room. halt wanted l r i (omega (arith, e)) first said (omega (arith, room))) in
+    (λ wanted l r i e first said fewer. stop wanted l r i (omega (arith, e)) first said (omega (arith, fewer)))
+    (λ wanted l r i e first said fewer. halt wanted l r i (omega (arith, e)) first said (omega (arith, fewer))) in
     (ap (λ i. i ∷ images) seen ∙ ap (λ l. show ∷ l) next, left)
 same_runs max position text [] others (image ∷ images) shown rest more run again is also within inside stop halt = absurd run
 same_runs max position text (line ∷ lines) others [] shown rest more run again is also within inside stop halt = absurd run
@@ -127,8 +127,8 @@ same_error r e f one two = errors e f (sym one ∙ two)
 
 -- one line is refused by one fault
 one_refusal : (wanted : ℕ) (line : List ℕ) (fault other : StreamFault) → IsOfText (Some fault) → IsOfText (Some other) → Refuses wanted line fault → Refuses wanted line other → fault ≡ other
-one_refusal wanted line (BadMessage at fault) (BadMessage place other) a b one two =
-    ap (λ n. BadMessage n fault) (one.0 ∙ sym two.0) ∙ ap (BadMessage place) (same_error (message_at line) fault other one.1 two.1)
+one_refusal wanted line (BadMessage at fault) (BadMessage named other) a b one two =
+    ap (λ n. BadMessage n fault) (one.0 ∙ sym two.0) ∙ ap (BadMessage named) (same_error (message_at line) fault other one.1 two.1)
 one_refusal wanted line (OutOfStep named got) (OutOfStep name came) a b one two =
     ap (λ n. OutOfStep n got) (one.0 ∙ sym two.0)
     ∙ ap (OutOfStep name) (ap (λ (m : Message). m.0) (message_line_unique line (got, one.2.0) (came, two.2.0) one.2.1 two.2.1))
@@ -155,7 +155,7 @@ one_stands wanted text LineTooLong (BadMessage at fault) a b one two = absurd (l
 one_stands wanted text LineTooLong (OutOfStep named got) a b one two = absurd (long_apart text two.line two.rest two.first two.short one)
 one_stands wanted text (BadMessage at fault) LineTooLong a b one two = absurd (long_apart text one.line one.rest one.first one.short two)
 one_stands wanted text (OutOfStep named got) LineTooLong a b one two = absurd (long_apart text one.line one.rest one.first one.short two)
-one_stands wanted text (BadMessage at fault) (BadMessage place other) a b one two = refused_once wanted text _ _ a b one two
+one_stands wanted text (BadMessage at fault) (BadMessage named other) a b one two = refused_once wanted text _ _ a b one two
 one_stands wanted text (BadMessage at fault) (OutOfStep named got) a b one two = refused_once wanted text _ _ a b one two
 one_stands wanted text (OutOfStep named got) (BadMessage at fault) a b one two = refused_once wanted text _ _ a b one two
 one_stands wanted text (OutOfStep named got) (OutOfStep name came) a b one two = refused_once wanted text _ _ a b one two
@@ -168,8 +168,8 @@ one_stands wanted text fault Failed a b one two = absurd two
 
 -- a batch that ends before a fault does not end without
 only_one_ends : (max count position : ℕ) (text part : List ℕ) (fault : StreamFault) → IsOfText (Some fault) → ((max ≤ count) × (part ≡ [])) ⊎ ((count < max) × NoLine text) → count < max → Stands (position + count + 1) text fault → ⊥
-only_one_ends max count position text part fault of_text (inl full) room stands = omega (arith, full.0, room)
-only_one_ends max count position text part fault of_text (inr none) room stands = apart_from_none (position + count + 1) text fault of_text none.1 stands
+only_one_ends max count position text part fault of_text (inl full) fewer stands = omega (arith, full.0, fewer)
+only_one_ends max count position text part fault of_text (inr none) fewer stands = apart_from_none (position + count + 1) text fault of_text none.1 stands
 
 one_end : (max count position : ℕ) (text : List ℕ) (fault next : Option StreamFault) (part piece : List ℕ) (left leaves : Option (List ℕ)) → IsOfText fault → IsOfText next
     → Ends max max count position text fault part left → Ends max max count position text next piece leaves → fault ≡ next

@@ -2,12 +2,12 @@
 use Rattle.std.proofs.Common.{◌≡◌, ◌≢◌, ℕ, ◌≤◌, ◌^◌, List, [], ◌∷◌, ◌++◌, length, ◌==◌, Bool, true, false, cond, Option, None, Some, IfSome, Result, Ok, Err, IfOk, IfErr, nat_le, refl, sym, ap, ◌∙◌, subst, arith, append_assoc}
 use Rattle.std.proofs.lemmas.Bool.{and_parts, eqb-true, eq-eqb, true≢false}
 use Rattle.std.proofs.lemmas.List.Elements.{All-nil, All-append}
-use Rattle.pn_line.specs.Line.{LineBufferValue, longer, so_far}
+use Rattle.pn_line.specs.Line.{LineBufferValue, with_bytes, so_far}
 use Rattle.pn_line.specs.LineEnd.{ReadsTo}
 use Rattle.pn_line.specs.Reads.{IsUnbroken, Takes}
 use Rattle.pn_line.specs.declared.reading.BoundedEnd.{BoundedEnd}
 use Rattle.pn_line.specs.declared.reading.BoundedEnd.TheVariants.{Newline, EndOfInput, TooLong}
-use Rattle.pn_line.proofs.LineLaws.{kept-short, kept-nil, so_far-append}
+use Rattle.pn_line.proofs.LineLaws.{kept_bytes-short, kept_bytes-nil, so_far-append}
 use Rattle.pn_line.proofs.KnownLaws.{ReadsPart-from_takes, text_of-read_end}
 use Rattle.pn_record.specs.declared.image.Image.{Image}
 use Rattle.pn_stream.specs.MessageLines.{IsMessageLine}
@@ -20,7 +20,7 @@ use Rattle.pn_stream.specs.Steps.{line_ended, image_in_step}
 use Rattle.pn_stream.specs.Faults.{Refuses, Stands}
 use Rattle.pn_stream.specs.Batches.{IsPart, IsNext, part_of}
 use Rattle.pn_stream.specs.declared.fault.StreamFault.{StreamFault}
-use Rattle.pn_stream.specs.declared.next.Found.{Found}
+use Rattle.pn_stream.specs.declared.next.NextImage.{NextImage}
 use Rattle.pn_stream.specs.declared.fault.StreamFault.TheVariants.{Read, LineTooLong, BadMessage, OutOfStep, Memory, Failed}
 
 -- a line that holds a part, by its bytes
@@ -32,7 +32,7 @@ whole : (new : LineBufferValue) (bytes : List ℕ) → new ≡ so_far bytes → 
 whole new bytes is short =
     let count : new.count ≡ length bytes = ap (λ (l : LineBufferValue). l.count) is in
     let fits : length bytes ≤ 65536 = omega (arith, count, short) in
-    (ap (λ (l : LineBufferValue). l.bytes) is ∙ kept-short bytes fits, fits)
+    (ap (λ (l : LineBufferValue). l.bytes) is ∙ kept_bytes-short bytes fits, fits)
 
 -- a line with these bytes, none of them a newline, is a part of one
 part_from : (new : LineBufferValue) (bytes : List ℕ) → new ≡ so_far bytes → new.count ≤ 65536 → IsUnbroken bytes → IsPart new
@@ -43,7 +43,7 @@ part_from new bytes is short unbroken =
 -- what a part grows to is a part
 pub IsPart-more : (line new : LineBufferValue) (left leaves : Option (List ℕ)) → IsPart line → Takes line new left leaves [] → new.count ≤ 65536 → IsPart new
 IsPart-more line new left leaves is takes short =
-    let grown : new ≡ so_far (line.bytes ++ takes.taken) = takes.line ∙ ap (λ (l : LineBufferValue). longer l takes.taken) is.line_is ∙ so_far-append line.bytes takes.taken in
+    let grown : new ≡ so_far (line.bytes ++ takes.taken) = takes.line ∙ ap (λ (l : LineBufferValue). with_bytes l takes.taken) is.line_is ∙ so_far-append line.bytes takes.taken in
     part_from new (line.bytes ++ takes.taken) grown short (All-append (λ b. b ≢ 10) line.bytes takes.taken is.part.unbroken takes.unbroken)
 
 -- before its first byte a line is a part
@@ -52,7 +52,7 @@ IsPart-none line is = part_from line [] is (rw is (omega arith)) (All-nil (λ b.
 
 -- and holds nothing
 pub part-none : (line : LineBufferValue) → line ≡ so_far [] → line.bytes ≡ []
-part-none line is = ap (λ (l : LineBufferValue). l.bytes) is ∙ kept-nil
+part-none line is = ap (λ (l : LineBufferValue). l.bytes) is ∙ kept_bytes-nil
 
 -- at the end of the input no whole line is left
 pub next_end : (wanted : ℕ) (line new : LineBufferValue) (left leaves : Option (List ℕ)) → IsPart line → ReadsTo EndOfInput line new left leaves → IfSome left (λ text. IsNext wanted (line.bytes ++ text) None new.bytes leaves)
@@ -105,7 +105,7 @@ next_line more line new (Some text) leaves is reads =
     })
 
 -- a line that is the message wanted
-pub next_ok : (wanted : ℕ) (part line now : List ℕ) (found : Found) (left leaves : Option (List ℕ)) → IfSome left (λ text. TakesLine (part ++ text) line leaves) → IsMessageLine line (wanted, found.image) → now ≡ []
+pub next_ok : (wanted : ℕ) (part line now : List ℕ) (found : NextImage) (left leaves : Option (List ℕ)) → IfSome left (λ text. TakesLine (part ++ text) line leaves) → IsMessageLine line (wanted, found.image) → now ≡ []
     → IfSome left (λ text. IsNext wanted (part ++ text) (Some found) now leaves)
 next_ok wanted part line now found None leaves takes said none = tt
 next_ok wanted part line now found (Some text) leaves takes said none =

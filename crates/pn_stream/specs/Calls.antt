@@ -1,6 +1,7 @@
 -- What a call for the next messages answers, and the reader after it.
 use Rattle.std.specs.Prelude.{◌≡◌, ◌≢◌, ℕ, ◌+◌, ◌≤◌, List, ◌++◌, length, min, Option, Some, None, Result, Err, IfOk, IfErr, IfSome}
-use Rattle.pn_record.specs.Limits.{greatest, max_line_bytes}
+use Rattle.pn_join.specs.declared.marks.TheConstants.{LAST_POSITION}
+use Rattle.pn_record.specs.Limits.{max_line_bytes}
 use Rattle.pn_stream.specs.Batches.{Stream, Batch}
 use Rattle.pn_stream.specs.Faults.{Stands}
 use Rattle.pn_stream.specs.Positions.{DeliveryValue}
@@ -9,7 +10,7 @@ use Rattle.pn_stream.specs.declared.fault.StreamFault.TheVariants.{Read, Failed}
 
 -- a delivery of the messages after the last position; a fault that follows some of them waits for the next call
 pub record Gives {S : Type 0} (left : S → Option (List ℕ)) (may_fail : Type 0) (least most : ℕ) (old new : Stream S) (delivery : DeliveryValue) : Type 0 where
-  pub value : delivery ≡ record { stream = old.name; first = min (old.position + 1) greatest; images = delivery.images }
+  pub value : delivery ≡ record { stream = old.name; first = min (old.position + 1) LAST_POSITION; images = delivery.images }
   pub within : length delivery.images ≤ most
   pub batch : IfSome (left old.source) (λ text. Batch least most old.position (old.part ++ text) delivery.images new.fault new.part (left new.source))
   pub position : new.position ≡ old.position + length delivery.images

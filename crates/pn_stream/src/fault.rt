@@ -1,4 +1,4 @@
-//! Why a reader returns no further message.
+//! The faults of stream readers.
 
 ghost use Rattle.std.specs.Prelude.{◌≡◌};
 ghost use Rattle.pn_stream.specs.declared.fault.StreamFault.TheVariants.{Memory};

@@ -12,4 +12,4 @@ mod reader;
 pub use delivery::{Delivery, positions_fit};
 pub use fault::StreamFault;
 pub use message::read_message;
-pub use reader::StreamReader;
+pub use reader::{MAX_MESSAGES, StreamReader};

@@ -30,13 +30,13 @@ pub fn read_message(alloc: Global, line: &[u8]) -> Result<(u64, Image), ImageFau
     message_read(alloc, read_value(alloc, line))
 }
 
-// The message that was read, or why no value was.
+// The message of a value that was read, or the fault of reading.
 fn message_read(alloc: Global, read: Result<Value, ImageFault>) -> Result<(u64, Image), ImageFault>
+    ensures unread { IfErr read (λ fault. result ≡ Err fault) }
     ensures found { IfOk read (λ value. IfOk result (λ message. IsMessage (view value) message)) }
     ensures exact { IfOk read (λ value. IsUnless ImageFault.Memory result (message_in (view value))) }
     ensures memory { IfOk read (λ value. IsErrOf result ImageFault.Memory → IsOk (message_in (view value))) }
     ensures faults { IfOk read (λ value. IfErr result IsOfValue) }
-    ensures unread { IfErr read (λ fault. result ≡ Err fault) }
 {
     let value = read?;
     message_of(alloc, value)

@@ -2,7 +2,7 @@
 
 ghost use Rattle.std.specs.Prelude.{◌≡◌, ◌+◌, ◌<◌, ◌≤◌, false, [], ◌∷◌, ◌++◌, length, IfOk, IfErr, IfSome, OnOk, OnSome, OnErr, IsErrOf, IsSome, IsTrue};
 ghost use Rattle.pn_line.specs.Prelude.{so_far, HasShown};
-ghost use Rattle.pn_record.specs.Prelude.{greatest};
+ghost use Rattle.pn_join.specs.declared.marks.TheConstants.{LAST_POSITION};
 ghost use Rattle.pn_stream.specs.Steps.{line_ended, image_in_step};
 ghost use Rattle.pn_stream.specs.MessageLines.{IsMessageLine};
 ghost use Rattle.pn_stream.specs.Faults.{Refuses, Stands};
@@ -19,16 +19,16 @@ use std::io;
 /// How many messages are asked for: at most `most`, and fewer than `least` only where no further whole line is there
 /// or a fault follows.
 #[derive(Clone, Copy, Debug)]
-pub(crate) struct Asked {
+pub(crate) struct BatchSize {
     pub(crate) least: usize,
     pub(crate) most: usize,
 }
 
-impl Asked {
-    // Whether to read on after `count` messages: they are too few, or a further newline was seen and there is room.
+impl BatchSize {
+    // Whether to read on after `count` messages: they are too few, or a further newline was seen and the most is not reached.
     fn wants(self, count: usize, more: bool) -> bool
         requires { self.least ≤ self.most }
-        ensures room { IsTrue result → count < self.most }
+        ensures most { IsTrue result → count < self.most }
         ensures few { IsTrue result → more ≡ false → count < self.least }
         ensures enough { result ≡ false → self.least ≤ count }
     {
@@ -38,7 +38,7 @@ impl Asked {
 
 // The image of a message, and whether a further newline was seen after its line.
 #[derive(Drop)]
-struct Found {
+struct NextImage {
     image: Image,
     more: bool,
 }
@@ -50,32 +50,45 @@ pub(crate) fn next_images<S: Source>(
     held: &mut Option<LineBuffer>,
     source: &mut S,
     position: u64,
-    asked: Asked,
+    size: BatchSize,
     images: &mut Vec<Image>,
 ) -> Result<(), StreamFault>
     requires part { IfSome held.old IsPart }
     requires none { images.old.items ≡ [] }
-    requires position { position ≤ greatest }
-    requires some { 1 ≤ asked.least }
-    requires few { asked.least ≤ asked.most }
-    ensures within { length images.new.items ≤ asked.most }
-    ensures positions { position + length images.new.items ≤ greatest }
+    requires position { position ≤ LAST_POSITION }
+    requires some { 1 ≤ size.least }
+    requires few { size.least ≤ size.most }
+    ensures within { length images.new.items ≤ size.most }
+    ensures positions { position + length images.new.items ≤ LAST_POSITION }
     ensures ok { OnOk result (IfSome (S.left source.old) (λ text.
-        Batch asked.least asked.most position (part_of held.old ++ text) images.new.items None (part_of held.new) (S.left source.new))) }
+        Batch size.least size.most position (part_of held.old ++ text) images.new.items None (part_of held.new) (S.left source.new))) }
     ensures err { IfErr result (λ fault. IfSome (S.left source.old) (λ text.
-        Batch asked.least asked.most position (part_of held.old ++ text) images.new.items (Some fault) (part_of held.new) (S.left source.new))) }
+        Batch size.least size.most position (part_of held.old ++ text) images.new.items (Some fault) (part_of held.new) (S.left source.new))) }
     ensures part { IfSome held.new IsPart }
     ensures read { IsErrOf result StreamFault.Read → S.may_fail }
     ensures not_failed { IsErrOf result StreamFault.Failed → ⊥ }
 {
-    let mut line = held_line(alloc, held)?;
-    gather(alloc, &mut line, source, position, asked, images)?;
+    let mut line = take_line(alloc, held)?;
+    let mut more = false;
+    'images: while size.wants(images.len(), more) {
+        let wanted = position + images.len() as u64 + 1;
+        match next_image(alloc, &mut line, source, wanted)? {
+            Some(next) => {
+                more = next.more;
+                push_image(images, next.image)?;
+            }
+            None => {
+                *held = Some(line);
+                return Ok(());
+            }
+        }
+    }
     *held = Some(line);
     Ok(())
 }
 
 // The line whose part was kept, or a new one.
-fn held_line(alloc: Global, held: &mut Option<LineBuffer>) -> Result<LineBuffer, StreamFault>
+fn take_line(alloc: Global, held: &mut Option<LineBuffer>) -> Result<LineBuffer, StreamFault>
     requires { IfSome held.old IsPart }
     ensures part { IfOk result IsPart }
     ensures front { IfOk result (λ line. line.bytes ≡ part_of held.old) }
@@ -94,44 +107,6 @@ fn new_line(alloc: Global) -> Result<LineBuffer, NoMemory>
     Ok(LineBuffer::new(alloc)?)
 }
 
-// Adds the images of the next messages, of which `line` holds what was read of the first.
-fn gather<S: Source>(
-    alloc: Global,
-    line: &mut LineBuffer,
-    source: &mut S,
-    position: u64,
-    asked: Asked,
-    images: &mut Vec<Image>,
-) -> Result<(), StreamFault>
-    requires part { IsPart line.old }
-    requires none { images.old.items ≡ [] }
-    requires position { position ≤ greatest }
-    requires some { 1 ≤ asked.least }
-    requires few { asked.least ≤ asked.most }
-    ensures within { length images.new.items ≤ asked.most }
-    ensures positions { position + length images.new.items ≤ greatest }
-    ensures ok { OnOk result (IfSome (S.left source.old) (λ text.
-        Batch asked.least asked.most position (line.old.bytes ++ text) images.new.items None line.new.bytes (S.left source.new))) }
-    ensures err { IfErr result (λ fault. IfSome (S.left source.old) (λ text.
-        Batch asked.least asked.most position (line.old.bytes ++ text) images.new.items (Some fault) [] (S.left source.new))) }
-    ensures part { OnOk result (IsPart line.new) }
-    ensures read { IsErrOf result StreamFault.Read → S.may_fail }
-    ensures not_failed { IsErrOf result StreamFault.Failed → ⊥ }
-{
-    let mut more = false;
-    'images: while asked.wants(images.len(), more) {
-        let wanted = position + images.len() as u64 + 1;
-        match next_image(alloc, line, source, wanted)? {
-            Some(found) => {
-                more = found.more;
-                push_image(images, found.image)?;
-            }
-            None => return Ok(()),
-        }
-    }
-    Ok(())
-}
-
 // Adds an image. An error leaves the images as they were.
 fn push_image(images: &mut Vec<Image>, image: Image) -> Result<(), NoMemory>
     ensures ok { OnOk result (images.new.items ≡ images.old.items ++ image ∷ []) }
@@ -147,7 +122,7 @@ fn next_image<S: Source>(
     line: &mut LineBuffer,
     source: &mut S,
     wanted: u64,
-) -> Result<Option<Found>, StreamFault>
+) -> Result<Option<NextImage>, StreamFault>
     requires { IsPart line.old }
     ensures next { IfOk result (λ found. IfSome (S.left source.old) (λ text.
         IsNext wanted (line.old.bytes ++ text) found line.new.bytes (S.left source.new))) }
@@ -157,7 +132,7 @@ fn next_image<S: Source>(
     ensures stands { IfErr result (λ fault. IfSome (S.left source.old) (λ text.
         Stands wanted (line.old.bytes ++ text) fault)) }
     ensures part { OnOk result (IsPart line.new) }
-    ensures position { IfOk result (λ found. IsSome found → wanted ≤ greatest) }
+    ensures position { IfOk result (λ found. IsSome found → wanted ≤ LAST_POSITION) }
     ensures read { IsErrOf result StreamFault.Read → S.may_fail }
     ensures not_failed { IsErrOf result StreamFault.Failed → ⊥ }
 {
@@ -166,7 +141,7 @@ fn next_image<S: Source>(
     };
     let image = image_at(alloc, line.bytes(), wanted)?;
     line.start();
-    Ok(Some(Found { image, more }))
+    Ok(Some(NextImage { image, more }))
 }
 
 // Whether a further newline was seen after the line, if a whole one was read.

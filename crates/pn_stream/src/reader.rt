@@ -1,18 +1,21 @@
 //! Readers of streams: the next messages of a stream in the order of their positions, however its bytes arrive.
 
 ghost use Rattle.std.specs.Prelude.{◌≡◌, ◌≢◌, ◌+◌, ◌≤◌, [], ◌++◌, length, min, IfErr, IfSome, OnOk, IsTrue};
-ghost use Rattle.pn_record.specs.Prelude.{greatest, max_line_bytes};
+ghost use Rattle.pn_record.specs.Prelude.{max_line_bytes};
 ghost use Rattle.pn_stream.specs.Batches.{Batch};
 ghost use Rattle.pn_stream.specs.Calls.{IsCall};
 
 use crate::delivery::Delivery;
 use crate::fault::StreamFault;
-use crate::next::{Asked, next_images};
-use pn_join::{Dup, LAST_POSITION, StreamName};
+use crate::next::{BatchSize, next_images};
+use pn_join::{LAST_POSITION, StreamName};
 use pn_line::{LineBuffer, Source};
 use pn_record::Image;
 use std::alloc::Global;
 use std::marker::Model;
+
+/// The most messages that one call can be asked for.
+pub const MAX_MESSAGES: usize = 1_000;
 
 /// Reads the messages of one stream from any buffered reader, or from bytes in memory.
 #[derive(Drop)]
@@ -29,14 +32,14 @@ pub struct StreamReader<S: Drop> {
 
 impl<S: Drop> Model for StreamReader<S> {
     ghost use Rattle.std.specs.Prelude.{◌≤◌, IfSome};
-    ghost use Rattle.pn_record.specs.Prelude.{greatest};
+    ghost use Rattle.pn_join.specs.declared.marks.TheConstants.{LAST_POSITION};
     ghost use Rattle.pn_stream.specs.Batches.{Stream, IsPart, part_of};
 
     ghost Value = { Stream S };
 
     ghost view = { λ r. record { name = r.name; position = r.position; part = part_of r.line; fault = r.fault; source = r.source } };
 
-    ghost invariant = { λ r. (r.position ≤ greatest) × IfSome r.line IsPart };
+    ghost invariant = { λ r. (r.position ≤ LAST_POSITION) × IfSome r.line IsPart };
 }
 
 #[tactic(auto, using(crate::proofs::Steps::part_within))]
@@ -44,7 +47,7 @@ impl<S: Source + Drop> StreamReader<S> {
     /// A reader of the stream `name` that begins after the position `after`, at most 10^15. Only later calls
     /// take memory.
     pub fn new(alloc: Global, name: StreamName, after: u64, source: S) -> StreamReader<S>
-        requires { after ≤ greatest }
+        requires { after ≤ LAST_POSITION }
         ensures { result ≡ record { name = name; position = after; part = []; fault = None; source = source } }
     {
         StreamReader {
@@ -60,7 +63,7 @@ impl<S: Source + Drop> StreamReader<S> {
     /// The position of the last message returned, at first that of `new`.
     pub fn position(&self) -> u64
         ensures position { result ≡ self.now.position }
-        ensures within { result ≤ greatest }
+        ensures within { result ≤ LAST_POSITION }
     {
         self.position
     }
@@ -81,10 +84,10 @@ impl<S: Source + Drop> StreamReader<S> {
     /// `Failed`. A new reader goes on from `position`.
     pub fn next_batch(&mut self, max: usize) -> Result<Delivery, StreamFault>
         requires some { 1 ≤ max }
-        requires few { max ≤ 1000 }
+        requires few { max ≤ MAX_MESSAGES }
         ensures { IsCall S.left S.may_fail max max self.old result self.new }
     {
-        self.next_asked(Asked {
+        self.next_of_size(BatchSize {
             least: max,
             most: max,
         })
@@ -96,38 +99,38 @@ impl<S: Source + Drop> StreamReader<S> {
     /// Faults come as from `next_batch`.
     pub fn next_ready(&mut self, max: usize) -> Result<Delivery, StreamFault>
         requires some { 1 ≤ max }
-        requires few { max ≤ 1000 }
+        requires few { max ≤ MAX_MESSAGES }
         ensures { IsCall S.left S.may_fail 1 max self.old result self.new }
     {
-        self.next_asked(Asked {
+        self.next_of_size(BatchSize {
             least: 1,
             most: max,
         })
     }
 
-    // The images of the next messages, between the least and the most that were asked for.
-    fn next_asked(&mut self, asked: Asked) -> Result<Delivery, StreamFault>
-        requires some { 1 ≤ asked.least }
-        requires few { asked.least ≤ asked.most }
-        ensures { IsCall S.left S.may_fail asked.least asked.most self.old result self.new }
+    // The images of the next messages, as many as the size says.
+    fn next_of_size(&mut self, size: BatchSize) -> Result<Delivery, StreamFault>
+        requires some { 1 ≤ size.least }
+        requires few { size.least ≤ size.most }
+        ensures { IsCall S.left S.may_fail size.least size.most self.old result self.new }
     {
-        if let Some(fault) = self.waiting() {
+        if let Some(fault) = self.waiting_fault() {
             return Err(self.fail(fault));
         }
-        let (images, fault) = self.take_next(asked);
+        let (images, fault) = self.take_next(size);
         self.settle(fault, images.is_empty())?;
         Ok(self.deliver(images))
     }
 
-    // The fault that the next call returns.
-    fn waiting(&self) -> Option<StreamFault>
+    // The fault that waits for this call, if there is one.
+    fn waiting_fault(&self) -> Option<StreamFault>
         ensures fault { result ≡ self.now.fault }
         ensures part { length self.now.part ≤ max_line_bytes }
     {
         self.fault
     }
 
-    // Returns the fault. No messages come after it.
+    // Answers with the fault. From now on the reader has failed.
     fn fail(&mut self, fault: StreamFault) -> StreamFault
         ensures failed { self.new ≡ record self.old { fault = Some StreamFault.Failed } }
         ensures fault { result ≡ fault }
@@ -137,13 +140,13 @@ impl<S: Source + Drop> StreamReader<S> {
     }
 
     // The images of the next messages, and the fault that follows them, if there is one.
-    fn take_next(&mut self, asked: Asked) -> (Vec<Image>, Option<StreamFault>)
-        requires some { 1 ≤ asked.least }
-        requires few { asked.least ≤ asked.most }
-        ensures within { length result.0.items ≤ asked.most }
-        ensures positions { self.old.position + length result.0.items ≤ greatest }
+    fn take_next(&mut self, size: BatchSize) -> (Vec<Image>, Option<StreamFault>)
+        requires some { 1 ≤ size.least }
+        requires few { size.least ≤ size.most }
+        ensures within { length result.0.items ≤ size.most }
+        ensures positions { self.old.position + length result.0.items ≤ LAST_POSITION }
         ensures run { IfSome (S.left self.old.source) (λ text.
-            Batch asked.least asked.most self.old.position (self.old.part ++ text) result.0.items result.1 self.new.part (S.left self.new.source)) }
+            Batch size.least size.most self.old.position (self.old.part ++ text) result.0.items result.1 self.new.part (S.left self.new.source)) }
         ensures read { result.1 ≡ Some StreamFault.Read → S.may_fail }
         ensures not_failed { result.1 ≢ Some StreamFault.Failed }
         ensures name { self.new.name ≡ self.old.name }
@@ -157,7 +160,7 @@ impl<S: Source + Drop> StreamReader<S> {
             &mut self.line,
             &mut self.source,
             self.position,
-            asked,
+            size,
             &mut images,
         );
         match ended {
@@ -184,16 +187,13 @@ impl<S: Source + Drop> StreamReader<S> {
 
     // A delivery of the images after the last position, which becomes that of the last image.
     fn deliver(&mut self, images: Vec<Image>) -> Delivery
-        requires { self.old.position + length images.items ≤ greatest }
+        requires { self.old.position + length images.items ≤ LAST_POSITION }
         ensures moved { self.new ≡ record self.old { position = self.old.position + length images.items } }
         ensures delivery { result
-            ≡ record { stream = self.old.name; first = min (self.old.position + 1) greatest; images = images.items } }
+            ≡ record { stream = self.old.name; first = min (self.old.position + 1) LAST_POSITION; images = images.items } }
     {
         let first = (self.position + 1).min(LAST_POSITION);
         self.position += images.len() as u64;
-        let Ok(stream) = self.name.dup() else {
-            unreachable!()
-        };
-        Delivery::of(stream, first, images)
+        Delivery::of(self.name, first, images)
     }
 }

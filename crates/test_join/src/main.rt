@@ -1,4 +1,5 @@
-//! Cases of `pn_join`, a line each: `join` of two tables, `least` for an entry below all others, `name` for a name.
+//! Cases of `pn_join`, a line each: `join` of two tables, `entry` for one entry more, `least` for one below all
+//! others, `name` for a name.
 //!
 //! `slice` is for a part of a table, and `cut` for a table that is cut and put together again.
 //!
@@ -12,13 +13,14 @@ use pn_join::Name;
 use slices::{cut, slice};
 use std::alloc::Global;
 use std::test::Fail;
-use tables::{join, least};
+use tables::{entry, join, least};
 use test_kit::answer_lines;
 
 fn main(rt: HostRuntime) -> Result<(), Fail> {
     let alloc = rt.alloc();
     answer_lines(&rt, |line| match line.split_once(' ') {
         Some(("join", tables)) => join(alloc, tables),
+        Some(("entry", table)) => entry(alloc, table),
         Some(("least", table)) => least(alloc, table),
         Some(("name", text)) => name(alloc, text),
         Some(("slice", table)) => slice(alloc, table),

@@ -1,6 +1,6 @@
 //! Slices of a table, and tables that are cut and put together again.
 
-use crate::tables::{Counts, form, table};
+use crate::tables::{NumberTable, form, table};
 use pn_join::NoMemory;
 use std::alloc::Global;
 use std::str::Split;
@@ -28,16 +28,11 @@ pub(crate) fn slice(alloc: Global, text: &str) -> Result<String, Fail> {
 }
 
 // A table cut at an index, and put together again.
-fn cut_at(table: &Counts, place: usize) -> Result<Counts, NoMemory> {
+fn cut_at(table: &NumberTable, index: usize) -> Result<NumberTable, NoMemory> {
     let count = table.len();
-    let place = place.min(count);
-    let front = table.slice(0, place)?;
-    front.followed_by(table, place, count)
-}
-
-// How many leaves a table has.
-fn leaves(table: &Counts) -> usize {
-    table.leaves().count()
+    let index = index.min(count);
+    let front = table.slice(0, index)?;
+    front.followed_by(table, index, count)
 }
 
 /// A table that is cut at one index after another and put together each time; whether leaves were added.
@@ -45,15 +40,15 @@ fn leaves(table: &Counts) -> usize {
 pub(crate) fn cut(alloc: Global, text: &str) -> Result<String, Fail> {
     let mut words = text.split(' ');
     let mut table = table(alloc, &mut words)?;
-    let before = leaves(&table);
+    let before = table.leaves().count();
     for word in words {
-        let place = word.parse::<usize>()?;
-        table = match cut_at(&table, place) {
+        let index = word.parse::<usize>()?;
+        table = match cut_at(&table, index) {
             Ok(table) => table,
-            Err(NoMemory) => cut_at(&table, place)?,
+            Err(NoMemory) => cut_at(&table, index)?,
         };
     }
-    let few = leaves(&table) <= before;
+    let few = table.leaves().count() <= before;
     let form = form(alloc, &table)?;
     Ok(format!(in alloc; "{form}, no more leaves: {few}")?)
 }

@@ -5,7 +5,7 @@ use std::alloc::Global;
 use std::str::Split;
 use std::test::Fail;
 
-pub(crate) type Counts = Table<Highest, Highest>;
+pub(crate) type NumberTable = Table<Highest, Highest>;
 
 fn number(words: &mut Split<'_, char>) -> Result<u64, Fail> {
     match words.next() {
@@ -15,30 +15,31 @@ fn number(words: &mut Split<'_, char>) -> Result<u64, Fail> {
 }
 
 /// The table of a first key, a step and a count.
-pub(crate) fn table(alloc: Global, words: &mut Split<'_, char>) -> Result<Counts, Fail> {
+pub(crate) fn table(alloc: Global, words: &mut Split<'_, char>) -> Result<NumberTable, Fail> {
     let (first, step) = (number(words)?, number(words)?);
-    let mut table = Counts::new(alloc);
-    for place in 0..number(words)? {
-        let key = Highest(first.saturating_add(place.saturating_mul(step)));
+    let mut table = NumberTable::new(alloc);
+    for index in 0..number(words)? {
+        let key = Highest(first.saturating_add(index.saturating_mul(step)));
         table.join_entry(key, key)?;
     }
     Ok(table)
 }
 
-fn key_at(table: &Counts, place: usize) -> Option<u64> {
-    match table.entry_at(place) {
+fn key_at(table: &NumberTable, index: usize) -> Option<u64> {
+    match table.entry_at(index) {
         Some((key, _content)) => Some(key.0),
         None => None,
     }
 }
 
-// Whether the leaves, one after another, are the entries, and each has 1 to 64.
-fn is_in_leaves(table: &Counts) -> bool {
+// Whether the leaves, one after another, are the entries, and each has 1 to 64. The table and its list of leaves
+// have to show the same leaves.
+fn is_in_leaves(table: &NumberTable) -> bool {
     let leaves = table.leaves();
     let mut entries = table.iter();
-    for place in 0..leaves.count() {
-        let leaf = leaves.leaf(place).unwrap_or_default();
-        if leaf.is_empty() || leaf.len() > 64 {
+    for index in 0..leaves.count() {
+        let leaf = table.leaf(index).unwrap_or_default();
+        if leaf.is_empty() || leaf.len() > 64 || leaves.leaf(index) != Some(leaf) {
             return false;
         }
         for (key, _content) in leaf {
@@ -47,11 +48,11 @@ fn is_in_leaves(table: &Counts) -> bool {
             }
         }
     }
-    entries.next().is_none() && leaves.leaf(leaves.count()).is_none()
+    entries.next().is_none() && table.leaf(leaves.count()).is_none()
 }
 
 // The first key, the step and the count of a table, or that it has no such form.
-pub(crate) fn form(alloc: Global, table: &Counts) -> Result<String, Fail> {
+pub(crate) fn form(alloc: Global, table: &NumberTable) -> Result<String, Fail> {
     let first = key_at(table, 0).unwrap_or(0);
     let step = key_at(table, 1).unwrap_or(first).saturating_sub(first);
     let mut wanted = first;
@@ -79,12 +80,36 @@ pub(crate) fn join(alloc: Global, tables: &str) -> Result<String, Fail> {
 }
 
 // The entries of the last leaf.
-fn last_leaf(table: &Counts) -> Option<&[(Highest, Highest)]> {
+fn last_leaf(table: &NumberTable) -> Option<&[(Highest, Highest)]> {
     table.leaf(table.leaves().count().checked_sub(1)?)
 }
 
-/// A table with one entry more, below all others, and whether its last leaf is as it was.
-pub(crate) fn least(alloc: Global, text: &str) -> Result<String, Fail> {
+// With how many equal leaves two tables begin.
+fn count_equal_leaves(one: &NumberTable, other: &NumberTable) -> usize {
+    let leaves = one.leaves();
+    for index in 0..leaves.count() {
+        if leaves.leaf(index) != other.leaves().leaf(index) {
+            return index;
+        }
+    }
+    leaves.count()
+}
+
+// Whether one leaf was changed or cut in two, or the first was made, and all others are as they were.
+fn changes_one_leaf(before: &NumberTable, after: &NumberTable) -> bool {
+    let (old, new) = (before.leaves(), after.leaves());
+    let added = new.count().saturating_sub(old.count());
+    let changed = count_equal_leaves(before, after);
+    for index in changed.saturating_add(1)..old.count() {
+        if old.leaf(index) != new.leaf(index.saturating_add(added)) {
+            return false;
+        }
+    }
+    added <= 1 && old.count() <= new.count()
+}
+
+// A table, and the same with one entry more. Where memory runs out it is joined again.
+fn with_entry(alloc: Global, text: &str) -> Result<(NumberTable, NumberTable), Fail> {
     let mut words = text.split(' ');
     let mut table = table(alloc, &mut words)?;
     let before = table.dup()?;
@@ -92,6 +117,19 @@ pub(crate) fn least(alloc: Global, text: &str) -> Result<String, Fail> {
     if table.join_entry(key, key).is_err() {
         table.join_entry(key, key)?;
     }
+    Ok((before, table))
+}
+
+/// A table with one entry more, below all others, and whether its last leaf is as it was.
+pub(crate) fn least(alloc: Global, text: &str) -> Result<String, Fail> {
+    let (before, table) = with_entry(alloc, text)?;
     let stays = last_leaf(&before) == last_leaf(&table);
     Ok(format!(in alloc; "{} entries, last leaf stays: {stays}", table.len())?)
+}
+
+/// A table with one entry more, and whether that changed one leaf alone.
+pub(crate) fn entry(alloc: Global, text: &str) -> Result<String, Fail> {
+    let (before, table) = with_entry(alloc, text)?;
+    let one = is_in_leaves(&table) && changes_one_leaf(&before, &table);
+    Ok(format!(in alloc; "{} entries, one leaf changed: {one}", table.len())?)
 }

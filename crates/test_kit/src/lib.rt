@@ -6,15 +6,13 @@
 mod asking;
 mod given;
 mod lines;
-mod pieces;
-mod runs;
-mod spelling;
-mod stopping;
+mod piecewise_reader;
+mod reply_runs;
+mod stopping_writer;
 
 pub use asking::{Answer, ask};
 pub use given::{deliveries, image, keys, layout};
-pub use lines::answer_lines;
-pub use pieces::Pieces;
-pub use runs::Runs;
-pub use spelling::spelled;
-pub use stopping::{Stop, Stopping};
+pub use lines::{answer_lines, spell_out};
+pub use piecewise_reader::PiecewiseReader;
+pub use reply_runs::ReplyRuns;
+pub use stopping_writer::{Stop, StoppingWriter};

@@ -8,7 +8,7 @@ mod values;
 use pn_record::{ImageFault, KeyFault, Member, read_image, write_image};
 use std::alloc::Global;
 use std::test::Fail;
-use test_kit::{answer_lines, spelled};
+use test_kit::{answer_lines, spell_out};
 use values::{content, marks, value, version};
 
 fn main(rt: HostRuntime) -> Result<(), Fail> {
@@ -16,7 +16,7 @@ fn main(rt: HostRuntime) -> Result<(), Fail> {
 }
 
 fn answer(alloc: Global, line: &str) -> Result<String, Fail> {
-    let line = spelled(alloc, line)?;
+    let line = spell_out(alloc, line)?;
     match line.as_str().split_once(' ') {
         Some(("image", text)) => image(alloc, text),
         Some(("content", text)) => content(alloc, text),

@@ -7,7 +7,7 @@ use pn_record::{
 use std::alloc::Global;
 use std::test::Fail;
 
-/// The content of an image.
+/// The JSON of an image's content.
 pub(crate) fn content(alloc: Global, line: &str) -> Result<String, Fail> {
     let image = image_of(alloc, &read_value(alloc, line.as_bytes())?)?;
     Ok(content_value(alloc, &image.content)?.to_string(alloc)?)
@@ -29,12 +29,12 @@ pub(crate) fn marks(alloc: Global, text: &str) -> Result<String, Fail> {
 pub(crate) fn value(alloc: Global, text: &str) -> Result<String, Fail> {
     let parsed = read_value(alloc, text.as_bytes())?;
     match value_of(&parsed) {
-        Some(value) => shown(alloc, value),
+        Some(value) => describe(alloc, value),
         None => Ok(String::from_str(alloc, "no value of a field")?),
     }
 }
 
-fn shown(alloc: Global, value: ValueRef<'_>) -> Result<String, Fail> {
+fn describe(alloc: Global, value: ValueRef<'_>) -> Result<String, Fail> {
     let (size, fits) = (value.size(), value.fits());
     match value.to_value(alloc)? {
         Value::Number(number) => Ok(format!(in alloc; "number {number}, {size} bytes, {fits}")?),

@@ -3,7 +3,7 @@
 use std::alloc::Global;
 use std::str::SplitN;
 use std::test::Fail;
-use test_kit::spelled;
+use test_kit::spell_out;
 
 /// A stream's text, after which position it is read, and by how many calls of which kind.
 #[derive(Drop)]
@@ -43,7 +43,7 @@ fn stream(alloc: Global, words: &mut SplitN<'_, char>) -> Result<String, Fail> {
     for at in first..=last {
         push_message(&mut text, at)?;
     }
-    let more = spelled(alloc, words.next().unwrap_or(""))?;
+    let more = spell_out(alloc, words.next().unwrap_or(""))?;
     text.push_str(more.replace(alloc, '|', "\n")?.as_str())?;
     Ok(text)
 }

@@ -12,7 +12,7 @@ mod reading;
 
 use case::Case;
 use pn_stream::{StreamFault, read_message};
-use reading::{cuts, lines, looks, pieces, whole};
+use reading::{read_by_lines, read_in_pieces, read_in_two, read_whole, read_with_a_failing_look};
 use std::alloc::Global;
 use std::test::Fail;
 use test_kit::answer_lines;
@@ -24,7 +24,7 @@ fn main(rt: HostRuntime) -> Result<(), Fail> {
 fn answer(alloc: Global, line: &str) -> Result<String, Fail> {
     match line.split_once(' ') {
         Some(("message", text)) => message(alloc, text),
-        Some((how, text)) => given(alloc, how, &Case::read(alloc, text)?),
+        Some((how, text)) => read_stream(alloc, how, &Case::read(alloc, text)?),
         None => Ok(format!(in alloc; "{}", StreamFault::Memory)?),
     }
 }
@@ -37,13 +37,13 @@ fn message(alloc: Global, line: &str) -> Result<String, Fail> {
     }
 }
 
-// What readers of the stream give.
-fn given(alloc: Global, how: &str, case: &Case) -> Result<String, Fail> {
+// What readers give of the stream, which comes in the way that is named.
+fn read_stream(alloc: Global, how: &str, case: &Case) -> Result<String, Fail> {
     match how {
-        "whole" => whole(alloc, case),
-        "pieces" => pieces(alloc, case),
-        "cuts" => cuts(alloc, case),
-        "looks" => looks(alloc, case),
-        _ => lines(alloc, case),
+        "whole" => read_whole(alloc, case),
+        "pieces" => read_in_pieces(alloc, case),
+        "cuts" => read_in_two(alloc, case),
+        "looks" => read_with_a_failing_look(alloc, case),
+        _ => read_by_lines(alloc, case),
     }
 }

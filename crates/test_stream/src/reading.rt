@@ -1,15 +1,15 @@
 //! What readers give of a stream that comes in many ways, in words.
 
 use crate::case::Case;
-use crate::pipe::{Inbox, Pipe};
+use crate::pipe::{Pipe, PipeBuffer};
 use pn_join::{LAST_POSITION, Name};
 use pn_line::{InMemory, Source};
-use pn_stream::{Delivery, StreamReader};
+use pn_stream::{Delivery, MAX_MESSAGES, StreamReader};
 use std::alloc::Global;
 use std::test::Fail;
-use test_kit::{Pieces, Runs};
+use test_kit::{PiecewiseReader, ReplyRuns};
 
-fn reader<S: Source + Drop>(
+fn new_reader<S: Source + Drop>(
     alloc: Global,
     case: &Case,
     source: S,
@@ -28,14 +28,14 @@ fn push_delivery(text: &mut String, delivery: &Delivery) -> Result<(), Fail> {
     Ok(text.push_str("; ")?)
 }
 
-// What one call gives.
-fn call<S: Source + Drop>(
+// Adds what one call gives.
+fn push_answer<S: Source + Drop>(
     text: &mut String,
     case: &Case,
     reader: &mut StreamReader<S>,
 ) -> Result<(), Fail> {
     let most = usize::try_from(case.most)?;
-    if most < 1 || most > 1_000 {
+    if most < 1 || most > MAX_MESSAGES {
         return Err(Fail::new("no number of messages"));
     }
     let given = if case.is_ready {
@@ -50,80 +50,82 @@ fn call<S: Source + Drop>(
 }
 
 // What all calls give, and where the reader is then.
-fn calls<S: Source + Drop>(alloc: Global, case: &Case, source: S) -> Result<String, Fail> {
-    let mut reader = reader(alloc, case, source)?;
+fn read_all<S: Source + Drop>(alloc: Global, case: &Case, source: S) -> Result<String, Fail> {
+    let mut reader = new_reader(alloc, case, source)?;
     let mut text = String::new(alloc);
     for _ in 0..case.calls {
-        call(&mut text, case, &mut reader)?;
+        push_answer(&mut text, case, &mut reader)?;
     }
     write!(text, "at {}", reader.position())?;
     Ok(text)
 }
 
-/// In memory.
-pub(crate) fn whole(alloc: Global, case: &Case) -> Result<String, Fail> {
-    calls(alloc, case, InMemory::new(case.text.as_bytes()))
+/// What a reader gives of a stream in memory.
+pub(crate) fn read_whole(alloc: Global, case: &Case) -> Result<String, Fail> {
+    read_all(alloc, case, InMemory::new(case.text.as_bytes()))
 }
 
-/// In pieces of each size.
-pub(crate) fn pieces(alloc: Global, case: &Case) -> Result<String, Fail> {
+/// What readers give of a stream that comes in pieces, for pieces of each size.
+pub(crate) fn read_in_pieces(alloc: Global, case: &Case) -> Result<String, Fail> {
     let text = case.text.as_bytes();
-    let mut runs = Runs::new(alloc);
+    let mut runs = ReplyRuns::new(alloc);
     for size in 1..=text.len() {
-        runs.push(calls(alloc, case, Pieces::new(text, size))?)?;
+        runs.push(read_all(alloc, case, PiecewiseReader::new(text, size))?)?;
     }
     runs.text()
 }
 
-/// In pieces of 30 bytes, where a look fails, each of 16 in turn. A message takes three looks.
-pub(crate) fn looks(alloc: Global, case: &Case) -> Result<String, Fail> {
+/// What readers give of a stream in pieces of 30 bytes, of whose first 16 looks one fails, each in turn. A message takes
+/// three looks.
+pub(crate) fn read_with_a_failing_look(alloc: Global, case: &Case) -> Result<String, Fail> {
     let text = case.text.as_bytes();
-    let mut runs = Runs::new(alloc);
+    let mut runs = ReplyRuns::new(alloc);
     for look in 1..17 {
-        runs.push(calls(alloc, case, Pieces::failing(text, 30, look))?)?;
+        runs.push(read_all(alloc, case, PiecewiseReader::failing(text, 30, look))?)?;
     }
     runs.text()
 }
 
-/// Cut in two at each byte. The first call comes before the second part is written.
-pub(crate) fn cuts(alloc: Global, case: &Case) -> Result<String, Fail> {
+/// What readers give of a stream that is cut in two, at each byte in turn. The first call comes before the second part is
+/// written.
+pub(crate) fn read_in_two(alloc: Global, case: &Case) -> Result<String, Fail> {
     let text = case.text.as_bytes();
-    let mut runs = Runs::new(alloc);
+    let mut runs = ReplyRuns::new(alloc);
     for cut in 0..=text.len() {
         let (first, second) = text.split_at(cut);
-        runs.push(in_two(alloc, case, first, second)?)?;
+        runs.push(read_parts(alloc, case, first, second)?)?;
     }
     runs.text()
 }
 
-fn in_two(alloc: Global, case: &Case, first: &[u8], second: &[u8]) -> Result<String, Fail> {
-    let inbox = Inbox::new(first);
-    let mut reader = reader(alloc, case, new_pipe(&inbox, false))?;
+fn read_parts(alloc: Global, case: &Case, first: &[u8], second: &[u8]) -> Result<String, Fail> {
+    let buffer = PipeBuffer::new(first);
+    let mut reader = new_reader(alloc, case, new_pipe(&buffer, false))?;
     let mut text = String::new(alloc);
-    call(&mut text, case, &mut reader)?;
-    inbox.set(second);
-    call(&mut text, case, &mut reader)?;
+    push_answer(&mut text, case, &mut reader)?;
+    buffer.set(second);
+    push_answer(&mut text, case, &mut reader)?;
     Ok(text)
 }
 
-fn new_pipe<'c, 'a>(inbox: &'c Inbox<'a>, waits: bool) -> Pipe<'c, 'a> {
+fn new_pipe<'c, 'a>(buffer: &'c PipeBuffer<'a>, waits: bool) -> Pipe<'c, 'a> {
     Pipe {
-        inbox,
+        buffer,
         shown: &[],
         waits,
     }
 }
 
-/// A line at a time, each written after the call that gave the one before.
-pub(crate) fn lines(alloc: Global, case: &Case) -> Result<String, Fail> {
-    let inbox = Inbox::new(&[]);
-    let mut reader = reader(alloc, case, new_pipe(&inbox, true))?;
+/// What a reader gives of a stream that comes a line at a time, each written after the call that gave the one before.
+pub(crate) fn read_by_lines(alloc: Global, case: &Case) -> Result<String, Fail> {
+    let buffer = PipeBuffer::new(&[]);
+    let mut reader = new_reader(alloc, case, new_pipe(&buffer, true))?;
     let mut text = String::new(alloc);
     let mut rest = case.text.as_bytes();
     for _ in 0..case.calls {
         let (line, later) = rest.split_at(rest.len().min(78));
-        inbox.set(line);
-        call(&mut text, case, &mut reader)?;
+        buffer.set(line);
+        push_answer(&mut text, case, &mut reader)?;
         rest = later;
     }
     Ok(text)

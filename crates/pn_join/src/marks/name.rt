@@ -20,7 +20,7 @@ use thiserror::Error;
 pub const MAX_NAME_BYTES: usize = 32;
 
 /// A name: 1 to 32 bytes of `a` to `z`, `0` to `9` and `-`. Names are ordered by their bytes.
-#[derive(Debug, Drop)]
+#[derive(Clone, Copy, Debug)]
 pub struct Name {
     bytes: [u8; MAX_NAME_BYTES],
     len: usize,
@@ -35,14 +35,18 @@ pub type StreamName = Name;
 pub struct BadName;
 
 impl Model for Name {
-    ghost use Rattle.std.specs.Prelude.{ℕ, List, take, ◌≡◌, ◌≤◌, IsTrue};
-    ghost use Rattle.pn_join.specs.Naming.{is_name, max_name_bytes};
+    ghost use Rattle.std.specs.Prelude.{ℕ, List, take, length};
+    ghost use Rattle.pn_join.specs.Naming.{padded_name, HoldsName};
 
     ghost Value = { List ℕ };
 
     ghost view = { λ name. take name.len name.bytes };
 
-    ghost invariant = { λ name. (name.len ≤ max_name_bytes) × IsTrue (is_name (take name.len name.bytes)) };
+    ghost invariant = { λ name. HoldsName name.bytes name.len };
+
+    ghost inverse = { λ name. record { bytes = padded_name name; len = length name } };
+
+    ghost inverse_ok = { λ name holds i. record { bytes = holds.bytes i; len = holds.len i } };
 }
 
 impl Name {
@@ -111,10 +115,7 @@ impl Dup for Name {
         ensures equal { IfOk result (λ copy. copy ≡ self.now) }
         ensures always { IsOk result }
     {
-        Ok(Name {
-            bytes: self.bytes,
-            len: self.len,
-        })
+        Ok(*self)
     }
 }
 

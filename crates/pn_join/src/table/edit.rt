@@ -4,15 +4,14 @@
 ghost use Rattle.std.specs.Prelude.{◌≡◌, ◌+◌, ◌^◌, ◌<◌, ◌≤◌, [], length, get_or, vec_capacity, IsTrue, IfOk, OnOk, OnErr};
 ghost use Rattle.std.specs.List.{AllByRecursion};
 ghost use Rattle.std.specs.FinMap.{put, is_sorted};
-ghost use Rattle.pn_join.specs.EditPuts.{put_of, puts_in};
-ghost use Rattle.pn_join.specs.Edits.{put_all as all_put, changes_in, AreFew, GoUp, HaveRoom, IsReady, IsReadyAt};
+ghost use Rattle.pn_join.specs.Edits.{put_of, puts_in, put_all, changes_in, AreFew, FitLeaves, GoUp, IsReady, IsReadyAt};
 ghost use Rattle.pn_join.specs.LeafEntries.{leaf_entries, leaves_of};
-ghost use Rattle.pn_join.specs.Leaves.{all_entries, max_leaf_entries, AreEntryCounts};
+ghost use Rattle.pn_join.specs.Leaves.{all_entries, AreEntryCounts};
 
 use crate::table::change::TableChange;
 use crate::table::entry_counts::{raise_between, raise_from};
 use crate::table::leaf::Leaf;
-use crate::table::leaf_join::{MAX_LEAF_ENTRIES, place_in};
+use crate::table::leaf_join::{MAX_LEAF_ENTRIES, binary_search};
 use crate::{Dup, NoMemory};
 use std::alloc::Global;
 
@@ -45,16 +44,16 @@ pub fn take_changes<K: Dup, C: Dup>(
     ensures same { OnOk result (puts_in edits.new.items ≡ puts_in edits.old.items) }
 {
     let mut changes = Vec::with_capacity(alloc, edits.len())?;
-    for place in 0..edits.len() {
-        changes.push_reserved(edits[place].take_change()?);
+    for index in 0..edits.len() {
+        changes.push_reserved(edits[index].take_change()?);
     }
     Ok(changes)
 }
 
-/// Whether the edits are in leaf order, and each leaf has room for one more entry per edit.
+/// Whether the edits are in leaf order, and no leaf gets too many entries by one more for each edit.
 pub fn fits<K: Ord, C>(leaves: &[Leaf<K, C>], edits: &[Edit<K, C>]) -> bool
     requires { AreFew (leaves_of leaves.now) }
-    ensures { IsTrue result → HaveRoom K.cmp (leaves_of leaves.now) edits.now }
+    ensures { IsTrue result → FitLeaves K.cmp (leaves_of leaves.now) edits.now }
 {
     let mut last = 0_usize;
     let mut more = 0_usize;
@@ -75,17 +74,16 @@ pub fn fits<K: Ord, C>(leaves: &[Leaf<K, C>], edits: &[Edit<K, C>]) -> bool
 }
 
 /// The entries of a leaf, where there are none past the last.
-fn entries_at<K, C>(leaves: &[Leaf<K, C>], place: usize) -> &[(K, C)]
-    ensures { result.now ≡ get_or (leaves_of leaves.now) place [] }
+fn entries_at<K, C>(leaves: &[Leaf<K, C>], index: usize) -> &[(K, C)]
+    ensures { result.now ≡ get_or (leaves_of leaves.now) index [] }
 {
-    match leaves.get(place) {
+    match leaves.get(index) {
         Some(leaf) => leaf.entries(),
         None => &[],
     }
 }
 
-/// Puts all values into their leaves, where there is room for them. An error leaves all entries as they
-/// were.
+/// Puts all values into their leaves, which they fit. An error leaves all entries as they were.
 pub fn put_together<K: Ord + Dup, C: Dup>(
     alloc: Global,
     leaves: &mut Vec<Leaf<K, C>>,
@@ -93,23 +91,23 @@ pub fn put_together<K: Ord + Dup, C: Dup>(
     edits: Vec<Edit<K, C>>,
 ) -> Result<(), NoMemory>
     requires few { AreFew (leaves_of leaves.old.items) }
-    requires room { HaveRoom K.cmp (leaves_of leaves.old.items) edits.items }
+    requires fit { FitLeaves K.cmp (leaves_of leaves.old.items) edits.items }
     requires rising { AllByRecursion (λ leaf. IsTrue (is_sorted K.cmp leaf)) (leaves_of leaves.old.items) }
     requires entry_counts { AreEntryCounts (leaves_of leaves.old.items) entry_counts.old.items }
     requires count { length (all_entries (leaves_of leaves.old.items)) + length edits.items < 2 ^ 64 }
-    ensures ok { OnOk result (leaves_of leaves.new.items ≡ all_put K.cmp (leaves_of leaves.old.items) edits.items) }
+    ensures ok { OnOk result (leaves_of leaves.new.items ≡ put_all K.cmp (leaves_of leaves.old.items) edits.items) }
     ensures err { OnErr result (leaves_of leaves.new.items ≡ leaves_of leaves.old.items) }
     ensures entry_counts { AreEntryCounts (leaves_of leaves.new.items) entry_counts.new.items }
 {
-    let places = places_of(alloc, &edits)?;
-    open_all(alloc, leaves, &edits)?;
-    put_all(leaves, entry_counts, edits);
-    close_all(alloc, leaves, &places);
+    let indices = leaf_indices(alloc, &edits)?;
+    open_leaves(alloc, leaves, &edits)?;
+    put_changes(leaves, entry_counts, edits);
+    close_leaves(alloc, leaves, &indices);
     Ok(())
 }
 
 /// Makes the leaves of the edits ready to change. Entries stay the same, also on an error.
-fn open_all<K: Dup, C: Dup>(
+fn open_leaves<K: Dup, C: Dup>(
     alloc: Global,
     leaves: &mut Vec<Leaf<K, C>>,
     edits: &[Edit<K, C>],
@@ -126,89 +124,89 @@ fn open_all<K: Dup, C: Dup>(
 }
 
 /// Puts all values into leaves that are ready, and adds up the entry counts.
-fn put_all<K: Ord + Dup, C: Dup>(
+fn put_changes<K: Ord + Dup, C: Dup>(
     leaves: &mut Vec<Leaf<K, C>>,
     entry_counts: &mut Vec<usize>,
     edits: Vec<Edit<K, C>>,
 )
     requires ready { AllByRecursion (λ edit. IsReadyAt leaves.old.items edit.leaf) edits.items }
-    requires sizes { AreFew (all_put K.cmp (leaves_of leaves.old.items) edits.items) }
+    requires sizes { AreFew (put_all K.cmp (leaves_of leaves.old.items) edits.items) }
     requires order { GoUp 0 edits.items }
     requires rising { AllByRecursion (λ leaf. IsTrue (is_sorted K.cmp leaf)) (leaves_of leaves.old.items) }
     requires entry_counts { AreEntryCounts (leaves_of leaves.old.items) entry_counts.old.items }
     requires count { length (all_entries (leaves_of leaves.old.items)) + length edits.items < 2 ^ 64 }
-    ensures leaves { leaves_of leaves.new.items ≡ all_put K.cmp (leaves_of leaves.old.items) edits.items }
+    ensures leaves { leaves_of leaves.new.items ≡ put_all K.cmp (leaves_of leaves.old.items) edits.items }
     ensures entry_counts { AreEntryCounts (leaves_of leaves.new.items) entry_counts.new.items }
 {
     let mut from = 0_usize;
     let mut more = 0_usize;
     for edit in edits {
-        let place = edit.leaf;
-        raise_between(entry_counts, from, place, more);
-        from = place;
-        let added = put_in(&mut leaves[place], edit.change);
+        let index = edit.leaf;
+        raise_between(entry_counts, from, index, more);
+        from = index;
+        let added = put_change(&mut leaves[index], edit.change);
         more += added;
     }
     raise_from(entry_counts, from, more);
 }
 
 /// Puts a value into a leaf that is ready. Returns how many entries that adds.
-fn put_in<K: Ord + Dup, C: Dup>(leaf: &mut Leaf<K, C>, change: TableChange<K, C>) -> usize
+fn put_change<K: Ord + Dup, C: Dup>(leaf: &mut Leaf<K, C>, change: TableChange<K, C>) -> usize
     requires ready { IsReady leaf.old }
-    requires size { length (put K.cmp change.key change.after (leaf_entries leaf.old)) ≤ max_leaf_entries }
+    requires size { length (put K.cmp change.key change.after (leaf_entries leaf.old)) ≤ MAX_LEAF_ENTRIES }
     requires rising { IsTrue (is_sorted K.cmp (leaf_entries leaf.old)) }
     ensures entries { leaf_entries leaf.new ≡ put K.cmp change.key change.after (leaf_entries leaf.old) }
     ensures ready { IsReady leaf.new }
     ensures more { length (leaf_entries leaf.new) ≡ length (leaf_entries leaf.old) + result }
 {
     match leaf {
-        Leaf::Own(entries) => put_one(entries, change.key, change.after),
+        Leaf::Own(entries) => put_entry(entries, change.key, change.after),
         Leaf::Shared(_) => 0,
     }
 }
 
-fn put_one<K: Ord + Dup, C: Dup>(entries: &mut Vec<(K, C)>, key: K, value: C) -> usize
-    requires room { max_leaf_entries ≤ vec_capacity entries.old }
-    requires size { length (put K.cmp key value entries.old.items) ≤ max_leaf_entries }
+fn put_entry<K: Ord + Dup, C: Dup>(entries: &mut Vec<(K, C)>, key: K, value: C) -> usize
+    requires capacity { MAX_LEAF_ENTRIES ≤ vec_capacity entries.old }
+    requires size { length (put K.cmp key value entries.old.items) ≤ MAX_LEAF_ENTRIES }
     requires rising { IsTrue (is_sorted K.cmp entries.old.items) }
     ensures entries { entries.new.items ≡ put K.cmp key value entries.old.items }
-    ensures room { max_leaf_entries ≤ vec_capacity entries.new }
+    ensures capacity { MAX_LEAF_ENTRIES ≤ vec_capacity entries.new }
     ensures more { length entries.new.items ≡ length entries.old.items + result }
 {
-    match place_in(entries, &key) {
-        Ok(place) => {
-            entries[place].1 = value;
+    match binary_search(entries, &key) {
+        Ok(index) => {
+            entries[index].1 = value;
             0
         }
-        Err(place) => {
-            entries.insert(place, (key, value)).unwrap();
+        Err(index) => {
+            entries.insert(index, (key, value)).unwrap();
             1
         }
     }
 }
 
 /// The leaf indices of the edits.
-fn places_of<K, C>(alloc: Global, edits: &[Edit<K, C>]) -> Result<Vec<usize>, NoMemory> {
-    let mut places = Vec::with_capacity(alloc, edits.len())?;
+fn leaf_indices<K, C>(alloc: Global, edits: &[Edit<K, C>]) -> Result<Vec<usize>, NoMemory> {
+    let mut indices = Vec::with_capacity(alloc, edits.len())?;
     for edit in edits {
-        places.push(edit.leaf)?;
+        indices.push(edit.leaf)?;
     }
-    Ok(places)
+    Ok(indices)
 }
 
 /// Makes these leaves shareable again.
-fn close_all<K: Dup, C: Dup>(alloc: Global, leaves: &mut Vec<Leaf<K, C>>, places: &[usize])
+fn close_leaves<K: Dup, C: Dup>(alloc: Global, leaves: &mut Vec<Leaf<K, C>>, indices: &[usize])
     ensures { leaves_of leaves.new.items ≡ leaves_of leaves.old.items }
 {
-    for place in places {
-        close_at(alloc, leaves, *place);
+    for index in indices {
+        close_leaf(alloc, leaves, *index);
     }
 }
 
-fn close_at<K: Dup, C: Dup>(alloc: Global, leaves: &mut Vec<Leaf<K, C>>, place: usize)
+fn close_leaf<K: Dup, C: Dup>(alloc: Global, leaves: &mut Vec<Leaf<K, C>>, index: usize)
     ensures { leaves_of leaves.new.items ≡ leaves_of leaves.old.items }
 {
-    if place < leaves.len() {
-        leaves[place].close(alloc);
+    if index < leaves.len() {
+        leaves[index].close(alloc);
     }
 }

@@ -32,7 +32,7 @@ impl<'t, K, C> Model for Entries<'t, K, C> {
 
 impl<'t, K, C> Entries<'t, K, C> {
     /// These entries, and then those of the leaves.
-    pub(crate) fn of(entries: &'t [(K, C)], leaves: &'t [Leaf<K, C>]) -> Self
+    pub(crate) fn new(entries: &'t [(K, C)], leaves: &'t [Leaf<K, C>]) -> Self
         ensures { result ≡ entries.now ++ all_entries (leaves_of leaves.now) }
     {
         Entries {

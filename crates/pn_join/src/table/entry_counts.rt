@@ -6,22 +6,22 @@ ghost use Rattle.pn_join.specs.LeafListChanges.{raised_from, FitFrom, counts_wit
 use crate::NoMemory;
 use std::alloc::Global;
 
-/// Adds `more` from `place` on. If the leaf was split, inserts the count at the split.
+/// Adds `more` to the counts from an index on. If the leaf at it was split, inserts the count at the split.
 pub fn add_to_counts<T>(
     entry_counts: &mut Vec<usize>,
-    place: usize,
+    index: usize,
     more: usize,
     end: usize,
     back: &[T],
 )
-    requires within { place < vec_len entry_counts.old }
-    requires room { vec_len entry_counts.old < vec_capacity entry_counts.old }
-    requires fit { FitFrom place more entry_counts.old.items }
-    ensures { entry_counts.new.items ≡ counts_with place more end back.now entry_counts.old.items }
+    requires within { index < vec_len entry_counts.old }
+    requires capacity { vec_len entry_counts.old < vec_capacity entry_counts.old }
+    requires fit { FitFrom index more entry_counts.old.items }
+    ensures { entry_counts.new.items ≡ counts_with index more end back.now entry_counts.old.items }
 {
-    raise_from(entry_counts, place, more);
+    raise_from(entry_counts, index, more);
     if !back.is_empty() {
-        entry_counts.insert(place, end).unwrap();
+        entry_counts.insert(index, end).unwrap();
     }
 }
 
@@ -38,7 +38,7 @@ pub fn raise_from(entry_counts: &mut Vec<usize>, from: usize, by: usize)
 
 /// Adds `by` to the counts from index `from` to before index `to`.
 pub fn raise_between(entry_counts: &mut Vec<usize>, from: usize, to: usize, by: usize)
-    requires places { from ≤ to }
+    requires indices { from ≤ to }
     requires fit { FitFrom from by entry_counts.old.items }
     ensures items { raised_from to by entry_counts.new.items ≡ raised_from from by entry_counts.old.items }
     ensures fit { FitFrom to by entry_counts.new.items }
@@ -49,10 +49,10 @@ pub fn raise_between(entry_counts: &mut Vec<usize>, from: usize, to: usize, by: 
         return;
     }
     let end = to.min(entry_counts.len());
-    let mut place = from;
-    while place < end {
-        entry_counts[place] += by;
-        place += 1;
+    let mut index = from;
+    while index < end {
+        entry_counts[index] += by;
+        index += 1;
     }
 }
 

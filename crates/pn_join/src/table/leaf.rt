@@ -3,7 +3,7 @@
 ghost use Rattle.std.specs.Prelude.{◌≡◌, ◌≤◌, [], length, IfOk, OnOk, OnErr};
 ghost use Rattle.pn_join.specs.Edits.{IsReady};
 ghost use Rattle.pn_join.specs.LeafEntries.{leaf_entries, leaves_of};
-ghost use Rattle.pn_join.specs.Leaves.{begins_below, ends_below, max_leaf_entries};
+ghost use Rattle.pn_join.specs.Leaves.{begins_below, ends_below};
 
 use crate::table::leaf_join::MAX_LEAF_ENTRIES;
 use crate::{Dup, NoMemory};
@@ -62,7 +62,7 @@ pub fn is_last_below<K: Ord, C>(entries: &[(K, C)], key: &K) -> bool
 }
 
 impl<K: Dup, C: Dup> Leaf<K, C> {
-    /// Takes the entries out. Shared ones are copied, with room for a full leaf; an error leaves them in.
+    /// Takes the entries out. Shared ones are copied, with the capacity of a full leaf; an error leaves them in.
     pub fn take(&mut self, alloc: Global) -> Result<Vec<(K, C)>, NoMemory>
         ensures ok { IfOk result (λ entries. entries.items ≡ leaf_entries self.old) }
         ensures err { OnErr result (leaf_entries self.new ≡ leaf_entries self.old) }
@@ -80,16 +80,16 @@ impl<K: Dup, C: Dup> Leaf<K, C> {
         }
     }
 
-    /// Makes it unshared, with room for a full leaf. Its entries stay the same, also on an error.
+    /// Makes it unshared, with the capacity of a full leaf. Its entries stay the same, also on an error.
     pub fn open(&mut self, alloc: Global) -> Result<(), NoMemory>
-        requires { length (leaf_entries self.old) ≤ max_leaf_entries }
+        requires { length (leaf_entries self.old) ≤ MAX_LEAF_ENTRIES }
         ensures same { leaf_entries self.new ≡ leaf_entries self.old }
         ensures ready { OnOk result (IsReady self.new) }
     {
         let mut entries = self.take(alloc)?;
-        let room = entries.reserve(MAX_LEAF_ENTRIES.saturating_sub(entries.len()));
+        let reserved = entries.reserve(MAX_LEAF_ENTRIES.saturating_sub(entries.len()));
         *self = Leaf::Own(entries);
-        Ok(room?)
+        Ok(reserved?)
     }
 
     /// Makes it shareable, if there is memory for that.
@@ -126,16 +126,16 @@ impl<K: Dup, C: Dup> Leaf<K, C> {
     }
 }
 
-/// Copies the entries into a vector with room for at least `room` entries.
+/// Copies the entries into a vector of at least this capacity.
 pub fn copy_entries<K: Dup, C: Dup>(
     alloc: Global,
-    room: usize,
+    capacity: usize,
     entries: &[(K, C)],
 ) -> Result<Vec<(K, C)>, NoMemory>
     ensures { IfOk result (λ copy. copy.items ≡ entries.now) }
 {
     prefetch(entries);
-    let mut copy = Vec::with_capacity(alloc, room.max(entries.len()))?;
+    let mut copy = Vec::with_capacity(alloc, capacity.max(entries.len()))?;
     for (key, content) in entries {
         copy.push_reserved((key.dup()?, content.dup()?));
     }

@@ -3,8 +3,8 @@
 ghost use Rattle.std.specs.Prelude.{◌≡◌, ◌+◌, ◌-◌, ◌<◌, ◌≤◌, [], ◌++◌, length, reverse, take, drop, vec_len, vec_capacity, IsTrue, IfOk, OnOk, OnErr};
 ghost use Rattle.std.specs.FinMap.{is_sorted};
 ghost use Rattle.pn_join.specs.LeafEntries.{leaf_entries};
-ghost use Rattle.pn_join.specs.Leaves.{IsLeaf, max_leaf_entries};
-ghost use Rattle.pn_join.specs.Places.{place_of};
+ghost use Rattle.pn_join.specs.Leaves.{IsLeaf};
+ghost use Rattle.pn_join.specs.Indices.{index_of};
 ghost use Rattle.pn_join.specs.PutInLeaves.{IsPutOf};
 ghost use Rattle.pn_join.specs.Tables.{IsTable};
 
@@ -16,12 +16,12 @@ use std::alloc::Global;
 pub const MAX_LEAF_ENTRIES: usize = 64;
 
 /// How many entries stay in front when a leaf is split.
-const HALF: usize = 32;
+const HALF: usize = MAX_LEAF_ENTRIES / 2;
 
 /// The index of a key among the entries of one leaf.
-pub fn place_in<K: Ord, C>(entries: &[(K, C)], key: &K) -> Result<usize, usize>
+pub fn binary_search<K: Ord, C>(entries: &[(K, C)], key: &K) -> Result<usize, usize>
     requires { IsTrue (is_sorted K.cmp entries.now) }
-    ensures place { result ≡ place_of K.cmp key.now entries.now }
+    ensures index { result ≡ index_of K.cmp key.now entries.now }
 {
     entries.binary_search_by(|(other, _)| other.cmp(key))
 }
@@ -38,15 +38,15 @@ pub fn join_one<K: Ord + Dup, C: Join>(
         entries.old.items entries.new.items) }
     ensures err { OnErr result (entries.new.items ≡ entries.old.items) }
 {
-    match place_in(entries, &key) {
-        Ok(place) => entries[place].1.join_from(&content),
-        Err(place) => Ok(entries.insert(place, (key, content))?),
+    match binary_search(entries, &key) {
+        Ok(index) => entries[index].1.join_from(&content),
+        Err(index) => Ok(entries.insert(index, (key, content))?),
     }
 }
 
 /// Joins a content into that at the key. If that makes too many entries for one leaf, it returns the greater
 /// half. An error leaves the entries as they were.
-fn join_in<K: Ord + Dup, C: Join>(
+fn join_and_split<K: Ord + Dup, C: Join>(
     alloc: Global,
     entries: &mut Vec<(K, C)>,
     key: K,
@@ -57,27 +57,27 @@ fn join_in<K: Ord + Dup, C: Join>(
     requires size { IsLeaf entries.old.items }
     ensures ok { IfOk result (λ back. IsPutOf K.cmp C.meaning C.joined C.valid key content
         entries.old.items (entries.new.items ++ back.items)) }
-    ensures sizes { IfOk result (λ back. IsLeaf entries.new.items × (length back.items ≤ max_leaf_entries)) }
+    ensures sizes { IfOk result (λ back. IsLeaf entries.new.items × (length back.items ≤ MAX_LEAF_ENTRIES)) }
     ensures err { OnErr result (entries.new.items ≡ entries.old.items) }
 {
-    let room = if entries.len() < MAX_LEAF_ENTRIES {
+    let capacity = if entries.len() < MAX_LEAF_ENTRIES {
         0
     } else {
         MAX_LEAF_ENTRIES + 1 - HALF
     };
-    let mut back = Vec::with_capacity(alloc, room)?;
+    let mut back = Vec::with_capacity(alloc, capacity)?;
     join_one(entries, key, content)?;
-    cut(entries, &mut back);
+    split_if_too_long(entries, &mut back);
     Ok(back)
 }
 
 /// Moves the greater half to the other vector if there are too many items for one leaf.
-fn cut<T>(items: &mut Vec<T>, back: &mut Vec<T>)
+fn split_if_too_long<T>(items: &mut Vec<T>, back: &mut Vec<T>)
     requires empty { back.old.items ≡ [] }
-    requires one_more { length items.old.items ≤ max_leaf_entries + 1 }
-    requires room { (max_leaf_entries < length items.old.items) → max_leaf_entries ≤ vec_capacity back.old + 31 }
+    requires one_more { length items.old.items ≤ MAX_LEAF_ENTRIES + 1 }
+    requires capacity { (MAX_LEAF_ENTRIES < length items.old.items) → MAX_LEAF_ENTRIES < vec_capacity back.old + HALF }
     ensures whole { items.new.items ++ back.new.items ≡ items.old.items }
-    ensures sizes { (length items.new.items ≤ max_leaf_entries) × (length back.new.items ≤ max_leaf_entries) }
+    ensures sizes { (length items.new.items ≤ MAX_LEAF_ENTRIES) × (length back.new.items ≤ MAX_LEAF_ENTRIES) }
     ensures some { (0 < length items.old.items) → 0 < length items.new.items }
 {
     if items.len() > MAX_LEAF_ENTRIES {
@@ -87,17 +87,17 @@ fn cut<T>(items: &mut Vec<T>, back: &mut Vec<T>)
 }
 
 /// Moves the items from an index on to the end of the others, last first.
-fn move_from<T>(items: &mut Vec<T>, place: usize, others: &mut Vec<T>)
-    requires within { place ≤ vec_len items.old }
-    requires room { vec_len others.old + (vec_len items.old - place) ≤ vec_capacity others.old }
-    ensures prefix { items.new.items ≡ take place items.old.items }
-    ensures back { others.new.items ≡ others.old.items ++ reverse (drop place items.old.items) }
-    ensures len { vec_len items.new ≡ place }
-    ensures others_len { vec_len others.new ≡ vec_len others.old + (vec_len items.old - place) }
+fn move_from<T>(items: &mut Vec<T>, index: usize, others: &mut Vec<T>)
+    requires within { index ≤ vec_len items.old }
+    requires fits { vec_len others.old + (vec_len items.old - index) ≤ vec_capacity others.old }
+    ensures prefix { items.new.items ≡ take index items.old.items }
+    ensures back { others.new.items ≡ others.old.items ++ reverse (drop index items.old.items) }
+    ensures len { vec_len items.new ≡ index }
+    ensures others_len { vec_len others.new ≡ vec_len others.old + (vec_len items.old - index) }
     ensures capacity { vec_capacity items.new ≡ vec_capacity items.old }
     ensures others_capacity { vec_capacity others.new ≡ vec_capacity others.old }
 {
-    while items.len() > place {
+    while items.len() > index {
         others.push_reserved(items.take_last());
     }
 }
@@ -115,23 +115,23 @@ pub fn join_in_leaf<K: Ord + Dup, C: Join>(
     requires size { IsLeaf (leaf_entries leaf.old) }
     ensures ok { IfOk result (λ back. IsPutOf K.cmp C.meaning C.joined C.valid key content
         (leaf_entries leaf.old) (leaf_entries leaf.new ++ back.items)) }
-    ensures sizes { IfOk result (λ back. IsLeaf (leaf_entries leaf.new) × (length back.items ≤ max_leaf_entries)) }
+    ensures sizes { IfOk result (λ back. IsLeaf (leaf_entries leaf.new) × (length back.items ≤ MAX_LEAF_ENTRIES)) }
     ensures err { OnErr result (leaf_entries leaf.new ≡ leaf_entries leaf.old) }
 {
     let mut entries = leaf.take(alloc)?;
-    let back = join_in(alloc, &mut entries, key, content);
+    let back = join_and_split(alloc, &mut entries, key, content);
     *leaf = Leaf::seal(alloc, entries);
     back
 }
 
-/// Takes out the entries beyond the first 32. An error leaves the leaf's entries as they were.
+/// Takes out the entries beyond the first `HALF`. An error leaves the leaf's entries as they were.
 pub fn cut_leaf<K: Dup, C: Dup>(
     alloc: Global,
     leaf: &mut Leaf<K, C>,
 ) -> Result<Vec<(K, C)>, NoMemory>
     requires { IsLeaf (leaf_entries leaf.old) }
     ensures whole { IfOk result (λ back. leaf_entries leaf.new ++ back.items ≡ leaf_entries leaf.old) }
-    ensures sizes { IfOk result (λ back. IsLeaf (leaf_entries leaf.new) × (length back.items ≤ max_leaf_entries)) }
+    ensures sizes { IfOk result (λ back. IsLeaf (leaf_entries leaf.new) × (length back.items ≤ MAX_LEAF_ENTRIES)) }
     ensures err { OnErr result (leaf_entries leaf.new ≡ leaf_entries leaf.old) }
 {
     let mut back = Vec::with_capacity(alloc, MAX_LEAF_ENTRIES - HALF)?;
@@ -141,13 +141,13 @@ pub fn cut_leaf<K: Dup, C: Dup>(
     Ok(back)
 }
 
-/// Moves the items beyond the first 32 to the other vector.
+/// Moves the items beyond the first `HALF` to the other vector.
 fn halve<T>(items: &mut Vec<T>, back: &mut Vec<T>)
     requires empty { back.old.items ≡ [] }
-    requires few { length items.old.items ≤ max_leaf_entries + 1 }
-    requires room { length items.old.items ≤ vec_capacity back.old + 32 }
+    requires few { length items.old.items ≤ MAX_LEAF_ENTRIES + 1 }
+    requires capacity { length items.old.items ≤ vec_capacity back.old + HALF }
     ensures whole { items.new.items ++ back.new.items ≡ items.old.items }
-    ensures sizes { (length items.new.items ≤ max_leaf_entries) × (length back.new.items ≤ max_leaf_entries) }
+    ensures sizes { (length items.new.items ≤ MAX_LEAF_ENTRIES) × (length back.new.items ≤ MAX_LEAF_ENTRIES) }
     ensures some { (0 < length items.old.items) → 0 < length items.new.items }
 {
     if items.len() > HALF {

@@ -6,7 +6,7 @@ ghost use Rattle.std.specs.List.{prefix_len};
 ghost use Rattle.std.specs.Option.{option_copied};
 ghost use Rattle.pn_join.specs.LeafEntries.{leaf_entries, leaves_of};
 ghost use Rattle.pn_join.specs.Leaves.{all_entries, counts_after, leaf_for, IsLeaf, IsLeafList};
-ghost use Rattle.pn_join.specs.Places.{place_of};
+ghost use Rattle.pn_join.specs.Indices.{index_of};
 ghost use Rattle.pn_join.specs.PutInLeaves.{IsPutOf, ChangesOneLeaf};
 ghost use Rattle.pn_join.specs.LeafListChanges.{with_back};
 ghost use Rattle.pn_join.specs.Tables.{IsTable};
@@ -19,14 +19,14 @@ mod splits;
 use crate::table::entries::Entries;
 use crate::table::entry_counts::{add_to_counts, copy_counts};
 use crate::table::leaf::{Leaf, share_leaves};
-use crate::table::leaf_join::{join_in_leaf, place_in};
+use crate::table::leaf_join::{binary_search, join_in_leaf};
 use crate::table::leaf_list::search::{copy_keys, insert_last_key};
 use crate::{Dup, Join, NoMemory};
 use std::alloc::Global;
 use std::marker::Model;
 
-/// The first capacity of a table's first leaf, in entries.
-const FIRST_ROOM: usize = 4;
+/// The capacity that a table's first leaf begins with, in entries.
+const FIRST_CAPACITY: usize = 4;
 
 /// The leaves of a table, in key order: 1 to 64 entries each, whose keys rise from leaf to leaf.
 #[derive(Drop)]
@@ -85,59 +85,66 @@ impl<K: Ord + Dup, C: Join> LeafList<K, C> {
         self.leaves.len()
     }
 
+    /// Recalls for the prover that these are the leaves of a table.
+    pub(crate) fn recall_leaf_list(&self)
+        ensures { IsLeafList K.cmp C.valid self.now }
+    {
+        let _ = self.leaves.len();
+    }
+
     /// The entries of the leaf at an index. `None` past the last.
-    pub fn leaf(&self, place: usize) -> Option<&[(K, C)]>
-        ensures leaf { option_map (λ leaf. leaf.now) result ≡ slice_get self.now place }
+    pub fn leaf(&self, index: usize) -> Option<&[(K, C)]>
+        ensures leaf { option_map (λ leaf. leaf.now) result ≡ slice_get self.now index }
         ensures leaf_list { IsLeafList K.cmp C.valid self.now }
     {
-        let leaf = self.leaves.get(place)?;
+        let leaf = self.leaves.get(index)?;
         Some(leaf.entries())
     }
 
     /// The entries of the leaf at an index, none past the last.
-    fn entries_of(&self, place: usize) -> &[(K, C)]
-        ensures entries { result.now ≡ get_or self.now place [] }
+    fn entries_of(&self, index: usize) -> &[(K, C)]
+        ensures entries { result.now ≡ get_or self.now index [] }
         ensures leaf_list { IsLeafList K.cmp C.valid self.now }
     {
-        match self.leaves.get(place) {
+        match self.leaves.get(index) {
             Some(leaf) => leaf.entries(),
             None => &[],
         }
     }
 
     /// How many entries come before a leaf.
-    fn start(&self, place: usize) -> usize
-        requires { place ≤ length self.now }
-        ensures start { result ≡ length (all_entries (take place self.now)) }
+    fn start(&self, index: usize) -> usize
+        requires { index ≤ length self.now }
+        ensures start { result ≡ length (all_entries (take index self.now)) }
         ensures fits { length (all_entries self.now) < 2 ^ 64 }
         ensures leaf_list { IsLeafList K.cmp C.valid self.now }
     {
-        if place == 0 {
+        if index == 0 {
             0
         } else {
-            self.entry_counts[place - 1]
+            self.entry_counts[index - 1]
         }
     }
 
     /// The leaf with the entry at an index among all entries.
-    fn leaf_at(&self, place: usize) -> usize
-        ensures leaf { result ≡ prefix_len (λ end. leb end place) (counts_after 0 self.now) }
+    fn leaf_at(&self, index: usize) -> usize
+        ensures leaf { result ≡ prefix_len (λ end. leb end index) (counts_after 0 self.now) }
         ensures within { result ≤ length self.now }
         ensures leaf_list { IsLeafList K.cmp C.valid self.now }
     {
-        self.entry_counts.partition_point(|end| *end <= place)
+        self.entry_counts.partition_point(|end| *end <= index)
     }
 
     /// The index of a key among all entries.
-    pub(crate) fn place_of(&self, key: &K) -> Result<usize, usize>
-        ensures place { result ≡ place_of K.cmp key.now (all_entries self.now) }
+    pub(crate) fn binary_search(&self, key: &K) -> Result<usize, usize>
+        ensures index { result ≡ index_of K.cmp key.now (all_entries self.now) }
         ensures leaf_list { IsLeafList K.cmp C.valid self.now }
     {
         let leaf = self.leaf_for(key);
         let start = self.start(leaf);
-        match place_in(self.entries_of(leaf), key) {
-            Ok(place) => Ok(start + place),
-            Err(place) => Err(start + place),
+        match binary_search(self.entries_of(leaf), key) {
+            Ok(index) => Ok(start + index),
+            Err(index) => Err(start + index),
         }
     }
 
@@ -146,19 +153,19 @@ impl<K: Ord + Dup, C: Join> LeafList<K, C> {
         ensures all { result ≡ all_entries self.now }
         ensures leaf_list { IsLeafList K.cmp C.valid self.now }
     {
-        Entries::of(&[], &self.leaves)
+        Entries::new(&[], &self.leaves)
     }
 
     /// The entries from an index on.
-    pub(crate) fn iter_from(&self, place: usize) -> Entries<'_, K, C>
-        ensures rest { result ≡ drop place (all_entries self.now) }
+    pub(crate) fn iter_from(&self, index: usize) -> Entries<'_, K, C>
+        ensures rest { result ≡ drop index (all_entries self.now) }
         ensures leaf_list { IsLeafList K.cmp C.valid self.now }
     {
-        let leaf = self.leaf_at(place);
+        let leaf = self.leaf_at(index);
         let first = self.entries_of(leaf);
         let before = self.start(leaf);
-        Entries::of(
-            from_on(first, place.saturating_sub(before)),
+        Entries::new(
+            from_on(first, index.saturating_sub(before)),
             from_on(from_on(&self.leaves, leaf), 1),
         )
     }
@@ -176,14 +183,14 @@ impl<K: Ord + Dup, C: Join> LeafList<K, C> {
     }
 
     /// The entry at an index among all entries.
-    pub(crate) fn entry_at(&self, place: usize) -> Option<&(K, C)>
-        ensures entry { option_map (λ e. e.now) result ≡ slice_get (all_entries self.now) place }
+    pub(crate) fn entry_at(&self, index: usize) -> Option<&(K, C)>
+        ensures entry { option_map (λ e. e.now) result ≡ slice_get (all_entries self.now) index }
         ensures leaf_list { IsLeafList K.cmp C.valid self.now }
     {
-        let leaf = self.leaf_at(place);
+        let leaf = self.leaf_at(index);
         entry_of(
             self.entries_of(leaf),
-            place.saturating_sub(self.start(leaf)),
+            index.saturating_sub(self.start(leaf)),
         )
     }
 
@@ -227,7 +234,7 @@ impl<K: Ord + Dup, C: Join> LeafList<K, C> {
         ensures err { OnErr result (self.new ≡ self.old) }
         ensures leaf_list { IsLeafList K.cmp C.valid self.new }
     {
-        let mut entries = Vec::with_capacity(self.alloc(), FIRST_ROOM)?;
+        let mut entries = Vec::with_capacity(self.alloc(), FIRST_CAPACITY)?;
         entries.push_reserved((key, content));
         self.push(Leaf::Own(entries))
     }
@@ -242,50 +249,50 @@ impl<K: Ord + Dup, C: Join> LeafList<K, C> {
         ensures leaf_list { IsLeafList K.cmp C.valid self.new }
     {
         let alloc = self.alloc();
-        let place = self.leaf_for(&key);
-        let start = self.start(place);
-        let before = self.entries_of(place).len();
+        let index = self.leaf_for(&key);
+        let start = self.start(index);
+        let before = self.entries_of(index).len();
         if self.len() == usize::MAX {
             return Err(NoMemory);
         }
         self.leaves.reserve(1)?;
         self.entry_counts.reserve(1)?;
-        let leaf = &mut self.leaves[place];
+        let leaf = &mut self.leaves[index];
         let back = join_in_leaf(alloc, leaf, key, content)?;
         let front = leaf.entries().len();
         let more = front + back.len() - before;
-        add_to_counts(&mut self.entry_counts, place, more, start + front, &back);
-        add_back(alloc, &mut self.leaves, place, back);
-        insert_last_key(&mut self.last_keys, &self.leaves, place);
+        add_to_counts(&mut self.entry_counts, index, more, start + front, &back);
+        add_back(alloc, &mut self.leaves, index, back);
+        insert_last_key(&mut self.last_keys, &self.leaves, index);
         Ok(())
     }
 }
 
 /// The items from an index on.
-fn from_on<T>(items: &[T], place: usize) -> &[T]
-    ensures { result.now ≡ drop place items.now }
+fn from_on<T>(items: &[T], index: usize) -> &[T]
+    ensures { result.now ≡ drop index items.now }
 {
-    items.get(place..).unwrap_or_default()
+    items.get(index..).unwrap_or_default()
 }
 
 /// Adds the entries that were split off a leaf as a leaf after it.
 fn add_back<K: Dup, C: Dup>(
     alloc: Global,
     leaves: &mut Vec<Leaf<K, C>>,
-    place: usize,
+    index: usize,
     back: Vec<(K, C)>,
 )
-    requires within { place < vec_len leaves.old }
-    requires room { vec_len leaves.old < vec_capacity leaves.old }
-    ensures { leaves_of leaves.new.items ≡ with_back place back.items (leaves_of leaves.old.items) }
+    requires within { index < vec_len leaves.old }
+    requires capacity { vec_len leaves.old < vec_capacity leaves.old }
+    ensures { leaves_of leaves.new.items ≡ with_back index back.items (leaves_of leaves.old.items) }
 {
     if !back.is_empty() {
-        leaves.insert(place + 1, Leaf::seal(alloc, back)).unwrap();
+        leaves.insert(index + 1, Leaf::seal(alloc, back)).unwrap();
     }
 }
 
-fn entry_of<T>(entries: &[T], place: usize) -> Option<&T>
-    ensures { option_map (λ e. e.now) result ≡ slice_get entries.now place }
+fn entry_of<T>(entries: &[T], index: usize) -> Option<&T>
+    ensures { option_map (λ e. e.now) result ≡ slice_get entries.now index }
 {
-    entries.get(place)
+    entries.get(index)
 }

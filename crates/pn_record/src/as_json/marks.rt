@@ -5,25 +5,27 @@ ghost use Rattle.std.specs.List.{list_all};
 ghost use Rattle.std.specs.BTreeMap.{IsOrdered};
 ghost use Rattle.serde_json.specs.View.{view, members_view};
 ghost use Rattle.pn_join.specs.Prelude.{Positions, are_positions, is_name};
-ghost use Rattle.pn_json.specs.Prelude.{IsUnless, whole_number};
+ghost use Rattle.pn_json.specs.Prelude.{Appends, IsUnless, value_tokens, whole_number};
 ghost use Rattle.pn_record.specs.Faults.{IsOfValue};
 ghost use Rattle.pn_record.specs.Marks.{IsMarks, is_mark as is_mark_of, all_whole, positions_of, positions_data, marks_data, marks_in};
 
 use crate::{ImageFault, Member};
+use json::Writer;
 use pn_join::{Highest, LAST_POSITION, Marks, Name, NoMemory, Table};
+use pn_json::write_number_member;
 use serde_json::{Map, Value};
 use std::alloc::Global;
 
 /// The marks that a value spells: an object from names to positions of 1 to 10^15. Faults name the member
 /// `at`. `Memory` comes only if the value is marks.
 pub fn marks_of(alloc: Global, value: &Value) -> Result<Marks, ImageFault>
-    ensures found { IfOk result (λ marks. IsMarks (view value.now) marks) }
-    ensures only { (marks : Positions) → IsMarks (view value.now) marks → IsUnless ImageFault.Memory result (Ok marks) }
-
-    // Which fault it is.
     ensures exact { IsUnless ImageFault.Memory result (marks_in (view value.now)) }
     ensures memory { IsErrOf result ImageFault.Memory → IsOk (marks_in (view value.now)) }
     ensures faults { IfErr result IsOfValue }
+
+    // The marks are those whose JSON the value is.
+    ensures found { IfOk result (λ marks. IsMarks (view value.now) marks) }
+    ensures only { (marks : Positions) → IsMarks (view value.now) marks → IsUnless ImageFault.Memory result (Ok marks) }
 {
     checked_marks(alloc, value)
 }
@@ -112,4 +114,16 @@ fn members_of(alloc: Global, marks: &Marks) -> Result<Map<String, Value>, NoMemo
         serde_json::put(&mut members, alloc, name.as_str(), Value::from(position.0))?;
     }
     Ok(members)
+}
+
+/// Writes marks into a line: `{"east":5,"west":2}`.
+pub fn write_marks(writer: &mut Writer, marks: &Marks) -> Result<(), NoMemory>
+    ensures { OnOk result (Appends writer.old writer.new (value_tokens (marks_data marks.now))) }
+{
+    writer.begin_object()?;
+    for (name, position) in marks.iter() {
+        write_number_member(writer, name.as_str(), position.0)?;
+    }
+    writer.end_object()?;
+    Ok(())
 }

@@ -2,29 +2,28 @@
 
 ghost use Rattle.std.specs.Prelude.{◌≡◌, map, Some, option_map, string_bytes, Ok, IfOk, IsOk, IsTrue};
 ghost use Rattle.serde_json.specs.View.{view, members_view};
-ghost use Rattle.pn_json.specs.Prelude.{seen};
+ghost use Rattle.pn_json.specs.Prelude.{seen, text_at};
 ghost use Rattle.pn_record.specs.Bodies.{names_rise as all_rise};
 ghost use Rattle.pn_record.specs.BodyGrammar.{value_or_empty, fields_of};
 ghost use Rattle.pn_record.specs.Grammar.{image_in};
-ghost use Rattle.pn_record.specs.Limits.{is_key};
-ghost use Rattle.pn_record.specs.Parts.{text_at, numbers_at, fields_at};
+ghost use Rattle.pn_record.specs.Parts.{numbers_at, fields_at};
 ghost use Rattle.pn_record.specs.Seen.{body_rises};
 ghost use Rattle.pn_record.specs.Showing.{shown_value, shown_field, shown_body};
 
 use crate::content::Value as FieldValue;
 use crate::{Body, Content, Image, Key, Version, numbers_of};
 use pn_join::{Name, NoMemory};
-use pn_json::{member_from, signed_number_of};
+use pn_json::{member_from, signed_number_of, text_or_empty};
 use serde_json::{Map, Value};
 use std::alloc::Global;
 
-/// The image that a value spells. The names and texts of its fields are moved out of the value.
+/// The image that a value spells, which was checked before. The names and texts of its fields are moved out of the value.
 #[tactic(auto, using(crate::proofs::ImageParts::parts_found))]
 pub fn image_from(alloc: Global, value: Value) -> Result<Image, NoMemory>
     requires { IsOk (image_in (view value)) }
     ensures { IfOk result (λ image. image_in (view value) ≡ Ok image) }
 {
-    let key = key_of(alloc, text_or_empty(value.get("key")))?;
+    let key = Key::of_fitting(alloc, text_or_empty(value.get("key")))?;
     let master = Name::of(text_or_empty(value.get("master")).as_bytes());
     let (generation, number) = numbers_or_zeros(value.get("version"));
     let body = body_from(alloc, member_from(value, "fields"))?;
@@ -35,23 +34,10 @@ pub fn image_from(alloc: Global, value: Value) -> Result<Image, NoMemory>
     })
 }
 
-fn text_or_empty<'v>(value: Option<&'v Value>) -> &'v str
-    ensures { result.now ≡ text_at (seen value.entry) }
-{
-    value.and_then(Value::as_str).unwrap_or("")
-}
-
 fn numbers_or_zeros(value: Option<&Value>) -> (u64, u64)
     ensures { result ≡ numbers_at (seen value.entry) }
 {
     value.and_then(numbers_of).unwrap_or((0, 0))
-}
-
-fn key_of(alloc: Global, text: &str) -> Result<Key, NoMemory>
-    requires { IsTrue (is_key text.now) }
-    ensures { IfOk result (λ key. key ≡ text.now) }
-{
-    Key::of(alloc, text).map_err(|_| NoMemory)
 }
 
 fn body_from(alloc: Global, fields: Option<Value>) -> Result<Body, NoMemory>

@@ -41,7 +41,7 @@ pub fn read_value(alloc: Global, line: &[u8]) -> Result<Value, ImageFault>
     }
 }
 
-// The fault for an error of `serde_json`.
+// What an error of `serde_json` is called here.
 fn fault_of(error: &Error) -> ImageFault
     ensures { (IsMemory error.now × (result ≡ ImageFault.Memory)) ⊎ ((¬ IsMemory error.now) × (result ≡ ImageFault.NotJson)) }
 {
@@ -123,11 +123,12 @@ fn image_read(alloc: Global, read: Result<Value, ImageFault>) -> Result<Image, I
     ensures unread { IfErr read (λ fault. result ≡ Err fault) }
 {
     let value = read?;
-    moved_image(alloc, value)
+    try_image_from(alloc, value)
 }
 
-// The image that a value spells. The names and texts of its fields are moved out of the value.
-fn moved_image(alloc: Global, value: Value) -> Result<Image, ImageFault>
+/// The image that a value spells, as `image_of` gives it. The names and texts of its fields are moved out of the value,
+/// not copied.
+pub fn try_image_from(alloc: Global, value: Value) -> Result<Image, ImageFault>
     ensures found { IfOk result (λ image. IsImage (view value) image) }
     ensures exact { IsUnless ImageFault.Memory result (image_in (view value)) }
     ensures memory { IsErrOf result ImageFault.Memory → IsOk (image_in (view value)) }
@@ -138,15 +139,13 @@ fn moved_image(alloc: Global, value: Value) -> Result<Image, ImageFault>
 }
 
 impl UncheckedImage<'_> {
-    /// The image. Its texts are copied.
+    /// An image with copies of the texts that this one borrows.
     #[tactic(auto, unfolding(crate::specs::Grammar::ranges_in))]
     pub fn image(&self, alloc: Global) -> Result<Image, NoMemory>
         requires { IsOk (ranges_in self.now) }
         ensures { IfOk result (λ image. image ≡ self.now) }
     {
-        let Ok(key) = Key::of(alloc, self.key) else {
-            return Err(NoMemory);
-        };
+        let key = Key::of_fitting(alloc, self.key)?;
         let body = body_of(alloc, self.fields)?;
         let master = Name::of(self.master.as_bytes());
         let (generation, number) = self.version;

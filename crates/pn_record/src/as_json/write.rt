@@ -4,7 +4,7 @@ ghost use Rattle.std.specs.Prelude.{◌≡◌, ◌<◌, length, codes, map, Ok, 
 ghost use Rattle.serde_json.specs.Data.{object, string, member, no_members};
 ghost use Rattle.serde_json.specs.View.{view};
 ghost use Rattle.serde_json.specs.Written.{compact_text};
-ghost use Rattle.pn_record.specs.Bodies.{names_rise, is_content};
+ghost use Rattle.pn_record.specs.Bodies.{names_rise};
 ghost use Rattle.pn_record.specs.Limits.{is_version};
 ghost use Rattle.pn_record.specs.Showing.{shown_ref, shown_field};
 ghost use Rattle.pn_record.specs.Reading.{image_at};
@@ -48,8 +48,8 @@ pub fn image_value(alloc: Global, image: &Image) -> Result<Value, NoMemory>
     record_value(alloc, &image.key, image.version, &image.content)
 }
 
-/// The image with this key, version and content as JSON.
-pub fn record_value(
+// The image with this key, version and content as JSON.
+fn record_value(
     alloc: Global,
     key: &Key,
     version: Version,
@@ -59,19 +59,7 @@ pub fn record_value(
         (λ value. view value ≡ image_data (record { key = key.now; version = version; content = content.now })) }
     ensures limits { OnOk result (IsTrue (is_image (record { key = key.now; version = version; content = content.now }))) }
 {
-    members_value(alloc, key.as_str(), version, content)
-}
-
-fn members_value(
-    alloc: Global,
-    key: &str,
-    version: Version,
-    content: &Content,
-) -> Result<Value, NoMemory>
-    ensures value { IfOk result
-        (λ value. view value ≡ image_data (record { key = key.now; version = version; content = content.now })) }
-    ensures limits { OnOk result (IsTrue (is_version version) × IsTrue (is_content content.now)) }
-{
+    let key = key.as_str();
     let version = version_value(alloc, version)?;
     let master = content.master.as_str();
     let Body::Fields(fields) = &content.body else {

@@ -1,9 +1,9 @@
-//! Joins all entries of another list at once, if each leaf has room for its new entries.
+//! Joins all entries of another list at once, if no leaf gets too many.
 
 ghost use Rattle.std.specs.Prelude.{◌≡◌, ◌≢◌, ◌++◌, false, Some, None, unwrap_or, option_map, IsTrue, IfOk, IfSome, OnOk, OnErr};
 ghost use Rattle.std.specs.FinMap.{find};
 ghost use Rattle.std.specs.Option.{option_copied, option_to_list};
-ghost use Rattle.pn_join.specs.Edits.{changes_in, AreAimed, HaveRoom, IsAimed};
+ghost use Rattle.pn_join.specs.Edits.{changes_in, AreAimed, FitLeaves, IsAimed};
 ghost use Rattle.pn_join.specs.Leaves.{all_entries, leaf_for, IsLeafList};
 ghost use Rattle.pn_join.specs.TableChanges.{AreChanges, AreValid, Changes, puts};
 ghost use Rattle.pn_join.specs.Tables.{optional_joined, IsTable};
@@ -22,7 +22,7 @@ impl<K: Ord + Dup, C: Join> LeafList<K, C> {
         let mut edits = Vec::with_capacity(self.alloc(), other.len())?;
         for (key, content) in other.iter() {
             let edit = self.edit(key, content)?;
-            add(&mut edits, edit)?;
+            push_optional(&mut edits, edit)?;
         }
         Ok(edits)
     }
@@ -34,7 +34,7 @@ impl<K: Ord + Dup, C: Join> LeafList<K, C> {
     {
         let leaf = self.leaf_for(key);
         let before = self.get_in_its_leaf(leaf, key);
-        let Some(after) = joined(before, content)? else {
+        let Some(after) = join_contents(before, content)? else {
             return Ok(None);
         };
         let change = TableChange {
@@ -45,8 +45,8 @@ impl<K: Ord + Dup, C: Join> LeafList<K, C> {
         Ok(Some(Edit { leaf, change }))
     }
 
-    /// Puts all new contents at their keys, and returns true. If splitting each leaf once makes no room for
-    /// them, it changes nothing and returns false.
+    /// Puts all new contents at their keys, and returns true. If they don't fit when
+    /// each full leaf is split once, no entry changes, and it returns false.
     pub(crate) fn put(&mut self, edits: Vec<Edit<K, C>>) -> Result<bool, NoMemory>
         requires aimed { AreAimed K.cmp self.old edits.items }
         requires valid { AreValid C.valid (changes_in edits.items) }
@@ -55,32 +55,32 @@ impl<K: Ord + Dup, C: Join> LeafList<K, C> {
         ensures err { OnErr result (all_entries self.new ≡ all_entries self.old) }
         ensures leaf_list { IsLeafList K.cmp C.valid self.new }
     {
-        if self.has_room(&edits) {
-            self.put_in(edits)?;
+        if self.fits(&edits) {
+            self.put_edits(edits)?;
             return Ok(true);
         }
         self.split_full_leaves(&edits)?;
-        let edits = self.aimed(edits)?;
-        if !self.has_room(&edits) {
+        let edits = self.aim(edits)?;
+        if !self.fits(&edits) {
             return Ok(false);
         }
-        self.put_in(edits)?;
+        self.put_edits(edits)?;
         Ok(true)
     }
 
-    fn has_room(&self, edits: &[Edit<K, C>]) -> bool
-        ensures room { IsTrue result → HaveRoom K.cmp self.now edits.now }
+    fn fits(&self, edits: &[Edit<K, C>]) -> bool
+        ensures fit { IsTrue result → FitLeaves K.cmp self.now edits.now }
         ensures leaf_list { IsLeafList K.cmp C.valid self.now }
     {
-        self.count();
+        self.recall_leaf_list();
         fits(&self.leaves, edits)
     }
 
-    /// Puts all new contents at their keys, for which there is room.
-    fn put_in(&mut self, edits: Vec<Edit<K, C>>) -> Result<(), NoMemory>
+    /// Puts all new contents at their keys, into leaves that they fit.
+    fn put_edits(&mut self, edits: Vec<Edit<K, C>>) -> Result<(), NoMemory>
         requires aimed { AreAimed K.cmp self.old edits.items }
         requires valid { AreValid C.valid (changes_in edits.items) }
-        requires room { HaveRoom K.cmp self.old edits.items }
+        requires fit { FitLeaves K.cmp self.old edits.items }
         ensures ok { OnOk result (all_entries self.new ≡ puts K.cmp (all_entries self.old) (changes_in edits.items)) }
         ensures err { OnErr result (self.new ≡ self.old) }
         ensures leaf_list { IsLeafList K.cmp C.valid self.new }
@@ -94,7 +94,7 @@ impl<K: Ord + Dup, C: Join> LeafList<K, C> {
     }
 }
 
-fn add<T: Drop>(items: &mut Vec<T>, item: Option<T>) -> Result<(), NoMemory>
+fn push_optional<T: Drop>(items: &mut Vec<T>, item: Option<T>) -> Result<(), NoMemory>
     ensures { OnOk result (items.new.items ≡ items.old.items ++ option_to_list item) }
 {
     if let Some(item) = item {
@@ -104,7 +104,7 @@ fn add<T: Drop>(items: &mut Vec<T>, item: Option<T>) -> Result<(), NoMemory>
 }
 
 /// The join of both contents, or `None` if it means what `had` means.
-fn joined<C: Join>(had: Option<&C>, content: &C) -> Result<Option<C>, NoMemory>
+fn join_contents<C: Join>(had: Option<&C>, content: &C) -> Result<Option<C>, NoMemory>
     requires { C.valid content.now }
     ensures some { IfOk result (λ value. IfSome value (λ v. (Some (C.meaning v)
         ≡ optional_joined C.joined (option_map C.meaning (option_copied had.entry)) (Some (C.meaning content.now))) × C.valid v)) }

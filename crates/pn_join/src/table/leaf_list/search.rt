@@ -7,7 +7,7 @@ ghost use Rattle.pn_join.specs.Leaves.{all_entries, ends_below, leaf_for, IsLeaf
 
 use super::LeafList;
 use crate::table::leaf::{Leaf, is_first_below, is_last_below};
-use crate::table::leaf_join::place_in;
+use crate::table::leaf_join::binary_search;
 use crate::{Dup, Join, NoMemory};
 use std::alloc::Global;
 
@@ -33,7 +33,7 @@ impl<K: Ord + Dup, C: Join> LeafList<K, C> {
         if self.belongs(guess, key) {
             return None;
         }
-        self.get_in_its_leaf(self.leaf_searched(key), key)
+        self.get_in_its_leaf(self.search_leaf(key), key)
     }
 
     /// The index of the leaf that a key belongs into.
@@ -45,7 +45,7 @@ impl<K: Ord + Dup, C: Join> LeafList<K, C> {
         if self.belongs(guess, key) {
             return guess;
         }
-        self.leaf_searched(key)
+        self.search_leaf(key)
     }
 
     /// The index of the leaf that a key belongs into, where it is likely to be `guess`.
@@ -59,13 +59,13 @@ impl<K: Ord + Dup, C: Join> LeafList<K, C> {
         self.leaf_for(key)
     }
 
-    /// The leaf that a key probably belongs into, by the fence keys.
+    /// The leaf that a key probably belongs into, by the last keys.
     fn guess(&self, key: &K) -> usize {
         self.last_keys.partition_point(|last| last.cmp(key).is_lt())
     }
 
-    /// The index of the leaf that a key belongs into, without the fence keys.
-    fn leaf_searched(&self, key: &K) -> usize
+    /// The index of the leaf that a key belongs into, without the last keys.
+    fn search_leaf(&self, key: &K) -> usize
         ensures leaf { result ≡ leaf_for K.cmp key.now self.now }
         ensures leaf_list { IsLeafList K.cmp C.valid self.now }
     {
@@ -92,70 +92,70 @@ impl<K: Ord + Dup, C: Join> LeafList<K, C> {
         ensures leaf_list { IsLeafList K.cmp C.valid self.now }
     {
         let entries = self.entries_of(leaf);
-        match place_in(entries, key) {
-            Ok(place) => Some(&entries[place].1),
+        match binary_search(entries, key) {
+            Ok(index) => Some(&entries[index].1),
             Err(_) => None,
         }
     }
 
     /// Whether the key surely belongs into this leaf.
-    fn belongs(&self, place: usize, key: &K) -> bool
-        ensures leaf { IsTrue result → place ≡ leaf_for K.cmp key.now self.now }
+    fn belongs(&self, index: usize, key: &K) -> bool
+        ensures leaf { IsTrue result → index ≡ leaf_for K.cmp key.now self.now }
         ensures leaf_list { IsLeafList K.cmp C.valid self.now }
     {
         let count = self.count();
-        if place >= count {
+        if index >= count {
             return false;
         }
-        if self.previous_ends_below(place, key) {
-            return self.reaches(place, key);
+        if self.previous_ends_below(index, key) {
+            return self.ends_not_below(index, key);
         }
         false
     }
 
     /// Whether the leaf before this one ends below the key, or this is the first. It does if this one begins
     /// below the key.
-    fn previous_ends_below(&self, place: usize, key: &K) -> bool
-        ensures { IsTrue result → 0 < place → ends_below K.cmp key.now (get_or self.now (place - 1) []) ≡ true }
+    fn previous_ends_below(&self, index: usize, key: &K) -> bool
+        ensures { IsTrue result → 0 < index → ends_below K.cmp key.now (get_or self.now (index - 1) []) ≡ true }
     {
-        if place == 0 || is_first_below(self.entries_of(place), key) {
+        if index == 0 || is_first_below(self.entries_of(index), key) {
             return true;
         }
-        is_last_below(self.entries_of(place - 1), key)
+        is_last_below(self.entries_of(index - 1), key)
     }
 
     /// Whether the leaf does not end below the key, or is the last.
-    fn reaches(&self, place: usize, key: &K) -> bool
-        requires { place < length self.now }
-        ensures { IsTrue result → place + 1 < length self.now → ends_below K.cmp key.now (get_or self.now place []) ≡ false }
+    fn ends_not_below(&self, index: usize, key: &K) -> bool
+        requires { index < length self.now }
+        ensures { IsTrue result → index + 1 < length self.now → ends_below K.cmp key.now (get_or self.now index []) ≡ false }
     {
         let count = self.count();
-        if place + 1 == count {
+        if index + 1 == count {
             return true;
         }
-        !is_last_below(self.entries_of(place), key)
+        !is_last_below(self.entries_of(index), key)
     }
 }
 
-/// Adds the last key of a leaf that was split to the fence keys, if there is memory for it.
+/// Adds the last key of a leaf that was split to the last keys, if there is memory for it.
 pub(super) fn insert_last_key<K: Dup, C>(
     last_keys: &mut Vec<K>,
     leaves: &[Leaf<K, C>],
-    place: usize,
+    index: usize,
 ) {
-    if last_keys.len() >= leaves.len().saturating_sub(1) || place > last_keys.len() {
+    if last_keys.len() >= leaves.len().saturating_sub(1) || index > last_keys.len() {
         return;
     }
-    if let Some(Ok(key)) = last_key(leaves, place) {
-        let _ = last_keys.insert(place, key);
+    if let Some(Ok(key)) = last_key(leaves, index) {
+        let _ = last_keys.insert(index, key);
     }
 }
 
 pub(super) fn last_key<K: Dup, C>(
     leaves: &[Leaf<K, C>],
-    place: usize,
+    index: usize,
 ) -> Option<Result<K, NoMemory>> {
-    let (last, _) = leaves.get(place)?.entries().last()?;
+    let (last, _) = leaves.get(index)?.entries().last()?;
     Some(last.dup())
 }
 

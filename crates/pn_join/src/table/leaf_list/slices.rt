@@ -31,7 +31,7 @@ impl<K: Ord + Dup, C: Join> LeafList<K, C> {
         }
         let first = other.leaf_part(from, to)?;
         let taken = from + first.entries().len();
-        self.add(first)?;
+        self.push_or_merge(first)?;
         self.push_parts(other, taken, to)?;
         self.take_last_keys(other, from, to);
         Ok(())
@@ -62,14 +62,14 @@ impl<K: Ord + Dup, C: Join> LeafList<K, C> {
         ensures first { IfOk result (λ leaf. slice_range (all_entries self.now) from to
             ≡ leaf_entries leaf ++ slice_range (all_entries self.now) (from + length (leaf_entries leaf)) to) }
     {
-        let place = self.leaf_at(from);
-        let start = self.start(place);
-        let leaf = &self.leaves[place];
-        part_of(self.alloc(), leaf, from - start, to - start)
+        let index = self.leaf_at(from);
+        let start = self.start(index);
+        let leaf = &self.leaves[index];
+        share_part(self.alloc(), leaf, from - start, to - start)
     }
 
-    /// Adds entries after all others: to the last leaf if it has room for them, otherwise as a leaf of their own.
-    fn add(&mut self, leaf: Leaf<K, C>) -> Result<(), NoMemory>
+    /// Adds entries after all others: to the last leaf if they fit, otherwise as a leaf of their own.
+    fn push_or_merge(&mut self, leaf: Leaf<K, C>) -> Result<(), NoMemory>
         requires table { IsTable K.cmp C.valid (all_entries self.old ++ leaf_entries leaf) }
         requires size { IsLeaf (leaf_entries leaf) }
         ensures { OnOk result (all_entries self.new ≡ all_entries self.old ++ leaf_entries leaf) }
@@ -88,7 +88,7 @@ impl<K: Ord + Dup, C: Join> LeafList<K, C> {
         ensures { OnOk result (all_entries self.new ≡ all_entries self.old ++ (leaf_entries first ++ leaf_entries second)) }
     {
         if first.entries().len() + second.entries().len() <= MAX_LEAF_ENTRIES {
-            return self.push(merged(self.alloc(), first, second)?);
+            return self.push(merge(self.alloc(), first, second)?);
         }
         self.push(first)?;
         self.push(second)
@@ -103,7 +103,7 @@ impl<K: Ord + Dup, C: Join> LeafList<K, C> {
         self.leaves.pop()
     }
 
-    /// Adds the fence keys that are missing, where the last entries are the other's from index `from` to before
+    /// Adds the last keys that are missing, where the last entries are the other's from index `from` to before
     /// index `to`.
     fn take_last_keys(&mut self, other: &Self, from: usize, to: usize)
         ensures { self.new ≡ self.old }
@@ -116,7 +116,7 @@ impl<K: Ord + Dup, C: Join> LeafList<K, C> {
 }
 
 /// A leaf of the entries from index `from` to before index `to` or to the end. A whole leaf is shared.
-fn part_of<K: Dup, C: Dup>(
+fn share_part<K: Dup, C: Dup>(
     alloc: Global,
     leaf: &Leaf<K, C>,
     from: usize,
@@ -136,7 +136,7 @@ fn part_of<K: Dup, C: Dup>(
 }
 
 /// A leaf of the entries of two, the first's before the second's.
-fn merged<K: Dup, C: Dup>(
+fn merge<K: Dup, C: Dup>(
     alloc: Global,
     mut first: Leaf<K, C>,
     mut second: Leaf<K, C>,
@@ -149,7 +149,7 @@ fn merged<K: Dup, C: Dup>(
     Ok(Leaf::seal(alloc, entries))
 }
 
-/// Adds the missing fence keys of the leaves. The others are those of the last leaves.
+/// Adds the missing last keys of the leaves. The others are those of the last leaves.
 fn add_last_keys<K: Dup, C>(
     last_keys: &mut Vec<K>,
     leaves: &[Leaf<K, C>],
@@ -157,8 +157,8 @@ fn add_last_keys<K: Dup, C>(
 ) -> Result<(), NoMemory> {
     let end = leaves.len().saturating_sub(1);
     last_keys.reserve(end.saturating_sub(last_keys.len()))?;
-    for place in last_keys.len()..end.saturating_sub(others.len()) {
-        let Some(key) = last_key(leaves, place) else {
+    for index in last_keys.len()..end.saturating_sub(others.len()) {
+        let Some(key) = last_key(leaves, index) else {
             return Ok(());
         };
         last_keys.push(key?)?;

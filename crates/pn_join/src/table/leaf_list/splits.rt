@@ -1,4 +1,4 @@
-//! Splits full leaves in two, to make room for the entries of another list.
+//! Splits full leaves in two, so that the entries of another list fit.
 
 ghost use Rattle.std.specs.Prelude.{◌≡◌, ◌<◌, length, IfOk};
 ghost use Rattle.pn_join.specs.Edits.{changes_in, AreAimed};
@@ -12,12 +12,12 @@ use crate::table::leaf_join::{MAX_LEAF_ENTRIES, cut_leaf};
 use crate::{Dup, Join, NoMemory};
 
 impl<K: Ord + Dup, C: Join> LeafList<K, C> {
-    /// Splits leaves without room for their edits. No entry changes, also on an error.
+    /// Splits the leaves that would get too many entries by their edits. No entry changes, also on an error.
     pub(super) fn split_full_leaves(&mut self, edits: &[Edit<K, C>]) -> Result<(), NoMemory>
         ensures same { all_entries self.new ≡ all_entries self.old }
         ensures leaf_list { IsLeafList K.cmp C.valid self.new }
     {
-        self.count();
+        self.recall_leaf_list();
         let mut last = 0_usize;
         let mut more = 0_usize;
         let mut cuts = 0_usize;
@@ -35,7 +35,7 @@ impl<K: Ord + Dup, C: Join> LeafList<K, C> {
         Ok(())
     }
 
-    /// Splits a leaf without room for `more` entries. Returns whether it did.
+    /// Splits a leaf that would get too many entries by `more`. Returns whether it did.
     fn split_if_full(&mut self, leaf: usize, more: usize) -> Result<bool, NoMemory>
         ensures same { all_entries self.new ≡ all_entries self.old }
         ensures leaf_list { IsLeafList K.cmp C.valid self.new }
@@ -50,7 +50,7 @@ impl<K: Ord + Dup, C: Join> LeafList<K, C> {
     }
 
     /// The same edits, each with the present index of its key's leaf.
-    pub(super) fn aimed(&self, edits: Vec<Edit<K, C>>) -> Result<Vec<Edit<K, C>>, NoMemory>
+    pub(super) fn aim(&self, edits: Vec<Edit<K, C>>) -> Result<Vec<Edit<K, C>>, NoMemory>
         ensures aimed { IfOk result (λ aimed. AreAimed K.cmp self.now aimed.items) }
         ensures same { IfOk result (λ aimed. changes_in aimed.items ≡ changes_in edits.items) }
     {
@@ -67,21 +67,21 @@ impl<K: Ord + Dup, C: Join> LeafList<K, C> {
     }
 
     /// Splits a leaf in two.
-    fn split(&mut self, place: usize) -> Result<(), NoMemory>
-        requires { place < length self.old }
+    fn split(&mut self, index: usize) -> Result<(), NoMemory>
+        requires { index < length self.old }
         ensures same { all_entries self.new ≡ all_entries self.old }
         ensures leaf_list { IsLeafList K.cmp C.valid self.new }
     {
         let alloc = self.alloc();
-        let start = self.start(place);
+        let start = self.start(index);
         self.leaves.reserve(1)?;
         self.entry_counts.reserve(1)?;
-        let leaf = &mut self.leaves[place];
+        let leaf = &mut self.leaves[index];
         let back = cut_leaf(alloc, leaf)?;
         let front = leaf.entries().len();
-        add_to_counts(&mut self.entry_counts, place, 0, start + front, &back);
-        add_back(alloc, &mut self.leaves, place, back);
-        insert_last_key(&mut self.last_keys, &self.leaves, place);
+        add_to_counts(&mut self.entry_counts, index, 0, start + front, &back);
+        add_back(alloc, &mut self.leaves, index, back);
+        insert_last_key(&mut self.last_keys, &self.leaves, index);
         Ok(())
     }
 }

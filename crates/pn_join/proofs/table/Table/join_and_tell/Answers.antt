@@ -36,7 +36,7 @@ returns-then-branch-clause-ok g c =
     let own = all_entries c.self.inside.leaf_list in
     let other = all_entries c.other.inside.leaf_list in
     let changes = changes_in c.in_ok-edits.edits.items in
-    let table : IsTable cmp valid other = rw c.other.view_is c.is_table-2.ensures in
+    let table : IsTable cmp valid other = rw c.other.view_is c.recall_table-2.ensures in
     let joins = puts_joined cmp g.met.K.Ord.total meaning joined g.met.C.Join.laws valid own other changes table c.in_ok-edits.ensures.changes
     ∙ ap (λ es. key_by_key joined (contents_at cmp meaning es) (contents_at cmp meaning other)) c.self.view_is
     ∙ ap (λ es. key_by_key joined (contents_at cmp meaning c.args.self.now) (contents_at cmp meaning es)) c.other.view_is in

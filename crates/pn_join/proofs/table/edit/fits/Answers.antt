@@ -2,7 +2,7 @@ use Rattle.std.proofs.Common.{◌≡◌, ◌+◌, ◌<◌, ◌≤◌, [], length
 use Rattle.std.proofs.lemmas.List.{take_all}
 use Rattle.std.specs.List.{AllByRecursion}
 use Rattle.pn_join.specs.LeafEntries.{leaves_of}
-use Rattle.pn_join.specs.Leaves.{max_leaf_entries}
+use Rattle.pn_join.specs.declared.table.leaf_join.TheConstants.{MAX_LEAF_ENTRIES}
 use Rattle.pn_join.proofs.EditSteps.{fits_again, fits_anew, each_taken, up_taken}
 use Rattle.pn_join.proofs.LeafListFacts.{length-leaves}
 use Rattle.pn_join.proofs.table.edit.fits.Goals as goal
@@ -30,13 +30,13 @@ loop-edit-preserved g c =
     let k = c.loop-edit.edit-index in
     let lt : k < length edits = c.loop-edit-test.true in
     let within : e.leaf < length c.args.leaves.now = omega (arith, c.if-last-leaves.false) in
-    let room : length (get_or list e.leaf []) + c.if-edit-last-2.more ≤ max_leaf_entries = omega (arith, c.saturating_add.ensures, c.if-saturating_add-gt-MAX_LEAF_ENTRIES.false, ap length c.entries_at.ensures) in
+    let bound : length (get_or list e.leaf []) + c.if-edit-last-2.more ≤ MAX_LEAF_ENTRIES = omega (arith, c.saturating_add.ensures, c.if-saturating_add-gt-MAX_LEAF_ENTRIES.false, ap length c.entries_at.ensures) in
     record {
       so_far = elim c.if-edit-last-2.branch [
-        | then-edit-last-2 w ↦ fits_again cmp list edits k e c.edit-item.is lt c.loop-edit.last c.loop-edit.more c.if-edit-last-2.more c.loop-edit.invariant.so_far (omega (arith, w.if-edit-last-2)) (omega (arith, w.more-is)) room
-        | else-edit-last-2 w ↦ fits_anew cmp list edits k e c.edit-item.is lt c.loop-edit.last c.loop-edit.more c.if-edit-last-2.more c.loop-edit.invariant.so_far (omega (arith, w.if-edit-last-2, c.if-edit-last.false)) (omega (arith, w.more-is)) room
+        | then-edit-last-2 w ↦ fits_again cmp list edits k e c.edit-item.is lt c.loop-edit.last c.loop-edit.more c.if-edit-last-2.more c.loop-edit.invariant.so_far (omega (arith, w.if-edit-last-2)) (omega (arith, w.more-is)) bound
+        | else-edit-last-2 w ↦ fits_anew cmp list edits k e c.edit-item.is lt c.loop-edit.last c.loop-edit.more c.if-edit-last-2.more c.loop-edit.invariant.so_far (omega (arith, w.if-edit-last-2, c.if-edit-last.false)) (omega (arith, w.more-is)) bound
       ];
       within = each_taken (λ edit. edit.leaf < length c.args.leaves.now) edits k e c.edit-item.is lt c.loop-edit.invariant.within within;
       up = up_taken edits k e c.edit-item.is lt c.loop-edit.last c.loop-edit.invariant.up (omega (arith, c.if-edit-last.false));
-      most = omega (arith, room);
+      most = omega (arith, bound);
     }

@@ -5,5 +5,5 @@ abbrev pub invariant-loop-end : goal.invariant-loop-end
 invariant-loop-end l = record {
   copied : l.copy.items ≡ take l.end-index l.entry_counts;
   len : vec_len l.copy ≡ l.end-index;
-  room : length l.entry_counts ≤ vec_capacity l.copy;
+  capacity : length l.entry_counts ≤ vec_capacity l.copy;
 }

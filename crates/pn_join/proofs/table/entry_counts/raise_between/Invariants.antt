@@ -2,14 +2,14 @@ use Rattle.std.proofs.Common.{◌≡◌, ◌-◌, ◌≤◌, vec_len, vec_capaci
 use Rattle.pn_join.specs.LeafListChanges.{raised_from, FitFrom}
 use Rattle.pn_join.proofs.table.entry_counts.raise_between.Given as goal
 
-abbrev pub invariant-loop-place : goal.invariant-loop-place
-invariant-loop-place l = record {
-  whole : raised_from l.place l.by l.entry_counts.items ≡ raised_from l.initial.place l.by l.initial.entry_counts.items;
-  most : l.place ≤ l.to;
-  fit : FitFrom l.place l.by l.entry_counts.items;
+abbrev pub invariant-loop-index : goal.invariant-loop-index
+invariant-loop-index l = record {
+  whole : raised_from l.index l.by l.entry_counts.items ≡ raised_from l.initial.index l.by l.initial.entry_counts.items;
+  most : l.index ≤ l.to;
+  fit : FitFrom l.index l.by l.entry_counts.items;
   len : vec_len l.entry_counts ≡ vec_len l.initial.entry_counts;
   capacity : vec_capacity l.entry_counts ≡ vec_capacity l.initial.entry_counts;
 }
 
-abbrev pub decreases-loop-place : goal.decreases-loop-place
-decreases-loop-place l = vec_len l.entry_counts - l.place
+abbrev pub decreases-loop-index : goal.decreases-loop-index
+decreases-loop-index l = vec_len l.entry_counts - l.index

@@ -5,5 +5,5 @@ abbrev pub invariant-loop-key : goal.invariant-loop-key
 invariant-loop-key g l = record {
   copied : l.copy.items ≡ take l.key-index l.entries;
   len : vec_len l.copy ≡ l.key-index;
-  room : length l.entries ≤ vec_capacity l.copy;
+  capacity : length l.entries ≤ vec_capacity l.copy;
 }

@@ -6,5 +6,5 @@ abbrev pub invariant-loop-leaf : goal.invariant-loop-leaf
 invariant-loop-leaf g l = record {
   copied : leaves_of l.copy.items ≡ leaves_of (take l.leaf-index l.leaves);
   len : vec_len l.copy ≡ l.leaf-index;
-  room : length l.leaves ≤ vec_capacity l.copy;
+  capacity : length l.leaves ≤ vec_capacity l.copy;
 }

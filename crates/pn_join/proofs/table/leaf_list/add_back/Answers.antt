@@ -5,11 +5,11 @@ use Rattle.pn_join.proofs.table.leaf_list.add_back.Goals as goal
 
 pub returns-then-not-is_empty : goal.returns-then-not-is_empty
 returns-then-not-is_empty g c =
-    let place = c.args.place in
+    let index = c.args.index in
     let list = leaves_of c.args.leaves.now.items in
-    let items : c.insert.new.self.items ≡ insert c.args.leaves.now.items (place + 1) c.seal.result = search rules in
-    let at : place + 1 ≡ suc place = omega arith in
+    let items : c.insert.new.self.items ≡ insert c.args.leaves.now.items (index + 1) c.seal.result = search rules in
+    let at : index + 1 ≡ suc index = omega arith in
     let some : 0 < length c.args.back.items = search (rules, arith) in
-    ap leaves_of items ∙ leaves_of-insert c.args.leaves.now.items (place + 1) c.seal.result
-    ∙ ap (λ back. insert list (place + 1) back) c.seal.ensures
-    ∙ with_some_back place (place + 1) c.args.back.items list some at
+    ap leaves_of items ∙ leaves_of-insert c.args.leaves.now.items (index + 1) c.seal.result
+    ∙ ap (λ back. insert list (index + 1) back) c.seal.ensures
+    ∙ with_some_back index (index + 1) c.args.back.items list some at

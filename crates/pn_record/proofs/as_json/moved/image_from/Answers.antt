@@ -5,14 +5,15 @@ use Rattle.serde_json.specs.View.{view}
 use Rattle.pn_join.specs.Naming.{is_name}
 use Rattle.pn_record.specs.BodyGrammar.{body_fits}
 use Rattle.pn_record.specs.Limits.{is_key, is_version}
-use Rattle.pn_record.specs.Parts.{text_at, numbers_at, fields_at}
+use Rattle.pn_json.specs.Members.{text_at}
+use Rattle.pn_record.specs.Parts.{numbers_at, fields_at}
 use Rattle.pn_record.specs.Showing.{shown_body}
 use Rattle.pn_record.proofs.ImageParts.{parts_found}
 use Rattle.pn_record.proofs.Limiting.{content_from}
 use Rattle.pn_record.proofs.as_json.moved.image_from.Goals as goal
 
-pub key_of-requires : goal.key_of-requires
-key_of-requires c =
+pub of_fitting-requires : goal.of_fitting-requires
+of_fitting-requires c =
     let text : c.text_or_empty.result.now ≡ text_at (get (codes "key") (view c.args.value)) = search rules in
     subst (λ t. IsTrue (is_key t)) (sym text) (parts_found (view c.args.value) c.requires).key
 

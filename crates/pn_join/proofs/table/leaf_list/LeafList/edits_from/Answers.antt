@@ -15,4 +15,4 @@ edit-requires g c =
 pub loop-key-preserved : goal.loop-key-preserved
 loop-key-preserved g c =
     let so_far = rw c.in-Some.ensures.steps at c.loop-key.invariant in
-    rw c.in_ok-add.ensures (one_more c.args.self.now (all_entries c.args.other.now) (c.in-Some.key.now, c.in-Some.content.now) c.next.new.self c.loop-key.edits.items c.in_ok-edit.edit so_far c.in_ok-edit.ensures.changes c.in_ok-edit.ensures.aimed)
+    rw c.in_ok-push_optional.ensures (one_more c.args.self.now (all_entries c.args.other.now) (c.in-Some.key.now, c.in-Some.content.now) c.next.new.self c.loop-key.edits.items c.in_ok-edit.edit so_far c.in_ok-edit.ensures.changes c.in_ok-edit.ensures.aimed)

@@ -3,7 +3,7 @@ use Rattle.std.proofs.Common.{◌≡◌, ◌-◌, length, take, vec_len, ap, ◌
 use Rattle.std.proofs.lemmas.List.{take-map}
 use Rattle.pn_join.specs.LeafEntries.{leaf_entries, leaves_of}
 use Rattle.pn_join.proofs.LeafListFacts.{length-leaves}
-use Rattle.pn_join.proofs.LeafListPlaces.{length-counts}
+use Rattle.pn_join.proofs.LeafListIndices.{length-counts}
 use Rattle.pn_join.proofs.SliceFacts.{first_leaves, first_counts}
 use Rattle.pn_join.proofs.table.leaf_list.LeafList.pop.Goals as goal
 

@@ -6,7 +6,7 @@ use Rattle.pn_join.specs.LeafListChanges.{with_back, counts_with}
 use Rattle.pn_join.proofs.LeafListEdits.{fit_counts}
 use Rattle.pn_join.proofs.LeafListFacts.{leaf_is, IsLeaf-at, length-leaves}
 use Rattle.pn_join.proofs.LeafListGrowth.{leaves_of-set, same_leaves}
-use Rattle.pn_join.proofs.LeafListPlaces.{leaf_within, length-counts}
+use Rattle.pn_join.proofs.LeafListIndices.{leaf_within, length-counts}
 use Rattle.pn_join.proofs.LeafListSplits.{all_split, split_counts, split_list}
 use Rattle.pn_join.proofs.table.leaf_list.LeafList.split.Goals as goal
 
@@ -16,7 +16,7 @@ index_mut-leaf-requires g c =
     let valid = g.C.Join.valid in
     let own = c.self.inside.leaves.items in
     let list = leaves_of own in
-    let i = c.args.place in
+    let i = c.args.index in
     let within : i < length list = omega (arith, c.requires, ap length c.self.view_is) in
     omega (arith, within, length-leaves own, c.in_ok-reserve.ensures.len, c.self.inside.leaves.ok.0)
 
@@ -26,7 +26,7 @@ cut_leaf-requires g c =
     let valid = g.C.Join.valid in
     let own = c.self.inside.leaves.items in
     let list = leaves_of own in
-    let i = c.args.place in
+    let i = c.args.index in
     let within : i < length list = omega (arith, c.requires, ap length c.self.view_is) in
     let leaf : leaf_entries c.index_mut-leaf.result.now ≡ get_or list i [] = leaf_is cmp valid own c.reserve.new.self.items i c.index_mut-leaf.result.now c.in_ok-reserve.ensures.items within c.index_mut-leaf.ensures.value in
     rw leaf (IsLeaf-at cmp valid list i c.self.invariant.0.sizes within)
@@ -37,7 +37,7 @@ invariant_of-self-in_err-back g c =
     let valid = g.C.Join.valid in
     let own = c.self.inside.leaves.items in
     let list = leaves_of own in
-    let i = c.args.place in
+    let i = c.args.index in
     let within : i < length list = omega (arith, c.requires, ap length c.self.view_is) in
     let leaf : leaf_entries c.index_mut-leaf.result.now ≡ get_or list i [] = leaf_is cmp valid own c.reserve.new.self.items i c.index_mut-leaf.result.now c.in_ok-reserve.ensures.items within c.index_mut-leaf.ensures.value in
     let same : leaves_of (set c.reserve.new.self.items i c.cut_leaf.new.leaf) ≡ list = ap (λ ls. leaves_of (set ls i c.cut_leaf.new.leaf)) c.in_ok-reserve.ensures.items ∙ same_leaves own i c.cut_leaf.new.leaf (c.in_err-back.ensures.err ∙ leaf) in
@@ -49,7 +49,7 @@ returns-in_err-back-clause-same g c =
     let valid = g.C.Join.valid in
     let own = c.self.inside.leaves.items in
     let list = leaves_of own in
-    let i = c.args.place in
+    let i = c.args.index in
     let within : i < length list = omega (arith, c.requires, ap length c.self.view_is) in
     let leaf : leaf_entries c.index_mut-leaf.result.now ≡ get_or list i [] = leaf_is cmp valid own c.reserve.new.self.items i c.index_mut-leaf.result.now c.in_ok-reserve.ensures.items within c.index_mut-leaf.ensures.value in
     let same : leaves_of (set c.reserve.new.self.items i c.cut_leaf.new.leaf) ≡ list = ap (λ ls. leaves_of (set ls i c.cut_leaf.new.leaf)) c.in_ok-reserve.ensures.items ∙ same_leaves own i c.cut_leaf.new.leaf (c.in_err-back.ensures.err ∙ leaf) in
@@ -61,7 +61,7 @@ returns-in_err-back-clause-leaf_list g c =
     let valid = g.C.Join.valid in
     let own = c.self.inside.leaves.items in
     let list = leaves_of own in
-    let i = c.args.place in
+    let i = c.args.index in
     let within : i < length list = omega (arith, c.requires, ap length c.self.view_is) in
     let leaf : leaf_entries c.index_mut-leaf.result.now ≡ get_or list i [] = leaf_is cmp valid own c.reserve.new.self.items i c.index_mut-leaf.result.now c.in_ok-reserve.ensures.items within c.index_mut-leaf.ensures.value in
     let same : leaves_of (set c.reserve.new.self.items i c.cut_leaf.new.leaf) ≡ list = ap (λ ls. leaves_of (set ls i c.cut_leaf.new.leaf)) c.in_ok-reserve.ensures.items ∙ same_leaves own i c.cut_leaf.new.leaf (c.in_err-back.ensures.err ∙ leaf) in
@@ -73,7 +73,7 @@ overflow_add-start g c =
     let valid = g.C.Join.valid in
     let own = c.self.inside.leaves.items in
     let list = leaves_of own in
-    let i = c.args.place in
+    let i = c.args.index in
     let within : i < length list = omega (arith, c.requires, ap length c.self.view_is) in
     let leaf : leaf_entries c.index_mut-leaf.result.now ≡ get_or list i [] = leaf_is cmp valid own c.reserve.new.self.items i c.index_mut-leaf.result.now c.in_ok-reserve.ensures.items within c.index_mut-leaf.ensures.value in
     let front = leaf_entries c.cut_leaf.new.leaf in
@@ -90,7 +90,7 @@ add_to_counts-requires-clause-within g c =
     let valid = g.C.Join.valid in
     let own = c.self.inside.leaves.items in
     let list = leaves_of own in
-    let i = c.args.place in
+    let i = c.args.index in
     let within : i < length list = omega (arith, c.requires, ap length c.self.view_is) in
     omega (arith, within, ap length c.self.invariant.1.each, length-counts 0 list, c.in_ok-reserve-2.ensures.len, c.self.inside.entry_counts.ok.0)
 
@@ -100,10 +100,10 @@ add_to_counts-requires-clause-fit g c =
     let valid = g.C.Join.valid in
     let own = c.self.inside.leaves.items in
     let list = leaves_of own in
-    let i = c.args.place in
+    let i = c.args.index in
     let within : i < length list = omega (arith, c.requires, ap length c.self.view_is) in
-    let room : (0 + length (all_entries list)) + 0 < 2 ^ 64 = omega (arith, c.self.invariant.1.fits) in
-    rw (c.in_ok-reserve-2.ensures.items, c.self.invariant.1.each) (fit_counts 0 0 list room i)
+    let bound : (0 + length (all_entries list)) + 0 < 2 ^ 64 = omega (arith, c.self.invariant.1.fits) in
+    rw (c.in_ok-reserve-2.ensures.items, c.self.invariant.1.each) (fit_counts 0 0 list bound i)
 
 pub add_back-requires-clause-within : goal.add_back-requires-clause-within
 add_back-requires-clause-within g c =
@@ -111,7 +111,7 @@ add_back-requires-clause-within g c =
     let valid = g.C.Join.valid in
     let own = c.self.inside.leaves.items in
     let list = leaves_of own in
-    let i = c.args.place in
+    let i = c.args.index in
     let within : i < length list = omega (arith, c.requires, ap length c.self.view_is) in
     omega (arith, within, length-leaves own, c.in_ok-reserve.ensures.len, c.self.inside.leaves.ok.0)
 
@@ -121,7 +121,7 @@ invariant_of-self-2 g c =
     let valid = g.C.Join.valid in
     let own = c.self.inside.leaves.items in
     let list = leaves_of own in
-    let i = c.args.place in
+    let i = c.args.index in
     let within : i < length list = omega (arith, c.requires, ap length c.self.view_is) in
     let leaf : leaf_entries c.index_mut-leaf.result.now ≡ get_or list i [] = leaf_is cmp valid own c.reserve.new.self.items i c.index_mut-leaf.result.now c.in_ok-reserve.ensures.items within c.index_mut-leaf.ensures.value in
     let front = leaf_entries c.cut_leaf.new.leaf in
@@ -145,7 +145,7 @@ returns-clause-same g c =
     let valid = g.C.Join.valid in
     let own = c.self.inside.leaves.items in
     let list = leaves_of own in
-    let i = c.args.place in
+    let i = c.args.index in
     let within : i < length list = omega (arith, c.requires, ap length c.self.view_is) in
     let leaf : leaf_entries c.index_mut-leaf.result.now ≡ get_or list i [] = leaf_is cmp valid own c.reserve.new.self.items i c.index_mut-leaf.result.now c.in_ok-reserve.ensures.items within c.index_mut-leaf.ensures.value in
     let front = leaf_entries c.cut_leaf.new.leaf in
@@ -164,7 +164,7 @@ returns-clause-leaf_list g c =
     let valid = g.C.Join.valid in
     let own = c.self.inside.leaves.items in
     let list = leaves_of own in
-    let i = c.args.place in
+    let i = c.args.index in
     let within : i < length list = omega (arith, c.requires, ap length c.self.view_is) in
     let leaf : leaf_entries c.index_mut-leaf.result.now ≡ get_or list i [] = leaf_is cmp valid own c.reserve.new.self.items i c.index_mut-leaf.result.now c.in_ok-reserve.ensures.items within c.index_mut-leaf.ensures.value in
     let front = leaf_entries c.cut_leaf.new.leaf in

@@ -1,0 +1,14 @@
+-- The index of a key among entries whose keys rise.
+use Rattle.std.specs.Prelude.{ℕ, suc, List, [], ◌∷◌, Result, Ok, Err}
+use Rattle.std.specs.declared.cmp.Ordering.{Ordering}
+use Rattle.std.specs.FinMap.Entries.{by_order}
+
+-- one index further
+abbrev pub later : Result ℕ ℕ → Result ℕ ℕ
+later (Ok i) = Ok (suc i)
+later (Err i) = Err (suc i)
+
+-- the index of the first entry whose key is not less: `Ok` if its key is equal, otherwise `Err`
+abbrev pub index_of : {K X : Type 0} → (K → K → Ordering) → K → List (K × X) → Result ℕ ℕ
+index_of cmp key [] = Err 0
+index_of cmp key (e ∷ es) = by_order (cmp key e.0) (Err 0) (Ok 0) (later (index_of cmp key es))

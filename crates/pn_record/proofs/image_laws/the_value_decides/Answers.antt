@@ -1,5 +1,0 @@
-use Rattle.pn_record.proofs.ImageLines.{image_at-value_at}
-use Rattle.pn_record.proofs.image_laws.the_value_decides.Goals as goal
-
-pub returns : goal.returns
-returns c = image_at-value_at
