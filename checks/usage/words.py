@@ -17,7 +17,7 @@ from common.crates import TOP
 
 COMMAND = re.compile(r'"(\w+)" => Some\(CommandWord::')
 MEMBER = re.compile(r'(?:Part|Member)::\w+ => "(\w+)"')
-REFUSAL = re.compile(r'"([a-z]+(?:-[a-z]+)*)",?\s*ErrorDetails::|^\s+"([a-z]+(?:-[a-z]+)+)",$', re.M)
+REFUSAL = re.compile(r'\brefuse_\w+\(\s*alloc,\s*"([a-z-]+)"|"error":"([a-z-]+)"')
 OPTION = re.compile(r'\b(?:option|number|plain|flag)\(\s*alloc,\s*"([a-z-]+)"')
 TOLD_COMMAND = re.compile(r'"do":"(\w+)"')
 TOLD_OPTION = re.compile(r"pnuts (?:serve|replay)[^\n|]*?(--[a-z-]+)")
