@@ -8,7 +8,7 @@ use Rattle.pn_tablet.specs.declared.state.TabletOp.{TabletOp}
 use Rattle.pn_region.specs.Logged.{with_break}
 use Rattle.pn_region.specs.Recovery.{tablets_after_op, after_op}
 use Rattle.pn_region.specs.Regions.{IsRegion, IsLawfulRegion}
-use Rattle.pn_region.specs.declared.entry.Entry.{Entry}
+use Rattle.pn_region.specs.declared.notices.Entry.{Entry}
 use Rattle.pn_live.specs.LiveRegions.{LiveRegionValue, core, tablets_in}
 use Rattle.pn_live.specs.PublishedTablets.{PublishedTabletValue, state_at, with_op, notes_of}
 use Rattle.pn_live.specs.Readers.{AreNotesOf}

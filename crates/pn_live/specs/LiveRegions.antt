@@ -8,7 +8,7 @@ use Rattle.pn_apply.specs.Reducing.{ranges}
 use Rattle.pn_region.specs.Marking.{new_marks}
 use Rattle.pn_region.specs.Regions.{RegionValue}
 use Rattle.pn_region.specs.Rounds.{joins}
-use Rattle.pn_region.specs.declared.entry.Entry.{Entry}
+use Rattle.pn_region.specs.declared.notices.Entry.{Entry}
 use Rattle.pn_region.specs.declared.fault.RoundFault.{RoundFault}
 use Rattle.pn_region.specs.declared.fault.RoundFault.TheVariants.{Memory}
 use Rattle.pn_live.specs.PublishedTablets.{PublishedTabletValue, AreNewTablets, books_of, state_at, with_ops, AreOldOrAppended}

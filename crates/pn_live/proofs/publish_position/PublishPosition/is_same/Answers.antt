@@ -13,6 +13,6 @@ returns g c =
           let alike = eqb-true mine.count theirs.count same in
           let less : length mine.seen.log ≤ length theirs.seen.log = omega (arith, alike, mine.counted, theirs.counted) in
           let more : length theirs.seen.log ≤ length mine.seen.log = omega (arith, alike, mine.counted, theirs.counted) in
-          begins_no_more mine.seen.log theirs.seen.log (shorter_begins mine.seen.log theirs.seen.log c.recall_common_log.ensures.0 c.recall_common_log.ensures.1.0 c.recall_common_log.ensures.1.1.0 less) more),
+          begins_no_more mine.seen.log theirs.seen.log (shorter_begins mine.seen.log theirs.seen.log c.recall_common_log.ensures.0 c.recall_common_log.ensures.1 c.recall_common_log.ensures.2 less) more),
       (λ log. ⊎_elim (λ t. t.0) (λ t. absurd (t.1 (mine.counted ∙ (ap length log ∙ sym theirs.counted)))) (eqb_tells mine.count theirs.count)),
     )

@@ -19,5 +19,5 @@ returns-clause-begins g c near =
     let told = c.args.self.now in
     let shown = c.args.shown.now in
     let within = leb-true told.count c.saturating_add.result near in
-    told_begins_shown told.seen.log shown.seen.log c.recall_common_log.ensures.0 c.recall_common_log.ensures.1.1.1 c.recall_common_log.ensures.1.0 c.recall_common_log.ensures.1.1.0
+    told_begins_shown told.seen.log shown.seen.log c.recall_common_log.ensures.0 c.recall_common_log.ensures.3 c.recall_common_log.ensures.1 c.recall_common_log.ensures.2
     (omega (arith, within, c.saturating_add.ensures, told.counted, shown.counted))

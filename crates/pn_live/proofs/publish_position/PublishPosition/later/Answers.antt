@@ -8,11 +8,11 @@ returns-then-self-other-clause-this g c =
     let mine = c.args.self.now in
     let theirs = c.args.other.now in
     let less : length mine.seen.log ≤ length theirs.seen.log = omega (arith, mine.counted, theirs.counted) in
-    rw (c.again.ensures) (settled_in_longer mine.seen.log theirs.seen.log c.recall_common_log.ensures.0 c.recall_common_log.ensures.1.1.1 c.recall_common_log.ensures.1.0 c.recall_common_log.ensures.1.1.0 less)
+    rw (c.again.ensures) (settled_in_longer mine.seen.log theirs.seen.log c.recall_common_log.ensures.0 c.recall_common_log.ensures.3 c.recall_common_log.ensures.1 c.recall_common_log.ensures.2 less)
 
 pub returns-else-self-other-clause-that : goal.returns-else-self-other-clause-that
 returns-else-self-other-clause-that g c =
     let mine = c.args.self.now in
     let theirs = c.args.other.now in
     let less : length theirs.seen.log ≤ length mine.seen.log = omega (arith, mine.counted, theirs.counted) in
-    rw (c.again-else-self-other.ensures) (settled_in_longer theirs.seen.log mine.seen.log c.recall_common_log.ensures.0 c.recall_common_log.ensures.1.1.1 c.recall_common_log.ensures.1.1.0 c.recall_common_log.ensures.1.0 less)
+    rw (c.again-else-self-other.ensures) (settled_in_longer theirs.seen.log mine.seen.log c.recall_common_log.ensures.0 c.recall_common_log.ensures.3 c.recall_common_log.ensures.2 c.recall_common_log.ensures.1 less)
