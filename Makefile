@@ -11,7 +11,10 @@ SCRIPT ?= crates/pnuts/stdin
 PROGRAM := crates/pnuts/out/pnuts
 BENCH := crates/pn_bench/out/pn_bench
 
-# The program that is installed and packaged. Where another one is named, none is proved for it.
+# The program of which nothing is proved, which `make quick` leaves.
+QUICK := out/quick/pnuts
+
+# The program that is installed and packaged, as PNUTS=out/quick/pnuts. Where another one is named, none is proved for it.
 PNUTS ?= $(PROGRAM)
 PROVED = $(if $(filter $(PROGRAM),$(PNUTS)),build)
 
@@ -40,13 +43,18 @@ STAGE ?= notices
 SOAK ?= 60
 SECONDS ?= 240
 
-.PHONY: run test edits build install uninstall deb bench bench-beside checks checks-client checks-feeds checks-brokers \
-	checks-install pictures races fuzz definitions rows toolchain
+.PHONY: run quick test edits build licences install uninstall deb bench bench-beside checks checks-client checks-feeds \
+	checks-brokers checks-install pictures races fuzz definitions rows toolchain
 
 # Shows the program at work: the replies to the script on standard output. It proves nothing. A program that is current answers
-# at once; otherwise one is built, in about two minutes, and kept.
+# at once; otherwise one is built as by `make quick`.
 run: toolchain
 	@bin/program replay "$(SCRIPT)"
+
+# Builds the program with optimisation and without proofs, in two or three minutes, and keeps it while the sources are the same.
+quick: toolchain licences
+	@bin/program quick > /dev/null
+	@echo "an optimised program that is not proved: $(QUICK)"
 
 # The gate: every proof from nothing, the edits that must fail, the program and the tests.
 test: toolchain
@@ -57,7 +65,7 @@ edits: build
 	@checks/run edits $(CRATE)
 
 # Proves the program, and leaves it built with optimisation.
-build: toolchain
+build: toolchain licences
 	@sources=$$(bin/program sum); (cd crates/pnuts && rt run -- replay < /dev/null); bin/program note "$$sources"
 	@echo "the proved, optimised program: $(PROGRAM)"
 
@@ -71,8 +79,12 @@ $(SCRIPTS): $(SOURCES)
 $(LIVE): $(SOURCES)
 	@cd crates/test_live && rt test > /dev/null
 
-# Installs the built program with its pages for man, its completion for bash and its service. It needs no toolchain.
-install:
+# Gathers the licences of the kit's libraries that the program links. Without the toolchain those of before stay.
+licences:
+	@packaging/licences.py out/third-party
+
+# Installs the built program with its pages for man, completions, licences and service. After a build it needs no toolchain.
+install: licences
 	@packaging/install "$(PNUTS)" --prefix "$(PREFIX)" --destdir "$(DESTDIR)/"
 
 # Removes what `make install` installed, but for an environment file that was changed.
@@ -80,7 +92,7 @@ uninstall:
 	@packaging/install --remove --prefix "$(PREFIX)" --destdir "$(DESTDIR)/"
 
 # Builds a Debian package of the program.
-deb: $(PROVED)
+deb: $(PROVED) licences
 	@packaging/deb "$(PNUTS)" "$(DEBS)"
 
 # Measures the built program, and prints tables.

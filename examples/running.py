@@ -61,6 +61,14 @@ def until(what: str, holds: Callable[[], bool], seconds: float = SECONDS) -> flo
     return time.monotonic() - start
 
 
+def status_of(name: str, criteria: dict[str, bool]) -> int:
+    """The exit status of an example, which names each criterion that does not hold."""
+    failed = [what for what, holds in criteria.items() if not holds]
+    for what in failed:
+        print(f"examples/{name}: WRONG: it does not hold that {what}", file=sys.stderr)
+    return 1 if failed else 0
+
+
 class Processes:
     """Programs that run until the block ends, and what each says in a file of its own."""
 

@@ -29,6 +29,11 @@ class Entry:
         found = re.search(r"<(.+?)>", self.words)
         return found.group(1) if found else None
 
+    @property
+    def is_path(self) -> bool:
+        """Whether an option's value is a file."""
+        return self.value in ("PATH", "FILE")
+
 
 @dataclass
 class Help:
@@ -51,6 +56,11 @@ class Help:
     @property
     def options(self) -> list[Entry]:
         return self.entries.get("Options", [])
+
+    @property
+    def has_streams(self) -> bool:
+        """Whether an argument is the name of something and its file."""
+        return any("=PATH" in it.words for it in self.arguments)
 
 
 def asked(program: str, *words: str) -> str:

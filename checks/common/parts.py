@@ -35,7 +35,8 @@ class Part(NamedTuple):
         is_missing = self.may_miss and process.returncode == MISSING
         is_skipped = is_missing or any("skipped" in line for line in lines)
         is_right = is_missing or process.returncode == 0
-        end = End(self.name, time.monotonic() - start, is_right, is_skipped, process.returncode)
+        said = next((line.strip() for line in reversed(lines) if "WRONG" in line), lines[-1].strip() if lines else "nothing was written")
+        end = End(self.name, time.monotonic() - start, is_right, is_skipped, process.returncode, said)
         print(*([] if self.is_alone else lines), f"== {end}\n", sep="", flush=True)
         return end
 
@@ -48,9 +49,11 @@ class End(NamedTuple):
     is_right: bool
     is_skipped: bool
     status: int
+    # What it wrote of the last that is wrong, or else last.
+    said: str
 
     def __str__(self) -> str:
-        result = f"WRONG, status {self.status}" if not self.is_right else "as it should be"
+        result = f"WRONG, status {self.status}: {self.said}" if not self.is_right else "as it should be"
         return f"{self.name:<16} {self.seconds:5.0f} s  {result}{', where it was not skipped' if self.is_skipped else ''}"
 
 

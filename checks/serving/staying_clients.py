@@ -3,14 +3,13 @@ import contextlib
 import itertools
 import os
 import random
-import select
 import socket
 import statistics
 import struct
 import time
 from collections.abc import Callable, Iterator
 
-from common.served import SECONDS, Client, Served, row_of, same, written
+from common.served import SECONDS, Client, row_of, same, written
 from serving.staying import CHUNK, KEYS, PAGE, Beside, Staying, Swarm, feed, key_of, messages, until
 
 IDLE, BUSY, TURNS = 10_000, 256, 20_000
@@ -237,37 +236,3 @@ def check_misbehaving(program: str, folder: str) -> None:
         print(f"  the others cost {grown:,} KB")
         same(f"{grown} KB more are at most {most}", grown <= most, True)
         same(f"{beside:.2f} ms are at most {SLOWER} times as long", beside <= SLOWER * max(alone, elsewhere), True)
-
-
-def check_silent(program: str, folder: str) -> None:
-    """With --idle, clients that send nothing or half a line, or take nothing, are ended; those that ask or take are not. So is a session."""
-    east = written(folder, "east", messages(1, 1_000, "x" * 1_000))
-    with Staying(program, folder, [("east", east)], "--idle", "1") as region, contextlib.ExitStack() as stay:
-        stay.enter_context(Client(region.port)).wait_for("k000", row_of("k000", 10, "x" * 1_000))
-        silent, half, slow, honest = (stay.enter_context(Client(region.port)) for _ in range(4))
-        half.send(PAGE[:20])
-        deaf = stay.enter_context(deaf_client(region.port))
-        with contextlib.suppress(BlockingIOError):
-            for _ in range(10_000):
-                deaf.send(PAGE * 100)
-        start, slowly = time.monotonic(), 0
-        slow.send(PAGE * 200)
-        while time.monotonic() < start + 4:
-            honest.read("k000")
-            slowly += len(slow.socket.recv(CHUNK * 8))
-            time.sleep(0.2)
-        same("what a silent one is sent", silent.reply(), b"")
-        same("what one with half a line is sent", half.reply(), b"")
-        same("the slow one was sent something", slowly > CHUNK, True)
-        until("one that takes nothing is ended", lambda: has_ended(deaf), 20)
-    with Served(program, [("east", east)], words=["--idle", "1"]) as served, Client(served.port) as client:
-        client.wait_for("k000", row_of("k000", 10, "x" * 1_000))
-        same("what the silent client of a session is sent", client.reply(), b"")
-        same("how it ends", served.end(), (0, b"served 1\n", b""))
-
-
-def has_ended(connection: socket.socket) -> bool:
-    """Whether the other side has gone. What it has sent is not read: a client that takes it is not silent."""
-    poll = select.poll()
-    poll.register(connection, select.POLLRDHUP)
-    return bool(poll.poll(0))

@@ -2,6 +2,7 @@
 import contextlib
 import socket
 import struct
+import time
 from collections.abc import Iterator
 
 from common.served import SECONDS, Client, same, written
@@ -10,8 +11,8 @@ from serving.staying import CHUNK, PAGE, Staying
 
 NO_ROW = b'{"row":null}\n'
 READ = b'{"do":"read","key":"z"}\n'
-# How long one that waits for its turn to connect is looked at.
-PATIENCE = 0.5
+# How long one that waits for its turn to connect is looked at: so many seconds, and so many times as long as an answer took.
+PATIENCE, TIMES = 0.5, 20
 RESET = struct.pack("ii", 1, 0)
 # How often clients come and go, each in its way.
 ENDS = 60
@@ -39,9 +40,11 @@ def connected(port: int, count: int) -> Iterator[list[socket.socket]]:
 
 def same_limit(port: int, most: int, when: str) -> None:
     """Fails unless just so many of one more are answered."""
-    with connected(port, most + 1) as clients:
-        answers = [is_answered(client, SECONDS if at < most else PATIENCE) for at, client in enumerate(clients)]
-        same(f"who is answered {when}", answers, [True] * most + [False])
+    with connected(port, most + 1) as (*clients, late):
+        start = time.monotonic()
+        same(f"who is answered {when}", [is_answered(client) for client in clients], [True] * most)
+        took = time.monotonic() - start
+        same(f"whether one more is answered {when}", is_answered(late, max(PATIENCE, TIMES * took)), False)
 
 
 def come_and_go(port: int, at: int) -> None:

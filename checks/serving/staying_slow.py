@@ -1,15 +1,16 @@
-"""Clients that are slow, and not idle: checks of `checks/run stay`."""
+"""Clients that are slow, and not idle, and those that are: checks of `checks/run stay`."""
 import contextlib
+import select
 import socket
 import time
-from collections.abc import Iterator
+from collections.abc import Callable, Iterator
 
 from common.served import SECONDS, Client, Served, row_of, same, written
 from serving.staying import CHUNK, KEYS, PAGE, Staying, messages, until
 from serving.staying_clients import deaf_client
 
-# For how long a client is slow, where it may be idle for a second, and its pauses.
-SLOW_SECONDS, PAUSE = 4, 0.12
+# A slow client's pauses, where it may be idle for a second, and how many times as long as an idle one it has to last.
+PAUSE, TIMES = 0.12, 4
 FEW_BYTES = 4_096
 PAGES = 100
 
@@ -36,13 +37,33 @@ def whole_page(port: int) -> bytes:
         return client.reply()
 
 
+def has_ended(connection: socket.socket) -> bool:
+    """Whether the other side has gone. What it has sent is not read: a client that takes it is not silent."""
+    poll = select.poll()
+    poll.register(connection, select.POLLRDHUP)
+    return bool(poll.poll(0))
+
+
+def slowly(port: int, act: Callable[[], None]) -> None:
+    """Acts with pauses, until an idle client beside was ended, and then until it took so many times as long."""
+    start, took, longest = time.monotonic(), 0.0, 0.0
+    with Client(port) as idle:
+        while not took or time.monotonic() < start + TIMES * took:
+            before = time.monotonic()
+            same(f"whether an idle client is ended within {SECONDS} seconds", took > 0 or before < start + SECONDS, True)
+            try:
+                act()
+            except (ConnectionError, ValueError) as fault:
+                raise AssertionError(f"a slow client, whose longest pause took {longest:.2f} s, was ended: {fault}") from fault
+            time.sleep(PAUSE)
+            longest = max(longest, time.monotonic() - before)
+            took = took or has_ended(idle.socket) * (time.monotonic() - start)
+
+
 def check_slow_sender(program: str, folder: str) -> None:
     """With --idle, a client that sends a line byte by byte, for much longer, and is sent nothing meanwhile, is answered."""
     with Staying(program, folder, rows(folder), "--idle", "1") as region, Client(region.port) as client:
-        start = time.monotonic()
-        while time.monotonic() < start + SLOW_SECONDS:
-            client.send(b" ")
-            time.sleep(PAUSE)
+        slowly(region.port, lambda: client.send(b" "))
         client.send(b'{"do":"read","key":"z"}\n')
         same("what a slow sender is answered", client.reply(), b'{"row":null}\n')
 
@@ -50,11 +71,10 @@ def check_slow_sender(program: str, folder: str) -> None:
 def check_slow_taker(program: str, folder: str) -> None:
     """With --idle, a client that has sent all and takes its pages bit by bit, for much longer, gets them."""
     with Staying(program, folder, rows(folder), "--idle", "1") as region, slow_taker(region.port) as client:
-        page, taken, start = whole_page(region.port), 0, time.monotonic()
+        page, parts = whole_page(region.port), list[bytes]()
         client.sendall(PAGE * PAGES)
-        while time.monotonic() < start + SLOW_SECONDS:
-            taken += len(client.recv(FEW_BYTES))
-            time.sleep(PAUSE)
+        slowly(region.port, lambda: parts.append(client.recv(FEW_BYTES)))
+        taken = sum(map(len, parts))
         while taken < len(page) * PAGES and (part := client.recv(CHUNK)):
             taken += len(part)
         same("how many bytes a slow taker got", taken, len(page) * PAGES)
@@ -83,4 +103,28 @@ def check_deaf_session(program: str, folder: str) -> None:
             for _ in range(10_000):
                 deaf.send(PAGE * 100)
         until("the session of one that takes nothing has ended", lambda: served.process.poll() is not None, 20)
+        same("how it ends", served.end(), (0, b"served 1\n", b""))
+
+
+def check_silent(program: str, folder: str) -> None:
+    """With --idle, clients that send nothing or half a line, or take nothing, are ended; those that ask or take are not. So is a session."""
+    east = written(folder, "east", messages(1, 1_000, "x" * 1_000))
+    with Staying(program, folder, [("east", east)], "--idle", "1") as region, contextlib.ExitStack() as stay:
+        stay.enter_context(Client(region.port)).wait_for("k000", row_of("k000", 10, "x" * 1_000))
+        silent, half, slow, honest = (stay.enter_context(Client(region.port)) for _ in range(4))
+        half.send(PAGE[:20])
+        deaf = stay.enter_context(deaf_client(region.port))
+        with contextlib.suppress(BlockingIOError):
+            for _ in range(10_000):
+                deaf.send(PAGE * 100)
+        slow.send(PAGE * 200)
+        parts: list[bytes] = []
+        slowly(region.port, lambda: (honest.read("k000"), parts.append(slow.socket.recv(CHUNK * 8))))
+        same("what a silent one is sent", silent.reply(), b"")
+        same("what one with half a line is sent", half.reply(), b"")
+        same("the slow one was sent something", sum(map(len, parts)) > CHUNK, True)
+        until("one that takes nothing is ended", lambda: has_ended(deaf), 20)
+    with Served(program, [("east", east)], words=["--idle", "1"]) as served, Client(served.port) as client:
+        client.wait_for("k000", row_of("k000", 10, "x" * 1_000))
+        same("what the silent client of a session is sent", client.reply(), b"")
         same("how it ends", served.end(), (0, b"served 1\n", b""))

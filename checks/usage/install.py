@@ -1,4 +1,5 @@
 """Installs and removes a program: by `make install` in a temporary folder, and as a package of Debian in a system of its own.
+It also runs `make quick`, which builds a program without proofs in some minutes where there is none.
 
   checks/run install PROGRAM
 
@@ -24,7 +25,7 @@ from common.crates import TOP
 from common.parts import RUN
 from common.tried import program_parser
 from usage.fresh_system import System, make_root, missing, remove_group, run
-from usage.installed import check_make_install, check_told
+from usage.installed import check_make_install, check_quick, check_told
 from usage.packaged import check_lintian, check_package
 
 
@@ -57,7 +58,7 @@ def within(program: Path) -> int:
     run(["mount", "-t", "tmpfs", "-o", "mode=755", "tmpfs", folder])
     os.environ["TMPDIR"] = tempfile.tempdir = str(folder)
     try:
-        for done in check_make_install(program, folder / "installed"):
+        for done in chain(check_make_install(program, folder / "installed"), check_quick(folder / "quick")):
             say(done)
         check_deb(program, folder)
     except (AssertionError, TimeoutError, subprocess.SubprocessError) as fault:

@@ -2,13 +2,15 @@
 
 from __future__ import annotations
 
+import re
 import stat
+import subprocess
 from collections.abc import Iterator
 from pathlib import Path
 
-from common.crates import TOP
+from common.crates import TOP, crates_below, kit, of_kit
 from common.served import same
-from usage.completing import Shell
+from usage.completing import Shell, completed_by_fish
 from usage.fresh_system import System, run
 from usage.packaged import check_serving, differing, trace
 
@@ -20,26 +22,38 @@ FILES = {
     "lib/systemd/system/pnuts.service": 0o644,
     "lib/sysusers.d/pnuts.conf": 0o644,
     "share/bash-completion/completions/pnuts": 0o644,
+    "share/doc/pnuts/third-party": 0o644,
+    "share/fish/vendor_completions.d/pnuts.fish": 0o644,
     "share/man/man1/pnuts.1": 0o644,
     "share/man/man5/pnuts-formats.5": 0o644,
+    "share/man/man8/pnuts.8": 0o644,
+    "share/zsh/site-functions/_pnuts": 0o644,
+}
+SHELLS = {
+    "bash": "share/bash-completion/completions/pnuts",
+    "zsh": "share/zsh/site-functions/_pnuts",
+    "fish": "share/fish/vendor_completions.d/pnuts.fish",
 }
 
-# A line that is typed, and the words that bash makes of it: the last word stands for all its completions.
+# A line that is typed, and what each shell makes of its last word, in no order and without a stream's name.
 COMPLETIONS = {
-    "pnuts ": ["pnuts", "--help", "--version", "-V", "-h", "replay", "serve"],
-    "pnuts s": ["pnuts", "serve"],
-    "pnuts serve --b": ["pnuts", "serve", "--bounds"],
-    "pnuts serve --s": ["pnuts", "serve", "--sessions", "--socket", "--stay"],
-    "pnuts serve --socket m": ["pnuts", "serve", "--socket", "messages"],
-    "pnuts serve --stay --idle ": ["pnuts", "serve", "--stay", "--idle"],
-    "pnuts replay --w": ["pnuts", "replay", "--workers"],
-    "pnuts serve --workers ": ["pnuts", "serve", "--workers"],
-    "pnuts serve east=": ["pnuts", "serve", "east=a folder", "messages"],
-    "pnuts serve east=m": ["pnuts", "serve", "east=messages"],
-    "pnuts serve east=messages --po": ["pnuts", "serve", "east=messages", "--port"],
-    "pnuts steal ": ["pnuts", "steal"],
+    "pnuts -": {"--help", "--version", "-V", "-h"},
+    "pnuts r": {"replay"},
+    "pnuts s": {"serve"},
+    "pnuts serve --b": {"--bounds"},
+    "pnuts serve --s": {"--sessions", "--socket", "--stay"},
+    "pnuts serve --socket m": {"messages"},
+    "pnuts serve --stay --idle ": set(),
+    "pnuts replay --w": {"--workers"},
+    "pnuts serve --workers ": set(),
+    "pnuts serve east=": {"a folder", "messages"},
+    "pnuts serve east=m": {"messages"},
+    "pnuts serve east=messages --po": {"--port"},
+    "pnuts steal ": set(),
 }
 
+# How `pnuts --version` ends where the program is not proved.
+NOT_PROVED = " (not proved)\n"
 
 # What docs/installing.md tells the administrator to do begins so.
 TOLD = "    sudo "
@@ -56,24 +70,70 @@ def make(target: str, folder: Path, program: Path) -> str:
 
 
 def check_unit(installed: Path) -> None:
-    """The unit names the paths that the program and its environment file have once they are installed."""
-    lines = (installed / "lib/systemd/system/pnuts.service").read_text(encoding="utf-8").splitlines()
-    found = [it.split(" ")[0] for it in lines if it.startswith(("ExecStart=", "EnvironmentFile="))]
+    """The unit names the paths that the program and its environment file have once they are installed, and so does its page."""
+    unit, page = ((installed / it).read_text(encoding="utf-8") for it in ("lib/systemd/system/pnuts.service", "share/man/man8/pnuts.8"))
+    found = [it.split(" ")[0] for it in unit.splitlines() if it.startswith(("ExecStart=", "EnvironmentFile="))]
     same("the unit", found, [f"EnvironmentFile={PREFIX}/{ENVIRONMENT}", f"ExecStart={PREFIX}/bin/pnuts"])
+    same("paths that are not filled in", re.findall("@[A-Z]+@", unit + page), [])
+    same("whether its page names the environment file", f"{PREFIX}/{ENVIRONMENT}" in page, True)
 
 
 def check_pages(share: Path) -> None:
     """The pages can be read, and `man` has nothing to say against them."""
-    for page, words in (("man1/pnuts.1", "EXIT STATUS"), ("man5/pnuts-formats.5", "REFUSALS")):
+    for page, words in (("man1/pnuts.1", "EXIT STATUS"), ("man5/pnuts-formats.5", "REFUSALS"), ("man8/pnuts.8", "SIGNALS")):
         shown = run(["man", "--warnings", "--encoding=UTF-8", "--local-file", share / "man" / page])
         same(f"the page {page}", [it for it in shown.splitlines() if "warning:" in it or it == words], [words])
 
 
-def check_completion(completion: Path, folder: Path) -> None:
+def completions_of(shell: str, completion: Path, folder: Path) -> dict[str, set[str]]:
+    """What a shell makes of the last word of each line."""
+    if shell == "fish":
+        found = {line: completed_by_fish(completion, folder, line) for line in COMPLETIONS}
+    else:
+        with Shell(shell, completion, folder) as running:
+            found = {line: running.completed(line)[line.count(" ") :] for line in COMPLETIONS}
+    return {line: {it.removeprefix("east=").removesuffix("/") for it in words} for line, words in found.items()}
+
+
+def check_completions(installed: Path, folder: Path) -> None:
     (folder / "a folder").mkdir(parents=True)
     (folder / "messages").touch()
-    with Shell(completion, folder) as shell:
-        same("completions", {line: shell.completed(line) for line in COMPLETIONS}, COMPLETIONS)
+    for shell, path in SHELLS.items():
+        same(f"completions of {shell}", completions_of(shell, installed / path, folder), COMPLETIONS)
+
+
+def check_licences(text: str, program: Path) -> int:
+    """The libraries that crates.txt leads to are listed, and no others, each with all its texts. How many.
+
+    Those that the names of the program's functions begin with are among them.
+    """
+    crates = crates_below("pnuts")
+    lines = dict(re.findall(r"^(\w+): (.*)$", text.partition("----")[0], re.MULTILINE))
+    same("libraries that are linked", sorted(lines), of_kit(crates))
+    same("others in the program", set(re.findall(r" (\w+)::", run(["nm", program]))) - crates.keys() - lines.keys(), set())
+    for library, names in lines.items():
+        found = sorted(it for it in (kit() / "rattle" / library).iterdir() if re.match("licen|copy|notice", it.name, re.IGNORECASE))
+        same(f"licences of {library}", names.split() if found else [], [it.name for it in found])
+        missing = [it for it in found if it.read_text(encoding="utf-8").strip() not in text]
+        same(f"licences of {library} that are not whole", missing, [])
+    return len(lines)
+
+
+def check_quick(folder: Path) -> Iterator[str]:
+    """Builds the program without proofs, and a package of it, with a section that `dwz` cannot read."""
+    run(["make", "-C", TOP, "quick"])
+    quick = TOP / "out/quick/pnuts"
+    same("the end of its version", run([quick, "--version"]).endswith(NOT_PROVED), True)
+    script, replies = (TOP / "crates/pnuts" / name for name in ("stdin", "stdout"))
+    with script.open("rb") as lines:
+        same("its replies", subprocess.run([quick, "replay"], stdin=lines, capture_output=True).stdout, replies.read_bytes())
+    folder.mkdir()
+    run(["objcopy", "--add-section", f".debug_str_offsets={script}", quick, folder / "pnuts"])
+    run(["make", "-C", TOP, "deb", f"DEBS={folder}", f"PNUTS={folder}/pnuts"])
+    (package,) = folder.glob("*.deb")
+    _, version, _ = package.name.split("_")
+    run(["dpkg", "--compare-versions", version, "lt", version.removesuffix("~quick")])
+    yield f"make quick: says that it is not proved, answers the script, and a proved package replaces its {package.name}"
 
 
 def check_make_install(program: Path, folder: Path) -> Iterator[str]:
@@ -87,9 +147,11 @@ def check_make_install(program: Path, folder: Path) -> Iterator[str]:
     yield f"make install: {len(FILES)} files, and none elsewhere"
     check_unit(installed)
     check_pages(installed / "share")
-    yield "man reads both pages without a warning"
-    check_completion(installed / "share/bash-completion/completions/pnuts", folder / "typing")
-    yield f"bash completes {len(COMPLETIONS)} lines"
+    yield "man reads all pages without a warning"
+    check_completions(installed, folder / "typing")
+    yield f"{', '.join(SHELLS)} complete {len(COMPLETIONS)} lines alike"
+    count = check_licences((installed / "share/doc/pnuts/third-party").read_text(encoding="utf-8"), program)
+    yield f"the licences of {count} libraries are those that crates.txt leads to"
     environment = installed / ENVIRONMENT
     as_it_was = environment.read_bytes()
     environment.write_text("changed\n")
@@ -99,6 +161,7 @@ def check_make_install(program: Path, folder: Path) -> Iterator[str]:
     environment.write_bytes(as_it_was)
     make("uninstall", root, program)
     same("files left", files_in(root), {})
+    same("whether its folder of documents is left", (installed / "share/doc/pnuts").exists(), False)
     yield "make uninstall: a changed environment file is kept, and all else removed"
 
 

@@ -1,4 +1,4 @@
-"""What is done with the package of Debian in a system: installed, served, upgraded over itself, removed without a trace."""
+"""What is done with the package of Debian in a system: installed, served, upgraded over itself, and removed."""
 
 from __future__ import annotations
 
@@ -10,6 +10,7 @@ import sys
 from collections.abc import Iterator
 from pathlib import Path
 
+from common.crates import TOP
 from common.served import message, row_of, same
 from usage.fresh_system import CLEAN, System, run
 
@@ -18,6 +19,15 @@ ONE_SESSION = Path(__file__).resolve().parent / "one_session.py"
 UNIT = "/lib/systemd/system/pnuts.service"
 ENVIRONMENT = "etc/default/pnuts"
 FIFO = "/run/pnuts/east"
+
+# What changes by a user, which a package keeps.
+USERS = {"etc/group", "etc/gshadow", "etc/passwd", "etc/shadow"}
+
+# Files of the check in the system, and how the lines of its examples and of the client's README begin.
+SCRATCH = "/var/tmp"
+INDENT = "    "
+ROW = '{"row":'
+IMPORT = "cd /; python3 -c 'from pnuts_client import Client'"
 
 # The exposure that systemd may find at most, in tenths, and lines of a unit that it has to refuse.
 EXPOSURE = 15
@@ -120,6 +130,26 @@ def check_refused(system: System) -> None:
     environment.write_bytes(as_it_was)
 
 
+def check_operation(system: System) -> int:
+    """Does what the page pnuts(8) shows under its examples. How many lines."""
+    text = (TOP / "packaging/man/operation.md").read_text(encoding="utf-8").partition("## Examples\n")[2]
+    lines = [it.removeprefix(INDENT) for it in text.splitlines() if it.startswith(INDENT)]
+    (system.root / SCRATCH[1:] / "east.log").write_bytes(message(1, "k", 0, "x"))
+    shown = [system.run("bash", "-c", f"cd {SCRATCH}; {line}") for line in lines]
+    same("replies to the lines that ask", [it[: len(ROW)] for line, it in zip(lines, shown) if "socat" in line], [ROW])
+    return len(lines)
+
+
+def check_wheel(system: System) -> int:
+    """Does what the README of the client for Python says, in a new environment of a system without a network. How many lines."""
+    client = TOP / "clients/python"
+    text = (client / "README.md").read_text(encoding="utf-8").partition("\n## ")[0]
+    lines = [it.removeprefix(INDENT) for it in text.splitlines() if it.startswith(INDENT)]
+    shutil.copytree(client, system.root / SCRATCH[1:] / "clients/python")
+    system.run("bash", "-ec", "\n".join([f"cd {SCRATCH}", *lines, IMPORT]))
+    return len(lines)
+
+
 def check_package(system: System, package: Path) -> Iterator[str]:
     """Installs the package, uses it, and removes it. Says what was done."""
     before = trace(system.root)
@@ -147,9 +177,13 @@ def check_package(system: System, package: Path) -> Iterator[str]:
     yield "started with words that it refuses: it failed, and was left alone"
     system.run("systemctl", "restart", "pnuts")
     check_serving(system)
+    yield f"did the {check_operation(system)} lines that pnuts(8) shows as examples"
     system.run("dpkg", "--purge", "pnuts")
     same("the service", system.status("systemctl", "is-active", "pnuts")[1], "inactive")
     same("whether its runtime directory is there", system.status("test", "-e", "/run/pnuts")[0], 1)
-    same("whether its user is there", system.status("id", "pnuts")[0], 1)
+    same("whether its user is there", system.status("id", "pnuts")[0], 0)
+    same("what differs", differing(system.root, before), USERS)
+    system.run("userdel", "pnuts")
     same("what differs", differing(system.root, before), set())
-    yield "purged while it ran: neither a process, a user nor a file is left"
+    yield "purged while it ran: neither a process nor a file is left, and of its user no more than its name"
+    yield f"the {check_wheel(system)} lines of the client for Python make its wheel and install it, without a network"

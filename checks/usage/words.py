@@ -1,0 +1,89 @@
+"""Looks whether the words of the sources are told where somebody looks for them, and whether what is told is there.
+
+  checks/run words
+
+Commands, members, refusals and options are read off the sources. Each has to stand in docs/formats.md; commands also in
+README.md, the slow program and the fuzzer's words; what sessions have in clients/README.md and the client for Python.
+Commands and options that README.md, docs/ or the packages name have to be those of the program.
+
+Exit status: 0 where nothing is missing, 1 where something is, 2 for a wrong argument.
+"""
+import argparse
+import re
+from collections.abc import Iterable, Iterator
+from pathlib import Path
+
+from common.crates import TOP
+
+COMMAND = re.compile(r'"(\w+)" => Some\(CommandWord::')
+MEMBER = re.compile(r'(?:Part|Member)::\w+ => "(\w+)"')
+REFUSAL = re.compile(r'\brefuse_\w+\(\s*alloc,\s*"([a-z-]+)"|"error":"([a-z-]+)"')
+OPTION = re.compile(r'\b(?:option|number|plain|flag)\(\s*alloc,\s*"([a-z-]+)"')
+TOLD_COMMAND = re.compile(r'"do":"(\w+)"')
+TOLD_OPTION = re.compile(r"pnuts (?:serve|replay)[^\n|]*?(--[a-z-]+)")
+
+# What sessions have, and the refusals that they know.
+LOOKUPS = {"read", "get", "scan", "copy"}
+OF_SCRIPTS = {"gap", "too-many-streams", "bad-line", "outside-range", "not-rising", "bad-end", "truncated", "wrong-range", "too-old", "still-recovering"}
+# Options that clap has by itself.
+BY_CLAP = {"--help", "--version"}
+
+
+def sources(crate: str) -> str:
+    return "\n".join(it.read_text() for it in sorted((TOP / "crates" / crate / "src").rglob("*.rt")))
+
+
+def found(pattern: re.Pattern[str], text: str) -> set[str]:
+    return {next(filter(None, it.groups())) for it in pattern.finditer(text)}
+
+
+def text_of(paths: Iterable[Path]) -> str:
+    return "\n".join(it.read_text(errors="replace") for it in paths if it.is_file())
+
+
+def below(*folders: str) -> list[Path]:
+    return [it for folder in folders for it in sorted((TOP / folder).rglob("*")) if "__pycache__" not in it.parts]
+
+
+def has_word(text: str, word: str) -> bool:
+    return re.search(rf"(?<![\w-]){re.escape(word)}(?![\w-])", text) is not None
+
+
+def missing(kind: str, words: Iterable[str], where: str, text: str) -> Iterator[str]:
+    return (f"{where} does not tell of the {kind} {word}" for word in sorted(words) if not has_word(text, word))
+
+
+def unknown(kind: str, words: Iterable[str], known: set[str], where: str) -> Iterator[str]:
+    return (f"{where} tells of the {kind} {word}, which the program does not have" for word in sorted(set(words) - known))
+
+
+def all_faults() -> Iterator[str]:
+    protocol = sources("pn_protocol")
+    commands = found(COMMAND, protocol)
+    members = found(MEMBER, protocol + sources("pn_record")) - {"whole", "other"}
+    refusals = found(REFUSAL, protocol)
+    options = {f"--{it}" for it in found(OPTION, sources("pn_serve"))}
+    formats, readme = (TOP / "docs/formats.md").read_text(), (TOP / "README.md").read_text()
+    lookups = text_of([TOP / "clients/README.md"]), text_of(below("clients/python/src"))
+    if min(map(len, (commands, members, refusals, options))) < 5:
+        yield "the sources do not say their words in the way that this script reads them"
+    for kind, words in (("command", commands), ("member", members), ("refusal", refusals), ("option", options)):
+        yield from missing(kind, words, "docs/formats.md", formats)
+    yield from missing("command", commands, "README.md", readme)
+    yield from missing("command", commands, "the slow program (checks)", text_of(below("checks")))
+    yield from missing("command", commands, "fuzz/words.dict", (TOP / "fuzz/words.dict").read_text())
+    for where, text in zip(("clients/README.md", "the client for Python"), lookups):
+        yield from missing("command", LOOKUPS, where, text)
+        yield from missing("refusal", refusals - OF_SCRIPTS, where, text)
+    told = readme + text_of(sorted((TOP / "docs").glob("*.md")))
+    yield from unknown("command", TOLD_COMMAND.findall(told), commands, "README.md or docs/")
+    yield from unknown("option", TOLD_OPTION.findall(told + text_of(below("packaging"))), options | BY_CLAP, "README.md, docs/ or packaging/")
+
+
+def main(words: list[str]) -> int:
+    argparse.ArgumentParser(description=__doc__, formatter_class=argparse.RawDescriptionHelpFormatter).parse_args(words)
+    faults = list(all_faults())
+    for fault in faults:
+        print(f"words: {fault}")
+    print("words: nothing is missing" if not faults else f"words: {len(faults)} are missing")
+    return 1 if faults else 0
